@@ -1,7 +1,7 @@
 -- Writes of the driver to guest memory.
 use Rattle.std.proofs.Common.{◌≡◌, ◌≢◌, ◌∙◌, sym}
 use Rattle.std.proofs.Common.{ap, subst, arith, ℕ, ◌+◌, ◌-◌, ◌*◌, ◌/◌, ◌%◌, ◌<◌, ◌≤◌, List, length}
-use Rattle.std.proofs.Common.{inl, inr, None, Result, Ok, Err, slice_index, OnOk, OnErr, IsOk, ◌∷◌}
+use Rattle.std.proofs.Common.{inl, inr, None, Result, slice_index, OnOk, OnErr, IsOk, ◌∷◌}
 use Rattle.std.proofs.lemmas.{Bool.{cases_lt, cases_eq}, List.{same_lists, get_or_default}}
 use Rattle.{std.proofs.Math.Nat.div-add-mod, vb_model.specs.Layout.{buffer_page, buffer_offset}}
 use Rattle.vb_ram.specs.Pages.{Pages, page_at, byte_at, SameBut, SameIn, Wrote}
@@ -23,19 +23,16 @@ wrote_same {old} {new} {p} {off} {bs} w same =
         | inr past ↦ w.rest.above o past
       ]
     ] in
-    let page : page_at new p ≡ page_at old p = same_page_at new old p (w.rest.backing p)
-    (same_contents new old p (w.rest.sizes p) bytes) in
+    let page : page_at new p ≡ page_at old p = search (arith, same_page_at, same_contents) in
     let each : (k : ℕ) → page_at new k ≡ page_at old k = search (arith, cases_eq) in same_lists new old w.rest.count (λ k d lt. get_or_default new k d None lt
     ∙ (each k ∙ get_or_default old k None d (omega (arith, w.rest.count))))
 
 pub by_result : {T E : Type 0} (r : Result T E) (P Q R : Type 0) → OnOk r P → OnErr r Q → (P → R)
     → (Q → R) → R
-by_result (Ok x) P Q R ok err on_ok on_err = on_ok ok
-by_result (Err e) P Q R ok err on_ok on_err = on_err err
+by_result x y z u ok err on_ok on_err = grind arith
 
 pub at_ok : {T E : Type 0} (r : Result T E) (P : Type 0) → IsOk r → OnOk r P → P
-at_ok (Ok x) P is h = h
-at_ok (Err e) P is h = cc
+at_ok x y is h = grind arith
 
 -- what is written to one buffer leaves the others alone
 pub buffer_apart : {old new : Pages} (base h k n : ℕ)

@@ -354,8 +354,7 @@ in_where test xs n d lt = in_from test n 0 n xs d lt (omega arith)
 
 -- just the reported pages are free besides
 free_after : (x : Place) → is_free (place_after_reset x) ≡ cond (is_reporting x) true (is_free x)
-free_after Reserved = refl
-free_after x = refl
+free_after x = grind arith
 
 free_all_after : (places : List Place) → marked (pages_where is_reporting places) true
     (map is_free places) ≡ map is_free (map place_after_reset places)
@@ -363,8 +362,7 @@ free_all_after places = let pages = pages_where is_reporting places in
     let left = marked pages true (map is_free places) in
     let right = map is_free (map place_after_reset places) in
     let n1 : length left ≡ length places = search (arith, length-marked, length-map) in
-    let n2 : length right ≡ length places =
-    length-map (map place_after_reset places) is_free ∙ length-map places place_after_reset in
+    let n2 : length right ≡ length places = search (arith, length-map) in
     same_lists left right (n1 ∙ sym n2) (λ k d near.
     let inside : k < length places = omega arith in
     marked-get pages true (map is_free places) k d (omega (arith, length-map places is_free))

@@ -1,14 +1,13 @@
-use Rattle.vb_driver.proofs.memory.all_backed.Goals as goal
 use Rattle.std.proofs.{lemmas.Bool.{false_from_ne_true, both_ways}, Common.{◌≡◌, ◌∙◌, sym, ap}}
 use Rattle.{std.proofs.Common.{arith, true, false, is_some}, vb_model.specs.Layout.is_start_page}
 use Rattle.{vb_model.proofs.Shapes.start_reserved, vb_ram.specs.Pages.{Pages, frame_at}}
 use Rattle.vb_driver.{specs.Answers.has_frames, proofs.Shapes.{all_frames, frames_there}}
+use Rattle.vb_driver.proofs.memory.all_backed.Goals as goal
 
 pub returns-then-not-has_frame-clause-value : goal.returns-then-not-has_frame-clause-value
 returns-then-not-has_frame-clause-value g c = let size = c.args.shape.queue_size in
     let mem = g.G.GuestBytes.mem c.args.ram.now in let page = c.loop-page.page in
-    let start : is_start_page size page ≡ true =
-    sym c.is_start_page.ensures ∙ c.if-is_start_page.true in
+    let start : is_start_page size page ≡ true = search arith in
     let none : is_some (frame_at mem page) ≡ false = ap (λ (m : Pages). is_some (frame_at m page))
     (sym c.loop-page.invariant.mem) ∙ (sym c.has_frame.ensures.value ∙ c.if-not-has_frame.true) in
     sym (false_from_ne_true (has_frames size mem)

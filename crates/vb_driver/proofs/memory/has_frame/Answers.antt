@@ -1,5 +1,5 @@
-use Rattle.vb_driver.proofs.memory.has_frame.Goals as goal
 use Rattle.{std.proofs.Common.{◌≡◌, arith}, vb_driver.proofs.Buffers.{wrote_same, by_result, at_ok}}
+use Rattle.vb_driver.proofs.memory.has_frame.Goals as goal
 
 pub returns-clause-mem : goal.returns-clause-mem
 returns-clause-mem g c = let old = g.G.GuestBytes.mem c.args.ram.now in

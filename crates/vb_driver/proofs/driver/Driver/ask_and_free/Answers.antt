@@ -1,10 +1,10 @@
-use Rattle.vb_driver.proofs.driver.Driver.ask_and_free.Goals as goal
 use Rattle.std.proofs.Common.{◌≡◌, ◌∙◌, sym, ap, refl, ℕ, List, true, false}
 use Rattle.vb_model.specs.{declared.places.Place.TheVariants.{Free, Lent}, Pages.{placed, is_lent}}
 use Rattle.{vb_model.specs.Tests.is_in, vb_driver.proofs.Moving.{lowest_is, asked_freed, IsOut}}
 use Rattle.vb_driver.proofs.{Moving.is_out, Counting.at_is, Naming.once_lowest}
 use Rattle.vb_driver.specs.{contracts.driver.Driver.the_view, Places.marked, Areas.flags_of}
 use Rattle.vb_driver.specs.{Calls.{Posts, lowest_lent}, State.{DriverState, IsDriver, tells_host}}
+use Rattle.vb_driver.proofs.driver.Driver.ask_and_free.Goals as goal
 
 out_again : (d : DriverState) (count p : ℕ) (pages : List ℕ)
     → IsDriver d → pages ≡ lowest_lent d count → is_in p pages ≡ true → IsOut d p

@@ -1,9 +1,9 @@
-use Rattle.vb_driver.proofs.driver.Driver.ask_and_wait.Goals as goal
 use Rattle.{std.proofs.Common.{arith, ◌≡◌, sym, subst, ℕ, List, true}, vb_model.specs.Pages.placed}
 use Rattle.vb_model.specs.{declared.places.Place.{Place, TheVariants.Taking}, Requests.Deflating}
 use Rattle.{vb_model.specs.Requests.place_posted, vb_driver.specs.State.{RequestSide, DriverState}}
 use Rattle.vb_driver.specs.{State.{IsDriver, tells_host}, contracts.driver.Driver.the_view}
 use Rattle.vb_driver.{specs.Calls.{Posts, lowest_lent, areas_asked}, proofs.Moving.asked_kept}
+use Rattle.vb_driver.proofs.driver.Driver.ask_and_wait.Goals as goal
 
 -- where the host is told first, the pages are taking, and no area changes
 waits : (d : DriverState) (e2 : RequestSide) (pages : List ℕ) → tells_host d ≡ true
@@ -19,8 +19,7 @@ pub invariant_of-self : goal.invariant_of-self
 invariant_of-self g c = let d = the_view c.self.inside in
     let m1 = g.P.GuestBytes.mem c.args.port.now in
     let m2 = g.P.GuestBytes.mem c.post-head.new.ram in
-    let lowest : c.take_lowest_lent.new.pages.items ≡ lowest_lent d c.args.count =
-    c.take_lowest_lent.ensures.pages in
+    let lowest : c.take_lowest_lent.new.pages.items ≡ lowest_lent d c.args.count = search arith in
     let placed_is : c.take_lowest_lent.new.self
     ≡ placed (lowest_lent d c.args.count) Taking d.places = c.take_lowest_lent.ensures.moved in
     let posts : Posts m1 m2 d.deflate c.post-head.new.self 8 (lowest_lent d c.args.count)

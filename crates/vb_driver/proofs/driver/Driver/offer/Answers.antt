@@ -1,9 +1,9 @@
-use Rattle.vb_driver.proofs.driver.Driver.offer.Goals as goal
 use Rattle.std.proofs.Common.{◌≡◌, ◌∙◌, ◌++◌, sym, ap, subst, arith, ℕ, List}
 use Rattle.vb_model.specs.{declared.places.Place.{Place, TheVariants.Giving}, Pages.placed}
 use Rattle.vb_driver.proofs.Moving.{offered_kept, others_there, others_free, offered_inside}
 use Rattle.vb_driver.{proofs.{Moving.first_few, Naming.once_distinct}, specs.State.IsDriver}
 use Rattle.vb_driver.specs.{Calls.{Posts, stranded_first}, contracts.driver.Driver.the_view}
+use Rattle.vb_driver.proofs.driver.Driver.offer.Goals as goal
 
 pub take_free-requires-clause-free : goal.take_free-requires-clause-free
 take_free-requires-clause-free g c = grind (arith, others_there)

@@ -1,4 +1,3 @@
-use Rattle.vb_driver.proofs.queue.RequestQueue.post.Goals as goal
 use Rattle.std.proofs.Common.{◌≡◌, ◌∙◌, ◌<◌, ◌+◌, ◌*◌, sym, ap, subst, arith}
 use Rattle.std.proofs.{Common.{refl, ℕ, set, Some, Ok, List, length, is_some}, Math.Nat.div-add-mod}
 use Rattle.vb_model.specs.Layout.{buffers_page, buffer_page, buffer_offset}
@@ -8,6 +7,7 @@ use Rattle.{vb_ring.specs.Ends.next_head, vb_driver.specs.{State.RequestSide, Ca
 use Rattle.vb_driver.proofs.{Buffers.names_at, Posting.{Sending, added_head, posts_by}}
 use Rattle.vb_driver.proofs.RequestTables.{head_there, head_small, requests_added_at, room_inside}
 use Rattle.vb_driver.proofs.Shapes.{IsBeside, ring_backed, buffers_between, buffers_beside}
+use Rattle.vb_driver.proofs.queue.RequestQueue.post.Goals as goal
 
 pub unreachable-requires : goal.unreachable-requires
 unreachable-requires g c = grind (arith, room_inside, head_there)
@@ -22,7 +22,6 @@ write_numbers-requires-clause-backed g c =
 
 pub add-requires-clause-backed : goal.add-requires-clause-backed
 add-requires-clause-backed g c = let r = c.self.inside.ring in let n = c.args.self.now.ring.size in
-    let m2 = g.G.GuestBytes.mem c.write_numbers.new.ram in
     let ring_now : r ≡ c.args.self.now.ring = ap (λ (s : RequestSide). s.ring) c.self.view_is in
     let sized : IsSize n = rw (← ring_now) c.next_head.ensures.is_end.fits.size in
     rw (ap (λ (v : DriverEnd). v.layout) ring_now ∙ c.requires.layout)
@@ -39,8 +38,7 @@ invariant_of-self g c = let r = c.self.inside.ring in let sent = c.self.inside.s
     let room = room_inside r sent c.self.view_is c.requires.room in
     let small : h < 16 = head_small r h c.self.invariant.single next room in
     let same : h ≡ c.in-Ok.head = added_head refl next c.in-Ok.ensures.adds in
-    let state : c.add.new.self ≡ after_add r 1 (Ok h) =
-    c.in-Ok.ensures.adds.state ∙ ap (λ (n : ℕ). after_add r 1 (Ok n)) (sym same) in
+    let state : c.add.new.self ≡ after_add r 1 (Ok h) = search arith in
     rw c.keep.ensures (requests_added_at sent c.args.pages.now.items c.self.invariant
     c.next_head.ensures.is_end next small (omega (
       arith,
@@ -60,8 +58,7 @@ returns-clause-posts g c = let r = c.self.inside.ring in let sent = c.self.insid
     let base : ℕ = buffers_page c.args.queue in
     let at_page : c.buffers_page.result + c.from.result ≡ buffer_page base h =
     omega (arith, c.buffers_page.ensures, c.from.ensures) in
-    let at_offset : 1024 * c.from-offset.result ≡ buffer_offset h =
-    ap (λ (n : ℕ). 1024 * n) c.from-offset.ensures in
+    let at_offset : 1024 * c.from-offset.result ≡ buffer_offset h = search arith in
     let wrote : SameBut m1 m2 (buffer_page base h) (buffer_offset h)
     (buffer_offset h + 4 * length pages) = subst (λ (n : ℕ). SameBut m1 m2
     (buffer_page base h) (buffer_offset h) (buffer_offset h + 4 * n)) size (subst
