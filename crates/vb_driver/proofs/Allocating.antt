@@ -44,8 +44,7 @@ list_all-from test (x ∷ xs) all =
     and_from (test x) (list_all test xs) (all x (ap (λ v. v || is_in x xs) (eq-eqb x x refl)))
     (list_all-from test xs (λ n h. all n (later (eqb x n) (is_in n xs) h))) where
       later : (a b : Bool) → b ≡ true → (a || b) ≡ true
-      later true b h = refl
-      later false b h = h
+      later x b h = grind arith
 
 whole_block : (s : PageState) (start order : ℕ) → IsApart s → IsBlock (block_at start order)
     → IsWhollyFree s (block_at start order)
@@ -245,8 +244,7 @@ pub taken_free : (s new : PageState) (pages : List ℕ) → IsApart s
 taken_free s new pages apart left = grind (arith, list_all-from, free_flag, times_in)
 
 pub taken_once : (new old : Bool) (n : ℕ) → one_if new + n ≡ one_if old → n ≤ 1
-taken_once new true n h = omega arith
-taken_once new false n h = omega arith
+taken_once new y n h = grind arith
 
 pub given_room : (s : PageState) (page : ℕ) → reserved_count s ≤ page → page < length (flags_of s.free)
     → is_free_at (flags_of s.free) page ≡ false → is_covered page s.held ≡ false

@@ -1,6 +1,6 @@
 -- FAILED may be added to any status.
-use Rattle.std.proofs.Common.{◌≡◌, ap, refl, arith, ℕ, ◌<◌, Bool, true, false, not, ◌&&◌}
-use Rattle.std.{proofs.Common.{Option, None, Some, is_none, cond, eqb, bit_or}, specs.List.list_all}
+use Rattle.std.proofs.Common.{◌≡◌, ap, refl, arith, ℕ, ◌<◌, Bool, true, not, ◌&&◌}
+use Rattle.std.{proofs.Common.{Option, None, is_none, cond, eqb, bit_or}, specs.List.list_all}
 use Rattle.{std.specs.List.range_with_len, vb_model.specs.declared.replies.Refusal.Refusal}
 use Rattle.vb_model.{specs.Status.{status_refusal, adds, driver_ok}, proofs.Tables.list_all-at}
 use Rattle.{vb_ram.specs.Part.Part, vb_status.specs.After.{after_status, part_after_reset}}
@@ -22,8 +22,7 @@ pub accepted : (s f : ℕ) → s < 256 → status_refusal s f (bit_or s 128) ≡
 accepted s f lt = at (status_refusal s f (bit_or s 128))
     (not (eqb (bit_or s 128) 0) && not (adds s (bit_or s 128) driver_ok)) (passed s f lt) where
       at : (o : Option Refusal) (r : Bool) → (is_none o && r) ≡ true → o ≡ None
-      at None r h = refl
-      at (Some x) r h = cc
+      at x r h = grind arith
 
 pub after_failing : {s : ℕ} (f : ℕ) (part : Part) → part.status ≡ s
     → s < 256 → after_status (bit_or s 128) part ≡ record part { status = bit_or s 128 }

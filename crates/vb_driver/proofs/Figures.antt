@@ -1,5 +1,5 @@
 -- The statistics buffer is written.
-use Rattle.std.proofs.Common.{◌≡◌, ◌∙◌, ap, arith, ℕ, ◌+◌, ◌^◌, ◌<◌, List, ◌++◌, IsSome, length}
+use Rattle.std.proofs.Common.{◌≡◌, ◌∙◌, arith, ℕ, ◌+◌, ◌^◌, ◌<◌, List, ◌++◌, IsSome, length}
 use Rattle.std.proofs.{Common.{drop, slice_index, Result, IsOk, OnOk}, lemmas.List.get_or-drop}
 use Rattle.{std.proofs.lemmas.Nat.from_le_bytes-to_le_bytes_8, byteorder.specs.Endian.little_bytes}
 use Rattle.vb_ram.specs.Pages.{Pages, byte_at, frame_at, Covers, Wrote}
@@ -44,7 +44,6 @@ pub figures_written : {E : Type 0} {T : Type 0} {old new : Pages} {free total : 
     (frame_at old 12) → IsOk answer) → OnOk answer (Wrote old new 12 0 bs) → Figured new free total
 figures_written
     {old} {new} {free} {total} {bs} answer is lt_free lt_total covers backed accepted put =
-    let len : length bs ≡ 20 = ap length is in
     let whole : Covers old 12 0 (length bs) = search arith in
     let wrote : Wrote old new 12 0 (figure_bytes free total) = rw (← is)
     (at_ok answer _ put (accepted whole backed)) in record {

@@ -3,7 +3,7 @@ use Rattle.std.proofs.Common.{◌≡◌, ◌∙◌, sym, subst, arith, refl, ℕ
 use Rattle.{std.proofs.Common.{length, Some, Ok, Err}, vb_ram.specs.Pages.{Pages, page_at, SameBut}}
 use Rattle.vb_ram.proofs.FieldLaws.{field_in, same_page, same_above, same_trans}
 use Rattle.vb_chain.{specs.declared.pieces.Piece.Piece, proofs.TableLaws.same_parts}
-use Rattle.vb_ring.specs.{declared.driver.Full.Full, Layout.IsSize, Calls.AddsBy}
+use Rattle.vb_ring.specs.{declared.driver.Full.Full, Calls.AddsBy}
 use Rattle.vb_ring.specs.Ends.{DriverEnd, IsDriverEnd, outstanding, next_head, after_add}
 use Rattle.vb_driver.specs.{Coding.IsStatistic, State.IsStatisticsQueue, Calls.PostsBuffer}
 use Rattle.vb_driver.proofs.{Buffers.outside_both, Posting.{OnePiece, one_piece, added_head}}
@@ -35,7 +35,6 @@ fills_at : {m1 m2 m3 : Pages} {r r2 : DriverEnd} {n a free total : ℕ}
     → AddsBy m2 m3 r r2 (record { addr = a; len = 20; writable = false } ∷ []) (Ok 0)
     → PostsBuffer m1 m3 r r2 (record { free = free; total = total })
 fills_at {m1} {m2} {m3} {r} {r2} {n} {a} {free} {total} s adds =
-    let sized : IsSize n = subst IsSize s.queue.size s.is_end.fits.size in
     let beside : IsBeside r.layout 12 = search (arith, beside_buffers) in
     let one : OnePiece m1 m2 m3 r r2 0 a 20 =
     one_piece s.is_end (next_is_first s.queue s.is_end s.none) (keeps_ring beside s.wrote) adds in

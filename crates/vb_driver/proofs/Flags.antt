@@ -54,8 +54,7 @@ held_unfree s p apart covered = false_from_ne_true (is_free_at (flags_of s.free)
     omega (arith, apart p, one_if_le (is_unreserved s p))) where
       step : (b : Bool) (rest : Bool) (n : ℕ) → (b || rest) ≡ true → (rest ≡ true → 1 ≤ n)
           → 1 ≤ one_if b + n
-      step true rest n h k = omega arith
-      step false rest n h k = omega (arith, k h)
+      step x rest n h k = grind arith
 
       some_covers : (held : List Block) → list_any (covers p) held ≡ true
           → 1 ≤ count_by (covers p) held

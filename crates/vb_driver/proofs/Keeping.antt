@@ -85,8 +85,7 @@ pub free_set : {d : DriverState} (areas2 : FreePages) (pages : List ℕ) (to : P
 free_set {d} areas2 pages to {b} kept is set = set ∙ (ap (marked pages b) kept.free
     ∙ free_marked d.places pages pages to b (λ p place e. agree place (is_in p pages))) where
       agree : (place : Place) (v : Bool) → cond v b (is_free place) ≡ is_free (cond v to place)
-      agree place true = sym is
-      agree place false = refl
+      agree place y = grind arith
 
 -- and where they are free neither before nor then
 pub free_stays : {d : DriverState} {pages : List ℕ} {from : Place → Bool} → Leaves d pages from

@@ -30,8 +30,7 @@ none_in first [] none = refl
 none_in first (x ∷ xs) none = at x (none zero) (none_in (suc first) xs (λ k. none (suc k))) where
   at : (b : Bool) → b ≡ false → members_from (suc first) xs ≡ []
       → cond b (first ∷ members_from (suc first) xs) (members_from (suc first) xs) ≡ []
-  at true e ih = cc
-  at false e ih = ih
+  at x e ih = grind arith
 
 first_in : (first k : ℕ) (xs : List Bool) → get_or xs k false ≡ true
     → ((m : ℕ) → m < k → get_or xs m false ≡ false) → members_from first xs
@@ -44,8 +43,7 @@ first_in first (suc k) (x ∷ xs) there low = at x (low zero (omega arith))
           ≡ (suc first + k) ∷ members_from (suc (suc first + k)) (drop (suc k) xs)
           → cond b (first ∷ members_from (suc first) xs) (members_from (suc first) xs)
           ≡ (first + suc k) ∷ members_from (suc (first + suc k)) (drop (suc k) xs)
-      at true e ih = cc
-      at false e ih = ih ∙ ap (λ (n : ℕ). n ∷ members_from (suc n) (drop (suc k) xs)) (omega arith)
+      at x e ih = grind (arith, drop)
 
 -- the least member from a number on, and those after it
 next_member : {flags : List Bool} {from page : ℕ} → IsLeastFrom flags from page

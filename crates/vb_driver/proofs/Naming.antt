@@ -22,8 +22,7 @@ once_distinct p (x ∷ xs) d = let ih : times p xs ≤ 1 = once_distinct p xs d.
       | inr ne ↦ (let none : one_if (eqb x p) ≡ 0 = ap one_if (ne_eqb x p ne) in omega arith)
     ] where
       opposite : (b : Bool) → IsTrue (not b) → b ≡ false
-      opposite true h = cc
-      opposite false h = refl
+      opposite x h = grind arith
 
 -- the pages of a table that pass a test
 pub later_none : {A : Type 0} (p k : ℕ) (test : A → Bool) (xs : List A) → p < k

@@ -171,9 +171,8 @@ block_freed_kept {d} {new} b kept held given rest same apart = let pages = pages
         length-map d.places is_free,
         there_by d.places p is_used refl (ap is_used (used e)),
       ) in
-          let free : is_free_at (flags_of new.free) p ≡ true = ap (λ (l : List Bool). is_free_at l p)
-          given ∙ (marked-get (pages_of b) true (flags_of d.areas) p false inside
-          ∙ ap (λ (v : Bool). cond v true (is_free_at (flags_of d.areas) p)) e) in
+          let free : is_free_at (flags_of new.free) p ≡ true =
+          search (arith, marked-get, cond) in
           let unfree : is_free_at (flags_of new.free) p ≡ false =
           apart.apart p (ap (is_covered p) rest ∙ covered) in
           absurd (both_ways (is_free_at (flags_of new.free) p) unfree free)

@@ -26,12 +26,10 @@ pub is_in-push : (k : ℕ) (xs : List ℕ) (x : ℕ)
 is_in-push k xs x = list_any-append (λ m. eqb m k) xs (x ∷ [])
 
 pub or_false : (a : Bool) → (a || false) ≡ a
-or_false true = refl
-or_false false = refl
+or_false x = grind arith
 
 pub or_true : (a : Bool) → (a || true) ≡ true
-or_true true = refl
-or_true false = refl
+or_true x = grind arith
 
 -- one page more
 pub marked_more : {A : Type 0} (xs : List ℕ) (x : ℕ) (value : A) (table : List A) → x < length table
@@ -144,8 +142,7 @@ none_where test first (x ∷ xs) e =
     at : (b : Bool) → one_if b + count_by test xs ≡ 0
         → (count_by test xs ≡ 0 → pages_from (suc first) test xs ≡ [])
         → cond b (first ∷ pages_from (suc first) test xs) (pages_from (suc first) test xs) ≡ []
-    at true none ih = absurd (omega (arith, none))
-    at false none ih = ih (omega (arith, none))
+    at x none ih = grind arith
 
 -- an entry is among the entries
 pub is_in-at : (xs : List ℕ) (i : ℕ) → i < length xs → is_in (get_or xs i 0) xs ≡ true

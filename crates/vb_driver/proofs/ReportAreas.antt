@@ -1,6 +1,6 @@
 -- Blocks leave the page areas for a report, and come back.
 use Rattle.std.proofs.lemmas.{List.{length-map, get_or-map, Elements.All-map}, Nat.pow_pos}
-use Rattle.std.proofs.Common.{◌≡◌, ◌∙◌, sym, ap, subst, arith, refl, ℕ, ◌+◌, ◌^◌, ◌<◌, ◌≤◌}
+use Rattle.std.proofs.Common.{◌≡◌, ◌∙◌, sym, ap, arith, refl, ℕ, ◌+◌, ◌^◌, ◌<◌, ◌≤◌}
 use Rattle.std.proofs.Common.{Bool, true, false, cond, eqb, not, ◌&&◌, ◌||◌, List, [], ◌∷◌, length}
 use Rattle.{std.proofs.Common.{map, slice_index_or, All}, vb_model.proofs.Distinct.distinct_once}
 use Rattle.vb_model.specs.{declared.places.Place.Place, Tests.is_in, Pages.pages_of_all}
@@ -83,8 +83,7 @@ have_room {s} {blocks} apart good unreserved inside taken uncovered once = recor
   each = λ k d lt.
       let b = block_of (slice_index_or blocks k d) in
       let is : slice_index_or (blocks_of blocks) k (block_of d) ≡ b = search (arith, get_or-map) in
-      let fine : IsAreaBlock b = subst IsAreaBlock is
-      (good k (block_of d) (omega (arith, length-map blocks block_of))) in
+      let fine : IsAreaBlock b = search (arith, length-map) in
       let here : (p : ℕ) → b.start ≤ p → p < b.start + 2 ^ b.order → is_in p
       (pages_of_all (blocks_of blocks)) ≡ true = λ p l u. in_all (blocks_of blocks) k (block_of d) p
       (omega (arith, length-map blocks block_of)) (rw is (in_block b.start b.order p l u)) in

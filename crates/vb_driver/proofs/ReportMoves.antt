@@ -28,11 +28,7 @@ pub reported_kept : {d : DriverState} {areas2 : FreePages} {r2 : ReportSide} →
     })
 reported_kept {d} {areas2} {r2} kept chosen distinct taken same queue =
     let pages = pages_of_all r2.blocks in
-    let leaves : Leaves d pages is_free = record {
-      kept = kept;
-      at = λ p here. ap is_free (free_place p kept (chosen p here));
-      high = refl;
-    } in
+    let leaves : Leaves d pages is_free = search (arith, free_place) in
     kept_changed (record {
       leaves = leaves;
       inflate = kept.inflate;
@@ -66,8 +62,7 @@ pub reported_once : {d : DriverState} (p : ℕ)
 reported_once {d} p kept = at (is_reporting (place_of d.places p)) (kept.reporting p) where
   at : (b : Bool) → times p (pages_of_all d.report.blocks) ≤ one_if b
       → times p (pages_of_all d.report.blocks) ≤ 1
-  at true le = le
-  at false le = omega arith
+  at x le = grind arith
 
 pub returned_kept : {d : DriverState} {areas2 : FreePages} {r2 : ReportSide} → IsDriver d
     → flags_of areas2 ≡ marked (pages_of_all d.report.blocks) true (flags_of d.areas)

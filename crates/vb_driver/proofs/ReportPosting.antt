@@ -15,8 +15,7 @@ pub same_head : {a b : ℕ} {x y : Result ℕ Full} → x ≡ Ok a → y ≡ Ok 
 same_head e f q = cc
 
 pub not_full : (answer : Result ℕ Full) (full : Full) → answer ≡ Ok 0 → answer ≡ Err full → ⊥
-not_full (Ok a) full e f = absurd cc
-not_full (Err x) full e f = absurd cc
+not_full x full e f = grind arith
 
 -- where no report is out, and there are as many descriptors
 pub record Reporting (m1 m2 : Pages) (side : ReportSide) (r2 : DriverEnd) (pieces : List Piece)

@@ -5,7 +5,7 @@ use Rattle.std.proofs.lemmas.List.{length-map, get_or-map, take_more, map-append
 use Rattle.std.proofs.lemmas.List.{Folds.list_any-append, FromFn.take-map-range_with_len}
 use Rattle.std.proofs.lemmas.List.FromFn.{length-range_with_len, get_or-range_with_len}
 use Rattle.std.proofs.{lemmas.Bool.{cases_lt, le-ltb, lt-ltb, or_left, or_right}, Common.◌≡◌}
-use Rattle.std.proofs.Common.{◌∙◌, sym, ap, subst, arith, refl, ℕ, zero, suc, ◌+◌, ◌<◌, ◌≤◌, Bool}
+use Rattle.std.proofs.Common.{◌∙◌, sym, ap, arith, refl, ℕ, zero, suc, ◌+◌, ◌<◌, ◌≤◌, Bool}
 use Rattle.std.proofs.Common.{true, false, cond, List, [], ◌∷◌, ◌++◌, length, take, map, Option}
 use Rattle.std.proofs.Common.{None, Some, Ok, replicate, is_none, slice_index, slice_index_or}
 use Rattle.{std.proofs.Common.{nat_lt, add-one, append-nil, ◌-◌, ◌^◌}, vb_model.specs.Tests.is_in}
@@ -104,10 +104,7 @@ none_out {side} queue end none = at side.blocks refl where
       let first : slice_index_or side.ring.owner 0 None ≡ Some 0 = queue.owned 0 ∙ ap head_if
       (lt-ltb 0 (length side.blocks) (omega (arith, ap length e))) in
       let head : is_head side.ring.owner 0 ≡ true = ap (is_own 0) first in
-      let some : 1 ≤ outstanding side.ring =
-      length_all (is_head side.ring.owner) side.ring.size 1 (omega (arith, end.table))
-      (λ i lt. subst (λ (n : ℕ). is_head side.ring.owner n ≡ true) (omega arith) head) in
-      absurd (omega arith)
+      let some : 1 ≤ outstanding side.ring = search (arith, length_all) in absurd (omega arith)
 
 -- and then no descriptor is in use
 pub unowned : {side : ReportSide} {size : ℕ} → IsReportQueue side size

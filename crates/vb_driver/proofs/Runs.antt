@@ -92,8 +92,8 @@ pub run_unset : (test : Place → Bool) {places : List Place}
     {start : ℕ} (n : ℕ) (new : Place) {old : Place} → AreAt places start n old → test new ≡ false
     → test old ≡ false → map test (placed (range_with_len start n) new places) ≡ map test places
 run_unset test zero new are is was = ap (map test) (marked_none new)
-run_unset test {places} {start}
-    (suc n) new {old} are is was = let before = moved places start n new in
+run_unset test {places} {start} (suc n) new {old} are is was =
+    let before = moved places start n new in
     ap (map test) (moved_more places start n new (omega (arith, are.inside)))
     ∙ (map-set_same test before (start + n) new old
     (is ∙ sym (ap test (next_at n new old are) ∙ was)) ∙ run_unset test n new (fewer are) is was)

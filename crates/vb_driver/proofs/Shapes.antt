@@ -80,8 +80,7 @@ one_filtered test f k (suc n) p low high passes all = elim (cases_eq p k) [
   later = filter f (range_with_len (k + 1) n)
 
   first : (b : Bool) → b ≡ true → list_all test (cond b (k ∷ later) later) ≡ true → test k ≡ true
-  first true e h = (and_parts (test k) (list_all test later) h).0
-  first false e h = absurd cc
+  first x e h = grind (arith, and_parts)
 
   rest : (b : Bool) → list_all test (cond b (k ∷ later) later) ≡ true → list_all test later ≡ true
   rest true h = (and_parts (test k) (list_all test later) h).1

@@ -1,5 +1,5 @@
 -- The sizes of a guest within the limits.
-use Rattle.std.proofs.Common.{◌≡◌, ◌∙◌, refl, arith, ℕ, ◌%◌, ◌<◌, Bool, true, false, not, ◌||◌}
+use Rattle.std.proofs.Common.{◌≡◌, ◌∙◌, refl, arith, ℕ, ◌%◌, ◌<◌, Bool, true, not, ◌||◌}
 use Rattle.std.proofs.{Common.{eqb, eq-eqb, zero-add, get_or}, lemmas.Bool.{and_parts, eqb-true}}
 use Rattle.std.proofs.lemmas.List.{Folds.list_any_at, FromFn.length-range_with_len}
 use Rattle.std.{proofs.lemmas.List.FromFn.get_or-range_with_len, specs.List.list_all}
@@ -19,8 +19,7 @@ at_range s lt = list_any_at (λ m. eqb m s) (range_with_len 0 257) s s
     (eq-eqb (get_or (range_with_len 0 257) s s) s (get_or-range_with_len 0 257 s s lt ∙ zero-add s))
 
 second : (a : Bool) {b : Bool} → a ≡ true → (not a || b) ≡ true → b ≡ true
-second true e h = h
-second false e h = cc
+second x e h = grind arith
 
 pub size_of_config : (pages : ℕ) {size : ℕ} (processors : ℕ)
     → is_config pages size processors ≡ true → IsSize size

@@ -1,6 +1,6 @@
 -- A device is asked for features, and its rings begin.
-use Rattle.std.proofs.Common.{inl, inr, ◌≡◌, ◌≢◌, ◌∙◌, refl}
-use Rattle.std.proofs.Common.{arith, ℕ, ◌<◌, true, false, None, Some, Result, Ok, Err, is_err, OnOk}
+use Rattle.std.proofs.Common.{inl, inr, ◌≡◌, ◌≢◌, ◌∙◌}
+use Rattle.std.proofs.Common.{arith, ℕ, ◌<◌, true, false, None, Some, Result, is_err, OnOk}
 use Rattle.vb_model.specs.{Layout.{is_ring_page, ring_number, ring_page}, Status.negotiate_refusal}
 use Rattle.vb_model.specs.{Status.status_refusal, Life.{feature_refusal, accepted_before}}
 use Rattle.vb_model.{specs.declared.replies.Refusal.Refusal, proofs.Shapes.{InRing, in_ring_page}}
@@ -73,9 +73,7 @@ others_fresh d1 e f = search (arith)
 -- ---- answers
 
 pub none_ok : {T : Type 0} (r : Result T StatusFault) → is_err r ≡ false → answered_refusal r ≡ None
-none_ok (Ok x) e = refl
-none_ok (Err fault) e = cc
+none_ok x e = grind arith
 
 pub at_ok : {T E : Type 0} (r : Result T E) (P : Type 0) → is_err r ≡ false → OnOk r P → P
-at_ok (Ok x) P e h = h
-at_ok (Err fault) P e h = cc
+at_ok x y e h = grind arith

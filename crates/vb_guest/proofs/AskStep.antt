@@ -1,6 +1,6 @@
 -- A guest's ask is a step of the definitions.
 use Rattle.std.{proofs.Common.{sym, ◌∙◌, ap, subst, arith, inr}, specs.Prelude.{◌≡◌, false}}
-use Rattle.std.specs.Prelude.{List, [], Result, Ok, Err, IsOk, Some, None, is_some, slice_get, refl}
+use Rattle.std.specs.Prelude.{List, [], Result, IsOk, Some, None, is_some, slice_get, refl}
 use Rattle.vb_model.specs.{Layout.reserved_pages, Refusals.{refusal_of, is_taken}}
 use Rattle.vb_model.specs.{Device.ReturnsBuffer, declared.calls.Call.TheVariants.Ask}
 use Rattle.vb_model.specs.declared.replies.{Refusal.Refusal, Reply.TheVariants.Asked}
@@ -22,16 +22,15 @@ ask_refused : {T : Type 0} {m1 m2 : Pages}
 ask_refused why did stands by_part by_model = grind arith
 
 asked_ok : {T : Type 0} (result : Result T Refusal) → IsOk result → asked_reply result ≡ Asked
-asked_ok (Ok x) ok = refl
-asked_ok (Err why) ok = absurd cc
+asked_ok x ok = grind arith
 
 -- the taken buffer is used
 ask_done : {T : Type 0} {m1 m2 : Pages} {p1 p2 : Part} {d : DriverState}
     {g : Guest} (figures : Figures) {result : Result T Refusal} → g.buffer ≡ BufferTaken figures
     → AsksBy m1 m2 p1 p2 result → Honest m1 p1 d g → IsRunning m1 p1 d g → ask_refusal p1 ≡ None
     → refusal_of g Ask ≡ None → StepsAlone (Honest m2 p2 d) g Ask (asked_reply result)
-ask_done {m1} {m2}
-    {p1} {p2} {d} {g} figures {result} is did stands run free_part free = let ties = stands.ties in
+ask_done {m1} {m2} {p1} {p2} {d} {g} figures {result} is did stands run free_part free =
+    let ties = stands.ties in
     let r : Request = record { head = 0; pages = []; visited = 0 } in
     let L : StatisticsBuffer → Type 0 = λ b. BufferLine m1 d.statistics p1.statistics b in
     let line : L (BufferTaken figures) = subst L is run.statistics in

@@ -1,5 +1,5 @@
 -- What a driver and a device ask for before a call, of an honest guest and of a rogue one.
-use Rattle.std.specs.Prelude.{◌≡◌, ℕ, ◌≤◌, ◌&&◌, Bool, true, false, length, IsSome, refl}
+use Rattle.std.specs.Prelude.{◌≡◌, ℕ, ◌≤◌, ◌&&◌, Bool, true, length, IsSome}
 use Rattle.{std.proofs.Common.{arith, sym, subst}, vb_model.specs.Limits.is_config}
 use Rattle.vb_model.specs.{Layout.{ring_page, is_start_page}, Guest.Guest, Status.contains}
 use Rattle.vb_model.{specs.{Status.driver_ok, Tables.is_up}, proofs.Shapes.{InRing, in_ring_page}}
@@ -15,8 +15,7 @@ pub is_large : {keeps : Bool} {m : Pages} {p : Part} {d : DriverState} {g : Gues
 is_large stands = grind (arith, config_limits)
 
 both : (ok sound : Bool) → (ok && sound) ≡ true → ok ≡ true
-both true sound e = refl
-both false sound e = absurd cc
+both x sound e = grind arith
 
 -- where the device is initialised its pages of rings and buffers have frames
 pub is_backed : {keeps : Bool} {m : Pages} {p : Part} {d : DriverState} {g : Guest}

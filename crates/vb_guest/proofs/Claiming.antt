@@ -67,8 +67,7 @@ supplies_refused size {m1} page why lt none answer noted m =
 -- a refusal that is handed on
 pub err_is : (result : Result (Unit {0}) Refused) (why : Refused) → IsErrAnd result (λ e. e ≡ why)
     → Err why ≡ result
-err_is (Ok x) why h = absurd h
-err_is (Err e) why h = ap (λ (w : Refused). Err w) (sym h)
+err_is x why h = grind arith
 
 -- a claim is noted before those of the rest
 noted_first : (l1 : List Claim) {l2 l3 : List Claim} (claims : List Claim) (claim : Claim)

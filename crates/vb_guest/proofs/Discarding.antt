@@ -1,6 +1,6 @@
 -- Pages lose their frames.
 use Rattle.std.specs.Prelude.{◌≡◌, ◌≢◌, ℕ, ◌+◌, ◌<◌, ◌==◌, ◌||◌, Bool, true, false, not, cond}
-use Rattle.std.specs.Prelude.{if◌then◌else◌, List, [], ◌∷◌, ◌++◌, All, length, Option, Some, None}
+use Rattle.std.specs.Prelude.{if◌then◌else◌, List, [], ◌∷◌, ◌++◌, All, length, Option, None}
 use Rattle.std.specs.Prelude.{IsTrue, slice_set, slice_index_or, count_by, refl}
 use Rattle.std.{specs.Option.option_to_list, specs.List.{flat_map, list_any}, proofs.Common.sym}
 use Rattle.std.proofs.{Common.{◌∙◌, ap, arith, inl, inr, eq-eqb}, lemmas.Bool.{cases_eq, eqb-true}}
@@ -57,12 +57,10 @@ entry_first p ps x d xs lt = ext_get_or d
     ])
 
 not_in : (b : Bool) → IsTrue (not b) → b ≡ false
-not_in true h = absurd (let e : false ≡ true = h in cc)
-not_in false h = refl
+not_in x h = grind arith
 
 pub one_frame : (n : ℕ) (o : Option ℕ) → times n (option_to_list o) ≡ one_if (is_frame n o)
-one_frame n None = refl
-one_frame n (Some f) = omega (arith, count_by-cons (λ (p : ℕ). p == n) f [])
+one_frame n y = grind (arith, count_by-cons)
 
 -- how often a frame was behind the pages, and how often it is behind one afterwards
 pub frames_freed : (n : ℕ) (pages : List ℕ) (frames : List (Option ℕ)) → AllDistinct pages

@@ -138,8 +138,8 @@ request_finished : (kind : Kind) {m1 m2 : Pages} {p1 p2 : Part} {d : DriverState
     → Uses (queue_of kind) i r m1 m2 p1 p2 result → Honest m1 p1 d g
     → IsRunning m1 p1 d g → refusal_of g (Finish (queue_of kind) i) ≡ None → StepsFreeing
     (Honest m2 (handed_back p2) d) p2.loose g (Finish (queue_of kind) i) (finished_reply result)
-request_finished
-    kind {m1} {m2} {p1} {p2} {d} {g} {i} {r} is did stands run free = let q = queue_of kind in
+request_finished kind {m1} {m2} {p1} {p2} {d} {g} {i} {r} is did stands run free =
+    let q = queue_of kind in
     let ties = stands.ties in let n = g.config.pages in let size = g.config.queue_size in
     let ring = ring_of q d in let part = queue_part q p1 in let line = line_of kind run in
     let sized = size_of kind run in let bare = without_frames q r.pages m1 in

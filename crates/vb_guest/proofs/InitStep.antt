@@ -61,10 +61,7 @@ now_backed size m1 m2 numbers page supplied start =
     ] where
       was : (o : Option ℕ) → frame_at m1 page ≡ o → is_in page (bare_from size m1 0) ≡ false
           → is_some (frame_at m1 page) ≡ true
-      was (Some x) e out = ap is_some e
-      was None e out = (let wrong = among (is_bare size m1) 0 (reserved_pages size - 0) page
-          (omega arith) (omega (arith, start_reserved size page start))
-          (ap (λ (b : Bool). b && is_none (frame_at m1 page)) start ∙ ap is_none e) in absurd cc)
+      was x e out = grind (arith, among, start_reserved)
 
 -- there are at most 17 of them
 few_passing : (test : ℕ → Bool) (xs : List ℕ) → length (filter test xs) ≤ length xs
@@ -76,7 +73,6 @@ few_start size = grind arith
 
 pub few_bare : (size : ℕ) (m : Pages) → length (bare_from size m 0) ≤ 17
 few_bare size m = let none : ℕ → Bool = λ page. is_none (frame_at m page) in
-    let all : reserved_pages size - 0 ≡ reserved_pages size = omega arith in
     let same : bare_from size m 0 ≡ filter none (start_pages size) = search (arith, filter_both) in
     omega (
       arith,
@@ -217,11 +213,8 @@ init_supplied {Answers} out1 out2 {l} {m1} {m2} {m3}
     let new_status : g.status ≡ 0 = sym ties.parts.device.status ∙ status in
     let idle = new_is_idle new_status stands in
     let distinct = all_distinct (is_bare size m1) 0 (reserved_pages size - 0) in
-    let below : (p : ℕ) → is_in p pages ≡ true
-    → p < n = λ p there. (
-    let low = bounded (is_bare size m1) 0 (reserved_pages size - 0) p there in
-    let many = large stands in
-    omega (arith, reserved_most size, ties.pages.length_is)) in
+    let below : (p : ℕ) → is_in p pages ≡ true → p < n =
+    grind (arith, bounded, large, reserved_most) in
     let has = pages_filled pages (given claims) distinct below did.supplied.0 ties.pages in
     let same_size : size ≡ g.config.queue_size = ties.parts.driver.queue_size in
     let backed : (p : ℕ) → is_start_page g.config.queue_size p ≡ true → IsSome (frame_at m2 p) =

@@ -1,5 +1,5 @@
 -- The requests that are out name as many pages as the driver remembers.
-use Rattle.std.specs.Prelude.{◌≡◌, ℕ, zero, suc, ◌<◌, ◌≤◌, ◌==◌, true, false, Bool, List}
+use Rattle.std.specs.Prelude.{◌≡◌, ℕ, zero, suc, ◌<◌, ◌≤◌, ◌==◌, false, Bool, List}
 use Rattle.std.specs.Prelude.{[], ◌∷◌, ◌++◌, length, All, sum_by, slice_set, slice_index_or, refl}
 use Rattle.std.proofs.{Common.{sym, ◌∙◌, ap, arith, inl, inr, get_or}, lemmas.Bool.cases_eq}
 use Rattle.std.proofs.lemmas.{Bool.ne_eqb, List.{length-set, get_or-set_same, get_or-set_other}}
@@ -78,8 +78,7 @@ all_both P (x ∷ xs) ys a b (suc k) d lt =
     all_both P xs ys (λ i e l. a (suc i) e (omega (arith, l))) b k d (omega (arith, lt))
 
 out_as_often : (b : Bool) → one_if b ≡ 0 → b ≡ false
-out_as_often true e = absurd (omega arith)
-out_as_often false e = refl
+out_as_often x e = grind arith
 
 pub line_named : (mem : Pages) (q n : ℕ) {side : RequestSide} (part : QueuePart) (rs : Requests)
     → Line mem q n side part rs → AreRequests side → pages_sent side ≡ pages_named (all_requests rs)

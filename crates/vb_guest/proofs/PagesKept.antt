@@ -1,6 +1,6 @@
 -- What changes of memory leave of the guest's frames and contents.
-use Rattle.std.specs.Prelude.{◌≡◌, ℕ, ◌≤◌, Bool, true, false, if◌then◌else◌}
-use Rattle.std.{specs.Prelude.{List, length, Option, None, refl}, proofs.Common.{◌∙◌, ap, arith}}
+use Rattle.std.specs.Prelude.{◌≡◌, ℕ, ◌≤◌, Bool, false, if◌then◌else◌}
+use Rattle.std.{specs.Prelude.{List, length, Option, None}, proofs.Common.{◌∙◌, ap, arith}}
 use Rattle.vb_model.specs.{Tests.is_in, Layout.reserved_pages, Guest.zero_page}
 use Rattle.vb_ram.specs.Pages.{Page, Pages, number_of, page_at, frame_at}
 use Rattle.vb_ram.{specs.Pages.contents_at, proofs.Contents.length-zero_page}
@@ -20,8 +20,7 @@ pages_same same has = grind arith
 
 pub number_if : (b : Bool) (x : Option Page)
     → number_of (if b then None else x) ≡ (if b then None else number_of x)
-number_if true x = refl
-number_if false x = refl
+number_if x0 x = grind arith
 
 pub page_discarded : (pages : List ℕ) (mem : Pages) (p : ℕ)
     → page_at (discarded pages mem) p ≡ (if is_in p pages then None else page_at mem p)
@@ -37,8 +36,7 @@ page_undiscarded pages mem p out =
     page_discarded pages mem p ∙ ap (λ (b : Bool). if b then None else page_at mem p) out
 
 whole_if : (b : Bool) (xs : List ℕ) → length xs ≡ 4096 → length (if b then zero_page else xs) ≡ 4096
-whole_if true xs len = length-zero_page
-whole_if false xs len = len
+whole_if x xs len = grind (arith, length-zero_page)
 
 pub pages_discarded : {old : Pages}
     {size n : ℕ} {frames : List (Option ℕ)} {contents : List (List ℕ)} (pages : List ℕ)

@@ -45,8 +45,7 @@ outstanding_are mem q ring part rs stands =
     )
 
 none_own : (h : ℕ) (o : Option ℕ) → is_none o ≡ true → is_own h o ≡ false
-none_own h None e = refl
-none_own h (Some k) e = cc
+none_own h y e = grind arith
 
 -- the lowest free descriptor is free, and none below it is
 pub record IsLowest (r : DriverEnd) (h : ℕ) : Type 0 where
@@ -82,8 +81,8 @@ lowest_is r {h} is = let free = free_descriptors r in
 pub least_head : (mem : Pages) (q : ℕ)
     {side : RequestSide} (part : QueuePart) {rs : Requests} {h : ℕ} → RingOf mem q side.ring part rs
     → AreRequests side → next_head side.ring ≡ Some h → IsLeastHead rs h
-least_head
-    mem q {side} part {rs} {h} stands single is = let lowest = lowest_is side.ring is in record {
+least_head mem q {side} part {rs} {h} stands single is =
+    let lowest = lowest_is side.ring is in record {
       new = headed_once mem q side.ring part rs h stands
           ∙ ap one_if (none_own h (slice_index_or side.ring.owner h None) lowest.free);
       least = λ k lt.
@@ -123,15 +122,11 @@ pub line_posted : {m1 m2 : Pages} (q : ℕ) {n : ℕ} {side after : RequestSide}
     (buffers_page q) pages head → Line m2 q n after part (posting head pages rs)
 line_posted {m1} {m2} q {n} {side} part rs {head} {pages} single fine line did =
     let L : RequestSide → Type 0 = λ s. Line m2 q n s part (posting head pages rs) in
-    subst L (sym did.state) (line_posted_at m1 m2 q n side part rs head pages single fine line
-    (subst (λ s. Posts m1 m2 side s (buffers_page q) pages head) did.state did)) where
-      line_posted_at : (m1 m2 : Pages) (q n : ℕ)
-          (side : RequestSide) (part : QueuePart) (rs : Requests) (head : ℕ) (pages : List ℕ)
-          → AreRequests side → AreRequested side.ring.size n pages → Line m1 q n side part rs
-          → Posts m1 m2 side (posted_side side head pages) (buffers_page q) pages head
+    subst L (sym did.state)
+    (now (subst (λ s. Posts m1 m2 side s (buffers_page q) pages head) did.state did)) where
+      now : Posts m1 m2 side (posted_side side head pages) (buffers_page q) pages head
           → Line m2 q n (posted_side side head pages) part (posting head pages rs)
-      line_posted_at m1 m2 q n side part rs head pages single fine line did =
-          let r : Request = record { head = head; pages = pages; visited = 0 } in
+      now did = let r : Request = record { head = head; pages = pages; visited = 0 } in
           let l = side.ring.layout in let sent = slice_set side.sent head pages in
           let P : Request → Type 0 = IsRequest side.ring.size n sent in
           let lowest = lowest_is side.ring did.lowest in

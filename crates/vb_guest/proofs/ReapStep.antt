@@ -40,8 +40,8 @@ line_left Inflating p d g r rest is few line =
     line_reaped 0 g.config.pages d.inflate p.inflate g.inflate r rest is line
 line_left Deflating p d g r rest is few line =
     line_reaped 1 g.config.pages d.deflate p.deflate g.deflate r rest is line
-line_left Reporting_free p d g
-    r rest is few line = report_reaped g.config.pages d.report p.report g.report r rest is few line
+line_left Reporting_free p d g r rest is few line =
+    report_reaped g.config.pages d.report p.report g.report r rest is few line
 
 -- what the driver tells as given away is what the definitions count
 told : (kind : Kind) {m : Pages}
@@ -101,10 +101,7 @@ request_reaped kind {m1} {p1} {p2} {g} areas sides {d2}
     let T : List Request → Type 0 = λ l. Reaps kind l g (Reaped x.head x.pages) new in
     let step = honest_performed g (Reap q) [] (Reaped x.head x.pages) new free
     (reaps kind g (Reaped x.head x.pages) new (subst T (sym is) (reply, refl))) in
-    let after : DriverState = left kind r d1 in
-    let state : d2 ≡ after = did.reaps.state
-    ∙ ap (λ (l : List ℕ). with_actual (without_request q x.head (moved_on q l d1))) sent
-    ∙ ap (λ (h : ℕ). with_actual (without_request q h (moved_on q r.pages d1))) same in
+    let after : DriverState = left kind r d1 in let state : d2 ≡ after = grind arith in
     let K : DriverState → Type 0 =
     λ d. TakesUsedBy m1 (ring_of q d1) (ring_of q d) (used_answer m1 (ring_of q d1)) in
     let taken = subst (λ a. TakesUsedBy m1 (ring_of q d1) (ring_of q after) a) answer

@@ -52,8 +52,7 @@ pub report_chain : {mem : Pages} {table descriptors n : ℕ} {blocks : List Bloc
 report_chain {mem} {table} {descriptors} {blocks} len some inside own reported =
     let count : ℕ = length blocks in let path : List ℕ = range_with_len 0 count in
     let long : length path ≡ count = length-range_with_len 0 count in
-    let at : (k : ℕ) → k < count → slice_index path k ≡ k =
-    λ k lt. omega (arith, get_or-range_with_len 0 count k 0 lt) in
+    let at : (k : ℕ) → k < count → slice_index path k ≡ k = grind (arith, get_or-range_with_len) in
     let route : IsRoute descriptors path = search arith in
     let put : (k : ℕ) → k < length path → descriptor_at mem table (slice_index path k)
     ≡ linked path (pieces_of blocks) k = λ k lt. let below : k < count = omega (arith, long) in

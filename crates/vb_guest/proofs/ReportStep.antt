@@ -82,8 +82,8 @@ report_out : {m1 m2 : Pages} {p1 p2 : Part} {d1 d2 : DriverState} {g : Guest}
     → Honest m1 p1 d1 g → IsRunning m1 p1 d1 g → refusal_of g (Report from) ≡ None
     → outstanding g.report ≡ 0 → 0 < length (reported_blocks g from)
     → StepsAlone (Honest m2 p2 d2) g (Report from) (Posted posted.head posted.pages)
-report_out {m1} {m2}
-    {p1} {d1} {d2} {g} {from} {posted} did stands run free none some = let ties = stands.ties in
+report_out {m1} {m2} {p1} {d1} {d2} {g} {from} {posted} did stands run free none some =
+    let ties = stands.ties in
     let n = g.config.pages in let blocks = reported_blocks g from in
     let pages = pages_of_all blocks in let gone : g.report ≡ no_requests = all_gone none in
     let new : Guest = after_posting Reporting_free 0 pages g in
@@ -134,8 +134,8 @@ report_out {m1} {m2}
 pub report_step : {m1 m2 : Pages} {p1 p2 : Part} {d1 d2 : DriverState} {g : Guest}
     {from : ℕ} {result : Result PostedRequest Refusal} → ReportsBy m1 m2 p1 p2 d1 d2 from result
     → Honest m1 p1 d1 g → StepsAlone (Honest m2 p2 d2) g (Report from) (posted_reply result)
-report_step {m1} {m2}
-    {p1} {p2} {d1} {d2} {g} {from} {result} did stands = let device = stands.ties.parts.device in
+report_step {m1} {m2} {p1} {p2} {d1} {d2} {g} {from} {result} did stands =
+    let device = stands.ties.parts.device in
     let driver = stands.ties.parts.driver in
     by result did (refused_alike (Report from) stands.ties.queues
     (report_idle p1 d1 g from device.status) (λ run. report_same p1 d1 g from device.status

@@ -1,5 +1,5 @@
 -- The heads of a ring: how often they stand in its lists, and that each is out at most once.
-use Rattle.std.specs.Prelude.{◌≡◌, ℕ, ◌+◌, ◌≤◌, ◌==◌, Bool, true, false, cond, List, [], ◌∷◌, ◌++◌}
+use Rattle.std.specs.Prelude.{◌≡◌, ℕ, ◌+◌, ◌≤◌, ◌==◌, Bool, true, cond, List, [], ◌∷◌, ◌++◌}
 use Rattle.std.specs.Prelude.{length, Some, None, slice_get, slice_index_or, remove, take, refl}
 use Rattle.std.proofs.Common.{◌∙◌, ap, arith, length-append, eq-eqb}
 use Rattle.std.proofs.lemmas.List.{length-map, map-append, Sums.sum_by-remove}
@@ -14,16 +14,13 @@ pub one_is : (h : ℕ) → one_if (h == h) ≡ 1
 one_is h = ap one_if (eq-eqb h h refl)
 
 pub at_most_one : (b : Bool) → one_if b ≤ 1
-at_most_one true = omega arith
-at_most_one false = omega arith
+at_most_one x = grind arith
 
 pub is_one : (b : Bool) → 1 ≤ one_if b → b ≡ true
-is_one true h = refl
-is_one false h = absurd (omega arith)
+is_one x h = grind arith
 
 pub cond_one : (b : Bool) → cond {A = ℕ} b 1 0 ≡ one_if b
-cond_one true = refl
-cond_one false = refl
+cond_one x = grind arith
 
 -- a head that is taken out of a list
 pub times-remove : (h : ℕ) (hs : List ℕ) (i k : ℕ) → slice_get hs i ≡ Some k

@@ -13,14 +13,10 @@ ring_posted {m1} {m2}
     {q} {ring} {after} {next_avail} {next_used} {posted} {taken} {done} n {head} stands state did =
     let R : DriverEnd → Type 0 =
     λ r. RingStands m2 q r next_avail next_used (posted ++ head ∷ []) taken done in
-    subst R (sym state) (posted_at m1 m2 q ring next_avail next_used posted taken done n head stands
-    (subst (λ (r : DriverEnd). Announces m1 m2 ring r head) state did)) where
-      posted_at : (m1 m2 : Pages) (q : ℕ) (ring : DriverEnd) (next_avail next_used : ℕ)
-          (posted taken done : List ℕ) (n head : ℕ) → RingStands m1 q ring next_avail next_used
-          posted taken done → Announces m1 m2 ring (after_add ring n (Ok head)) head → RingStands m2 q
-          (after_add ring n (Ok head)) next_avail next_used (posted ++ head ∷ []) taken done
-      posted_at m1 m2 q ring next_avail next_used posted taken done n head stands did =
-          let heads = stands.before ++ posted in let elems = stands.gone ++ used_of done in
+    subst R (sym state) (now (subst (λ (r : DriverEnd). Announces m1 m2 ring r head) state did)) where
+      now : Announces m1 m2 ring (after_add ring n (Ok head)) head
+          → RingStands m2 q (after_add ring n (Ok head)) next_avail next_used (posted ++ head ∷ []) taken done
+      now did = let heads = stands.before ++ posted in let elems = stands.gone ++ used_of done in
           let after : DriverEnd = after_add ring n (Ok head) in
           let grown : heads ++ head ∷ [] ≡ stands.before ++ (posted ++ head ∷ []) =
           append_assoc stands.before posted (head ∷ []) in

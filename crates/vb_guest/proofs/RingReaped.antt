@@ -49,14 +49,11 @@ pub ring_reaped : {mem : Pages} {q : ℕ} {ring after : DriverEnd}
     → RingStands mem q after next_avail next_used posted taken rest
 ring_reaped {mem} {q} {ring} {after} {next_avail} {next_used} {posted} {taken} h {rest} stands did =
     let R : DriverEnd → Type 0 = λ r. RingStands mem q r next_avail next_used posted taken rest in
-    subst R (sym did.state) (reaped_at mem q ring next_avail next_used posted taken h rest stands
-    (subst (λ (r : DriverEnd). TakesUsedBy mem ring r (Ok (Some h))) did.state did)) where
-      reaped_at : (mem : Pages) (q : ℕ) (ring : DriverEnd) (next_avail next_used : ℕ)
-          (posted taken : List ℕ) (h : ℕ) (rest : List ℕ) → RingStands mem q ring next_avail next_used
-          posted taken (h ∷ rest) → TakesUsedBy mem ring (after_take ring (Ok (Some h))) (Ok (Some h))
+    subst R (sym did.state)
+    (now (subst (λ (r : DriverEnd). TakesUsedBy mem ring r (Ok (Some h))) did.state did)) where
+      now : TakesUsedBy mem ring (after_take ring (Ok (Some h))) (Ok (Some h))
           → RingStands mem q (after_take ring (Ok (Some h))) next_avail next_used posted taken rest
-      reaped_at mem q ring next_avail next_used posted taken h rest stands did =
-          let e : UsedElem = record { id = h; len = 0 } in
+      now did = let e : UsedElem = record { id = h; len = 0 } in
           let after : DriverEnd = after_take ring (Ok (Some h)) in
           let heads = stands.before ++ posted in let elems = stands.gone ++ used_of (h ∷ rest) in
           let moved : (stands.gone ++ e ∷ []) ++ used_of rest ≡ elems =

@@ -11,7 +11,7 @@ use Rattle.vb_model.specs.{Tables.{sweep_causes, finish_causes, ask_causes}, Tes
 use Rattle.vb_model.specs.declared.replies.Refusal.{Refusal, TheVariants.{NoQueue, NotReady}}
 use Rattle.vb_model.specs.declared.replies.Refusal.TheVariants.{NeedsReset, Broken, Busy, NotTaken}
 use Rattle.vb_model.specs.declared.replies.Refusal.TheVariants.{NotWorked, NoFeature, NotBallooned}
-use Rattle.vb_model.specs.declared.replies.Reply.{Reply, TheVariants.{Refused, Done}}
+use Rattle.vb_model.specs.declared.replies.Reply.{Reply, TheVariants.Done}
 use Rattle.vb_model.specs.declared.layout.TheConstants.{INFLATE_QUEUE, DEFLATE_QUEUE}
 use Rattle.vb_model.specs.declared.layout.TheConstants.{STATISTICS_QUEUE, REPORT_QUEUE}
 use Rattle.vb_model.specs.declared.calls.Call.{Call, TheVariants.Take}
@@ -112,8 +112,7 @@ takes_up a c d f e = grind arith
 
 -- not not ready
 ok_of : (ok broken : Bool) → (not ok || broken) ≡ false → ok ≡ true
-ok_of true broken e = refl
-ok_of false broken e = absurd cc
+ok_of x broken e = grind arith
 
 pub take_rogue : {m1 m2 : Pages} {p1 p2 : Part} {d : DriverState}
     {g : Guest} {q : ℕ} {result : Result (Option ℕ) Refusal} → TakesBy q m1 m2 p1 p2 result
@@ -213,13 +212,11 @@ changes_back {size} {n} {p1} {p} changes is =
 
 none_of : (b : Bool) {x : Option ℕ} (frame : ℕ)
     → (if b then None else x) ≡ Some frame → x ≡ Some frame
-none_of true frame e = absurd cc
-none_of false frame e = e
+none_of x frame e = grind arith
 
 -- a reply that is no refusal is none for want of something
 done_wants : (reply : Reply) → is_refused reply ≡ false → wants reply ≡ false
-done_wants (Refused why) e = absurd cc
-done_wants _ e = refl
+done_wants x e = grind arith
 
 -- pages that aren't reserved lose their frames, which are loose then
 pub rogue_freed : {m1 m2 : Pages} {p1 : Part} (p2 : Part) {d : DriverState} {g : Guest}
@@ -290,8 +287,7 @@ pub none_freed : {m1 m2 : Pages}
     → IsOther call → bare_pages call g ≡ [] → IsLeft call reply [] g (rogue_after g g.frames p2 d)
     → Rogue m1 p1 d g → StepsFreeing (Rogue m2 (handed_back p2) d) p2.loose g call reply
 none_freed {m1} {m2} {p2} {d} memory part still answer other none_needed left rogue =
-    let same : (page : ℕ) → frame_at m2 page ≡ frame_at m1 page =
-    λ page. ap (λ (m : Pages). frame_at m page) memory in
+    let same : (page : ℕ) → frame_at m2 page ≡ frame_at m1 page = grind arith in
     let count : length m2 ≡ length m1 = ap (λ (m : Pages). length m) memory in
     let none : p2.loose ≡ [] = ap (λ (p : Part). p.loose) part ∙ rogue.loose in
     let step = rogue_alone rogue (keeps_part (driver_same refl) part count same) count same
@@ -306,8 +302,7 @@ none_freed {m1} {m2} {p2} {d} memory part still answer other none_needed left ro
 -- ---- work
 
 works_up : (a b : Bool) → first_refusal ((a ⇒ NotReady) ∷ (b ⇒ NeedsReset) ∷ []) ≡ None → a ≡ false
-works_up true b e = absurd cc
-works_up false b e = refl
+works_up x b e = grind arith
 
 visits_rogue : {m1 m2 : Pages} {p1 p2 : Part} {d : DriverState} {g : Guest}
     {q page : ℕ} {result : Result (Option Worked) Refusal} → Visits q page m1 m2 p1 p2 result
@@ -493,8 +488,7 @@ finish_rogue {m1} {m2} {p1} {p2} {d} {g} {q} {i} {result} did rogue = by
       uses_request r e at true deflates uses =
           let ready = finishes_up (is_queue_of_requests q) (is_not_ready p1.status)
           (has_fault p1.status) (is_none (taken_at q i p1)) unworked e in
-          let whole : without_frames q r.pages m1 ≡ m1 =
-          ap (λ (b : Bool). if b then m1 else discarded r.pages m1) deflates in
+          let whole : without_frames q r.pages m1 ≡ m1 = grind arith in
           let other : (q == INFLATE_QUEUE) ≡ true → All (λ p. reserved_pages size ≤ p) r.pages =
           λ inflates. absurd (not_both q deflates inflates) in
           settles r nothing_named uses (ok_of (contains p1.status driver_ok) (contains p1.status failed)
@@ -532,16 +526,14 @@ finish_rogue {m1} {m2} {p1} {p2} {d} {g} {q} {i} {result} did rogue = by
 
 asks_up : (a b c : Bool) → first_refusal ((a ⇒ NotReady) ∷ (b ⇒ NeedsReset) ∷ (c ⇒ NotTaken) ∷ [])
     ≡ None → a ≡ false
-asks_up true b c e = absurd cc
-asks_up false b c e = refl
+asks_up x b c e = grind arith
 
 taken_buffer : (a b : Bool) (o : Option Request) → first_refusal ((a ⇒ NotReady)
     ∷ (b ⇒ NeedsReset) ∷ (not (is_some o) ⇒ NotTaken) ∷ []) ≡ None → (r : Request) × (o ≡ Some r)
 taken_buffer a b o e = grind arith
 
 asked_not : {T : Type 0} (r : Result T Refusal) → IsOk r → is_refused (asked_reply r) ≡ false
-asked_not (Ok x) ok = refl
-asked_not (Err why) ok = absurd cc
+asked_not x ok = grind arith
 
 pub ask_rogue : {T : Type 0} {m1 m2 : Pages} {p1 p2 : Part}
     {d : DriverState} {g : Guest} {result : Result T Refusal} → AsksBy m1 m2 p1 p2 result

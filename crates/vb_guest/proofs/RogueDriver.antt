@@ -66,8 +66,8 @@ pub unchanged_alone : {m1 m2 : Pages} {p1 p2 : Part} {d1 d2 : DriverState}
     → none_wants causes ≡ true → list_all (λ t. keeps_status t.refusal) causes ≡ true
     → after_refused call why [] g ≡ with_fault why g → bare_pages call g ≡ []
     → IsOther call → Rogue m1 p1 d1 g → StepsAlone (Rogue m2 p2 d2) g call (Refused why)
-unchanged_alone {d2} {call} {why} causes same still is wanted keep plain none other
-    rogue = part_alone (driver_same same.driver) same.part (ap (λ (m : Pages). length m) same.mem)
+unchanged_alone {d2} {call} {why} causes same still is wanted keep plain none other rogue =
+    part_alone (driver_same same.driver) same.part (ap (λ (m : Pages). length m) same.mem)
     (λ page. ap (λ (m : Pages). frame_at m page) same.mem) still (not_for_want why causes is wanted)
     other none (left_same d2 call why causes rogue (ap (λ (d : DriverState). d.places) same.driver)
     (ap (λ (d : DriverState). d.actual) same.driver) same.part is keep plain) rogue
@@ -124,8 +124,8 @@ asks_rogue asks still other none rogue = part_alone
 pub deflate_rogue : {m1 m2 : Pages} {p1 p2 : Part} {d1 d2 : DriverState}
     {g : Guest} {n : ℕ} (result : Result Posted Refusal) → DeflatesBy m1 m2 p1 p2 d1 d2 n result
     → Rogue m1 p1 d1 g → StepsAlone (Rogue m2 p2 d2) g (Deflate n) (posted_reply result)
-deflate_rogue
-    (Ok posted) did rogue = asks_rogue did.asks refl (λ page offset bytes e. cc) refl rogue
+deflate_rogue (Ok posted) did rogue =
+    asks_rogue did.asks refl (λ page offset bytes e. cc) refl rogue
 deflate_rogue {p1} {d1} {n} (Err why) did rogue =
     unchanged_alone (deflate_causes d1 p1 n) did.refused refl
     did.refusal refl refl refl refl (λ page offset bytes e. cc) rogue

@@ -150,8 +150,7 @@ init_supplied_rogue {Answers} out1 out2 {l} {m1}
     let n = g.config.pages in let pages = lacking g in let claims = did.claims in
     let size = d1.queue_size in
     let bare : bare_from size m1 0 ≡ lacking g = bare_is m1 g rogue.queue_size rogue.behind in
-    let made : AreClaimsFor pages claims =
-    subst (λ (x : List ℕ). AreClaimsFor x claims) bare did.made in
+    let made : AreClaimsFor pages claims = grind arith in
     let supplied : AllSupplied pages (given claims) m1 m2 =
     subst (λ (x : List ℕ). AllSupplied x (given claims) m1 m2) bare did.supplied.0 in
     let frames : List (Option ℕ) = all_backed pages (given claims) g.frames in

@@ -2,7 +2,7 @@
 use Rattle.std.specs.Prelude.{◌≡◌, ◌≢◌, ℕ, ◌<◌, Bool, true, false, List}
 use Rattle.std.specs.Prelude.{[], ◌∷◌, length, Option, Some, None, All, is_some, ◌≤◌, refl, Err}
 use Rattle.std.proofs.{Common.{sym, ◌∙◌, ap, subst, arith, inl, inr}, lemmas.Bool.cases_eq}
-use Rattle.vb_model.specs.Rogue.{LosesFrames, pages_to_back, unless_refused, with_fault, GuestStep}
+use Rattle.vb_model.specs.Rogue.{LosesFrames, pages_to_back, with_fault, GuestStep}
 use Rattle.vb_model.specs.Driver.{given, claim_refusal, AreClaimsFor, pages_needed}
 use Rattle.vb_model.specs.Guest.{Guest, frame_of, backed, all_backed, is_ballooned}
 use Rattle.vb_model.specs.declared.replies.Refusal.{Refusal, TheVariants.{OutOfRam, NotHeld}}
@@ -15,8 +15,8 @@ use Rattle.vb_model.specs.{Refusals.is_outside, Status.{contains, driver_ok}, Pa
 use Rattle.vb_model.specs.{Pages.is_used, Layout.reserved_pages, Requests.Request, Step.HonestStep}
 use Rattle.vb_model.proofs.Wanting.{wants, not_refused_pages, refused_backs}
 use Rattle.vb_ram.specs.{Pages.{Pages, frame_at, Covers, Wrote, Supplied}, Part.Part}
-use Rattle.vb_frames.specs.declared.keeper.Refused.{Refused as KeeperRefused, TheVariants.NoFrame}
-use Rattle.vb_frames.specs.{declared.keeper.Refused.TheVariants.Memory, Out.claim_in}
+use Rattle.vb_frames.specs.declared.keeper.Refused.{Refused as KeeperRefused}
+use Rattle.vb_frames.specs.Out.{claim_in}
 use Rattle.{vb_driver.specs.State.DriverState, vb_guest.proofs.Rogues.{driver_same, device_alike}}
 use Rattle.vb_guest.proofs.Rogues.{keeps_part, rogue_after, kept_of_rogue, rogue_unchanged}
 use Rattle.vb_guest.proofs.Rogues.{left_by, no_refusal, keeps_status, without_fault, rogue_stands}
@@ -63,8 +63,7 @@ up_honest {m} {p} {d} {g} honest ok = elim honest.ties.queues [
 low_honest : (g : Guest) (page : ℕ) (flag : Bool) → is_ballooned g.ballooned page ≡ flag
     → ((e : is_ballooned g.ballooned page ≡ true) → reserved_pages g.config.queue_size ≤ page)
     → page < reserved_pages g.config.queue_size → is_ballooned g.ballooned page ≡ false
-low_honest g page true is high low = absurd (omega (arith, high is, low))
-low_honest g page false is high low = is
+low_honest g page z is high low = grind arith
 
 abbrev pub marked : Guest → Guest
 marked g = record g { rogue = true }
@@ -197,8 +196,7 @@ write_supplied_rogue out1 out2 {p1}
     {p2} {d} {g} {page} {off} {frame} {bs} answer used rogue covers some bare supplied wrote part =
     let bare_too : frame_of g.frames page ≡ None = sym (rogue.behind page) ∙ bare in
     let needs : pages_to_back (Write page off bs) g ≡ page ∷ [] =
-    ap (λ (o : Option Refusal). unless_refused o (pages_needed page bs g))
-    (write_fits bs rogue used covers) ∙ needs_one g page bs some bare_too in
+    grind (arith, write_fits, needs_one) in
     let new : Guest = rogue_after g (backed page frame g.frames) p2 d in
     let stands = supplied_rogue covers supplied wrote part rogue in
     record {
@@ -216,20 +214,17 @@ write_supplied_rogue out1 out2 {p1}
 
 refused_for : (why : KeeperRefused) (page : ℕ) → AreClaimsFor (page ∷ []) (claim_in (Err why) ∷ [])
     × (claim_refusal (claim_in (Err why) ∷ []) ≡ Some (refusal_of_claim why))
-refused_for NoFrame page = (refl, refl)
-refused_for Memory page = (refl, refl)
+refused_for x page = grind arith
 
 -- it leaves the status alone
 claim_fault : (why : KeeperRefused) (g : Guest) → with_fault (refusal_of_claim why) g ≡ g
-claim_fault NoFrame g = refl
-claim_fault Memory g = refl
+claim_fault x g = grind arith
 
 refused_claimed : {Answers : List Bool → Claim → Type 0} (out1 out2 : List Bool)
     (p1 p2 : Part) (why : KeeperRefused) → IsClaimed Answers (supply_of p1 out1) (supply_of p2 out2)
     (claim_in (Err why)) → AreClaimed Answers (supply_of p1 out1) (claim_in (Err why) ∷ [])
     × Moves (supply_of p1 out1) (supply_of p2 out2) nothing nothing
-refused_claimed out1 out2 p1 p2 NoFrame a = ((supply_of p2 out2, a, refl), a.moves)
-refused_claimed out1 out2 p1 p2 Memory a = ((supply_of p2 out2, a, refl), a.moves)
+refused_claimed out1 out2 p1 p2 v a = grind arith
 
 pub write_unsupplied_rogue : {Answers : List Bool → Claim → Type 0}
     (out1 out2 : List Bool) {m1 m2 : Pages}
@@ -319,8 +314,7 @@ scribble_outside {m1} {m2} {p2} {d} {g} {page} {off} {bs} stands m p out =
 
       outside : (b : Bool) → is_outside g page off (length bs) ≡ b
           → is_outside g page off (length bs) ≡ true
-      outside true e = e
-      outside false e = absurd (out (outside_is g size e))
+      outside x e = grind (arith, outside_is)
 
       refused : refusal_of g (Scribble page off bs) ≡ Some OutOfRam
       refused = ap (λ (b : Bool). first_refusal ((b ⇒ OutOfRam) ∷ []))

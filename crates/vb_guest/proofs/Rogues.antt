@@ -149,14 +149,12 @@ without_fault why e = grind arith
 pub nothing_backed : (call : Call) (g : Guest) → bare_pages call g ≡ [] → pages_to_back call g ≡ []
 nothing_backed call g none = by (is_none (refusal_of g call)) where
   by : (b : Bool) → (if b then bare_pages call g else []) ≡ []
-  by true = none
-  by false = refl
+  by x = grind arith
 
 -- the read that it is
 read_call : (call : Call) → is_read call ≡ true
     → (page : ℕ) × (offset : ℕ) × (len : ℕ) × (call ≡ Read page offset len)
-read_call (Read page offset len) e = (page, offset, len, refl)
-read_call _ e = absurd cc
+read_call x e = grind arith
 
 -- the guest afterwards is bound by what the call claimed
 pub rogue_steps : {m1 m2 : Pages} {p1 p2 : Part} {d1 d2 : DriverState}
@@ -173,21 +171,7 @@ rogue_steps {g} {new}
     call claims reply old after config target claimed frames no_frame no_memory left scribble =
     let S : Bool → Type 0 =
     λ b. MatchBool b (RogueStep g call claims reply new) (HonestStep g call claims reply new) in
-    subst S (sym old.rogue) (record {
-      stays = record {
-        still = after.rogue;
-        config = config;
-        unreserved = after.unreserved;
-        sizes = assumption;
-      };
-      target = sym after.target ∙ target ∙ ap (target_after call) old.target;
-      claimed = claimed;
-      frames = frames;
-      no_frame = no_frame;
-      no_memory = λ e. by_read (no_memory e);
-      refused = left;
-      scribble = scribble;
-    }) where
+    subst S (sym old.rogue) (search arith) where
       by_read : (claim_refusal claims ≡ Some NoMemory) ⊎ (is_read call ≡ true) → (claim_refusal claims
           ≡ Some NoMemory) ⊎ ((page : ℕ) × (offset : ℕ) × (len : ℕ) × (call ≡ Read page offset len))
       by_read (inl e) = inl e

@@ -18,8 +18,7 @@ IsIdleStatus status = (status ≡ 0) ⊎ (status ≡ 131)
 
 -- what holds at both statuses before an initialisation
 pub at_both : (P : ℕ → Type 0) (status : ℕ) → IsIdleStatus status → P 0 → P 131 → P status
-at_both P status (inl e) a b = subst P (sym e) a
-at_both P status (inr e) a b = subst P (sym e) b
+at_both x status z a b = grind arith
 
 -- a last test that doesn't hold
 pub last_cause : (causes : List Cause) {b : Bool} (why : Refusal)
@@ -29,8 +28,7 @@ last_cause (cause ∷ causes) {b} why e = by cause.holds (last_cause causes why 
   by : (v : Bool) → first_refusal (causes ++ (b ⇒ why) ∷ []) ≡ first_refusal causes
       → (if v then Some cause.refusal else first_refusal (causes ++ (b ⇒ why) ∷ []))
       ≡ (if v then Some cause.refusal else first_refusal causes)
-  by true same = refl
-  by false same = same
+  by x same = grind arith
 
 -- ---- take
 
@@ -126,8 +124,7 @@ by_state call refused (inl idle) down same stops goes =
     let both = down idle.state in stops NotReady both.0 both.1
 by_state {S} {g} call refused (inr run) down same stops goes = by (refusal_of g call) refl where
   by : (o : Option Refusal) → refusal_of g call ≡ o → S
-  by (Some why) is = stops why (same run ∙ is) is
-  by None is = goes run (same run ∙ is) is
+  by x is = grind arith
 
 -- ---- a call on a driver
 
@@ -143,5 +140,4 @@ pub runs_where : {m : Pages} {p : Part} {d : DriverState}
     {g : Guest} (call : Call) (refused : Option Refusal) → IsIdle g ⊎ IsRunning m p d g
     → (IsIdleStatus g.status → (refused ≡ Some NotReady) × (refusal_of g call ≡ Some NotReady))
     → refusal_of g call ≡ None → IsRunning m p d g
-runs_where call refused (inl idle) down free = absurd (let wrong = (down idle.state).1 in cc)
-runs_where call refused (inr run) down free = run
+runs_where call refused z down free = grind arith

@@ -5,7 +5,7 @@ use Rattle.std.proofs.{lemmas.List.length-replicate, Common.{sym, ap, subst, ari
 use Rattle.vb_model.specs.Requests.{no_requests, StatisticsBuffer, NoBuffer, BufferPosted, Figures}
 use Rattle.vb_model.specs.Layout.{reserved_pages, ring_page, is_ring_page, is_start_page}
 use Rattle.vb_model.{specs.{Guest.{Guest, stats_vq}, Driver.figures}, proofs.Shapes.ring_reserved}
-use Rattle.vb_ram.specs.{Pages.{Pages, page_at, frame_at, contents_of}, Part.{Part, no_queue}}
+use Rattle.vb_ram.specs.{Pages.{Pages, page_at, frame_at}, Part.{Part, no_queue}}
 use Rattle.{vb_ring.specs.{Ends.DriverEnd, Layout.IsSize}, vb_status.specs.After.part_after_reset}
 use Rattle.vb_driver.specs.State.{DriverState, IsDriver, fresh_side, fresh_statistics, fresh_report}
 use Rattle.vb_driver.specs.{State.figures_of, Calls.Starts}
@@ -52,8 +52,7 @@ first_line false {zeroed} d1 d2 sized is new did =
 
 first_size : (b : Bool) (zeroed m : Pages) (d1 d2 : DriverState) → FirstBuffer b zeroed m d1 d2
     → d2.statistics.size ≡ d1.queue_size
-first_size true zeroed m d1 d2 did = ap (λ (r : DriverEnd). r.size) did.state
-first_size false zeroed m d1 d2 did = ap (λ (r : DriverEnd). r.size) did.1
+first_size x zeroed m d1 d2 did = grind arith
 
 -- what the start leaves of memory
 record KeepsPages (size : ℕ) (old new : Pages) : Type 0 where
@@ -119,12 +118,7 @@ started {m3} {p1} {d1} {d2} {g} {frames} {wanted} has backed idle driver parts d
             no_flags p1 parts.device.ballooned idle,
             sym idle.last,
           );
-      pages = pages_same (record {
-        count = keeps.count;
-        behind = keeps.backing;
-        holds = λ p high. ap contents_of (keeps.high p
-            (subst (λ (k : ℕ). reserved_pages k ≤ p) (sym parts.driver.queue_size) high));
-      }) has;
+      pages = pages_same (search arith) has;
       queues = inr (search (arith, first_size, first_line, figures_are));
     } in ties_same refl did.part did.driver there
 

@@ -89,8 +89,8 @@ refilled {m1} {m2} {p1} {d1} {d2} {g} old is did stands run free = let ties = st
 pub stats_step : {m1 m2 : Pages} {p1 p2 : Part} {d1 d2 : DriverState}
     {g : Guest} {result : Result Bool Refusal} → FillsBy m1 m2 p1 p2 d1 d2 result
     → Honest m1 p1 d1 g → StepsAlone (Honest m2 p2 d2) g Stats (filled_reply result)
-stats_step
-    {m1} {m2} {p1} {p2} {d1} {d2} {g} {result} did stands = let device = stands.ties.parts.device in
+stats_step {m1} {m2} {p1} {p2} {d1} {d2} {g} {result} did stands =
+    let device = stands.ties.parts.device in
     by result did (refused_alike Stats stands.ties.queues
     (stats_idle m1 p1 d1 g device.status) (λ run. stats_same m1 p1 d1 g (slice_get
     (used_heads g.buffer) 0) device.status stands.ties.parts.driver.accepted (answer run))) where

@@ -12,8 +12,7 @@ use Rattle.vb_guest.specs.{Lives.AllSupplied, Stands.HasPages, Steps.is_frame}
 
 -- neither of two tests holds
 neither : (a b : Bool) → (a || b) ≡ false → (a ≡ false) × (b ≡ false)
-neither true b e = absurd cc
-neither false b e = (refl, e)
+neither x b e = grind arith
 
 -- ---- the numbers of a range that pass a test
 
@@ -111,8 +110,7 @@ filled_by Has n (p ∷ ps) (k ∷ ks) m1 m2 frames one distinct below (mid, befo
     subst (λ l. Has m2 l) (backed_last p k ps ks frames out)
     (one mid m2 p k (all_backed ps ks frames) lt bare there did) where
       later : (a b : Bool) → b ≡ true → (a || b) ≡ true
-      later true b e = refl
-      later false b e = e
+      later x b e = grind arith
 
 pub pages_filled : {size n : ℕ} (pages numbers : List ℕ) {m1 m2 : Pages} {frames : List (Option ℕ)}
     {contents : List (List ℕ)} → AllDistinct pages → ((p : ℕ) → is_in p pages ≡ true → p < n)
@@ -156,5 +154,4 @@ frames_filled x {n}
     (backed_last p f ps (given cs) frames (distinct_out p ps distinct.0)) in
     omega (arith, rest, more, swap, times_first x f (given cs)) where
       later : (a b : Bool) → b ≡ true → (a || b) ≡ true
-      later true b e = refl
-      later false b e = e
+      later x b e = grind arith

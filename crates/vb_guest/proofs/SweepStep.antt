@@ -1,5 +1,5 @@
 -- A guest's sweep is a step of the definitions.
-use Rattle.std.proofs.Common.{◌≡◌, ℕ, zero, suc, ◌<◌, ◌≤◌, Bool, true, false, List, [], ◌∷◌, All}
+use Rattle.std.proofs.Common.{◌≡◌, ℕ, ◌<◌, ◌≤◌, Bool, true, false, List, [], ◌∷◌, All}
 use Rattle.std.proofs.Common.{Result, Option, Some, None, is_some, sym, ◌∙◌, ap, subst, arith, inr}
 use Rattle.{std.specs.Prelude.refl, vb_model.specs.{Consistent.IsConsistent, Refusals.refusal_of}}
 use Rattle.vb_model.specs.{Pages.{place_of, is_reserved}, Guest.{Guest, is_ballooned, unbacked}}
@@ -15,8 +15,7 @@ use Rattle.vb_guest.{proofs.Closing.{honest_performed, ties_same}, specs.Replies
 use Rattle.vb_guest.specs.{Steps.StepsFreeing, Stands.{Honest, Ties, IsRunning}}
 
 all_one : (P : ℕ → Type 0) (x : ℕ) → P x → All P (x ∷ [])
-all_one P x h zero d lt = h
-all_one P x h (suc k) d lt = absurd (omega arith)
+all_one x0 x h u d lt = grind arith
 
 -- ---- refusals
 

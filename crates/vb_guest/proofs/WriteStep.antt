@@ -1,6 +1,6 @@
 -- A guest's write is a step of the definitions.
-use Rattle.std.specs.Prelude.{◌≡◌, ℕ, ◌<◌, ◌≤◌, Bool, true, false, if◌then◌else◌, List, []}
-use Rattle.std.specs.Prelude.{◌∷◌, length, Option, Some, None, IsSome, is_none, Result, Err, IsOk}
+use Rattle.std.specs.Prelude.{◌≡◌, ℕ, ◌<◌, ◌≤◌, Bool, true, false, List, []}
+use Rattle.std.specs.Prelude.{◌∷◌, length, Option, Some, None, IsSome, Result, Err, IsOk}
 use Rattle.std.{specs.Prelude.{refl, ◌⊎◌}, proofs.Common.{sym, ◌∙◌, ap, subst, arith, inl, inr}}
 use Rattle.std.proofs.lemmas.Bool.{cases_lt, Decides.nat_tests}
 use Rattle.vb_model.{proofs.Performed.Supplying, specs.Driver.{overwritten, pages_needed, Written}}
@@ -57,17 +57,14 @@ write_outside used stands m p out = search (arith, outside_is)
 -- which pages need a frame
 needs_none : (g : Guest) (page frame : ℕ) (bs : List ℕ) → frame_of g.frames page ≡ Some frame
     → pages_needed page bs g ≡ []
-needs_none g page frame [] is = refl
-needs_none g page frame (b ∷ bs) is = ap (λ (o : Option ℕ). if is_none o then page ∷ [] else []) is
+needs_none g page frame u is = grind arith
 
 needs_empty : (g : Guest) (page : ℕ) (bs : List ℕ) → length bs ≡ 0 → pages_needed page bs g ≡ []
-needs_empty g page [] e = refl
-needs_empty g page (b ∷ bs) e = absurd (omega arith)
+needs_empty g page z e = grind arith
 
 pub needs_one : (g : Guest) (page : ℕ) (bs : List ℕ) → 0 < length bs → frame_of g.frames page ≡ None
     → pages_needed page bs g ≡ page ∷ []
-needs_one g page [] some is = absurd (omega arith)
-needs_one g page (b ∷ bs) some is = ap (λ (o : Option ℕ). if is_none o then page ∷ [] else []) is
+needs_one g page z some is = grind arith
 
 -- a write that was made leaves the guest that wrote
 written_ties : {m1 m2 : Pages} {p1 p2 : Part} {d : DriverState}
@@ -97,9 +94,7 @@ write_backed {m1} {g} {page} {off} {bs} used stands covers never wrote part =
     let high = used_high g page stands.orderly held
     (omega (arith, covers.page, stands.ties.pages.length_is)) in
     let new : Guest = record g { contents = at_page page (overwritten off bs) g.contents } in
-    let free : refusal_of g (Write page off bs) ≡ None = write_causes g page off bs held
-    ∙ ap (λ (b : Bool). first_refusal ((b ⇒ OutOfRam) ∷ []))
-    (inside_is g stands.ties.pages.length_is covers) in
+    let free : refusal_of g (Write page off bs) ≡ None = grind (arith, write_causes, inside_is) in
     let needs : pages_needed page bs g ≡ [] = need
     (frame_of g.frames page) refl (stands.ties.pages.behind page) never (cases_lt 0 (length bs)) in
     let W : List ℕ → Type 0 =

@@ -1,6 +1,6 @@
-use Rattle.vb_driver.proofs.memory.all_backed.Given as goal
 use Rattle.std.proofs.Common.{◌≡◌, ℕ, ◌<◌, true, is_some}
 use Rattle.{vb_model.specs.Layout.is_start_page, vb_ram.specs.Pages.frame_at}
+use Rattle.vb_driver.proofs.memory.all_backed.Given as goal
 
 abbrev pub invariant-loop-page : goal.invariant-loop-page
 invariant-loop-page g l = (p : ℕ) → p < l.page → is_start_page l.shape.queue_size p ≡ true

@@ -1,6 +1,6 @@
-use Rattle.vb_driver.proofs.memory.zero_rings.Given as goal
 use Rattle.{std.proofs.Common.◌≡◌, vb_model.specs.Layout.is_ring_page}
 use Rattle.vb_driver.{specs.Coding.AreZeroed, proofs.Zeroing.passed}
+use Rattle.vb_driver.proofs.memory.zero_rings.Given as goal
 
 abbrev pub invariant-loop-page : goal.invariant-loop-page
 invariant-loop-page g l = record {

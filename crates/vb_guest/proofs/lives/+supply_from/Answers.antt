@@ -117,8 +117,8 @@ returns-in-Ok-clause-supplies g t c = let size : ℕ = c.args.shape.queue_size i
     c.in_ok-frame.ensures.mem c.in-Ok.ensures.supplies bare c.supply.ensures.supplied)
 
 pub return_frame-requires-clause-used : goal.return_frame-requires-clause-used
-return_frame-requires-clause-used
-    g t c = still_used c.in-Err.refused c.in_ok-frame.ensures.claimed c.in-Err.ensures.supplies
+return_frame-requires-clause-used g t c =
+    still_used c.in-Err.refused c.in_ok-frame.ensures.claimed c.in-Err.ensures.supplies
 
 pub returns-in-Err-clause-supplies : goal.returns-in-Err-clause-supplies
 returns-in-Err-clause-supplies g t c = let size : ℕ = c.args.shape.queue_size in

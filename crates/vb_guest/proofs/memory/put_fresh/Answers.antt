@@ -1,4 +1,4 @@
-use Rattle.std.proofs.Common.{◌∙◌, List, length, arith, ap, refl, Err}
+use Rattle.std.proofs.Common.{List, length, arith, ap, refl}
 use Rattle.vb_model.specs.declared.calls.Claim.{Claim}
 use Rattle.vb_guest.{proofs.Claimed.{claim_answered, noted_alone}, proofs.Exactly.fills_given}
 use Rattle.vb_guest.proofs.memory.put_fresh.Goals as goal
@@ -9,12 +9,10 @@ claim_frame-requires g c = let none = ap (λ (l : List Claim). length l) c.requi
 
 pub returns-in-Err-NoFrame : goal.returns-in-Err-NoFrame
 returns-in-Err-NoFrame g c = let did = c.claim_frame.ensures in
-    let is = c.in-Err-NoFrame.is ∙ ap Err c.in-Err-NoFrame.field-0-is in
     record { exact = search (arith, noted_alone, claim_answered); unasked = did.unasked }
 
 pub returns-in-Err-Memory : goal.returns-in-Err-Memory
 returns-in-Err-Memory g c = let did = c.claim_frame.ensures in
-    let is = c.in-Err-Memory.is ∙ ap Err c.in-Err-Memory.field-0-is in
     record { exact = search (arith, noted_alone, claim_answered); unasked = did.unasked }
 
 pub returns : goal.returns

@@ -1,8 +1,8 @@
-use Rattle.vb_driver.proofs.areas.Allocator.alloc.Goals as goal
 use Rattle.{std.proofs.Common.{◌≡◌, ◌∙◌, sym, ap, Err}, vb_pages.specs.PageState.PageState}
 use Rattle.vb_driver.proofs.Allocating.{answered, IsServed, alloc_refusal}
 use Rattle.vb_driver.proofs.Allocating.{alloc_refused, alloc_free, alloc_state, alloc_allots}
 use Rattle.vb_driver.{proofs.areas.Allocator.alloc.Goals.{in-Ok, in-Err}, specs.Answers.refusal_in}
+use Rattle.vb_driver.proofs.areas.Allocator.alloc.Goals as goal
 
 pub returns : goal.returns
 returns c = let s : PageState = c.self.inside.pages in let new : PageState = c.alloc.new.self in

@@ -1,6 +1,6 @@
-use Rattle.vb_driver.proofs.areas.Allocator.choose.Goals as goal
 use Rattle.{std.proofs.Common.arith, vb_driver.proofs.Flags.free_flag}
 use Rattle.vb_driver.proofs.ReportAreas.{chosen_places, chosen_blocks, chosen_state}
+use Rattle.vb_driver.proofs.areas.Allocator.choose.Goals as goal
 
 pub returns-clause-chosen : goal.returns-clause-chosen
 returns-clause-chosen c = grind (arith, chosen_places)

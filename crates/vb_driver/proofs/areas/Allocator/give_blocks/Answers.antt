@@ -1,9 +1,9 @@
-use Rattle.vb_driver.proofs.areas.Allocator.give_blocks.Goals as goal
 use Rattle.std.proofs.Common.{arith, ◌≡◌, ◌<◌, ◌≤◌, sym, subst, ℕ, true, false, length}
 use Rattle.vb_model.specs.{Tests.is_in, Pages.pages_of_all}
 use Rattle.{vb_pages.specs.PageState.{PageState, reserved_count}, vb_report.specs.Blocks.blocks_of}
 use Rattle.vb_driver.specs.Areas.{flags_of, is_free_at, is_covered}
 use Rattle.vb_driver.proofs.ReportAreas.{have_room, given_blocks}
+use Rattle.vb_driver.proofs.areas.Allocator.give_blocks.Goals as goal
 
 pub give_all-requires : goal.give_all-requires
 give_all-requires c = let blocks = c.args.blocks.now in

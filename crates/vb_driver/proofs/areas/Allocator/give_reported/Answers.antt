@@ -1,4 +1,3 @@
-use Rattle.vb_driver.proofs.areas.Allocator.give_reported.Goals as goal
 use Rattle.std.proofs.Common.{◌≡◌, ◌∙◌}
 use Rattle.std.proofs.Common.{sym, ap, arith, ℕ, List, Bool, true, cond, take, ◌+◌, ◌++◌, ◌∷◌, []}
 use Rattle.vb_model.specs.{declared.places.Place.{Place, TheVariants.Reserved}, Tests.pages_where}
@@ -7,6 +6,7 @@ use Rattle.vb_pages.{specs.Areas.with_pages, proofs.ListsLemmas.{with_none, with
 use Rattle.vb_driver.proofs.Placing.{length-marked, marked-get, marked_none, marked_append}
 use Rattle.vb_driver.proofs.{Placing.{pages_more, not_in_first, none_where}, Flags.for_itself}
 use Rattle.vb_driver.{proofs.Flags.for_both, specs.{Places.marked, Areas.{flags_of, areas_with}}}
+use Rattle.vb_driver.proofs.areas.Allocator.give_reported.Goals as goal
 
 pub returns-then-count-eq0-clause-state : goal.returns-then-count-eq0-clause-state
 returns-then-count-eq0-clause-state c = grind (arith, none_where, marked_none, for_itself)

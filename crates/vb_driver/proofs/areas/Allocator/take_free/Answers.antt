@@ -1,7 +1,7 @@
-use Rattle.vb_driver.proofs.areas.Allocator.take_free.Goals as goal
 use Rattle.{std.proofs.Common.arith, vb_model.{specs.Orderly.times, proofs.Distinct.distinct_once}}
 use Rattle.vb_pages.specs.PageState.{PageState, is_free_page}
 use Rattle.vb_driver.proofs.Allocating.{count_flags, taken_state, taken_free, taken_once}
+use Rattle.vb_driver.proofs.areas.Allocator.take_free.Goals as goal
 
 pub take_free-requires-clause-enough : goal.take_free-requires-clause-enough
 take_free-requires-clause-enough c = grind (arith, count_flags)

@@ -1,10 +1,10 @@
-use Rattle.vb_driver.proofs.driver.Driver.negotiate.Goals as goal
 use Rattle.std.proofs.Common.{◌≡◌, ◌∙◌, sym, ap, ℕ, bit_or, false, None, Some, is_err}
 use Rattle.vb_model.specs.{declared.replies.Refusal.Refusal, Life.accepted_before}
 use Rattle.{vb_model.specs.Status.{negotiate_refusal, status_refusal}, vb_ram.specs.Part.Part}
 use Rattle.vb_status.specs.{After.part_after_reset, Answers.refusal_of_fault}
 use Rattle.vb_driver.specs.{State.DriverState, Calls.GivesUp, contracts.driver.Driver.the_view}
 use Rattle.vb_driver.proofs.Starting.{offered_then, accepted_then, none_ok, at_ok}
+use Rattle.vb_driver.proofs.driver.Driver.negotiate.Goals as goal
 
 pub returns-in-Err : goal.returns-in-Err
 returns-in-Err g c = let d = the_view c.self.inside in

@@ -1,10 +1,10 @@
-use Rattle.vb_driver.proofs.driver.Driver.new.Goals as goal
 use Rattle.{std.proofs.Common.{◌≡◌, ◌∙◌, arith, ap, ℕ}, vb_model.specs.Layout.reserved_pages}
 use Rattle.{vb_model.specs.Pages.all_free, vb_ram.specs.declared.shape.Shape.Shape}
 use Rattle.vb_ram.{specs.Limits.AreWithinLimits, proofs.Limits.config_limits}
 use Rattle.{vb_status.specs.Bits.feature_bits, vb_pages.specs.PageState.new_page_state}
 use Rattle.vb_driver.specs.State.{DriverState, fresh_driver, IsDriver, fresh_side, fresh_statistics}
 use Rattle.vb_driver.{specs.State.fresh_report, proofs.{Moving.fresh_kept, Sizes.size_of_config}}
+use Rattle.vb_driver.proofs.driver.Driver.new.Goals as goal
 
 pub new_pages-requires-clause-size : goal.new_pages-requires-clause-size
 new_pages-requires-clause-size c = grind (arith, config_limits)
@@ -20,8 +20,7 @@ new_queues-requires c = grind (arith, size_of_config)
 
 pub invariant_of-result : goal.invariant_of-result
 invariant_of-result c = let pages = c.args.config.pages in let size = c.args.config.queue_size in
-    let cpus = c.args.config.processors in let inflate = c.in_ok-inflate.inflate in
-    let deflate = c.in_ok-inflate.deflate in let f = feature_bits c.empty.result in
+    let cpus = c.args.config.processors in let deflate = c.in_ok-inflate.deflate in let f = feature_bits c.empty.result in
     let limits : AreWithinLimits pages size cpus = config_limits pages size cpus c.requires in
     let same : c.shape-shape.result.queue_size ≡ size =
     ap (λ (s : Shape). s.queue_size) c.shape-shape.ensures in

@@ -1,10 +1,10 @@
-use Rattle.vb_driver.proofs.driver.Driver.reap_freed.Goals as goal
 use Rattle.std.proofs.Common.{◌≡◌, ◌<◌, ◌∙◌, sym, ap, refl, ℕ, List, true, false}
 use Rattle.vb_model.specs.declared.places.Place.TheVariants.{Free, Taking}
 use Rattle.{vb_model.specs.{Tests.is_in, Pages.placed}, vb_driver.proofs.Moving.freed_taking}
 use Rattle.vb_driver.proofs.Moving.{freed_once, IsOut, is_out, freed_kept, forgotten_kept}
 use Rattle.vb_driver.specs.{Places.marked, Areas.flags_of, State.DriverState}
 use Rattle.vb_driver.specs.{State.{sent_by, IsDriver, tells_host}, contracts.driver.Driver.the_view}
+use Rattle.vb_driver.proofs.driver.Driver.reap_freed.Goals as goal
 
 out_again : (d : DriverState) (head p : ℕ) (pages : List ℕ) → head < 16 → IsDriver d
     → tells_host d ≡ true → pages ≡ sent_by d.deflate head → is_in p pages ≡ true → IsOut d p

@@ -1,4 +1,3 @@
-use Rattle.vb_driver.proofs.driver.Driver.reap_reported.Goals as goal
 use Rattle.std.proofs.Common.{◌≡◌, ◌∙◌, sym, ap, refl, rules, ℕ, List, true}
 use Rattle.vb_model.specs.{declared.places.Place.TheVariants.{Free, Reporting}, Tests.is_in}
 use Rattle.{vb_model.specs.Pages.{Block, pages_of_all, placed}, vb_report.specs.Blocks.blocks_of}
@@ -6,6 +5,7 @@ use Rattle.vb_driver.proofs.{Moving.{IsOut, is_out}, ReportMoves.{reported_place
 use Rattle.vb_driver.proofs.{ReportMoves.returned_kept, ReportTables.taken_report_queue}
 use Rattle.vb_driver.specs.{Areas.flags_of, Places.marked, State.{ReportSide, IsReportQueue}}
 use Rattle.vb_driver.specs.{State.{IsDriver, DriverState}, contracts.driver.Driver.the_view}
+use Rattle.vb_driver.proofs.driver.Driver.reap_reported.Goals as goal
 
 out_again : (d : DriverState) (p : ℕ) (blocks : List Block)
     → IsDriver d → blocks ≡ d.report.blocks → is_in p (pages_of_all blocks) ≡ true → IsOut d p

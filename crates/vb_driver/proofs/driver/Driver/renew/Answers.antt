@@ -1,5 +1,5 @@
-use Rattle.vb_driver.proofs.driver.Driver.renew.Goals as goal
 use Rattle.{std.proofs.Common.arith, vb_driver.proofs.Moving.{renewed_kept, fresh_statistics_queue}}
+use Rattle.vb_driver.proofs.driver.Driver.renew.Goals as goal
 
 pub invariant_of-self : goal.invariant_of-self
 invariant_of-self c = grind (arith, renewed_kept, fresh_statistics_queue)

@@ -1,4 +1,3 @@
-use Rattle.vb_driver.proofs.driver.Driver.report_blocks.Goals as goal
 use Rattle.std.proofs.Common.{arith, ◌≡◌, ◌∙◌, ap, ℕ, List, true}
 use Rattle.{std.proofs.Common.false, vb_model.specs.declared.places.Place.TheVariants.Reporting}
 use Rattle.vb_model.specs.{Driver.AllDistinct, Pages.{Block, pages_of_all, placed}, Tests.is_in}
@@ -6,6 +5,7 @@ use Rattle.{vb_report.specs.Blocks.blocks_of, vb_driver.specs.Areas.{flags_of, i
 use Rattle.vb_driver.specs.{Places.marked, State.IsReportQueue, contracts.driver.Driver.the_view}
 use Rattle.vb_driver.proofs.{Owning.unallocated_kept, ReportMoves.reported_kept}
 use Rattle.vb_driver.proofs.ReportAreas.{no_blocks, none_chosen, only_drained}
+use Rattle.vb_driver.proofs.driver.Driver.report_blocks.Goals as goal
 
 pub invariant_of-self : goal.invariant_of-self
 invariant_of-self g c = grind (arith, no_blocks, unallocated_kept, none_chosen)
@@ -21,8 +21,7 @@ invariant_of-self-2 g c = let d = the_view c.self.inside in let new = c.choose-b
     search arith in
     let free : (p : ℕ) → is_in p (pages_of_all r2.blocks) ≡ true
     → is_free_at (flags_of d.areas) p ≡ true = rw (← same) c.choose-blocks.ensures.free in
-    let distinct : AllDistinct (pages_of_all r2.blocks) =
-    rw (← same) c.choose-blocks.ensures.distinct in
+    let distinct : AllDistinct (pages_of_all r2.blocks) = search arith in
     let taken : flags_of new.free ≡ marked (pages_of_all r2.blocks) false (flags_of d.areas) =
     c.choose-blocks.ensures.state.free
     ∙ ap (λ (l : List Block). marked (pages_of_all l) false (flags_of d.areas)) same in

@@ -1,4 +1,3 @@
-use Rattle.vb_driver.proofs.driver.Driver.reset.Goals as goal
 use Rattle.std.{specs.Prelude.{◌≡◌, true}, proofs.{lemmas.List.length-map, Common.{◌∙◌, sym, ap}}}
 use Rattle.{std.proofs.Common.{subst, refl, ℕ, List, map, length}, vb_model.specs.Tests.pages_where}
 use Rattle.vb_model.specs.{Pages.{Block, place_of, is_free, is_reporting}, Life.place_after_reset}
@@ -7,6 +6,7 @@ use Rattle.{vb_status.specs.Bits.feature_bits, vb_driver.specs.contracts.driver.
 use Rattle.vb_driver.specs.{State.{DriverState, IsDriver}, Areas.{AreFor, flags_of}}
 use Rattle.vb_driver.{specs.{Calls.with_nothing_out, Places.marked}, proofs.Moving.reset_kept}
 use Rattle.vb_driver.proofs.{Moving.is_out, Counting.at_is}
+use Rattle.vb_driver.proofs.driver.Driver.reset.Goals as goal
 
 pub give_reported-requires : goal.give_reported-requires
 give_reported-requires g c = let d = the_view c.self.inside in

@@ -1,7 +1,7 @@
-use Rattle.vb_driver.proofs.driver.Driver.restart.Goals as goal
 use Rattle.std.proofs.Common.{◌∙◌, sym, ap, subst}
 use Rattle.{vb_model.specs.Layout.reserved_pages, vb_ram.specs.declared.shape.Shape.Shape}
 use Rattle.vb_driver.{specs.State.IsDriver, proofs.{Moving.fresh_kept, Restarting.restarted}}
+use Rattle.vb_driver.proofs.driver.Driver.restart.Goals as goal
 
 pub invariant_of-self : goal.invariant_of-self
 invariant_of-self g c = let d = c.reset.ensures.driver in subst IsDriver

@@ -1,5 +1,5 @@
-use Rattle.vb_driver.proofs.driver.Driver.start.Goals as goal
 use Rattle.{std.proofs.Common.arith, vb_driver.proofs.Starting.{new_ring, still_new, others_fresh}}
+use Rattle.vb_driver.proofs.driver.Driver.start.Goals as goal
 
 pub returns-clause-inflate : goal.returns-clause-inflate
 returns-clause-inflate g c =

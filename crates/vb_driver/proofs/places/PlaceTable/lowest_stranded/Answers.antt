@@ -1,5 +1,5 @@
-use Rattle.vb_driver.proofs.places.PlaceTable.lowest_stranded.Goals as goal
 use Rattle.{std.proofs.Common.arith, vb_driver.proofs.Marking.pages_of_set}
+use Rattle.vb_driver.proofs.places.PlaceTable.lowest_stranded.Goals as goal
 
 pub returns : goal.returns
 returns c = grind (arith, pages_of_set)

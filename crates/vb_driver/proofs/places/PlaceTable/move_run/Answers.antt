@@ -1,10 +1,10 @@
-use Rattle.vb_driver.proofs.places.PlaceTable.move_run.Goals as goal
-use Rattle.std.proofs.Common.{◌≡◌, ◌∙◌, ◌-◌, ◌++◌, sym, ap, arith, ℕ, List, length, take, drop, set}
+use Rattle.std.proofs.Common.{◌≡◌, ◌∙◌, ◌-◌, ◌++◌, sym, ap, arith, ℕ, List, length, take, drop}
 use Rattle.std.proofs.{Common.{count_by, get_or}, lemmas.Bool.or_parts, Math.Seq.take-append_seam}
 use Rattle.{std.specs.List.range_with_len, vb_model.specs.declared.places.Place.Place}
 use Rattle.vb_model.specs.Pages.{placed, is_lent, is_stranded}
 use Rattle.vb_driver.{specs.Places.is_at, proofs.Placing.marked_one}
 use Rattle.vb_driver.proofs.{Placing.length-marked, Runs.{AreAt, run_is, run_some, run_table}}
+use Rattle.vb_driver.proofs.places.PlaceTable.move_run.Goals as goal
 
 pub returns-then-is_in_set-clause-moved : goal.returns-then-is_in_set-clause-moved
 returns-then-is_in_set-clause-moved c = grind (arith, marked_one)
@@ -31,7 +31,6 @@ invariant_of-self c = let places = c.self.inside.places.items in let old = c.ind
     let count : length c.put_all.new.places ≡ length places =
     ap (λ (l : List Place). length l) put ∙ length-marked (range_with_len start n) new places in
     let counts = c.self.inside.counts in
-    let mid = set counts c.number_of.result (get_or counts c.number_of.result 0 - n) in
     let now : take c.self.inside.places.len (c.put_all.new.places ++ drop
     (length c.put_all.new.places) places) ≡ after = ap (λ (k : ℕ). take k (c.put_all.new.places
     ++ drop (length c.put_all.new.places) places)) (omega (arith, count, c.self.inside.places.ok))

@@ -1,5 +1,5 @@
-use Rattle.vb_driver.proofs.places.PlaceTable.new.Goals as goal
 use Rattle.{std.proofs.Common.{ap, ℕ, List, [], ◌∷◌, set}, vb_driver.proofs.Counting.reserved_table}
+use Rattle.vb_driver.proofs.places.PlaceTable.new.Goals as goal
 
 pub invariant_of-table : goal.invariant_of-table
 invariant_of-table c = let zeros : List ℕ = 0 ∷ 0 ∷ 0 ∷ 0 ∷ 0 ∷ 0 ∷ 0 ∷ 0 ∷ [] in

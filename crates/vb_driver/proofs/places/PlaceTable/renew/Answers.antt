@@ -1,8 +1,8 @@
-use Rattle.vb_driver.proofs.places.PlaceTable.renew.Goals as goal
 use Rattle.std.proofs.Common.{◌≡◌, ◌∙◌, ◌-◌, ap, arith, min, ℕ, List, length}
 use Rattle.{std.specs.List.range_with_len, vb_model.specs.declared.places.Place.Place}
 use Rattle.vb_model.specs.declared.places.Place.TheVariants.{Reserved, Free}
 use Rattle.{vb_model.specs.Pages.placed, vb_driver.proofs.{Placing.length-marked, Runs.first_table}}
+use Rattle.vb_driver.proofs.places.PlaceTable.renew.Goals as goal
 
 pub set_range-requires-2-clause-inside : goal.set_range-requires-2-clause-inside
 set_range-requires-2-clause-inside c = grind (arith, length-marked)

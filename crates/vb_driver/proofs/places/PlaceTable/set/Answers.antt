@@ -1,8 +1,8 @@
-use Rattle.vb_driver.proofs.places.PlaceTable.set.Goals as goal
 use Rattle.std.proofs.{lemmas.List.length-set, Common.{◌≡◌, ◌∙◌, ap, arith, ℕ, length}}
 use Rattle.{std.proofs.Common.{get_or, set, count_by}, vb_model.specs.Pages.{is_lent, is_stranded}}
 use Rattle.{vb_model.specs.declared.places.Place.Place, vb_driver.specs.Places.is_at}
 use Rattle.vb_driver.proofs.{Counting.{counts_moved, counts_some, number_small}, Marking.set_moved}
+use Rattle.vb_driver.proofs.places.PlaceTable.set.Goals as goal
 
 pub overflow_sub-self : goal.overflow_sub-self
 overflow_sub-self c = let counts = c.self.inside.counts in

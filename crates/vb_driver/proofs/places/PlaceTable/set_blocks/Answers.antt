@@ -1,9 +1,9 @@
-use Rattle.vb_driver.proofs.places.PlaceTable.set_blocks.Goals as goal
 use Rattle.std.proofs.Common.{sym, ap, arith, List, length, take}
 use Rattle.vb_model.specs.{Pages.pages_of_all, declared.places.Place.Place}
 use Rattle.{vb_report.specs.Blocks.blocks_of, vb_driver.proofs.Placing.{length-marked, marked_none}}
 use Rattle.vb_driver.proofs.{Placing.marked_append, ReportTables.{order_of, block_inside_all}}
 use Rattle.vb_driver.proofs.ReportTables.{pages_more_blocks, block_in, no_free_block}
+use Rattle.vb_driver.proofs.places.PlaceTable.set_blocks.Goals as goal
 
 pub loop-block-init : goal.loop-block-init
 loop-block-init c = sym (marked_none c.args.place)

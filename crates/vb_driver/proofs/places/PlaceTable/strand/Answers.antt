@@ -1,8 +1,8 @@
-use Rattle.vb_driver.proofs.places.PlaceTable.strand.Goals as goal
 use Rattle.std.proofs.Common.{◌≡◌, ◌∙◌, ◌<◌, ◌+◌, sym, ap, subst, arith, List, length}
 use Rattle.{std.proofs.lemmas.List.get_or_default, vb_model.specs.declared.places.Place.Place}
 use Rattle.vb_model.specs.{declared.places.Place.TheVariants.Reserved, Life.place_after_reset}
 use Rattle.vb_driver.proofs.Placing.{Changing, changing_more, changed_all}
+use Rattle.vb_driver.proofs.places.PlaceTable.strand.Goals as goal
 
 pub loop-page-preserved : goal.loop-page-preserved
 loop-page-preserved c = let old = c.args.self.now in let i = c.loop-page.page in

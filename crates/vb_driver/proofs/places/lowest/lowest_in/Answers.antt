@@ -1,5 +1,5 @@
-use Rattle.vb_driver.proofs.places.lowest.lowest_in.Goals as goal
 use Rattle.{std.proofs.Common.arith, vb_driver.proofs.Marking.{first_more, first_all}}
+use Rattle.vb_driver.proofs.places.lowest.lowest_in.Goals as goal
 
 pub returns-in-None : goal.returns-in-None
 returns-in-None c =

@@ -1,5 +1,5 @@
-use Rattle.vb_driver.proofs.places.ranges.count_pages.Goals as goal
 use Rattle.{std.proofs.Common.arith, vb_driver.proofs.ReportTables.{order_of, length_more_blocks}}
+use Rattle.vb_driver.proofs.places.ranges.count_pages.Goals as goal
 
 pub size_of-pages-requires : goal.size_of-pages-requires
 size_of-pages-requires c =

@@ -1,5 +1,5 @@
-use Rattle.vb_driver.proofs.places.ranges.end_of_run.Given as goal
 use Rattle.{std.proofs.Common.{◌≡◌, ◌<◌, ◌≤◌, ℕ}, vb_model.specs.Pages.place_of}
+use Rattle.vb_driver.proofs.places.ranges.end_of_run.Given as goal
 
 abbrev pub invariant-loop-page : goal.invariant-loop-page
 invariant-loop-page l =

@@ -1,5 +1,5 @@
-use Rattle.vb_driver.proofs.places.ranges.size_of.Goals as goal
 use Rattle.{std.proofs.{Common.arith, lemmas.Nat.one_shl}, vb_pages.proofs.Aligned.pow_small}
+use Rattle.vb_driver.proofs.places.ranges.size_of.Goals as goal
 
 pub returns-clause-small : goal.returns-clause-small
 returns-clause-small c =

@@ -27,8 +27,7 @@ returns-clause-posts g c = let m1 = g.G.GuestBytes.mem c.args.ram.now in
     }) blocks) c.self.view_is (posts_report _ _ _ _ _ _ _ _ s)
 
 pub returns-clause-queue : goal.returns-clause-queue
-returns-clause-queue g c = let m2 = g.G.GuestBytes.mem c.add.new.ram in
-    let blocks = blocks_of c.args.blocks.items in
+returns-clause-queue g c = let blocks = blocks_of c.args.blocks.items in
     let coded : c.deref-2.result.now ≡ pieces_of blocks = search arith in
     let s = reporting c.args.blocks.items c.self.view_is c.requires.queue
     c.requires.none_out c.requires.some c.requires.room coded c.add.ensures.adds in
