@@ -5,7 +5,7 @@ use Rattle.std.{proofs.Common.{arith, sym, ◌∙◌, ap, subst}, proofs.Math.Li
 use Rattle.std.specs.Prelude.{if◌then◌else◌, bit_or, refl}
 use Rattle.vb_model.specs.declared.replies.Refusal.TheVariants.{NoQueue, NotReady, NeedsReset, Busy}
 use Rattle.vb_model.specs.Tables.{is_queue_of_requests, has_chains, lacks_feature, is_not_ready}
-use Rattle.vb_model.{specs.Tables.work_causes, proofs.CallSteps.not_refused}
+use Rattle.vb_model.{specs.Tables.work_causes, proofs.Cases.not_refused}
 use Rattle.vb_model.specs.FirstRefusal.{Cause, ◌⇒◌, first_refusal}
 use Rattle.vb_model.{specs.declared.replies.Refusal.TheVariants.Broken, specs.Layout.ring_page}
 use Rattle.vb_model.{specs.Tables.{has_fault, most_taken}, specs.declared.replies.Refusal.Refusal}
