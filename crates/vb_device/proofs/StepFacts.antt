@@ -149,29 +149,29 @@ takes_a_chain_of_no_bytes : (m2 : Pages) (p2 : Part) (result : Result (Option �
 unfolding byte_at field descriptor_at bytes_of page_request
 takes_a_chain_of_no_bytes m2 p2 result by =
     let left = by.wrong 0 (record { addr = 0; len = 0; writable = false } ∷ []) BadLength
-        refl refl (record { path = 0 ∷ []; chain = alone; pieces_are = refl }) refl in
+    refl refl (record { path = 0 ∷ []; chain = alone; pieces_are = refl }) refl in
     (left.answer, left.part)
   where
-  alone : IsChain (descriptor_at zeros 0) 8 16384 0 (0 ∷ [])
-  alone = record {
-    inside = omega arith;
-    is_path = record {
-      some = omega arith;
-      begins = refl;
-      onward = (λ k lt. absurd (omega (arith, lt)));
-      linked = (λ k lt. absurd (omega (arith, lt)));
-    };
-    short = omega arith;
-    sound = sound;
-    ends = last;
-  } where
-    sound : (k : ℕ) → k < 1 → fault_at (descriptor_at zeros 0) 8 16384 (0 ∷ []) k ≡ None
-    sound zero lt = refl
-    sound (suc k) lt = absurd (omega (arith, lt))
+    alone : IsChain (descriptor_at zeros 0) 8 16384 0 (0 ∷ [])
+    alone = record {
+      inside = omega arith;
+      is_path = record {
+        some = omega arith;
+        begins = refl;
+        onward = (λ k lt. absurd (omega (arith, lt)));
+        linked = (λ k lt. absurd (omega (arith, lt)));
+      };
+      short = omega arith;
+      sound = sound;
+      ends = last;
+    } where
+      sound : (k : ℕ) → k < 1 → fault_at (descriptor_at zeros 0) 8 16384 (0 ∷ []) k ≡ None
+      sound zero lt = refl
+      sound (suc k) lt = absurd (omega (arith, lt))
 
-    last : (k : ℕ) → k + 1 ≡ 1 → has_next (descriptor_at zeros 0 (slice_index (0 ∷ []) k)) ≡ false
-    last zero e = refl
-    last (suc k) e = absurd (omega (arith, e))
+      last : (k : ℕ) → k + 1 ≡ 1 → has_next (descriptor_at zeros 0 (slice_index (0 ∷ []) k)) ≡ false
+      last zero e = refl
+      last (suc k) e = absurd (omega (arith, e))
 
 -- ---- each answer of a take says its state
 

@@ -67,7 +67,7 @@ asks_back : (m1 m2 : Pages) (p2 : Part) (d2 : DriverState) (posted : Posted)
     → (posted.pages ≡ 1) × (p2 ≡ up)
     × (d2 ≡ record busy {
       places = Reserved ∷ Free ∷ Used ∷ Giving ∷ Taking ∷ Taking ∷ Taking ∷ Stranded ∷ Reporting
-        ∷ [];
+          ∷ [];
       deflate = d2.deflate;
     })
 asks_back m1 m2 p2 d2 posted by = (by.asks.pages, by.asks.part, by.asks.state)
@@ -146,17 +146,19 @@ starts : (m1 m2 : Pages) (p2 : Part) (d2 : DriverState)
     → InitsBy m1 m2 (record up { target = 9; actual = 3 }) p2 busy d2 7 (Ok true)
     → (p2 ≡ record no_part { status = 15; features = 7; target = 9 })
     × (d2.features ≡ 7) × (d2.actual ≡ 0) × (d2.places ≡ busy.places)
-starts m1 m2 p2 d2 by =
-    (by.starts.part, ap (λ (d : DriverState). d.features) by.starts.driver,
-      ap (λ (d : DriverState). d.actual) by.starts.driver,
-      ap (λ (d : DriverState). d.places) by.starts.driver)
+starts m1 m2 p2 d2 by = (
+  by.starts.part,
+  ap (λ (d : DriverState). d.features) by.starts.driver,
+  ap (λ (d : DriverState). d.actual) by.starts.driver,
+  ap (λ (d : DriverState). d.places) by.starts.driver,
+)
 
 resets : (m1 m2 : Pages) (p2 : Part) (d2 : DriverState)
     → ResetsBy m1 m2 (record up { target = 9 }) p2 busy d2
     → (m2 ≡ m1) × (p2 ≡ record no_part { target = 9 })
     × (d2 ≡ record busy {
       places = Reserved ∷ Free ∷ Used ∷ Stranded ∷ Stranded ∷ Stranded ∷ Stranded ∷ Stranded ∷ Free
-        ∷ [];
+          ∷ [];
       areas = areas_with (8 ∷ []) busy.areas;
       inflate = fresh_side 0 8;
       deflate = fresh_side 1 8;
