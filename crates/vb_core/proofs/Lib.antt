@@ -22,5 +22,6 @@ mod NamingFacts
 mod SetFacts
 mod QueueFacts
 pub mod Numbers
+pub mod PieceLemmas
 pub mod RoundTrip
 pub mod Restoring

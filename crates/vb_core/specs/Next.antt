@@ -1,6 +1,7 @@
 -- The chain that stands next, in copies of its ring: what a queue pops from a memory of the copies
 -- (VIRTIO 1.1, 2.6.5 and 2.6.6).
 use Rattle.std.specs.Prelude.{◌≡◌, ℕ, ◌+◌, ◌*◌, Bool, true, false, ◌==◌, ◌&&◌, nat_le, List, length}
+use Rattle.std.specs.Prelude.{not}
 use Rattle.std.specs.Prelude.{take, map, Option, Some, None, Result, Ok, Err, IsOk}
 use Rattle.vb_model.specs.Tests.{one_if}
 use Rattle.vb_chain.specs.declared.pieces.Piece.{Piece}
@@ -44,6 +45,13 @@ length_of Report pieces = request_length pieces
 abbrev pub buffer_of : Piece → ChainPiece
 buffer_of piece =
     record { address = piece.addr; length = piece.len; writable = one_if piece.writable }
+
+-- The piece that plain data says.
+abbrev pub piece_in : ChainPiece → Piece
+piece_in b = record { addr = b.address; len = b.length; writable = not (b.writable == 0) }
+
+unfoldable pub pieces_in : List ChainPiece → List Piece
+pieces_in buffers = map piece_in buffers
 
 -- ---- what is popped
 

@@ -1,4 +1,6 @@
 -- Lists of buffers, and of the pieces that they say.
+use Rattle.vb_core.proofs.PieceLemmas.{join_in, get_in}
+pub use Rattle.vb_core.proofs.PieceLemmas.{none_in, length_in}
 use Rattle.std.proofs.Common.{◌≡◌, ◌∙◌, ap, sym, subst, refl, ℕ, ◌+◌, ◌<◌, ◌≤◌, Bool, false, true}
 use Rattle.std.proofs.Common.{List, [], ◌∷◌, ◌++◌, length, map, take, drop, get_or, slice_set}
 use Rattle.std.specs.{Prelude.{◌||◌, not, ◌==◌, sum_by, fold}, List.list_any}
@@ -6,30 +8,12 @@ use Rattle.std.proofs.lemmas.List.{length-map, get_or-map, map-append, take_more
 use Rattle.vb_core.specs.declared.next.ChainPiece.{ChainPiece}
 use Rattle.vb_chain.specs.declared.pieces.Piece.{Piece}
 use Rattle.vb_request.specs.Request.{total_length}
-use Rattle.vb_monitor.specs.Pieces.{piece_in, pieces_in, first_part, second_part, all_parts}
+use Rattle.vb_monitor.specs.Pieces.{first_part, second_part, all_parts}
+use Rattle.vb_core.specs.Next.{piece_in, pieces_in}
 use Rattle.vb_monitor.{specs.Machine.behind_part, proofs.PartLemmas.{part_here, part_on, part_end}}
 use Rattle.vb_monitor.proofs.PartLemmas.{second_here, second_none, behind_end}
 
 -- ---- all of them
-
-pub none_in : pieces_in [] ≡ []
-unfolding pieces_in
-none_in = refl
-
-pub length_in : (bs : List ChainPiece) → length (pieces_in bs) ≡ length bs
-unfolding pieces_in
-length_in bs = length-map bs piece_in
-
-pub join_in : (bs : List ChainPiece) (b : ChainPiece) →
-    pieces_in (bs ++ b ∷ []) ≡ pieces_in bs ++ piece_in b ∷ []
-unfolding pieces_in
-join_in bs b = map-append piece_in bs (b ∷ [])
-
-pub any_in : (bs : List ChainPiece) → list_any (λ (p : Piece). p.writable) (pieces_in bs)
-    ≡ list_any (λ (b : ChainPiece). not (b.writable == 0)) bs
-unfolding pieces_in
-any_in [] = refl
-any_in (b ∷ bs) = ap (λ (x : Bool). not (b.writable == 0) || x) (any_in bs)
 
 total_from : (from : ℕ) (bs : List ChainPiece) →
     fold (λ (n : ℕ) (p : Piece). n + p.len) from (map piece_in bs) ≡
@@ -43,11 +27,6 @@ unfolding pieces_in
 total_in bs = total_from 0 bs
 
 -- ---- one buffer of a list
-
-get_in : (bs : List ChainPiece) (n : ℕ) (d : ChainPiece) → n < length bs →
-    get_or (pieces_in bs) n (piece_in d) ≡ piece_in (get_or bs n d)
-unfolding pieces_in
-get_in bs n d lt = get_or-map piece_in bs n d (piece_in d) lt
 
 less_in : (bs : List ChainPiece) (n : ℕ) → n < length bs → n < length (pieces_in bs)
 less_in bs n lt = subst (λ (m : ℕ). n < m) (sym (length_in bs)) lt
@@ -101,11 +80,3 @@ pub join_at : (bs : List ChainPiece) (k : ℕ) (b : ChainPiece) (p : Piece) → 
     pieces_in (take (k + 1) (slice_set bs k b)) ≡ pieces_in (take k bs) ++ p ∷ []
 join_at bs k b p lt e = ap (λ (l : List ChainPiece). pieces_in l) (take_more_set bs k b lt)
     ∙ (join_in (take k bs) b ∙ ap (λ (q : Piece). pieces_in (take k bs) ++ q ∷ []) e)
-
-pub push_in : (bs : List ChainPiece) (k : ℕ) (d : ChainPiece) (items more : List Piece) (p : Piece) →
-    k < length bs → items ≡ pieces_in (take k bs) → p ≡ piece_in (get_or bs k d) →
-    more ≡ items ++ p ∷ [] → more ≡ pieces_in (take (k + 1) bs)
-push_in bs k d items more p lt e f g = g ∙ (ap (λ (l : List Piece). l ++ p ∷ []) e
-    ∙ (ap (λ (q : Piece). pieces_in (take k bs) ++ q ∷ []) f
-    ∙ (sym (join_in (take k bs) (get_or bs k d))
-    ∙ ap (λ (l : List ChainPiece). pieces_in l) (sym (take_more bs k d lt)))))

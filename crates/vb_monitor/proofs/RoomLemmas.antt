@@ -1,4 +1,5 @@
 -- As many runs as are told have room.
+use Rattle.vb_core.specs.Next.{pieces_in}
 use Rattle.std.proofs.Common.{◌≡◌, sym, subst, ap, arith, ℕ, ◌≤◌, ◌/◌, Bool, true, false}
 use Rattle.std.proofs.Common.{List, length, Option, Some, None, Result, Ok, Err, refl}
 use Rattle.std.{specs.Prelude.{nat_le, ◌&&◌}, proofs.lemmas.Bool.Decides.nat_tests}
@@ -12,8 +13,8 @@ use Rattle.vb_core.specs.{declared.device.Device.Device, Settings.{memory_pages,
 use Rattle.vb_core.specs.{Devices.call_denial, declared.next.ChainPiece.ChainPiece}
 use Rattle.vb_core.specs.Report.{NamesPiecesBy, pieces_denial, named_by}
 use Rattle.vb_model.specs.declared.limits.TheConstants.{MAX_QUEUE_SIZE}
-use Rattle.vb_monitor.{specs.declared.room.TheConstants.MAX_RUNS, specs.Pieces.pieces_in}
-use Rattle.vb_monitor.proofs.BufferLemmas.{length_in}
+use Rattle.vb_monitor.{specs.declared.room.TheConstants.MAX_RUNS}
+use Rattle.vb_core.proofs.PieceLemmas.{length_in}
 
 fits_then : (kind : Kind) (known fits copied : Bool) (d : Device) →
     call_denial kind known fits copied d ≡ None → fits ≡ true

@@ -1,10 +1,11 @@
 -- Worked facts of what is done at once of a chain whose pages were named.
+use Rattle.vb_core.specs.Next.{pieces_in}
 use Rattle.std.proofs.Common.{◌≡◌, refl, ℕ, Bool, true, false, [], ◌∷◌, map, Option, Some, None}
 use Rattle.vb_core.specs.declared.kinds.Kind.TheVariants.{Inflate, Deflate, Statistics, Report}
 use Rattle.vb_core.specs.declared.{next.ChainPiece.ChainPiece, ring.Virtqueue.Virtqueue}
 use Rattle.vb_core.specs.{declared.kinds.Kind.Kind, Devices.with_ring}
 use Rattle.vb_monitor.{specs.declared.regions.Spot.Spot, specs.declared.step.Place.Place}
-use Rattle.vb_monitor.{specs.Pieces.pieces_in, specs.Served.{is_last, looks_again, look_place, first_has}}
+use Rattle.vb_monitor.{specs.Served.{is_last, looks_again, look_place, first_has}}
 use Rattle.vb_monitor.proofs.Samples.{two, at, ring, ready}
 
 -- ---- the last part of a chain's pieces

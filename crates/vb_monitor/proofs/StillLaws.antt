@@ -1,4 +1,5 @@
 -- A notice over memory that stays as it is does what the device answers to copies of it.
+use Rattle.vb_core.specs.Next.{piece_in, pieces_in}
 use Rattle.std.proofs.Common.{◌≡◌, ◌≢◌, ◌∙◌, ap, sym, subst, refl, arith, inl, inr, ℕ, suc, ◌+◌}
 use Rattle.std.proofs.Common.{◌*◌, ◌%◌, ◌<◌, ◌≤◌, Bool, true, false, List, [], ◌∷◌, length, map}
 use Rattle.std.{proofs.Common.{take, Option, Some, None, Result, Ok, Err}, specs.Prelude.◌&&◌}
@@ -30,7 +31,7 @@ use Rattle.vb_monitor.specs.{Ends.EndsWhere, Chains.{descriptors, memory_end, Fo
 use Rattle.vb_monitor.specs.{Chains.ServesPieces, Giving.Then, Notices.{entry_offset, stands}}
 use Rattle.vb_monitor.specs.Notices.{HeadBy, EntryAt, TakesChain, AfterIndex, IndexAt, LooksBy}
 use Rattle.vb_monitor.specs.Notices.{TakesUnlessSpent, TakesNext, with_chains, fresh, Serves}
-use Rattle.vb_monitor.specs.{Machine.{whole, next_chain, serves}, Pieces.{piece_in, pieces_in}}
+use Rattle.vb_monitor.specs.{Machine.{whole, next_chain, serves}}
 use Rattle.vb_monitor.specs.Still.{Stays, IsMapped, avail_copy, table_copy, Behind, DoesAs}
 use Rattle.vb_monitor.proofs.{StillBytes.{shown, word_shown, descriptor_shown}, StillWalk.in_memory}
 use Rattle.vb_monitor.proofs.StillWalk.{Walk, walks}

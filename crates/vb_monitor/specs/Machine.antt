@@ -30,7 +30,8 @@ use Rattle.vb_monitor.specs.Regions.{cuts_from, cuts_of}
 use Rattle.vb_monitor.specs.Ends.{Whole, Stops, AsksFlags}
 use Rattle.vb_monitor.specs.Giving.{Then, used_accesses, with_given, WritesUsed, DiscardsThen}
 use Rattle.vb_monitor.specs.Giving.{TellsThen}
-use Rattle.vb_monitor.specs.Pieces.{pieces_in, second_part, unless_empty, all_parts, AsksPart}
+use Rattle.vb_monitor.specs.Pieces.{second_part, unless_empty, all_parts, AsksPart}
+use Rattle.vb_core.specs.Next.{pieces_in}
 use Rattle.vb_monitor.specs.Pieces.{CopiesParts}
 use Rattle.vb_monitor.specs.Chains.{descriptors, AsksDescriptor, Follows, ServesPieces, AfterBytes}
 use Rattle.vb_monitor.specs.Chains.{TellsThenEnds}

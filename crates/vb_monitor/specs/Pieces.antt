@@ -16,13 +16,6 @@ use Rattle.vb_monitor.specs.Accesses.{Access, CopyBytes}
 use Rattle.vb_monitor.specs.Regions.{spot}
 use Rattle.vb_monitor.specs.Ends.{Whole, Breaks}
 
--- The piece that a buffer says.
-abbrev pub piece_in : ChainPiece → Piece
-piece_in b = record { addr = b.address; len = b.length; writable = not (b.writable == 0) }
-
-unfoldable pub pieces_in : List ChainPiece → List Piece
-pieces_in buffers = map piece_in buffers
-
 -- A piece's bytes up to the end of the page in which it begins, and those behind it.
 abbrev pub first_part : Piece → Part
 first_part p = record {

@@ -15,7 +15,7 @@ use Rattle.vb_monitor.specs.declared.step.Place.{Place}
 use Rattle.vb_monitor.specs.declared.parts.Part.{Part}
 use Rattle.vb_monitor.specs.Regions.{holds, spot, cuts_of}
 use Rattle.vb_monitor.specs.Giving.{used_spots}
-use Rattle.vb_monitor.specs.Pieces.{pieces_in}
+use Rattle.vb_core.specs.Next.{pieces_in}
 use Rattle.vb_monitor.specs.Machine.{behind_part}
 
 abbrev pub none_left : List Part → Bool

@@ -19,7 +19,7 @@ use Rattle.vb_monitor.specs.Accesses.{TellPages, TellFigures, Discard, WriteNumb
 use Rattle.vb_monitor.specs.Regions.{spot}
 use Rattle.vb_monitor.specs.Ends.{Whole}
 use Rattle.vb_monitor.specs.Notices.{entry_offset}
-use Rattle.vb_monitor.specs.Pieces.{pieces_in}
+use Rattle.vb_core.specs.Next.{pieces_in}
 use Rattle.vb_monitor.specs.Machine.{next_chain, serves}
 use Rattle.vb_monitor.specs.Giving.{TellsThen, spent}
 

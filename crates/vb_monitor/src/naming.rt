@@ -12,7 +12,7 @@ ghost use Rattle.vb_core.specs.Statistics.{statistics_denial};
 ghost use Rattle.vb_monitor.specs.declared.room.TheConstants.{MAX_FIGURES};
 ghost use Rattle.vb_monitor.specs.declared.step.Phase.TheVariants.{TellsPages};
 ghost use Rattle.vb_monitor.specs.Giving.{spent};
-ghost use Rattle.vb_monitor.specs.Pieces.{pieces_in};
+ghost use Rattle.vb_core.specs.Next.{pieces_in};
 ghost use Rattle.vb_monitor.specs.Chains.{NamesBytes, NamesReport, FiguresBy, CopiesBy};
 ghost use Rattle.vb_monitor.specs.Machine.{Fits, Ahead, whole, room_of, next_chain, serves, served};
 ghost use Rattle.vb_monitor.specs.Left.{left, of_chains, once_named, once_whole};

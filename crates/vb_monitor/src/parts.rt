@@ -1,7 +1,8 @@
 //! The parts of a chain's pieces, each within one page.
 
 ghost use Rattle.std.specs.Prelude.{◌≡◌, ◌∷◌, [], false, drop, MatchOption};
-ghost use Rattle.vb_monitor.specs.Pieces.{piece_in, pieces_in, first_part, second_part, all_parts};
+ghost use Rattle.vb_monitor.specs.Pieces.{first_part, second_part, all_parts};
+ghost use Rattle.vb_core.specs.Next.{piece_in, pieces_in};
 ghost use Rattle.vb_monitor.specs.Machine.{behind_part};
 ghost use Rattle.std.specs.Prelude.{◌≤◌, ◌<◌, IfSome, length};
 

@@ -8,17 +8,12 @@ ghost use Rattle.vb_model.specs.declared.limits.TheConstants.{MAX_QUEUE_SIZE, MA
 ghost use Rattle.vb_request.specs.Request.{request_length, total_length};
 ghost use Rattle.vb_request.specs.Statistics.{statistics_length};
 ghost use Rattle.vb_core.specs.Report.{NamesPiecesBy};
-ghost use Rattle.vb_monitor.specs.Pieces.{piece_in, pieces_in};
+ghost use Rattle.vb_core.specs.Next.{piece_in, pieces_in};
 
 use crate::room::{MAX_PIECES, MAX_RUNS};
-use arrayvec::ArrayVec;
-use vb_chain::{ChainFault, Descriptor, Piece};
+use vb_chain::{ChainFault, Descriptor};
 use vb_core::{ChainPiece, Denial, Device, Kind, Named, Run};
 use vb_request::{is_request_length, is_statistics_length};
-
-/// Pieces of a chain of reports that isn't refused for its length, at most: a list of so many is
-/// quicker to make.
-const SHORT: usize = 32;
 
 /// The first pieces, so many.
 pub(crate) fn first_pieces(pieces: &[ChainPiece; MAX_PIECES], count: u16) -> &[ChainPiece]
@@ -46,17 +41,6 @@ pub(crate) fn push_piece(pieces: &mut [ChainPiece; MAX_PIECES], count: u16, desc
         pieces_in (take count pieces.old) ++ piece_of descriptor.now ∷ [] }
 {
     pieces[usize::from(count)] = buffer_of(descriptor);
-}
-
-/// The piece that a buffer says.
-fn piece_in(buffer: &ChainPiece) -> Piece
-    ensures { result ≡ piece_in buffer.now }
-{
-    Piece {
-        addr: buffer.address,
-        len: buffer.length,
-        writable: buffer.writable != 0,
-    }
 }
 
 /// Whether one of the buffers is the device's to write.
@@ -123,20 +107,6 @@ pub(crate) fn statistics_length(pieces: &[ChainPiece]) -> Result<u32, ChainFault
     Ok(total as u32)
 }
 
-/// The same pieces, as a chain has them.
-#[tactic(auto, using(crate::proofs::BufferLemmas::none_in, crate::proofs::BufferLemmas::push_in))]
-fn chain_of<const N: usize>(buffers: &[ChainPiece]) -> ArrayVec<Piece, N>
-    requires room { length buffers.now ≤ N }
-    requires few { N ≤ MAX_QUEUE_SIZE }
-    ensures { result.items ≡ pieces_in buffers.now }
-{
-    let mut chain = ArrayVec::new();
-    for buffer in buffers {
-        chain.push(piece_in(buffer));
-    }
-    chain
-}
-
 /// Names the pages of a report of these pieces.
 pub(crate) fn report_named(
     device: &mut Device,
@@ -147,10 +117,5 @@ pub(crate) fn report_named(
     ensures { NamesPiecesBy (pieces_in pieces.now) MAX_REQUEST_PAGES runs.new device.old device.new
         result }
 {
-    if pieces.len() <= SHORT {
-        let short = chain_of::<SHORT>(pieces);
-        return device.name_report(short.as_slice(), runs);
-    }
-    let chain = chain_of::<MAX_PIECES>(pieces);
-    device.name_report(chain.as_slice(), runs)
+    device.name_report(pieces, runs)
 }

@@ -14,7 +14,7 @@ ghost use Rattle.vb_monitor.specs.Accesses.{Access};
 ghost use Rattle.vb_monitor.specs.Chains.{AfterDescriptor, Follows, descriptors, descriptor_of};
 ghost use Rattle.vb_monitor.specs.Chains.{memory_end};
 ghost use Rattle.vb_monitor.specs.Notices.{stands, AfterEntry, AfterIndex, TakesNext, with_chains};
-ghost use Rattle.vb_monitor.specs.Pieces.{pieces_in};
+ghost use Rattle.vb_core.specs.Next.{pieces_in};
 ghost use Rattle.vb_monitor.specs.Usual.{entry_place, flags_place, descriptor_place, next_of};
 ghost use Rattle.vb_monitor.specs.Usual.{next_place};
 ghost use Rattle.vb_monitor.specs.Machine.{Room, AheadAt, whole, room_of, next_chain, serves};

@@ -9,7 +9,7 @@ ghost use Rattle.vb_monitor.specs.declared.outcome.Outcome.{Outcome};
 ghost use Rattle.vb_monitor.specs.Accesses.{Access};
 ghost use Rattle.vb_monitor.specs.Chains.{descriptor_of, descriptors, memory_end, AfterDescriptor};
 ghost use Rattle.vb_monitor.specs.Chains.{DescriptorAt, Follows, GoesOn, table_fault};
-ghost use Rattle.vb_monitor.specs.Pieces.{pieces_in};
+ghost use Rattle.vb_core.specs.Next.{pieces_in};
 ghost use Rattle.vb_monitor.specs.Regions.{spot};
 ghost use Rattle.vb_monitor.specs.Machine.{Fits, Room, Ahead, whole, room_of, serves};
 ghost use Rattle.vb_monitor.specs.Left.{left, of_chains, once_copied};

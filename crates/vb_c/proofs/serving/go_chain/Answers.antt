@@ -1,9 +1,10 @@
+use Rattle.vb_core.specs.Next.{pieces_in}
 use Rattle.std.proofs.Common.{◌∙◌, ap, sym, subst, refl, ℕ, ◌+◌, ◌-◌, List, ◌++◌, Option, Some}
 use Rattle.std.proofs.Common.{take}
 use Rattle.vb_core.specs.Devices.{ring_of}
 use Rattle.vb_monitor.{specs.declared.notice.Notice.Notice, specs.declared.step.Walk.Walk}
 use Rattle.vb_monitor.specs.declared.step.Phase.TheVariants.{AwaitsDescriptor}
-use Rattle.vb_monitor.{specs.Accesses.Access, specs.Pieces.pieces_in, specs.Machine.{whole, serves}}
+use Rattle.vb_monitor.{specs.Accesses.Access, specs.Machine.{whole, serves}}
 use Rattle.vb_monitor.specs.Chains.{AfterDescriptor, Follows, descriptors}
 use Rattle.vb_c.{specs.declared.notice.VbRoom.VbRoom, specs.Serving.GoesOnBy}
 use Rattle.vb_c.proofs.UsualLemmas.{awaits_descriptor, says_notice}

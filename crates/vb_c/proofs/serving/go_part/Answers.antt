@@ -1,7 +1,8 @@
+use Rattle.vb_core.specs.Next.{pieces_in}
 use Rattle.std.proofs.Common.{◌∙◌, ap, sym, subst, refl, ℕ, List, ◌++◌, Option, Some, take}
 use Rattle.vb_monitor.{specs.declared.step.Phase.TheVariants.AwaitsPart, specs.Accesses.Access}
 use Rattle.vb_monitor.{specs.Machine.{whole, served, behind_part}, specs.declared.step.Place.Place}
-use Rattle.vb_monitor.{specs.Pieces.{pieces_in, CopiesParts}, specs.declared.notice.Notice.Notice}
+use Rattle.vb_monitor.{specs.Pieces.{CopiesParts}, specs.declared.notice.Notice.Notice}
 use Rattle.vb_c.{specs.declared.notice.VbRoom.VbRoom, specs.Serving.GoesOnBy}
 use Rattle.vb_c.proofs.UsualLemmas.{awaits_part, says_notice}
 use Rattle.vb_c.proofs.serving.go_part.Goals as goal

@@ -1,8 +1,9 @@
+use Rattle.vb_core.specs.Next.{pieces_in}
 use Rattle.std.proofs.Common.{◌∙◌, ap, sym, subst, refl, ℕ, ◌+◌, ◌-◌, List, ◌++◌, Some, take}
 use Rattle.vb_core.specs.Devices.{ring_of}
 use Rattle.vb_monitor.{specs.declared.orders.Orders.Orders, specs.declared.step.Walk.Walk}
 use Rattle.vb_monitor.specs.declared.step.Phase.TheVariants.{AwaitsDescriptor}
-use Rattle.vb_monitor.{specs.Accesses.Access, specs.Pieces.pieces_in, specs.Machine.{whole, serves}}
+use Rattle.vb_monitor.{specs.Accesses.Access, specs.Machine.{whole, serves}}
 use Rattle.vb_monitor.specs.Chains.{AfterDescriptor, Follows, descriptors}
 use Rattle.vb_c.{specs.declared.notice.VbRoom.VbRoom, specs.Codes.kind_of_code}
 use Rattle.vb_c.{specs.Notices.tally_of, proofs.UsualLemmas.{awaits_descriptor, goes_usual}}

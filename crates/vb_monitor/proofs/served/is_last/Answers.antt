@@ -1,6 +1,7 @@
+use Rattle.vb_core.specs.Next.{pieces_in}
 use Rattle.std.proofs.Common.{rules, ◌∙◌, ap, sym, ◌≤◌, List, length}
 use Rattle.vb_core.specs.declared.next.ChainPiece.{ChainPiece}
-use Rattle.vb_monitor.specs.{declared.parts.Part.Part, Pieces.pieces_in, Machine.behind_part}
+use Rattle.vb_monitor.specs.{declared.parts.Part.Part, Machine.behind_part}
 use Rattle.vb_monitor.{specs.Served.none_left, proofs.BufferLemmas.behind_in}
 use Rattle.vb_monitor.proofs.served.is_last.Goals as goal
 

@@ -1,10 +1,12 @@
+use Rattle.vb_core.specs.Next.{pieces_in}
+use Rattle.vb_core.proofs.PieceLemmas.{none_in, length_in}
 use Rattle.std.proofs.Common.{rules, ◌≡◌, ◌+◌, ◌∙◌, sym, ap, arith, ℕ, List, [], Some, take}
 use Rattle.vb_chain.{specs.declared.descriptor.TheConstants.DESCRIPTOR_SIZE, specs.Rules.piece_of}
 use Rattle.vb_chain.specs.declared.pieces.Piece.{Piece}
 use Rattle.vb_core.specs.{declared.next.ChainPiece.ChainPiece, Devices.ring_of}
-use Rattle.vb_monitor.specs.{Pieces.{pieces_in, first_part}, Regions.spot, Machine.whole}
+use Rattle.vb_monitor.specs.{Pieces.{first_part}, Regions.spot, Machine.whole}
 use Rattle.vb_monitor.specs.Chains.{descriptor_of, descriptors, memory_end, table_fault}
-use Rattle.vb_monitor.proofs.{BufferLemmas.{none_in, length_in}, SingleLemmas.single_goes}
+use Rattle.vb_monitor.proofs.{SingleLemmas.single_goes}
 use Rattle.vb_monitor.{proofs.SingleLemmas.single_by, specs.declared.single.FirstPart.FirstPart}
 use Rattle.vb_monitor.specs.declared.parts.Part.{Part}
 use Rattle.std.proofs.Common.{refl, length, false, Option, None}

@@ -1,9 +1,9 @@
 use Rattle.std.proofs.Common.{◌∙◌, ap, ℕ, ◌+◌}
-use Rattle.vb_monitor.proofs.BufferLemmas.{push_in}
-use Rattle.vb_monitor.proofs.pieces.chain_of.Goals as goal
+use Rattle.vb_core.proofs.PieceLemmas.{push_in}
+use Rattle.vb_core.proofs.report.chain_of.Goals as goal
 
 pub loop-buffer-preserved : goal.loop-buffer-preserved
-loop-buffer-preserved g c = record {
+loop-buffer-preserved c = record {
   items = push_in c.args.buffers.now c.loop-buffer.buffer-index _ c.loop-buffer.chain.items
       c.push.new.self.items c.piece_in.result c.loop-buffer-test.true c.loop-buffer.invariant.items
       c.piece_in.ensures c.push.ensures.items;

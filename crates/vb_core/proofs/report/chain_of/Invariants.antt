@@ -1,9 +1,9 @@
 use Rattle.std.proofs.Common.{◌≡◌, length, take}
-use Rattle.vb_monitor.specs.Pieces.{pieces_in}
-use Rattle.vb_monitor.proofs.pieces.chain_of.Given as goal
+use Rattle.vb_core.specs.Next.{pieces_in}
+use Rattle.vb_core.proofs.report.chain_of.Given as goal
 
 abbrev pub invariant-loop-buffer : goal.invariant-loop-buffer
-invariant-loop-buffer g l = record {
+invariant-loop-buffer l = record {
   items : l.chain.items ≡ pieces_in (take l.buffer-index l.buffers);
   count : length l.chain.items ≡ l.buffer-index;
 }
