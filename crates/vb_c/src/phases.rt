@@ -10,7 +10,7 @@ use crate::answers::kind_of_code;
 use crate::notice::{DESCRIPTOR, ENTRY, FLAGS, INDEX, PART, VbNotice, VbRoom};
 use crate::requests::go_request;
 use crate::serving::{go_anyhow, go_chain, go_part};
-use crate::usual::{go_descriptor, go_entry, go_flags, go_index, go_single};
+use crate::usual::{Copied, Entry, Flags, Index, Usual};
 use vb_core::Kind;
 use vb_monitor::{Balloon, MAX_BYTES, Region, is_last};
 
@@ -62,89 +62,16 @@ fn go_on_chain(
     }
 }
 
-/// The index was read.
+/// What a notice waited for was done: it goes on as it mostly does, or else anyhow.
 #[inline(never)]
-fn at_index(
+fn go_usually<U: Usual>(
     notice: &mut VbNotice,
     balloon: &mut Balloon,
     regions: &[Region],
     room: &mut VbRoom,
     answer: u16,
 ) -> u32
-    requires { notice.old.phase ≡ 1 }
-    ensures goes { GoesOnBy (notice_of notice.old) regions.now answer balloon.old balloon.new
-        room.old room.new notice.new }
-    ensures what { result ≡ notice.new.what }
-{
-    match kind_of_code(notice.kind) {
-        None => go_anyhow(notice, balloon, regions, room, answer),
-        Some(kind) => {
-            if go_index(notice, balloon, regions, room, kind, answer) {
-                return notice.what;
-            }
-            go_anyhow(notice, balloon, regions, room, answer)
-        }
-    }
-}
-
-/// The entry was read.
-#[inline(never)]
-fn at_entry(
-    notice: &mut VbNotice,
-    balloon: &mut Balloon,
-    regions: &[Region],
-    room: &mut VbRoom,
-    answer: u16,
-) -> u32
-    requires { notice.old.phase ≡ 2 }
-    ensures goes { GoesOnBy (notice_of notice.old) regions.now answer balloon.old balloon.new
-        room.old room.new notice.new }
-    ensures what { result ≡ notice.new.what }
-{
-    match kind_of_code(notice.kind) {
-        None => go_anyhow(notice, balloon, regions, room, answer),
-        Some(kind) => {
-            if go_entry(notice, balloon, regions, room, kind, answer) {
-                return notice.what;
-            }
-            go_anyhow(notice, balloon, regions, room, answer)
-        }
-    }
-}
-
-/// A descriptor was copied that names another one, or is a whole request; says whether it is so.
-/// Else nothing is changed.
-#[inline(always)]
-fn go_copied_descriptor(
-    notice: &mut VbNotice,
-    balloon: &Balloon,
-    regions: &[Region],
-    room: &mut VbRoom,
-    kind: Kind,
-    answer: u16,
-) -> bool
-    requires kind { kind_of_code notice.old.kind ≡ Some kind }
-    requires phase { notice.old.phase ≡ 3 }
-    ensures went { result ≡ true → GoesOnBy (notice_of notice.old) regions.now answer balloon.now
-        balloon.now room.old room.new notice.new }
-    ensures stays { result ≡ false → (notice.new ≡ notice.old) × (room.new ≡ room.old) }
-{
-    if go_descriptor(notice, balloon, regions, room, kind, answer) {
-        return true;
-    }
-    go_single(notice, balloon, regions, room, kind, answer)
-}
-
-/// A descriptor was copied.
-#[inline(never)]
-fn at_descriptor(
-    notice: &mut VbNotice,
-    balloon: &mut Balloon,
-    regions: &[Region],
-    room: &mut VbRoom,
-    answer: u16,
-) -> u32
-    requires { notice.old.phase ≡ 3 }
+    requires { notice.old.phase ≡ U.PHASE }
     ensures goes { GoesOnBy (notice_of notice.old) regions.now answer balloon.old balloon.new
         room.old room.new notice.new }
     ensures what { result ≡ notice.new.what }
@@ -152,7 +79,7 @@ fn at_descriptor(
     match kind_of_code(notice.kind) {
         None => go_on_chain(notice, balloon, regions, room, answer),
         Some(kind) => {
-            if go_copied_descriptor(notice, balloon, regions, room, kind, answer) {
+            if U::go(notice, balloon, regions, room, kind, answer) {
                 return notice.what;
             }
             go_on_chain(notice, balloon, regions, room, answer)
@@ -185,31 +112,6 @@ fn at_part(
     }
 }
 
-/// The flags were read.
-#[inline(never)]
-fn at_flags(
-    notice: &mut VbNotice,
-    balloon: &mut Balloon,
-    regions: &[Region],
-    room: &mut VbRoom,
-    answer: u16,
-) -> u32
-    requires { notice.old.phase ≡ 5 }
-    ensures goes { GoesOnBy (notice_of notice.old) regions.now answer balloon.old balloon.new
-        room.old room.new notice.new }
-    ensures what { result ≡ notice.new.what }
-{
-    match kind_of_code(notice.kind) {
-        None => go_anyhow(notice, balloon, regions, room, answer),
-        Some(kind) => {
-            if go_flags(notice, balloon, regions, room, kind, answer) {
-                return notice.what;
-            }
-            go_anyhow(notice, balloon, regions, room, answer)
-        }
-    }
-}
-
 /// What is to be done next, once that was done which was to be done.
 #[unsafe(no_mangle)]
 pub extern "C" fn vb_go_on(
@@ -224,11 +126,11 @@ pub extern "C" fn vb_go_on(
     ensures what { result ≡ notice.new.what }
 {
     match notice.phase {
-        INDEX => at_index(notice, balloon, regions, room, answer),
-        ENTRY => at_entry(notice, balloon, regions, room, answer),
-        DESCRIPTOR => at_descriptor(notice, balloon, regions, room, answer),
+        INDEX => go_usually::<Index>(notice, balloon, regions, room, answer),
+        ENTRY => go_usually::<Entry>(notice, balloon, regions, room, answer),
+        DESCRIPTOR => go_usually::<Copied>(notice, balloon, regions, room, answer),
         PART => at_part(notice, balloon, regions, room, answer),
-        FLAGS => at_flags(notice, balloon, regions, room, answer),
+        FLAGS => go_usually::<Flags>(notice, balloon, regions, room, answer),
         _ => go_anyhow(notice, balloon, regions, room, answer),
     }
 }

@@ -1,10 +1,13 @@
 //! Chains whose pages were named: what needs no answer is done at once, and what a notice says is
 //! changed where it stands.
 
-ghost use Rattle.std.specs.Prelude.{◌≡◌, ◌+◌, ◌≤◌, true, None, Some};
+ghost use Rattle.std.specs.Prelude.{◌≡◌, ◌+◌, ◌≤◌, true, None, Some, take};
+ghost use Rattle.vb_core.specs.Config.{keeps_reports};
 ghost use Rattle.vb_core.specs.Devices.{queue_denial};
 ghost use Rattle.vb_core.specs.Name.{is_request};
+ghost use Rattle.vb_monitor.specs.declared.orders.TheConstants.{MAX_CUTS};
 ghost use Rattle.vb_monitor.specs.declared.room.TheConstants.{MAX_BYTES, MAX_RUNS};
+ghost use Rattle.vb_monitor.specs.Giving.{cuts_for};
 ghost use Rattle.vb_monitor.specs.Machine.{Fits};
 ghost use Rattle.vb_monitor.specs.Served.{is_last};
 ghost use Rattle.vb_c.specs.Codes.{kind_of_code};
@@ -48,8 +51,54 @@ fn hand_named(
     hand_over(shown, balloon, regions, runs, cuts, &mut notice)
 }
 
-/// Hands over a chain whose pages were named, of a queue that is served, however many parts of its
-/// runs are discarded: mostly it is given back, and the queue looked at again.
+/// Hands over a chain whose pages were named, of a queue that is served, once all parts of its runs
+/// stand in the list: mostly it is given back, and the queue looked at again.
+#[inline(always)]
+fn give_named(
+    shown: &mut VbNotice,
+    balloon: &mut Balloon,
+    regions: &[Region],
+    runs: &[Run; MAX_RUNS],
+    cuts: &mut [Cut; MAX_CUTS],
+    kind: Kind,
+    head: u16,
+    named: Named,
+    count: u32,
+) -> u32
+    requires kind { kind_of_code shown.old.kind ≡ Some kind }
+    requires few { named.runs ≤ MAX_RUNS }
+    requires ready { queue_denial kind balloon.old.device ≡ None }
+    requires room { count ≤ MAX_CUTS }
+    requires parts { cuts_for kind (keeps_reports balloon.old.device) regions.now
+        (take named.runs runs.now) ≡ take count cuts.old }
+    ensures hands { HandsOver (telling_pages kind (tally_of shown.old) head named) regions.now
+        runs.now balloon.old balloon.new cuts.new shown.new }
+    ensures what { result ≡ shown.new.what }
+{
+    shown.orders.named = named;
+    shown.orders.cuts = count;
+    match give_and_look(
+        &mut balloon.device,
+        regions,
+        kind,
+        head,
+        &mut shown.orders.used,
+    ) {
+        None => hand_named(shown, balloon, regions, runs, cuts, kind, head, named),
+        Some(at) => {
+            let asked = Asked {
+                told: Told::Pages,
+                gives: true,
+            };
+            let bits = asked_bits(asked, count);
+            shown.given = 1;
+            shown.show_read(bits + READ_INDEX, INDEX, at);
+            shown.what
+        }
+    }
+}
+
+/// The same, however many parts its runs have.
 #[inline(never)]
 fn serve_many(
     shown: &mut VbNotice,
@@ -69,39 +118,33 @@ fn serve_many(
     ensures what { result ≡ shown.new.what }
 {
     let filled = fill_named(&balloon.device, regions, kind, runs, named.runs, cuts);
-    shown.orders.named = named;
-    shown.orders.cuts = filled.count;
-    if let Some(left) = filled.left {
-        let asked = Asked {
-            told: Told::Pages,
-            gives: false,
-        };
-        let bits = asked_bits(asked, filled.count);
-        let discarding = Discarding {
+    match filled.left {
+        None => give_named(
+            shown,
+            balloon,
+            regions,
+            runs,
+            cuts,
+            kind,
             head,
-            runs: named.runs,
-            run: left.run,
-            from: left.from,
-        };
-        shown.show_cut(bits, left.cut, discarding);
-        return shown.what;
-    }
-    match give_and_look(
-        &mut balloon.device,
-        regions,
-        kind,
-        head,
-        &mut shown.orders.used,
-    ) {
-        None => hand_named(shown, balloon, regions, runs, cuts, kind, head, named),
-        Some(at) => {
+            named,
+            filled.count,
+        ),
+        Some(left) => {
+            shown.orders.named = named;
+            shown.orders.cuts = filled.count;
             let asked = Asked {
                 told: Told::Pages,
-                gives: true,
+                gives: false,
             };
             let bits = asked_bits(asked, filled.count);
-            shown.given = 1;
-            shown.show_read(bits + READ_INDEX, INDEX, at);
+            let discarding = Discarding {
+                head,
+                runs: named.runs,
+                run: left.run,
+                from: left.from,
+            };
+            shown.show_cut(bits, left.cut, discarding);
             shown.what
         }
     }
@@ -126,32 +169,11 @@ fn serve_named(
         runs.now balloon.old balloon.new cuts.new shown.new }
     ensures what { result ≡ shown.new.what }
 {
-    let few = fill_few(&balloon.device, regions, kind, runs, named.runs, cuts);
-    match few {
+    match fill_few(&balloon.device, regions, kind, runs, named.runs, cuts) {
         None => serve_many(shown, balloon, regions, runs, cuts, kind, head, named),
-        Some(count) => {
-            shown.orders.named = named;
-            shown.orders.cuts = count;
-            match give_and_look(
-                &mut balloon.device,
-                regions,
-                kind,
-                head,
-                &mut shown.orders.used,
-            ) {
-                None => hand_named(shown, balloon, regions, runs, cuts, kind, head, named),
-                Some(at) => {
-                    let asked = Asked {
-                        told: Told::Pages,
-                        gives: true,
-                    };
-                    let bits = asked_bits(asked, count);
-                    shown.given = 1;
-                    shown.show_read(bits + READ_INDEX, INDEX, at);
-                    shown.what
-                }
-            }
-        }
+        Some(count) => give_named(
+            shown, balloon, regions, runs, cuts, kind, head, named, count,
+        ),
     }
 }
 

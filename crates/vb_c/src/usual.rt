@@ -1,6 +1,6 @@
 //! Notices that go on as they mostly do: what they say is changed where it stands.
 
-ghost use Rattle.std.specs.Prelude.{◌≡◌, true, false, Some};
+ghost use Rattle.std.specs.Prelude.{◌≡◌, ℕ, true, false, Some};
 ghost use Rattle.vb_monitor.specs.declared.balloon.Balloon.{Balloon};
 ghost use Rattle.vb_monitor.specs.declared.outcome.Outcome.{Outcome};
 ghost use Rattle.vb_monitor.specs.Balloons.{held_after};
@@ -51,132 +51,177 @@ pub(crate) fn begin_usually(
     }
 }
 
-/// The index was read, and another chain stands there, or none any more behind one that was given
-/// back; says whether it is so. Else nothing is changed.
-pub(crate) fn go_index(
-    notice: &mut VbNotice,
-    balloon: &Balloon,
-    regions: &[Region],
-    room: &VbRoom,
-    kind: Kind,
-    index: u16,
-) -> bool
-    requires kind { kind_of_code notice.old.kind ≡ Some kind }
-    requires phase { notice.old.phase ≡ 1 }
-    ensures went { result ≡ true → GoesOnBy (notice_of notice.old) regions.now index balloon.now
-        balloon.now room.now room.now notice.new }
-    ensures stays { result ≡ false → notice.new ≡ notice.old }
-{
-    let tally = notice.tally();
-    if let Some(at) = entry_after(&balloon.device, regions, kind, tally, index) {
-        notice.orders.cuts = 0;
-        notice.chains_left = notice.chains_left.saturating_sub(1);
-        notice.show_read(READ_ENTRY, ENTRY, at);
-        return true;
-    }
-    match flags_after(&balloon.device, regions, kind, tally, index) {
-        None => false,
-        Some(at) => {
+/// A way in which notices mostly go on, from one of the things that they wait for.
+pub(crate) trait Usual {
+    /// What they wait for, as `VbNotice` numbers it.
+    ghost PHASE: { ℕ };
+
+    /// The notice goes on so, where what was read allows it; says whether it does. Else nothing is
+    /// changed.
+    fn go(
+        notice: &mut VbNotice,
+        balloon: &Balloon,
+        regions: &[Region],
+        room: &mut VbRoom,
+        kind: Kind,
+        answer: u16,
+    ) -> bool
+        requires kind { kind_of_code notice.old.kind ≡ Some kind }
+        requires phase { notice.old.phase ≡ PHASE }
+        ensures went { result ≡ true → GoesOnBy (notice_of notice.old) regions.now answer
+            balloon.now balloon.now room.old room.new notice.new }
+        ensures stays { result ≡ false → (notice.new ≡ notice.old) × (room.new ≡ room.old) };
+}
+
+/// The index was read: another chain stands there, or none any more after one that was given back.
+pub(crate) struct Index;
+
+impl Usual for Index {
+    ghost PHASE = { 1 };
+
+    #[inline(always)]
+    fn go(
+        notice: &mut VbNotice,
+        balloon: &Balloon,
+        regions: &[Region],
+        _room: &mut VbRoom,
+        kind: Kind,
+        index: u16,
+    ) -> bool {
+        let tally = notice.tally();
+        if let Some(at) = entry_after(&balloon.device, regions, kind, tally, index) {
             notice.orders.cuts = 0;
-            notice.show_flags(0, at, None, false);
-            true
+            notice.chains_left = notice.chains_left.saturating_sub(1);
+            notice.show_read(READ_ENTRY, ENTRY, at);
+            return true;
+        }
+        match flags_after(&balloon.device, regions, kind, tally, index) {
+            None => false,
+            Some(at) => {
+                notice.orders.cuts = 0;
+                notice.show_flags(0, at, None, false);
+                true
+            }
         }
     }
 }
 
-/// The entry was read, and its head is a descriptor of the queue; says whether it is so. Else
-/// nothing is changed.
-pub(crate) fn go_entry(
-    notice: &mut VbNotice,
-    balloon: &Balloon,
-    regions: &[Region],
-    room: &VbRoom,
-    kind: Kind,
-    head: u16,
-) -> bool
-    requires kind { kind_of_code notice.old.kind ≡ Some kind }
-    requires phase { notice.old.phase ≡ 2 }
-    ensures went { result ≡ true → GoesOnBy (notice_of notice.old) regions.now head balloon.now
-        balloon.now room.now room.now notice.new }
-    ensures stays { result ≡ false → notice.new ≡ notice.old }
-{
-    match descriptor_after(&balloon.device, regions, kind, head) {
-        None => false,
-        Some(at) => {
-            let walk = Walk {
-                head,
-                count: 0,
-                writing: false,
-            };
-            notice.orders.cuts = 0;
-            notice.show_descriptor(0, at, walk);
-            true
+/// The entry was read: its head is a descriptor of the queue.
+pub(crate) struct Entry;
+
+impl Usual for Entry {
+    ghost PHASE = { 2 };
+
+    #[inline(always)]
+    fn go(
+        notice: &mut VbNotice,
+        balloon: &Balloon,
+        regions: &[Region],
+        _room: &mut VbRoom,
+        kind: Kind,
+        head: u16,
+    ) -> bool {
+        match descriptor_after(&balloon.device, regions, kind, head) {
+            None => false,
+            Some(at) => {
+                let walk = Walk {
+                    head,
+                    count: 0,
+                    writing: false,
+                };
+                notice.orders.cuts = 0;
+                notice.show_descriptor(0, at, walk);
+                true
+            }
         }
     }
 }
 
-/// A descriptor was copied that names another one; says whether it is so. Else nothing is changed.
-pub(crate) fn go_descriptor(
-    notice: &mut VbNotice,
-    balloon: &Balloon,
-    regions: &[Region],
-    room: &mut VbRoom,
-    kind: Kind,
-    answer: u16,
-) -> bool
-    requires kind { kind_of_code notice.old.kind ≡ Some kind }
-    requires phase { notice.old.phase ≡ 3 }
-    ensures went { result ≡ true → GoesOnBy (notice_of notice.old) regions.now answer balloon.now
-        balloon.now room.old room.new notice.new }
-    ensures stays { result ≡ false → (notice.new ≡ notice.old) × (room.new ≡ room.old) }
-{
-    match next_descriptor(
-        &balloon.device,
-        regions,
-        kind,
-        notice.walk(),
-        &mut room.pieces,
-        &room.bytes,
-    ) {
-        None => false,
-        Some(next) => {
-            notice.orders.cuts = 0;
-            notice.show_descriptor(0, next.at, next.walk);
-            true
+/// A descriptor was copied that names another one.
+pub(crate) struct Next;
+
+impl Usual for Next {
+    ghost PHASE = { 3 };
+
+    #[inline(always)]
+    fn go(
+        notice: &mut VbNotice,
+        balloon: &Balloon,
+        regions: &[Region],
+        room: &mut VbRoom,
+        kind: Kind,
+        _answer: u16,
+    ) -> bool {
+        match next_descriptor(
+            &balloon.device,
+            regions,
+            kind,
+            notice.walk(),
+            &mut room.pieces,
+            &room.bytes,
+        ) {
+            None => false,
+            Some(next) => {
+                notice.orders.cuts = 0;
+                notice.show_descriptor(0, next.at, next.walk);
+                true
+            }
         }
     }
 }
 
-/// A descriptor was copied that is a whole request by itself; says whether it is so. Else nothing
-/// is changed.
-pub(crate) fn go_single(
-    notice: &mut VbNotice,
-    balloon: &Balloon,
-    regions: &[Region],
-    room: &mut VbRoom,
-    kind: Kind,
-    answer: u16,
-) -> bool
-    requires kind { kind_of_code notice.old.kind ≡ Some kind }
-    requires phase { notice.old.phase ≡ 3 }
-    ensures went { result ≡ true → GoesOnBy (notice_of notice.old) regions.now answer balloon.now
-        balloon.now room.old room.new notice.new }
-    ensures stays { result ≡ false → (notice.new ≡ notice.old) × (room.new ≡ room.old) }
-{
-    match first_of_single(
-        &balloon.device,
-        regions,
-        kind,
-        notice.walk(),
-        &mut room.pieces,
-        &room.bytes,
-    ) {
-        None => false,
-        Some(first) => {
-            notice.orders.cuts = 0;
-            notice.show_part(0, first.at, first.place);
-            true
+/// A descriptor was copied that is a whole request by itself.
+pub(crate) struct Single;
+
+impl Usual for Single {
+    ghost PHASE = { 3 };
+
+    #[inline(always)]
+    fn go(
+        notice: &mut VbNotice,
+        balloon: &Balloon,
+        regions: &[Region],
+        room: &mut VbRoom,
+        kind: Kind,
+        _answer: u16,
+    ) -> bool {
+        match first_of_single(
+            &balloon.device,
+            regions,
+            kind,
+            notice.walk(),
+            &mut room.pieces,
+            &room.bytes,
+        ) {
+            None => false,
+            Some(first) => {
+                notice.orders.cuts = 0;
+                notice.show_part(0, first.at, first.place);
+                true
+            }
         }
+    }
+}
+
+/// A descriptor was copied that names another one, or is a whole request by itself.
+pub(crate) struct Copied;
+
+impl Usual for Copied {
+    ghost PHASE = { 3 };
+
+    #[inline(always)]
+    fn go(
+        notice: &mut VbNotice,
+        balloon: &Balloon,
+        regions: &[Region],
+        room: &mut VbRoom,
+        kind: Kind,
+        answer: u16,
+    ) -> bool {
+        if Next::go(notice, balloon, regions, room, kind, answer) {
+            return true;
+        }
+        Single::go(notice, balloon, regions, room, kind, answer)
     }
 }
 
@@ -191,27 +236,28 @@ fn holds_none(kind: Kind) -> bool
     }
 }
 
-/// The flags were read, and each chain was served; says whether it is so. Else nothing is changed.
-pub(crate) fn go_flags(
-    notice: &mut VbNotice,
-    balloon: &Balloon,
-    regions: &[Region],
-    room: &VbRoom,
-    kind: Kind,
-    flags: u16,
-) -> bool
-    requires kind { kind_of_code notice.old.kind ≡ Some kind }
-    requires phase { notice.old.phase ≡ 5 }
-    ensures went { result ≡ true → GoesOnBy (notice_of notice.old) regions.now flags balloon.now
-        balloon.now room.now room.now notice.new }
-    ensures stays { result ≡ false → notice.new ≡ notice.old }
-{
-    if notice.code != 0 || !holds_none(kind) {
-        return false;
+/// The flags were read: each chain was served.
+pub(crate) struct Flags;
+
+impl Usual for Flags {
+    ghost PHASE = { 5 };
+
+    #[inline(always)]
+    fn go(
+        notice: &mut VbNotice,
+        balloon: &Balloon,
+        regions: &[Region],
+        _room: &mut VbRoom,
+        kind: Kind,
+        flags: u16,
+    ) -> bool {
+        if notice.code != 0 || !holds_none(kind) {
+            return false;
+        }
+        let tally = notice.tally();
+        let more = notice.more != 0;
+        notice.orders.cuts = 0;
+        notice.show_end(0, tally, None, flags & 1 == 0, more);
+        true
     }
-    let tally = notice.tally();
-    let more = notice.more != 0;
-    notice.orders.cuts = 0;
-    notice.show_end(0, tally, None, flags & 1 == 0, more);
-    true
 }

@@ -3,7 +3,7 @@ use Rattle.vb_monitor.{specs.declared.orders.Orders.Orders, specs.Accesses.Acces
 use Rattle.vb_monitor.specs.declared.step.Phase.TheVariants.{AwaitsEntry, AwaitsDescriptor}
 use Rattle.vb_c.{specs.Codes.kind_of_code, specs.Notices.tally_of, specs.Serving.room_in}
 use Rattle.vb_c.proofs.UsualLemmas.{awaits_entry, goes_usual}
-use Rattle.vb_c.proofs.usual.go_entry.Goals as goal
+use Rattle.vb_c.proofs.usual.EntryUsual.go.Goals as goal
 
 pub returns-in-Some-clause-went : goal.returns-in-Some-clause-went
 returns-in-Some-clause-went c e =
@@ -13,7 +13,7 @@ returns-in-Some-clause-went c e =
     let (tally, kind, orders) = shown.kept in
     goes_usual c.args.kind (AwaitsEntry old.at)
     (AwaitsDescriptor c.in-Some.at (record { head = c.args.head; count = 0; writing = false })) s s
-    c.args.regions.now c.args.head c.args.balloon.now c.args.room.now c.args.room.now old
+    c.args.regions.now c.args.head c.args.balloon.now c.args._room.now c.args._room.now old
     c.show_descriptor.new.self c.requires.kind (awaits_entry old c.requires.phase) refl
     (ap (λ (k : ℕ). kind_of_code k) kind ∙ c.requires.kind) shown.phase tally (shown.says s)
     shown.what (ap (λ (o : Orders). o.cuts) orders) refl tt refl
@@ -21,5 +21,5 @@ returns-in-Some-clause-went c e =
       head = c.args.head;
       rest = rest;
       asks = ap (λ (l : List Access). l ++ rest) does;
-      goes_on = c.in-Some.ensures.goes s after outcome (room_in c.args.room.now) rest h;
+      goes_on = c.in-Some.ensures.goes s after outcome (room_in c.args._room.now) rest h;
     })

@@ -3,7 +3,7 @@ use Rattle.vb_monitor.specs.{Accesses.Access, Ends.wants_interrupt, declared.ord
 use Rattle.vb_monitor.specs.declared.step.Phase.TheVariants.{AwaitsFlags, Ended}
 use Rattle.vb_c.{specs.Codes.kind_of_code, specs.Notices.says_yes}
 use Rattle.vb_c.proofs.UsualLemmas.{awaits_flags, goes_usual}
-use Rattle.vb_c.proofs.usual.go_flags.Goals as goal
+use Rattle.vb_c.proofs.usual.FlagsUsual.go.Goals as goal
 
 pub returns-clause-went : goal.returns-clause-went
 returns-clause-went c e =
@@ -17,7 +17,7 @@ returns-clause-went c e =
     let over = c.holds_none.ensures (search rules)
     (record { tally = s; why = None; interrupt = wants; more = more }) c.args.balloon.now in
     goes_usual c.args.kind (AwaitsFlags old.at None more) (Ended None wants more) s s
-    c.args.regions.now c.args.flags c.args.balloon.now c.args.room.now c.args.room.now old
+    c.args.regions.now c.args.flags c.args.balloon.now c.args._room.now c.args._room.now old
     c.show_end.new.self c.requires.kind (awaits_flags old c.requires.phase none)
     (sym c.tally-tally.ensures) (ap (λ (k : ℕ). kind_of_code k) kind ∙ c.requires.kind) shown.phase
     (tally ∙ sym c.tally-tally.ensures) shown.says shown.what (ap (λ (o : Orders). o.cuts) orders)

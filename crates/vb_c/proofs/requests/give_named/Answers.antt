@@ -10,23 +10,19 @@ use Rattle.vb_monitor.specs.{Machine.next_chain, Orders.{at_once, giving, HasRoo
 use Rattle.vb_c.proofs.{ServedLemmas.told_given, UsualLemmas.says_notice}
 use Rattle.vb_c.specs.{Codes.kind_of_code, Notices.{phase_of, tally_of, asked_bits, answer_bits}}
 use Rattle.vb_c.specs.{Served.telling_pages, Serving.HandsOver, declared.notice.VbNotice.VbNotice}
-use Rattle.vb_c.proofs.requests.serve_named.Goals as goal
+use Rattle.vb_c.proofs.requests.give_named.Goals as goal
 
-pub returns-in-Some-give_and_look-clause-hands : goal.returns-in-Some-give_and_look-clause-hands
-returns-in-Some-give_and_look-clause-hands c =
+pub returns-in-Some-clause-hands : goal.returns-in-Some-clause-hands
+returns-in-Some-clause-hands c =
     let old = c.args.shown.now in
     let t = tally_of old in
     let kind = c.args.kind in
     let named = c.args.named in
     let runs = c.args.runs.now in
-    let count = c.in-Some.count in
-    let cuts = c.fill_few-few.new.cuts in
-    let parts : cuts_for kind (keeps_reports c.args.balloon.now.device) c.args.regions.now
-    (take named.runs runs) ≡ take count cuts =
-    search rules in
-    let few : count ≤ 256 = search rules in
+    let count = c.args.count in
+    let cuts = c.args.cuts.now in
     let used = c.give_and_look.new.used in
-    let phase = AwaitsIndex c.in-Some-give_and_look.at in
+    let phase = AwaitsIndex c.in-Some.at in
     let is = c.show_read.ensures in
     let orders = ap (λ (x : VbNotice). x.orders) is in
     let asked : Asked = record { told = Pages; gives = true } in
@@ -49,13 +45,13 @@ returns-in-Some-give_and_look-clause-hands c =
           c.args.balloon.now.device (room_of pieces bytes runs figures)
           (at_once asked kind o cuts runs figures rest)) (sym orders)
           (told_given w (next_chain w t) c.args.balloon.now.device t c.args.head named runs
-          count cuts None (giving true used ++ rest) (parts ∙ sym (append-nil (take count cuts))) refl
-          (c.in-Some-give_and_look.ensures.goes t after outcome
+          count cuts None (giving true used ++ rest) (c.requires.parts ∙ sym (append-nil (take count cuts))) refl
+          (c.in-Some.ensures.goes t after outcome
           (room_of pieces bytes runs figures) rest h));
       room = subst (λ (o : Orders). HasRoom asked o) (sym orders) (record {
         runs = λ e. c.requires.few;
         figures = λ e. absurd cc;
-        cuts = few;
+        cuts = c.requires.room;
       });
       waits_now = refl;
       fills = record { full = λ e. absurd (grind arith) };
@@ -63,8 +59,8 @@ returns-in-Some-give_and_look-clause-hands c =
       held = refl;
     }
 
-pub returns-in-None-give_and_look-clause-hands : goal.returns-in-None-give_and_look-clause-hands
-returns-in-None-give_and_look-clause-hands c =
+pub returns-in-None-clause-hands : goal.returns-in-None-clause-hands
+returns-in-None-clause-hands c =
     let same : c.give_and_look.new.device ≡ c.args.balloon.now.device = search rules in
     subst (λ (d : Device). HandsOver
     (telling_pages c.args.kind (tally_of c.args.shown.now) c.args.head c.args.named)

@@ -2,12 +2,12 @@ use Rattle.vb_core.specs.Next.{pieces_in}
 use Rattle.std.proofs.Common.{◌∙◌, ap, sym, subst, refl, ℕ, ◌+◌, ◌-◌, List, ◌++◌, Some, take}
 use Rattle.vb_core.specs.Devices.{ring_of}
 use Rattle.vb_monitor.{specs.declared.orders.Orders.Orders, specs.declared.step.Walk.Walk}
-use Rattle.vb_monitor.specs.declared.step.Phase.TheVariants.{AwaitsDescriptor, AwaitsPart}
+use Rattle.vb_monitor.specs.declared.step.Phase.TheVariants.{AwaitsDescriptor}
 use Rattle.vb_monitor.{specs.Accesses.Access, specs.Machine.{whole, serves}}
 use Rattle.vb_monitor.specs.Chains.{AfterDescriptor, Follows, descriptors}
 use Rattle.vb_c.{specs.declared.notice.VbRoom.VbRoom, specs.Codes.kind_of_code}
 use Rattle.vb_c.{specs.Notices.tally_of, proofs.UsualLemmas.{awaits_descriptor, goes_usual}}
-use Rattle.vb_c.proofs.usual.go_single.Goals as goal
+use Rattle.vb_c.proofs.usual.NextUsual.go.Goals as goal
 
 pub returns-in-Some-clause-went : goal.returns-in-Some-clause-went
 returns-in-Some-clause-went c e =
@@ -15,17 +15,17 @@ returns-in-Some-clause-went c e =
     let s = tally_of old in
     let d = c.args.balloon.now.device in
     let x = c.walk.result in
-    let first = c.in-Some.first in
+    let next = c.in-Some.next in
     let r1 = c.args.room.now in
-    let r2 : VbRoom = record r1 { pieces = c.first_of_single.new.pieces } in
-    let shown = c.show_part.ensures in
+    let r2 : VbRoom = record r1 { pieces = c.next_descriptor.new.pieces } in
+    let shown = c.show_descriptor.ensures in
     let (tally, kind, orders) = shown.kept in
-    goes_usual c.args.kind (AwaitsDescriptor old.at x) (AwaitsPart first.at first.place) s s
-    c.args.regions.now c.args.answer c.args.balloon.now r1 r2 old c.show_part.new.self
+    goes_usual c.args.kind (AwaitsDescriptor old.at x) (AwaitsDescriptor next.at next.walk) s s
+    c.args.regions.now c.args._answer c.args.balloon.now r1 r2 old c.show_descriptor.new.self
     c.requires.kind (awaits_descriptor old c.requires.phase
     ∙ ap (λ (w : Walk). Some (AwaitsDescriptor old.at w)) (sym c.walk.ensures)) refl
-    (ap (λ (k : ℕ). kind_of_code k) kind ∙ c.requires.kind) shown.phase tally tt
-    shown.what (ap (λ (o : Orders). o.cuts) orders) refl c.in-Some.ensures.fits refl
+    (ap (λ (k : ℕ). kind_of_code k) kind ∙ c.requires.kind) shown.phase tally
+    (shown.says s) shown.what (ap (λ (o : Orders). o.cuts) orders) refl tt refl
     (λ after outcome before done rest does h.
     let w = whole c.args.regions.now c.args.kind after outcome in
     record {
