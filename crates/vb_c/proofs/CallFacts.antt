@@ -1,5 +1,5 @@
 -- What the calls of a device answer in C, worked out: each refusal, and what it leaves.
-use Rattle.std.proofs.Common.{refl, ap, arith, ℕ, List, [], ◌∷◌, length, Some, None, Ok, Err}
+use Rattle.std.proofs.Common.{refl, ap, arith, ℕ, List, [], ◌∷◌, Some, None, Ok, Err}
 use Rattle.vb_core.{specs.declared.kinds.Kind.TheVariants.Inflate, specs.Rings.used_entry}
 use Rattle.vb_core.specs.declared.device.Denial.TheVariants.{NoQueue, BadArgument, Misplaced}
 use Rattle.vb_core.{specs.declared.device.Device.Device, specs.Devices.{new_device, placed}}

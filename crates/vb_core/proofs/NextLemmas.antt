@@ -12,7 +12,7 @@ use Rattle.vb_core.proofs.{CopyLemmas.copied_length, DenialLemmas.{IsOpen, open_
 use Rattle.vb_core.specs.{Next.{are_copies, next_denial, PopsCopies}, declared.device.Device.Device}
 use Rattle.vb_core.specs.{Copies.{padded, copies_of}, Devices.ring_of, Report.report_denial}
 use Rattle.vb_request.proofs.Chains.{chain_fits}
-use Rattle.std.proofs.Common.{◌≡◌, ℕ, ◌+◌, ◌*◌, ◌≤◌, Bool, true, false, Option, List, length}
+use Rattle.std.proofs.Common.{◌≡◌, ℕ, ◌*◌, ◌≤◌, Bool, true, false, Option, List, length}
 
 pub pops_so : (m1 m2 : Pages) (q end q2 : DeviceEnd) (found : Result (Option Taken) ChainFault) →
     m1 ≡ m2 → q ≡ end → PopsBy m1 q q2 found → PopsBy m2 end (after_pop end found) found

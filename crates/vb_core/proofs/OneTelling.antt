@@ -1,5 +1,5 @@
 -- Just one list of runs tells given numbers.
-use Rattle.std.proofs.Common.{arith, ◌≡◌, ◌∙◌, ℕ, ◌+◌, List, [], ◌∷◌, ◌++◌, refl, sym, ap}
+use Rattle.std.proofs.Common.{arith, ◌≡◌, ◌∙◌, ℕ, List, [], ◌∷◌, ◌++◌, refl, sym, ap}
 use Rattle.std.{specs.Prelude.{Option, Some}, proofs.lemmas.Bool.ne_eqb}
 use Rattle.vb_core.{specs.declared.runs.Run.Run, proofs.RunLemmas.{longer, longer_from}}
 use Rattle.vb_core.specs.Runs.{joined, Grows, one_page, IsApartFrom, IsApart, IsPart, Tell}

@@ -1,7 +1,8 @@
 -- What reports name, worked out, and what they don't.
 use Rattle.std.proofs.Common.{◌≡◌, refl, ap, arith, ℕ, true, false, List, [], ◌∷◌, length, Some}
-use Rattle.std.proofs.Common.{None, Result, Ok, Err, map}
+use Rattle.std.proofs.Common.{None, Result, Ok, Err, map, ◌++◌}
 use Rattle.vb_core.specs.Report.{run_of, report_named, report_of, after_report, pieces_denial}
+use Rattle.vb_core.specs.{Report.are_reported, Next.pieces_in}
 use Rattle.vb_core.specs.declared.device.Denial.{Denial, TheVariants.{BadArgument, NotReady}}
 use Rattle.vb_core.specs.declared.{device.Device.Device, name.Named.Named, runs.Run.Run}
 use Rattle.vb_core.{proofs.Examples.{fresh, ready}, specs.Report.NamesPiecesBy}
@@ -34,6 +35,19 @@ no_reports = refl
 
 reserved : report_named (one ∷ []) 41 ≡ Err ReservedPage
 reserved = refl
+
+-- what plain data says: any number but 0 lets the device write
+says : pieces_in (map (λ (n : ℕ). record { address = 81920; length = 8192; writable = n }) (0 ∷ 1 ∷ 7 ∷ []))
+    ≡ record two { writable = false } ∷ two ∷ two ∷ []
+unfolding pieces_in
+says = refl
+
+-- which pieces are a report: none at all, two, and one whose page is the first that isn't reserved
+are : map (are_reported 40) ([] ∷ (one ∷ one ∷ []) ∷ []) ++ map (λ piece. are_reported 16 (two ∷ piece ∷ []))
+    (one ∷ record one { writable = false } ∷ record one { len = 2048 } ∷ record one { len = 0 }
+    ∷ record one { addr = 163841 } ∷ []) ++ are_reported 41 (one ∷ []) ∷ []
+    ≡ true ∷ true ∷ true ∷ false ∷ false ∷ false ∷ false ∷ false ∷ []
+are = refl
 
 -- ---- a device
 

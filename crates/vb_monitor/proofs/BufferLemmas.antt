@@ -3,8 +3,8 @@ use Rattle.vb_core.proofs.PieceLemmas.{join_in, get_in}
 pub use Rattle.vb_core.proofs.PieceLemmas.{none_in, length_in}
 use Rattle.std.proofs.Common.{◌≡◌, ◌∙◌, ap, sym, subst, refl, ℕ, ◌+◌, ◌<◌, ◌≤◌, Bool, false, true}
 use Rattle.std.proofs.Common.{List, [], ◌∷◌, ◌++◌, length, map, take, drop, get_or, slice_set}
-use Rattle.std.specs.{Prelude.{◌||◌, not, ◌==◌, sum_by, fold}, List.list_any}
-use Rattle.std.proofs.lemmas.List.{length-map, get_or-map, map-append, take_more, take_more_set}
+use Rattle.std.specs.{Prelude.{sum_by, fold}}
+use Rattle.std.proofs.lemmas.List.{take_more_set}
 use Rattle.vb_core.specs.declared.next.ChainPiece.{ChainPiece}
 use Rattle.vb_chain.specs.declared.pieces.Piece.{Piece}
 use Rattle.vb_request.specs.Request.{total_length}

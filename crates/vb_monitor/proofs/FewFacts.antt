@@ -1,5 +1,5 @@
 -- How few parts there are to discard, worked out: of pages 0 to 20, and 22 to 31.
-use Rattle.std.proofs.Common.{◌≡◌, ℕ, refl, true, false, List, [], ◌∷◌, map, Some, None}
+use Rattle.std.proofs.Common.{◌≡◌, ℕ, refl, true, false, [], ◌∷◌, map, Some, None}
 use Rattle.vb_core.specs.declared.kinds.Kind.TheVariants.{Inflate, Deflate, Statistics, Report}
 use Rattle.vb_core.specs.declared.runs.Run.{Run}
 use Rattle.vb_monitor.{specs.Served.{is_discarded, few_parts}, proofs.Samples.two}

@@ -11,7 +11,7 @@ use Rattle.vb_monitor.specs.Giving.{Then, three_spots, UsedAt, GivesBack, GivesB
 use Rattle.vb_monitor.{specs.declared.regions.Spot.Spot, specs.declared.cuts.Cut.Cut}
 use Rattle.vb_monitor.{specs.declared.outcome.Tally.Tally, specs.Regions.{spot, cuts_of}}
 use Rattle.vb_monitor.specs.Accesses.{TellPages, TellFigures, Discard, WriteNumber, WriteWord}
-use Rattle.vb_monitor.{specs.Ends.{Whole, Ends, EndsWhere, FlagsAt}, specs.Notices.stands}
+use Rattle.vb_monitor.{specs.Ends.{Whole, Ends, EndsWhere, FlagsAt}}
 use Rattle.vb_monitor.specs.Giving.{after_use, cuts_for, TellsThen, AfterName}
 use Rattle.vb_monitor.specs.Order.{is_read, is_copied, is_told, is_named, Row, Cuts}
 

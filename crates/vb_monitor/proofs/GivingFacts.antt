@@ -10,7 +10,7 @@ use Rattle.vb_monitor.specs.declared.outcome.Outcome.{Outcome}
 use Rattle.vb_monitor.specs.Accesses.{Access, Acquire, Release, TellPages, Discard, WriteNumber, WriteWord}
 use Rattle.vb_monitor.specs.Ends.{Whole}
 use Rattle.vb_monitor.specs.Giving.{Then, used_spots, used_accesses, WritesUsed, with_given, after_use, GivesBack, cuts_for, DiscardsThen, TellsThen, spent, AfterName}
-use Rattle.vb_monitor.proofs.Samples.{Same, two, at, ring, ready, tally, page_5, over_the_hole, cut_5, cut_20, cut_22, one_page, pages, discard, id, used_length, used_index, index}
+use Rattle.vb_monitor.proofs.Samples.{Same, two, at, ring, ready, tally, page_5, over_the_hole, cut_5, cut_20, cut_22, one_page, pages, discard, id, used_length, used_index}
 
 -- ---- the used element
 

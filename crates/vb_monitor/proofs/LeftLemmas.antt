@@ -1,6 +1,6 @@
 -- What is left of a notice gets less.
 use Rattle.std.proofs.Common.{◌≡◌, ap, subst, refl, arith, ℕ, zero, suc, ◌+◌, ◌-◌, ◌*◌, ◌<◌, ◌≤◌, List, Option, Some, None}
-use Rattle.std.proofs.Common.{Bool, false, length, take, length-take}
+use Rattle.std.proofs.Common.{false, length, take, length-take}
 use Rattle.std.specs.Prelude.{IfSome}
 use Rattle.vb_core.specs.declared.runs.Run.{Run}
 use Rattle.vb_monitor.{specs.declared.step.Phase.Phase, specs.declared.outcome.Tally.Tally}

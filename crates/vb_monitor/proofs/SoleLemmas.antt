@@ -1,16 +1,16 @@
 -- Runs between pages that one region alone has.
 use Rattle.std.proofs.Common.{◌≡◌, ◌∙◌, ap, sym, refl, arith, ℕ, zero, suc, ◌+◌, ◌-◌, ◌*◌, ◌/◌, ◌<◌}
 use Rattle.std.proofs.Common.{◌≤◌, Bool, true, false, List, [], ◌∷◌, ◌++◌, length, drop, get_or}
-use Rattle.std.proofs.Common.{take, slice_get, slice_set, Option, Some, None, length-drop, subst}
-use Rattle.std.proofs.lemmas.List.{drop_more, take_more_set, drop_all, take_all}
-use Rattle.std.{proofs.lemmas.Bool.Decides.nat_tests, specs.Prelude.{MatchOption, nat_le, ◌==◌, ◌&&◌, ◌||◌, not}}
+use Rattle.std.proofs.Common.{take, slice_get, slice_set, Option, Some, None, subst}
+use Rattle.std.proofs.lemmas.List.{drop_more, take_more_set, drop_all}
+use Rattle.std.{proofs.lemmas.Bool.Decides.nat_tests, specs.Prelude.{MatchOption, nat_le, ◌==◌, ◌&&◌, ◌||◌}}
 use Rattle.std.specs.{Prelude.{if◌then◌else◌, option_and_then}, List.list_any}
-use Rattle.std.proofs.lemmas.{List.Folds.list_any-append, Option.{slice_get-get_or, slice_get_past}}
+use Rattle.std.proofs.lemmas.{List.Folds.list_any-append, Option.{slice_get-get_or}}
 use Rattle.vb_monitor.specs.Regions.{is_region, meets, cut_of, cuts_from, cuts_of, first_both}
 use Rattle.vb_monitor.specs.{Regions.end_both, declared.cuts.NextCut.NextCut, Machine.cuts_behind}
 use Rattle.vb_monitor.specs.{Orders.cuts_left, declared.regions.TheConstants.FILE_LIMIT}
 use Rattle.vb_monitor.specs.declared.{regions.Region.Region, cuts.Cut.Cut, sole.Sole.Sole}
-use Rattle.vb_monitor.specs.Sole.{LiesIn, lies_in, lying, has_page, pages_of, is_shared, sole_if}
+use Rattle.vb_monitor.specs.Sole.{LiesIn, lies_in, lying, has_page, pages_of, is_shared}
 use Rattle.vb_monitor.specs.Sole.{sole_of, sole_cut, sole_at, alone_at}
 use Rattle.vb_monitor.{specs.Sole.IsSole, proofs.RegionLemmas.cut_here, proofs.OrderLemmas.one_more}
 use Rattle.vb_model.specs.Limits.{page_size}

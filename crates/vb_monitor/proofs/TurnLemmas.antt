@@ -1,6 +1,6 @@
 -- What each access of a notice is, by those before it: the end of a chain.
 use Rattle.std.proofs.Common.{◌≡◌, ◌∙◌, ap, sym, subst, refl, ℕ, ◌+◌, Bool, true, false, List, []}
-use Rattle.std.proofs.Common.{◌∷◌, ◌++◌, length, map, Option, Some, None}
+use Rattle.std.proofs.Common.{◌∷◌, ◌++◌, map, Option, Some, None}
 use Rattle.vb_chain.{specs.declared.pieces.Piece.Piece, specs.declared.fault.ChainFault.ChainFault}
 use Rattle.vb_core.specs.declared.{kinds.Kind.Kind, runs.Run.Run, kinds.Kind.TheVariants.Inflate}
 use Rattle.vb_core.specs.declared.kinds.Kind.TheVariants.{Deflate, Statistics, Report}

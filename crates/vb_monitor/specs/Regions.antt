@@ -1,7 +1,7 @@
 -- Where guest memory is: regions of whole pages, with holes between them.
 use Rattle.std.specs.Prelude.{ℕ, ◌+◌, ◌-◌, ◌*◌, ◌/◌, ◌%◌, Bool, ◌==◌, ◌&&◌, nat_le, nat_lt, min}
 use Rattle.std.specs.Prelude.{max}
-use Rattle.std.specs.Prelude.{List, [], ◌∷◌, ◌++◌, if◌then◌else◌, Option, Some, None}
+use Rattle.std.specs.Prelude.{List, [], ◌∷◌, if◌then◌else◌, Option, Some, None}
 use Rattle.std.specs.List.{flat_map}
 use Rattle.vb_model.specs.Limits.{page_size}
 use Rattle.vb_core.specs.declared.settings.TheConstants.{MEMORY_LIMIT}

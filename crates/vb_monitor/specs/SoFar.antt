@@ -1,7 +1,6 @@
 -- What the accesses of a notice say so far: of the chain that is served, of its queue, and of what
 -- is left to discard.
-use Rattle.std.specs.Prelude.{ℕ, ◌+◌, Bool, true, false, List, [], ◌∷◌, ◌++◌, if◌then◌else◌}
-use Rattle.vb_chain.specs.declared.descriptor.Descriptor.{Descriptor}
+use Rattle.std.specs.Prelude.{ℕ, Bool, true, false, List, [], ◌∷◌, ◌++◌}
 use Rattle.vb_chain.specs.declared.pieces.Piece.{Piece}
 use Rattle.vb_chain.specs.Rules.{has_next, piece_of}
 use Rattle.vb_core.specs.declared.kinds.Kind.{Kind}

@@ -1,12 +1,12 @@
-use Rattle.std.proofs.Common.{rules, ◌≡◌, ◌≤◌, ◌∙◌, ap, sym, subst, refl, arith, ℕ, ◌+◌, ◌++◌, take, Some}
+use Rattle.std.proofs.Common.{rules, ◌≡◌, ◌∙◌, ap, sym, subst, refl, arith, ℕ, ◌+◌, ◌++◌, take}
 use Rattle.std.proofs.Common.{None, true}
 use Rattle.std.proofs.lemmas.List.{append-nil}
 use Rattle.vb_monitor.specs.declared.step.Phase.TheVariants.{AwaitsIndex}
 use Rattle.vb_monitor.specs.declared.orders.Told.TheVariants.{Pages}
-use Rattle.vb_monitor.specs.declared.{orders.{Orders.Orders, Asked.Asked}, cuts.NextCut.NextCut}
-use Rattle.vb_core.specs.{declared.device.Device.Device, Config.keeps_reports}
-use Rattle.vb_monitor.{specs.Giving.{with_given, cuts_for}, specs.Machine.{Ahead, whole, room_of}}
-use Rattle.vb_monitor.specs.{Machine.next_chain, Orders.{at_once, giving, HasRoom, cuts_left}}
+use Rattle.vb_monitor.specs.declared.{orders.{Orders.Orders, Asked.Asked}}
+use Rattle.vb_core.specs.{declared.device.Device.Device}
+use Rattle.vb_monitor.{specs.Giving.{with_given}, specs.Machine.{Ahead, whole, room_of}}
+use Rattle.vb_monitor.specs.{Machine.next_chain, Orders.{at_once, giving, HasRoom}}
 use Rattle.vb_c.proofs.{ServedLemmas.told_given, UsualLemmas.says_notice}
 use Rattle.vb_c.specs.{Codes.kind_of_code, Notices.{phase_of, tally_of, asked_bits, answer_bits}}
 use Rattle.vb_c.specs.{Served.telling_pages, Serving.HandsOver, declared.notice.VbNotice.VbNotice}

@@ -1,8 +1,7 @@
 use Rattle.vb_core.specs.Next.{pieces_in}
-use Rattle.std.proofs.Common.{◌≡◌, ◌∙◌, ap, sym, subst, refl, ℕ, ◌+◌, List, ◌++◌, Option, Ok, Err, take}
-use Rattle.vb_core.specs.declared.kinds.Kind.{Kind}
+use Rattle.std.proofs.Common.{ap, sym, subst, refl, ℕ, ◌+◌, List, ◌++◌, Option, Ok, Err, take}
 use Rattle.vb_monitor.{specs.declared.step.Phase.TheVariants.AwaitsPart, specs.Accesses.Access}
-use Rattle.vb_monitor.{specs.Machine.{whole, served, behind_part}, specs.declared.step.Place.Place}
+use Rattle.vb_monitor.{specs.Machine.{whole, served, behind_part}}
 use Rattle.vb_monitor.{specs.Pieces.{CopiesParts}, specs.declared.notice.Notice.Notice}
 use Rattle.vb_monitor.{specs.Giving.spent, proofs.ServedLemmas.request_goes}
 use Rattle.vb_monitor.specs.declared.outcome.Tally.{Tally}

@@ -1,14 +1,13 @@
-use Rattle.std.proofs.Common.{rules, ◌≡◌, ◌∙◌, ap, sym, subst, refl, arith, ℕ, ◌+◌, true, false}
-use Rattle.std.proofs.Common.{◌++◌, None, Some}
-use Rattle.vb_monitor.specs.declared.step.Phase.TheVariants.{AwaitsIndex, Discards}
+use Rattle.std.proofs.Common.{rules, ◌≡◌, ◌∙◌, ap, sym, subst, refl, ℕ, ◌+◌, false}
+use Rattle.std.proofs.Common.{Some}
+use Rattle.vb_monitor.specs.declared.step.Phase.TheVariants.{Discards}
 use Rattle.vb_monitor.specs.declared.orders.Told.TheVariants.{Pages}
 use Rattle.vb_monitor.specs.declared.{orders.{Orders.Orders, Asked.Asked}, step.Discarding.Discarding}
-use Rattle.vb_core.specs.declared.device.Device.{Device}
-use Rattle.vb_monitor.{specs.Giving.with_given, specs.Machine.{Ahead, whole, room_of, next_chain}}
-use Rattle.vb_monitor.specs.Orders.{at_once, giving, HasRoom, FillsList}
-use Rattle.vb_c.proofs.{ServedLemmas.{told_given, told_left}, UsualLemmas.says_notice}
-use Rattle.vb_c.specs.{Codes.kind_of_code, Notices.{phase_of, tally_of, asked_bits, answer_bits}}
-use Rattle.vb_c.specs.{Served.telling_pages, Serving.HandsOver, declared.notice.VbNotice.VbNotice}
+use Rattle.vb_monitor.{specs.Machine.{Ahead, whole, room_of, next_chain}}
+use Rattle.vb_monitor.specs.Orders.{at_once, HasRoom, FillsList}
+use Rattle.vb_c.proofs.{ServedLemmas.{told_left}, UsualLemmas.says_notice}
+use Rattle.vb_c.specs.{Codes.kind_of_code, Notices.{tally_of, asked_bits, answer_bits}}
+use Rattle.vb_c.specs.{Served.telling_pages}
 use Rattle.vb_c.proofs.requests.serve_many.Goals as goal
 
 pub returns-in-Some-clause-hands : goal.returns-in-Some-clause-hands

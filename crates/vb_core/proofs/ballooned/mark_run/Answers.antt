@@ -2,7 +2,7 @@ use Rattle.vb_model.specs.Tests.{is_in}
 use Rattle.vb_core.proofs.MarkLemmas.{put_none, put_as, put_more, put_in_run, none_reaches, reaches}
 use Rattle.vb_core.specs.Runs.{pages_of_run}
 use Rattle.vb_core.proofs.MarkLemmas.{is_before, none_before, all_before, none_past}
-use Rattle.std.proofs.Common.{◌<◌, ◌≤◌, ◌+◌, ◌-◌, ◌*◌, ◌/◌, ◌∙◌, ◌==◌, arith, ℕ, ap, sym, length}
+use Rattle.std.proofs.Common.{◌<◌, ◌+◌, ◌*◌, ◌/◌, ◌∙◌, ◌==◌, arith, ℕ, ap, length}
 use Rattle.vb_core.proofs.ballooned.mark_run.Goals as goal
 
 pub returns-then-run-eq0-clause-put : goal.returns-then-run-eq0-clause-put

@@ -1,4 +1,4 @@
-use Rattle.std.proofs.Common.{◌≡◌, ◌∙◌, ◌+◌, ◌-◌, ◌<◌, ◌/◌, Some, None, true, false, length, get_or}
+use Rattle.std.proofs.Common.{◌≡◌, ◌∙◌, ◌+◌, ◌<◌, ◌/◌, Some, None, true, false, length, get_or}
 use Rattle.std.proofs.{Common.{take, sym, arith, rules}, lemmas.List.take_all}
 use Rattle.vb_request.proofs.Once.{numbers_of-length, numbers_of-at}
 use Rattle.vb_request.specs.Request.{number_fault, numbers_of}

@@ -1,4 +1,4 @@
-use Rattle.std.proofs.Common.{rules, arith, ◌+◌, length}
+use Rattle.std.proofs.Common.{arith, ◌+◌, length}
 use Rattle.vb_monitor.proofs.LeftLemmas.{parts_fewer, fewer_behind}
 use Rattle.vb_monitor.proofs.cuts.cut_behind.Goals as goal
 

@@ -1,4 +1,4 @@
-use Rattle.std.proofs.Common.{rules, ◌≡◌, ◌+◌, [], drop, arith}
+use Rattle.std.proofs.Common.{rules, ◌≡◌, ◌+◌, [], drop}
 use Rattle.vb_monitor.specs.Regions.{cuts_from}
 use Rattle.vb_monitor.proofs.SoleLemmas.{only_put}
 use Rattle.vb_monitor.proofs.cuts.put_only.Goals as goal

@@ -1,5 +1,5 @@
 use Rattle.std.proofs.Common.{rules, ◌≡◌, ◌∙◌, ◌++◌, ◌-◌, ◌<◌, sym, ℕ, subst, take, drop, length, arith}
-use Rattle.std.proofs.Common.{false, refl, ◌+◌}
+use Rattle.std.proofs.Common.{refl, ◌+◌}
 use Rattle.std.{specs.Prelude.nat_le, proofs.lemmas.Bool.Decides.nat_tests}
 use Rattle.vb_monitor.{specs.declared.orders.TheConstants.MAX_CUTS, specs.Regions.cuts_of}
 use Rattle.vb_monitor.proofs.SoleLemmas.{filled_by, lies_so, none_lies, one_lies, end_lies}

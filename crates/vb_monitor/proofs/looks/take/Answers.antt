@@ -1,4 +1,4 @@
-use Rattle.std.proofs.Common.{rules, arith, ◌+◌, ◌-◌, ◌<◌}
+use Rattle.std.proofs.Common.{rules, arith, ◌<◌}
 use Rattle.vb_monitor.proofs.LeftLemmas.{one_taken}
 use Rattle.vb_monitor.proofs.looks.take.Goals as goal
 

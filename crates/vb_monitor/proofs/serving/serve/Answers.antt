@@ -1,4 +1,4 @@
-use Rattle.std.proofs.Common.{subst, ◌++◌}
+use Rattle.std.proofs.Common.{subst}
 use Rattle.vb_core.specs.declared.kinds.Kind.{Kind}
 use Rattle.vb_monitor.specs.Machine.{Ahead, whole, room_of}
 use Rattle.vb_monitor.proofs.serving.serve.Goals as goal
