@@ -7,13 +7,8 @@
  *     scribble [NOTICES]
  */
 #define _GNU_SOURCE
-#include "vb.h"
+#include "reference/calls.h"
 #include <string.h>
-
-/* The plain implementation, under other names. */
-uint32_t reference_begin(VbNotice *, VbBalloon *, const VbRegion *, size_t, VbRoom *, uint32_t, uint32_t, uint32_t);
-uint32_t reference_ask(VbNotice *, VbBalloon *, const VbRegion *, size_t, VbRoom *);
-uint32_t reference_go_on(VbNotice *, VbBalloon *, const VbRegion *, size_t, VbRoom *, uint16_t);
 
 /* Calls of the library that are explained: the linker puts the second ones in the place of the first ones. */
 uint32_t __real_vb_begin(VbNotice *, VbBalloon *, const VbRegion *, size_t, VbRoom *, uint32_t, uint32_t, uint32_t);
