@@ -9,7 +9,8 @@ enum { GROUPS = true, MOST_AT_ONCE = VB_MAX_CUTS };
 #endif
 
 /* What a notice waits for, in its field `phase`. */
-enum phase { NO_PHASE, AT_INDEX, AT_ENTRY, AT_WORD, AT_DESCRIPTOR, AT_PART, AT_TOLD, AT_FIGURES, AT_CUT, AT_GIVEN, AT_FLAGS, AT_FLAG_WORD };
+enum phase { NO_PHASE, AT_INDEX, AT_ENTRY, AT_WORD, AT_DESCRIPTOR, AT_PART, AT_TOLD, AT_FIGURES, AT_CUT, AT_GIVEN, AT_FLAGS,
+             AT_FLAG_WORD };
 
 /* All that a call works on. */
 typedef struct {

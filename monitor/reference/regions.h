@@ -73,7 +73,8 @@ static bool holds_bytes(const VbRegion *regions, size_t count, uint64_t address,
 static bool holds_queue(const VbRegion *regions, size_t count, const VbQueue *queue)
 {
     uint64_t size = queue->size;
-    return size == 0 || (holds_bytes(regions, count, queue->table, 16 * size) && holds_bytes(regions, count, queue->avail, 6 + 2 * size)
+    return size == 0 || (holds_bytes(regions, count, queue->table, 16 * size)
+                         && holds_bytes(regions, count, queue->avail, 6 + 2 * size)
                          && holds_bytes(regions, count, queue->used, 6 + 8 * size));
 }
 

@@ -41,7 +41,8 @@ static uint32_t ask_cut(const Call *call)
     if (notice->kind == VB_DEFLATE || (notice->kind == VB_REPORT && vb_keeps_reports(&call->balloon->device)))
         return give_back(call);
     uint32_t cuts = 0;
-    for (; notice->number < notice->runs && notice->number < VB_MAX_RUNS && cuts < MOST_AT_ONCE; notice->number += notice->from == 0) {
+    for (; notice->number < notice->runs && notice->number < VB_MAX_RUNS && cuts < MOST_AT_ONCE;
+         notice->number += notice->from == 0) {
         for (; notice->from < call->count && cuts < MOST_AT_ONCE; notice->from++)
             cuts += cut_of(call, notice->from, call->room->runs[notice->number], &call->room->cuts[cuts]);
         notice->from = notice->from < call->count ? notice->from : 0;
