@@ -2,7 +2,7 @@
  * part in test/. */
 #include "test/test.h"
 
-/* What other languages declare of vb.h has to have these sizes (rust/src/raw.rs). */
+/* What other languages declare of vb.h has to have these sizes (rust/src/raw/structs.rs). */
 _Static_assert(sizeof(VbSettings) == 24 && sizeof(VbQueue) == 32 && sizeof(VbDevice) == 176, "a device's state");
 _Static_assert(sizeof(VbPiece) == 16 && sizeof(VbRun) == 8 && sizeof(VbStatistic) == 16, "lists");
 _Static_assert(sizeof(VbChain) == 20 && sizeof(VbNamed) == 24 && sizeof(VbFigures) == 12, "answers");
