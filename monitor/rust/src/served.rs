@@ -19,7 +19,7 @@ pub struct Served {
     pub pages: u64,
     /// Of these, discarded.
     pub discarded: u64,
-    /// Of these, pages whose large page wasn't given up whole yet ([`Monitor::page_size`]).
+    /// Of these, pages whose large page wasn't given up whole yet ([`Monitor::page_size`](crate::Monitor::page_size)).
     pub waiting: u64,
     /// Numbers past the end or of reserved pages.
     pub skipped: u64,
@@ -29,7 +29,8 @@ pub struct Served {
     pub unmarked: u64,
     /// Pages to discard that lie in no region.
     pub in_holes: u64,
-    /// Pages that the machine failed to discard, and those of reports that keep what is in them ([`Balloon::keeps_reports`]).
+    /// Pages that the machine failed to discard, and those of reports that keep what is in them
+    /// ([`Balloon::keeps_reports`](crate::Balloon::keeps_reports)).
     pub kept: u64,
     /// Why it failed last: the system's number.
     pub error: Option<i32>,

@@ -2,8 +2,8 @@
 
 use crate::raw;
 
-/// All that a device is. Copy it within a process, and hand it to [`Balloon::restore`]; [`State::to_bytes`] makes what
-/// lasts.
+/// All that a device is. Copy it within a process, and hand it to [`Balloon::restore`](crate::Balloon::restore);
+/// [`State::to_bytes`] makes what lasts.
 #[derive(Clone, Copy)]
 #[repr(transparent)]
 pub struct State(pub(crate) raw::Balloon);
@@ -44,7 +44,8 @@ impl State {
     /// on any machine.
     ///
     /// # Errors
-    /// `Impossible` where no calls lead to such a device, as after [`Balloon::set_memory`] that leaves a queue outside.
+    /// `Impossible` where no calls lead to such a device, as after [`Balloon::set_memory`](crate::Balloon::set_memory)
+    /// that leaves a queue outside.
     pub fn to_bytes(&self) -> Result<[u8; STATE_BYTES], StateError> {
         let mut bytes = [0; STATE_BYTES];
         // SAFETY: the pointers are of a `&` and of an array with its length.
