@@ -56,6 +56,12 @@ static inline VbQueue *ring_of_kind(struct balloon *balloon, uint32_t kind)
     return queues[kind];
 }
 
+static inline bool same_queue(const VbQueue *one, const VbQueue *other)
+{
+    return one->table == other->table && one->avail == other->avail && one->used == other->used
+        && one->size == other->size && one->next_avail == other->next_avail && one->next_used == other->next_used;
+}
+
 static inline void put(const struct guest *guest, uint64_t address, uint64_t value, size_t bytes)
 {
     value = htole64(value);

@@ -44,12 +44,6 @@ static VbDevice ready(uint64_t features, uint32_t reserved)
     return device;
 }
 
-static bool same_queue(const VbQueue *one, const VbQueue *other)
-{
-    return one->table == other->table && one->avail == other->avail && one->used == other->used
-        && one->size == other->size && one->next_avail == other->next_avail && one->next_used == other->next_used;
-}
-
 /* Whether nothing has changed, but for the status. */
 static bool stands(const VbDevice *one, const VbDevice *other)
 {

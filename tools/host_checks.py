@@ -3,7 +3,7 @@
 import time
 
 from linux_guest import PAGES_PER_MIB
-from linux_kit import Fault
+from linux_kit import demand
 
 # Seconds in which a host has come to rest, and in which one that is wrong would have.
 REST_LIMIT, WRONG_LIMIT = 20, 8
@@ -13,12 +13,6 @@ SLACK = 2
 
 # Seconds of a period of the host, with what a look takes.
 PERIOD = 0.25
-
-
-def demand(condition, words):
-    """Ends the run with these words where the condition doesn't hold."""
-    if not condition:
-        raise Fault(words)
 
 
 def eventually(condition, words, limit=REST_LIMIT):

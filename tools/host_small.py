@@ -6,8 +6,9 @@ import struct
 import subprocess
 import time
 
-from host_checks import demand, eventually
+from host_checks import eventually
 from linux_guest import PAGES_PER_MIB
+from linux_kit import demand
 from vhost_client import BUFFERS, DEFLATE, INFLATE, LIMIT, PAGE, REGIONS, STATISTICS, Client
 
 FREE_MEMORY = 4

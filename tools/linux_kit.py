@@ -53,6 +53,12 @@ class Missing(Fault):
     """What the machine lacks, and how to get it."""
 
 
+def demand(condition, words):
+    """Ends the run with these words where the condition doesn't hold."""
+    if not condition:
+        raise Fault(words)
+
+
 def need(program, package):
     """Returns the path of a program, or says which package has it."""
     path = shutil.which(program)

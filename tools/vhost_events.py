@@ -1,4 +1,5 @@
-"""Tests of what a client of good will gets from a backend that it kicks, and that calls it, by events, as QEMU."""
+"""Tests of what a client of good will gets from a backend that it kicks, and that calls it, by events, as QEMU: its rings, its
+memory and its answers; those of a device's life are in vhost_lives.py."""
 
 import os
 import select
@@ -9,46 +10,18 @@ import time
 import linux_guest
 import vhost_client
 from vhost_client import (
-    BUFFERS, DEFLATE, FEATURES, GET_CONFIG, GET_MAX_MEM_SLOTS, GET_STATUS, INFLATE, LIMIT, NO_FILE, PAGE, PAGES_OF_REGION,
-    POISON, QEMU_PROTOCOL, REGIONS, REM_MEM_REG, REPLY_ACK, REPORT, RESET_DEVICE, SET_CONFIG, SET_FEATURES, SET_STATUS,
-    SET_VRING_CALL, SET_VRING_ENABLE, SET_VRING_KICK, STATISTICS, STATUS, WRITE,
+    BUFFERS, DEFLATE, FEATURES, GET_CONFIG, GET_MAX_MEM_SLOTS, GET_STATUS, INFLATE, NO_FILE, PAGE, PAGES_OF_REGION,
+    QEMU_PROTOCOL, REGIONS, REM_MEM_REG, REPLY_ACK, SET_CONFIG, SET_FEATURES, SET_STATUS, SET_VRING_CALL, SET_VRING_ENABLE,
+    SET_VRING_KICK, STATISTICS, STATUS,
 )
+from vhost_kicked import FIRST, MOMENT, word
+from vhost_lives import Lives
 from vhost_served import program
-from vhost_serves import Good, post_statistics
-
-FIRST = REGIONS[1][0] // PAGE
-
-# Seconds in which something that mustn't happen would have happened.
-MOMENT = 0.1
+from vhost_serves import post_statistics
 
 
-def word(number):
-    """Returns a body of one number."""
-    return struct.pack("<Q", number)
-
-
-class Events(Good):
+class Events(Lives):
     """Rings that are started, stopped and gone on with by themselves."""
-
-    def started(self, *options, protocol=QEMU_PROTOCOL):
-        """Returns a client whose driver is ready."""
-        client = self.client(*options)
-        client.start_by_events(protocol=protocol)
-        return client
-
-    def served(self, client, number, pages, head=0):
-        """Posts a request, and demands that it is used and called."""
-        client.post_pages(number, pages, head)
-        self.assertEqual(client.called(number), 1)
-        self.assertEqual(client.used(number)[0], client.available[number] & 0xFFFF)
-
-    def unserved(self, client, number):
-        """Demands that nothing is served of a queue for a moment, though it is kicked."""
-        before = client.used(number)
-        client.kick(number)
-        time.sleep(MOMENT)
-        client.counter("kicks")
-        self.assertEqual((client.used(number), client.called(number, 0)), (before, 0))
 
     def test_inflate_and_deflate(self):
         client = self.started("--strict", "--events")
@@ -120,22 +93,6 @@ class Events(Good):
         self.assertEqual(client.backend.ask("ask"), "asked")
         self.assertEqual((client.called(STATISTICS), client.used(STATISTICS)), (1, (1, [(0, 0)])))
 
-    def test_status(self):
-        client = self.client()
-        client.negotiate(protocol=QEMU_PROTOCOL)
-        client.add_memory()
-        answers = []
-        for status in (8, 9, 1, 12, 11, 15, 0x100, 0):
-            answers.append((client.send(SET_STATUS, word(status)) == bytes(8), client.send(GET_STATUS)[0]))
-        accepted = [(True, 8), (True, 9), (False, 9), (False, 9), (True, 11), (True, 15), (False, 15), (True, 0)]
-        self.assertEqual(answers, accepted)
-
-    def test_features_before_the_status_that_stands_on_them(self):
-        client = self.client()
-        client.send(vhost_client.SET_PROTOCOL_FEATURES, word(QEMU_PROTOCOL), flags=1)
-        self.assertNotEqual(client.send(SET_STATUS, word(11)), bytes(8))
-        self.assertEqual(client.send(GET_STATUS), bytes(8))
-
     def test_a_kick_before_the_ring_runs(self):
         client = self.client()
         client.negotiate(protocol=QEMU_PROTOCOL)
@@ -148,13 +105,6 @@ class Events(Good):
         client.enable(INFLATE)
         self.assertEqual((client.called(INFLATE), client.used(INFLATE)[0], client.counter("status")), (1, 1, 15))
 
-    def test_a_driver_that_has_failed(self):
-        client = self.started()
-        client.accepted(SET_STATUS, word(15 | 128))
-        client.post_pages(INFLATE, [FIRST])
-        self.unserved(client, INFLATE)
-        self.assertEqual((client.used(INFLATE)[0], client.counter("status")), (0, 0))
-
     def test_rings_that_begin_enabled(self):
         client = self.client()
         client.send(vhost_client.SET_PROTOCOL_FEATURES, word(QEMU_PROTOCOL & ~STATUS), flags=1)
@@ -163,104 +113,6 @@ class Events(Good):
         client.place(INFLATE)
         client.give_events(INFLATE)
         self.served(client, INFLATE, [FIRST])
-
-    def test_a_device_goes_on_where_it_was(self):
-        client = self.started()
-        self.served(client, INFLATE, [FIRST])
-        self.served(client, DEFLATE, [FIRST])
-        client.accepted(SET_CONFIG, struct.pack("<IIII", 4, 4, 0, 77))
-        bases = [client.stop_ring(number) for number in range(4)]
-        self.assertEqual(bases, [1, 1, 0, 0])
-        client.accepted(SET_STATUS, word(0))
-        self.assertEqual(client.counter("status"), 0)
-        client.accepted(SET_FEATURES, word(FEATURES | vhost_client.HAS_PROTOCOL))
-        client.go_on(bases)
-        self.assertEqual((client.counter("status"), client.counter("actual")), (15, 77))
-        client.called(INFLATE)
-        self.served(client, INFLATE, [FIRST + 1])
-
-    def test_a_status_of_0_before_the_indexes_are_asked_for(self):
-        client = self.started()
-        for page in range(3):
-            self.served(client, INFLATE, [FIRST + page])
-        client.accepted(SET_STATUS, word(0))
-        for number in range(4):
-            client.accepted(SET_VRING_ENABLE, struct.pack("<II", number, 0))
-        self.assertEqual([client.stop_ring(number) for number in range(4)], [3, 0, 0, 0])
-        client.go_on([3, 0, 0, 0])
-        client.called(INFLATE)
-        self.served(client, INFLATE, [FIRST + 9])
-
-    def test_a_new_driver_has_nothing_in_its_balloon(self):
-        client = self.started()
-        self.served(client, INFLATE, [FIRST])
-        client.accepted(SET_CONFIG, struct.pack("<IIII", 4, 4, 0, 77))
-        client.accepted(SET_STATUS, word(0))
-        client.accepted(SET_FEATURES, word(FEATURES | vhost_client.HAS_PROTOCOL))
-        client.go_on()
-        self.assertEqual((client.counter("status"), client.counter("actual")), (15, 0))
-        self.served(client, INFLATE, [FIRST])
-
-    def poisoned(self, *options):
-        """Returns a client whose driver said that its free pages hold 0xff, and the word of PAGE_POISON."""
-        client = self.client("--features", "100000037", *options)
-        client.negotiate(FEATURES | POISON)
-        client.accepted(SET_CONFIG, struct.pack("<IIII", 12, 4, 0, 0xFFFFFFFF))
-        client.start_by_events(features=FEATURES | POISON)
-        return client
-
-    def reported(self, client, page, kept):
-        """Posts a report of a page, and demands that its bytes are kept, or gone."""
-        before = client.backend.counters()
-        client.describe(REPORT, 0, page * PAGE, PAGE, WRITE)
-        client.publish(REPORT, 0)
-        client.kick(REPORT)
-        self.assertEqual(client.called(REPORT), 1)
-        counters = client.backend.counters()
-        self.assertEqual([counters[it] - before[it] for it in ("reported", "kept", "discarded")], [1, kept, 1 - kept])
-        self.assertEqual(client.read(page * PAGE, PAGE), (b"\xff" if kept else b"\0") * PAGE)
-
-    def test_poisoned_reports_are_kept(self):
-        client = self.poisoned()
-        self.reported(client, FIRST, 1)
-        self.served(client, INFLATE, [FIRST + 1])
-        self.assertEqual((client.holes(), client.counter("in_holes")), ([FIRST + 1], 0))
-        client.accepted(SET_CONFIG, struct.pack("<IIII", 12, 4, 0, 0))
-        self.reported(client, FIRST + 2, 0)
-
-    def test_poison_val_is_there_only_where_it_is_offered(self):
-        client = self.started()
-        self.assertNotEqual(client.send(SET_CONFIG, struct.pack("<IIII", 12, 4, 0, 7)), bytes(8))
-        client = self.poisoned()
-        body = struct.pack("<III", 8, 8, 0) + bytes(8)
-        answer = client.send(GET_CONFIG, body, flags=1) or client.receive()[1]
-        self.assertEqual(answer[12:], struct.pack("<II", 0, 0xFFFFFFFF))
-
-    def test_poison_val_stays_while_no_ring_runs(self):
-        client = self.poisoned()
-        bases = [client.stop_ring(number) for number in range(4)]
-        client.accepted(SET_STATUS, word(0))
-        client.accepted(SET_FEATURES, word(FEATURES | POISON | vhost_client.HAS_PROTOCOL))
-        client.go_on(bases)
-        self.reported(client, FIRST, 1)
-        client.accepted(RESET_DEVICE)
-        client.accepted(SET_FEATURES, word(FEATURES | POISON | vhost_client.HAS_PROTOCOL))
-        client.go_on()
-        self.reported(client, FIRST + 1, 0)
-
-    def test_a_reset_forgets_the_rings(self):
-        client = self.started()
-        client.accepted(SET_CONFIG, struct.pack("<IIII", 4, 4, 0, 77))
-        client.accepted(RESET_DEVICE)
-        self.assertEqual((client.counter("status"), client.counter("actual")), (0, 0))
-        self.assertEqual(client.send(GET_STATUS), bytes(8))
-        client.accepted(SET_FEATURES, word(FEATURES | vhost_client.HAS_PROTOCOL))
-        client.accepted(SET_STATUS, word(15))
-        client.post_pages(INFLATE, [FIRST + 1])
-        self.unserved(client, INFLATE)
-        self.assertEqual((client.used(INFLATE)[0], client.stop_ring(INFLATE)), (0, 0))
-        client.go_on()
-        self.served(client, INFLATE, [FIRST + 2])
 
     def test_slots(self):
         client = self.client()
@@ -362,29 +214,3 @@ class Events(Good):
         other.process.stdout.close()
         self.assertEqual(other.close(), 2)
         os.truncate(other.log, 0)
-
-    def test_a_backend_that_is_killed_goes_on(self):
-        client = self.client()
-        state = client.file("state")
-        client.restart("--state", state)
-        client.connect()
-        client.start_by_events()
-        self.served(client, INFLATE, [FIRST])
-        self.served(client, INFLATE, [FIRST + 1])
-        client.backend.ask("target 99")
-        client.accepted(SET_CONFIG, struct.pack("<IIII", 4, 4, 0, 2))
-        client.counter("target")
-        client.post_pages(INFLATE, [FIRST + 2])
-        client.called(INFLATE)
-        client.restart("--state", state, killed=True)
-        client.post_pages(INFLATE, [FIRST + 3])
-        self.assertEqual(client.backend.counters()["target"], 99)
-        client.connect()
-        client.negotiate(protocol=QEMU_PROTOCOL)
-        client.add_memory()
-        client.go_on([client.used(number)[0] for number in range(4)])
-        self.assertEqual((client.counter("status"), client.counter("actual")), (15, 2))
-        self.assertGreater(client.called(INFLATE), 0)
-        self.assertEqual(client.used(INFLATE)[0], 4)
-        self.assertEqual(client.holes(), [FIRST + it for it in range(4)])
-        self.served(client, INFLATE, [FIRST + 4])

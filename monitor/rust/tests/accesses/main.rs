@@ -1,16 +1,12 @@
 //! Each access that a notice makes, in order: over memory that writes down what is asked of it, and what its monitor is told.
 
-use std::cell::RefCell;
-use std::io;
+mod watched;
+
 use std::rc::Rc;
 use std::sync::atomic::Ordering;
-use std::sync::Arc;
-use vb_balloon::{features, Balloon, Cut, Kind, LiveMemory, Monitor, Region, Run, Settings, Spot, Unreachable};
-use vm_memory::guest_memory::{GuestMemoryIterator, Result as Answer};
-use vm_memory::{
-    AtomicAccess, Bytes, FileOffset, GuestAddress, GuestMemory, GuestMemoryMmap, GuestMemoryRegion,
-    GuestRegionMmap, GuestUsize, MemoryRegionAddress, VolatileSlice,
-};
+use vb_balloon::{features, Balloon, Kind, Settings};
+use vm_memory::{Bytes, GuestAddress, GuestMemoryMmap};
+use watched::{Access, Fenced, Log, Memory, Noting, Watched};
 
 const TABLE: u64 = 0x10000;
 const AVAIL: u64 = 0x11000;
@@ -18,189 +14,6 @@ const USED: u64 = 0x12000;
 const BUFFER: u64 = 0x20000;
 const SIZE: u64 = 4;
 const LINUX: u64 = features::VERSION_1 | 0x27;
-
-/// What is asked of memory, or told to the monitor; places are the guest's.
-#[derive(Clone, Debug, PartialEq, Eq)]
-enum Access {
-    Load(u64),
-    Read(u64, usize),
-    Store(u64, Vec<u8>),
-    Fence(Ordering),
-    Told(Kind, Vec<(u32, u32)>),
-    Figures(usize),
-    Discard(u64, u64),
-}
-
-type Log = Rc<RefCell<Vec<Access>>>;
-
-/// A region that writes down what is asked of it.
-struct Watched {
-    region: Arc<GuestRegionMmap>,
-    log: Log,
-}
-
-impl Watched {
-    fn note(&self, access: impl FnOnce(u64) -> Access, at: MemoryRegionAddress) {
-        self.log.borrow_mut().push(access(self.region.start_addr().0 + at.0));
-    }
-}
-
-impl Bytes<MemoryRegionAddress> for Watched {
-    type E = vm_memory::GuestMemoryError;
-
-    fn write(&self, bytes: &[u8], at: MemoryRegionAddress) -> Answer<usize> {
-        self.note(|address| Access::Store(address, bytes.to_vec()), at);
-        self.region.write(bytes, at)
-    }
-
-    fn read(&self, bytes: &mut [u8], at: MemoryRegionAddress) -> Answer<usize> {
-        self.note(|address| Access::Read(address, bytes.len()), at);
-        self.region.read(bytes, at)
-    }
-
-    fn write_slice(&self, bytes: &[u8], at: MemoryRegionAddress) -> Answer<()> {
-        self.note(|address| Access::Store(address, bytes.to_vec()), at);
-        self.region.write_slice(bytes, at)
-    }
-
-    fn read_slice(&self, bytes: &mut [u8], at: MemoryRegionAddress) -> Answer<()> {
-        self.note(|address| Access::Read(address, bytes.len()), at);
-        self.region.read_slice(bytes, at)
-    }
-
-    fn read_from<F: io::Read>(&self, _: MemoryRegionAddress, _: &mut F, _: usize) -> Answer<usize> {
-        unreachable!("the crate reads no stream into memory")
-    }
-
-    fn read_exact_from<F: io::Read>(&self, _: MemoryRegionAddress, _: &mut F, _: usize) -> Answer<()> {
-        unreachable!("the crate reads no stream into memory")
-    }
-
-    fn write_to<F: io::Write>(&self, _: MemoryRegionAddress, _: &mut F, _: usize) -> Answer<usize> {
-        unreachable!("the crate writes memory to no stream")
-    }
-
-    fn write_all_to<F: io::Write>(&self, _: MemoryRegionAddress, _: &mut F, _: usize) -> Answer<()> {
-        unreachable!("the crate writes memory to no stream")
-    }
-
-    fn store<T: AtomicAccess>(&self, word: T, at: MemoryRegionAddress, order: Ordering) -> Answer<()> {
-        self.note(|address| Access::Store(address, word.as_slice().to_vec()), at);
-        self.region.store(word, at, order)
-    }
-
-    fn load<T: AtomicAccess>(&self, at: MemoryRegionAddress, order: Ordering) -> Answer<T> {
-        self.note(Access::Load, at);
-        self.region.load(at, order)
-    }
-}
-
-impl GuestMemoryRegion for Watched {
-    type B = ();
-
-    fn len(&self) -> GuestUsize {
-        self.region.len()
-    }
-
-    fn start_addr(&self) -> GuestAddress {
-        self.region.start_addr()
-    }
-
-    fn bitmap(&self) -> &() {
-        &()
-    }
-
-    fn file_offset(&self) -> Option<&FileOffset> {
-        self.region.file_offset()
-    }
-
-    fn get_slice(&self, at: MemoryRegionAddress, count: usize) -> Answer<VolatileSlice<'_, ()>> {
-        self.note(|address| Access::Read(address, count), at);
-        self.region.get_slice(at, count)
-    }
-}
-
-/// Two regions with a hole between them, from 0 to 2 MiB and from 4 MiB to 6 MiB.
-struct Memory {
-    regions: Vec<Watched>,
-}
-
-struct Regions;
-
-impl<'a> GuestMemoryIterator<'a, Watched> for Regions {
-    type Iter = std::slice::Iter<'a, Watched>;
-}
-
-impl GuestMemory for Memory {
-    type R = Watched;
-    type I = Regions;
-
-    fn num_regions(&self) -> usize {
-        self.regions.len()
-    }
-
-    fn find_region(&self, address: GuestAddress) -> Option<&Watched> {
-        self.regions.iter().find(|it| it.start_addr() <= address && address <= it.last_addr())
-    }
-
-    fn iter(&self) -> std::slice::Iter<'_, Watched> {
-        self.regions.iter()
-    }
-}
-
-/// The same memory, of which the fences are written down, too.
-struct Fenced<'a>(&'a Memory, Log);
-
-impl LiveMemory for Fenced<'_> {
-    fn regions(&self, out: &mut Vec<Region>) {
-        self.0.regions(out);
-    }
-
-    fn word(&self, at: Spot) -> Result<u16, Unreachable> {
-        self.0.word(at)
-    }
-
-    fn copy(&self, at: Spot, to: &mut [u8]) -> Result<(), Unreachable> {
-        self.0.copy(at, to)
-    }
-
-    fn write_number(&self, at: Spot, number: u32) -> Result<(), Unreachable> {
-        self.0.write_number(at, number)
-    }
-
-    fn write_word(&self, at: Spot, word: u16) -> Result<(), Unreachable> {
-        self.0.write_word(at, word)
-    }
-
-    fn fence(&self, order: Ordering) {
-        self.1.borrow_mut().push(Access::Fence(order));
-    }
-
-    fn discard(&self, cut: &Cut) -> io::Result<()> {
-        self.0.discard(cut)
-    }
-}
-
-/// A monitor that writes down what it is told, and what it is to discard.
-struct Noting(Log);
-
-impl Monitor for Noting {
-    fn pages(&mut self, kind: Kind, runs: &[Run]) {
-        let runs = runs.iter().map(|it| (it.first, it.count)).collect();
-        self.0.borrow_mut().push(Access::Told(kind, runs));
-    }
-
-    fn statistics(&mut self, figures: &[vb_balloon::Statistic]) {
-        self.0.borrow_mut().push(Access::Figures(figures.len()));
-    }
-
-    fn discard(&mut self, memory: &dyn LiveMemory, cut: &Cut) -> io::Result<()> {
-        let mut regions = Vec::new();
-        memory.regions(&mut regions);
-        self.0.borrow_mut().push(Access::Discard(regions[cut.region].guest + cut.offset, cut.length));
-        Ok(())
-    }
-}
 
 /// Guest memory, what was noted of it, and a device whose queues lie on three pages each.
 struct Guest {
@@ -271,8 +84,7 @@ impl Guest {
 /// The index, behind a fence the entry, and each descriptor of a chain, in this order.
 fn taken(kind: Kind, descriptors: u64) -> Vec<Access> {
     let at = |part| place(kind, part);
-    let mut accesses =
-        vec![Access::Load(at(AVAIL) + 2), Access::Fence(Ordering::Acquire), Access::Load(at(AVAIL) + 4)];
+    let mut accesses = vec![Access::Load(at(AVAIL) + 2), Access::Fence(Ordering::Acquire), Access::Load(at(AVAIL) + 4)];
     accesses.extend((0..descriptors).map(|number| Access::Read(at(TABLE) + 16 * number, 16)));
     accesses
 }

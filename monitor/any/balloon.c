@@ -1,0 +1,66 @@
+/* A balloon over any regions, and notices that begin or go on anyhow. */
+#include "any.h"
+
+static VbBalloon any_balloon(void)
+{
+    VbBalloon balloon = { .device = any_device(), .held = once_in(2) ? 0 : (uint32_t)any_number() };
+    return balloon;
+}
+
+static bool same_balloon(const VbBalloon *one, const VbBalloon *other)
+{
+    return same(&one->device, &other->device) && one->held == other->held;
+}
+
+void call_over(void)
+{
+    VbBalloon before = any_balloon(), balloon = before, twin = before;
+    size_t count;
+    VbRegion *regions = any_regions(&count);
+    VbSettings settings = before.device.settings;
+    uint32_t kind = (uint32_t)any_number(), then = 7, why = 7;
+    uint16_t size = (uint16_t)(once_in(2) ? any_number() : 2u << any() % 8);
+    uint64_t table = any() % (24 << 20) & ~UINT64_C(15), avail = any() % (24 << 20) & ~UINT64_C(1);
+    uint64_t used = any() % (24 << 20) & ~UINT64_C(3);
+    settings.memory_end = once_in(2) ? 0 : any_number();
+    uint32_t code = vb_new_over(&balloon, settings, regions, count);
+    EXPECT(code == reference_new_over(&twin, settings, regions, count));
+    EXPECT(same_balloon(&balloon, code == VB_OK ? &twin : &before));
+    balloon = twin = before;
+    code = vb_set_regions(&balloon, regions, count);
+    EXPECT(code == reference_set_regions(&twin, regions, count) && same_balloon(&balloon, &twin));
+    EXPECT(code == VB_OK || same_balloon(&balloon, &before));
+    balloon.device.status = twin.device.status = before.device.status = once_in(8) ? (uint8_t)any() : 11;
+    before = balloon;
+    code = vb_place_over(&balloon, regions, count, kind % 5, table, avail, used, size);
+    EXPECT(code == reference_place_over(&twin, regions, count, kind % 5, table, avail, used, size));
+    EXPECT(same_balloon(&balloon, &twin));
+    EXPECT(code == VB_OK || same_balloon(&balloon, &before));
+    answers[code]++;
+    uint8_t status = (uint8_t)any_number();
+    EXPECT(vb_set_status(&balloon, status, &then) == reference_set_status(&twin, status, &why) && then == why);
+    EXPECT(same_balloon(&balloon, &twin));
+}
+
+/* A notice begins as the plain one does, and one that no call made is answered, and writes nowhere else. */
+void call_notice(void)
+{
+    static VbRoom other;
+    VbBalloon balloon = any_balloon(), twin = balloon;
+    size_t count;
+    VbRegion *regions = any_regions(&count);
+    VbNotice *notice = list_of(1, sizeof *notice), why;
+    VbRoom *room = list_of(2, sizeof *room);
+    uint32_t kind = once_in(8) ? (uint32_t)any_number() : any() % 4, chains = any() % 3, pages = (uint32_t)any_number();
+    uint32_t what = vb_begin(notice, &balloon, regions, count, room, kind, chains, pages);
+    uint32_t first = reference_begin(&why, &twin, regions, count, &other, kind, chains, pages);
+    EXPECT(what == notice->what && (what & -what) == first && same_balloon(&balloon, &twin));
+    EXPECT(what || (notice->code == why.code && notice->more == why.more && notice->configuration == why.configuration));
+    answers[what ? VB_OK : notice->code]++;
+    for (int i = 0; i < 4; i++) {
+        for (size_t at = 0; at < sizeof *notice && !once_in(4); at += 8)
+            memcpy((uint8_t *)notice + at, &(uint64_t){ once_in(2) ? any_number() : any() % 300 }, 8);
+        if (vb_go_on(notice, &balloon, regions, count, room, (uint16_t)any()) == 0)
+            EXPECT(notice->what == 0);
+    }
+}

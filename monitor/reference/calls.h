@@ -1,0 +1,29 @@
+/* The calls of the plain implementation, where it is linked beside the library (names.h has its other names). */
+#ifndef REFERENCE_CALLS_H
+#define REFERENCE_CALLS_H
+#include "vb.h"
+
+uint32_t reference_kind(const VbDevice *, uint32_t);
+uint32_t reference_place(VbDevice *, uint32_t, uint64_t, uint64_t, uint64_t, uint16_t);
+uint32_t reference_write_status(VbDevice *, uint8_t);
+uint32_t reference_write_config(VbDevice *, uint32_t, const uint8_t *, size_t);
+void reference_read_config(const VbDevice *, uint32_t, uint8_t *, size_t);
+uint32_t reference_keeps_reports(const VbDevice *);
+uint32_t reference_negotiate(VbDevice *, uint64_t);
+VbChain reference_next(VbDevice *, uint32_t, const uint8_t *, size_t, const uint8_t *, size_t, VbPiece *, size_t);
+VbNamed reference_name(VbDevice *, uint32_t, const uint8_t *, size_t, VbRun *, size_t);
+VbNamed reference_report(VbDevice *, const uint8_t *, size_t, const uint8_t *, size_t, VbRun *, size_t);
+VbFigures reference_statistics(VbDevice *, const uint8_t *, size_t, VbStatistic *, size_t);
+VbUsed reference_use(VbDevice *, uint32_t, uint32_t);
+VbLarge reference_large_pages(const VbDevice *, const VbRegion *, uint64_t, const VbCut *, const uint64_t *, size_t);
+VbMarked reference_mark(uint32_t, const VbRun *, size_t, uint64_t *, size_t);
+uint32_t reference_is_ballooned(const uint64_t *, size_t, uint32_t);
+uint64_t reference_count_ballooned(const uint64_t *, size_t);
+uint32_t reference_begin(VbNotice *, VbBalloon *, const VbRegion *, size_t, VbRoom *, uint32_t, uint32_t, uint32_t);
+uint32_t reference_ask(VbNotice *, VbBalloon *, const VbRegion *, size_t, VbRoom *);
+uint32_t reference_go_on(VbNotice *, VbBalloon *, const VbRegion *, size_t, VbRoom *, uint16_t);
+uint32_t reference_new_over(VbBalloon *, VbSettings, const VbRegion *, size_t);
+uint32_t reference_set_regions(VbBalloon *, const VbRegion *, size_t);
+uint32_t reference_place_over(VbBalloon *, const VbRegion *, size_t, uint32_t, uint64_t, uint64_t, uint64_t, uint16_t);
+uint32_t reference_set_status(VbBalloon *, uint8_t, uint32_t *);
+#endif

@@ -1,0 +1,110 @@
+/* Settings, status, features and configuration of vb.h in plain C, a part of reference.c. */
+
+enum { ACKNOWLEDGE = 1, DRIVER = 2, DRIVER_OK = 4, FEATURES_OK = 8, NEEDS_RESET = 64, FAILED = 128 };
+enum { MUST_TELL_HOST = 1, STATS_VQ = 2, REPORTING = 32, PAGE = 4096, REPORT_PIECES = 32, STATISTICS_BYTES = 1020 };
+enum { BAD_HEAD = 1, BAD_NEXT, TOO_LONG, INDIRECT, WRONG_DIRECTION, OUT_OF_MEMORY, INDEX_JUMP, BAD_LENGTH, BAD_PAGE,
+       RESERVED_PAGE };
+static const uint64_t VERSION_1 = 1ull << 32;
+static const uint64_t KNOWN = 1ull << 32 | 0x37;
+static const uint64_t MOST_MEMORY = 1ull << 44;
+
+static uint64_t little(const uint8_t *bytes, int count)
+{
+    uint64_t value = 0;
+    memcpy(&value, bytes, (size_t)count);
+#if __BYTE_ORDER__ == __ORDER_BIG_ENDIAN__
+    value = __builtin_bswap64(value);
+#endif
+    return value;
+}
+
+static uint64_t page_count(const VbDevice *device) { return device->settings.memory_end / PAGE; }
+
+static bool are_impossible(const VbSettings *settings)
+{
+    return settings->memory_end < 2 * PAGE || settings->memory_end >= MOST_MEMORY || (settings->offered & ~KNOWN)
+        || !(settings->offered & VERSION_1);
+}
+
+uint32_t vb_new(VbDevice *device, VbSettings settings)
+{
+    memset(device, 0, sizeof *device);
+    if (are_impossible(&settings))
+        return VB_BAD_ARGUMENT;
+    device->settings = settings;
+    return VB_OK;
+}
+
+void vb_set_target(VbDevice *device, uint32_t pages) { device->target = pages; }
+
+static void reset(VbDevice *device)
+{
+    VbDevice fresh = { .settings = device->settings, .target = device->target };
+    *device = fresh;
+}
+
+/* Whether these new bits don't follow on this status (VIRTIO 1.1, 2.1 and 3.1.1). */
+static bool out_of_order(uint8_t status, uint8_t added)
+{
+    uint8_t steps = added & (ACKNOWLEDGE | DRIVER | FEATURES_OK | DRIVER_OK);
+    return (steps & (steps - 1)) != 0
+        || (steps == DRIVER && !(status & ACKNOWLEDGE))
+        || (steps == FEATURES_OK && !(status & DRIVER))
+        || (steps == DRIVER_OK && !(status & FEATURES_OK))
+        || (added & (16 | 32 | NEEDS_RESET))
+        || (steps && (added & FAILED))
+        || (steps && (status & (NEEDS_RESET | FAILED)));
+}
+
+uint32_t vb_write_status(VbDevice *device, uint8_t status)
+{
+    uint8_t added = status & ~device->status;
+    if (status == 0) {
+        reset(device);
+        return 0;
+    }
+    if (device->status & ~status)
+        return 1;
+    if (out_of_order(device->status, added))
+        return 2;
+    if ((added & FEATURES_OK) && !(device->features & VERSION_1))
+        return 5;
+    if ((added & FEATURES_OK) && device->settings.needs_must_tell && !(device->features & MUST_TELL_HOST))
+        return 4;
+    device->status = status;
+    return 0;
+}
+
+uint32_t vb_negotiate(VbDevice *device, uint64_t features)
+{
+    if (device->status != (ACKNOWLEDGE | DRIVER))
+        return 2;
+    if (features & ~device->settings.offered)
+        return 3;
+    device->features = features;
+    return 0;
+}
+
+void vb_read_config(const VbDevice *device, uint32_t offset, uint8_t *out, size_t length)
+{
+    uint32_t poison = device->settings.offered & VB_F_PAGE_POISON ? device->poison : 0;
+    const uint32_t words[4] = { device->target, device->actual, 0, poison };
+    for (size_t i = 0; i < length; i++) {
+        uint64_t at = (uint64_t)offset + i;
+        out[i] = at < sizeof words ? (uint8_t)(words[at / 4] >> 8 * (at % 4)) : 0;
+    }
+}
+
+uint32_t vb_write_config(VbDevice *device, uint32_t offset, const uint8_t *bytes, size_t length)
+{
+    bool poison = offset == 12 && (device->settings.offered & VB_F_PAGE_POISON);
+    if ((offset != 4 && !poison) || length != 4)
+        return VB_BAD_ARGUMENT;
+    *(poison ? &device->poison : &device->actual) = (uint32_t)little(bytes, 4);
+    return VB_OK;
+}
+
+uint32_t vb_keeps_reports(const VbDevice *device)
+{
+    return (device->features & VB_F_PAGE_POISON) && device->poison != 0;
+}

@@ -1,0 +1,195 @@
+/* Notices of vb.h in plain C, a part of reference.c: a look at a queue, and a chain. As much at once as the order of the bits
+ * allows, as the library has it; and one thing at a time where it explains what the library says (REFERENCE_NAMES). */
+
+enum { SIXTEEN = 16 };
+#ifdef REFERENCE_NAMES
+enum { GROUPS = false, MOST_AT_ONCE = 1 };
+#else
+enum { GROUPS = true, MOST_AT_ONCE = VB_MAX_CUTS };
+#endif
+
+/* What a notice waits for, in its field `phase`. */
+enum phase { NO_PHASE, AT_INDEX, AT_ENTRY, AT_WORD, AT_DESCRIPTOR, AT_PART, AT_TOLD, AT_FIGURES, AT_CUT, AT_GIVEN, AT_FLAGS,
+             AT_FLAG_WORD };
+
+/* All that a call works on. */
+typedef struct {
+    VbNotice *notice;
+    VbBalloon *balloon;
+    VbQueue *queue;
+    const VbRegion *regions;
+    size_t count;
+    VbRoom *room;
+} Call;
+
+static bool find_spot(const Call *call, uint64_t address, uint64_t length, VbSpot *spot)
+{
+    return find_within(call->regions, call->count, address, length, spot);
+}
+
+static uint32_t wait_for(const Call *call, enum phase phase, uint32_t what)
+{
+    call->notice->phase = (uint8_t)phase;
+    return call->notice->what = what;
+}
+
+/* ---- how a notice ends */
+
+static uint32_t stop(const Call *call, uint32_t code)
+{
+    VbNotice *notice = call->notice;
+    bool served = notice->given || notice->taken;
+    notice->code = code != VB_NOTHING ? code : served ? VB_OK : VB_NOTHING;
+    notice->configuration = notice->code == VB_BROKEN;
+    return wait_for(call, NO_PHASE, 0);
+}
+
+/* Where a chain was given back, the driver is asked whether it wants an interrupt. `code` is kept for the end. */
+static uint32_t end(const Call *call, uint32_t code)
+{
+    call->notice->code = code;
+    if (!call->notice->given || !find_spot(call, call->queue->avail, 2, &call->notice->at))
+        return stop(call, code);
+    return wait_for(call, AT_FLAGS, VB_FULL_FENCE);
+}
+
+static uint32_t fail(const Call *call, uint32_t rule)
+{
+    call->balloon->device.status |= NEEDS_RESET;
+    call->notice->rule = rule;
+    return end(call, VB_BROKEN);
+}
+
+/* ---- a look at a queue */
+
+static uint32_t look(const Call *call)
+{
+    uint32_t code = refusal(&call->balloon->device, call->notice->kind, call->queue);
+    if (code != VB_OK)
+        return end(call, code);
+    if (!find_spot(call, call->queue->avail + 2, 2, &call->notice->at))
+        return fail(call, OUT_OF_MEMORY);
+    return wait_for(call, AT_INDEX, VB_READ);
+}
+
+static uint32_t after_index(const Call *call, uint16_t index)
+{
+    VbNotice *notice = call->notice;
+    uint16_t ahead = (uint16_t)(index - call->queue->next_avail);
+    if (ahead > call->queue->size)
+        return fail(call, INDEX_JUMP);
+    if (ahead == 0)
+        return end(call, VB_NOTHING);
+    if (notice->chains_left == 0 || notice->pages_left == 0) {
+        notice->more = 1;
+        return end(call, VB_NOTHING);
+    }
+    notice->chains_left--;
+    if (!find_spot(call, call->queue->avail + 4 + 2 * (call->queue->next_avail % call->queue->size), 2, &notice->at))
+        return fail(call, OUT_OF_MEMORY);
+    return wait_for(call, AT_ENTRY, VB_ACQUIRE);
+}
+
+/* ---- a chain */
+
+static uint32_t ask_descriptor(const Call *call, uint16_t number)
+{
+    VbNotice *notice = call->notice;
+    if (!find_spot(call, call->queue->table + SIXTEEN * (uint64_t)number, SIXTEEN, &notice->at))
+        return fail(call, OUT_OF_MEMORY);
+    notice->length = SIXTEEN;
+    notice->into = 0;
+    return wait_for(call, AT_DESCRIPTOR, VB_COPY);
+}
+
+static uint32_t after_entry(const Call *call, uint16_t head)
+{
+    if (head >= call->queue->size)
+        return fail(call, BAD_HEAD);
+    call->notice->head = head;
+    call->notice->count = 0;
+    call->notice->flag = 0;
+    return ask_descriptor(call, head);
+}
+
+static uint32_t serve_bytes(const Call *call);
+static uint32_t tell_pages(const Call *call, const VbNamed *named);
+
+/* Asks for the next part of the pieces, each within a page; `number` is the piece, `flag` says that its first part is
+ * copied, `from` how many bytes are. */
+static uint32_t ask_part(const Call *call)
+{
+    VbNotice *notice = call->notice;
+    for (; notice->number < notice->count; notice->number++, notice->flag = 0) {
+        const VbPiece piece = call->room->pieces[notice->number];
+        uint32_t first = (uint32_t)(REGION_PAGE - piece.address % REGION_PAGE);
+        first = first < piece.length ? first : piece.length;
+        uint32_t length = notice->flag ? piece.length - first : first;
+        if (length == 0)
+            continue;
+        if (notice->from > VB_MAX_BYTES || length > VB_MAX_BYTES - notice->from)
+            return fail(call, BAD_LENGTH);
+        if (!find_spot(call, piece.address + (notice->flag ? first : 0), length, &notice->at))
+            return fail(call, OUT_OF_MEMORY);
+        notice->length = length;
+        notice->into = (uint32_t)notice->from;
+        return wait_for(call, AT_PART, VB_COPY);
+    }
+    return serve_bytes(call);
+}
+
+static uint32_t after_part(const Call *call)
+{
+    VbNotice *notice = call->notice;
+    notice->from += notice->length;
+    notice->number += notice->flag != 0;
+    notice->flag = !notice->flag;
+    return ask_part(call);
+}
+
+/* The pages of a report, whose pieces stand in the room. */
+static uint32_t serve_report(const Call *call)
+{
+    VbDevice *device = &call->balloon->device;
+    VbNamed named = { .code = VB_OK };
+    uint32_t count = call->notice->count, rule = report_rule(device, call->room->pieces, count);
+    if (rule)
+        return fail(call, rule);
+    for (; named.runs < count; named.runs++) {
+        const VbPiece piece = call->room->pieces[named.runs];
+        call->room->runs[named.runs] = (VbRun){ (uint32_t)(piece.address / PAGE), piece.length / PAGE };
+        named.pages += piece.length / PAGE;
+    }
+    device->report.next_avail++;
+    return tell_pages(call, &named);
+}
+
+static uint32_t serve_chain(const Call *call)
+{
+    VbNotice *notice = call->notice;
+    uint64_t total = 0;
+    if (notice->kind == VB_REPORT)
+        return serve_report(call);
+    for (uint32_t i = 0; i < notice->count; i++)
+        total += call->room->pieces[i].length;
+    uint32_t rule = buffer_rule(notice->kind, call->room->pieces, notice->count, total);
+    if (rule)
+        return fail(call, rule);
+    notice->number = 0, notice->flag = 0, notice->from = 0;
+    return ask_part(call);
+}
+
+static uint32_t after_descriptor(const Call *call)
+{
+    VbNotice *notice = call->notice;
+    Descriptor it = descriptor_at(call->room->bytes, 0);
+    uint32_t rule = notice->count >= call->queue->size ? (uint32_t)TOO_LONG
+        : broken_rule(&call->balloon->device, call->queue->size, &it, notice->count, notice->flag);
+    if (rule)
+        return fail(call, rule);
+    notice->flag = (it.flags & 2) != 0;
+    call->room->pieces[notice->count++] = (VbPiece){ it.address, it.length, notice->flag };
+    if (!(it.flags & 1))
+        return serve_chain(call);
+    return notice->count >= call->queue->size ? fail(call, TOO_LONG) : ask_descriptor(call, it.next);
+}

@@ -1,0 +1,76 @@
+/* Where queues stand, and what calls are refused for by status, features and place, in plain C, a part of reference.c. */
+
+uint32_t vb_kind(const VbDevice *device, uint32_t number)
+{
+    bool statistics = device->features & STATS_VQ, report = device->features & REPORTING;
+    if (number < 2)
+        return number;
+    if (number == 2 && statistics)
+        return VB_STATISTICS;
+    return report && number == 2u + statistics ? VB_REPORT : VB_NO_KIND;
+}
+
+static VbQueue *queue_of(VbDevice *device, uint32_t kind)
+{
+    VbQueue *queues[] = { &device->inflate, &device->deflate, &device->statistics, &device->report };
+    return kind < VB_NO_KIND ? queues[kind] : NULL;
+}
+
+static bool lacks_feature(const VbDevice *device, uint32_t kind)
+{
+    return (kind == VB_STATISTICS && !(device->features & STATS_VQ))
+        || (kind == VB_REPORT && !(device->features & REPORTING));
+}
+
+/* Whether a part of a ring may not stand there. */
+static bool misplaced(const VbDevice *device, uint64_t address, uint64_t alignment, uint64_t length)
+{
+    uint64_t end = device->settings.memory_end;
+    return address % alignment || address > end || length > end - address;
+}
+
+/* Whether this is no ring (VIRTIO 1.1, 2.6). */
+static bool has_no_place(const VbDevice *device, const VbQueue *queue)
+{
+    uint16_t size = queue->size;
+    return size < 2 || size > VB_MAX_QUEUE_SIZE || (size & (size - 1)) || misplaced(device, queue->table, 16, 16u * size)
+        || misplaced(device, queue->avail, 2, 6 + 2u * size) || misplaced(device, queue->used, 4, 6 + 8u * size);
+}
+
+uint32_t vb_place(VbDevice *device, uint32_t kind, uint64_t table, uint64_t avail, uint64_t used, uint16_t size)
+{
+    VbQueue *queue = queue_of(device, kind);
+    if (!queue)
+        return VB_NO_QUEUE;
+    if ((device->status & DRIVER_OK) || are_impossible(&device->settings))
+        return VB_BAD_ARGUMENT;
+    if (lacks_feature(device, kind))
+        return VB_NO_QUEUE;
+    const VbQueue placed = { .table = table, .avail = avail, .used = used, .size = size };
+    if (has_no_place(device, &placed))
+        return VB_MISPLACED;
+    *queue = placed;
+    return VB_OK;
+}
+
+/* What a call is refused for by the status, the features and the queue's place. */
+static uint32_t refusal(const VbDevice *device, uint32_t kind, const VbQueue *queue)
+{
+    if (are_impossible(&device->settings))
+        return VB_BAD_ARGUMENT;
+    if (!(device->status & DRIVER_OK) || (device->status & FAILED))
+        return VB_NOT_READY;
+    if (device->status & NEEDS_RESET)
+        return VB_NEEDS_RESET;
+    if (lacks_feature(device, kind))
+        return VB_NO_QUEUE;
+    return has_no_place(device, queue) ? VB_MISPLACED : VB_OK;
+}
+
+static uint32_t ring_refusal(const VbDevice *device, uint32_t kind, const VbQueue *queue, size_t avail, size_t table)
+{
+    uint32_t code = refusal(device, kind, queue);
+    if (code == VB_OK && (avail != 4 + 2u * queue->size || table != 16u * queue->size))
+        return VB_MISPLACED;
+    return code;
+}

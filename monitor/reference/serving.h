@@ -1,0 +1,180 @@
+/* What a notice serves once its chain is read, and the calls of a notice, in plain C, a part of reference.c. */
+
+/* ---- what a chain comes to */
+
+static uint32_t give_back(const Call *call)
+{
+    VbNotice *notice = call->notice;
+    VbUsed used = vb_use(&call->balloon->device, notice->kind, notice->head);
+    if (used.code != VB_OK)
+        return end(call, used.code);
+    if (!find_spot(call, used.element_at, 4, &notice->id_at) || !find_spot(call, used.element_at + 4, 4, &notice->length_at)
+        || !find_spot(call, used.index_at, 2, &notice->index_at))
+        return fail(call, OUT_OF_MEMORY);
+    notice->id = used.id;
+    notice->used_length = used.length;
+    notice->used_index = used.index;
+    return wait_for(call, AT_GIVEN, VB_GIVE_BACK);
+}
+
+/* The part of a run's pages that lies in the region of this number, if one does. */
+static bool cut_of(const Call *call, size_t number, VbRun run, VbCut *cut)
+{
+    const VbRegion *region = &call->regions[number];
+    uint64_t first = region->guest / REGION_PAGE, last = (region->guest + region->length) / REGION_PAGE;
+    uint64_t behind = (uint64_t)run.first + run.count;
+    if (!is_region(region))
+        return false;
+    first = first > run.first ? first : run.first;
+    last = last < behind ? last : behind;
+    if (first >= last)
+        return false;
+    uint64_t offset = first * REGION_PAGE - region->guest;
+    *cut = (VbCut){ number, offset, region->in_file + offset, (last - first) * REGION_PAGE };
+    return true;
+}
+
+/* Asks for the next part of a run, from run `number` and region `from` on. */
+static uint32_t ask_cut(const Call *call)
+{
+    VbNotice *notice = call->notice;
+    if (notice->kind == VB_DEFLATE || (notice->kind == VB_REPORT && vb_keeps_reports(&call->balloon->device)))
+        return give_back(call);
+    uint32_t cuts = 0;
+    for (; notice->number < notice->runs && notice->number < VB_MAX_RUNS && cuts < MOST_AT_ONCE;
+         notice->number += notice->from == 0) {
+        for (; notice->from < call->count && cuts < MOST_AT_ONCE; notice->from++)
+            cuts += cut_of(call, notice->from, call->room->runs[notice->number], &call->room->cuts[cuts]);
+        notice->from = notice->from < call->count ? notice->from : 0;
+    }
+    if (cuts == 0)
+        return give_back(call);
+    notice->cuts = cuts;
+    return wait_for(call, AT_CUT, VB_DISCARD);
+}
+
+static uint32_t tell_pages(const Call *call, const VbNamed *named)
+{
+    VbNotice *notice = call->notice;
+    if (named->code != VB_OK) {
+        notice->rule = named->rule;
+        return end(call, named->code);
+    }
+    notice->runs = named->runs;
+    notice->pages = named->pages;
+    notice->skipped = named->skipped;
+    notice->pages_left = named->pages < notice->pages_left ? notice->pages_left - named->pages : 0;
+    notice->number = 0, notice->from = 0;
+    return wait_for(call, AT_TOLD, VB_TELL_PAGES);
+}
+
+static uint32_t serve_bytes(const Call *call)
+{
+    VbNotice *notice = call->notice;
+    VbDevice *device = &call->balloon->device;
+    size_t length = notice->from;
+    if (notice->kind != VB_STATISTICS) {
+        VbNamed named = vb_name(device, notice->kind, call->room->bytes, length, call->room->runs, VB_MAX_RUNS);
+        return tell_pages(call, &named);
+    }
+    VbFigures said = vb_statistics(device, call->room->bytes, length, call->room->figures, VB_MAX_FIGURES);
+    if (said.code != VB_OK)
+        return end(call, said.code);
+    notice->figures = said.count;
+    notice->taken = 1;
+    call->balloon->held = 1 + notice->head;
+    return wait_for(call, AT_FIGURES, VB_TELL_FIGURES);
+}
+
+static uint32_t after_given(const Call *call)
+{
+    call->notice->given = 1;
+    if (call->notice->kind != VB_STATISTICS)
+        return look(call);
+    call->balloon->held = 0;
+    return end(call, VB_NOTHING);
+}
+
+static uint32_t after_flags(const Call *call, uint16_t flags)
+{
+    call->notice->interrupt = !(flags & 1);
+    return stop(call, call->notice->code);
+}
+
+/* ---- the calls */
+
+/* What is to be done once that was done which was to be done. */
+static uint32_t step(const Call *call, uint16_t answer)
+{
+    VbNotice *notice = call->notice;
+    bool holds = notice->count <= VB_MAX_PIECES && notice->runs <= VB_MAX_RUNS && notice->length <= VB_MAX_BYTES
+        && notice->cuts <= VB_MAX_CUTS;
+    if (!call->queue || !holds || call->queue->size > VB_MAX_QUEUE_SIZE || (call->queue->size == 0 && notice->phase != NO_PHASE))
+        return stop(call, VB_BAD_ARGUMENT);
+    switch (notice->phase) {
+    case AT_INDEX: return after_index(call, answer);
+    case AT_ENTRY: return wait_for(call, AT_WORD, VB_READ);
+    case AT_WORD: return after_entry(call, answer);
+    case AT_DESCRIPTOR: return notice->count < VB_MAX_PIECES ? after_descriptor(call) : stop(call, VB_BAD_ARGUMENT);
+    case AT_PART: return after_part(call);
+    case AT_TOLD: case AT_CUT: return ask_cut(call);
+    case AT_FIGURES: return end(call, VB_NOTHING);
+    case AT_GIVEN: return after_given(call);
+    case AT_FLAGS: return wait_for(call, AT_FLAG_WORD, VB_READ);
+    case AT_FLAG_WORD: return after_flags(call, answer);
+    default: return notice->what ? stop(call, VB_BAD_ARGUMENT) : 0;
+    }
+}
+
+/* Adds what needs no answer of what is to be done now, as long as its bit comes behind the others. */
+static uint32_t grouped(const Call *call)
+{
+    VbNotice *notice = call->notice, before;
+    while (GROUPS && notice->what && !(notice->what & (VB_READ | VB_COPY))) {
+        VbBalloon balloon = *call->balloon;
+        VbCut cuts[VB_MAX_CUTS];
+        size_t kept = notice->cuts <= VB_MAX_CUTS ? notice->cuts * sizeof cuts[0] : 0;
+        memcpy(cuts, call->room->cuts, kept);
+        before = *notice;
+        uint32_t next = step(call, 0);
+        if (next <= before.what) {
+            memcpy(call->room->cuts, cuts, kept);
+            *call->balloon = balloon;
+            *notice = before;
+            break;
+        }
+        notice->what = before.what | next;
+    }
+    return notice->what;
+}
+
+uint32_t vb_begin(VbNotice *notice, VbBalloon *balloon, const VbRegion *regions, size_t count, VbRoom *room, uint32_t kind,
+                  uint32_t chains, uint32_t pages)
+{
+    const Call call = { notice, balloon, queue_of(&balloon->device, kind), regions, count, room };
+    memset(notice, 0, sizeof *notice);
+    notice->kind = kind;
+    notice->chains_left = chains;
+    notice->pages_left = pages;
+    if (!call.queue)
+        return stop(&call, VB_NO_QUEUE);
+    kind == VB_STATISTICS && balloon->held ? stop(&call, VB_NOTHING) : look(&call);
+    return grouped(&call);
+}
+
+uint32_t vb_ask(VbNotice *notice, VbBalloon *balloon, const VbRegion *regions, size_t count, VbRoom *room)
+{
+    const Call call = { notice, balloon, &balloon->device.statistics, regions, count, room };
+    memset(notice, 0, sizeof *notice);
+    notice->kind = VB_STATISTICS;
+    notice->head = (uint16_t)(balloon->held - 1);
+    balloon->held ? give_back(&call) : stop(&call, VB_NOTHING);
+    return grouped(&call);
+}
+
+uint32_t vb_go_on(VbNotice *notice, VbBalloon *balloon, const VbRegion *regions, size_t count, VbRoom *room, uint16_t answer)
+{
+    const Call call = { notice, balloon, queue_of(&balloon->device, notice->kind), regions, count, room };
+    step(&call, answer);
+    return grouped(&call);
+}

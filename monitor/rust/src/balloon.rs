@@ -1,0 +1,273 @@
+//! The calls of a monitor.
+
+use crate::obey::{Hands, LiveMemory, Monitor};
+use crate::settings::{features, refusal, Denied, Kind, Refusal, Settings};
+use crate::state::{state_error, State, StateError};
+use crate::{raw, Served, PAGE};
+
+/// A balloon device. Guests may write to their memory during any call.
+pub struct Balloon {
+    state: State,
+    regions: Vec<raw::Region>,
+    notice: raw::Notice,
+    room: Box<raw::Room>,
+    /// A notice begins no further chain after so many: 256 at first.
+    pub most_chains: u32,
+    /// A notice begins no further chain after so many pages: any number at first.
+    pub most_pages: u32,
+    /// The set of the pages in the balloon, where it has words: page p is bit p % 64 of word p / 64. Make it of zeros, for all
+    /// pages ([`Balloon::words_of_set`]), before DRIVER_OK; a reset empties it. Save it beside the state.
+    pub ballooned: Vec<u64>,
+}
+
+impl Balloon {
+    /// A balloon that waits for its driver.
+    ///
+    /// # Errors
+    /// `BadArgument` where the settings or the end of memory are out of range, or a region isn't whole pages.
+    pub fn new(memory: &dyn LiveMemory, settings: Settings) -> Result<Balloon, Refusal> {
+        let settings = raw::Settings {
+            memory_end: settings.memory_end,
+            offered: settings.offered,
+            reserved_pages: settings.reserved_pages,
+            needs_must_tell: settings.needs_must_tell.into(),
+            skips_bad_pages: settings.skips_bad_pages.into(),
+        };
+        let mut balloon = Balloon::restore(State(raw::Balloon::default()));
+        let (state, regions) = balloon.look_at(memory);
+        // SAFETY: the pointers are of a `&mut` and of a slice with its length.
+        match unsafe { raw::vb_new_over(state, settings, regions.as_ptr(), regions.len()) } {
+            raw::OK => Ok(balloon),
+            code => Err(refusal(code, 0)),
+        }
+    }
+
+    /// A balloon that goes on where another one stood.
+    pub fn restore(state: State) -> Balloon {
+        Balloon {
+            state,
+            regions: Vec::new(),
+            notice: raw::Notice::default(),
+            room: Box::new(raw::Room::new()),
+            most_chains: raw::MAX_QUEUE_SIZE,
+            most_pages: u32::MAX,
+            ballooned: Vec::new(),
+        }
+    }
+
+    /// A balloon that goes on where the one stood that was saved as these bytes ([`State::to_bytes`]), over guest memory
+    /// that holds its queues.
+    ///
+    /// # Errors
+    /// Why they aren't a saved state, or `Misplaced`.
+    pub fn restore_bytes(memory: &dyn LiveMemory, bytes: &[u8]) -> Result<Balloon, StateError> {
+        let offered = features::VERSION_1;
+        let any = Settings { offered, ..Settings::default() };
+        let mut balloon = Balloon::new(memory, any).map_err(|_| StateError::Misplaced)?;
+        let (state, regions) = balloon.look_at(memory);
+        // SAFETY: the pointers are of a `&mut`, and of slices with their lengths.
+        match unsafe { raw::vb_restore_over(state, regions.as_ptr(), regions.len(), bytes.as_ptr(), bytes.len()) } {
+            raw::OK => Ok(balloon),
+            code => Err(state_error(code)),
+        }
+    }
+
+    /// Guest memory was mapped anew, and ends elsewhere. A driver whose rings lay elsewhere has to reset the device.
+    ///
+    /// # Errors
+    /// `BadArgument` where no device has such memory; nothing is changed.
+    pub fn set_memory(&mut self, memory: &dyn LiveMemory) -> Result<(), Refusal> {
+        let (state, regions) = self.look_at(memory);
+        // SAFETY: the pointers are of a `&mut` and of a slice with its length.
+        match unsafe { raw::vb_set_regions(state, regions.as_ptr(), regions.len()) } {
+            raw::OK => Ok(()),
+            code => Err(refusal(code, 0)),
+        }
+    }
+
+    /// All that the device is.
+    pub fn state(&self) -> State {
+        self.state
+    }
+
+    /// The status register.
+    pub fn status(&self) -> u8 {
+        self.state.0.device.status
+    }
+
+    /// How many pages the driver told last.
+    pub fn actual(&self) -> u32 {
+        self.state.0.device.actual
+    }
+
+    /// The host wants so many pages in the balloon: tell the driver of a change of configuration.
+    pub fn set_target(&mut self, pages: u32) {
+        // SAFETY: the pointer is of a `&mut`.
+        unsafe { raw::vb_set_target(&mut self.state.0.device, pages) }
+    }
+
+    /// Whether the driver has another number of pages in its balloon than the host wants: tell it again, seldom.
+    pub fn is_off_target(&self) -> bool {
+        self.state.0.device.actual != self.state.0.device.target
+    }
+
+    /// Whether the driver may be told of a change of configuration: it reads its configuration as it starts.
+    pub fn may_tell(&self) -> bool {
+        // SAFETY: the pointer is of a `&`.
+        unsafe { raw::vb_may_tell(&self.state.0.device) != 0 }
+    }
+
+    /// How many words the set of ballooned pages needs for all of memory.
+    pub fn words_of_set(&self) -> usize {
+        let pages = self.state.0.device.settings.memory_end / PAGE;
+        (pages / 64 + u64::from(pages % 64 != 0)) as usize
+    }
+
+    /// Whether a page is in the balloon, where a set is kept.
+    pub fn is_ballooned(&self, page: u32) -> bool {
+        // SAFETY: the pointer is of a slice with its length.
+        unsafe { raw::vb_is_ballooned(self.ballooned.as_ptr(), self.ballooned.len(), page) != 0 }
+    }
+
+    /// How many pages are in the balloon, where a set is kept.
+    pub fn count_ballooned(&self) -> u64 {
+        // SAFETY: the pointer is of a slice with its length.
+        unsafe { raw::vb_count_ballooned(self.ballooned.as_ptr(), self.ballooned.len()) }
+    }
+
+    /// The driver writes the status. At DRIVER_OK each queue is looked at, as Linux fills its statistics buffer before.
+    ///
+    /// # Errors
+    /// The number of vb_write_status; nothing is changed.
+    pub fn write_status(
+        &mut self,
+        memory: &dyn LiveMemory,
+        status: u8,
+        monitor: &mut dyn Monitor,
+    ) -> Result<Served, Denied> {
+        let mut then = 0;
+        // SAFETY: the pointers are of two `&mut`.
+        match unsafe { raw::vb_set_status(&mut self.state.0, status, &mut then) } {
+            0 => {}
+            why => return Err(Denied(why)),
+        }
+        if then & raw::EMPTY != 0 {
+            self.ballooned.fill(0);
+        }
+        let mut all = Served::default();
+        if then & raw::LOOK != 0 {
+            Kind::ALL.iter().for_each(|kind| all.add(&self.notify(memory, *kind, monitor)));
+        }
+        Ok(all)
+    }
+
+    /// The driver writes its features.
+    ///
+    /// # Errors
+    /// The number of vb_negotiate; nothing is changed.
+    pub fn negotiate(&mut self, features: u64) -> Result<(), Denied> {
+        // SAFETY: the pointer is of a `&mut`.
+        match unsafe { raw::vb_negotiate(&mut self.state.0.device, features) } {
+            0 => Ok(()),
+            why => Err(Denied(why)),
+        }
+    }
+
+    /// What the queue of this number is for, by the negotiated features.
+    pub fn kind(&self, number: u32) -> Option<Kind> {
+        // SAFETY: the pointer is of a `&`.
+        Kind::of(unsafe { raw::vb_kind(&self.state.0.device, number) })
+    }
+
+    /// The driver gives a queue its place.
+    ///
+    /// # Errors
+    /// As vb_place, and `Misplaced` where a part lies in a hole; nothing is changed.
+    pub fn place(
+        &mut self,
+        memory: &dyn LiveMemory,
+        kind: Kind,
+        table: u64,
+        avail: u64,
+        used: u64,
+        size: u16,
+    ) -> Result<(), Refusal> {
+        let (state, regions) = self.look_at(memory);
+        let (kind, count) = (kind as u32, regions.len());
+        // SAFETY: the pointers are of a `&mut` and of a slice with its length.
+        match unsafe { raw::vb_place_over(state, regions.as_ptr(), count, kind, table, avail, used, size) } {
+            raw::OK => Ok(()),
+            code => Err(refusal(code, 0)),
+        }
+    }
+
+    /// The driver reads its configuration space.
+    pub fn read_config(&self, offset: u32, out: &mut [u8]) {
+        // SAFETY: the pointers are of a `&` and of a slice with its length.
+        unsafe { raw::vb_read_config(&self.state.0.device, offset, out.as_mut_ptr(), out.len()) }
+    }
+
+    /// The driver writes its configuration space.
+    ///
+    /// # Errors
+    /// `BadArgument` but for the 4 bytes of `actual`, or of `poison_val` where it is offered; nothing is changed.
+    pub fn write_config(&mut self, offset: u32, bytes: &[u8]) -> Result<(), Refusal> {
+        // SAFETY: the pointers are of a `&mut` and of a slice with its length.
+        match unsafe { raw::vb_write_config(&mut self.state.0.device, offset, bytes.as_ptr(), bytes.len()) } {
+            raw::OK => Ok(()),
+            code => Err(refusal(code, 0)),
+        }
+    }
+
+    /// Whether the pages of a report keep what is in them, and aren't discarded: the driver negotiated PAGE_POISON, and its
+    /// free pages hold something else than zeros.
+    pub fn keeps_reports(&self) -> bool {
+        self.state.0.keeps_reports()
+    }
+
+    /// The driver kicked this queue: serves what stands there, at most as much as a notice may.
+    pub fn notify(&mut self, memory: &dyn LiveMemory, kind: Kind, monitor: &mut dyn Monitor) -> Served {
+        let budget = (self.most_chains, self.most_pages);
+        memory.regions(&mut self.regions);
+        raw::begin(&mut self.notice, &mut self.state.0, &self.regions, &mut self.room, kind as u32, budget);
+        self.finish(memory, monitor)
+    }
+
+    /// Asks for new statistics, by giving the buffer back (VIRTIO 1.1, 5.5.6.3); `Monitor::statistics` comes at a later
+    /// notice. No chain is served where the driver has the buffer.
+    pub fn ask_statistics(&mut self, memory: &dyn LiveMemory) -> Served {
+        memory.regions(&mut self.regions);
+        raw::ask(&mut self.notice, &mut self.state.0, &self.regions, &mut self.room);
+        self.finish(memory, &mut ())
+    }
+
+    /// Obeys a notice that has begun; what it came to.
+    fn finish(&mut self, memory: &dyn LiveMemory, monitor: &mut dyn Monitor) -> Served {
+        let Balloon { state, regions, notice, room, ballooned, .. } = self;
+        let balloon = &mut state.0;
+        let mut hands = Hands { memory, monitor, ballooned, balloon, regions, served: Served::default() };
+        let obeyed = hands.obey(notice, room);
+        let mut served = hands.served;
+        if notice.kind != Kind::Deflate as u32 {
+            served.in_holes = served.pages - served.discarded - served.kept - served.waiting;
+        }
+        if obeyed.is_err() {
+            served.stopped = Some(Refusal::Unreachable);
+            return served;
+        }
+        served.stopped = match notice.code {
+            raw::OK | raw::NOTHING => None,
+            code => Some(refusal(code, notice.rule)),
+        };
+        served.interrupts = notice.interrupt << (notice.kind & 3);
+        served.configuration = notice.configuration != 0;
+        served.more = notice.more != 0;
+        served
+    }
+
+    /// The state, and the regions of memory as it is now.
+    fn look_at(&mut self, memory: &dyn LiveMemory) -> (&mut raw::Balloon, &[raw::Region]) {
+        memory.regions(&mut self.regions);
+        (&mut self.state.0, &self.regions)
+    }
+}

@@ -1,0 +1,73 @@
+//! What a device is made with, what its queues are for, and why calls are refused.
+
+use crate::raw;
+
+/// Feature bits (VIRTIO 1.1, 5.5.3 and 6); Linux names bit 5 VIRTIO_BALLOON_F_REPORTING.
+pub mod features {
+    pub const MUST_TELL_HOST: u64 = 1;
+    pub const STATS_VQ: u64 = 2;
+    pub const DEFLATE_ON_OOM: u64 = 4;
+    /// The driver says in `poison_val` what its free pages hold (VIRTIO 1.2, 5.5.3).
+    pub const PAGE_POISON: u64 = 16;
+    pub const REPORTING: u64 = 32;
+    pub const VERSION_1: u64 = 1 << 32;
+}
+
+/// What a queue is for.
+#[derive(Clone, Copy, Debug, PartialEq, Eq)]
+pub enum Kind {
+    Inflate = 0,
+    Deflate = 1,
+    Statistics = 2,
+    Report = 3,
+}
+
+impl Kind {
+    /// All of them.
+    pub const ALL: [Kind; 4] = [Kind::Inflate, Kind::Deflate, Kind::Statistics, Kind::Report];
+
+    /// The kind of this number of vb.h.
+    pub(crate) fn of(number: u32) -> Option<Kind> {
+        Kind::ALL.get(number as usize).copied()
+    }
+}
+
+/// What a device is made with, as `VbSettings` of vb.h.
+#[derive(Clone, Copy, Debug, Default)]
+pub struct Settings {
+    /// Where guest memory ends, in bytes; 0: with its last region.
+    pub memory_end: u64,
+    pub offered: u64,
+    pub reserved_pages: u32,
+    pub needs_must_tell: bool,
+    pub skips_bad_pages: bool,
+}
+
+/// Why a call is refused.
+#[derive(Clone, Copy, Debug, PartialEq, Eq)]
+pub enum Refusal {
+    /// The guest's bytes break this rule of vb.h; tell the driver of a change of configuration.
+    Broken(u32),
+    NotReady,
+    NeedsReset,
+    NoQueue,
+    Misplaced,
+    BadArgument,
+    /// A `GuestMemory` of the monitor's own failed. The notice wasn't carried out to its end: have the driver reset.
+    Unreachable,
+}
+
+/// Why a write of the status or of features is refused: the number of vb.h.
+#[derive(Clone, Copy, Debug, PartialEq, Eq)]
+pub struct Denied(pub u32);
+
+pub(crate) fn refusal(code: u32, rule: u32) -> Refusal {
+    match code {
+        raw::BROKEN => Refusal::Broken(rule),
+        raw::NOT_READY => Refusal::NotReady,
+        raw::NEEDS_RESET => Refusal::NeedsReset,
+        raw::NO_QUEUE => Refusal::NoQueue,
+        raw::MISPLACED => Refusal::Misplaced,
+        _ => Refusal::BadArgument,
+    }
+}

@@ -1,0 +1,95 @@
+//! Memory that is mapped anew, and large pages and the set that they go by.
+
+use crate::guest::{settings, Guest};
+use std::io;
+use std::sync::Arc;
+use vb_balloon::{Cut, Kind, LiveMemory, Monitor, Refusal, Settings};
+use vm_memory::{GuestAddress, GuestMemoryMmap, GuestRegionMmap, MmapRegion};
+
+/// A machine of pages of 2 MiB: what is discarded is whole ones.
+#[derive(Default)]
+struct Larges(Vec<Cut>);
+
+impl Monitor for Larges {
+    fn page_size(&self, region: usize) -> u64 {
+        [2 << 20, 0][region]
+    }
+
+    fn discard(&mut self, memory: &dyn LiveMemory, cut: &Cut) -> io::Result<()> {
+        self.0.push(*cut);
+        memory.discard(cut)
+    }
+}
+
+#[test]
+fn a_large_page_goes_once_it_is_given_up() {
+    let mut guest = Guest::new();
+    let mut balloon = guest.ready(settings());
+    balloon.ballooned = vec![0; balloon.words_of_set()];
+    let mut larges = Larges::default();
+    let mut notify = |guest: &mut Guest, pages: &[u32]| {
+        guest.name(Kind::Inflate, pages);
+        let served = balloon.notify(&guest.memory, Kind::Inflate, &mut larges);
+        assert_eq!((served.stopped, served.in_holes, served.kept), (None, 0, 0));
+        (served.discarded, served.waiting, larges.0.clone())
+    };
+    guest.put(2 << 20, &[7; 4096]);
+    let pages: Vec<u32> = (512..1024).collect();
+    assert_eq!(notify(&mut guest, &pages[..256]), (0, 256, vec![]));
+    assert_eq!(notify(&mut guest, &pages[256..511]), (0, 255, vec![]));
+    assert_eq!(guest.byte(2 << 20), 7);
+    let large = Cut { region: 0, offset: 2 << 20, in_file: 2 << 20, length: 2 << 20 };
+    let small = Cut { region: 1, offset: 904 << 12, in_file: 904 << 12, length: 4096 };
+    assert_eq!(notify(&mut guest, &[1023, 5000]), (2, 0, vec![large, small]));
+    assert_eq!(guest.byte(2 << 20), 0);
+}
+
+#[test]
+fn memory_may_be_mapped_anew() {
+    let mut guest = Guest::new();
+    let mut balloon = guest.ready(Settings { skips_bad_pages: true, ..settings() });
+    let small: GuestMemoryMmap = GuestMemoryMmap::from_ranges(&[(GuestAddress(0), 4096)]).expect("memory");
+    assert_eq!(balloon.set_memory(&small), Err(Refusal::BadArgument));
+    let low: GuestMemoryMmap = GuestMemoryMmap::from_ranges(&[(GuestAddress(0), 8 << 20)]).expect("memory");
+    guest.memory = low;
+    assert_eq!(balloon.set_memory(&guest.memory), Ok(()));
+    guest.name(Kind::Inflate, &[2047, 2048]);
+    let served = balloon.notify(&guest.memory, Kind::Inflate, &mut ());
+    assert_eq!((served.discarded, served.skipped, served.in_holes), (1, 1, 0));
+}
+
+/// Regions are those of the memory at hand, though its end is the same: a page of the hole becomes one of a region.
+#[test]
+fn a_hole_may_be_filled() {
+    let mut guest = Guest::new();
+    let mut balloon = guest.ready(settings());
+    let hole = (9 << 20) / 4096;
+    guest.name(Kind::Inflate, &[hole]);
+    let served = balloon.notify(&guest.memory, Kind::Inflate, &mut ());
+    assert_eq!((served.pages, served.discarded, served.in_holes), (1, 0, 1));
+    let mapped = MmapRegion::new(4 << 20).expect("memory");
+    let region = GuestRegionMmap::new(mapped, GuestAddress(8 << 20)).expect("a region");
+    guest.memory = guest.memory.insert_region(Arc::new(region)).expect("it was a hole");
+    guest.name(Kind::Inflate, &[hole]);
+    let served = balloon.notify(&guest.memory, Kind::Inflate, &mut ());
+    assert_eq!((served.pages, served.discarded, served.in_holes), (1, 1, 0));
+}
+
+/// The set of ballooned pages, where there is one: for all of memory, and empty after a reset.
+#[test]
+fn the_set_is_kept() {
+    let mut guest = Guest::new();
+    let mut balloon = guest.ready(settings());
+    guest.name(Kind::Inflate, &[600, 601, 600]);
+    assert_eq!((balloon.notify(&guest.memory, Kind::Inflate, &mut ()).marked, balloon.count_ballooned()), (0, 0));
+    assert_eq!(balloon.words_of_set(), 96);
+    balloon.ballooned = vec![0; 96];
+    guest.name(Kind::Inflate, &[600, 601, 600]);
+    let served = balloon.notify(&guest.memory, Kind::Inflate, &mut ());
+    assert_eq!((served.marked, served.unmarked, balloon.count_ballooned()), (2, 0, 2));
+    guest.name(Kind::Deflate, &[600]);
+    assert_eq!(balloon.notify(&guest.memory, Kind::Deflate, &mut ()).marked, 1);
+    assert!(!balloon.is_ballooned(600) && balloon.is_ballooned(601) && !balloon.is_ballooned(u32::MAX));
+    balloon.write_status(&guest.memory, 0, &mut ()).expect("a reset");
+    assert_eq!((balloon.count_ballooned(), balloon.ballooned.len(), balloon.may_tell()), (0, 96, false));
+}

@@ -1,0 +1,104 @@
+/* States by chance: bytes with a right sum are refused, or a device that all calls work on; and what calls lead to is saved. */
+#include "saved.h"
+
+enum { ROUNDS = 200000 };
+
+static uint64_t seed = 88172645463325252;
+static uint32_t chance(uint32_t below)
+{
+    seed ^= seed << 13;
+    seed ^= seed >> 7;
+    seed ^= seed << 17;
+    return (uint32_t)((seed >> 16) % below);
+}
+
+static void all_calls_work(void)
+{
+    struct balloon_result result;
+    uint8_t word[8];
+    for (uint32_t kind = 0; kind < 5; kind++)
+        balloon_notify(&guest.balloon, kind);
+    balloon_ask_statistics(&guest.balloon);
+    balloon_read_config(&guest.balloon, chance(9), word, sizeof word);
+    balloon_place(&guest.balloon, chance(4), chance(1 << 24), chance(1 << 24), chance(1 << 24), (uint16_t)chance(300));
+    balloon_write_status(&guest.balloon, (uint8_t)chance(256), &result);
+}
+
+void any_restored_device_works(void)
+{
+    unsigned restored = 0;
+    for (unsigned round = 0; round < ROUNDS; round++) {
+        uint8_t bytes[VB_STATE_BYTES];
+        EXPECT(reach(5 + chance(5)) && balloon_save(&guest.balloon, bytes, sizeof bytes) == VB_OK);
+        for (uint32_t changes = 1 + chance(3); changes > 0; changes--) {
+            size_t at = 24 + chance(SUM_AT - 24);
+            bytes[at] = chance(2) ? (uint8_t)chance(256) : bytes[at] ^ (uint8_t)(1u << chance(8));
+        }
+        put_sum(bytes);
+        if (balloon_restore(&guest.balloon, bytes, sizeof bytes) == VB_OK) {
+            restored++;
+            all_calls_work();
+        }
+    }
+    EXPECT(restored > ROUNDS / 100 && restored < ROUNDS);
+    printf("saved: %u of %u changed states were restored, and worked on\n", restored, (unsigned)ROUNDS);
+}
+
+/* Pages, or a buffer of one figure, from rings that begin anew with each life of the device. */
+static void any_request(uint32_t kind)
+{
+    if (guest.balloon.state.device.status == 0) {
+        for (uint32_t each = 0; each < 4; each++)
+            put(&guest, avail_of(each) + 2, guest.published[each] = 0, 2);
+    } else if (kind == VB_STATISTICS) {
+        describe(&guest, kind, 0, buffer_of(kind), 10, 0, 0);
+        publish(&guest, kind, 0);
+    } else {
+        name_pages(&guest, kind, (const uint32_t[]){ chance(3000), chance(3000) }, 2);
+    }
+}
+
+/* One call of a driver, or of a host, by chance. */
+static void any_step(void)
+{
+    static const uint8_t statuses[] = { 0, 1, 3, 11, 15, 128, 129, 131, 139, 143, 79, 207 };
+    static const uint64_t features[] = { 0, 1, 2, 0x30, 1ull << 32, 1ull << 32 | 2, 1ull << 32 | 0x22, 1ull << 32 | 0x27 };
+    struct balloon *balloon = &guest.balloon;
+    struct balloon_result result;
+    uint32_t kind = chance(4);
+    switch (chance(11)) {
+    case 0: balloon_write_status(balloon, statuses[chance(5) * (chance(4) > 0) + chance(2) * chance(8)], &result); break;
+    case 1: balloon_write_status(balloon, (uint8_t)(balloon->state.device.status | 1u << chance(8)), &result); break;
+    case 2: balloon_negotiate(balloon, features[chance(8)]); break;
+    case 3:
+    case 4: balloon_place(balloon, kind, table_of(kind), avail_of(kind), used_of(kind), 64); break;
+    case 5: any_request(kind); break;
+    case 6:
+    case 7: balloon_notify(balloon, kind); break;
+    case 8: balloon_ask_statistics(balloon); break;
+    case 9: balloon_write_config(balloon, 4 * chance(5), (const uint8_t[]){ (uint8_t)chance(3), 0, 0, 0 }, 4); break;
+    default: vb_use(&balloon->state.device, kind, chance(70)); break;
+    }
+}
+
+/* Whatever calls lead to is saved, and restored as it was. */
+void all_that_calls_lead_to_is_saved(void)
+{
+    unsigned kinds[256] = { 0 }, held = 0;
+    EXPECT(reach(0));
+    for (unsigned round = 0; round < 5 * ROUNDS; round++) {
+        uint8_t bytes[VB_STATE_BYTES];
+        VbBalloon restored, *it = &guest.balloon.state;
+        any_step();
+        EXPECT(balloon_save(&guest.balloon, bytes, sizeof bytes) == VB_OK);
+        EXPECT(vb_restore(&restored.device, &restored.held, bytes, sizeof bytes) == VB_OK);
+        EXPECT(are_same(&restored.device, restored.held, &it->device, it->held));
+        kinds[it->device.status]++;
+        held += it->held > 0;
+    }
+    unsigned seen = 0;
+    for (unsigned status = 0; status < 256; status++)
+        seen += kinds[status] > 0;
+    printf("saved: %u statuses and %u held buffers on the way\n", seen, held);
+    EXPECT(seen == 12 && held > 0);
+}

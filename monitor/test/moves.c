@@ -1,0 +1,46 @@
+/* A device that moves, and its target. */
+#include "test.h"
+
+/* The state goes to another balloon over a copy of the memory, and the driver goes on where it stood. */
+static void a_device_moves(void)
+{
+    static struct guest guest, other;
+    const uint32_t pages[] = { 700, 701 };
+    start(&guest, 0, REFUSES, LINUX_FEATURES, 4);
+    for (int i = 0; i < 3; i++) {
+        name_pages(&guest, VB_DEFLATE, pages, 2);
+        EXPECT(balloon_notify(&guest.balloon, VB_DEFLATE).chains == 1);
+    }
+    make_memory(&other, 0);
+    EXPECT(balloon_init(&other.balloon, other.regions, 2, REFUSES) == VB_OK);
+    memcpy(other.regions[0].host, guest.regions[0].host, LOW_MIB * MIB);
+    memcpy(&other.balloon.state, &guest.balloon.state, sizeof other.balloon.state);
+    other.size = guest.size;
+    memcpy(other.published, guest.published, sizeof other.published);
+    name_pages(&other, VB_DEFLATE, pages, 1);
+    struct balloon_result result = balloon_notify(&other.balloon, VB_DEFLATE);
+    EXPECT(result.chains == 1 && result.pages == 1 && used_index(&other, VB_DEFLATE) == 4);
+    EXPECT(used_index(&guest, VB_DEFLATE) == 3);
+    free_memory(&guest);
+    free_memory(&other);
+}
+
+static void the_target_is_told(void)
+{
+    static struct guest guest;
+    uint8_t words[8];
+    start(&guest, 0, REFUSES, LINUX_FEATURES, 8);
+    EXPECT(!balloon_is_off_target(&guest.balloon));
+    balloon_set_target(&guest.balloon, 513);
+    balloon_read_config(&guest.balloon, 0, words, 8);
+    EXPECT(words[0] == 1 && words[1] == 2 && words[4] == 0 && balloon_is_off_target(&guest.balloon));
+    EXPECT(balloon_write_config(&guest.balloon, 4, words, 4) == VB_OK && !balloon_is_off_target(&guest.balloon));
+    EXPECT(balloon_write_config(&guest.balloon, 0, words, 4) == VB_BAD_ARGUMENT);
+    free_memory(&guest);
+}
+
+void test_moves(void)
+{
+    RUN(a_device_moves());
+    RUN(the_target_is_told());
+}

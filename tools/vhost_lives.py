@@ -1,0 +1,161 @@
+"""Tests of a device's life with a client that kicks and is called by events: its status, what stays and what a reset forgets."""
+
+import struct
+
+import vhost_client
+from vhost_client import (
+    DEFLATE, FEATURES, GET_CONFIG, GET_STATUS, INFLATE, PAGE, POISON, QEMU_PROTOCOL, REPORT, RESET_DEVICE, SET_CONFIG,
+    SET_FEATURES, SET_STATUS, SET_VRING_ENABLE, WRITE,
+)
+from vhost_kicked import FIRST, Kicked, word
+
+
+class Lives(Kicked):
+    """Statuses, poison_val and devices that go on: a part of `Events` of vhost_events.py."""
+
+    def test_status(self):
+        client = self.client()
+        client.negotiate(protocol=QEMU_PROTOCOL)
+        client.add_memory()
+        answers = []
+        for status in (8, 9, 1, 12, 11, 15, 0x100, 0):
+            answers.append((client.send(SET_STATUS, word(status)) == bytes(8), client.send(GET_STATUS)[0]))
+        accepted = [(True, 8), (True, 9), (False, 9), (False, 9), (True, 11), (True, 15), (False, 15), (True, 0)]
+        self.assertEqual(answers, accepted)
+
+    def test_features_before_the_status_that_stands_on_them(self):
+        client = self.client()
+        client.send(vhost_client.SET_PROTOCOL_FEATURES, word(QEMU_PROTOCOL), flags=1)
+        self.assertNotEqual(client.send(SET_STATUS, word(11)), bytes(8))
+        self.assertEqual(client.send(GET_STATUS), bytes(8))
+
+    def test_a_driver_that_has_failed(self):
+        client = self.started()
+        client.accepted(SET_STATUS, word(15 | 128))
+        client.post_pages(INFLATE, [FIRST])
+        self.unserved(client, INFLATE)
+        self.assertEqual((client.used(INFLATE)[0], client.counter("status")), (0, 0))
+
+    def test_a_device_goes_on_where_it_was(self):
+        client = self.started()
+        self.served(client, INFLATE, [FIRST])
+        self.served(client, DEFLATE, [FIRST])
+        client.accepted(SET_CONFIG, struct.pack("<IIII", 4, 4, 0, 77))
+        bases = [client.stop_ring(number) for number in range(4)]
+        self.assertEqual(bases, [1, 1, 0, 0])
+        client.accepted(SET_STATUS, word(0))
+        self.assertEqual(client.counter("status"), 0)
+        client.accepted(SET_FEATURES, word(FEATURES | vhost_client.HAS_PROTOCOL))
+        client.go_on(bases)
+        self.assertEqual((client.counter("status"), client.counter("actual")), (15, 77))
+        client.called(INFLATE)
+        self.served(client, INFLATE, [FIRST + 1])
+
+    def test_a_status_of_0_before_the_indexes_are_asked_for(self):
+        client = self.started()
+        for page in range(3):
+            self.served(client, INFLATE, [FIRST + page])
+        client.accepted(SET_STATUS, word(0))
+        for number in range(4):
+            client.accepted(SET_VRING_ENABLE, struct.pack("<II", number, 0))
+        self.assertEqual([client.stop_ring(number) for number in range(4)], [3, 0, 0, 0])
+        client.go_on([3, 0, 0, 0])
+        client.called(INFLATE)
+        self.served(client, INFLATE, [FIRST + 9])
+
+    def test_a_new_driver_has_nothing_in_its_balloon(self):
+        client = self.started()
+        self.served(client, INFLATE, [FIRST])
+        client.accepted(SET_CONFIG, struct.pack("<IIII", 4, 4, 0, 77))
+        client.accepted(SET_STATUS, word(0))
+        client.accepted(SET_FEATURES, word(FEATURES | vhost_client.HAS_PROTOCOL))
+        client.go_on()
+        self.assertEqual((client.counter("status"), client.counter("actual")), (15, 0))
+        self.served(client, INFLATE, [FIRST])
+
+    def poisoned(self, *options):
+        """Returns a client whose driver said that its free pages hold 0xff, and the word of PAGE_POISON."""
+        client = self.client("--features", "100000037", *options)
+        client.negotiate(FEATURES | POISON)
+        client.accepted(SET_CONFIG, struct.pack("<IIII", 12, 4, 0, 0xFFFFFFFF))
+        client.start_by_events(features=FEATURES | POISON)
+        return client
+
+    def reported(self, client, page, kept):
+        """Posts a report of a page, and demands that its bytes are kept, or gone."""
+        before = client.backend.counters()
+        client.describe(REPORT, 0, page * PAGE, PAGE, WRITE)
+        client.publish(REPORT, 0)
+        client.kick(REPORT)
+        self.assertEqual(client.called(REPORT), 1)
+        counters = client.backend.counters()
+        self.assertEqual([counters[it] - before[it] for it in ("reported", "kept", "discarded")], [1, kept, 1 - kept])
+        self.assertEqual(client.read(page * PAGE, PAGE), (b"\xff" if kept else b"\0") * PAGE)
+
+    def test_poisoned_reports_are_kept(self):
+        client = self.poisoned()
+        self.reported(client, FIRST, 1)
+        self.served(client, INFLATE, [FIRST + 1])
+        self.assertEqual((client.holes(), client.counter("in_holes")), ([FIRST + 1], 0))
+        client.accepted(SET_CONFIG, struct.pack("<IIII", 12, 4, 0, 0))
+        self.reported(client, FIRST + 2, 0)
+
+    def test_poison_val_is_there_only_where_it_is_offered(self):
+        client = self.started()
+        self.assertNotEqual(client.send(SET_CONFIG, struct.pack("<IIII", 12, 4, 0, 7)), bytes(8))
+        client = self.poisoned()
+        body = struct.pack("<III", 8, 8, 0) + bytes(8)
+        answer = client.send(GET_CONFIG, body, flags=1) or client.receive()[1]
+        self.assertEqual(answer[12:], struct.pack("<II", 0, 0xFFFFFFFF))
+
+    def test_poison_val_stays_while_no_ring_runs(self):
+        client = self.poisoned()
+        bases = [client.stop_ring(number) for number in range(4)]
+        client.accepted(SET_STATUS, word(0))
+        client.accepted(SET_FEATURES, word(FEATURES | POISON | vhost_client.HAS_PROTOCOL))
+        client.go_on(bases)
+        self.reported(client, FIRST, 1)
+        client.accepted(RESET_DEVICE)
+        client.accepted(SET_FEATURES, word(FEATURES | POISON | vhost_client.HAS_PROTOCOL))
+        client.go_on()
+        self.reported(client, FIRST + 1, 0)
+
+    def test_a_reset_forgets_the_rings(self):
+        client = self.started()
+        client.accepted(SET_CONFIG, struct.pack("<IIII", 4, 4, 0, 77))
+        client.accepted(RESET_DEVICE)
+        self.assertEqual((client.counter("status"), client.counter("actual")), (0, 0))
+        self.assertEqual(client.send(GET_STATUS), bytes(8))
+        client.accepted(SET_FEATURES, word(FEATURES | vhost_client.HAS_PROTOCOL))
+        client.accepted(SET_STATUS, word(15))
+        client.post_pages(INFLATE, [FIRST + 1])
+        self.unserved(client, INFLATE)
+        self.assertEqual((client.used(INFLATE)[0], client.stop_ring(INFLATE)), (0, 0))
+        client.go_on()
+        self.served(client, INFLATE, [FIRST + 2])
+
+    def test_a_backend_that_is_killed_goes_on(self):
+        client = self.client()
+        state = client.file("state")
+        client.restart("--state", state)
+        client.connect()
+        client.start_by_events()
+        self.served(client, INFLATE, [FIRST])
+        self.served(client, INFLATE, [FIRST + 1])
+        client.backend.ask("target 99")
+        client.accepted(SET_CONFIG, struct.pack("<IIII", 4, 4, 0, 2))
+        client.counter("target")
+        client.post_pages(INFLATE, [FIRST + 2])
+        client.called(INFLATE)
+        client.restart("--state", state, killed=True)
+        client.post_pages(INFLATE, [FIRST + 3])
+        self.assertEqual(client.backend.counters()["target"], 99)
+        client.connect()
+        client.negotiate(protocol=QEMU_PROTOCOL)
+        client.add_memory()
+        client.go_on([client.used(number)[0] for number in range(4)])
+        self.assertEqual((client.counter("status"), client.counter("actual")), (15, 2))
+        self.assertGreater(client.called(INFLATE), 0)
+        self.assertEqual(client.used(INFLATE)[0], 4)
+        self.assertEqual(client.holes(), [FIRST + it for it in range(4)])
+        self.served(client, INFLATE, [FIRST + 4])
