@@ -1,7 +1,8 @@
 -- How many accesses a notice makes beside its discards.
+use Rattle.vb_monitor.proofs.PartCounts.{two_at_most}
 use Rattle.std.proofs.Common.{◌≡◌, ap, sym, subst, refl, arith, ℕ, zero, suc, ◌+◌, ◌*◌, ◌≤◌, Bool}
 use Rattle.std.proofs.Common.{true, false, List, [], ◌∷◌, ◌++◌, length, map, Option, Some, None}
-use Rattle.std.{proofs.Common.{Result, Ok, Err}, specs.Prelude.{◌==◌, nat_lt, if◌then◌else◌}}
+use Rattle.std.{proofs.Common.{Result, Ok, Err}, specs.Prelude.{◌==◌, nat_lt}}
 use Rattle.vb_chain.specs.declared.{pieces.Piece.Piece, fault.ChainFault.ChainFault}
 use Rattle.vb_chain.specs.{declared.descriptor.Descriptor.Descriptor, Rules.{has_next, piece_of}}
 use Rattle.vb_request.{specs.Request.request_length, specs.Statistics.statistics_length}
@@ -19,9 +20,9 @@ use Rattle.vb_monitor.specs.Giving.{three_spots, UsedAt, GivesBack, GivesBackBy,
 use Rattle.vb_monitor.specs.{Giving.{after_use, cuts_for, TellsThen, AfterName}, Notices.HeadBy}
 use Rattle.vb_monitor.specs.Notices.{EntryAt, entry_offset, stands, AfterIndex, IndexAt, LooksBy}
 use Rattle.vb_monitor.specs.Notices.{AfterGiven, TakesUnlessSpent, TakesNext, with_chains, Serves}
-use Rattle.vb_monitor.specs.{Notices.fresh, Pieces.{first_part, second_part, unless_empty}}
-use Rattle.vb_monitor.specs.Pieces.{parts_of, PartAt, PartBy, fits_behind, CopiesParts, all_parts}
-use Rattle.vb_monitor.specs.Regions.{spot, meets, cut_of, cuts_from, cuts_of}
+use Rattle.vb_monitor.specs.{Notices.fresh}
+use Rattle.vb_monitor.specs.Pieces.{PartAt, PartBy, fits_behind, CopiesParts, all_parts}
+use Rattle.vb_monitor.specs.Regions.{spot}
 use Rattle.vb_monitor.specs.declared.{cuts.Cut.Cut, outcome.Budget.Budget, outcome.Outcome.Outcome}
 use Rattle.vb_monitor.specs.declared.{outcome.Tally.Tally, parts.Part.Part, regions.Region.Region}
 use Rattle.vb_monitor.specs.declared.{regions.Spot.Spot, room.TheConstants.MAX_FIGURES}
@@ -154,24 +155,6 @@ copies m w served on d t (part ∷ parts) so_far log le h =
     (λ bytes rest more. copies m w served on d t parts bytes rest le more) d t part so_far
     (fits_behind so_far part) log (omega (arith, le)) h in
     omega (arith, few)
-
-one_at_most : (part : Part) (empty : Bool) → length (if empty then [] else part ∷ []) ≤ 1
-one_at_most part true = omega arith
-one_at_most part false = omega arith
-
-longer : (xs ys : List Part) → length (xs ++ ys) ≡ length xs + length ys
-longer [] ys = omega arith
-longer (x ∷ xs) ys = let both = longer xs ys in omega (arith, both)
-
-two_at_most : (ps : List Piece) → length (all_parts ps) ≤ 2 * length ps
-two_at_most [] = omega arith
-two_at_most (p ∷ ps) =
-    let first = one_at_most (first_part p) ((first_part p).length == 0) in
-    let second = one_at_most (second_part p) ((second_part p).length == 0) in
-    let both = longer (unless_empty (first_part p)) (unless_empty (second_part p)) in
-    let all = longer (parts_of p) (all_parts ps) in
-    let rest = two_at_most ps in
-    omega (arith, first, second, both, all, rest)
 
 -- ---- pieces
 
@@ -350,31 +333,3 @@ few_others regions kind budget d1 d2 outcome log h =
     (λ rest go. takes budget.chains w d1 (fresh budget) rest go) d1 (fresh budget)
     (queue_denial kind d1) log (omega arith) h in
     omega (arith, few)
-
--- ---- discards
-
-longer_cuts : (xs ys : List Cut) → length (xs ++ ys) ≡ length xs + length ys
-longer_cuts [] ys = omega arith
-longer_cuts (x ∷ xs) ys = let both = longer_cuts xs ys in omega (arith, both)
-
-part_of_run : (r : Region) (n : ℕ) (run : Run) (cuts : List Cut) (k : ℕ) (b : Bool) →
-    length cuts ≤ k → length (if b then cut_of n r run ∷ cuts else cuts) ≤ suc k
-part_of_run r n run cuts k true h = omega (arith, h)
-part_of_run r n run cuts k false h = omega (arith, h)
-
-parts_of_run : (rs : List Region) (n : ℕ) (run : Run) → length (cuts_from n rs run) ≤ length rs
-parts_of_run [] n run = omega arith
-parts_of_run (r ∷ rs) n run = part_of_run r n run
-    (cuts_from (n + 1) rs run) (length rs) (meets r run) (parts_of_run rs (n + 1) run)
-
-one_run_more : (r k a b : ℕ) → a ≤ r → b ≤ k * r → a + b ≤ suc k * r
-one_run_more r k a b h i = grind (arith)
-
-pub few_cuts : (rs : List Region) (runs : List Run) →
-    length (cuts_of rs runs) ≤ length runs * length rs
-few_cuts rs [] = omega arith
-few_cuts rs (run ∷ runs) =
-    let both = longer_cuts (cuts_from 0 rs run) (cuts_of rs runs) in
-    let sum = one_run_more (length rs) (length runs) (length (cuts_from 0 rs run))
-    (length (cuts_of rs runs)) (parts_of_run rs 0 run) (few_cuts rs runs) in
-    omega (arith, both, sum)

@@ -8,7 +8,8 @@ use Rattle.vb_monitor.specs.declared.regions.Region.{Region}
 use Rattle.vb_monitor.specs.declared.cuts.Cut.{Cut}
 use Rattle.vb_monitor.specs.declared.large.Large.{Large}
 use Rattle.vb_monitor.specs.Large.{is_of_large, small_pages, first_of, end_of_part, is_of, may_go, Goes, all_wait, GoesBack, LargeIf, LargeBy, AreWholePages}
-use Rattle.vb_monitor.proofs.LargeLemmas.{between_is, between_says, Fits, fits, scale, lies, above, below_end}
+use Rattle.vb_monitor.proofs.LargeLemmas.{between_is, between_says}
+use Rattle.vb_monitor.proofs.LargeRows.{Fits, fits, scale, lies, above, below_end}
 
 -- ---- of nothing
 

@@ -11,6 +11,7 @@ pub mod OrderLemmas
 pub mod GivenLemmas
 pub mod RowLemmas
 pub mod TouchLemmas
+pub mod PartCounts
 pub mod CountLemmas
 mod RegionFacts
 mod SoleFacts
@@ -41,6 +42,7 @@ mod ChainFacts
 mod LookFacts
 mod WholeFacts
 pub mod LargeLemmas
+pub mod LargeRows
 pub mod LargeLaws
 mod LargeFacts
 mod WholeReportFacts
@@ -51,6 +53,8 @@ pub mod ServedLemmas
 pub mod StillBytes
 pub mod StillWalk
 pub mod StillParts
+pub mod StillFound
+pub mod StillAnswers
 pub mod StillLaws
 pub mod StillReports
 mod StillFacts

@@ -1,11 +1,9 @@
 -- A notice over memory that stays as it is does what the device answers to copies of it.
-use Rattle.vb_core.specs.Next.{piece_in, pieces_in}
 use Rattle.std.proofs.Common.{◌≡◌, ◌≢◌, ◌∙◌, ap, sym, subst, refl, arith, inl, inr, ℕ, suc, ◌+◌}
-use Rattle.std.proofs.Common.{◌*◌, ◌%◌, ◌<◌, ◌≤◌, Bool, true, false, List, [], ◌∷◌, length, map}
-use Rattle.std.{proofs.Common.{take, Option, Some, None, Result, Ok, Err}, specs.Prelude.◌&&◌}
-use Rattle.std.specs.Prelude.{◌==◌, nat_lt, nat_le, not, if◌then◌else◌, IsOk, IsOkAnd, IsSomeAnd}
+use Rattle.std.proofs.Common.{◌*◌, ◌%◌, ◌<◌, ◌≤◌, Bool, true, false, List, [], ◌∷◌}
+use Rattle.std.{proofs.Common.{Option, Some, None, Result, Ok, Err}}
+use Rattle.std.specs.Prelude.{◌==◌, nat_lt, nat_le}
 use Rattle.std.proofs.lemmas.{Bool.Decides.nat_tests, List.FromFn.length-map-range_with_len}
-use Rattle.vb_model.specs.Tests.{one_if}
 use Rattle.vb_ram.specs.Pages.{Pages, field, end_of}
 use Rattle.vb_chain.{specs.declared.pieces.Piece.Piece, specs.declared.fault.ChainFault.ChainFault}
 use Rattle.vb_chain.specs.declared.fault.ChainFault.TheVariants.{BadHead, IndexJump}
@@ -13,91 +11,28 @@ use Rattle.vb_chain.{specs.Chain.{ChainGives, FaultGives}, specs.Table.descripto
 use Rattle.vb_chain.proofs.Walking.{walked_init}
 use Rattle.vb_ring.{specs.declared.device.Taken.Taken, specs.Entries.{ahead, next_by, next_entry}}
 use Rattle.vb_ring.{specs.Layout.IsSize}
-use Rattle.vb_core.specs.Next.{NextBy, PopsCopies, is_read, length_of, next_denial, told}
-use Rattle.vb_core.specs.Next.{are_copies, buffer_of, answer_of, answer_to, after_fault}
+use Rattle.vb_core.specs.Next.{NextBy, PopsCopies, is_read}
 use Rattle.vb_core.{specs.declared.kinds.Kind.Kind, specs.declared.ring.Virtqueue.Virtqueue}
-use Rattle.vb_core.specs.declared.kinds.Kind.TheVariants.{Inflate, Deflate, Statistics, Report}
 use Rattle.vb_core.specs.declared.next.{NextChain.NextChain, ChainPiece.ChainPiece}
 use Rattle.vb_core.specs.declared.device.{Denial.Denial, Device.Device, Denial.TheVariants.Broken}
-use Rattle.vb_core.specs.Devices.{ring_of, needing_reset, queue_denial, call_denial}
-use Rattle.vb_core.{specs.declared.settings.Settings.Settings, specs.Copies.copied_layout}
-use Rattle.vb_core.specs.Settings.{memory_pages, are_settings}
+use Rattle.vb_core.specs.Devices.{ring_of, needing_reset, queue_denial}
+use Rattle.vb_core.{specs.Copies.copied_layout}
+use Rattle.vb_core.specs.Settings.{memory_pages}
 use Rattle.vb_core.proofs.{ChainAgreement.{Agree, same_chain, same_break}, CopyLaws.copies_count}
 use Rattle.vb_core.proofs.{DenialLemmas.{open_call}, RingLemmas.placed_size}
 use Rattle.vb_monitor.specs.declared.{regions.Region.Region, regions.Spot.Spot, outcome.Tally.Tally}
 use Rattle.vb_monitor.specs.declared.outcome.{Budget.Budget, Outcome.Outcome}
 use Rattle.vb_monitor.specs.{Regions.spot, Accesses.{Access, ReadWord, Acquire}, Ends.Whole}
-use Rattle.vb_monitor.specs.{Ends.EndsWhere, Chains.{descriptors, memory_end, Follows, CopiesBy}}
-use Rattle.vb_monitor.specs.{Chains.ServesPieces, Giving.Then, Notices.{entry_offset, stands}}
+use Rattle.vb_monitor.specs.{Chains.{descriptors, memory_end, Follows}}
+use Rattle.vb_monitor.specs.{Notices.{entry_offset, stands}}
 use Rattle.vb_monitor.specs.Notices.{HeadBy, EntryAt, TakesChain, AfterIndex, IndexAt, LooksBy}
 use Rattle.vb_monitor.specs.Notices.{TakesUnlessSpent, TakesNext, with_chains, fresh, Serves}
 use Rattle.vb_monitor.specs.{Machine.{whole, next_chain, serves}}
-use Rattle.vb_monitor.specs.Still.{Stays, IsMapped, avail_copy, table_copy, Behind, DoesAs}
+use Rattle.vb_monitor.specs.Still.{Stays, IsMapped, avail_copy, table_copy, DoesAs}
 use Rattle.vb_monitor.proofs.{StillBytes.{shown, word_shown, descriptor_shown}, StillWalk.in_memory}
 use Rattle.vb_monitor.proofs.StillWalk.{Walk, walks}
-
--- ---- what a notice does by what is found
-
-one_behind : (does : List Access → Type 0) (x : Access) (rest log : List Access) → log ≡ x ∷ rest →
-    Behind does rest → Behind does log
-one_behind does x rest log e h = record {
-  read = x ∷ h.read;
-  rest = h.rest;
-  all = e ∙ ap (λ (l : List Access). x ∷ l) h.all;
-  is = h.is;
-}
-
-abbrev pub ByFound : Result (Option Taken) ChainFault → Whole → Device → Tally → List Access → Type 0
-ByFound (Err f) w d t log = (w.outcome.why ≡ Some (Broken f)) × (w.device ≡ needing_reset d)
-ByFound (Ok None) w d t log = (w.outcome.why ≡ None) × (w.device ≡ d)
-ByFound (Ok (Some taken)) w d t log = Behind (serves w t d taken.head taken.chain) log
-
-one_more : (found : Result (Option Taken) ChainFault) (w : Whole) (d : Device) (t : Tally)
-    (x : Access) (rest log : List Access) → log ≡ x ∷ rest → ByFound found w d t rest →
-    ByFound found w d t log
-one_more (Err f) w d t x rest log e h = h
-one_more (Ok None) w d t x rest log e h = h
-one_more (Ok (Some taken)) w d t x rest log e h =
-    one_behind (serves w t d taken.head taken.chain) x rest log e h
-
--- nothing was given back before
-pub ends_so : (given : Bool) (w : Whole) (d : Device) (t : Tally) (why : Option Denial) (more : Bool)
-    (log : List Access) → given ≡ false → EndsWhere given w d t why more log →
-    (w.outcome.why ≡ why) × (w.device ≡ d)
-ends_so true w d t why more log e h = absurd cc
-ends_so false w d t why more log e h = (ap (λ (o : Outcome). o.why) h.outcome, h.device)
-
--- ---- the entry
-
-abbrev found_by : Result Bool ChainFault → ℕ → Result (Option ℕ) ChainFault
-found_by (Err f) head = Err f
-found_by (Ok false) head = Ok None
-found_by (Ok true) head = Ok (Some head)
-
-tests_alike : (z fits : Bool) (head : ℕ) →
-    (if z then Ok None else (if fits then Ok (Some head) else Err IndexJump)) ≡
-    found_by (if z then Ok false else (if fits then Ok true else Err IndexJump)) head
-tests_alike true fits head = refl
-tests_alike false true head = refl
-tests_alike false false head = refl
-
-offset_so : (r : Virtqueue) → 2 ≤ r.size → entry_offset r ≡ 4 + 2 * (r.next_avail % r.size)
-offset_so r least = grind (arith, nat_tests)
-
-offset_fits : (r : Virtqueue) → 2 ≤ r.size → entry_offset r + 2 ≤ 4 + 2 * r.size
-offset_fits r least =
-    let at : entry_offset r ≡ 4 + 2 * (r.next_avail % r.size) = offset_so r least in
-    let below : r.next_avail % r.size < r.size = grind arith in
-    omega (arith, at, below)
-
-chain_found : (found : Result (Option Taken) ChainFault) (h : ℕ) (pieces : List Piece) →
-    IsOkAnd found (λ got. IsSomeAnd got (λ taken. (taken.head ≡ h) × (taken.chain ≡ pieces))) →
-    found ≡ Ok (Some (record { head = h; chain = pieces }))
-chain_found (Err f) h pieces x = absurd x
-chain_found (Ok None) h pieces x = absurd x
-chain_found (Ok (Some taken)) h pieces x =
-    ap (λ (n : ℕ). Ok (Some (record { head = n; chain = taken.chain }))) x.0
-    ∙ ap (λ (ps : List Piece). Ok (Some (record { head = h; chain = ps }))) x.1
+use Rattle.vb_monitor.proofs.StillFound.{ByFound, one_more, ends_so, found_by, tests_alike, offset_so, offset_fits, chain_found}
+use Rattle.vb_monitor.proofs.StillAnswers.{as_answered, refused_alike, two_pages}
 
 -- ---- what is found in copies
 
@@ -269,105 +204,6 @@ by_place byte w d t0 t takes found (Some at) log is none0 none into e mapped sta
     one_more found w d t (ReadWord at h.index) h.rest log h.asks
     (by_index byte w d t0 t takes found (stands r h.index) h.rest is none0 none into
     (next_is byte w d found h.index is index) all.1 h.goes_on)
-
--- ---- what is answered
-
-served_broken : (kind : Kind) (w : Whole) (next : Then) (d : Device) (t : Tally) (head : ℕ)
-    (pieces : List Piece) (f : ChainFault) (log : List Access) → is_read kind ≡ true →
-    t.given ≡ false → length_of kind pieces ≡ Err f → ServesPieces kind w next d t head pieces log →
-    (w.outcome.why ≡ Some (Broken f)) × (w.device ≡ needing_reset d)
-served_broken Inflate w next d t head pieces f log read none e h =
-    ends_so t.given w (needing_reset d) t (Some (Broken f)) false log none
-    (subst (λ (o : Result ℕ ChainFault). CopiesBy o w next d t head pieces log) e h)
-served_broken Deflate w next d t head pieces f log read none e h =
-    ends_so t.given w (needing_reset d) t (Some (Broken f)) false log none
-    (subst (λ (o : Result ℕ ChainFault). CopiesBy o w next d t head pieces log) e h)
-served_broken Statistics w next d t head pieces f log read none e h =
-    ends_so t.given w (needing_reset d) t (Some (Broken f)) false log none
-    (subst (λ (o : Result ℕ ChainFault). CopiesBy o w next d t head pieces log) e h)
-served_broken Report w next d t head pieces f log read none e h = absurd cc
-
-flag_back : (b : Bool) → not (one_if b == 0) ≡ b
-flag_back true = refl
-flag_back false = refl
-
-piece_back : (p : Piece) → piece_in (buffer_of p) ≡ p
-piece_back p =
-    ap (λ (b : Bool). record { addr = p.addr; len = p.len; writable = b }) (flag_back p.writable)
-
-buffers_back : (ps : List Piece) → pieces_in (map buffer_of ps) ≡ ps
-unfolding pieces_in
-buffers_back [] = refl
-buffers_back (p ∷ ps) = ap (λ (q : Piece). q ∷ map piece_in (map buffer_of ps)) (piece_back p)
-    ∙ ap (λ (qs : List Piece). p ∷ qs) (buffers_back ps)
-
-by_length : (w : Whole) (d : Device) (t : Tally) (taken : Taken) (buffers : List ChainPiece)
-    (o : Result ℕ ChainFault) (log : List Access)
-    → is_read w.kind ≡ true → t.given ≡ false → length_of w.kind taken.chain ≡ o
-    → (IsOk (answer_of taken o) → take (length taken.chain) buffers ≡ map buffer_of taken.chain)
-    → Behind (serves w t d taken.head taken.chain) log
-    → DoesAs (told (answer_of taken o)) buffers w t (after_fault (answer_of taken o) d) log
-by_length w d t taken buffers (Err f) log read none e are h =
-    served_broken w.kind w (next_chain w t) d t taken.head taken.chain f h.rest read none e h.is
-by_length w d t taken buffers (Ok bytes) log read none e are h =
-    let same : pieces_in (take (length taken.chain) buffers) ≡ taken.chain =
-    ap (λ (bs : List ChainPiece). pieces_in bs) (are refl) ∙ buffers_back taken.chain in
-    subst (λ (ps : List Piece). Behind (serves w t d taken.head ps) log) (sym same) h
-
-by_found : (w : Whole) (d : Device) (t : Tally) (found : Result (Option Taken) ChainFault)
-    (buffers : List ChainPiece) (log : List Access) → is_read w.kind ≡ true → t.given ≡ false →
-    ((taken : Taken) → found ≡ Ok (Some taken) → IsOk (answer_to w.kind found) →
-    take (length taken.chain) buffers ≡ map buffer_of taken.chain) → ByFound found w d t log →
-    DoesAs (told (answer_to w.kind found)) buffers w t (after_fault (answer_to w.kind found) d) log
-by_found w d t (Err f) buffers log read none are h = h
-by_found w d t (Ok None) buffers log read none are h = h
-by_found w d t (Ok (Some taken)) buffers log read none are h =
-    by_length w d t taken buffers (length_of w.kind taken.chain) log read none refl (are taken refl) h
-
-as_answered : (w : Whole) (d d3 : Device) (t : Tally) (found : Result (Option Taken) ChainFault)
-    (answer : Result (Option NextChain) ChainFault) (result : Result (Option NextChain) Denial)
-    (buffers : List ChainPiece) (log : List Access) → is_read w.kind ≡ true → t.given ≡ false
-    → answer ≡ answer_to w.kind found → ((taken : Taken) → found ≡ Ok (Some taken) → IsOk answer →
-    take (length taken.chain) buffers ≡ map buffer_of taken.chain) → result ≡ told answer
-    → d3 ≡ after_fault answer d → ByFound found w d t log → DoesAs result buffers w t d3 log
-as_answered w d d3 t found answer result buffers log read none e are is after h =
-    subst (λ (o : Result (Option NextChain) Denial). DoesAs o buffers w t d3 log)
-    (sym (is ∙ ap (λ (o : Result (Option NextChain) ChainFault). told o) e))
-    (subst (λ (x : Device). DoesAs (told (answer_to w.kind found)) buffers w t x log)
-    (sym (after ∙ ap (λ (o : Result (Option NextChain) ChainFault). after_fault o d) e))
-    (by_found w d t found buffers log read none
-    (subst (λ (o : Result (Option NextChain) ChainFault). (taken : Taken) →
-    found ≡ Ok (Some taken) → IsOk o →
-    take (length taken.chain) buffers ≡ map buffer_of taken.chain) e are) h))
-
--- ---- what is refused
-
-pub le_so : (a b : ℕ) → a ≤ b → nat_le a b ≡ true
-le_so a b h = grind (arith, nat_tests)
-
-pub copies_so : (size a t : ℕ) → a ≡ 4 + 2 * size → t ≡ 16 * size → are_copies size a t ≡ true
-copies_so size a t e f = grind (arith, nat_tests)
-
-refused_alike : (kind : Kind) (a t room : ℕ) (d : Device) → is_read kind ≡ true →
-    (ring_of kind d).size ≤ room → a ≡ 4 + 2 * (ring_of kind d).size →
-    t ≡ 16 * (ring_of kind d).size → next_denial kind a t room d ≡ queue_denial kind d
-refused_alike kind a t room d read fits e f =
-    let size = (ring_of kind d).size in
-    ap (λ (b : Bool). call_denial kind b (nat_le size room) (are_copies size a t) d) read
-    ∙ (ap (λ (b : Bool). call_denial kind true b (are_copies size a t) d) (le_so size room fits)
-    ∙ ap (λ (b : Bool). call_denial kind true true b d) (copies_so size a t e f))
-
-pub first_of : (a b : Bool) → (a && b) ≡ true → a ≡ true
-first_of true b e = refl
-first_of false b e = absurd cc
-
-le_true : (a b : ℕ) → nat_le a b ≡ true → a ≤ b
-le_true a b e = grind (arith, nat_tests)
-
-pub two_pages : (s : Settings) → are_settings s ≡ true → 2 ≤ memory_pages s
-two_pages s e =
-    let least : 8192 ≤ s.memory_end = le_true 8192 s.memory_end (grind (arith, first_of)) in
-    omega (arith, least)
 
 -- ---- the whole
 

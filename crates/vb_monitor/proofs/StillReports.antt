@@ -27,8 +27,9 @@ use Rattle.vb_monitor.specs.{Chains.NamesReport, Giving.{Then, AfterName, TellsT
 use Rattle.vb_monitor.specs.Notices.{LooksBy, TakesNext, TakesChain, with_chains, fresh, Serves}
 use Rattle.vb_monitor.specs.Machine.{whole, next_chain}
 use Rattle.vb_monitor.specs.Still.{Stays, IsMapped, avail_copy, table_copy, Behind, ReportsAs}
-use Rattle.vb_monitor.proofs.StillLaws.{ByFound, ends_so, IsShown, memory, same_end, by_place, le_so}
-use Rattle.vb_monitor.proofs.StillLaws.{copies_so, two_pages, first_of, unspent}
+use Rattle.vb_monitor.proofs.StillFound.{ByFound, ends_so}
+use Rattle.vb_monitor.proofs.StillAnswers.{le_so, copies_so, two_pages, first_of}
+use Rattle.vb_monitor.proofs.StillLaws.{IsShown, memory, same_end, by_place, unspent}
 use Rattle.vb_ram.specs.Pages.{end_of}
 
 -- ---- pieces of a chain lie in memory

@@ -64,7 +64,7 @@ pub fn accesses_come_in_their_order()
 {}
 
 /// Runs of pages have no more parts to be discarded than one for each run and region.
-#[tactic(auto, using(crate::proofs::CountLemmas::few_cuts))]
+#[tactic(auto, using(crate::proofs::PartCounts::few_cuts))]
 pub fn a_run_has_few_parts()
     ensures { (regions : List Region) (runs : List Run) →
         length (cuts_of regions runs) ≤ length runs * length regions }

@@ -1,5 +1,5 @@
 use Rattle.std.proofs.Common.{◌≡◌, ◌∙◌, sym, arith, true}
-use Rattle.vb_monitor.{specs.Large.{may_go, counted}, proofs.LargeLemmas.{lies_at, none_at}}
+use Rattle.vb_monitor.{specs.Large.{may_go, counted}, proofs.LargeRows.{lies_at, none_at}}
 use Rattle.vb_monitor.proofs.large.large_pages.Goals as goal
 
 pub bytes_of-requires-clause-starts : goal.bytes_of-requires-clause-starts

@@ -1,0 +1,125 @@
+-- What is answered to copies of memory that stays as it is, and what is refused.
+use Rattle.vb_monitor.proofs.StillFound.{ByFound, ends_so}
+use Rattle.vb_core.specs.Next.{piece_in, pieces_in}
+use Rattle.std.proofs.Common.{◌≡◌, ◌∙◌, ap, sym, subst, refl, arith, ℕ, ◌+◌}
+use Rattle.std.proofs.Common.{◌*◌, ◌≤◌, Bool, true, false, List, [], ◌∷◌, length, map}
+use Rattle.std.{proofs.Common.{take, Option, Some, None, Result, Ok, Err}, specs.Prelude.◌&&◌}
+use Rattle.std.specs.Prelude.{◌==◌, nat_le, not, IsOk}
+use Rattle.std.proofs.lemmas.{Bool.Decides.nat_tests}
+use Rattle.vb_model.specs.Tests.{one_if}
+use Rattle.vb_chain.{specs.declared.pieces.Piece.Piece, specs.declared.fault.ChainFault.ChainFault}
+use Rattle.vb_ring.{specs.declared.device.Taken.Taken}
+use Rattle.vb_core.specs.Next.{is_read, length_of, next_denial, told}
+use Rattle.vb_core.specs.Next.{are_copies, buffer_of, answer_of, answer_to, after_fault}
+use Rattle.vb_core.{specs.declared.kinds.Kind.Kind}
+use Rattle.vb_core.specs.declared.kinds.Kind.TheVariants.{Inflate, Deflate, Statistics, Report}
+use Rattle.vb_core.specs.declared.next.{NextChain.NextChain, ChainPiece.ChainPiece}
+use Rattle.vb_core.specs.declared.device.{Denial.Denial, Device.Device, Denial.TheVariants.Broken}
+use Rattle.vb_core.specs.Devices.{ring_of, needing_reset, queue_denial, call_denial}
+use Rattle.vb_core.{specs.declared.settings.Settings.Settings}
+use Rattle.vb_core.specs.Settings.{memory_pages, are_settings}
+use Rattle.vb_monitor.specs.declared.{outcome.Tally.Tally}
+use Rattle.vb_monitor.specs.{Accesses.{Access}, Ends.Whole}
+use Rattle.vb_monitor.specs.{Chains.{CopiesBy}}
+use Rattle.vb_monitor.specs.{Chains.ServesPieces, Giving.Then}
+use Rattle.vb_monitor.specs.{Machine.{next_chain, serves}}
+use Rattle.vb_monitor.specs.Still.{Behind, DoesAs}
+
+-- ---- what is answered
+
+pub served_broken : (kind : Kind) (w : Whole) (next : Then) (d : Device) (t : Tally) (head : ℕ)
+    (pieces : List Piece) (f : ChainFault) (log : List Access) → is_read kind ≡ true →
+    t.given ≡ false → length_of kind pieces ≡ Err f → ServesPieces kind w next d t head pieces log →
+    (w.outcome.why ≡ Some (Broken f)) × (w.device ≡ needing_reset d)
+served_broken Inflate w next d t head pieces f log read none e h =
+    ends_so t.given w (needing_reset d) t (Some (Broken f)) false log none
+    (subst (λ (o : Result ℕ ChainFault). CopiesBy o w next d t head pieces log) e h)
+served_broken Deflate w next d t head pieces f log read none e h =
+    ends_so t.given w (needing_reset d) t (Some (Broken f)) false log none
+    (subst (λ (o : Result ℕ ChainFault). CopiesBy o w next d t head pieces log) e h)
+served_broken Statistics w next d t head pieces f log read none e h =
+    ends_so t.given w (needing_reset d) t (Some (Broken f)) false log none
+    (subst (λ (o : Result ℕ ChainFault). CopiesBy o w next d t head pieces log) e h)
+served_broken Report w next d t head pieces f log read none e h = absurd cc
+
+pub flag_back : (b : Bool) → not (one_if b == 0) ≡ b
+flag_back true = refl
+flag_back false = refl
+
+pub piece_back : (p : Piece) → piece_in (buffer_of p) ≡ p
+piece_back p =
+    ap (λ (b : Bool). record { addr = p.addr; len = p.len; writable = b }) (flag_back p.writable)
+
+pub buffers_back : (ps : List Piece) → pieces_in (map buffer_of ps) ≡ ps
+unfolding pieces_in
+buffers_back [] = refl
+buffers_back (p ∷ ps) = ap (λ (q : Piece). q ∷ map piece_in (map buffer_of ps)) (piece_back p)
+    ∙ ap (λ (qs : List Piece). p ∷ qs) (buffers_back ps)
+
+pub by_length : (w : Whole) (d : Device) (t : Tally) (taken : Taken) (buffers : List ChainPiece)
+    (o : Result ℕ ChainFault) (log : List Access)
+    → is_read w.kind ≡ true → t.given ≡ false → length_of w.kind taken.chain ≡ o
+    → (IsOk (answer_of taken o) → take (length taken.chain) buffers ≡ map buffer_of taken.chain)
+    → Behind (serves w t d taken.head taken.chain) log
+    → DoesAs (told (answer_of taken o)) buffers w t (after_fault (answer_of taken o) d) log
+by_length w d t taken buffers (Err f) log read none e are h =
+    served_broken w.kind w (next_chain w t) d t taken.head taken.chain f h.rest read none e h.is
+by_length w d t taken buffers (Ok bytes) log read none e are h =
+    let same : pieces_in (take (length taken.chain) buffers) ≡ taken.chain =
+    ap (λ (bs : List ChainPiece). pieces_in bs) (are refl) ∙ buffers_back taken.chain in
+    subst (λ (ps : List Piece). Behind (serves w t d taken.head ps) log) (sym same) h
+
+pub by_found : (w : Whole) (d : Device) (t : Tally) (found : Result (Option Taken) ChainFault)
+    (buffers : List ChainPiece) (log : List Access) → is_read w.kind ≡ true → t.given ≡ false →
+    ((taken : Taken) → found ≡ Ok (Some taken) → IsOk (answer_to w.kind found) →
+    take (length taken.chain) buffers ≡ map buffer_of taken.chain) → ByFound found w d t log →
+    DoesAs (told (answer_to w.kind found)) buffers w t (after_fault (answer_to w.kind found) d) log
+by_found w d t (Err f) buffers log read none are h = h
+by_found w d t (Ok None) buffers log read none are h = h
+by_found w d t (Ok (Some taken)) buffers log read none are h =
+    by_length w d t taken buffers (length_of w.kind taken.chain) log read none refl (are taken refl) h
+
+pub as_answered : (w : Whole) (d d3 : Device) (t : Tally) (found : Result (Option Taken) ChainFault)
+    (answer : Result (Option NextChain) ChainFault) (result : Result (Option NextChain) Denial)
+    (buffers : List ChainPiece) (log : List Access) → is_read w.kind ≡ true → t.given ≡ false
+    → answer ≡ answer_to w.kind found → ((taken : Taken) → found ≡ Ok (Some taken) → IsOk answer →
+    take (length taken.chain) buffers ≡ map buffer_of taken.chain) → result ≡ told answer
+    → d3 ≡ after_fault answer d → ByFound found w d t log → DoesAs result buffers w t d3 log
+as_answered w d d3 t found answer result buffers log read none e are is after h =
+    subst (λ (o : Result (Option NextChain) Denial). DoesAs o buffers w t d3 log)
+    (sym (is ∙ ap (λ (o : Result (Option NextChain) ChainFault). told o) e))
+    (subst (λ (x : Device). DoesAs (told (answer_to w.kind found)) buffers w t x log)
+    (sym (after ∙ ap (λ (o : Result (Option NextChain) ChainFault). after_fault o d) e))
+    (by_found w d t found buffers log read none
+    (subst (λ (o : Result (Option NextChain) ChainFault). (taken : Taken) →
+    found ≡ Ok (Some taken) → IsOk o →
+    take (length taken.chain) buffers ≡ map buffer_of taken.chain) e are) h))
+
+-- ---- what is refused
+
+pub le_so : (a b : ℕ) → a ≤ b → nat_le a b ≡ true
+le_so a b h = grind (arith, nat_tests)
+
+pub copies_so : (size a t : ℕ) → a ≡ 4 + 2 * size → t ≡ 16 * size → are_copies size a t ≡ true
+copies_so size a t e f = grind (arith, nat_tests)
+
+pub refused_alike : (kind : Kind) (a t room : ℕ) (d : Device) → is_read kind ≡ true →
+    (ring_of kind d).size ≤ room → a ≡ 4 + 2 * (ring_of kind d).size →
+    t ≡ 16 * (ring_of kind d).size → next_denial kind a t room d ≡ queue_denial kind d
+refused_alike kind a t room d read fits e f =
+    let size = (ring_of kind d).size in
+    ap (λ (b : Bool). call_denial kind b (nat_le size room) (are_copies size a t) d) read
+    ∙ (ap (λ (b : Bool). call_denial kind true b (are_copies size a t) d) (le_so size room fits)
+    ∙ ap (λ (b : Bool). call_denial kind true true b d) (copies_so size a t e f))
+
+pub first_of : (a b : Bool) → (a && b) ≡ true → a ≡ true
+first_of true b e = refl
+first_of false b e = absurd cc
+
+pub le_true : (a b : ℕ) → nat_le a b ≡ true → a ≤ b
+le_true a b e = grind (arith, nat_tests)
+
+pub two_pages : (s : Settings) → are_settings s ≡ true → 2 ≤ memory_pages s
+two_pages s e =
+    let least : 8192 ≤ s.memory_end = le_true 8192 s.memory_end (grind (arith, first_of)) in
+    omega (arith, least)

@@ -1,0 +1,80 @@
+-- What a notice does by what is found, where memory stays as it is.
+use Rattle.std.proofs.Common.{◌≡◌, ◌∙◌, ap, refl, arith, ℕ, ◌+◌}
+use Rattle.std.proofs.Common.{◌*◌, ◌%◌, ◌<◌, ◌≤◌, Bool, true, false, List, ◌∷◌}
+use Rattle.std.{proofs.Common.{Option, Some, None, Result, Ok, Err}}
+use Rattle.std.specs.Prelude.{if◌then◌else◌, IsOkAnd, IsSomeAnd}
+use Rattle.std.proofs.lemmas.{Bool.Decides.nat_tests}
+use Rattle.vb_chain.{specs.declared.pieces.Piece.Piece, specs.declared.fault.ChainFault.ChainFault}
+use Rattle.vb_chain.specs.declared.fault.ChainFault.TheVariants.{IndexJump}
+use Rattle.vb_ring.{specs.declared.device.Taken.Taken}
+use Rattle.vb_core.{specs.declared.ring.Virtqueue.Virtqueue}
+use Rattle.vb_core.specs.declared.device.{Denial.Denial, Device.Device, Denial.TheVariants.Broken}
+use Rattle.vb_core.specs.Devices.{needing_reset}
+use Rattle.vb_monitor.specs.declared.{outcome.Tally.Tally}
+use Rattle.vb_monitor.specs.declared.outcome.{Outcome.Outcome}
+use Rattle.vb_monitor.specs.{Accesses.{Access}, Ends.Whole}
+use Rattle.vb_monitor.specs.{Ends.EndsWhere}
+use Rattle.vb_monitor.specs.{Notices.{entry_offset}}
+use Rattle.vb_monitor.specs.{Machine.{serves}}
+use Rattle.vb_monitor.specs.Still.{Behind}
+
+pub one_behind : (does : List Access → Type 0) (x : Access) (rest log : List Access) → log ≡ x ∷ rest →
+    Behind does rest → Behind does log
+one_behind does x rest log e h = record {
+  read = x ∷ h.read;
+  rest = h.rest;
+  all = e ∙ ap (λ (l : List Access). x ∷ l) h.all;
+  is = h.is;
+}
+
+abbrev pub ByFound : Result (Option Taken) ChainFault → Whole → Device → Tally → List Access → Type 0
+ByFound (Err f) w d t log = (w.outcome.why ≡ Some (Broken f)) × (w.device ≡ needing_reset d)
+ByFound (Ok None) w d t log = (w.outcome.why ≡ None) × (w.device ≡ d)
+ByFound (Ok (Some taken)) w d t log = Behind (serves w t d taken.head taken.chain) log
+
+pub one_more : (found : Result (Option Taken) ChainFault) (w : Whole) (d : Device) (t : Tally)
+    (x : Access) (rest log : List Access) → log ≡ x ∷ rest → ByFound found w d t rest →
+    ByFound found w d t log
+one_more (Err f) w d t x rest log e h = h
+one_more (Ok None) w d t x rest log e h = h
+one_more (Ok (Some taken)) w d t x rest log e h =
+    one_behind (serves w t d taken.head taken.chain) x rest log e h
+
+-- nothing was given back before
+pub ends_so : (given : Bool) (w : Whole) (d : Device) (t : Tally) (why : Option Denial) (more : Bool)
+    (log : List Access) → given ≡ false → EndsWhere given w d t why more log →
+    (w.outcome.why ≡ why) × (w.device ≡ d)
+ends_so true w d t why more log e h = absurd cc
+ends_so false w d t why more log e h = (ap (λ (o : Outcome). o.why) h.outcome, h.device)
+
+-- ---- the entry
+
+abbrev pub found_by : Result Bool ChainFault → ℕ → Result (Option ℕ) ChainFault
+found_by (Err f) head = Err f
+found_by (Ok false) head = Ok None
+found_by (Ok true) head = Ok (Some head)
+
+pub tests_alike : (z fits : Bool) (head : ℕ) →
+    (if z then Ok None else (if fits then Ok (Some head) else Err IndexJump)) ≡
+    found_by (if z then Ok false else (if fits then Ok true else Err IndexJump)) head
+tests_alike true fits head = refl
+tests_alike false true head = refl
+tests_alike false false head = refl
+
+pub offset_so : (r : Virtqueue) → 2 ≤ r.size → entry_offset r ≡ 4 + 2 * (r.next_avail % r.size)
+offset_so r least = grind (arith, nat_tests)
+
+pub offset_fits : (r : Virtqueue) → 2 ≤ r.size → entry_offset r + 2 ≤ 4 + 2 * r.size
+offset_fits r least =
+    let at : entry_offset r ≡ 4 + 2 * (r.next_avail % r.size) = offset_so r least in
+    let below : r.next_avail % r.size < r.size = grind arith in
+    omega (arith, at, below)
+
+pub chain_found : (found : Result (Option Taken) ChainFault) (h : ℕ) (pieces : List Piece) →
+    IsOkAnd found (λ got. IsSomeAnd got (λ taken. (taken.head ≡ h) × (taken.chain ≡ pieces))) →
+    found ≡ Ok (Some (record { head = h; chain = pieces }))
+chain_found (Err f) h pieces x = absurd x
+chain_found (Ok None) h pieces x = absurd x
+chain_found (Ok (Some taken)) h pieces x =
+    ap (λ (n : ℕ). Ok (Some (record { head = n; chain = taken.chain }))) x.0
+    ∙ ap (λ (ps : List Piece). Ok (Some (record { head = h; chain = ps }))) x.1
