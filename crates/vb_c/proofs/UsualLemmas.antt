@@ -18,6 +18,9 @@ use Rattle.vb_c.specs.Notices.{cut_of_notice, phase_of, notice_by, notice_of, Sa
 use Rattle.vb_c.{specs.declared.notice.VbNotice.VbNotice, specs.declared.notice.VbRoom.VbRoom}
 use Rattle.vb_c.{specs.Codes.{kind_of_code, why_of}, specs.Notices.what_of}
 use Rattle.vb_c.specs.Serving.{held_by, room_in, HandsOver, Begins, GoesOnBy}
+use Rattle.vb_chain.specs.declared.{descriptor.TheConstants.DESCRIPTOR_SIZE, pieces.Piece.Piece}
+use Rattle.vb_monitor.specs.{Ends.Whole, Machine.Copies, declared.regions.Spot.Spot}
+use Rattle.vb_monitor.specs.{Chains.{AfterDescriptor, AsksDescriptor}, Pieces.AsksPart}
 
 -- the phase of this number
 abbrev phase_at : ℕ → VbNotice → Option Phase
@@ -137,4 +140,34 @@ begins_usual from kind q t regions b r c k e f says what none late fits over ste
   step = step;
   hands = hands_nothing kind q t regions r.runs r.cuts b c k e f says what none late fits over;
   room = refl;
+}
+
+-- ---- what was copied
+
+-- the descriptor was, and what it says comes next
+pub copied_descriptor : (w : Whole) (d : Device) (t : Tally)
+    (on : ℕ → Bool → List Piece → List Access → Type 0) (done_with : List Piece → List Access → Type 0)
+    (writing : Bool) (pieces : List Piece) (at : Spot) (before now : List ℕ)
+    (done rest : List Access) → Copies at 0 DESCRIPTOR_SIZE before now done →
+    AfterDescriptor w d t on done_with writing pieces (take DESCRIPTOR_SIZE now) rest →
+    AsksDescriptor w d t on done_with writing pieces at (done ++ rest)
+copied_descriptor w d t on done_with writing pieces at before now done rest does h = record {
+  bytes = does.bytes;
+  rest = rest;
+  asks = ap (λ (l : List Access). l ++ rest) does.asks;
+  long = does.long;
+  goes_on = subst (λ (bytes : List ℕ).
+      AfterDescriptor w d t on done_with writing pieces bytes rest) does.behind h;
+}
+
+-- the part of a piece was, and all that is copied comes next
+pub copied_part : (on : List ℕ → List Access → Type 0) (at : Spot) (from len : ℕ)
+    (before now : List ℕ) (done rest : List Access) → Copies at from len before now done →
+    on (take (from + len) now) rest → AsksPart on len (take from before) at (done ++ rest)
+copied_part on at from len before now done rest does h = record {
+  bytes = does.bytes;
+  rest = rest;
+  asks = ap (λ (l : List Access). l ++ rest) does.asks;
+  long = does.long;
+  goes_on = subst (λ (bytes : List ℕ). on bytes rest) does.behind h;
 }

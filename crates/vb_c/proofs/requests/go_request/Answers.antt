@@ -1,13 +1,12 @@
-use Rattle.vb_core.specs.Next.{pieces_in}
-use Rattle.std.proofs.Common.{ap, sym, subst, refl, ℕ, ◌+◌, List, ◌++◌, Option, Ok, Err, take}
-use Rattle.vb_monitor.{specs.declared.step.Phase.TheVariants.AwaitsPart, specs.Accesses.Access}
-use Rattle.vb_monitor.{specs.Machine.{whole, served, behind_part}}
-use Rattle.vb_monitor.{specs.Pieces.{CopiesParts}, specs.declared.notice.Notice.Notice}
+use Rattle.std.proofs.Common.{ap, sym, subst, refl, ℕ, ◌+◌, Option, Ok, Err, take}
+use Rattle.vb_monitor.{specs.declared.step.Phase.TheVariants.AwaitsPart}
+use Rattle.vb_monitor.{specs.Machine.{whole}}
+use Rattle.vb_monitor.{specs.declared.notice.Notice.Notice}
 use Rattle.vb_monitor.{specs.Giving.spent, proofs.ServedLemmas.request_goes}
 use Rattle.vb_monitor.specs.declared.outcome.Tally.{Tally}
 use Rattle.vb_c.{specs.declared.notice.VbRoom.VbRoom, specs.Serving.{room_in, GoesOnBy, HandsOver}}
 use Rattle.vb_c.specs.{Notices.{tally_of, place_of}, Served.telling_pages}
-use Rattle.vb_c.proofs.UsualLemmas.{awaits_part, says_notice}
+use Rattle.vb_c.proofs.UsualLemmas.{awaits_part, says_notice, copied_part}
 use Rattle.vb_c.proofs.requests.go_request.Goals as goal
 
 pub returns-in-Ok-clause-goes : goal.returns-in-Ok-clause-goes
@@ -38,20 +37,10 @@ returns-in-Ok-clause-goes c =
       next = next;
       device = d2;
       kind_is = refl;
-      step = λ after outcome before done rest does h.
-          let w = whole regions kind after outcome in
-          record {
-            bytes = does.bytes;
-            rest = rest;
-            asks = ap (λ (l : List Access). l ++ rest) does.asks;
-            long = does.long;
-            goes_on = subst (λ (bs : List ℕ). CopiesParts w (served w s d x.head) d s
-                (behind_part x.is_second x.piece (pieces_in (take x.count r1.pieces))) bs rest)
-                does.behind
-                (request_goes w d d2 s x.head _ (take (x.into + x.length) r1.bytes) r2.runs
-                (Ok named) rest c.requires.request c.requires.last
-                c.in-Ok.ensures.names h);
-          };
+      step = λ after outcome before done rest does h. copied_part _ old.at x.into x.length before _ done
+          rest does (request_goes (whole regions kind after outcome) d d2 s x.head _
+          (take (x.into + x.length) r1.bytes) r2.runs (Ok named) rest c.requires.request
+          c.requires.last c.in-Ok.ensures.names h);
       hands = subst (λ (t : Tally). HandsOver (telling_pages kind t x.head named) regions r2.runs
           (record b { device = d2 }) c.serve_named.new.balloon r2.cuts c.serve_named.new.shown)
           (ap (λ (n : ℕ). record s { pages = n }) c.saturating_sub-notice.ensures)
@@ -86,19 +75,9 @@ returns-in-Err-clause-goes c =
       next = denies.next;
       device = d2;
       kind_is = denies.kind_is;
-      step = λ after outcome before done rest does h.
-          let w = whole regions kind after outcome in
-          record {
-            bytes = does.bytes;
-            rest = rest;
-            asks = ap (λ (l : List Access). l ++ rest) does.asks;
-            long = does.long;
-            goes_on = subst (λ (bs : List ℕ). CopiesParts w (served w s d x.head) d s
-                (behind_part x.is_second x.piece (pieces_in (take x.count r1.pieces))) bs rest)
-                does.behind
-                (request_goes w d d2 s x.head _ (take (x.into + x.length) r1.bytes) r2.runs
-                (Err why) rest c.requires.request c.requires.last c.in-Err.ensures.names
-                (denies.step after outcome (room_in r2) rest h));
-          };
+      step = λ after outcome before done rest does h. copied_part _ old.at x.into x.length before _ done
+          rest does (request_goes (whole regions kind after outcome) d d2 s x.head _
+          (take (x.into + x.length) r1.bytes) r2.runs (Err why) rest c.requires.request
+          c.requires.last c.in-Err.ensures.names (denies.step after outcome (room_in r2) rest h));
       hands = denies.hands;
     })

@@ -1,13 +1,9 @@
-use Rattle.vb_core.specs.Next.{pieces_in}
-use Rattle.std.proofs.Common.{◌∙◌, ap, sym, subst, refl, ℕ, ◌+◌, ◌-◌, List, ◌++◌, Option, Some}
-use Rattle.std.proofs.Common.{take}
-use Rattle.vb_core.specs.Devices.{ring_of}
+use Rattle.std.proofs.Common.{◌∙◌, ap, sym, subst, refl, Option, Some}
 use Rattle.vb_monitor.{specs.declared.notice.Notice.Notice, specs.declared.step.Walk.Walk}
 use Rattle.vb_monitor.specs.declared.step.Phase.TheVariants.{AwaitsDescriptor}
-use Rattle.vb_monitor.{specs.Accesses.Access, specs.Machine.{whole, serves}}
-use Rattle.vb_monitor.specs.Chains.{AfterDescriptor, Follows, descriptors}
+use Rattle.vb_monitor.{specs.Machine.{whole}}
 use Rattle.vb_c.{specs.declared.notice.VbRoom.VbRoom, specs.Serving.GoesOnBy}
-use Rattle.vb_c.proofs.UsualLemmas.{awaits_descriptor, says_notice}
+use Rattle.vb_c.proofs.UsualLemmas.{awaits_descriptor, says_notice, copied_descriptor}
 use Rattle.vb_c.proofs.serving.go_chain.Goals as goal
 
 pub returns-clause-goes : goal.returns-clause-goes
@@ -33,17 +29,8 @@ returns-clause-goes c =
       next = record { kind = c.args.kind; step = c.after_descriptor-step.result };
       device = c.after_descriptor-step.new.device;
       kind_is = refl;
-      step = λ after outcome before done rest does h.
-          let w = whole c.args.regions.now c.args.kind after outcome in record {
-            bytes = does.bytes;
-            rest = rest;
-            asks = ap (λ (l : List Access). l ++ rest) does.asks;
-            long = does.long;
-            goes_on = subst (λ (bs : List ℕ). AfterDescriptor w d s
-                (Follows (descriptors (ring_of c.args.kind d) - (x.count + 1)) w d s
-                (serves w s d x.head)) (serves w s d x.head) x.writing
-                (pieces_in (take x.count r1.pieces)) bs rest) does.behind
-                (c.after_descriptor-step.ensures.step after outcome rest h);
-          };
+      step = λ after outcome before done rest does h. copied_descriptor
+          (whole c.args.regions.now c.args.kind after outcome) d s _ _ x.writing _ old.at before _ done
+          rest does (c.after_descriptor-step.ensures.step after outcome rest h);
       hands = c.hand_step.ensures.hands;
     })

@@ -1,10 +1,9 @@
-use Rattle.vb_core.specs.Next.{pieces_in}
-use Rattle.std.proofs.Common.{◌∙◌, ap, sym, subst, refl, ℕ, List, ◌++◌, Option, Some, take}
-use Rattle.vb_monitor.{specs.declared.step.Phase.TheVariants.AwaitsPart, specs.Accesses.Access}
-use Rattle.vb_monitor.{specs.Machine.{whole, served, behind_part}, specs.declared.step.Place.Place}
-use Rattle.vb_monitor.{specs.Pieces.{CopiesParts}, specs.declared.notice.Notice.Notice}
+use Rattle.std.proofs.Common.{◌∙◌, ap, sym, subst, refl, Option, Some}
+use Rattle.vb_monitor.{specs.declared.step.Phase.TheVariants.AwaitsPart}
+use Rattle.vb_monitor.{specs.declared.step.Place.Place}
+use Rattle.vb_monitor.{specs.declared.notice.Notice.Notice}
 use Rattle.vb_c.{specs.declared.notice.VbRoom.VbRoom, specs.Serving.GoesOnBy}
-use Rattle.vb_c.proofs.UsualLemmas.{awaits_part, says_notice}
+use Rattle.vb_c.proofs.UsualLemmas.{awaits_part, says_notice, copied_part}
 use Rattle.vb_c.proofs.serving.go_part.Goals as goal
 
 pub returns-clause-goes : goal.returns-clause-goes
@@ -30,15 +29,7 @@ returns-clause-goes c =
       next = record { kind = c.args.kind; step = c.after_part-step.result };
       device = c.after_part-step.new.device;
       kind_is = refl;
-      step = λ after outcome before done rest does h.
-          let w = whole c.args.regions.now c.args.kind after outcome in record {
-            bytes = does.bytes;
-            rest = rest;
-            asks = ap (λ (l : List Access). l ++ rest) does.asks;
-            long = does.long;
-            goes_on = subst (λ (bs : List ℕ). CopiesParts w (served w s d x.head) d s
-                (behind_part x.is_second x.piece (pieces_in (take x.count r1.pieces))) bs rest)
-                does.behind (c.after_part-step.ensures.step after outcome rest h);
-          };
+      step = λ after outcome before done rest does h. copied_part _ old.at x.into x.length before _ done
+          rest does (c.after_part-step.ensures.step after outcome rest h);
       hands = c.hand_step.ensures.hands;
     })

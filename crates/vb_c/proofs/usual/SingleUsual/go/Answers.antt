@@ -1,12 +1,9 @@
-use Rattle.vb_core.specs.Next.{pieces_in}
-use Rattle.std.proofs.Common.{◌∙◌, ap, sym, subst, refl, ℕ, ◌+◌, ◌-◌, List, ◌++◌, Some, take}
-use Rattle.vb_core.specs.Devices.{ring_of}
+use Rattle.std.proofs.Common.{◌∙◌, ap, sym, refl, ℕ, Some}
 use Rattle.vb_monitor.{specs.declared.orders.Orders.Orders, specs.declared.step.Walk.Walk}
 use Rattle.vb_monitor.specs.declared.step.Phase.TheVariants.{AwaitsDescriptor, AwaitsPart}
-use Rattle.vb_monitor.{specs.Accesses.Access, specs.Machine.{whole, serves}}
-use Rattle.vb_monitor.specs.Chains.{AfterDescriptor, Follows, descriptors}
+use Rattle.vb_monitor.{specs.Machine.{whole}}
 use Rattle.vb_c.{specs.declared.notice.VbRoom.VbRoom, specs.Codes.kind_of_code}
-use Rattle.vb_c.{specs.Notices.tally_of, proofs.UsualLemmas.{awaits_descriptor, goes_usual}}
+use Rattle.vb_c.{specs.Notices.tally_of, proofs.UsualLemmas.{awaits_descriptor, goes_usual, copied_descriptor}}
 use Rattle.vb_c.proofs.usual.SingleUsual.go.Goals as goal
 
 pub returns-in-Some-clause-went : goal.returns-in-Some-clause-went
@@ -26,16 +23,6 @@ returns-in-Some-clause-went c e =
     ∙ ap (λ (w : Walk). Some (AwaitsDescriptor old.at w)) (sym c.walk.ensures)) refl
     (ap (λ (k : ℕ). kind_of_code k) kind ∙ c.requires.kind) shown.phase tally tt
     shown.what (ap (λ (o : Orders). o.cuts) orders) refl c.in-Some.ensures.fits refl
-    (λ after outcome before done rest does h.
-    let w = whole c.args.regions.now c.args.kind after outcome in
-    record {
-      bytes = does.bytes;
-      rest = rest;
-      asks = ap (λ (l : List Access). l ++ rest) does.asks;
-      long = does.long;
-      goes_on = subst (λ (bs : List ℕ). AfterDescriptor w d s
-          (Follows (descriptors (ring_of c.args.kind d) - (x.count + 1)) w d s
-          (serves w s d x.head)) (serves w s d x.head) x.writing
-          (pieces_in (take x.count r1.pieces)) bs rest) does.behind
-          (c.in-Some.ensures.goes s after outcome r1.runs r1.figures rest h);
-    })
+    (λ after outcome before done rest does h. copied_descriptor
+    (whole c.args.regions.now c.args.kind after outcome) d s _ _ x.writing _ old.at before _ done rest
+    does (c.in-Some.ensures.goes s after outcome r1.runs r1.figures rest h))
