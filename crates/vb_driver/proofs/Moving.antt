@@ -14,7 +14,7 @@ use Rattle.vb_model.specs.{declared.places.Place.TheVariants.{Stranded, Reportin
 use Rattle.vb_model.proofs.Tables.{pages_where-passes, is_in-take, is_in-append, list_all-at}
 use Rattle.vb_model.specs.{Tests.{is_in, one_if, pages_from, pages_where}, Life.place_after_reset}
 use Rattle.vb_model.specs.{Layout.reserved_pages, declared.places.Place.Place}
-use Rattle.vb_model.proofs.{Counts.length-pages_where, GuestSteps.place_of-reset}
+use Rattle.vb_model.proofs.{Counts.length-pages_where, LifeSteps.place_of-reset}
 use Rattle.vb_ram.specs.Pages.{Pages}
 use Rattle.vb_pages.{proofs.ListsLemmas.times_in, specs.FreePages.FreePages}
 use Rattle.vb_driver.specs.State.{RequestSide, DriverState, IsQueue, naming, sent_by, fresh_side}

@@ -7,7 +7,7 @@ use Rattle.std.{proofs.lemmas.Bool.{ltb-true, false_from_ne_true}, proofs.lemmas
 use Rattle.std.specs.Prelude.{◌||◌, ◌&&◌, count_by, nat_lt, nat_le}
 use Rattle.vb_model.{specs.Tests.{is_in, one_if}, specs.Driver.{with_block, without_block}}
 use Rattle.vb_model.specs.Pages.{Block, pages_of, covers, is_same_block}
-use Rattle.vb_model.{proofs.Tables.count_by-cons, proofs.PageSteps.count-without_block}
+use Rattle.vb_model.{proofs.Tables.count_by-cons, proofs.BlockSteps.count-without_block}
 use Rattle.vb_pages.specs.Areas.{has, with_pages, without_pages, unreserved, block_at, IsBlock}
 use Rattle.vb_pages.specs.FreePages.{FreePages, in_lists, is_free_in, times_free, drained}
 use Rattle.vb_pages.proofs.Sets.{is_inside, length-with_pages, length-without_pages, without_parts}
