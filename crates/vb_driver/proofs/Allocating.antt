@@ -1,34 +1,32 @@
 -- What the allocator answers, as the driver sees it.
-use Rattle.std.proofs.Common.{◌≡◌, ◌∙◌, ap, subst, arith, refl, ℕ, suc, ◌+◌, ◌<◌, ◌≤◌, Bool}
-use Rattle.std.proofs.Common.{true, false, eqb, not, ◌||◌, ◌&&◌, ◌⊎◌, ◌↔◌, List, [], ◌∷◌, length}
-use Rattle.std.proofs.Common.{get_or, set, map, inl, inr, IsTrue, Option, Result, Ok, Err, IfOk}
-use Rattle.std.proofs.{Common.{OnOk, OnErr, nat_le, nat_lt, count_by, eq-eqb}, lemmas.Bool.cases_lt}
-use Rattle.std.proofs.lemmas.Bool.{and_parts, and_from, false_from_ne_true, ne_eqb, le-ltb, le-leb}
-use Rattle.std.proofs.lemmas.{Bool.lt-leb, Nat.pow_pos, List.Sums.count_by-le-length}
-use Rattle.std.proofs.lemmas.List.Folds.{list_any_at, list_any_none}
+use Rattle.std.proofs.Common.{◌≡◌, ◌∙◌, ap, subst, arith, refl, ℕ, suc, ◌+◌, ◌<◌, ◌≤◌, Bool, true}
+use Rattle.std.proofs.Common.{false, eqb, not, ◌||◌, ◌&&◌, ◌⊎◌, ◌↔◌, List, [], ◌∷◌, length, get_or}
+use Rattle.std.proofs.Common.{set, map, inl, inr, IsTrue, Option, Result, Ok, Err, IfOk, OnOk}
+use Rattle.std.proofs.{Common.{OnErr, nat_le, nat_lt, count_by, eq-eqb}, lemmas.Nat.pow_pos}
+use Rattle.std.proofs.lemmas.Bool.{cases_lt, and_parts, and_from, false_from_ne_true, ne_eqb}
+use Rattle.std.{proofs.lemmas.Bool.{le-ltb, le-leb, lt-leb}, specs.List.{list_all, range_with_len}}
+use Rattle.std.proofs.lemmas.List.{Sums.count_by-le-length, Folds.{list_any_at, list_any_none}}
 use Rattle.std.proofs.lemmas.List.FromFn.{get_or-range_with_len, length-range_with_len}
-use Rattle.{std.specs.List.{list_all, range_with_len}, vb_model.specs.Tests.{is_in, one_if}}
+use Rattle.vb_model.{specs.Tests.{is_in, one_if}, proofs.Tables.{count_by-cons, list_all-at}}
 use Rattle.vb_model.specs.{Pages.{covers, pages_of, is_aligned}, Driver.{with_block, without_block}}
 use Rattle.vb_model.specs.{Refusals.{first_refusal, ◌⇒◌}, declared.replies.Refusal.Refusal}
 use Rattle.vb_model.specs.declared.replies.Refusal.TheVariants.{BadOrder, BadCpu, NoPages}
-use Rattle.vb_model.{specs.Orderly.times, proofs.{PageSteps.covers_is, Tables.count_by-cons}}
-use Rattle.{vb_model.proofs.Tables.list_all-at, vb_pages.specs.PageState.{PageState, page_count}}
-use Rattle.vb_pages.specs.PageState.{cpu_count, is_free_page, IsApart, IsWhollyFree, AllocatesBlock}
-use Rattle.vb_pages.specs.PageState.{TakesFree, freed, reserved_count, with_free_block}
-use Rattle.vb_pages.specs.{PageState.HasRoomIn, declared.fault.PageFault.PageFault}
+use Rattle.{vb_model.specs.Orderly.times, vb_pages.specs.PageState.{with_free_block, HasRoomIn}}
+use Rattle.{vb_model.proofs.PageSteps.covers_is, vb_pages.proofs.Sets.{length-with_pages, in_block}}
+use Rattle.vb_pages.specs.PageState.{PageState, page_count, cpu_count, is_free_page, IsApart}
+use Rattle.vb_pages.specs.PageState.{IsWhollyFree, AllocatesBlock, TakesFree, freed, reserved_count}
+use Rattle.vb_pages.specs.declared.fault.PageFault.{PageFault, TheVariants.BadCpu as NoSuchCpu}
 use Rattle.vb_pages.specs.declared.fault.PageFault.TheVariants.{BadOrder as OrderTooLarge}
-use Rattle.vb_pages.specs.declared.fault.PageFault.TheVariants.{BadCpu as NoSuchCpu}
 use Rattle.vb_pages.specs.declared.fault.PageFault.TheVariants.{NoPages as NoFreeBlock}
 use Rattle.vb_pages.specs.declared.fault.PageFault.TheVariants.{NotHeld as NoSuchBlock}
 use Rattle.vb_pages.specs.{Areas.{has, IsBlock}, FreePages.{in_lists, drained, free_count}}
-use Rattle.vb_pages.proofs.{ListsLemmas.times_in, Sets.length-with_pages}
-use Rattle.vb_pages.proofs.{Sets.in_block, FreeLemmas.{serves_length, length-takes_pages}}
+use Rattle.vb_pages.proofs.{ListsLemmas.times_in, ServingLemmas.{serves_length, length-takes_pages}}
 use Rattle.vb_driver.specs.Areas.{AreApart, Becomes, Allots, has_block, flags_of, refusal_of}
 use Rattle.vb_driver.specs.{Areas.{is_free_at, is_covered, is_free_block}, Places.marked}
-use Rattle.vb_driver.{specs.Answers.{refusal_in, block_at}, proofs.Flags.length_flags}
-use Rattle.vb_driver.proofs.Flags.{flag_at, flag_free, free_flag, free_inside, held_unfree}
-use Rattle.vb_driver.proofs.Flags.{flags_moved, flags_same, left_by, gained_by, taken_by, for_these}
-use Rattle.vb_driver.proofs.{Flags.{serves_for, drained_sizes, given_sizes}, Placing.marked_one}
+use Rattle.vb_driver.{specs.Answers.{refusal_in, block_at}, proofs.Placing.marked_one}
+use Rattle.vb_driver.proofs.Flags.{length_flags, flag_at, flag_free, free_flag, free_inside}
+use Rattle.vb_driver.proofs.Flags.{held_unfree, flags_moved, flags_same, left_by, gained_by}
+use Rattle.vb_driver.proofs.Flags.{taken_by, for_these, serves_for, drained_sizes, given_sizes}
 
 -- the driver's answer, by the allocator's
 abbrev pub answered : {T : Type 0} → Result T PageFault → Result T Refusal

@@ -1,24 +1,21 @@
 -- What calls move and leave of a driver, worked out.
 use Rattle.std.proofs.Common.{◌≡◌, true, false, [], ◌∷◌, map, refl, ap, arith}
-use Rattle.std.specs.Prelude.{Some, None, replicate}
+use Rattle.{std.specs.Prelude.{Some, None, replicate}, vb_ring.specs.declared.layout.Layout.Layout}
 use Rattle.vb_model.specs.declared.places.Place.TheVariants.{Reserved, Free, Used, Giving, Lent}
 use Rattle.vb_model.specs.declared.places.Place.TheVariants.{Taking, Stranded, Reporting}
 use Rattle.vb_model.specs.declared.replies.Refusal.TheVariants.{BadOrder, BadCpu, NoPages, NotHeld}
 use Rattle.vb_model.specs.declared.replies.Refusal.TheVariants.{RingBroken, NotReady}
-use Rattle.vb_model.specs.Pages.{block_at}
-use Rattle.vb_ram.specs.Part.{no_part}
+use Rattle.{vb_model.specs.Pages.block_at, vb_ram.specs.Part.no_part, vb_driver.specs.State.IsQueue}
 use Rattle.vb_pages.specs.declared.fault.PageFault.TheVariants.{BadOrder as OrderTooLarge}
 use Rattle.vb_pages.specs.declared.fault.PageFault.TheVariants.{BadCpu as NoSuchCpu}
 use Rattle.vb_pages.specs.declared.fault.PageFault.TheVariants.{NoPages as NoFreeBlock}
 use Rattle.vb_pages.specs.declared.fault.PageFault.TheVariants.{NotHeld as NoSuchBlock}
-use Rattle.vb_driver.specs.{Areas.{refusal_of, is_free_block, is_covered}, Coding.buffer_of}
-use Rattle.vb_driver.specs.{Coding.statistics_buffer, Places.{number_of, is_at, first_place}}
-use Rattle.vb_driver.specs.{Places.AreLentBits, Reaps.{pages_sent, without_request, places_after}}
-use Rattle.vb_driver.specs.{Reaps.{with_actual, after_refusal, next_of}, Requests.numbers_extent}
-use Rattle.vb_driver.specs.{Requests.{figures_extent, stranded_first}, State.DriverState}
-use Rattle.vb_driver.specs.State.{fresh_driver, given_away, figures_of, pages_named, room}
-use Rattle.vb_driver.specs.State.{IsQueue, AreRequests, fresh_side}
-use Rattle.vb_ring.specs.declared.layout.Layout.{Layout}
+use Rattle.vb_driver.specs.{Areas.{refusal_of, is_free_block, is_covered}, State.{room, fresh_side}}
+use Rattle.vb_driver.specs.{Coding.{buffer_of, statistics_buffer}, Reaps.{after_refusal, next_of}}
+use Rattle.vb_driver.specs.{Places.{number_of, is_at, first_place, AreLentBits}, State.AreRequests}
+use Rattle.vb_driver.specs.Reaps.{pages_sent, without_request, places_after, with_actual}
+use Rattle.vb_driver.specs.Requests.{numbers_extent, figures_extent, stranded_first}
+use Rattle.vb_driver.specs.State.{DriverState, fresh_driver, given_away, figures_of, pages_named}
 
 -- ---- places
 

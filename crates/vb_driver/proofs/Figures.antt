@@ -2,9 +2,8 @@
 use Rattle.std.proofs.Common.{◌≡◌, ◌∙◌, arith, ℕ, ◌+◌, ◌^◌, ◌<◌, List, ◌++◌, IsSome, length}
 use Rattle.std.proofs.{Common.{drop, slice_index, Result, IsOk, OnOk}, lemmas.List.get_or-drop}
 use Rattle.{std.proofs.lemmas.Nat.from_le_bytes-to_le_bytes_8, byteorder.specs.Endian.little_bytes}
-use Rattle.vb_ram.specs.Pages.{Pages, byte_at, frame_at, Covers, Wrote}
-use Rattle.vb_ram.proofs.{FieldLaws.{field_2, field_8}, Outcome.at_ok}
-use Rattle.vb_driver.specs.Coding.{IsStatistic}
+use Rattle.vb_ram.{specs.Pages.{Pages, byte_at, frame_at, Covers, Wrote}, proofs.Outcome.at_ok}
+use Rattle.{vb_ram.proofs.FieldLaws.{field_2, field_8}, vb_driver.specs.Coding.IsStatistic}
 
 abbrev figure_bytes : ℕ → ℕ → List ℕ
 figure_bytes free total =

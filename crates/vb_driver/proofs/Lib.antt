@@ -10,6 +10,7 @@ pub mod Posting
 pub mod Naming
 pub mod Keeping
 pub mod Moving
+pub mod Resetting
 pub mod Failing
 pub mod Sizes
 pub mod Flags

@@ -1,18 +1,17 @@
 -- A request that goes out: its buffer is written, and then its chain is published.
 use Rattle.std.proofs.Common.{◌≡◌, ◌≢◌, ◌∙◌, sym, ap, subst, arith, refl, ℕ, ◌+◌, ◌*◌, ◌<◌, ◌≤◌}
 use Rattle.std.proofs.Common.{false, eqb, List, [], ◌∷◌, length, slice_index, Some, Ok, set, min}
-use Rattle.std.proofs.lemmas.Bool.{ne_eqb}
-use Rattle.vb_model.{specs.Tests.is_in, specs.Layout.{buffer_page, buffer_offset}}
+use Rattle.{std.proofs.lemmas.Bool.ne_eqb, vb_ring.proofs.MeaningLaws.{ring_apart, tracks_apart}}
+use Rattle.vb_model.specs.{Tests.is_in, Layout.{buffer_page, buffer_offset}}
 use Rattle.vb_ram.{specs.Pages.{Pages, page_at, SameBut}, proofs.FieldLaws.{same_page, same_trans}}
-use Rattle.vb_chain.{specs.declared.pieces.Piece.Piece, specs.Written.linked}
+use Rattle.vb_chain.specs.{declared.pieces.Piece.Piece, Written.linked}
 use Rattle.vb_chain.{specs.Table.descriptor_at, proofs.TableLaws.{descriptor_apart, same_parts}}
 use Rattle.vb_ring.specs.Ends.{DriverEnd, IsDriverEnd, outstanding, next_head, next_path}
 use Rattle.vb_ring.{specs.Calls.AddsBy, proofs.EntryLaws.entries_apart}
-use Rattle.vb_ring.proofs.MeaningLaws.{ring_apart, tracks_apart}
 use Rattle.vb_driver.proofs.RequestTables.{next_path_is, head_low, requests_added_at}
 use Rattle.vb_driver.{proofs.Buffers.{buffer_apart, names_kept, outside_both}, specs.Coding.Names}
 use Rattle.vb_driver.proofs.{Shapes.{IsBeside, KeepsRing, keeps_ring}, Placing.or_false}
-use Rattle.vb_driver.specs.{State.{RequestSide, AreRequests}, Calls.{Posts, Announces, written_of}}
+use Rattle.vb_driver.specs.{State.{RequestSide, AreRequests}, Calls.{Posts, Announces}}
 
 -- a chain of one readable piece that was published after a write to other pages
 pub record OnePiece (m1 m2 m3 : Pages) (r r2 : DriverEnd) (h a l : ℕ) : Type 0 where

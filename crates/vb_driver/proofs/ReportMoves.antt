@@ -1,13 +1,12 @@
 -- The driver as a report goes out, and as it comes back.
 use Rattle.std.proofs.Common.{◌≡◌, ap, arith, refl, ℕ, ◌≤◌, Bool, true, false, cond, List, []}
-use Rattle.vb_model.{proofs.Distinct.distinct_list, specs.Driver.AllDistinct, specs.Orderly.times}
-use Rattle.vb_model.specs.Pages.{Block, pages_of_all, place_of, placed, is_free}
-use Rattle.vb_model.specs.{Pages.{is_reporting}, Tests.{is_in, one_if}}
-use Rattle.vb_model.specs.declared.places.Place.{TheVariants.{Free, Giving, Taking, Reporting}}
+use Rattle.vb_model.{proofs.Distinct.distinct_list, specs.{Orderly.times, Tests.{is_in, one_if}}}
+use Rattle.{vb_model.specs.Driver.AllDistinct, vb_driver.proofs.Counting.at_is}
+use Rattle.vb_model.specs.Pages.{Block, pages_of_all, place_of, placed, is_free, is_reporting}
+use Rattle.vb_model.specs.declared.places.Place.TheVariants.{Free, Giving, Taking, Reporting}
 use Rattle.vb_pages.{specs.FreePages.FreePages, proofs.ListsLemmas.{times_in, times_out}}
-use Rattle.vb_driver.{specs.Places.{marked}, specs.Areas.{AreFor, flags_of, is_free_at}}
-use Rattle.vb_driver.specs.State.{ReportSide, DriverState, IsReportQueue, IsDriver}
-use Rattle.vb_driver.{proofs.Counting.at_is, proofs.Moving.free_is_place}
+use Rattle.vb_driver.specs.{Places.marked, State.{ReportSide, DriverState, IsReportQueue, IsDriver}}
+use Rattle.vb_driver.{specs.Areas.{AreFor, flags_of, is_free_at}, proofs.Moving.free_is_place}
 use Rattle.vb_driver.proofs.Keeping.{Leaves, stays, stays_held, free_set, kept_changed}
 
 -- ---- a report goes out

@@ -1,13 +1,12 @@
 -- A report that goes out: its chain has the first descriptors.
-use Rattle.std.proofs.Common.{◌≡◌, ◌∙◌, ap, subst, arith, ℕ, ◌+◌, ◌<◌, ◌≤◌, List}
-use Rattle.std.proofs.{Common.{[], length, slice_index, Result, Ok, Err}, lemmas.List.length-map}
-use Rattle.std.{proofs.lemmas.List.FromFn.get_or-range_with_len, specs.List.range_with_len}
-use Rattle.{vb_model.specs.{Tests.is_in, Pages.Block}, vb_ram.specs.Pages.Pages}
-use Rattle.vb_chain.specs.{Table.descriptor_at, declared.pieces.Piece.Piece, Written.linked}
-use Rattle.vb_ring.specs.{declared.driver.Full.Full, Calls.AddsBy}
-use Rattle.vb_ring.specs.Ends.{DriverEnd, outstanding, next_path, add_answer}
-use Rattle.{vb_ring.specs.Ends.after_add, vb_pages.specs.declared.block.FreeBlock.FreeBlock}
-use Rattle.vb_report.specs.Blocks.{blocks_of, piece_of, pieces_of}
+use Rattle.std.proofs.Common.{◌≡◌, ◌∙◌, ap, subst, arith, ℕ, ◌+◌, ◌<◌, ◌≤◌, List, [], length, Err}
+use Rattle.std.proofs.{Common.{slice_index, Result, Ok}, lemmas.List.FromFn.get_or-range_with_len}
+use Rattle.{std.proofs.lemmas.List.length-map, vb_model.specs.Tests.is_in, vb_ram.specs.Pages.Pages}
+use Rattle.{std.specs.List.range_with_len, vb_chain.specs.{Table.descriptor_at, Written.linked}}
+use Rattle.{vb_model.specs.Pages.Block, vb_pages.specs.declared.block.FreeBlock.FreeBlock}
+use Rattle.{vb_chain.specs.declared.pieces.Piece.Piece, vb_ring.specs.declared.driver.Full.Full}
+use Rattle.{vb_ring.specs.Calls.AddsBy, vb_report.specs.Blocks.{blocks_of, piece_of, pieces_of}}
+use Rattle.vb_ring.specs.Ends.{DriverEnd, outstanding, next_path, add_answer, after_add}
 use Rattle.vb_driver.specs.{State.{ReportSide, IsReportQueue}, Calls.PostsReport}
 use Rattle.vb_driver.proofs.ReportTables.{none_out, unowned, first_path, first_head, not_first}
 

@@ -1,22 +1,21 @@
 -- The queue of reports, whose one chain has the first descriptors.
-use Rattle.std.{specs.{List.range_with_len, Prelude.All}, proofs.lemmas.Grind.flat_map-append}
-use Rattle.std.proofs.lemmas.{Nat.pow_pos, List.{length-replicate, get_or-replicate, get_or_past}}
-use Rattle.std.proofs.lemmas.List.{length-map, get_or-map, take_more, map-append, length-append}
-use Rattle.std.proofs.lemmas.List.{Folds.list_any-append, FromFn.take-map-range_with_len}
-use Rattle.std.proofs.lemmas.List.FromFn.{length-range_with_len, get_or-range_with_len}
-use Rattle.std.proofs.{lemmas.Bool.{cases_lt, le-ltb, lt-ltb, or_left, or_right}, Common.◌≡◌}
-use Rattle.std.proofs.Common.{◌∙◌, sym, ap, arith, refl, ℕ, zero, suc, ◌+◌, ◌<◌, ◌≤◌, Bool}
+use Rattle.{std.specs.List.range_with_len, vb_model.proofs.PageSteps.{is_in-range, outside-range}}
+use Rattle.std.{specs.Prelude.All, proofs.lemmas.Bool.{cases_lt, le-ltb, lt-ltb, or_left, or_right}}
+use Rattle.std.proofs.{lemmas.Grind.flat_map-append, Common.{nat_lt, add-one, append-nil, ◌-◌, ◌^◌}}
+use Rattle.std.proofs.lemmas.{Nat.pow_pos, List.{get_or-map, take_more, map-append, length-append}}
+use Rattle.std.proofs.lemmas.List.{length-replicate, get_or-replicate, get_or_past, length-map}
+use Rattle.std.proofs.lemmas.List.{Folds.list_any-append, FromFn.get_or-range_with_len}
+use Rattle.std.proofs.lemmas.List.FromFn.{take-map-range_with_len, length-range_with_len}
+use Rattle.std.proofs.Common.{◌≡◌, ◌∙◌, sym, ap, arith, refl, ℕ, zero, suc, ◌+◌, ◌<◌, ◌≤◌, Bool}
 use Rattle.std.proofs.Common.{true, false, cond, List, [], ◌∷◌, ◌++◌, length, take, map, Option}
 use Rattle.std.proofs.Common.{None, Some, Ok, replicate, is_none, slice_index, slice_index_or}
-use Rattle.{std.proofs.Common.{nat_lt, add-one, append-nil, ◌-◌, ◌^◌}, vb_model.specs.Tests.is_in}
-use Rattle.vb_model.{specs.Pages.{Block, pages_of, pages_of_all}, proofs.PageSteps.is_in-range}
-use Rattle.{vb_model.proofs.PageSteps.outside-range, vb_ring.proofs.OwnerLaws.claimed-at}
-use Rattle.vb_ring.proofs.{OwnerLaws.released-at, Numbers.{numbers_yes, numbers_zero, length_all}}
+use Rattle.vb_model.specs.{Tests.is_in, Pages.{Block, pages_of, pages_of_all}}
+use Rattle.vb_ring.{proofs.OwnerLaws.{claimed-at, released-at}, specs.Entries.{is_own, is_head}}
+use Rattle.vb_ring.proofs.Numbers.{numbers_yes, numbers_zero, length_all}
 use Rattle.vb_ring.specs.Ends.{DriverEnd, IsDriverEnd, is_unused, outstanding, free_descriptors}
 use Rattle.vb_ring.specs.{Ends.{next_path, add_answer, after_add, after_take}, Numbers.numbers}
-use Rattle.{vb_ring.specs.Entries.{is_own, is_head}, vb_pages.proofs.Sets.in_block}
-use Rattle.{vb_pages.specs.declared.block.FreeBlock.FreeBlock, vb_report.specs.Blocks.block_of}
-use Rattle.{vb_report.specs.Blocks.{blocks_of, HasOrder}, vb_driver.proofs.Placing.range_push}
+use Rattle.{vb_pages.proofs.Sets.in_block, vb_report.specs.Blocks.{block_of, blocks_of, HasOrder}}
+use Rattle.{vb_pages.specs.declared.block.FreeBlock.FreeBlock, vb_driver.proofs.Placing.range_push}
 use Rattle.vb_driver.specs.State.{ReportSide, IsReportQueue, IsAreaBlock, fresh_report}
 
 -- nothing belongs to a chain

@@ -1,16 +1,14 @@
 -- A queue whose chains are requests of one descriptor each.
 use Rattle.std.proofs.Common.{◌≡◌, ◌≢◌, sym, ap, subst, arith, refl, ℕ, ◌<◌, ◌≤◌, true, false, List}
 use Rattle.std.proofs.Common.{[], ◌∷◌, length, take, slice_get, slice_index, slice_index_or, inl}
-use Rattle.std.proofs.Common.{inr, ◌⊎◌, Option, Some, None, Ok, nat_lt, set, min}
-use Rattle.std.proofs.lemmas.{Bool.cases_lt, Bool.Decides.nat_tests, List.length-set}
-use Rattle.std.proofs.lemmas.{List.{get_or-set_other, get_or_past}, Grind.get_or-set_at}
+use Rattle.{std.proofs.Common.{inr, ◌⊎◌, None, set, min}, vb_driver.proofs.ReportTables.none_owned}
+use Rattle.std.proofs.{Common.{Option, Some, Ok, nat_lt}, lemmas.Bool.{cases_lt, Decides.nat_tests}}
+use Rattle.std.proofs.lemmas.{List.{length-set, get_or-set_other, get_or_past}, Grind.get_or-set_at}
 use Rattle.vb_ring.specs.Ends.{DriverEnd, IsDriverEnd, is_unused, free_descriptors, outstanding}
-use Rattle.vb_ring.specs.Entries.{is_head}
+use Rattle.vb_ring.{specs.Entries.is_head, proofs.OwnerLaws.{claimed-at, released-at}}
 use Rattle.vb_ring.proofs.Numbers.{numbers_pass, numbers_rise, numbers_has, length_all}
 use Rattle.vb_ring.specs.Ends.{next_head, next_path, after_add, after_take, claimed}
-use Rattle.vb_ring.proofs.OwnerLaws.{claimed-at, released-at}
 use Rattle.vb_driver.specs.{State.{RequestSide, AreRequests, fresh_ring}, Reaps.after_reap}
-use Rattle.vb_driver.proofs.ReportTables.{none_owned}
 
 -- ---- the next head
 

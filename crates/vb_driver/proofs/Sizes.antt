@@ -1,11 +1,10 @@
 -- The sizes of a guest within the limits.
-use Rattle.std.proofs.Common.{◌≡◌, ◌∙◌, refl, arith, ℕ, ◌%◌, ◌<◌, Bool, true, not, ◌||◌}
-use Rattle.std.proofs.{Common.{eqb, eq-eqb, zero-add, get_or}, lemmas.Bool.{and_parts, eqb-true}}
-use Rattle.std.proofs.lemmas.List.{Folds.list_any_at, FromFn.length-range_with_len}
-use Rattle.std.{proofs.lemmas.List.FromFn.get_or-range_with_len, specs.List.list_all}
-use Rattle.{std.specs.List.range_with_len, vb_model.specs.Tests.is_in}
-use Rattle.vb_model.{specs.Limits.{is_config, is_power_of_two}, proofs.Tables.list_all-at}
-use Rattle.{vb_ram.proofs.Limits.config_limits, vb_ring.specs.Layout.IsSize}
+use Rattle.std.proofs.Common.{◌≡◌, ◌∙◌, refl, arith, ℕ, ◌%◌, ◌<◌, Bool, true, not, ◌||◌, eqb}
+use Rattle.std.{proofs.Common.{eq-eqb, zero-add, get_or}, specs.List.{list_all, range_with_len}}
+use Rattle.std.proofs.lemmas.{Bool.{and_parts, eqb-true}, List.Folds.list_any_at}
+use Rattle.std.proofs.lemmas.List.FromFn.{length-range_with_len, get_or-range_with_len}
+use Rattle.{vb_model.{specs.Tests.is_in, proofs.Tables.list_all-at}, vb_ring.specs.Layout.IsSize}
+use Rattle.{vb_model.specs.Limits.{is_config, is_power_of_two}, vb_ram.proofs.Limits.config_limits}
 
 abbrev passes : ℕ → Bool
 passes q = not (is_power_of_two q) || eqb (65536 % q) 0

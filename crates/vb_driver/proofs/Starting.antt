@@ -1,5 +1,5 @@
 -- A device is asked for features, and its rings begin.
-use Rattle.std.proofs.Common.{inl, inr, ◌≡◌, ◌≢◌, ◌∙◌}
+use Rattle.{std.proofs.Common.{inl, inr, ◌≡◌, ◌≢◌, ◌∙◌}, vb_driver.specs.Calls.with_nothing_out}
 use Rattle.std.proofs.Common.{arith, ℕ, ◌<◌, true, false, None, Some, Result, is_err, OnOk}
 use Rattle.vb_model.specs.{Layout.{is_ring_page, ring_number, ring_page}, Status.negotiate_refusal}
 use Rattle.vb_model.specs.{Status.status_refusal, Life.{feature_refusal, accepted_before}}
@@ -8,9 +8,8 @@ use Rattle.{vb_model.proofs.Shapes.ring_no_buffer, vb_ram.specs.Pages.{Pages, by
 use Rattle.{vb_ram.proofs.FieldLaws.same_page, vb_ring.specs.{Layout.IsSize, Ends.DriverEnd}}
 use Rattle.vb_ring.proofs.{Shapes.{parts_in_ring, fits_at}, MeaningLaws.{fresh_shows, fresh_tracks}}
 use Rattle.vb_status.specs.{declared.bits.StatusFault.StatusFault, Answers.answered_refusal}
-use Rattle.vb_driver.proofs.Shapes.{ring_layout, IsBeside, beside_rings}
-use Rattle.vb_driver.specs.State.{DriverState, fresh_ring, fresh_statistics}
-use Rattle.vb_driver.specs.{Coding.SameButPages, Calls.{IsNewRing, with_nothing_out}}
+use Rattle.vb_driver.{proofs.Shapes.{ring_layout, IsBeside, beside_rings}, specs.Calls.IsNewRing}
+use Rattle.vb_driver.specs.{State.{DriverState, fresh_ring, fresh_statistics}, Coding.SameButPages}
 
 -- features that are offered are refused for what FEATURES_OK needs alone
 pub offered_then : (wanted : ℕ) → negotiate_refusal 3 wanted ≡ None

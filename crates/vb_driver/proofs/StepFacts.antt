@@ -1,21 +1,17 @@
 -- What the records of a driver's calls say of one state: the answer, and what is left.
-use Rattle.std.proofs.Common.{◌≡◌, ℕ, true, false, List, [], ◌∷◌, refl, arith, ap}
+use Rattle.std.proofs.Common.{◌≡◌, ℕ, true, false, [], ◌∷◌, arith, ap}
 use Rattle.std.specs.Prelude.{Option, Some, None, Result, Ok, Err, Bool}
 use Rattle.vb_model.specs.declared.places.Place.TheVariants.{Reserved, Free, Used, Giving, Lent}
 use Rattle.vb_model.specs.declared.places.Place.TheVariants.{Taking, Stranded, Reporting}
-use Rattle.vb_model.specs.declared.replies.Refusal.{Refusal}
+use Rattle.vb_model.specs.declared.replies.Refusal.{Refusal, TheVariants.RingBroken}
 use Rattle.vb_model.specs.declared.replies.Refusal.TheVariants.{AlreadyUp, BadCpu, NoFeature}
 use Rattle.vb_model.specs.declared.replies.Refusal.TheVariants.{NoPages, NoQueue, NotHeld}
-use Rattle.vb_model.specs.declared.replies.Refusal.TheVariants.{RingBroken}
-use Rattle.vb_model.specs.{FirstRefusal.refusal_in, Pages.block_at}
-use Rattle.vb_ram.specs.{Pages.{Pages}, Part.{Part, no_part}}
-use Rattle.vb_ring.specs.Ends.{after_take, used_answer}
-use Rattle.vb_driver.specs.declared.answers.{Posted.{Posted}, Reaped.{Reaped}}
+use Rattle.{vb_model.specs.{FirstRefusal.refusal_in, Pages.block_at}, vb_ring.specs.Ends.after_take}
+use Rattle.{vb_ram.specs.{Pages.Pages, Part.{Part, no_part}}, vb_ring.specs.Ends.used_answer}
+use Rattle.vb_driver.specs.{declared.answers.{Posted.Posted, Reaped.Reaped}, Areas.areas_with}
 use Rattle.vb_driver.specs.Calls.{AllocatesBy, FreesBy, InflatesBy, DeflatesBy, ReportsBy, ReapsBy}
-use Rattle.vb_driver.specs.Calls.{FillsBy, InitsBy, ResetsBy}
-use Rattle.vb_driver.specs.Areas.{areas_with}
+use Rattle.vb_driver.{specs.Calls.{FillsBy, InitsBy, ResetsBy}, proofs.DriverFacts.busy}
 use Rattle.vb_driver.specs.State.{DriverState, fresh_report, fresh_side, fresh_statistics}
-use Rattle.vb_driver.proofs.DriverFacts.{busy}
 
 abbrev up : Part
 up = record no_part { status = 15 }

@@ -7,7 +7,7 @@ use Rattle.vb_ring.specs.declared.driver.RingBroken.{RingBroken, TheVariants.Not
 use Rattle.vb_ring.specs.{Ends.{DriverEnd, after_take, used_answer, outstanding}, Calls.TakesUsedBy}
 use Rattle.vb_ring.specs.{Entries.{is_head, only_head}, Meaning.{UsedElem, ids, times, Shows}}
 use Rattle.vb_ring.{specs.Meaning.Tracks, proofs.{Numbers.length-numbers, EntryLaws.id_shown}}
-use Rattle.{vb_ring.proofs.MeaningLaws.{times-push, ids-push}, vb_guest.specs.Ring.RingStands}
+use Rattle.{vb_ring.proofs.HeadCounts.{times-push, ids-push}, vb_guest.specs.Ring.RingStands}
 use Rattle.vb_guest.{specs.Ring.used_of, proofs.RingHeads.{one_is, is_one, length-used, length-ids}}
 use Rattle.vb_guest.proofs.RingHeads.{ids-split, get_after, none_after, ring_once, ring_count}
 

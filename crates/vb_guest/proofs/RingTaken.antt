@@ -3,7 +3,7 @@ use Rattle.std.specs.Prelude.{◌≡◌, ℕ, ◌+◌, ◌%◌, List, [], ◌∷
 use Rattle.std.proofs.{Common.{sym, ◌∙◌, ap, subst, arith, append_assoc}, lemmas.List.length_push}
 use Rattle.{vb_ram.specs.Pages.Pages, vb_ring.specs.{Entries.next_entry, Ends.DriverEnd}}
 use Rattle.vb_ring.{specs.Meaning.{Shows, Tracks}, proofs.EntryLaws.entry_shown}
-use Rattle.{vb_ring.proofs.MeaningLaws.times-push, vb_guest.specs.Ring.RingStands}
+use Rattle.{vb_ring.proofs.HeadCounts.times-push, vb_guest.specs.Ring.RingStands}
 use Rattle.vb_guest.{specs.Ring.used_of, proofs.RingHeads.{length-used, get_after, none_after}}
 
 -- the device's next entry is the first posted head

@@ -1,12 +1,12 @@
 -- The device uses a taken head.
-use Rattle.std.proofs.{Common.{sym, ◌∙◌, ap, subst, arith, append_assoc}, lemmas.List.length_push}
-use Rattle.std.proofs.lemmas.{List.{map_push, Edits.length-remove}, Option.slice_get_within}
-use Rattle.std.specs.Prelude.{◌≡◌, ℕ, ◌+◌, ◌%◌, ◌<◌, true, List, [], ◌∷◌, ◌++◌, length}
-use Rattle.{std.specs.Prelude.{Some, slice_get, remove}, vb_model.proofs.Distinct.times-append}
-use Rattle.{vb_ram.specs.Pages.Pages, vb_ring.proofs.MeaningLaws.{times-push, used_tracks}}
-use Rattle.vb_ring.specs.{Calls.AddsUsedBy, Ends.{DriverEnd, DeviceEnd}, Meaning.UsedElem}
-use Rattle.{vb_ring.specs.Meaning.{ids, times, Shows, Tracks}, vb_guest.proofs.RingHeads.one_is}
-use Rattle.vb_guest.{proofs.RingHeads.{times-remove, times-used}, specs.Ring.{RingStands, used_of}}
+use Rattle.{std.proofs.Common.{sym, ◌∙◌, ap, subst, arith, append_assoc}, vb_ram.specs.Pages.Pages}
+use Rattle.std.{proofs.lemmas.List.{length_push, map_push, Edits.length-remove}, specs.Prelude.◌∷◌}
+use Rattle.{std.proofs.lemmas.Option.slice_get_within, vb_ring.proofs.MeaningLaws.used_tracks}
+use Rattle.std.specs.Prelude.{◌≡◌, ◌+◌, ◌%◌, ◌<◌, true, List, ◌++◌, length, Some, slice_get, remove}
+use Rattle.{std.specs.Prelude.{ℕ, []}, vb_guest.proofs.RingHeads.{one_is, times-remove, times-used}}
+use Rattle.{vb_model.proofs.Distinct.times-append, vb_guest.specs.Ring.{RingStands, used_of}}
+use Rattle.vb_ring.{proofs.HeadCounts.times-push, specs.Ends.{DriverEnd, DeviceEnd}}
+use Rattle.vb_ring.specs.{Calls.AddsUsedBy, Meaning.{UsedElem, ids, times, Shows, Tracks}}
 
 pub ring_used : {m1 m2 : Pages} {q : ℕ} {ring : DriverEnd}
     {next_avail next_used : ℕ} {posted taken done : List ℕ} (i : ℕ) {h : ℕ} {after : DeviceEnd}

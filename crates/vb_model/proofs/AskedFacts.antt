@@ -1,23 +1,21 @@
 -- Courses in which an offered page is handed out again: how it is asked back before, and how not.
 use Rattle.std.proofs.Common.{List, [], ap, arith, false, map, refl, replicate, sym, true, ℕ, ◌++◌}
-use Rattle.std.{proofs.Common.{◌∷◌, ◌≡◌}, specs.Prelude.{IsTrue, None, Option, Some, length}}
-use Rattle.std.specs.Prelude.{slice_get}
+use Rattle.{std.proofs.Common.{◌∷◌, ◌≡◌}, vb_model.specs.Life.after_reset}
+use Rattle.std.specs.Prelude.{IsTrue, None, Option, Some, length, slice_get}
 use Rattle.vb_model.proofs.AskedTests.{IsAskedBack, IsSafe, Row, none_asked, none_hands_out}
-use Rattle.vb_model.proofs.{AskedTests.{not_posted, not_reaped}, SafeFacts.{goes, made, posted}}
-use Rattle.vb_model.proofs.{SafeFacts.{request_16, used}, Samples.{NoneOf, down, page_16_at, ready}}
-use Rattle.vb_model.{proofs.Samples.{request, untold}, specs.Courses.{Course, DeflatePostedAt}}
-use Rattle.vb_model.specs.Courses.{ReapedAt, WasAskedBack, guest_after, posts_deflate}
-use Rattle.vb_model.specs.{Guest.{Guest, requests}, GuestRun.{Called, Entry}, Life.after_reset}
-use Rattle.vb_model.specs.Requests.{Deflating, Inflating, Kind, Reporting_free, Request, Requests}
-use Rattle.vb_model.specs.{Requests.{no_requests, queue_of}, declared.calls.Actor.Actor}
-use Rattle.vb_model.specs.declared.calls.{Actor.TheVariants.{Processor, Worker}, Call.Call}
+use Rattle.vb_model.proofs.{AskedTests.not_posted, SafeFacts.{made, posted, request_16, used}}
+use Rattle.vb_model.proofs.Samples.{NoneOf, down, page_16_at, ready, request, untold}
+use Rattle.vb_model.specs.Courses.{Course, DeflatePostedAt, ReapedAt, WasAskedBack, guest_after}
+use Rattle.vb_model.specs.{Courses.posts_deflate, Guest.{Guest, requests}, Requests.queue_of}
+use Rattle.vb_model.specs.{GuestRun.{Called, Entry}, declared.replies.Refusal.TheVariants.QueueFull}
+use Rattle.vb_model.specs.Requests.{Deflating, Inflating, Kind, Request, Requests, no_requests}
+use Rattle.vb_model.specs.declared.calls.Actor.{Actor, TheVariants.{Processor, Worker}}
+use Rattle.vb_model.specs.declared.calls.Call.{Call, TheVariants.{Reap, Report, Reset, Work}}
 use Rattle.vb_model.specs.declared.calls.Call.TheVariants.{Alloc, Deflate, Finish, Inflate, Oom}
-use Rattle.vb_model.specs.declared.calls.Call.TheVariants.{Reap, Report, Reset, Work}
-use Rattle.vb_model.specs.declared.places.Place.{Place, TheVariants.{Free as FreePlace, Giving}}
-use Rattle.vb_model.specs.declared.places.Place.TheVariants.{Lent, Stranded, Taking, Used}
-use Rattle.vb_model.specs.declared.replies.{Refusal.TheVariants.QueueFull, Reply.TheVariants.Done}
-use Rattle.vb_model.specs.declared.replies.Reply.TheVariants.{Finished, Idle, NotUsed, Page, Posted}
-use Rattle.vb_model.specs.declared.replies.Reply.TheVariants.{Reaped, Refused}
+use Rattle.vb_model.specs.declared.places.Place.{Place, TheVariants.{Stranded, Taking, Used}}
+use Rattle.vb_model.specs.declared.places.Place.TheVariants.{Free as FreePlace, Giving, Lent}
+use Rattle.vb_model.specs.declared.replies.Reply.TheVariants.{Done, Finished, Idle, NotUsed, Page}
+use Rattle.vb_model.specs.declared.replies.Reply.TheVariants.{Posted, Reaped, Refused}
 
 -- page 16 is offered by entry 0, and then come these entries; the guest is the same but for the page
 -- and the requests
@@ -39,7 +37,7 @@ lent g = page_16_at Lent g
 abbrev asked : Place → Guest → Guest
 asked place g = record (page_16_at place g) { deflate = posted request_16 }
 
-abbrev coming_back : Place → Guest → Guest
+abbrev pub coming_back : Place → Guest → Guest
 coming_back place g = record (page_16_at place g) { deflate = used request_16 }
 
 abbrev pub back : Guest → Guest
@@ -59,7 +57,7 @@ abbrev some_own : Option Entry → Option (Option Entry)
 some_own own = Some own
 
 -- an entry reaped the used request of a page
-abbrev reaps : (kind : Kind) (c : Course) (j : ℕ) (g : Guest) (actor : Actor)
+abbrev pub reaps : (kind : Kind) (c : Course) (j : ℕ) (g : Guest) (actor : Actor)
     → slice_get c.entries j
     ≡ some_own (Some (Called actor (Reap (queue_of kind)) [] (Reaped 0 1)))
     → guest_after c j ≡ Some g → (requests kind g).done ≡ request_16 ∷ [] → ReapedAt kind c 16 j
@@ -319,49 +317,3 @@ handed_out_too_early : NoneOf IsSafe ((never_asked untold, (0, 3)) ∷ (too_earl
     ∷ (handed_out_at_once ready, (0, 1)) ∷ (handed_out_at_once untold, (0, 1))
     ∷ (over_a_reset, (0, 3)) ∷ (reaped_early, (1, 5)) ∷ (posted_early, (1, 5)) ∷ [])
 handed_out_too_early = none_hands_out _ refl
-
--- ---- a reap of a used deflate that names the page, and of none else
-
-abbrev given_back : Course
-given_back = goes (coming_back Taking ready) (Reap 1) (Reaped 0 1) (back ready)
-
-reaps_page_16 : ReapedAt Deflating given_back 16 0
-reaps_page_16 =
-    reaps Deflating given_back 0 (coming_back Taking ready) (Processor 0 0) refl refl refl
-
--- the guest goes on as it was
-abbrev with_entry : Guest → Option Entry → Course
-with_entry g own = record { first = g; entries = own ∷ []; after = g ∷ [] }
-
--- whoever made it, and whatever its claims were given
-reaped_by_the_worker : ReapedAt Deflating
-    (with_entry (coming_back Taking ready) (Some (Called (Worker 0) (Reap 1) [] (Reaped 0 1)))) 16 0
-reaped_by_the_worker =
-    reaps Deflating _ 0 (coming_back Taking ready) (Worker 0) refl refl refl
-
-not_page_17 : ReapedAt Deflating given_back 17 0 → ⊥
-not_page_17 = not_reaped Deflating given_back 17 0 refl
-
--- none is another guest's reap, one of another queue, one that was answered otherwise, or one while
--- another request is the first used one
-abbrev behind_another : Guest
-behind_another = record (page_16_at Taking ready)
-    { deflate = record { posted = []; taken = []; done = request 1 (17 ∷ []) 0 ∷ request_16 ∷ [] } }
-
-abbrev NotReaped : Guest → Option Entry → Type 0
-NotReaped g own = ReapedAt Deflating (with_entry g own) 16 0 → ⊥
-
-none_reaped : NotReaped (coming_back Taking ready) None
-    × NotReaped (coming_back Taking ready) (made (Reap 0) (Reaped 0 1))
-    × NotReaped (coming_back Taking ready) (made (Reap 1) NotUsed)
-    × NotReaped behind_another (made (Reap 1) (Reaped 0 1))
-none_reaped = (
-  not_reaped Deflating _ 16 0 refl,
-  not_reaped Deflating _ 16 0 refl,
-  not_reaped Deflating _ 16 0 refl,
-  not_reaped Deflating _ 16 0 refl,
-)
-
--- the queue of each kind
-queues : map queue_of (Inflating ∷ Deflating ∷ Reporting_free ∷ []) ≡ 0 ∷ 1 ∷ 4 ∷ []
-queues = refl

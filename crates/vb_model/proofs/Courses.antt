@@ -2,7 +2,7 @@
 use Rattle.std.proofs.Common.{◌≡◌, ℕ, zero, suc, ◌+◌, false, List, [], ◌∷◌, sym, subst, arith}
 use Rattle.std.specs.Prelude.{Option, Some, None, slice_get}
 use Rattle.vb_model.proofs.{AttentiveSteps.honest_attentive, BlankSteps.{honest_blank, fresh_blank}}
-use Rattle.vb_model.proofs.{CallSteps.honest_keeps, Changes.same_some, GuestSteps.fresh_consistent}
+use Rattle.vb_model.proofs.{CallSteps.honest_keeps, Changes.same_some, LifeSteps.fresh_consistent}
 use Rattle.vb_model.{proofs.OrderlySteps.{honest_order, fresh_order}, specs.Blank.IsBlank}
 use Rattle.vb_model.specs.{Consistent.IsConsistent, Courses.{Course, guest_after}, Guest.Guest}
 use Rattle.vb_model.specs.{Guest.{Config, fresh}, GuestRun.{Entry, Called, Looked, EntryStep}}

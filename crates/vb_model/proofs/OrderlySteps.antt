@@ -4,20 +4,21 @@ use Rattle.std.proofs.Common.{sym, true, ℕ, ◌+◌, ◌-◌, ◌<◌, ◌∙�
 use Rattle.std.proofs.lemmas.{Bool.{and_parts, cases_lt, true_from_ne_false}, List.get_or_past}
 use Rattle.std.proofs.lemmas.List.{length-map, FromFn.get_or-map-range_with_len}
 use Rattle.std.{proofs.lemmas.{List.FromFn.length-range_with_len, Nat.pow_pos}, specs.Prelude.None}
-use Rattle.std.specs.Prelude.{Option, Some, nat_lt, slice_get}
+use Rattle.{std.specs.Prelude.{Option, Some, nat_lt, slice_get}, vb_model.specs.Life.Negotiates}
 use Rattle.vb_model.proofs.{Cases.{supplied, wholly_free_pages}, Deeds.{Aimed, Allocated, Buffered}}
 use Rattle.vb_model.proofs.Deeds.{Deed, Freed, Has_finished, Has_posted, Has_reaped, Has_scribbled}
 use Rattle.vb_model.proofs.Deeds.{Has_swept, Has_taken, Has_written, Initialised, IsPosting, Stayed}
-use Rattle.vb_model.proofs.Deeds.{Visited, Was_reset, deed, leaves, most}
+use Rattle.vb_model.proofs.{Deeds.{Visited, Was_reset, deed, leaves}, GuestSteps.report_reporting}
+use Rattle.vb_model.proofs.{Deeds.most, InOrder.orderly_work, PageSteps.{after_take, outside-range}}
 use Rattle.vb_model.proofs.GuestSteps.{deflate_there, held_used, inflate_giving, length-reaped}
-use Rattle.vb_model.proofs.GuestSteps.{not_reserved, place_of-reset, placed-get, report_reporting}
+use Rattle.vb_model.proofs.{GuestSteps.{not_reserved, placed-get}, LifeSteps.place_of-reset}
 use Rattle.vb_model.proofs.InOrder.{orderly_finish, orderly_posting, orderly_reap, orderly_take}
-use Rattle.vb_model.proofs.{InOrder.orderly_work, PageSteps.{after_take, outside-range}}
-use Rattle.vb_model.{proofs.Tables.length-each_from, specs.Consistent.IsConsistent}
+use Rattle.vb_model.{proofs.Tables.length-each_from, specs.{Consistent.IsConsistent, Life.lacking}}
 use Rattle.vb_model.specs.{Device.{settled, used, visited}, Driver.{after_posting, reaped}}
 use Rattle.vb_model.specs.{Driver.{with_block, without_block}, Guest.{Config, Guest, fresh}}
 use Rattle.vb_model.specs.{Guest.{requests, tells_host, with_requests}, Layout.reserved_pages}
-use Rattle.vb_model.specs.Life.{Negotiates, after_reset, feature_refusal, lacking}
+use Rattle.vb_model.specs.{Life.after_reset, declared.replies.{Refusal.Refusal, Reply.Reply}}
+use Rattle.vb_model.specs.{Life.feature_refusal, declared.places.Place.TheVariants.{Reserved, Used}}
 use Rattle.vb_model.specs.{Limits.max_order, Orderly.{AreBlocks, AreOrderly, IsBlock, IsOrderly}}
 use Rattle.vb_model.specs.Pages.{Block, is_aligned, is_free, is_giving, is_reporting, is_reserved}
 use Rattle.vb_model.specs.Pages.{is_same_block, is_used, is_wholly_free, pages_of, place_of, placed}
@@ -25,8 +26,6 @@ use Rattle.vb_model.specs.{Pages.size, Requests.{Deflating, Inflating, Kind, Rep
 use Rattle.vb_model.specs.Requests.{Request, Requests, names, place_posted, places_reaped}
 use Rattle.vb_model.specs.{Step.HonestStep, Tests.is_in, declared.calls.{Call.Call, Claim.Claim}}
 use Rattle.vb_model.specs.declared.places.Place.{Place, TheVariants.{Free as FreePlace, Lent}}
-use Rattle.vb_model.specs.declared.places.Place.TheVariants.{Reserved, Used}
-use Rattle.vb_model.specs.declared.replies.{Refusal.Refusal, Reply.Reply}
 
 -- ---- places
 

@@ -1,17 +1,16 @@
 -- Courses of a guest that are not safe, one for each thing that safety promises: of its features,
--- its frames, what its pages hold and what reads give, of driver and device, and of faults.
+-- its frames, what its pages hold and what reads give, and of faults.
 use Rattle.std.proofs.Common.{◌≡◌, ℕ, zero, suc, true, false, List, [], ◌∷◌, ◌++◌, replicate, refl}
-use Rattle.std.{proofs.Common.{inl, inr, arith}, specs.Prelude.{Option, Some, None}}
-use Rattle.vb_model.proofs.Samples.{ready, down, untold, page_16_at, request}
+use Rattle.std.proofs.Common.{inl, inr, arith}
+use Rattle.{std.specs.Prelude.{Option, Some, None}, vb_model.specs.Histories.IsSafeCourse}
+use Rattle.vb_model.{proofs.Samples.{ready, down, page_16_at, request}, specs.Guest.{Guest, fresh}}
 use Rattle.vb_model.specs.Courses.{Course, StaysHeld, StaysOrLoses, ReadsGiveLastWrites}
-use Rattle.vb_model.specs.{Guest.{Guest, fresh}, GuestRun.{Entry, Called}, Histories.IsSafeCourse}
+use Rattle.vb_model.specs.{GuestRun.{Entry, Called}, declared.{calls.Call.Call, places.Place.Place}}
 use Rattle.vb_model.specs.{Requests.{Request, Requests}, declared.calls.Actor.TheVariants.Processor}
-use Rattle.vb_model.specs.declared.calls.Call.{Call, TheVariants.{Read, Reap, Reset, Stats, Sweep}}
-use Rattle.vb_model.specs.declared.{calls.Call.TheVariants.{Take, Work, Write}, places.Place.Place}
-use Rattle.vb_model.specs.declared.places.Place.TheVariants.{Giving, Lent, Taking}
+use Rattle.vb_model.specs.declared.calls.Call.TheVariants.{Read, Reap, Reset, Stats, Sweep, Take}
+use Rattle.vb_model.specs.declared.{calls.Call.TheVariants.{Work, Write}, replies.Reply.Reply}
 use Rattle.vb_model.specs.declared.replies.Refusal.TheVariants.{RingBroken, Broken, NoFrame}
-use Rattle.vb_model.specs.declared.replies.Reply.{Reply, TheVariants.{Done, Idle, ReadBytes, Swept}}
-use Rattle.vb_model.specs.declared.replies.Reply.TheVariants.{Refused}
+use Rattle.vb_model.specs.declared.replies.Reply.TheVariants.{Done, Idle, ReadBytes, Swept, Refused}
 use Rattle.vb_model.specs.declared.places.Place.TheVariants.{Free as FreePlace, Used, Reserved}
 
 -- the guest's own call
@@ -35,14 +34,24 @@ later g call reply new =
     record { first = g; entries = None ∷ made call reply ∷ []; after = g ∷ new ∷ [] }
 
 -- the guest is down, and then, by another's event, so
-abbrev becomes : Guest → Course
+abbrev pub becomes : Guest → Course
 becomes g = record { first = down; entries = None ∷ []; after = g ∷ [] }
 
-abbrev place_16 : Place → Guest
+abbrev pub place_16 : Place → Guest
 place_16 place = page_16_at place ready
 
-abbrev Same : ℕ → ℕ → Type 0
+abbrev pub Same : ℕ → ℕ → Type 0
 Same a b = a ≡ b
+
+-- a request of page 16, and the requests of a queue where one is posted, or used
+abbrev pub request_16 : Request
+request_16 = request 0 (16 ∷ []) 0
+
+abbrev pub posted : Request → Requests
+posted r = record { posted = r ∷ []; taken = []; done = [] }
+
+abbrev pub used : Request → Requests
+used r = record { posted = []; taken = []; done = r ∷ [] }
 
 -- ---- a guest is ready with features that it may not have
 
@@ -279,134 +288,6 @@ write_without_effect s =
 written_elsewhere : IsSafeCourse (written_as (1 ∷ 7 ∷ [])) → ⊥
 written_elsewhere s =
     let e : SameBytes (1 ∷ 7 ∷ []) (7 ∷ 2 ∷ []) = writes_first_byte (1 ∷ 7 ∷ []) s in cc
-
--- ---- driver and device don't agree on a page
-
-abbrev pub request_16 : Request
-request_16 = request 0 (16 ∷ []) 0
-
-abbrev pub posted : Request → Requests
-posted r = record { posted = r ∷ []; taken = []; done = [] }
-
-abbrev pub used : Request → Requests
-used r = record { posted = []; taken = []; done = r ∷ [] }
-
-abbrev flagged : Guest → Guest
-flagged g = record g { ballooned = replicate 16 false ++ (true ∷ []); actual = 1 }
-
-ballooned_but_free : IsSafeCourse (stands (flagged (place_16 FreePlace))) → ⊥
-ballooned_but_free s = elim ((s.both_agree 0 (flagged (place_16 FreePlace)) refl 16).0 refl) [
-  | inl e ↦ cc
-  | inr (inl l) ↦ omega arith
-  | inr (inr (inl l)) ↦ omega arith
-  | inr (inr (inr l)) ↦ omega arith
-]
-
-abbrev giving_twice : Guest
-giving_twice = record (flagged (place_16 Giving)) {
-  inflate = record { posted = request_16 ∷ []; taken = request 1 (16 ∷ []) 0 ∷ []; done = [] };
-}
-
-ballooned_while_giving : IsSafeCourse (stands giving_twice) → ⊥
-ballooned_while_giving s = elim ((s.both_agree 0 giving_twice refl 16).0 refl) [
-  | inl e ↦ cc
-  | inr (inl l) ↦ omega arith
-  | inr (inr (inl l)) ↦ omega arith
-  | inr (inr (inr l)) ↦ omega arith
-]
-
-lent_but_not_ballooned : IsSafeCourse (stands (place_16 Lent)) → ⊥
-lent_but_not_ballooned s = let e : false ≡ true =
-    (s.both_agree 0 (place_16 Lent) refl 16).1 (inl refl) in cc
-
-lent_but_not_ballooned_later : IsSafeCourse (becomes (page_16_at Lent down)) → ⊥
-lent_but_not_ballooned_later s = let e : false ≡ true =
-    (s.both_agree 1 (page_16_at Lent down) refl 16).1 (inl refl) in cc
-
--- a page that a used inflate names is ballooned, and so is one that a posted or a taken deflate
--- names; one that a used deflate names isn't
-used_inflate_not_ballooned : IsSafeCourse
-    (stands (record (place_16 Giving) { inflate = used request_16 })) → ⊥
-used_inflate_not_ballooned s =
-    let e : false ≡ true =
-    (s.both_agree 0 (record (place_16 Giving) { inflate = used request_16 }) refl 16).1
-    (inr (inl (omega arith))) in cc
-
-abbrev asked_untold : Requests → Guest
-asked_untold deflate = record (page_16_at FreePlace untold) { deflate = deflate; actual = 1 }
-
-posted_deflate_not_ballooned : IsSafeCourse (stands (asked_untold (posted request_16))) → ⊥
-posted_deflate_not_ballooned s =
-    let e : false ≡ true =
-    (s.both_agree 0 (asked_untold (posted request_16)) refl 16).1 (inr (inr (inl (omega arith)))) in
-    cc
-
-abbrev taken : Requests
-taken = record { posted = []; taken = request_16 ∷ []; done = [] }
-
-taken_deflate_not_ballooned : IsSafeCourse (stands (asked_untold taken)) → ⊥
-taken_deflate_not_ballooned s =
-    let e : false ≡ true =
-    (s.both_agree 0 (asked_untold taken) refl 16).1 (inr (inr (inr (omega arith)))) in cc
-
-used_deflate_ballooned_still : IsSafeCourse (stands (flagged (asked_untold (used request_16)))) → ⊥
-used_deflate_ballooned_still s =
-    elim ((s.both_agree 0 (flagged (asked_untold (used request_16))) refl 16).0 refl) [
-      | inl e ↦ cc
-      | inr (inl l) ↦ omega arith
-      | inr (inr (inl l)) ↦ omega arith
-      | inr (inr (inr l)) ↦ omega arith
-    ]
-
--- while a report is out
-abbrev reporting_too : Guest → Guest
-reporting_too g = record g { report = posted (request 0 (40 ∷ []) 0) }
-
-different_beside_a_report : IsSafeCourse (stands (reporting_too (place_16 Lent))) → ⊥
-different_beside_a_report s =
-    let e : false ≡ true = (s.both_agree 0 (reporting_too (place_16 Lent)) refl 16).1 (inl refl) in
-    cc
-
--- ---- `actual` is another number than that of lent pages and those that deflates name
-
-lent_not_counted : IsSafeCourse (stands (place_16 Lent)) → ⊥
-lent_not_counted s = let e : Same 0 1 = s.actual 0 (place_16 Lent) refl in omega arith
-
-not_counted_beside_a_report : IsSafeCourse (stands (reporting_too (place_16 Lent))) → ⊥
-not_counted_beside_a_report s =
-    let e : Same 0 1 = s.actual 0 (reporting_too (place_16 Lent)) refl in omega arith
-
-abbrev named_by : Place → Requests → Guest → Guest
-named_by place deflate g = record (page_16_at place g) { deflate = deflate }
-
-actual_too_low : IsSafeCourse (stands (named_by Taking (used request_16) ready)) → ⊥
-actual_too_low s =
-    let e : Same 0 1 = s.actual 0 (named_by Taking (used request_16) ready) refl in omega arith
-
--- wherever these are where the guest doesn't tell the host
-free_not_counted : IsSafeCourse (stands (named_by FreePlace (posted request_16) untold)) → ⊥
-free_not_counted s =
-    let e : Same 0 1 = s.actual 0 (named_by FreePlace (posted request_16) untold) refl in omega arith
-
-used_not_counted : IsSafeCourse (stands (named_by Used (posted request_16) untold)) → ⊥
-used_not_counted s =
-    let e : Same 0 1 = s.actual 0 (named_by Used (posted request_16) untold) refl in omega arith
-
--- a taking page that none names isn't counted, nor one that isn't lent yet
-taking_but_not_named : IsSafeCourse (stands (record (place_16 Taking) { actual = 1 })) → ⊥
-taking_but_not_named s =
-    let e : Same 1 0 = s.actual 0 (record (place_16 Taking) { actual = 1 }) refl in omega arith
-
-actual_too_high : IsSafeCourse (stands (record (place_16 Giving) { actual = 1 })) → ⊥
-actual_too_high s =
-    let e : Same 1 0 = s.actual 0 (record (place_16 Giving) { actual = 1 }) refl in omega arith
-
--- in a later state, while a request is out
-abbrev counted : Guest
-counted = record (page_16_at Giving down) { inflate = posted request_16; actual = 1 }
-
-actual_too_high_later : IsSafeCourse (becomes counted) → ⊥
-actual_too_high_later s = let e : Same 1 0 = s.actual 1 counted refl in omega arith
 
 -- ---- an honest guest meets a broken chain, or a broken ring
 

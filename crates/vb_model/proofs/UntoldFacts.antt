@@ -1,27 +1,21 @@
 -- Worked facts of guests that haven't agreed to tell the host, beside those of guests that have.
 use Rattle.std.proofs.Common.{List, [], ap, arith, false, map, refl, replicate, sym, true, ℕ, ◌++◌}
-use Rattle.std.{proofs.Common.{◌∙◌, ◌∷◌, ◌≡◌}, specs.{List.range_with_len, Prelude.{Bool, None}}}
-use Rattle.std.specs.Prelude.{Some, drop}
-use Rattle.vb_model.proofs.Samples.{at, config, down, mixed_places, new_request, ready, request}
-use Rattle.vb_model.{proofs.Samples.untold, specs.{Driver.contents_of, FirstRefusal.{Cause, ◌⇒◌}}}
+use Rattle.{std.proofs.Common.{◌∙◌, ◌∷◌, ◌≡◌}, vb_model.specs.Life.{after_reset, feature_refusal}}
+use Rattle.{std.specs.List.range_with_len, vb_model.specs.{Driver.contents_of, Refusals.refusal_of}}
+use Rattle.{std.specs.Prelude.{Bool, None, Some, drop}, vb_model.specs.GuestRun.{Called, Leads}}
+use Rattle.vb_model.proofs.Samples.{down, mixed_places, ready, request, untold}
 use Rattle.vb_model.specs.Guest.{Guest, frame_of, is_ballooned, is_ready, tells_host, zero_page}
-use Rattle.vb_model.specs.{GuestRun.{Called, Leads}, Life.{after_reset, feature_refusal}}
-use Rattle.vb_model.specs.{Pages.{block_at, place_of}, Refusals.refusal_of, Requests.BufferPosted}
-use Rattle.vb_model.specs.Requests.{IsLeastHead, Request, Requests, given_away, no_requests}
-use Rattle.vb_model.specs.{Status.status_refusal, Step.{HonestStep, Performs}, Tables.sweep_causes}
-use Rattle.vb_model.specs.{Tables.{inflate_causes, request_causes}, declared.calls.Call.Call}
-use Rattle.vb_model.specs.declared.calls.Actor.TheVariants.{Processor, Worker}
+use Rattle.vb_model.specs.{Pages.{block_at, place_of}, Requests.no_requests, Status.status_refusal}
+use Rattle.vb_model.specs.Requests.{BufferPosted, IsLeastHead, Request, Requests, given_away}
+use Rattle.vb_model.specs.{Step.{HonestStep, Performs}, declared.calls.Claim.TheVariants.Gave}
+use Rattle.vb_model.specs.declared.calls.Call.{Call, TheVariants.{Oom, Reap, Reset, Take, Write}}
+use Rattle.vb_model.specs.declared.{calls.Actor.TheVariants.{Processor, Worker}, places.Place.Place}
 use Rattle.vb_model.specs.declared.calls.Call.TheVariants.{Alloc, Deflate, Finish, Inflate, Init}
-use Rattle.vb_model.specs.declared.calls.Call.TheVariants.{Oom, Reap, Report, Reset, Sweep, Take}
-use Rattle.vb_model.specs.declared.calls.{Call.TheVariants.{Work, Write}, Claim.TheVariants.Gave}
-use Rattle.vb_model.specs.declared.places.Place.{Place, TheVariants.{Free as FreePlace, Giving}}
-use Rattle.vb_model.specs.declared.places.Place.TheVariants.{Lent, Reporting, Reserved, Stranded}
-use Rattle.vb_model.specs.declared.places.Place.TheVariants.{Taking, Used}
-use Rattle.vb_model.specs.declared.replies.Refusal.TheVariants.{DeflatePending, NeedsReset, NoPages}
-use Rattle.vb_model.specs.declared.replies.Refusal.TheVariants.{NoFeature, NotBallooned, NotReady}
-use Rattle.vb_model.specs.declared.replies.Refusal.TheVariants.{Nothing, QueueFull, VersionMissing}
+use Rattle.vb_model.specs.declared.places.Place.TheVariants.{Free as FreePlace, Giving, Lent, Used}
+use Rattle.vb_model.specs.declared.places.Place.TheVariants.{Reporting, Reserved, Stranded, Taking}
+use Rattle.vb_model.specs.declared.replies.Refusal.TheVariants.{NoPages, VersionMissing}
 use Rattle.vb_model.specs.declared.replies.Reply.TheVariants.{Done, Finished, Page, Posted, Ready}
-use Rattle.vb_model.specs.declared.replies.Reply.TheVariants.{Reaped, Refused, Swept, Taken}
+use Rattle.vb_model.specs.declared.replies.Reply.TheVariants.{Reaped, Refused, Taken}
 
 abbrev Same : ℕ → ℕ → Type 0
 Same a b = a ≡ b
@@ -62,21 +56,21 @@ told_by_bit_0 = refl
 
 -- ---- pages are asked back: pages 16 to 18 are lent, and 16 and 17 are above the target
 
-abbrev places : Place → Place → Place → List Place
+abbrev pub places : Place → Place → Place → List Place
 places of_16 of_17 of_18 = replicate 16 Reserved ++ (of_16 ∷ of_17 ∷ of_18 ∷ replicate 45 FreePlace)
 
 abbrev flags : Bool → Bool → List Bool
 flags of_16_and_17 of_18 =
     replicate 16 false ++ (of_16_and_17 ∷ of_16_and_17 ∷ of_18 ∷ replicate 45 false)
 
-abbrev three_lent : Guest → Guest
+abbrev pub three_lent : Guest → Guest
 three_lent g =
     record g { places = places Lent Lent Lent; ballooned = flags true true; actual = 3; target = 1 }
 
-abbrev both : Request
+abbrev pub both : Request
 both = request 0 (16 ∷ 17 ∷ []) 0
 
-abbrev posted : Request → Requests
+abbrev pub posted : Request → Requests
 posted r = record { posted = r ∷ []; taken = []; done = [] }
 
 abbrev taken : Request → Requests
@@ -85,10 +79,10 @@ taken r = record { posted = []; taken = r ∷ []; done = [] }
 abbrev done : Request → Requests
 done r = record { posted = []; taken = []; done = r ∷ [] }
 
-abbrev asked : Place → Guest → Guest
+abbrev pub asked : Place → Guest → Guest
 asked place g = record (three_lent g) { places = places place place Lent; deflate = posted both }
 
-no_head_out : IsLeastHead no_requests 0
+pub no_head_out : IsLeastHead no_requests 0
 no_head_out = record { new = refl; least = λ h l. absurd (omega arith) }
 
 -- they are free at once; flags and `actual` stay
@@ -183,73 +177,8 @@ written_at_once : HonestStep (in_use true (posted both)) (Write 16 0 (7 ∷ []))
     })
 written_at_once = (refl, (refl, refl))
 
--- ---- no page is offered while a deflate is outstanding, at whatever stage
-
--- nine pages are wanted and 48 are free
-abbrev pending : Guest → Requests → Guest
-pending g rs = record g { deflate = rs; target = 9 }
-
-abbrev each_stage : List Requests
+abbrev pub each_stage : List Requests
 each_stage = posted both ∷ taken both ∷ done both ∷ no_requests ∷ []
-
--- stranded pages wait as well
-abbrev stranded : Requests → Guest
-stranded rs = record untold { places = places Stranded Stranded Lent; deflate = rs }
-
--- nor where none could be offered: no page is wanted, or none is asked for
-inflates_wait : map (λ (guest, n). map (λ rs. refusal_of (guest rs) (Inflate n)) each_stage)
-    ((pending untold, 1) ∷ (stranded, 1) ∷ ((λ rs. record (pending untold rs) { target = 0 }), 1)
-    ∷ (pending untold, 0) ∷ []) ≡ map (λ last. replicate 3 (Some DeflatePending) ++ (last ∷ []))
-    (None ∷ None ∷ Some Nothing ∷ Some Nothing ∷ [])
-inflates_wait = refl
-
-not_where_it_tells : map (λ n. map (λ rs. refusal_of (pending ready rs) (Inflate n)) each_stage)
-    (1 ∷ 0 ∷ []) ≡ replicate 4 None ∷ replicate 4 (Some Nothing) ∷ []
-not_where_it_tells = refl
-
--- at queue size 2 one or two inflates are out
-abbrev narrow : List Request → Guest
-narrow rs = record (pending untold (posted both)) {
-  config = record config { queue_size = 2 };
-  inflate = record { posted = rs; taken = []; done = request 1 (20 ∷ []) 1 ∷ [] };
-}
-
-full_queue_first : refusal_of (narrow (request 0 (21 ∷ []) 0 ∷ [])) (Inflate 1)
-    ∷ refusal_of (narrow []) (Inflate 1) ∷ [] ≡ Some QueueFull ∷ Some DeflatePending ∷ []
-full_queue_first = refl
-
-status_before_that : map
-    (λ status. refusal_of (record (narrow (request 0 (21 ∷ []) 0 ∷ [])) { status = status })
-    (Inflate 1)) (0 ∷ 11 ∷ 79 ∷ 131 ∷ 143 ∷ []) ≡ replicate 5 (Some NotReady)
-status_before_that = refl
-
--- requests of other kinds are no matter
-other_kinds : refusal_of (record (pending untold no_requests)
-    { inflate = posted (request 0 (20 ∷ []) 0); report = posted (request 0 (21 ∷ []) 0) })
-    (Inflate 1) ≡ None
-other_kinds = refl
-
--- nor is any other call refused for it
-just_inflates : map (refusal_of (record (asked FreePlace untold) { target = 0 })) (Deflate 1 ∷ Oom 1
-    ∷ Report 0 ∷ Reap 0 ∷ Reap 1 ∷ Take 0 ∷ Take 1 ∷ Work ∷ Alloc 0 0 ∷ []) ≡ replicate 9 None
-just_inflates = refl
-
-inflate_changes_nothing : HonestStep (pending untold (posted both)) (Inflate 1) []
-    (Refused DeflatePending) (pending untold (posted both))
-inflate_changes_nothing = (refl, refl, refl)
-
-offered_too_early : (new : Guest)
-    → HonestStep (pending untold (posted both)) (Inflate 1) [] (Posted 0 1) new → ⊥
-offered_too_early new s = let e : Posted 0 1 ≡ Refused DeflatePending = s.1 in cc
-
--- where it tells, free pages are offered beside those that it takes
-offered_where_it_tells : HonestStep (record (asked Taking ready) { target = 9 }) (Inflate 1) []
-    (Posted 0 1) (record (asked Taking ready) {
-      target = 9;
-      places = replicate 16 Reserved ++ (Taking ∷ Taking ∷ Lent ∷ Giving ∷ replicate 44 FreePlace);
-      inflate = posted (request 0 (19 ∷ []) 0);
-    })
-offered_where_it_tells = (refl, (19 ∷ [], refl, (refl, tt), refl, (0, no_head_out, refl, refl)))
 
 -- ---- a reaped deflate moves no page: page 16 is used by then, and page 17 is free
 
@@ -302,7 +231,7 @@ reported_once_reaped = (refl, (refl, refl))
 
 -- ---- a finished deflate leaves frames and bytes alone, and its pages are ballooned no more
 
-abbrev framed : Bool → Requests → Guest
+abbrev pub framed : Bool → Requests → Guest
 framed flag rs = record (in_use flag rs) {
   frames = replicate 16 None ++ (Some 5 ∷ Some 6 ∷ replicate 46 None);
   contents = replicate 16 zero_page ++ ((7 ∷ []) ∷ (8 ∷ []) ∷ replicate 46 zero_page);
@@ -341,30 +270,6 @@ all_the_way = (
     ),
   ),
 )
-
--- ---- no page is swept, since a ballooned one may be in use
-
--- nor one that is lent while no deflate is out
-no_sweep : map (λ page. refusal_of (framed true (posted both)) (Sweep page)) (16 ∷ 18 ∷ 20 ∷ [])
-    ++ map (refusal_of (three_lent untold)) (Sweep 16 ∷ []) ≡ replicate 4 (Some NoFeature)
-no_sweep = refl
-
-sweep_where_it_tells : map (λ page. refusal_of (three_lent ready) (Sweep page)) (16 ∷ 18 ∷ 20 ∷ [])
-    ≡ None ∷ None ∷ Some NotBallooned ∷ []
-sweep_where_it_tells = refl
-
-sweep_by_status : map (λ status. refusal_of (record (three_lent untold) { status = status })
-    (Sweep 16)) (15 ∷ 79 ∷ 0 ∷ 11 ∷ 131 ∷ 143 ∷ []) ≡ Some NoFeature ∷ Some NeedsReset
-    ∷ replicate 4 (Some NotReady)
-sweep_by_status = refl
-
-sweep_changes_nothing : HonestStep (framed true (posted both)) (Sweep 16) [] (Refused NoFeature)
-    (framed true (posted both))
-sweep_changes_nothing = (refl, refl, refl)
-
-swept_in_use : (new : Guest) → HonestStep (framed true (posted both)) (Sweep 16) [] (Swept true) new
-    → ⊥
-swept_in_use new s = let e : Swept true ≡ Refused NoFeature = s.1 in cc
 
 -- ---- a reset leaves pages of an outstanding deflate where they are, and strands lent and offered
 -- ones
@@ -408,30 +313,3 @@ taking_pages_stranded = refl
 offered_anew : refusal_of (record after_it { status = 15; features = 0x100000026 }) (Inflate 2)
     ≡ None
 offered_anew = refl
-
--- ---- the causes, in their order
-
-abbrev inflate_tests : Bool → Bool → Bool → Bool → List Cause
-inflate_tests a b c d =
-    (a ⇒ NotReady) ∷ (b ⇒ QueueFull) ∷ (c ⇒ DeflatePending) ∷ (d ⇒ Nothing) ∷ []
-
-inflate_in_order : inflate_causes (at 0 0x100000026) 1 (new_request 8 8 0)
-    ∷ inflate_causes (at 15 0x100000026) 1 (new_request 7 8 1)
-    ∷ inflate_causes (at 15 0x100000026) 0 (new_request 7 8 1)
-    ∷ inflate_causes (at 15 0x100000027) 8 (new_request 7 8 1) ∷ []
-    ≡ inflate_tests true true true true ∷ inflate_tests false false true false
-    ∷ replicate 2 (inflate_tests false false false false)
-inflate_in_order = refl
-
-deflate_in_order : request_causes 0 false (new_request 8 8 0) ≡ (true ⇒ NotReady) ∷ (false ⇒ NoFeature)
-    ∷ (true ⇒ QueueFull) ∷ (true ⇒ Nothing) ∷ []
-deflate_in_order = refl
-
-abbrev sweep_tests : Bool → Bool → Bool → Bool → List Cause
-sweep_tests a b c d =
-    (a ⇒ NotReady) ∷ (b ⇒ NeedsReset) ∷ (c ⇒ NoFeature) ∷ (d ⇒ NotBallooned) ∷ []
-
-sweep_in_order : sweep_causes (at 207 0x100000026) false ∷ sweep_causes (at 15 0x100000026) true
-    ∷ sweep_causes (at 15 0x100000027) true ∷ [] ≡ sweep_tests true true true true
-    ∷ sweep_tests false false true false ∷ sweep_tests false false false false ∷ []
-sweep_in_order = refl

@@ -1,11 +1,10 @@
 -- Sets of pages, processors' lists and blocks, worked out: of eight pages the first two are reserved.
 use Rattle.std.proofs.Common.{◌≡◌, ℕ, zero, suc, true, false, List, [], ◌∷◌, ◌++◌, map, slice_index}
 use Rattle.std.{proofs.Common.{length, refl, arith, ap}, specs.Prelude.{Bool, Some, None}}
-use Rattle.vb_model.specs.Pages.{Block}
+use Rattle.{vb_model.specs.Pages.Block, vb_pages.specs.Held.blocks_of}
 use Rattle.vb_pages.specs.Areas.{block_at, with_pages, without_pages, unreserved, IsBlock, LiesIn}
 use Rattle.vb_pages.specs.FreePages.{FreePages, times_free, free_count, is_free_in, drained, Pops}
 use Rattle.vb_pages.specs.PageState.{PageState, freed, is_free_page, is_held_page, is_unreserved}
-use Rattle.vb_pages.specs.Held.{blocks_of}
 use Rattle.vb_pages.specs.{Areas.{IsMaximal, HasNoBlock, TakesBlock}, PageState.IsApart}
 use Rattle.vb_pages.specs.FreePages.{TakesSingle, spilled, given_back, IsSoundFree, HasRoomFor}
 

@@ -3,14 +3,13 @@ use Rattle.std.proofs.Common.{◌≡◌, ℕ, suc, ◌+◌, ◌^◌, ◌<◌, �
 use Rattle.std.proofs.Common.{length, Option, Some, None, replicate, refl, ◌∙◌, ap, arith}
 use Rattle.std.{specs.Prelude.{count_by, nat_le}, proofs.lemmas.List.length-replicate}
 use Rattle.std.proofs.lemmas.List.FromFn.{get_or-map-range_with_len, length-map-range_with_len}
-use Rattle.std.proofs.Math.Pow.{pow_mono}
-use Rattle.vb_model.{specs.Tests.one_if, specs.Pages.pages_of, proofs.Tables.count_by-cons}
+use Rattle.{std.proofs.Math.Pow.pow_mono, vb_pages.specs.Tiles.{set_of, IsTiled, IsLowestListed}}
+use Rattle.vb_model.{specs.{Tests.one_if, Pages.pages_of}, proofs.Tables.count_by-cons}
 use Rattle.vb_pages.specs.Areas.{has, with_pages, without_pages, unreserved, block_at, LiesIn}
 use Rattle.vb_pages.specs.Areas.{LiesOutside, IsMaximal, IsChosen, IsLowestFrom}
 use Rattle.vb_pages.specs.declared.{table.TheConstants.MAX_PAGES, block.FreeBlock.FreeBlock}
-use Rattle.vb_pages.{specs.Tiles.{set_of, IsTiled, IsLowestListed}, proofs.Sets.same_sets}
+use Rattle.vb_pages.proofs.{Sets.same_sets, TilesLemmas.{listed_maximal, maximal_listed, none_set}}
 use Rattle.vb_pages.proofs.{Sets.{is_inside, count_range, count_without}, TilesLemmas.length-set_of}
-use Rattle.vb_pages.proofs.TilesLemmas.{listed_maximal, maximal_listed, none_set}
 
 pub count_with_block : (s k : ℕ) (set : List Bool) → s + 2 ^ k ≤ length set
     → LiesOutside set (block_at s k)

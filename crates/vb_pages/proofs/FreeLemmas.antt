@@ -1,30 +1,22 @@
--- Free pages: how often each is free, before and after a call.
+-- Free pages: how often each is free, before and after a call that drains, gives back or renews.
 use Rattle.std.proofs.Common.{◌≡◌, ℕ, zero, suc, ◌+◌, ◌<◌, ◌≤◌, inl, inr, Bool, false, List, []}
-use Rattle.std.proofs.Common.{◌∷◌, ◌++◌, length, get_or, set, take, drop, map, reverse, replicate}
-use Rattle.std.proofs.lemmas.Bool.{cases_eq, cases_Bool, eq-eqb, eqb-true, ne_eqb, cond-true}
-use Rattle.std.proofs.lemmas.List.{get_or-set_same, get_or-set_other, set-set, set-get_or}
-use Rattle.std.proofs.lemmas.List.{length-set, length-map, length-reverse, reverse-append}
-use Rattle.std.proofs.lemmas.List.{nil_from_length, take_more, flat_map_more, take_all, same_lists}
-use Rattle.std.proofs.lemmas.List.Sorted.{sum_by-IsPermutation, length_permutation}
-use Rattle.std.{proofs.lemmas.List.{get_or_default, drop_all, append-nil}, specs.List.flat_map}
-use Rattle.std.proofs.lemmas.{Bool.{cond-false, lt-ltb}, List.Sums.{sum_by-append, sum_by-cons}}
-use Rattle.std.specs.Prelude.{◌==◌, count_by, nat_lt, MatchOption, sum_by}
-use Rattle.std.proofs.Common.{Option, Some, None, refl, sym, ◌∙◌, ap, subst, arith, length-append}
-use Rattle.vb_model.specs.Tests.{is_in, one_if}
-use Rattle.vb_model.{proofs.PageSteps.covers_is, specs.Pages.{pages_of, covers}}
-use Rattle.vb_pages.proofs.AreasLemmas.{length-unreserved, count_without_block, count_zero}
+use Rattle.std.proofs.Common.{◌∷◌, ◌++◌, length, get_or, set, take, drop, map, replicate, Option}
+use Rattle.std.proofs.lemmas.Bool.{cases_eq, cases_Bool, eq-eqb, ne_eqb, cond-true, cond-false}
+use Rattle.std.proofs.lemmas.List.{get_or-set_same, get_or-set_other, set-set, length-set}
+use Rattle.std.proofs.lemmas.List.{length-map, take_more, flat_map_more, take_all, same_lists}
+use Rattle.std.proofs.lemmas.{List.{get_or_default, drop_all, append-nil}, Bool.lt-ltb}
+use Rattle.std.specs.{List.flat_map, Prelude.{◌==◌, count_by, nat_lt, MatchOption}}
+use Rattle.std.proofs.Common.{refl, sym, ◌∙◌, ap, subst, arith, length-append}
+use Rattle.vb_model.{specs.Tests.{is_in, one_if}, proofs.PageSteps.covers_is}
+use Rattle.{vb_model.specs.Pages.{pages_of, covers}, vb_pages.proofs.AreasLemmas.length-unreserved}
 use Rattle.vb_pages.proofs.ListsLemmas.{times, times-append, times-one, times_out, one_if_le, Once}
-use Rattle.vb_pages.proofs.ListsLemmas.{with_times, with_none, with_append_turned, takes_times}
+use Rattle.vb_pages.proofs.ListsLemmas.{with_times, with_none, with_append_turned, covers_one}
 use Rattle.vb_pages.proofs.Sets.{is_inside, without_parts, with_cases, with_old, with_new}
-use Rattle.vb_pages.specs.Areas.{has, with_pages, without_pages, unreserved, block_at, IsBlock}
+use Rattle.vb_pages.specs.Areas.{has, with_pages, without_pages, unreserved, block_at, IsMaximal}
 use Rattle.vb_pages.specs.FreePages.{FreePages, in_lists, is_free_in, times_free, list_of, drained}
-use Rattle.vb_pages.specs.FreePages.{TakesPages, Refills, Pops, TakesSingle, Tries, Serves}
 use Rattle.vb_pages.specs.declared.{block.FreeBlock.FreeBlock, table.TheConstants.MAX_PAGES}
-use Rattle.vb_pages.proofs.{Aligned.aligned_down, AreasLemmas.taken_inside}
 use Rattle.vb_pages.proofs.Sets.{length-with_pages, length-without_pages, block_bounds}
-use Rattle.vb_pages.specs.FreePages.{given_back, IsSoundFree, HasRoomFor}
-use Rattle.vb_pages.proofs.ListsLemmas.{takes_pages_times, takes_more, no_page, covers_one}
-use Rattle.vb_pages.specs.Areas.{HasNoBlock, TakesBlock, IsMaximal, IsLowestFrom}
+use Rattle.vb_pages.specs.{FreePages.{given_back, IsSoundFree, HasRoomFor}, Areas.IsLowestFrom}
 
 abbrev pub flat : List (List ℕ) → List ℕ
 flat lists = flat_map (λ list. list) lists
@@ -99,135 +91,12 @@ pub block_sound : (f : FreePages) (s k : ℕ) → IsSoundFree f → HasRoomFor f
     → IsSoundFree (record f { areas = with_pages (pages_of (block_at s k)) f.areas })
 block_sound f s k sound room = grind (arith, length-with_pages, block_times, room_once)
 
--- ---- a block goes out
-
-pub takes_sound : (f : FreePages) (new : List Bool) (k s : ℕ) → IsSoundFree f
-    → TakesBlock f.areas k (Some s) new → IsSoundFree (record f { areas = new })
-takes_sound f new k s sound t = sound_from f (record f { areas = new }) sound
-    (ap length t.1 ∙ length-without_pages (pages_of (block_at s k)) f.areas) refl
-    (λ p. omega (arith, takes_times f.areas new k s t p)) sound.short
-
-pub length-takes_pages : (set new : List Bool) (pages : List ℕ) → TakesPages set pages new
-    → length new ≡ length set
-length-takes_pages set new [] t = ap length t
-length-takes_pages set new (x ∷ pages) t =
-    grind (arith, length-without_pages, length-takes_pages t.0 new pages t.2)
-
--- ---- a single page goes out
-
-sum_by-reverse : (g : ℕ → ℕ) (xs : List ℕ) → sum_by g (reverse xs) ≡ sum_by g xs
-sum_by-reverse g [] = refl
-sum_by-reverse g (x ∷ xs) = grind (
-  arith,
-  reverse-append (x ∷ []) xs,
-  sum_by-append g (reverse xs) (x ∷ []),
-  sum_by-cons g x xs,
-  sum_by-reverse g xs,
-)
-
-refill_times : (set new : List Bool) (list : List ℕ) → Refills set list new → (p : ℕ)
-    → one_if (has new p) + times p list ≡ one_if (has set p)
-refill_times set new list r p =
-    grind (arith, times, sum_by-IsPermutation, sum_by-reverse, takes_pages_times)
-
-pub length-refill : (set new : List Bool) (list : List ℕ) → Refills set list new → length list ≤ 8
-length-refill set new list r = grind (arith, length-reverse, length_permutation)
-
-abbrev taken_times : Option ℕ → ℕ → ℕ
-taken_times None p = 0
-taken_times (Some s) p = one_if (s == p)
-
-pops_times : (list rest : List ℕ) (got : Option ℕ) → Pops list got rest → (p : ℕ)
-    → times p rest + taken_times got p ≡ times p list
-pops_times list rest None h p = omega (arith, ap (times p) h.0, ap (times p) h.1)
-pops_times list rest (Some s) h p =
-    omega (arith, ap (times p) h, times-append p rest (s ∷ []), times-one p s)
-
-pops_length : (list rest : List ℕ) (got : Option ℕ) → Pops list got rest → length rest ≤ length list
-pops_length list rest None h = omega (arith, ap length h.1)
-pops_length list rest (Some s) h = omega (arith, ap length h, length-append rest (s ∷ []))
-
-single_times : (set new : List Bool) (list rest : List ℕ) (got : Option ℕ)
-    → TakesSingle set list got new rest → (p : ℕ)
-    → one_if (has new p) + (times p rest + taken_times got p) ≡ one_if (has set p) + times p list
-single_times set new [] rest got h p =
-    omega (arith, refill_times set new h.0 h.1 p, pops_times h.0 rest got h.2 p)
-single_times set new (x ∷ xs) rest got h p =
-    omega (arith, ap (λ (s : List Bool). one_if (has s p)) h.0, pops_times (x ∷ xs) rest got h.1 p)
-
-single_length : (set new : List Bool) (list rest : List ℕ) (got : Option ℕ)
-    → TakesSingle set list got new rest → length list < 16 → length rest < 16
-single_length set new [] rest got h l =
-    omega (arith, length-refill set new h.0 h.1, pops_length h.0 rest got h.2)
-single_length set new (x ∷ xs) rest got h l = omega (arith, pops_length (x ∷ xs) rest got h.1)
-
-single_areas : (set new : List Bool) (list rest : List ℕ) (got : Option ℕ)
-    → TakesSingle set list got new rest → length new ≡ length set
-single_areas set new [] rest got h = length-takes_pages set new h.1.taken h.1.takes
-single_areas set new (x ∷ xs) rest got h = ap length h.0
-
--- where no page comes out, nothing was there
-single_none : (set new : List Bool) (list rest : List ℕ) → TakesSingle set list None new rest
-    → (list ≡ []) × (rest ≡ []) × (new ≡ set) × HasNoBlock set 0
-single_none set new [] rest h = let r = h.1 in
-    grind (arith, length-reverse r.rising, length_permutation, nil_from_length)
-single_none set new (x ∷ xs) rest h =
-    absurd (let bad : length (x ∷ xs) ≡ 0 = ap length h.1.0 in omega (arith, bad))
-
--- ---- a try
-
--- a page that the processor's list and the areas give
-pub single_sound : (f : FreePages) (cpu : ℕ) (new : List Bool) (rest : List ℕ) (got : Option ℕ)
-    → IsSoundFree f → cpu < length f.lists → TakesSingle f.areas (list_of f cpu) got new rest
-    → IsSoundFree (record f { areas = new; lists = set f.lists cpu rest })
-single_sound f cpu new rest got sound l h = sound_from f
-    (record f { areas = new; lists = set f.lists cpu rest }) sound (single_areas f.areas new
-    (list_of f cpu) rest got h) (length-set f.lists cpu rest) (λ p. omega (
-      arith,
-      single_times f.areas new (list_of f cpu) rest got h p,
-      times-set p f.lists cpu rest l,
-    )) (grind (arith, get_or-set_same, single_length, get_or-set_other))
-
 abbrev pub free_of : List Bool → List (List ℕ) → ℕ → FreePages
 free_of areas lists reserved = record { areas = areas; lists = lists; reserved = reserved }
 
 pub same_free : (a b : FreePages) → a.areas ≡ b.areas → a.lists ≡ b.lists
     → a.reserved ≡ b.reserved → a ≡ b
 same_free a b e l r = search (arith)
-
--- a try that gives nothing changes nothing, and there was no block
-pub tries_none : (f new : FreePages) (cpu order : ℕ) → Tries f cpu order None new
-    → (new ≡ f) × HasNoBlock f.areas order
-tries_none f new cpu order h = grind (arith, single_none, set-get_or)
-
--- a try that gives a block takes just its pages
-pub tries_times : (f new : FreePages) (cpu order start : ℕ) → cpu < length f.lists
-    → Tries f cpu order (Some start) new → (p : ℕ)
-    → times_free new p + one_if (covers p (block_at start order)) ≡ times_free f p
-tries_times f new cpu zero start l h p = grind (
-  arith,
-  single_times f.areas new.areas (list_of f cpu) h.0 (Some start) h.1 p,
-  times-set p f.lists cpu h.0 l,
-)
-tries_times f new cpu (suc order) start l h p =
-    grind (arith, times p (in_lists f), takes_times f.areas new.areas (suc order) start h.0 p)
-
--- a request that is served takes just the block's pages
-pub serves_times : (f new : FreePages) (cpu order start : ℕ) → IsSoundFree f → cpu < length f.lists
-    → Serves f cpu order (Some start) new → (p : ℕ)
-    → times_free new p + one_if (covers p (block_at start order)) ≡ times_free f p
-serves_times f new cpu order start sound l h p = elim h [
-  | inl now ↦ tries_times f new cpu order start l now p
-  | inr later ↦ grind (
-    arith,
-    drained_times f sound p,
-    tries_times (drained f) new cpu order start (omega (
-      arith,
-      length-map f.lists (λ (x : List ℕ).
-          nothing),
-    )) later.1 p,
-  )
-]
 
 -- ---- draining, list by list
 
@@ -310,32 +179,7 @@ all_drained areas lists i new left h d =
           (omega (arith, d.long, length-map lists (λ (x : List ℕ). nothing)))))),
     )
 
--- ---- single pages, one after the other
-
--- so many pages were taken, and so many are left
-pub record AreTakenSoFar (set : List Bool) (i : ℕ) (new : List Bool) (out : List ℕ) : Type 0 where
-  pub takes : TakesPages set out new
-  pub long : length out ≡ i
-  pub count : count_by (λ f. f) new + i ≡ count_by (λ f. f) set
-
-pub taken_one : (set mid new : List Bool) (i page : ℕ) (out : List ℕ) → AreTakenSoFar set i mid out
-    → TakesBlock mid 0 (Some page) new → AreTakenSoFar set (i + 1) new (out ++ page ∷ [])
-taken_one set mid new i page out h t = grind (
-  arith,
-  count_without_block page 0 mid (taken_inside mid page 0 t.0.0 t.0.1),
-  takes_more set mid new out page h.takes t,
-  length-append out (page ∷ []),
-)
-
-pub taken_all : (set mid : List Bool) (i n : ℕ) (out : List ℕ) → AreTakenSoFar set i mid out
-    → HasNoBlock mid 0 → i < n → n ≤ count_by (λ f. f) set → ⊥
-taken_all set mid i n out h none l enough = grind (arith, count_zero mid (no_page mid none))
-
 -- ---- the areas that another call leaves
-
-pub takes_pages_sound : (f : FreePages) (new : List Bool) (pages : List ℕ) → IsSoundFree f
-    → TakesPages f.areas pages new → IsSoundFree (free_of new f.lists f.reserved)
-takes_pages_sound f new pages sound t = grind (arith, length-takes_pages, takes_pages_times)
 
 pub without_sound : (f : FreePages) (pages : List ℕ) → IsSoundFree f
     → IsSoundFree (free_of (without_pages pages f.areas) f.lists f.reserved)
@@ -423,18 +267,6 @@ module _ (f : FreePages) (cpu s : ℕ) (sound : IsSoundFree f) (l : cpu < length
       → free_of f.areas (set f.lists cpu longer) f.reserved ≡ given_back cpu s 0 f
   given_short short = grind (arith, get_or-set_same, ne_eqb, cond-false)
 
--- ---- a try, in its two forms
-
-pub takes_any_sound : (f : FreePages) (new : List Bool) (k : ℕ) (got : Option ℕ) → IsSoundFree f
-    → TakesBlock f.areas k got new → IsSoundFree (free_of new f.lists f.reserved)
-takes_any_sound f new k got sound t = grind (arith, takes_sound)
-
--- a second try, after the first gave nothing
-pub serves_later : (f mid new : FreePages) (cpu order : ℕ) (got : Option ℕ)
-    → Tries f cpu order None mid → Tries (drained mid) cpu order got new
-    → Serves f cpu order got new
-serves_later f mid new cpu order got first second = grind (arith, tries_none)
-
 pub room_zero : (f : FreePages) (s k : ℕ) → k ≤ 0 → HasRoomFor f s k → HasRoomFor f s 0
 room_zero f s k h room = let e : k ≡ 0 = omega arith in subst (λ (n : ℕ). HasRoomFor f s n) e room
 
@@ -495,23 +327,3 @@ given_length f cpu s k sound l room = grind (arith, length-with_pages)
 
 pub given_reserved : (f : FreePages) (cpu s k : ℕ) → (given_back cpu s k f).reserved ≡ f.reserved
 given_reserved f cpu s k = search (arith)
-
-tries_length : (f new : FreePages) (cpu order : ℕ) (got : Option ℕ) → Tries f cpu order got new
-    → length new.areas ≡ length f.areas
-tries_length f new cpu order got h = grind (arith, single_areas, length-without_pages)
-
-pub serves_length : (f new : FreePages) (cpu order start : ℕ) → Serves f cpu order (Some start) new
-    → length new.areas ≡ length f.areas
-serves_length f new cpu order start h = grind (arith, tries_length, length-with_pages)
-
-pub serves_reserved : (f new : FreePages) (cpu order start : ℕ)
-    → Serves f cpu order (Some start) new → new.reserved ≡ f.reserved
-serves_reserved f new cpu order start h = grind arith
-
-tries_is_block : (f new : FreePages) (cpu order start : ℕ) → Tries f cpu order (Some start) new
-    → IsBlock (block_at start order)
-tries_is_block f new cpu order start h = grind (arith, eq-eqb, aligned_down, eqb-true)
-
-pub serves_is_block : (f new : FreePages) (cpu order start : ℕ)
-    → Serves f cpu order (Some start) new → IsBlock (block_at start order)
-serves_is_block f new cpu order start h = grind (arith, tries_is_block)

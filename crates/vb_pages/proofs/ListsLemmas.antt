@@ -6,9 +6,8 @@ use Rattle.std.proofs.Common.{[], ◌∷◌, ◌++◌, length, Some, refl, sym, 
 use Rattle.vb_model.{proofs.PageSteps.covers_is, specs.Tests.{is_in, one_if}}
 use Rattle.vb_model.{proofs.Tables.{count_by-cons, count_by-append}, specs.Pages.{pages_of, covers}}
 use Rattle.vb_pages.proofs.Sets.{with_union, with_cases, with_old, with_new, without_parts}
-use Rattle.vb_pages.specs.Areas.{has, with_pages, without_pages, block_at, IsBlock, HasNoBlock}
-use Rattle.vb_pages.specs.Areas.{TakesBlock}
-use Rattle.vb_pages.{proofs.AreasLemmas.taken_inside, specs.FreePages.TakesPages}
+use Rattle.vb_pages.specs.Areas.{has, with_pages, without_pages, block_at, HasNoBlock, TakesBlock}
+use Rattle.vb_pages.{specs.{Areas.IsBlock, FreePages.TakesPages}, proofs.AreasLemmas.taken_inside}
 use Rattle.vb_pages.proofs.Sets.{without_old, length-with_pages, count_one, same_sets, block_bounds}
 
 -- how often a page is in a list

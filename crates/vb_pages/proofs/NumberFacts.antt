@@ -1,8 +1,7 @@
 -- The numbers of the allocator, as plain numbers.
-use Rattle.std.proofs.Common.{◌≡◌, [], ◌∷◌, refl}
-use Rattle.vb_model.specs.declared.limits.TheConstants.{MAX_ORDER}
-use Rattle.vb_pages.specs.declared.{table.TheConstants.MAX_PAGES, lists.TheConstants.LIST_SIZE}
-use Rattle.vb_pages.specs.declared.{lists.TheConstants.BATCH, free.TheConstants.REQUEST_PAGES}
+use Rattle.{std.proofs.Common.{◌≡◌, [], ◌∷◌}, vb_model.specs.declared.limits.TheConstants.MAX_ORDER}
+use Rattle.{std.proofs.Common.refl, vb_pages.specs.declared.lists.TheConstants.{LIST_SIZE, BATCH}}
+use Rattle.vb_pages.specs.declared.{table.TheConstants.MAX_PAGES, free.TheConstants.REQUEST_PAGES}
 
 -- a processor's list when it is full, and the pages that go into one or come out of it at once
 lists_are : LIST_SIZE ∷ BATCH ∷ [] ≡ 16 ∷ 8 ∷ []

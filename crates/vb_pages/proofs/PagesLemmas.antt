@@ -1,26 +1,25 @@
 -- Each page is free or held at most once, before and after a call.
 use Rattle.std.proofs.Common.{◌≡◌, ℕ, ◌+◌, ◌-◌, ◌^◌, ◌<◌, ◌≤◌, Bool, true, false, not, cond, List}
-use Rattle.std.proofs.Common.{[], ◌∷◌, length, map, replicate, Option, Some, None, MatchOption}
+use Rattle.std.proofs.Common.{[], ◌∷◌, length, map, replicate, Option, Some, None, MatchOption, ◌∙◌}
 use Rattle.std.proofs.lemmas.Bool.{or_parts, and_parts, and_from, le-leb, leb-true, lt-ltb}
-use Rattle.std.{proofs.Common.{IfSome, refl, ◌∙◌, ap, arith}, specs.List.list_any}
-use Rattle.std.{proofs.lemmas.Bool.{ltb-true, false_from_ne_true}, proofs.lemmas.Nat.pow_pos}
-use Rattle.std.specs.Prelude.{◌||◌, ◌&&◌, count_by, nat_lt, nat_le}
-use Rattle.vb_model.{specs.Tests.{is_in, one_if}, specs.Driver.{with_block, without_block}}
+use Rattle.std.proofs.{Common.{IfSome, refl, ap, arith}, lemmas.Bool.{ltb-true, false_from_ne_true}}
+use Rattle.std.specs.{List.list_any, Prelude.{◌||◌, ◌&&◌, count_by, nat_lt, nat_le}}
+use Rattle.{std.proofs.lemmas.Nat.pow_pos, vb_model.proofs.BlockSteps.count-without_block}
+use Rattle.{vb_model.specs.Tests.{is_in, one_if}, vb_pages.proofs.ServingLemmas.length-takes_pages}
+use Rattle.vb_model.{specs.Driver.{with_block, without_block}, proofs.Tables.count_by-cons}
 use Rattle.vb_model.specs.Pages.{Block, pages_of, covers, is_same_block}
-use Rattle.vb_model.{proofs.Tables.count_by-cons, proofs.PageSteps.count-without_block}
 use Rattle.vb_pages.specs.Areas.{has, with_pages, without_pages, unreserved, block_at, IsBlock}
 use Rattle.vb_pages.specs.FreePages.{FreePages, in_lists, is_free_in, times_free, drained}
 use Rattle.vb_pages.proofs.Sets.{is_inside, length-with_pages, length-without_pages, without_parts}
 use Rattle.vb_pages.proofs.ListsLemmas.{times, times_in, times_out, one_if_le, one_if_true}
 use Rattle.vb_pages.proofs.FreeLemmas.{free_of, flat, flat-empty, nothing, drained_times}
-use Rattle.vb_pages.proofs.FreeLemmas.{serves_times, serves_length, tries_none, given_times}
-use Rattle.vb_pages.proofs.FreeLemmas.{serves_reserved, given_reserved, given_length, block_times}
-use Rattle.vb_pages.{specs.Areas.{LiesIn, IsMaximal, IsLowestFrom}, specs.Held.HeldBlocks}
+use Rattle.vb_pages.proofs.ServingLemmas.{serves_times, serves_length, tries_none, serves_reserved}
+use Rattle.vb_pages.proofs.FreeLemmas.{given_times, given_reserved, given_length, block_times}
+use Rattle.vb_pages.{specs.Areas.LiesIn, proofs.Sets.{without_old, in_block, not_in_block}}
+use Rattle.vb_pages.specs.{Areas.{IsMaximal, IsLowestFrom}, declared.block.FreeBlock.FreeBlock}
+use Rattle.vb_pages.specs.{Held.HeldBlocks, PageState.{PageState, is_unreserved, IsKept, HasRoomIn}}
 use Rattle.vb_pages.specs.FreePages.{TakesPages, Tries, Serves, given_back, IsSoundFree, HasRoomFor}
-use Rattle.vb_pages.{proofs.Sets.{without_old, in_block, not_in_block}, proofs.HeldLemmas.held_of}
-use Rattle.vb_pages.proofs.ListsLemmas.{takes_pages_times, page_block}
-use Rattle.vb_pages.{proofs.FreeLemmas.length-takes_pages, specs.declared.block.FreeBlock.FreeBlock}
-use Rattle.vb_pages.specs.PageState.{PageState, is_unreserved, IsKept, HasRoomIn}
+use Rattle.vb_pages.proofs.{HeldLemmas.held_of, ListsLemmas.{takes_pages_times, page_block}}
 use Rattle.vb_pages.proofs.AreasLemmas.{length-unreserved, has-unreserved}
 
 -- ---- blocks that cover a page

@@ -1,19 +1,17 @@
 -- A table and the sets of its blocks, order by order.
 use Rattle.std.proofs.Common.{List, [], length, get_or, set, replicate, Bool, true, false, min, eqb}
-use Rattle.std.proofs.lemmas.Bool.{cases_lt, cases_eq, eqb-true, eq-eqb, ne_eqb, both_ways}
+use Rattle.std.proofs.lemmas.Bool.{cases_lt, cases_eq, both_ways, cond-true, cond-false, and_parts}
+use Rattle.std.proofs.lemmas.{Bool.{eqb-true, eq-eqb}, Nat.{pow_pos, mul-le}, List.get_or-replicate}
+use Rattle.std.proofs.{lemmas.Bool.ne_eqb, Common.{◌+◌, ◌*◌, ◌/◌, ◌%◌, ◌^◌, ◌<◌, ◌≤◌, inl, inr}}
 use Rattle.std.proofs.lemmas.List.{get_or-set_same, get_or-set_other, get_or_past, get_or_default}
 use Rattle.std.proofs.lemmas.List.{same_lists, ext_get_or, length-set, length-replicate}
 use Rattle.std.proofs.lemmas.List.FromFn.{get_or-map-range_with_len, length-map-range_with_len}
-use Rattle.std.proofs.lemmas.Nat.{pow_pos, mul-le}
-use Rattle.std.proofs.lemmas.{Bool.{cond-true, cond-false, and_parts}, List.get_or-replicate}
-use Rattle.std.proofs.Common.{Option, Some, None, refl, sym, ◌∙◌, ap, arith}
-use Rattle.vb_bits.specs.Sets.{has, HasNoneFrom, IsLeastFrom}
+use Rattle.std.proofs.Common.{Option, Some, None, refl, sym, ◌∙◌, ap, arith, ◌≡◌, ◌≢◌, ℕ, zero, suc}
+use Rattle.{vb_bits.specs.Sets.{has, HasNoneFrom, IsLeastFrom}, vb_pages.proofs.Sets.is_inside}
 use Rattle.vb_pages.specs.Table.{order_at, is_order, AreBlocks, room_of, set_of_order, sets_of}
-use Rattle.vb_pages.specs.declared.table.TheConstants.{MAX_PAGES}
-use Rattle.vb_pages.proofs.Sets.{same_bool, is_inside}
+use Rattle.vb_pages.{specs.declared.table.TheConstants.MAX_PAGES, proofs.Sets.same_bool}
 use Rattle.vb_pages.proofs.Aligned.{multiple_of, times_div, block_fits, div_ceil_le, div_ceil_from}
 use Rattle.vb_pages.specs.Table.{is_in_sets, first_of, table_of, AreSetsOf, IsLowestStart}
-use Rattle.std.proofs.Common.{◌≡◌, ◌≢◌, ℕ, zero, suc, ◌+◌, ◌*◌, ◌/◌, ◌%◌, ◌^◌, ◌<◌, ◌≤◌, inl, inr}
 
 -- ---- the order of a page
 

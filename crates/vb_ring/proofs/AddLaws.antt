@@ -1,18 +1,16 @@
 -- What follows for whoever adds and takes chains.
 use Rattle.std.specs.Prelude.{◌≡◌, ℕ, ◌<◌, ◌≤◌, Bool, true, false, List, [], ◌∷◌, Some, None}
 use Rattle.std.specs.Prelude.{Result, Ok, Err, if◌then◌else◌, length, slice_get, slice_index}
-use Rattle.std.{specs.Prelude.{slice_index_or, refl, nat_lt}, proofs.lemmas.Bool.cases_eq}
-use Rattle.std.proofs.Common.{sym, ◌∙◌, ap, arith, inl, inr}
-use Rattle.std.{proofs.lemmas.List.length-take, proofs.lemmas.Option.slice_get-get_or}
+use Rattle.{std.specs.Prelude.{slice_index_or, refl, nat_lt}, vb_ring.proofs.OwnerLaws.nowhere_in}
+use Rattle.{std.proofs.lemmas.{Bool.cases_eq, List.length-take}, vb_chain.specs.Table.descriptor_at}
+use Rattle.std.proofs.{Common.{sym, ◌∙◌, ap, arith, inl, inr}, lemmas.Option.slice_get-get_or}
+use Rattle.{vb_ram.specs.Pages.Pages, vb_chain.specs.Chain.ChainGives, vb_ring.specs.Calls.AddsBy}
+use Rattle.{vb_chain.specs.declared.pieces.Piece.Piece, vb_ring.specs.Ends.{outstanding, AreSingle}}
+use Rattle.vb_chain.{specs.Written.{IsRoute, AreSound}, proofs.ChainLaws.written_chain}
 use Rattle.vb_ring.proofs.Numbers.{numbers_pass, numbers_rise, numbers_has, length_all}
 use Rattle.vb_ring.specs.Ends.{DriverEnd, is_unused, free_descriptors, next_head, next_path}
-use Rattle.vb_ring.{specs.declared.driver.Full.TheVariants.TooFewFree, specs.Entries.is_head}
-use Rattle.vb_ring.{specs.declared.driver.Full.Full, proofs.Numbers.length-numbers}
-use Rattle.vb_ring.{specs.Ends.{outstanding, AreSingle}, proofs.OwnerLaws.nowhere_in}
-use Rattle.vb_ring.{proofs.MeaningLaws.{next_path-free, next_path-rise}, specs.Calls.AddsBy}
-use Rattle.vb_ram.specs.Pages.{Pages}
-use Rattle.vb_chain.specs.{declared.pieces.Piece.Piece, Table.descriptor_at, Written.IsRoute}
-use Rattle.vb_chain.{specs.Written.AreSound, specs.Chain.ChainGives, proofs.ChainLaws.written_chain}
+use Rattle.vb_ring.specs.{declared.driver.Full.{TheVariants.TooFewFree, Full}, Entries.is_head}
+use Rattle.vb_ring.proofs.{Numbers.length-numbers, MeaningLaws.{next_path-free, next_path-rise}}
 
 -- ---- what was added is a chain of these pieces
 

@@ -3,24 +3,23 @@ use Rattle.std.specs.Prelude.{false, List, [], ◌∷◌, ◌++◌, Option, Some
 use Rattle.std.proofs.lemmas.{Bool.{cases_eq, le-ltb}, Option.{slice_get-get_or, slice_get_past}}
 use Rattle.std.proofs.lemmas.List.{length_push, length-map, get_or-map, length-take, get_or_past}
 use Rattle.std.specs.Prelude.{if◌then◌else◌, length, slice_get, slice_index, slice_index_or, refl}
-use Rattle.std.proofs.Common.{sym, ◌∙◌, ap, subst, arith, inl, inr}
-use Rattle.vb_ring.proofs.MeaningLaws.{times-push, fewer_used, added_tracks, tracks_shows}
-use Rattle.vb_ring.proofs.MeaningLaws.{next_used_out, taken_tracks, used_shows, next_path-free}
+use Rattle.{std.proofs.Common.{sym, ◌∙◌, ap, subst, arith, inl, inr}, vb_ring.proofs.Puts.publishes}
+use Rattle.std.specs.Prelude.{◌≡◌, ◌≢◌, ℕ, ◌+◌, ◌*◌, ◌%◌, ◌<◌, ◌≤◌, nat_lt, Bool, true}
+use Rattle.{vb_ram.specs.Pages.{Pages, SameBut}, vb_chain.specs.Written.{linked, IsRoute}}
+use Rattle.vb_chain.{proofs.TableLaws.descriptor_kept, specs.declared.pieces.Piece.Piece}
+use Rattle.{vb_chain.specs.Table.descriptor_at, vb_ring.proofs.FrameLaws.outside_in}
+use Rattle.vb_ring.proofs.{HeadCounts.{times-push, fewer_used}, Numbers.length-numbers}
+use Rattle.vb_ring.proofs.MeaningLaws.{added_tracks, tracks_shows, next_used_out, taken_tracks}
+use Rattle.vb_ring.proofs.MeaningLaws.{used_shows, next_path-free, next_path-rise, next_path-lowest}
 use Rattle.vb_ring.specs.Calls.{PutsAvail, Publishes, Links, AddsBy, TakesUsedBy, PutsUsed}
 use Rattle.vb_ring.specs.Ends.{DriverEnd, IsDriverEnd, DeviceEnd, IsDeviceEnd, free_descriptors}
 use Rattle.vb_ring.specs.Ends.{next_path, claimed, released, outstanding, after_add, used_answer}
-use Rattle.vb_ring.specs.{Calls.AddsUsedBy, declared.driver.RingBroken.TheVariants.NotOutstanding}
-use Rattle.vb_ring.specs.declared.driver.{Full.TheVariants.TooFewFree, RingBroken.RingBroken}
-use Rattle.vb_ring.proofs.{MeaningLaws.{next_path-rise, next_path-lowest}, Numbers.length-numbers}
-use Rattle.vb_ring.{proofs.FrameLaws.outside_in, specs.{Layout.Fits, declared.layout.Layout.Layout}}
-use Rattle.vb_ring.{proofs.Puts.publishes, specs.{Ends.after_take, Kept.IsFreeChain}}
+use Rattle.vb_ring.specs.{Calls.AddsUsedBy, Layout.Fits, Ends.after_take, Kept.IsFreeChain}
+use Rattle.vb_ring.specs.declared.driver.RingBroken.{TheVariants.NotOutstanding, RingBroken}
+use Rattle.vb_ring.specs.declared.{driver.Full.TheVariants.TooFewFree, layout.Layout.Layout}
 use Rattle.vb_ring.proofs.EntryLaws.{publishes_entries, puts_entries, puts_descriptors, id_shown}
 use Rattle.vb_ring.{proofs.OwnerLaws.not_in, specs.Entries.{is_own, is_head, next_id, only_head}}
 use Rattle.vb_ring.specs.Meaning.{UsedElem, no_elem, ids, Shows, ShowsEntries, Tracks}
-use Rattle.vb_ram.specs.Pages.{Pages, SameBut}
-use Rattle.vb_chain.{proofs.TableLaws.descriptor_kept, specs.declared.pieces.Piece.Piece}
-use Rattle.vb_chain.specs.{Table.descriptor_at, Written.{linked, IsRoute}}
-use Rattle.std.specs.Prelude.{◌≡◌, ◌≢◌, ℕ, ◌+◌, ◌*◌, ◌%◌, ◌<◌, ◌≤◌, nat_lt, Bool, true}
 
 -- ---- add
 

@@ -3,16 +3,15 @@ use Rattle.std.proofs.lemmas.List.{length_push, get_or_append_left, get_or_push,
 use Rattle.std.proofs.lemmas.{Bool.cases_eq, Option.{slice_get-get_or, slice_get_past}}
 use Rattle.std.proofs.{Math.Nat.{mod-mod_of_dvd, dvd_of_mod-eq-zero}, lemmas.List.get_or-map}
 use Rattle.std.{proofs.lemmas.Grind.common_steps, specs.Prelude.{length, slice_get, Some, None, Ok}}
-use Rattle.std.proofs.Common.{sym, ◌∙◌, ap, arith, inl, inr}
+use Rattle.{std.proofs.Common.{sym, ◌∙◌, ap, arith, inl, inr}, vb_ring.proofs.FrameLaws.outside_in}
+use Rattle.std.specs.Prelude.{◌≡◌, ◌≢◌, ℕ, ◌+◌, ◌-◌, ◌*◌, ◌%◌, ◌<◌, ◌≤◌, List, ◌∷◌, [], ◌++◌}
 use Rattle.vb_ram.proofs.FieldLaws.{same_page, field_in}
 use Rattle.vb_ram.specs.Pages.{byte_at, page_at, Pages, field, SameIn}
 use Rattle.vb_chain.{proofs.TableLaws.descriptor_kept, specs.Table.descriptor_at}
 use Rattle.vb_ring.specs.Entries.{avail_index, avail_place, used_index, used_place, ahead}
-use Rattle.vb_ring.proofs.FrameLaws.{outside_in}
 use Rattle.vb_ring.specs.{Calls.{PutsUsed, Publishes}, declared.layout.Layout.Layout}
 use Rattle.vb_ring.specs.Meaning.{UsedElem, no_elem, ids, ShowsAvail, ShowsUsed, ShowsEntries}
 use Rattle.vb_ring.specs.{Entries.{used_ahead, next_by, next_entry, next_id}, Layout.{IsSize, Fits}}
-use Rattle.std.specs.Prelude.{◌≡◌, ◌≢◌, ℕ, ◌+◌, ◌-◌, ◌*◌, ◌%◌, ◌<◌, ◌≤◌, List, ◌∷◌, [], ◌++◌}
 
 -- ---- places
 

@@ -1,12 +1,11 @@
 -- What the driver's table keeps, after each change of the owners.
 use Rattle.std.proofs.lemmas.List.{length-map, get_or-set_same, get_or-set_other, take_at}
 use Rattle.std.specs.Prelude.{◌≡◌, ℕ, ◌+◌, ◌-◌, ◌<◌, ◌≤◌, Bool, true, false, List, Option, Some}
-use Rattle.std.specs.Prelude.{None, ◌++◌, if◌then◌else◌, replicate, take, length, slice_index}
-use Rattle.std.{proofs.lemmas.List.length-replicate, specs.Prelude.{slice_index_or, refl, is_none}}
-use Rattle.std.proofs.Common.{sym, ◌∙◌, ap, subst, arith, set}
-use Rattle.vb_model.{proofs.Tables.length-each_from, specs.Tests.is_in}
+use Rattle.std.specs.Prelude.{None, ◌++◌, if◌then◌else◌, replicate, take, length, slice_index, refl}
+use Rattle.std.proofs.{lemmas.List.length-replicate, Common.{sym, ◌∙◌, ap, subst, arith, set}}
+use Rattle.{std.specs.Prelude.slice_index_or, vb_ring.specs.Ends.{is_unused, claimed, released}}
+use Rattle.{std.specs.Prelude.is_none, vb_model.{proofs.Tables.length-each_from, specs.Tests.is_in}}
 use Rattle.vb_ring.proofs.OwnerLaws.{Claims, claims, Releases, releases, is_in-some, is_in-at}
-use Rattle.vb_ring.specs.Ends.{is_unused, claimed, released}
 use Rattle.vb_ring.specs.{Kept.{LiesBetween, AreKept, IsFreeChain}, Numbers.numbers}
 use Rattle.vb_ring.{proofs.Numbers.{numbers_none, numbers_has}, specs.Entries.{is_own, is_head}}
 use Rattle.vb_ring.proofs.OwnerLaws.{own_some, head_inside, fresh_free, claimed-at, released-at}

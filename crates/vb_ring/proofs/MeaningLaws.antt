@@ -1,15 +1,15 @@
--- Laws of what the bytes of a ring mean.
-use Rattle.std.specs.Prelude.{◌≡◌, ◌≢◌, ℕ, zero, suc, ◌+◌, ◌-◌, ◌<◌, ◌≤◌, ◌==◌, nat_lt, Bool}
-use Rattle.std.specs.Prelude.{true, false, List, [], ◌∷◌, ◌++◌, Option, Some, None, Ok, length}
-use Rattle.std.specs.Prelude.{take, replicate, slice_index, slice_index_or, refl}
-use Rattle.std.proofs.Common.{sym, ◌∙◌, ap, subst, arith, inl, inr, eq-eqb, add-one}
-use Rattle.std.{proofs.lemmas.Bool.{cases_eq, cases_lt, ltb-true}, proofs.lemmas.List.length_push}
-use Rattle.std.proofs.lemmas.List.{length-map, get_or-take, length-take-le, take-append-le}
-use Rattle.vb_model.{specs.Tests.{is_in, one_if}, proofs.Tables.{count_by-append, count_by-cons}}
-use Rattle.vb_ram.specs.Pages.{Pages, byte_at, page_at}
-use Rattle.vb_chain.{specs.declared.descriptor.Descriptor.Descriptor, specs.Written.{linked, empty}}
-use Rattle.vb_chain.{specs.declared.pieces.Piece.Piece, proofs.TableLaws.descriptor_apart}
-use Rattle.vb_chain.{proofs.ChainLaws.flags_next, specs.Table.descriptor_at, specs.Rules.has_next}
+-- What the bytes of a ring mean to a driver's end, after each call, and on fresh pages.
+use Rattle.std.specs.Prelude.{◌≡◌, ℕ, zero, suc, ◌+◌, ◌-◌, ◌<◌, ◌≤◌, ◌==◌, nat_lt, Bool, true}
+use Rattle.std.specs.Prelude.{false, List, [], ◌∷◌, ◌++◌, Option, Some, None, Ok, length, take}
+use Rattle.std.specs.Prelude.{replicate, slice_index, slice_index_or, refl}
+use Rattle.std.proofs.Common.{sym, ◌∙◌, ap, subst, arith, inl, inr, add-one}
+use Rattle.{std.proofs.lemmas.Bool.{cases_eq, cases_lt, ltb-true}, vb_ring.specs.Numbers.numbers}
+use Rattle.std.proofs.lemmas.List.{length_push, get_or-take, length-take-le, take-append-le}
+use Rattle.{vb_model.specs.Tests.{is_in, one_if}, vb_ram.specs.Pages.{Pages, byte_at, page_at}}
+use Rattle.vb_chain.specs.declared.{descriptor.Descriptor.Descriptor, pieces.Piece.Piece}
+use Rattle.vb_chain.{specs.Written.{linked, empty}, proofs.TableLaws.descriptor_apart}
+use Rattle.{vb_chain.proofs.ChainLaws.flags_next, vb_ring.proofs.HeadCounts.times-take}
+use Rattle.{vb_chain.specs.{Table.descriptor_at, Rules.has_next}, vb_ring.specs.Calls.Links}
 use Rattle.vb_ring.proofs.Numbers.{numbers_pass, numbers_rise, numbers_none, numbers_has}
 use Rattle.vb_ring.specs.Ends.{DriverEnd, IsDriverEnd, is_unused, free_descriptors, outstanding}
 use Rattle.vb_ring.proofs.OwnerLaws.{is_in-at, nowhere_in, take_inside, free_none, some_same}
@@ -17,96 +17,9 @@ use Rattle.vb_ring.proofs.OwnerLaws.{none_some, head_inside, Claims, claims, Rel
 use Rattle.vb_ring.specs.Meaning.{UsedElem, no_elem, ids, times, IsOutstanding, IsTablePath}
 use Rattle.vb_ring.specs.Ends.{next_path, claimed, released, after_add, after_take, fresh_end}
 use Rattle.vb_ring.{proofs.EntryLaws.{entries_apart, index_zero}, specs.Entries.{is_own, is_head}}
-use Rattle.vb_ring.{specs.Meaning.{ShowsEntries, Shows, Tracks}, specs.Layout.{IsSize, Fits}}
-use Rattle.vb_ring.{specs.declared.layout.Layout.Layout, proofs.OwnerLaws.fresh_free}
-use Rattle.vb_ring.{proofs.Numbers.length_two, specs.Numbers.numbers, specs.Calls.Links}
-
--- ---- how often a head stands in a list
-
-one_is : (h j : ℕ) → h ≡ j → one_if (h == j) ≡ 1
-one_is h j e = ap one_if (eq-eqb h j e)
-
-one_other : (h j : ℕ) → h ≢ j → one_if (h == j) ≡ 0
-one_other h j ne = grind arith
-
-pub times-push : (j : ℕ) (hs : List ℕ) (h : ℕ)
-    → times j (hs ++ h ∷ []) ≡ times j hs + one_if (h == j)
-times-push j hs h = grind (arith, count_by-append)
-
-pub ids-push : (elems : List UsedElem) (e : UsedElem)
-    → ids (elems ++ e ∷ []) ≡ ids elems ++ e.id ∷ []
-ids-push [] e = refl
-ids-push (x ∷ xs) e = ap (λ (ys : List ℕ). x.id ∷ ys) (ids-push xs e)
-
-take_next : (xs : List UsedElem) (n : ℕ) → n < length xs
-    → take (suc n) xs ≡ take n xs ++ slice_index_or xs n no_elem ∷ []
-take_next [] n h = absurd (omega arith)
-take_next (x ∷ xs) zero h = refl
-take_next (x ∷ xs) (suc n) h = ap (λ (ys : List UsedElem). x ∷ ys) (take_next xs n (omega arith))
-
--- One used element more.
-pub times-next : (j : ℕ) (elems : List UsedElem) (n : ℕ) → n < length elems
-    → times j (ids (take (n + 1) elems))
-    ≡ times j (ids (take n elems)) + one_if ((slice_index_or elems n no_elem).id == j)
-times-next j elems n h = grind (arith, take_next, ids-push, times-push)
-
--- The first n have a head at most as often as all.
-pub times-take : (j : ℕ) (elems : List UsedElem) (n : ℕ)
-    → times j (ids (take n elems)) ≤ times j (ids elems)
-times-take j [] n = omega (arith, ap (λ (es : List UsedElem). times j (ids es)) (none n)) where
-  none : (n : ℕ) → take {A = UsedElem} n [] ≡ []
-  none zero = refl
-  none (suc n) = refl
-times-take j (e ∷ es) zero = omega arith
-times-take j (e ∷ es) (suc n) = grind (
-  arith,
-  count_by-cons (λ k. k == j) e.id (ids (take n es)),
-  count_by-cons (λ k. k == j) e.id (ids es),
-  times-take j es n,
-)
-
--- ---- a list whose heads are among another's
-
--- A head that occurs stands somewhere, and without it all others occur as often.
-without : (xs : List ℕ) (h : ℕ) → 0 < times h xs → (ys : List ℕ) × (length xs ≡ length ys + 1)
-    × ((j : ℕ) → times j xs ≡ times j ys + one_if (h == j))
-without [] h some = absurd (omega arith)
-without (x ∷ xs) h some = elim (cases_eq x h) [
-  | inl e ↦ (
-    xs,
-    omega arith,
-    λ j. omega (arith, count_by-cons (λ k. k == j) x xs, ap (λ n. one_if (n == j)) e),
-  )
-  | inr ne ↦
-      let rest = without xs h
-      (omega (arith, count_by-cons (λ k. k == h) x xs, one_other x h ne, some)) in (
-        x ∷ rest.0,
-        omega (arith, rest.1),
-        λ j. omega (
-          arith,
-          count_by-cons (λ k. k == j) x xs,
-          count_by-cons (λ k. k == j) x rest.0,
-          rest.2 j,
-        ),
-      )
-]
-
--- Such a list is no longer.
-pub among-length : (xs ys : List ℕ) → ((j : ℕ) → times j xs ≤ times j ys) → length xs ≤ length ys
-among-length [] ys h = omega arith
-among-length (x ∷ xs) ys h =
-    let first : 0 < times x ys =
-    omega (arith, h x, count_by-cons (λ k. k == x) x xs, one_is x x refl) in
-    let rest = without ys x first in
-    let less : length xs ≤ length rest.0 = among-length xs rest.0
-    (λ j. omega (arith, h j, count_by-cons (λ k. k == j) x xs, rest.2 j)) in
-    omega (arith, less, rest.1)
-
--- A ring shows no more used elements than heads.
-pub fewer_used : (mem : Pages) (l : Layout) (q : ℕ) (heads : List ℕ) (elems : List UsedElem)
-    → Shows mem l q heads elems → length elems ≤ length heads
-fewer_used mem l q heads elems shows =
-    omega (arith, among-length (ids elems) heads shows.among, length-map elems (λ e. e.id))
+use Rattle.vb_ring.specs.{Meaning.{ShowsEntries, Shows, Tracks}, declared.layout.Layout.Layout}
+use Rattle.vb_ring.{specs.Layout.{IsSize, Fits}, proofs.{OwnerLaws.fresh_free, Numbers.length_two}}
+use Rattle.vb_ring.proofs.HeadCounts.{one_is, one_other, times-push, ids-push, times-next}
 
 -- ---- paths in a table that has changed elsewhere
 

@@ -2,12 +2,11 @@
 use Rattle.std.specs.Prelude.{◌≡◌, ◌≢◌, ℕ, zero, suc, ◌<◌, ◌==◌, ◌||◌, Bool, true, false, List, []}
 use Rattle.std.specs.Prelude.{◌∷◌, ◌+◌, Option, Some, None, is_none, if◌then◌else◌, length, take}
 use Rattle.std.proofs.lemmas.List.{length-map, get_or-map, get_or_past, get_or-take, length-take}
-use Rattle.std.{specs.Prelude.{replicate, slice_index, slice_index_or, refl}, specs.List.list_any}
-use Rattle.std.{proofs.Common.{sym, ◌∙◌, ap, arith, eq-eqb}, proofs.lemmas.Bool.eqb-true}
-use Rattle.std.proofs.lemmas.List.{get_or-replicate, length-replicate}
-use Rattle.vb_model.{specs.Tests.is_in, proofs.Tables.each_page-get}
-use Rattle.vb_ring.{specs.Entries.{is_own, is_head}, specs.Numbers.numbers}
-use Rattle.vb_ring.{proofs.Numbers.length_gain, specs.Ends.{claimed, released}}
+use Rattle.std.specs.{Prelude.{replicate, slice_index, slice_index_or, refl}, List.list_any}
+use Rattle.{std.proofs.Common.{sym, ◌∙◌, ap, arith, eq-eqb}, vb_model.proofs.Tables.each_page-get}
+use Rattle.std.proofs.lemmas.{Bool.eqb-true, List.{get_or-replicate, length-replicate}}
+use Rattle.{vb_model.specs.Tests.is_in, vb_ring.proofs.Numbers.length_gain}
+use Rattle.vb_ring.specs.{Entries.{is_own, is_head}, Numbers.numbers, Ends.{claimed, released}}
 
 -- A number that equals itself.
 same_number : (n : ℕ) → (n == n) ≡ true

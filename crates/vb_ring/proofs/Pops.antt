@@ -1,12 +1,10 @@
 -- The contract of a pop, put together at each of its ends.
 use Rattle.std.specs.Prelude.{◌≡◌, ℕ, ◌+◌, ◌*◌, ◌%◌, ◌≤◌, true, false, List, Option, Some, None}
-use Rattle.std.proofs.Common.{arith, sym, ◌∙◌, ap}
-use Rattle.std.specs.Prelude.{Result, Ok, Err, length, slice_get, refl}
-use Rattle.vb_ram.specs.Pages.{Pages}
-use Rattle.vb_chain.{specs.declared.fault.ChainFault.ChainFault, specs.declared.pieces.Piece.Piece}
-use Rattle.vb_chain.{specs.Table.descriptor_at, specs.Chain.{ChainGives, FaultGives}}
-use Rattle.vb_ring.{specs.declared.device.Taken.Taken, specs.Entries.next_entry}
-use Rattle.vb_ring.{specs.Ends.{DeviceEnd, IsDeviceEnd}, specs.Meaning.ShowsAvail}
+use Rattle.{std.proofs.Common.{arith, sym, ◌∙◌, ap}, vb_chain.specs.Chain.{ChainGives, FaultGives}}
+use Rattle.{std.specs.Prelude.{Result, Ok, Err, length, slice_get, refl}, vb_ram.specs.Pages.Pages}
+use Rattle.vb_chain.specs.declared.{fault.ChainFault.ChainFault, pieces.Piece.Piece}
+use Rattle.{vb_chain.specs.Table.descriptor_at, vb_ring.specs.declared.device.Taken.Taken}
+use Rattle.vb_ring.specs.{Entries.next_entry, Ends.{DeviceEnd, IsDeviceEnd}, Meaning.ShowsAvail}
 use Rattle.vb_ring.{proofs.EntryLaws.entry_shown, specs.Calls.{PopsBy, after_pop}}
 
 never : true ≡ false → ⊥

@@ -1,9 +1,8 @@
 -- What the writes of an entry and its index make together.
+use Rattle.{std.proofs.Common.{◌∙◌, ◌+◌, ◌%◌, ◌*◌, ℕ, arith}, vb_ring.proofs.FrameLaws.byte_kept}
 use Rattle.vb_ram.{proofs.FieldLaws.{field_in, same_above}, specs.Pages.{Pages, PutField, SameBut}}
-use Rattle.vb_ring.proofs.FrameLaws.{byte_kept}
 use Rattle.vb_ring.specs.Entries.{avail_index, avail_place, used_index, used_place}
 use Rattle.vb_ring.specs.{Calls.{PutsAvail, PutsUsed, Publishes}, declared.layout.Layout.Layout}
-use Rattle.std.proofs.Common.{◌∙◌, ◌+◌, ◌%◌, ◌*◌, ℕ, arith}
 
 pub puts_avail : (m1 m2 m3 : Pages) (l : Layout) (q next head : ℕ)
     → PutField 2 m1 m2 l.avail.page (avail_place l q next) head

@@ -1,10 +1,9 @@
 -- Worked facts of what a guest's worker does, and of when nothing waits for it.
 use Rattle.std.proofs.Common.{◌≡◌, ℕ, [], ◌∷◌, true, false, map, refl, ap, sym, ◌∙◌, arith}
-use Rattle.std.specs.Prelude.{length}
-use Rattle.vb_model.proofs.{GuestSteps.fresh_consistent, OrderlySteps.fresh_order}
+use Rattle.{std.specs.Prelude.length, vb_model.specs.Requests.{BufferTaken, BufferDone, Figures}}
+use Rattle.vb_model.proofs.{LifeSteps.fresh_consistent, OrderlySteps.fresh_order}
 use Rattle.vb_model.{proofs.Performed.performed, specs.Guest.{Guest, Config, fresh}}
 use Rattle.vb_model.specs.Requests.{Request, Requests, no_requests, NoBuffer, BufferPosted}
-use Rattle.vb_model.specs.Requests.{BufferTaken, BufferDone, Figures}
 use Rattle.vb_model.specs.declared.calls.Call.TheVariants.{Take, Work, Finish, Ask, SetTarget}
 use Rattle.vb_model.specs.declared.negotiation.TheConstants.{OFFERED_FEATURES}
 use Rattle.vb_model.specs.declared.replies.Refusal.TheVariants.{NotReady, NotTaken}

@@ -3,9 +3,9 @@
 use Rattle.std.proofs.Common.{◌≡◌, ◌≢◌, ℕ, zero, suc, Bool, true, false, cond, List, [], ◌∷◌, refl}
 use Rattle.std.{proofs.Common.{sym, ap, subst, ◌∙◌, ◌⊎◌, inl, inr, arith}, specs.List.list_all}
 use Rattle.std.specs.Prelude.{◌==◌, ◌<◌, Option, Some, None, MatchOption, length, slice_get}
-use Rattle.std.{proofs.lemmas.Bool.{ltb-true, and_parts}, proofs.lemmas.Option.slice_get-get_or}
+use Rattle.std.proofs.lemmas.{Bool.{ltb-true, and_parts}, Option.slice_get-get_or}
 use Rattle.vb_model.proofs.{AttentiveSteps.honest_attentive, CallSteps.{match_cases, honest_keeps}}
-use Rattle.vb_model.proofs.{CallSteps.{Idles, Visits}, GuestSteps.fresh_consistent}
+use Rattle.vb_model.proofs.{CallSteps.{Idles, Visits}, LifeSteps.fresh_consistent}
 use Rattle.vb_model.proofs.{OrderlySteps.{honest_order, fresh_order}, Performed.Performed}
 use Rattle.vb_model.proofs.{Performed.honest_case, Unchanged.{step_keeps, IsScribble}}
 use Rattle.vb_model.specs.{Consistent.IsConsistent, Device.{TakesRequest, ReturnsBuffer, next_page}}
@@ -15,11 +15,10 @@ use Rattle.vb_model.specs.{HonestRuns.IsAttentive, Limits.is_config, Orderly.IsO
 use Rattle.vb_model.specs.{Refusals.{refusal_of, taken_of}, Requests.{Request, Kind, Inflating}}
 use Rattle.vb_model.specs.{Requests.{Deflating, Reporting_free, StatisticsBuffer}, Rogue.GuestStep}
 use Rattle.vb_model.specs.{Step.HonestStep, Tables.{take_causes, finish_causes, work_causes}}
-use Rattle.vb_model.specs.{Tables.Negotiated, declared.calls.Actor.Actor}
-use Rattle.vb_model.specs.declared.calls.{Actor.TheVariants.Starter, Call.Call}
+use Rattle.vb_model.specs.{Tables.Negotiated, declared.replies.Reply.{Reply, TheVariants.Refused}}
+use Rattle.vb_model.specs.declared.calls.{Actor.{Actor, TheVariants.Starter}, Call.Call}
 use Rattle.vb_model.specs.declared.calls.Call.TheVariants.{Init, Scribble, Take, Work, Finish, Ask}
 use Rattle.vb_model.specs.declared.{calls.Claim.Claim, negotiation.TheConstants.OFFERED_FEATURES}
-use Rattle.vb_model.specs.declared.replies.Reply.{Reply, TheVariants.Refused}
 use Rattle.vb_run.specs.Plans.{may_stand, is_actor_call}
 use Rattle.vb_run.specs.Services.{services, found_nothing, IsQuiet, IsTended, IsServed, is_waiting}
 

@@ -1,10 +1,10 @@
-use Rattle.std.proofs.Common.{◌≡◌, ◌<◌, ◌+◌, ℕ, List, Option, Some, None, set, min, subst, sym}
-use Rattle.std.proofs.{Common.arith, lemmas.Bool.both_ways}
-use Rattle.vb_pages.proofs.TilesLemmas.{joined_tiled, joined_room, joined_set, room_empty}
+use Rattle.std.proofs.Common.{◌≡◌, ◌<◌, ◌+◌, List, Option, Some, None, set, min, subst, sym, arith}
+use Rattle.{std.proofs.{Common.ℕ, lemmas.Bool.both_ways}, vb_pages.specs.Tiles.{HasRoom, IsTiled}}
+use Rattle.vb_pages.proofs.HalvesLemmas.{joined_tiled, joined_room, joined_set, added_tiled}
+use Rattle.vb_pages.{proofs.TilesLemmas.{room_empty, added_set, HasNoBuddy}, specs.Table.order_at}
 use Rattle.vb_pages.proofs.areas.+put_block.Goals.{else-order-lt-MAX_ORDER-via-then-order-lt-MAX_ORDER+else-is_listed}
 use Rattle.vb_pages.proofs.areas.+put_block.Goals.{else-order-lt-MAX_ORDER-via-else-order-lt-MAX_ORDER}
-use Rattle.vb_pages.specs.{Table.order_at, Tiles.{HasRoom, IsTiled}}
-use Rattle.vb_pages.proofs.TilesLemmas.{added_tiled, added_set, no_buddy, no_larger, HasNoBuddy}
+use Rattle.vb_pages.proofs.HalvesLemmas.{no_buddy, no_larger}
 use Rattle.vb_pages.proofs.areas.+put_block.Goals as goal
 
 pub put_block-requires : goal.put_block-requires

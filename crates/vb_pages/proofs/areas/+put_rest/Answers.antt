@@ -1,6 +1,6 @@
 use Rattle.std.proofs.Common.{arith}
-use Rattle.vb_pages.proofs.TilesLemmas.{rest_upper, rest_empty, rest_tiled, rest_room, rest_set}
-use Rattle.vb_pages.proofs.TilesLemmas.{none_left}
+use Rattle.vb_pages.proofs.HalvesLemmas.{rest_upper, rest_empty, rest_tiled, rest_room, rest_set}
+use Rattle.vb_pages.proofs.HalvesLemmas.{none_left}
 use Rattle.vb_pages.proofs.areas.+put_rest.Goals as goal
 
 pub add-requires-clause-aligned : goal.add-requires-clause-aligned

@@ -1,5 +1,5 @@
 use Rattle.std.proofs.Common.{◌+◌, ℕ, List, subst, sym}
-use Rattle.vb_pages.proofs.FreeLemmas.{AreTakenSoFar, taken_one, taken_all}
+use Rattle.vb_pages.proofs.ServingLemmas.{AreTakenSoFar, taken_one, taken_all}
 use Rattle.vb_pages.proofs.free.take_singles.Goals as goal
 
 pub unreachable-requires : goal.unreachable-requires

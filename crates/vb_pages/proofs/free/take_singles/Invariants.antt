@@ -1,4 +1,4 @@
-use Rattle.vb_pages.proofs.FreeLemmas.{AreTakenSoFar}
+use Rattle.vb_pages.proofs.ServingLemmas.{AreTakenSoFar}
 use Rattle.vb_pages.proofs.free.take_singles.Given as goal
 
 abbrev pub invariant-loop-count : goal.invariant-loop-count

@@ -3,7 +3,7 @@ use Rattle.{vb_model.specs.Pages.all_free, vb_ram.specs.declared.shape.Shape.Sha
 use Rattle.vb_ram.{specs.Limits.AreWithinLimits, proofs.Limits.config_limits}
 use Rattle.{vb_status.specs.Bits.feature_bits, vb_pages.specs.PageState.new_page_state}
 use Rattle.vb_driver.specs.State.{DriverState, fresh_driver, IsDriver, fresh_side, fresh_statistics}
-use Rattle.vb_driver.{specs.State.fresh_report, proofs.{Moving.fresh_kept, Sizes.size_of_config}}
+use Rattle.vb_driver.{specs.State.fresh_report, proofs.{Resetting.fresh_kept, Sizes.size_of_config}}
 use Rattle.vb_driver.proofs.driver.Driver.new.Goals as goal
 
 pub new_pages-requires-clause-size : goal.new_pages-requires-clause-size

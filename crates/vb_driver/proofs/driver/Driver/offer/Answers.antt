@@ -1,11 +1,9 @@
 use Rattle.std.proofs.Common.{◌≡◌, ◌∙◌, ◌++◌, sym, ap, subst, arith, ℕ, List}
-use Rattle.vb_model.{specs.declared.places.Place.TheVariants.Giving, specs.Pages.placed}
-use Rattle.vb_model.specs.declared.places.Place.{Place}
-use Rattle.vb_driver.proofs.Moving.{offered_kept, others_there, others_free, offered_inside}
-use Rattle.vb_driver.{proofs.Moving.first_few, specs.State.IsDriver, specs.Areas.flags_of}
-use Rattle.vb_driver.{specs.Calls.stranded_first, proofs.Naming.once_distinct}
-use Rattle.vb_driver.specs.contracts.driver.Driver.{the_view}
+use Rattle.vb_model.specs.{declared.places.Place.{TheVariants.Giving, Place}, Pages.placed}
+use Rattle.vb_driver.proofs.{Moving.{offered_kept, others_there, others_free}, Naming.once_distinct}
+use Rattle.vb_driver.proofs.Moving.{offered_inside, first_few}
 use Rattle.vb_driver.proofs.driver.Driver.offer.Goals as goal
+use Rattle.vb_driver.specs.{State.IsDriver, Calls.stranded_first, contracts.driver.Driver.the_view}
 
 pub take_free-requires-clause-free : goal.take_free-requires-clause-free
 take_free-requires-clause-free g c = grind (arith, others_there)

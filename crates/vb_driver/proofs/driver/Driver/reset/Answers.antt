@@ -4,7 +4,7 @@ use Rattle.vb_model.specs.{Pages.{Block, place_of, is_free, is_reporting}, Life.
 use Rattle.vb_model.specs.declared.places.Place.{Place, TheVariants.Reporting}
 use Rattle.{vb_status.specs.Bits.feature_bits, vb_driver.specs.contracts.driver.Driver.the_view}
 use Rattle.vb_driver.specs.{State.{DriverState, IsDriver}, Areas.{AreFor, flags_of}}
-use Rattle.vb_driver.{specs.{Calls.with_nothing_out, Places.marked}, proofs.Moving.reset_kept}
+use Rattle.vb_driver.{specs.{Calls.with_nothing_out, Places.marked}, proofs.Resetting.reset_kept}
 use Rattle.vb_driver.proofs.{Moving.is_out, Counting.at_is}
 use Rattle.vb_driver.proofs.driver.Driver.reset.Goals as goal
 

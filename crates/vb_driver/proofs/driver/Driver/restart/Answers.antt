@@ -1,6 +1,6 @@
 use Rattle.std.proofs.Common.{◌∙◌, sym, ap, subst}
 use Rattle.{vb_model.specs.Layout.reserved_pages, vb_ram.specs.declared.shape.Shape.Shape}
-use Rattle.vb_driver.{specs.State.IsDriver, proofs.{Moving.fresh_kept, Restarting.restarted}}
+use Rattle.vb_driver.{specs.State.IsDriver, proofs.{Resetting.fresh_kept, Restarting.restarted}}
 use Rattle.vb_driver.proofs.driver.Driver.restart.Goals as goal
 
 pub invariant_of-self : goal.invariant_of-self

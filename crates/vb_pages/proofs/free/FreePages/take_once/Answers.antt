@@ -1,7 +1,7 @@
-use Rattle.std.proofs.Common.{◌≡◌, ◌<◌, ℕ, List, length, subst, ◌∙◌, sym}
-use Rattle.vb_pages.specs.FreePages.{FreePages, list_of, TakesSingle}
-use Rattle.std.proofs.lemmas.List.{get_or_default}
-use Rattle.vb_pages.proofs.FreeLemmas.{takes_any_sound, single_sound, free_of, nothing}
+use Rattle.std.proofs.{Common.{◌≡◌, ◌<◌, List, length, subst, ◌∙◌, sym}, lemmas.List.get_or_default}
+use Rattle.{std.proofs.Common.ℕ, vb_pages.specs.FreePages.{FreePages, list_of, TakesSingle}}
+use Rattle.vb_pages.proofs.{ServingLemmas.{takes_any_sound, single_sound}, FreeLemmas.free_of}
+use Rattle.vb_pages.proofs.FreeLemmas.{nothing}
 use Rattle.vb_pages.proofs.free.FreePages.take_once.Goals as goal
 
 pub invariant_of-self : goal.invariant_of-self
