@@ -1,13 +1,12 @@
 -- What calls make of the statistics buffer.
 use Rattle.std.specs.Prelude.{◌≡◌, ℕ, ◌+◌, ◌%◌, true, List, [], ◌∷◌, ◌++◌, remove, Some, Ok, refl}
-use Rattle.{std.proofs.Common.{ap, arith, inl}, vb_model.specs.Requests.Request}
+use Rattle.{std.proofs.Common.{ap, arith, inl}, vb_model.specs.Requests.{Request, BufferDone}}
 use Rattle.vb_model.specs.Requests.{Figures, StatisticsBuffer, NoBuffer, BufferPosted, BufferTaken}
-use Rattle.{vb_model.specs.{Requests.BufferDone, Layout.ring_page}, vb_ram.specs.Pages.Pages}
-use Rattle.vb_ram.{specs.{Pages.page_at, Part.QueuePart}, proofs.FieldLaws.field_in}
+use Rattle.{vb_model.specs.Layout.ring_page, vb_guest.specs.Buffer.{BufferLine, HasFigures}}
+use Rattle.vb_ram.{specs.{Pages.{Pages, page_at}, Part.QueuePart}, proofs.FieldLaws.field_in}
 use Rattle.{vb_ram.proofs.FieldLaws.same_page, vb_chain.proofs.TableLaws.descriptor_apart}
 use Rattle.vb_ring.specs.{Ends.{DriverEnd, DeviceEnd}, Calls.{AddsUsedBy, TakesUsedBy}}
 use Rattle.vb_driver.specs.{Coding.{AreFigures, IsStatistic}, Calls.{PostsBuffer, emptied}}
-use Rattle.vb_guest.specs.Buffer.{BufferLine, HasFigures}
 use Rattle.vb_guest.proofs.{RingApart.{SameRing, ring_apart}, RingPosted.ring_posted}
 use Rattle.vb_guest.proofs.{RingTaken.ring_taken, RingUsed.ring_used, RingReaped.ring_reaped}
 

@@ -1,12 +1,11 @@
 -- A driver's counts of places are the guest's.
-use Rattle.std.specs.Prelude.{◌≡◌, ℕ, List, Bool, count_by}
+use Rattle.{std.specs.Prelude.{◌≡◌, ℕ, List, Bool, count_by}, vb_guest.proofs.Standing.by_guest}
 use Rattle.{std.proofs.Common.{◌∙◌, ap, subst}, vb_model.specs.declared.places.Place.Place}
 use Rattle.vb_model.specs.declared.places.Place.TheVariants.{Free, Used, Giving, Lent, Taking}
 use Rattle.vb_model.specs.declared.places.{Place.TheVariants.Stranded, PlaceCounts.PlaceCounts}
 use Rattle.vb_model.specs.{declared.replies.Reply.TheVariants.Places, Guest.Guest}
 use Rattle.{vb_model.specs.Queries.{place_counts, is_place}, vb_ram.specs.{Pages.Pages, Part.Part}}
-use Rattle.vb_driver.specs.{State.DriverState, Calls.AreCountsOf}
-use Rattle.vb_guest.{specs.Stands.Stands, proofs.Standing.by_guest}
+use Rattle.{vb_driver.specs.{State.DriverState, Calls.AreCountsOf}, vb_guest.specs.Stands.Stands}
 
 -- how many pages are at the place
 abbrev count_at : Place → Guest → ℕ

@@ -3,13 +3,11 @@ use Rattle.std.proofs.Common.{◌≡◌, ◌⊎◌, ℕ, true, false, List, [], 
 use Rattle.std.specs.Prelude.{Bool, Option, Some, None, Result, Ok, Err, IsOk, is_some}
 use Rattle.vb_model.specs.declared.calls.Claim.{Claim, TheVariants.{GaveNoFrame, GaveNoMemory}}
 use Rattle.vb_model.specs.declared.places.Place.{Place, TheVariants.{Used, Free}}
-use Rattle.vb_model.specs.declared.replies.Refusal.{Refusal}
+use Rattle.vb_model.specs.declared.replies.Refusal.{Refusal, TheVariants.{NoFrame, NoMemory}}
 use Rattle.vb_model.specs.declared.replies.Refusal.TheVariants.{AlreadyUp, NotHeld, OutOfRam}
-use Rattle.vb_model.specs.declared.replies.Refusal.TheVariants.{NoFrame, NoMemory}
-use Rattle.vb_frames.specs.declared.keeper.Refused.TheVariants.{NoFrame as None_left, Memory}
-use Rattle.vb_frames.specs.Out.{TableAnswers}
 use Rattle.vb_ram.specs.{Pages.{Pages, Wrote}, Part.{Part, no_part}}
-use Rattle.vb_driver.specs.State.{DriverState, fresh_driver}
+use Rattle.vb_frames.specs.declared.keeper.Refused.TheVariants.{NoFrame as None_left, Memory}
+use Rattle.{vb_frames.specs.Out.TableAnswers, vb_driver.specs.State.{DriverState, fresh_driver}}
 use Rattle.vb_guest.specs.{Supply.{Supply, IsClaimed}, Exact.{IsHandedBack, IsReset, KeepsFrames}}
 use Rattle.vb_guest.specs.Exact.{PutsBy, ReadsBy, FillsBy, Continues, InitialisesBy}
 

@@ -11,8 +11,8 @@ use Rattle.{vb_driver.specs.State.DriverState, vb_guest.specs.{Replies.done_repl
 use Rattle.vb_guest.specs.{Exact.{FillsBare, FillsBy}, Supply.{Supply, supply_of, IsClaimed}}
 use Rattle.vb_guest.{specs.Stands.Stands, proofs.WriteStep.{write_unsupplied, write_supplied}}
 use Rattle.vb_guest.proofs.{WriteStep.refusal_of_claim, RogueMemory.write_supplied_rogue}
-use Rattle.vb_guest.proofs.RogueMemory.{write_unsupplied_rogue, scribble_supplied}
-use Rattle.vb_guest.proofs.{RogueMemory.scribble_unsupplied, Standing.over_stands}
+use Rattle.vb_guest.proofs.{RogueMemory.write_unsupplied_rogue, Standing.over_stands}
+use Rattle.vb_guest.proofs.Scribbles.{scribble_supplied, scribble_unsupplied}
 
 -- what a call is where its claim was answered by a frame, and where it was refused
 filled : {T : Type 0} {New : Guest → Type 0} {Answers : List Bool → Claim → Type 0} {s1 s2 : Supply}

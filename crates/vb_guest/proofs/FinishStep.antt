@@ -1,7 +1,7 @@
 -- A guest's finish is a step of the definitions.
 use Rattle.std.specs.Prelude.{◌≡◌, ℕ, zero, suc, ◌+◌, ◌%◌, ◌<◌, ◌≤◌, true, false, not, remove, ◌++◌}
 use Rattle.std.specs.Prelude.{◌&&◌, ◌==◌, List, [], ◌∷◌, All, Result, Some, None, slice_get, refl}
-use Rattle.std.proofs.Common.{sym, ◌∙◌, ap, subst, arith, inr}
+use Rattle.{std.proofs.Common.{sym, ◌∙◌, ap, subst, arith, inr}, vb_ram.specs.Pages.Pages}
 use Rattle.vb_model.specs.Requests.{Request, Kind, Inflating, Deflating, Reporting_free, queue_of}
 use Rattle.vb_model.specs.Tables.{is_queue_of_requests, is_not_ready, has_fault, has_unvisited}
 use Rattle.vb_model.specs.{Orderly.{times, IsRequestSound, AllRequestsSound}, Driver.AllDistinct}
@@ -11,12 +11,12 @@ use Rattle.vb_model.specs.{declared.calls.Call.TheVariants.Finish, Device.{used,
 use Rattle.vb_model.specs.{Layout.{reserved_pages, ring_page}, declared.replies.Refusal.Refusal}
 use Rattle.vb_model.{specs.Refusals.{taken_of, refusal_of}, proofs.Distinct.distinct_once}
 use Rattle.vb_model.{specs.{Guest.{Guest, requests}, Step.Performs}, proofs.Queues.no_requests_at}
-use Rattle.vb_ram.specs.{Part.{Part, QueuePart}, Pages.Pages}
+use Rattle.{vb_ram.specs.Part.{Part, QueuePart}, vb_driver.specs.{State.DriverState, Calls.ring_of}}
 use Rattle.vb_ring.specs.{Layout.{IsSize, layout_of}, Calls.AddsUsedBy, Ends.DeviceEnd}
-use Rattle.vb_driver.specs.{State.DriverState, Calls.ring_of}
 use Rattle.vb_device.specs.Calls.{using, without_frames, lost_frames, FinishesBy, Uses, SameFrames}
 use Rattle.vb_device.specs.{Conditions.{taken_at, finish_refusal}, Queues.queue_part}
 use Rattle.vb_device.specs.Discards.{frames_behind, flagged}
+use Rattle.{vb_device.specs.Calls.settled as settles, vb_guest.proofs.Losing.frames_lost}
 use Rattle.vb_guest.specs.Stands.{Honest, Ties, IsRunning, HasPages, HasParts, IsOwnRequest}
 use Rattle.vb_guest.specs.Stands.{beside_queues, beside_sides, beside_requests}
 use Rattle.vb_guest.proofs.KindLines.{Knows, Codes, LineWith, line_of, size_of, own_pages_of}
@@ -29,8 +29,6 @@ use Rattle.vb_guest.proofs.{SameRefusals.{by_state, finish_same, finish_idle}, R
 use Rattle.vb_guest.{proofs.Running.{OthersRun, runs_on, others_run}, specs.Replies.finished_reply}
 use Rattle.vb_guest.proofs.{Refusing.{by_queue, finish_no_queue}, Apart.SameReserved, Heads.one_of}
 use Rattle.vb_guest.{specs.Steps.{StepsFreeing, backing_count}, proofs.EachOnce.distinct_each_once}
-use Rattle.vb_guest.proofs.Losing.{frames_lost}
-use Rattle.vb_device.specs.Calls.{settled as settles}
 
 -- ---- a finish that is refused, or isn't
 

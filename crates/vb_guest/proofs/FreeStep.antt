@@ -1,14 +1,13 @@
 -- A guest's giving back of a block is a step of the definitions.
-use Rattle.std.{specs.Prelude.{ℕ, [], Result, Ok, Err, refl}, proofs.Common.{sym, subst, inl}}
-use Rattle.{std.proofs.Common.inr, vb_model.specs.declared.calls.Call.TheVariants.Free}
-use Rattle.vb_model.specs.declared.replies.{Refusal.Refusal, Reply.TheVariants.Done}
-use Rattle.vb_model.specs.{declared.places.Place.TheVariants.Free as FreePlace, Pages.pages_of}
-use Rattle.vb_model.specs.{Pages.placed, Guest.Guest, Driver.without_block}
-use Rattle.{vb_ram.specs.{Pages.Pages, Part.Part}, vb_driver.specs.State.FreePages}
-use Rattle.vb_driver.specs.{State.DriverState, Answers.block_at, Calls.{FreesBy, after_free}}
-use Rattle.vb_guest.specs.{Stands.{Honest, Ties}, Steps.StepsAlone, Replies.done_reply}
+use Rattle.std.{specs.Prelude.{ℕ, [], Result, Ok, Err, refl}, proofs.Common.{sym, subst, inl, inr}}
+use Rattle.vb_model.specs.declared.{calls.Call.TheVariants.Free, replies.Reply.TheVariants.Done}
+use Rattle.vb_model.specs.{declared.replies.Refusal.Refusal, Pages.{pages_of, placed}}
+use Rattle.vb_model.specs.{declared.places.Place.TheVariants.Free as FreePlace, Guest.Guest}
+use Rattle.{vb_model.specs.Driver.without_block, vb_ram.specs.{Pages.Pages, Part.Part}}
+use Rattle.vb_driver.specs.{State.{FreePages, DriverState}, Calls.{FreesBy, after_free}}
+use Rattle.{vb_driver.specs.Answers.block_at, vb_guest.specs.{Steps.StepsAlone, Replies.done_reply}}
+use Rattle.vb_guest.{specs.Stands.{Honest, Ties}, proofs.DriverWords.{Sides, driver_of, in_words}}
 use Rattle.vb_guest.proofs.Closing.{honest_performed, steps_alone, refused_alone}
-use Rattle.vb_guest.proofs.DriverWords.{Sides, driver_of, in_words}
 
 by_result : {m : Pages} {p : Part} {g : Guest} (areas : FreePages) (sides : Sides)
     {d2 : DriverState} {cpu start order : ℕ} (result : Result (Unit {0}) Refusal) → FreesBy

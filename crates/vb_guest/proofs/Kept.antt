@@ -1,7 +1,7 @@
 -- Calls that leave alone what a device says of frames of its own.
 use Rattle.std.specs.Prelude.{◌≡◌, ℕ, ◌==◌, ◌&&◌, not, Bool, true, false, List, [], ◌∷◌}
 use Rattle.std.specs.Prelude.{is_none, if◌then◌else◌, Option, Some, None, Result, Ok, Err, refl}
-use Rattle.std.proofs.Common.{◌∙◌, ap}
+use Rattle.{std.proofs.Common.{◌∙◌, ap}, vb_ram.specs.{Pages.Pages, Part.{Part, QueuePart}}}
 use Rattle.vb_model.specs.declared.layout.TheConstants.{INFLATE_QUEUE, DEFLATE_QUEUE}
 use Rattle.vb_model.specs.declared.layout.TheConstants.{STATISTICS_QUEUE, REPORT_QUEUE}
 use Rattle.vb_model.specs.declared.replies.Refusal.{Refusal, TheVariants.NoQueue}
@@ -9,7 +9,6 @@ use Rattle.vb_model.specs.declared.replies.Refusal.TheVariants.{NotReady, NeedsR
 use Rattle.vb_model.specs.declared.replies.Refusal.TheVariants.{NotWorked, Broken, RingBroken}
 use Rattle.vb_model.specs.{Requests.Request, Refusals.{◌⇒◌, first_refusal}, Tests.flagged}
 use Rattle.vb_model.specs.Tables.{is_queue_of_requests, is_not_ready, has_fault, has_unvisited}
-use Rattle.vb_ram.specs.{Pages.Pages, Part.{Part, QueuePart}}
 use Rattle.vb_device.specs.Conditions.{work_refusal, finish_refusal, sweep_refusal}
 use Rattle.vb_device.specs.{Conditions.{ask_refusal, taken_at}, Calls.{TakesBy, TakeMeans, noting}}
 use Rattle.vb_device.specs.Calls.{next_visit, Visits, WorksBy, FinishesBy, settled, using, SweepsBy}

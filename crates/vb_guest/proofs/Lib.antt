@@ -65,9 +65,11 @@ pub mod RestartStep
 pub mod Rogues
 pub mod RogueDriver
 pub mod RogueDevice
+pub mod RogueQueues
 pub mod Asked
 pub mod RogueLives
 pub mod RogueMemory
+pub mod Scribbles
 pub mod Exactly
 pub mod Filling
 pub mod Quiet

@@ -1,13 +1,11 @@
 -- Frames go out of a guest's supply and come back to it.
 use Rattle.std.specs.Prelude.{◌≡◌, ℕ, ◌+◌, ◌==◌, Bool, true, false, if◌then◌else◌, List, [], ◌∷◌}
-use Rattle.std.specs.Prelude.{slice_set, Some, refl}
+use Rattle.{std.specs.Prelude.{slice_set, Some, refl}, vb_ram.specs.{Part.Part, Pages.Page}}
 use Rattle.std.proofs.Common.{sym, ◌∙◌, ap, arith, inl, inr}
 use Rattle.std.proofs.lemmas.{Bool.{cases_Bool, eq-eqb}, Grind.common_steps}
-use Rattle.vb_model.{specs.Tests.one_if, specs.Orderly.times, proofs.Tables.count_by-cons}
-use Rattle.vb_ram.specs.{Part.{Part}, Pages.{Page}}
-use Rattle.vb_device.{specs.Calls.{GoBack, HandsBack}, specs.Own.{has, without, SameSet}}
-use Rattle.vb_device.proofs.LooseFrames.{has_less}
-use Rattle.vb_frames.specs.Out.{is_out}
+use Rattle.vb_model.{specs.{Tests.one_if, Orderly.times}, proofs.Tables.count_by-cons}
+use Rattle.{vb_frames.specs.Out.is_out, vb_device.proofs.LooseFrames.has_less}
+use Rattle.vb_device.specs.{Calls.{GoBack, HandsBack}, Own.{has, without, SameSet}}
 use Rattle.vb_guest.specs.Supply.{Supply, supply_of, is_used, Moves, nothing, AreLoose}
 
 -- ---- what is used

@@ -3,18 +3,17 @@ use Rattle.std.specs.Prelude.{◌≡◌, ◌≢◌, ℕ, ◌+◌, ◌<◌, ◌==
 use Rattle.std.specs.Prelude.{Option, Some, None, Ok, slice_set, slice_index, slice_index_or}
 use Rattle.std.{specs.Prelude.{is_none, refl}, proofs.Common.{sym, ◌∙◌, ap, subst, arith, inl, inr}}
 use Rattle.std.proofs.lemmas.Bool.{cases_eq, cases_Bool, Decides.nat_tests}
-use Rattle.std.proofs.lemmas.List.{length-set, get_or-set_same}
+use Rattle.{std.proofs.lemmas.List.{length-set, get_or-set_same}, vb_ram.specs.Part.QueuePart}
 use Rattle.std.proofs.lemmas.List.{get_or-set_other, Elements.All-push, Sums.get_or-le-sum_by}
 use Rattle.std.proofs.lemmas.Option.{get_or_from_slice_get, slice_get_within}
 use Rattle.vb_model.specs.Requests.{Request, Requests, all_requests, headed, outstanding, posting}
-use Rattle.vb_model.specs.{Requests.IsLeastHead, Tests.one_if}
+use Rattle.{vb_model.specs.{Requests.IsLeastHead, Tests.one_if}, vb_chain.specs.Table.descriptor_at}
 use Rattle.vb_model.specs.Layout.{ring_page, buffers_page, buffer_page, buffer_offset}
-use Rattle.{vb_ram.specs.{Pages.Pages, Part.QueuePart}, vb_chain.specs.Table.descriptor_at}
+use Rattle.{vb_ram.specs.Pages.Pages, vb_driver.{specs.Calls.Posts, proofs.Buffers.names_kept}}
 use Rattle.vb_ring.proofs.Numbers.{numbers_pass, numbers_has, numbers_rise}
 use Rattle.vb_ring.specs.{Entries.{is_own, is_head}, Ends.{DriverEnd, is_unused, free_descriptors}}
 use Rattle.vb_ring.specs.Ends.{next_head, after_add, outstanding as outstanding_in}
 use Rattle.vb_driver.specs.{Coding.IsCoded, State.{RequestSide, AreRequests}, Calls.Announces}
-use Rattle.vb_driver.{specs.Calls.Posts, proofs.Buffers.names_kept}
 use Rattle.vb_guest.specs.Line.{AreRequested, Line, IsRequest, RingOf}
 use Rattle.vb_guest.proofs.{RingHeads.{ring_once, ring_count}, RingPosted.ring_posted}
 use Rattle.vb_guest.proofs.Heads.{times-heads, length-heads, heads-push, headed-all}

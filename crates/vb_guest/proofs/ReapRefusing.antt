@@ -1,19 +1,18 @@
 -- Driver and model refuse the same reaps; what is left to prove of a reap that isn't refused.
-use Rattle.std.proofs.Common.{◌≡◌, ℕ, Bool, true, false, not, List, [], ◌∷◌, Result, Ok}
-use Rattle.std.proofs.Common.{Err, Option, Some, None, is_err, drop, sym, ◌∙◌, ap, subst, inl, inr}
-use Rattle.{std.specs.Prelude.refl, vb_model.specs.declared.calls.Call.TheVariants.Reap}
-use Rattle.vb_model.specs.declared.replies.Refusal.{Refusal, TheVariants.NoQueue}
-use Rattle.vb_model.specs.declared.replies.Refusal.TheVariants.{NotReady, NoFeature, RingBroken}
-use Rattle.vb_model.specs.{Requests.Request, Guest.Guest, Tables.lacks_feature}
-use Rattle.vb_model.specs.Tables.{is_queue_of_requests, is_up, reap_causes as causes_of_reap}
-use Rattle.vb_model.specs.{FirstRefusal.{Cause, ◌⇒◌, first_refusal}, Refusals.{causes, refusal_of}}
-use Rattle.{vb_ram.specs.{Pages.Pages, Part.Part}, vb_ring.specs.Ends.DriverEnd}
-use Rattle.vb_ring.specs.{Ends.used_answer, declared.driver.RingBroken.RingBroken as Broken}
-use Rattle.vb_driver.specs.Calls.{ReapsBy, ring_of, next_of, after_refusal}
-use Rattle.vb_driver.specs.{State.DriverState, declared.answers.Reaped.Reaped as ReapedRequest}
+use Rattle.std.proofs.Common.{◌≡◌, ℕ, Bool, true, false, not, List, [], ◌∷◌, Result, Ok, Err}
+use Rattle.std.proofs.Common.{Option, Some, None, is_err, drop, sym, ◌∙◌, ap, subst, inl, inr}
+use Rattle.{std.specs.Prelude.refl, vb_driver.specs.declared.answers.Reaped.Reaped as ReapedRequest}
+use Rattle.vb_model.specs.{declared.calls.Call.TheVariants.Reap, Refusals.{causes, refusal_of}}
+use Rattle.vb_model.specs.{declared.replies.Refusal.{Refusal, TheVariants.RingBroken}, Guest.Guest}
+use Rattle.vb_model.specs.declared.replies.Refusal.TheVariants.{NoQueue, NotReady, NoFeature}
+use Rattle.vb_model.specs.{Requests.Request, Tables.{lacks_feature, is_queue_of_requests, is_up}}
+use Rattle.{vb_model.specs.Tables.reap_causes as causes_of_reap, vb_guest.specs.Steps.StepsAlone}
+use Rattle.{vb_model.specs.FirstRefusal.{Cause, ◌⇒◌, first_refusal}, vb_ram.specs.Pages.Pages}
+use Rattle.{vb_ram.specs.Part.Part, vb_ring.specs.declared.driver.RingBroken.RingBroken as Broken}
+use Rattle.{vb_ring.specs.Ends.{DriverEnd, used_answer}, vb_guest.specs.Stands.{Honest, IsRunning}}
+use Rattle.vb_driver.specs.{Calls.{ReapsBy, ring_of, next_of, after_refusal}, State.DriverState}
 use Rattle.vb_driver.specs.Answers.{negotiated, reap_causes, is_ring_broken}
-use Rattle.vb_guest.specs.{Stands.{Honest, IsRunning}, Steps.StepsAlone, Replies.reaped_reply}
-use Rattle.vb_guest.proofs.Closing.{first_holds, refused_alone}
+use Rattle.vb_guest.{specs.Replies.reaped_reply, proofs.Closing.{first_holds, refused_alone}}
 use Rattle.vb_guest.proofs.{Reaping.used_next, SameRefusals.{IsIdleStatus, at_both, last_cause}}
 
 -- where the ring isn't broken

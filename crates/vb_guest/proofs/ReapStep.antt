@@ -1,18 +1,17 @@
 -- A guest's reap is a step of the definitions.
-use Rattle.std.specs.Prelude.{◌≡◌, ℕ, ◌+◌, ◌≤◌, List}
+use Rattle.{std.specs.Prelude.{◌≡◌, ℕ, ◌+◌, ◌≤◌, List}, vb_model.specs.Refusals.refusal_of}
 use Rattle.std.specs.Prelude.{[], ◌∷◌, length, Result, Ok, Option, Some, None, count_by, All, refl}
-use Rattle.std.proofs.Common.{sym, ◌∙◌, ap, subst, arith, inr}
+use Rattle.{std.proofs.Common.{sym, ◌∙◌, ap, subst, arith, inr}, vb_model.specs.Pages.is_lent}
 use Rattle.vb_model.specs.Requests.{Request, Kind, Inflating, Deflating, Reporting_free, queue_of}
 use Rattle.vb_model.specs.{Requests.outstanding, declared.calls.Call.TheVariants.Reap}
 use Rattle.vb_model.specs.declared.replies.Reply.{Reply, TheVariants.{NotUsed, Reaped}}
 use Rattle.vb_model.specs.{declared.replies.Refusal.Refusal, Guest.{Guest, requests}, Step.Performs}
-use Rattle.vb_model.specs.{Driver.{reaped, Reaps}, Pages.is_lent, Refusals.refusal_of}
+use Rattle.{vb_model.specs.Driver.{reaped, Reaps}, vb_driver.proofs.RequestTables.requests_taken}
 use Rattle.{vb_model.proofs.Queues.no_requests_at, vb_ram.specs.{Pages.Pages, Part.Part}}
 use Rattle.{vb_ring.specs.{Calls.TakesUsedBy, Ends.used_answer}, vb_device.specs.Queues.queue_part}
 use Rattle.vb_driver.specs.Reaps.{pages_sent, without_request, moved_on, with_actual}
 use Rattle.vb_driver.specs.{State.{FreePages, DriverState, IsDriver}, Calls.{ReapsBy, ring_of}}
 use Rattle.vb_driver.specs.{Calls.next_of, declared.answers.Reaped.Reaped as ReapedRequest}
-use Rattle.vb_driver.proofs.RequestTables.{requests_taken}
 use Rattle.vb_guest.proofs.KindLines.{Knows, LineOf, LineWith, line_of, has_queue, same_frames}
 use Rattle.vb_guest.proofs.DriverWords.{Sides, driver_of, in_words}
 use Rattle.vb_guest.proofs.{Refusing.by_queue, Closing.{honest_performed, steps_alone, ties_same}}

@@ -2,10 +2,9 @@
 use Rattle.std.specs.Prelude.{◌≡◌, ℕ, ◌==◌, List, [], ◌∷◌, All, Option, Some, Ok, slice_get}
 use Rattle.std.proofs.{Common.{◌∙◌, ap, subst, arith}, lemmas.List.{Elements.All-tail, length-set}}
 use Rattle.vb_model.specs.{Requests.{Request, Requests, headed}, Tests.one_if}
-use Rattle.vb_ram.specs.{Part.QueuePart, Pages.Pages}
+use Rattle.{vb_ram.specs.Part.QueuePart, vb_driver.specs.{State.RequestSide, Calls.after_reap}}
+use Rattle.{vb_ram.specs.Pages.Pages, vb_guest.specs.Line.{Line, IsRequest, RingOf, heads_of}}
 use Rattle.vb_ring.specs.{Ends.{DriverEnd, used_answer}, Calls.TakesUsedBy, Entries.is_head}
-use Rattle.vb_driver.specs.{State.RequestSide, Calls.after_reap}
-use Rattle.vb_guest.specs.Line.{Line, IsRequest, RingOf, heads_of}
 use Rattle.vb_guest.proofs.{RingReaped.{ring_answer, ring_reaped}, Posting.{headed_once, still_out}}
 use Rattle.vb_guest.proofs.{Heads.{headed-cons, headed-all}, RingHeads.{one_is, at_most_one}}
 

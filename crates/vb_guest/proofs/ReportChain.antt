@@ -5,10 +5,9 @@ use Rattle.std.{specs.List.{list_any, range_with_len}, proofs.Common.{sym, â—Œâˆ
 use Rattle.std.proofs.lemmas.{Nat.pow_pos, List.{length-map, get_or-map, Elements.All-tail}}
 use Rattle.std.proofs.lemmas.List.FromFn.{length-range_with_len, get_or-range_with_len}
 use Rattle.vb_model.specs.{Layout.reserved_pages, Pages.{Block, size, pages_of_all}}
-use Rattle.{vb_ram.specs.Pages.Pages, vb_chain.specs.Written.{empty, linked, AreSound}}
-use Rattle.vb_chain.specs.{Written.IsRoute, Table.descriptor_at}
+use Rattle.{vb_ram.specs.Pages.Pages, vb_chain.specs.Written.{empty, linked, AreSound, IsRoute}}
+use Rattle.vb_chain.{specs.{Table.descriptor_at, Chain.ChainGives}, proofs.ChainLaws.written_chain}
 use Rattle.vb_chain.specs.declared.{fault.ChainFault.ChainFault, pieces.Piece.Piece}
-use Rattle.vb_chain.{specs.Chain.ChainGives, proofs.ChainLaws.written_chain}
 use Rattle.vb_request.specs.Report.{pages_of_pieces, piece_fault, first_piece_fault, has_bad_length}
 use Rattle.vb_request.specs.{Report.report_request, Request.first_of_both}
 use Rattle.{vb_driver.specs.Coding.AreReported, vb_guest.specs.Reported.IsOwnBlock}

@@ -1,5 +1,5 @@
 -- A guest's report is a step of the definitions.
-use Rattle.std.specs.Prelude.{◌≡◌, ℕ, ◌<◌, ◌==◌, Bool, not}
+use Rattle.{std.specs.Prelude.{◌≡◌, ℕ, ◌<◌, ◌==◌, Bool, not}, vb_guest.proofs.RunApart.sizes_of}
 use Rattle.std.specs.Prelude.{nat_le, List, [], ◌∷◌, length, Result, Ok, Err, Some, None, refl, All}
 use Rattle.std.proofs.{lemmas.List.length-map, Common.{sym, ◌∙◌, ap, subst, arith, inr}}
 use Rattle.vb_model.specs.{Driver.after_posting, FirstRefusal.{◌⇒◌, first_refusal}}
@@ -15,7 +15,6 @@ use Rattle.{vb_ram.specs.{Pages.Pages, Part.Part}, vb_ring.specs.Ends.outstandin
 use Rattle.vb_driver.specs.{Answers.{report_causes, blocks_to_report}, Areas.areas_without}
 use Rattle.vb_driver.specs.{Calls.{Reports, ReportsBy, unreported}, State.DriverState}
 use Rattle.vb_driver.specs.{State.ReportSide, declared.answers.Posted.Posted as PostedRequest}
-use Rattle.vb_guest.proofs.RunApart.{sizes_of}
 use Rattle.vb_guest.proofs.RunApart.{ring_of, ring_low, table_clear, post_leaves, post_same}
 use Rattle.vb_guest.proofs.Closing.{honest_performed, honest_refused, steps_alone, ties_same}
 use Rattle.vb_guest.proofs.SameRefusals.{refused_alike, runs_where, IsIdleStatus}

@@ -1,13 +1,12 @@
 -- A guest's reset is a step of the definitions.
 use Rattle.std.specs.Prelude.{◌≡◌, ℕ, Bool, false, List, [], length, map, replicate, refl}
-use Rattle.{std.proofs.Common.{◌∙◌, ap, inl}, vb_model.specs.declared.calls.Call.TheVariants.Reset}
-use Rattle.vb_model.specs.declared.{places.Place.Place, replies.Reply.TheVariants.Done}
-use Rattle.vb_model.specs.{Tests.pages_where, Pages.is_reporting, Guest.Guest}
-use Rattle.{vb_model.specs.Life.{place_after_reset, after_reset}, vb_ram.specs.Pages.Pages}
+use Rattle.{std.proofs.Common.{◌∙◌, ap, inl}, vb_driver.specs.{Areas.areas_with, Calls.ResetsBy}}
+use Rattle.vb_model.specs.declared.{calls.Call.TheVariants.Reset, places.Place.Place}
+use Rattle.vb_model.specs.{declared.replies.Reply.TheVariants.Done, Tests.pages_where, Guest.Guest}
+use Rattle.vb_model.specs.{Pages.is_reporting, Life.{place_after_reset, after_reset}}
+use Rattle.{vb_ram.specs.Pages.Pages, vb_guest.specs.{Stands.{Honest, Ties}, Steps.StepsAlone}}
 use Rattle.{vb_ram.specs.Part.Part, vb_status.specs.After.part_after_reset as device_after_reset}
-use Rattle.vb_driver.specs.State.{DriverState, fresh_side, fresh_statistics}
-use Rattle.vb_driver.specs.{State.fresh_report, Areas.areas_with, Calls.ResetsBy}
-use Rattle.vb_guest.specs.{Stands.{Honest, Ties}, Steps.StepsAlone}
+use Rattle.vb_driver.specs.State.{DriverState, fresh_side, fresh_statistics, fresh_report}
 use Rattle.vb_guest.proofs.Closing.{honest_performed, steps_alone, ties_same}
 
 pub reset_step : {m1 m2 : Pages} {p1 p2 : Part} {d1 d2 : DriverState} {g : Guest}

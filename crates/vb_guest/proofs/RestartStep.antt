@@ -1,18 +1,17 @@
 -- A guest's life ends, and a new one begins: all its frames go back.
-use Rattle.std.specs.Prelude.{◌≡◌, ℕ, ◌+◌, ◌<◌, ◌==◌, Bool, true, false, List, []}
-use Rattle.std.specs.Prelude.{◌∷◌, length, suc, Option, None, count_by, replicate, slice_index_or}
-use Rattle.std.specs.{Prelude.refl, Option.option_to_list, List.range_with_len}
+use Rattle.std.specs.Prelude.{◌≡◌, ℕ, ◌+◌, ◌<◌, ◌==◌, Bool, true, false, List, [], ◌∷◌, length, suc}
+use Rattle.std.specs.Prelude.{Option, None, count_by, replicate, slice_index_or, refl}
+use Rattle.{std.specs.Option.option_to_list, vb_driver.specs.State.{DriverState, fresh_driver}}
+use Rattle.{std.specs.List.range_with_len, vb_ram.specs.Part.Part, vb_guest.proofs.Moving.moves_as}
 use Rattle.std.proofs.{Common.{sym, ◌∙◌, ap, subst, arith}, lemmas.List.length-replicate}
 use Rattle.vb_model.specs.{Limits.is_config, Guest.{Guest, no_statistics}, Life.after_restart}
 use Rattle.vb_model.{specs.Orderly.times, proofs.Tables.{count_by-cons, count_by-append}}
-use Rattle.vb_ram.specs.{Pages.{Pages, frame_at, number_of}, Part.Part}
-use Rattle.{vb_status.specs.After.part_after_reset, vb_device.specs.Discards.frames_behind}
-use Rattle.vb_driver.specs.State.{DriverState, fresh_driver}
+use Rattle.{vb_ram.specs.Pages.{Pages, frame_at, number_of}, vb_status.specs.After.part_after_reset}
+use Rattle.{vb_device.specs.Discards.frames_behind, vb_guest.proofs.Standing.{stands_of, own_moved}}
 use Rattle.vb_guest.proofs.{Discarding.one_frame, Fresh.{everywhere, backs_none, fresh_honest}}
-use Rattle.vb_guest.proofs.{Moving.moves_as, Standing.{stands_of, own_moved}, Writing.HasFrames}
-use Rattle.vb_guest.specs.{Exact.KeepsFrames, Stands.{Honest, DeviceKeeps, Stands}}
+use Rattle.vb_guest.{proofs.Writing.HasFrames, specs.Stands.{Honest, DeviceKeeps, Stands}}
+use Rattle.vb_guest.specs.{Exact.KeepsFrames, Supply.{Supply, supply_of, Moves, nothing, AreLoose}}
 use Rattle.vb_guest.specs.Steps.{is_frame, backing_count, AreOut, AllReturn, IsBare, Restarts}
-use Rattle.vb_guest.specs.Supply.{Supply, supply_of, Moves, nothing, AreLoose}
 
 -- ---- the frames behind all pages
 

@@ -1,22 +1,21 @@
 -- A guest's take of the statistics buffer is a step of the definitions.
-use Rattle.std.{proofs.Common.{sym, ◌∙◌, ap, subst, arith, inr}, specs.Prelude.{true, ◌≡◌, ℕ, ◌*◌}}
-use Rattle.std.specs.Prelude.{List, [], length, Result, Ok, Option, Some, None, slice_get, refl}
-use Rattle.{std.specs.Prelude.if◌then◌else◌, vb_model.specs.declared.calls.Call.TheVariants.Take}
+use Rattle.{std.proofs.Common.{sym, ◌∙◌, ap, subst, arith, inr}, vb_ram.proofs.Limits.config_limits}
+use Rattle.std.specs.Prelude.{true, ◌≡◌, ℕ, ◌*◌, List, [], length, Result, Ok, Option, Some, None}
+use Rattle.{std.specs.Prelude.{slice_get, refl, if◌then◌else◌}, vb_chain.specs.Table.descriptor_at}
+use Rattle.vb_model.specs.{declared.calls.Call.TheVariants.Take, Requests.{BufferTaken, BufferDone}}
 use Rattle.vb_model.specs.declared.replies.{LastStatistics.LastStatistics, Refusal.Refusal}
-use Rattle.vb_model.specs.declared.replies.Reply.TheVariants.{Taken, Empty}
-use Rattle.vb_model.specs.{Guest.Guest, Requests.{Request, Figures, StatisticsBuffer, NoBuffer}}
-use Rattle.vb_model.specs.{Requests.{BufferPosted, BufferTaken, BufferDone}, Layout.ring_page}
-use Rattle.vb_model.specs.{Refusals.{refusal_of, is_taken, taken_count}, Device.TakesBuffer}
-use Rattle.{vb_model.specs.Tables.has_chains, vb_ram.{proofs.Limits.config_limits, specs.Part.Part}}
-use Rattle.{vb_ram.specs.Pages.Pages, vb_chain.specs.{Table.descriptor_at, Chain.ChainGives}}
+use Rattle.vb_model.specs.{declared.replies.Reply.TheVariants.{Taken, Empty}, Device.TakesBuffer}
+use Rattle.{vb_model.specs.Guest.Guest, vb_ram.specs.{Part.Part, Pages.Pages}}
+use Rattle.vb_model.specs.Requests.{Request, Figures, StatisticsBuffer, NoBuffer, BufferPosted}
+use Rattle.{vb_model.specs.Layout.ring_page, vb_driver.specs.{Coding.AreFigures, State.DriverState}}
+use Rattle.vb_model.specs.{Refusals.{refusal_of, is_taken, taken_count}, Tables.has_chains}
+use Rattle.{vb_chain.specs.Chain.ChainGives, vb_guest.specs.Steps.StepsAlone}
 use Rattle.vb_device.specs.{Queues.queue_part, Calls.{TakesBy, taking}, Conditions.take_refusal}
-use Rattle.vb_driver.specs.{Coding.AreFigures, State.DriverState}
 use Rattle.vb_guest.proofs.BufferChain.{buffer_pieces, buffer_chain, buffer_names, buffer_says}
-use Rattle.vb_guest.proofs.{Handing.same_entry, BufferLines.buffer_taken, RingTaken.ring_next}
-use Rattle.vb_guest.proofs.Closing.{honest_performed, steps_alone, ties_same}
-use Rattle.vb_guest.proofs.SameRefusals.{by_state, take_same, take_idle}
-use Rattle.vb_guest.specs.{Replies.taken_reply, Stands.{Honest, Ties, IsRunning}, Steps.StepsAlone}
-use Rattle.vb_guest.specs.Buffer.{BufferLine, posted_heads, taken_requests}
+use Rattle.vb_guest.{proofs.Handing.same_entry, specs.Stands.{Honest, Ties, IsRunning}}
+use Rattle.vb_guest.proofs.{BufferLines.buffer_taken, SameRefusals.{by_state, take_same, take_idle}}
+use Rattle.vb_guest.proofs.{RingTaken.ring_next, Closing.{honest_performed, steps_alone, ties_same}}
+use Rattle.vb_guest.specs.{Replies.taken_reply, Buffer.{BufferLine, posted_heads, taken_requests}}
 
 -- a refused take of any queue
 pub take_refused : {m1 m2 : Pages} {p1 p2 : Part}

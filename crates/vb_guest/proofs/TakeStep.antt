@@ -6,12 +6,11 @@ use Rattle.vb_model.specs.{Requests.queue_of, declared.replies.Reply.TheVariants
 use Rattle.vb_model.specs.declared.replies.{Refusal.TheVariants.NoQueue, Reply.Reply}
 use Rattle.vb_model.specs.{Guest.{Guest, requests, with_requests}, declared.replies.Refusal.Refusal}
 use Rattle.vb_model.specs.{declared.calls.Call.TheVariants.Take, Device.TakesRequest, Step.Performs}
-use Rattle.vb_model.specs.{Refusals.refusal_of, Layout.ring_page}
+use Rattle.{vb_model.specs.{Refusals.refusal_of, Layout.ring_page}, vb_driver.specs.Calls.ring_of}
 use Rattle.vb_ram.{proofs.Limits.config_limits, specs.{Pages.Pages, Part.Part}}
 use Rattle.vb_chain.specs.{declared.pieces.Piece.Piece, Table.descriptor_at, Chain.ChainGives}
-use Rattle.vb_driver.specs.{State.DriverState, Calls.ring_of}
 use Rattle.vb_device.specs.{Calls.{TakesBy, taking, request_of, noting}, Conditions.take_refusal}
-use Rattle.vb_device.specs.Queues.{queue_part, next_available}
+use Rattle.{vb_device.specs.Queues.{queue_part, next_available}, vb_driver.specs.State.DriverState}
 use Rattle.vb_guest.proofs.KindLines.{Knows, Codes, LineOf, line_of, size_of, ignores, ties_with}
 use Rattle.vb_guest.proofs.{KindLines.same_frames, Refusing.{by_queue, take_no_queue}}
 use Rattle.vb_guest.proofs.{ReportChain.{pieces_of, report_chain, report_pages}, Handing.same_entry}

@@ -2,10 +2,9 @@
 use Rattle.std.proofs.Common.{All, Bool, List, None, Some, [], ap, arith, false, length, map, refl}
 use Rattle.std.proofs.Common.{slice_get, subst, suc, sym, zero, ℕ, ◌<◌, ◌∙◌, ◌∷◌, ◌≡◌}
 use Rattle.std.{proofs.lemmas.{List.length-map, Option.slice_get_within}, specs.Prelude.{not, ◌&&◌}}
-use Rattle.std.specs.Prelude.{◌==◌}
+use Rattle.{std.specs.Prelude.◌==◌, vb_ram.specs.declared.config.Config.Config as Sizes}
 use Rattle.vb_model.{proofs.Histories.history_is_safe, specs.{Guest.Guest, GuestRun.IsHistory}}
 use Rattle.vb_model.specs.declared.calls.{Actor.TheVariants.{Balancer, Processor}, Call.Call}
-use Rattle.vb_ram.specs.declared.config.Config.{Config as Sizes}
 use Rattle.vb_run.proofs.{Lists.{some_same, take_whole}, Noted.{balancers, replied, scripts_alike}}
 use Rattle.vb_run.{proofs.Tended.served, specs.{Entries.{calls_by, entries_by}, Notes.history_of}}
 use Rattle.vb_run.specs.Past.{AllEnded, AreHushed, AreScripts, IsKept, Past, scripts_in}

@@ -1,18 +1,17 @@
 -- One entry more in a guest's history.
 use Rattle.std.proofs.Common.{◌≡◌, refl, sym, ◌∙◌, ap, subst, ℕ, ◌+◌, Bool, true, false, List, []}
 use Rattle.std.proofs.Common.{◌∷◌, ◌++◌, length, take, Some, slice_get, slice_set, arith, ◌≢◌}
-use Rattle.std.{proofs.Common.⊎_elim, specs.Prelude.{slice_index_or, filter_map}}
+use Rattle.{std.proofs.Common.⊎_elim, vb_run.specs.Past.{Past, Progress, IsKept, IsAside, IsScript}}
+use Rattle.{std.specs.Prelude.{slice_index_or, filter_map}, vb_slot.specs.Alone.AreBehind}
 use Rattle.std.proofs.lemmas.{Option.slice_get_within, Bool.Decides.nat_tests, List.append-nil}
 use Rattle.std.proofs.lemmas.List.Elements.{All-push, filter-append, filter_map-append}
 use Rattle.vb_model.specs.GuestRun.{Entry, Called, EntryStep, Leads, last_guest, all_entries}
-use Rattle.vb_model.specs.{GuestRun.IsHistory, declared.calls.Actor.Actor, declared.calls.Call.Call}
+use Rattle.vb_model.specs.{GuestRun.IsHistory, declared.calls.{Actor.Actor, Call.Call}}
 use Rattle.vb_model.specs.declared.calls.{Actor.TheVariants.Processor, Claim.Claim}
 use Rattle.vb_model.specs.{declared.replies.Reply.Reply, Guest.{Guest, Config, fresh}}
-use Rattle.vb_slot.specs.Alone.{AreBehind}
 use Rattle.vb_run.specs.Entries.{is_same, actor_of, call_of, entries_by, calls_by}
-use Rattle.vb_run.{specs.Plans.config_of, specs.Services.{IsTended, IsQuiet, services}}
+use Rattle.vb_run.specs.{Plans.config_of, Services.{IsTended, IsQuiet, services}}
 use Rattle.vb_run.{specs.Made.{IsMade, AreMade}, proofs.Lists.{get_set, length_set, take_next}}
-use Rattle.vb_run.specs.Past.{Past, Progress, IsKept, IsAside, IsScript}
 
 leads_push : (a b c : Guest) (entries : List Entry) (after : List Guest) (e : Entry)
     → Leads a (all_entries entries) after → last_guest a after ≡ b → EntryStep b e c

@@ -8,13 +8,12 @@ use Rattle.vb_model.specs.{Balance.spare, Guest.{Guest, fresh}, GuestRun.{Called
 use Rattle.vb_model.specs.{Limits.is_config, declared.calls.Actor.TheVariants.{Balancer, Processor}}
 use Rattle.vb_model.specs.declared.calls.{Actor.Actor, Call.{Call, TheVariants.Init}, Claim.Claim}
 use Rattle.vb_model.specs.declared.{negotiation.TheConstants.OFFERED_FEATURES, replies.Reply.Reply}
-use Rattle.vb_ram.specs.declared.config.Config.{Config as Sizes}
+use Rattle.{vb_ram.specs.declared.config.Config.Config as Sizes, vb_run.specs.Made.IsMade}
 use Rattle.vb_run.specs.Past.{AreBegun, IsAside, IsKept, Past, Progress, just_started, unknown}
 use Rattle.vb_run.proofs.Tended.{is_quiet, plain_entry, service_plain, stands_plain, started}
 use Rattle.vb_run.specs.{Plans.{config_of, is_actor_call, may_stand}, Services.{IsQuiet, services}}
 use Rattle.vb_run.{proofs.Histories.{kept_aside, kept_next}, specs.Services.found_nothing}
-use Rattle.vb_run.{proofs.Lists.{passes_at, some_same}, specs.Made.IsMade}
-use Rattle.vb_slot.specs.Alone.{AreBehind, StepsTo}
+use Rattle.{vb_run.proofs.Lists.{passes_at, some_same}, vb_slot.specs.Alone.{AreBehind, StepsTo}}
 
 not_known : (n : ℕ) → slice_index_or unknown n false ≡ true → ⊥
 not_known zero h = cc

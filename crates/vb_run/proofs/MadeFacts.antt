@@ -1,16 +1,15 @@
 -- Worked facts of who made the entries of a guest that was started.
 use Rattle.std.proofs.Common.{◌≡◌, ◌<◌, ℕ, Bool, List, [], ◌∷◌, true, false, refl, sym, ap, arith}
-use Rattle.std.{proofs.Common.{zero, suc, length}, specs.Prelude.{slice_index_or, Contains}}
-use Rattle.std.proofs.lemmas.List.Elements.{All-nil}
+use Rattle.{std.proofs.Common.{zero, suc, length}, vb_model.specs.GuestRun.{Entry, Called, Looked}}
+use Rattle.std.{specs.Prelude.{slice_index_or, Contains}, proofs.lemmas.List.Elements.All-nil}
 use Rattle.vb_model.specs.declared.calls.Call.TheVariants.{Init, Stats, Reap, Take, Work, Finish}
 use Rattle.vb_model.specs.declared.replies.Reply.TheVariants.{Done, Ready, Filled, Idle, Empty}
 use Rattle.vb_model.specs.declared.calls.Actor.TheVariants.{Starter, Processor, Worker, Balancer}
-use Rattle.vb_model.{specs.declared.calls.Call.Call, specs.GuestRun.{Entry, Called, Looked}}
-use Rattle.vb_model.specs.declared.calls.Call.TheVariants.{Ask, SetTarget, Sweep}
+use Rattle.vb_model.specs.declared.calls.Call.{Call, TheVariants.{Ask, SetTarget, Sweep}}
 use Rattle.vb_model.specs.declared.calls.Claim.TheVariants.{Gave, GaveNoFrame}
 use Rattle.vb_model.specs.declared.replies.Reply.TheVariants.{Taken, Worked, Finished, Refused}
 use Rattle.vb_model.specs.declared.replies.Refusal.TheVariants.{NoFrame, NotTaken}
-use Rattle.vb_run.{specs.Services.services, specs.Made.{IsMade, AreMade}}
+use Rattle.vb_run.specs.{Services.services, Made.{IsMade, AreMade}}
 
 -- ---- which calls are a worker's: takes of the four queues, a visit, the first chain of each but
 -- ---- the statistics queue, and the question for new statistics

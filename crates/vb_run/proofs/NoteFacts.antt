@@ -1,15 +1,14 @@
 -- Worked facts of what the notes of a guest's history stand for.
-use Rattle.std.{proofs.Common.{◌≡◌, List, [], ◌∷◌, refl, map}, specs.declared.vec.Vec.Vec}
-use Rattle.std.{specs.declared.alloc.Global.Global}
+use Rattle.std.{proofs.Common.{◌≡◌, List, [], ◌∷◌, refl, map}, specs.declared.alloc.Global.Global}
+use Rattle.{std.specs.declared.vec.Vec.Vec, vb_model.specs.GuestRun.{Called, Looked}}
 use Rattle.vb_model.specs.declared.calls.Actor.TheVariants.{Starter, Processor, Worker, Balancer}
-use Rattle.vb_model.{specs.declared.calls.Call.Call, specs.declared.calls.Claim.Claim}
-use Rattle.vb_model.specs.declared.calls.Call.TheVariants.{Init, Alloc, Stats, Work, SetTarget, Take, Ask}
-use Rattle.vb_model.specs.declared.replies.Reply.TheVariants.{Done, Ready, Page, Filled, Idle, Asked}
-use Rattle.vb_model.{specs.declared.calls.Claim.TheVariants.Gave, specs.GuestRun.{Called, Looked}}
-use Rattle.vb_run.specs.declared.note.{Caller.Caller}
+use Rattle.vb_model.specs.declared.{calls.{Call.Call, Claim.Claim}, replies.Reply.TheVariants.Asked}
+use Rattle.vb_model.specs.declared.calls.Call.TheVariants.{Init, Alloc, Stats, Work, SetTarget}
+use Rattle.vb_model.specs.declared.calls.{Call.TheVariants.{Take, Ask}, Claim.TheVariants.Gave}
+use Rattle.vb_model.specs.declared.replies.Reply.TheVariants.{Done, Ready, Page, Filled, Idle}
+use Rattle.vb_run.specs.declared.note.Caller.{Caller, TheVariants.Processor as ByProcessor}
 use Rattle.vb_run.specs.declared.note.Note.TheVariants.{Called as CalledNote, Looked as LookedNote}
 use Rattle.vb_run.specs.declared.note.Caller.TheVariants.{Starter as ByStarter, Worker as ByWorker}
-use Rattle.vb_run.specs.declared.note.Caller.TheVariants.{Processor as ByProcessor}
 use Rattle.vb_run.specs.declared.note.Caller.TheVariants.{Balancer as ByBalancer}
 use Rattle.vb_run.specs.Notes.{actor_in, call_in, noted_entry, history_of, replies_in}
 

@@ -1,13 +1,12 @@
 -- Worked facts of plans.
 use Rattle.std.proofs.Common.{◌≡◌, ℕ, ◌∷◌, [], List, Bool, true, false, map, replicate, refl}
-use Rattle.std.{proofs.Common.length, specs.List.list_all, specs.declared.vec.Vec.Vec}
-use Rattle.std.specs.declared.alloc.Global.{Global}
+use Rattle.std.{proofs.Common.length, specs.{List.list_all, declared.vec.Vec.Vec}}
+use Rattle.{std.specs.declared.alloc.Global.Global, vb_run.specs.declared.plan.Plan.Plan}
 use Rattle.vb_model.specs.declared.calls.Call.TheVariants.{Init, Reset, Alloc, Free, Read, Write}
 use Rattle.vb_model.specs.declared.calls.Call.TheVariants.{Scribble, Inflate, Deflate, Oom, Report}
 use Rattle.vb_model.specs.declared.calls.Call.TheVariants.{Stats, Reap, Take, Work, Finish, Sweep}
 use Rattle.vb_model.specs.declared.calls.Call.{TheVariants.{Ask, SetTarget}, Call}
-use Rattle.vb_run.{specs.declared.plan.GuestPlan.GuestPlan, specs.declared.plan.Plan.Plan}
-use Rattle.vb_run.specs.declared.plan.TheConstants.{MAX_SCRIPT_CALLS}
+use Rattle.vb_run.specs.declared.plan.{GuestPlan.GuestPlan, TheConstants.MAX_SCRIPT_CALLS}
 use Rattle.vb_run.specs.Plans.{config_of, may_stand, is_script, are_scripts, is_guest_plan, is_plan}
 
 -- ---- which calls may stand in the script of processor 1: its own, and none of a starter, a

@@ -1,28 +1,20 @@
 -- Worked facts of what a run answers.
 use Rattle.std.proofs.Common.{Bool, List, [], ap, arith, false, length, refl, subst, sym, true, ℕ}
-use Rattle.std.{proofs.Common.{◌+◌, ◌∙◌, ◌∷◌, ◌≡◌, ◌≤◌}, specs.Prelude.{None, Option, Some, ◌-◌}}
-use Rattle.std.specs.{Prelude.{filter_map, slice_get}, declared.{alloc.Global.Global, vec.Vec.Vec}}
-use Rattle.vb_model.{proofs.Unchanged.step_keeps, specs.{Balance.{Need, spare}, Guest.Config}}
-use Rattle.vb_model.specs.{Guest.{Guest, fresh}, GuestRun.{Called, Entry, IsHistory, Leads, Looked}}
-use Rattle.vb_model.specs.{GuestRun.all_entries, Layout.reserved_pages, Requests.Request}
-use Rattle.vb_model.specs.{Tests.times, declared.calls.Actor.{Actor, TheVariants.Balancer}}
-use Rattle.vb_model.specs.declared.calls.{Actor.TheVariants.{Processor, Worker}, Call.Call}
-use Rattle.vb_model.specs.declared.calls.Call.TheVariants.{Alloc, SetTarget, Stats, Work}
-use Rattle.vb_model.specs.declared.{calls.Claim.Claim, replies.Refusal.TheVariants.Short}
-use Rattle.vb_model.specs.declared.replies.Reply.{Reply, TheVariants.{Done, Filled, Idle, NotUsed}}
-use Rattle.vb_model.specs.declared.replies.Reply.TheVariants.{Page, Refused, Targets}
-use Rattle.vb_ram.specs.declared.config.Config.{Config as Sizes}
-use Rattle.vb_run.specs.{Entries.{calls_by, entries_by, replies_by}, Notes.replies_in}
-use Rattle.vb_run.specs.{Plans.config_of, Reports.{AreApart, IsGuestReport, IsReport, IsRound}}
-use Rattle.vb_run.specs.{Reports.{Plays, frames_behind, history_in}, Rounds.Rounded}
-use Rattle.vb_run.specs.{Rounds.round_entries, declared.plan.{GuestPlan.GuestPlan, Plan.Plan}}
-use Rattle.vb_run.specs.declared.report.{GuestReport.GuestReport, Report.Report}
-
-abbrev Same : ℕ → ℕ → Type 0
-Same a b = a ≡ b
-
-abbrev SameList : List ℕ → List ℕ → Type 0
-SameList a b = a ≡ b
+use Rattle.std.{proofs.Common.{◌+◌, ◌∙◌, ◌∷◌, ◌≡◌, ◌≤◌}, specs.declared.alloc.Global.Global}
+use Rattle.std.specs.Prelude.{None, Option, Some, ◌-◌, filter_map, slice_get}
+use Rattle.{std.specs.declared.vec.Vec.Vec, vb_ram.specs.declared.config.Config.Config as Sizes}
+use Rattle.{vb_model.proofs.Unchanged.step_keeps, vb_run.specs.Rounds.{Rounded, round_entries}}
+use Rattle.{vb_model.specs.Balance.spare, vb_run.specs.{Notes.replies_in, declared.plan.Plan.Plan}}
+use Rattle.vb_model.specs.{Guest.{Config, Guest, fresh}, Tests.times, declared.calls.Claim.Claim}
+use Rattle.vb_model.specs.GuestRun.{Called, Entry, IsHistory, Leads, Looked, all_entries}
+use Rattle.vb_model.specs.{Layout.reserved_pages, Requests.Request, declared.replies.Reply.Reply}
+use Rattle.vb_model.specs.declared.calls.Actor.{Actor, TheVariants.{Balancer, Processor, Worker}}
+use Rattle.vb_model.specs.declared.calls.Call.{Call, TheVariants.{Alloc, SetTarget, Stats, Work}}
+use Rattle.vb_model.specs.declared.replies.Reply.TheVariants.{Done, Filled, Idle, NotUsed, Page}
+use Rattle.vb_run.specs.{Entries.{calls_by, entries_by, replies_by}, Reports.history_in}
+use Rattle.vb_run.specs.{Plans.config_of, declared.report.{GuestReport.GuestReport, Report.Report}}
+use Rattle.vb_run.specs.Reports.{AreApart, IsGuestReport, IsReport, IsRound, Plays, frames_behind}
+use Rattle.vb_run.{specs.declared.plan.GuestPlan.GuestPlan, proofs.RoundFacts.{Same, shared, round}}
 
 -- 64 pages, queues of 8, two processors, a paced device
 abbrev config : Config
@@ -140,43 +132,6 @@ different_frames : (first second : GuestReport) → first.frames.items ≡ 3 ∷
     → second.frames.items ≡ 8 ∷ [] → AreApart (first ∷ second ∷ [])
 different_frames first second a b frame = grind arith
 
--- ---- rounds: over all guests of the plan, for its frames
-
--- two guests of 64 pages: the first can spare 40, the second 30
-abbrev needs : List Need
-needs = record { pages = 64; spare = 40 } ∷ record { pages = 64; spare = 30 } ∷ []
-
--- 40 frames, to which 18 pages stay missing
-abbrev round : Rounded
-round = record { frames = 40; needs = needs; answer = Refused (Short 18) }
-
--- a plan of two guests with so many frames
-abbrev OfPlan : (pages more frames : ℕ) → (Plan → Type 0) → Type 0
-OfPlan pages more frames Holds = (plan : Plan) (g h : GuestPlan) → plan.guests.items ≡ g
-    ∷ h ∷ [] → g.config.pages ≡ pages → h.config.pages ≡ more → plan.frames ≡ frames → Holds plan
-
-round_of_the_plan : OfPlan 64 64 40 (λ plan. IsRound plan round)
-round_of_the_plan plan g h guests pages more frames = grind arith
-
-another_number_of_frames : OfPlan 64 64 41 (λ plan. IsRound plan round → ⊥)
-another_number_of_frames plan g h guests pages more frames r =
-    let e : Same 40 41 = r.frames ∙ frames in omega arith
-
-guest_of_another_size : OfPlan 64 80 40 (λ plan. IsRound plan round → ⊥)
-guest_of_another_size plan g h guests pages more frames r = grind arith
-
-guest_that_was_not_seen : (plan : Plan) (g h i : GuestPlan)
-    → plan.guests.items ≡ g ∷ h ∷ i ∷ [] → IsRound plan round → ⊥
-guest_that_was_not_seen plan g h i guests r = grind arith
-
-guest_that_no_plan_has : (plan : Plan) (g : GuestPlan) → plan.guests.items ≡ g ∷ []
-    → IsRound plan round → ⊥
-guest_that_no_plan_has plan g guests r = grind arith
-
-another_answer : OfPlan 64 64 40
-    (λ plan. IsRound plan (record round { answer = Refused (Short 17) }) → ⊥)
-another_answer plan g h guests pages more frames r = grind arith
-
 -- ---- a guest's report: guest 1, and balances that leave 16 pages
 
 -- what no such report has
@@ -252,10 +207,6 @@ by_entries : (rounds : List Rounded) (entries : List Entry)
     → (entries_by Balancer entries ≡ round_entries 16 1 rounds → ⊥) → Unbalanced rounds entries
 by_entries rounds entries wrong plan report history paced is =
     wrong (ap (entries_by Balancer) (sym history) ∙ is.balanced)
-
--- 28 of the missing pages, which the first guest gives; guest 1 gives none
-abbrev shared : Rounded
-shared = record { frames = 100; needs = needs; answer = Targets (28 ∷ 0 ∷ []) }
 
 abbrev aimed : ℕ → Entry
 aimed target = Called Balancer (SetTarget target) [] Done

@@ -1,5 +1,5 @@
 use Rattle.vb_guest.{proofs.AskStep.ask_step, proofs.Asked.has_ring, proofs.Kept.ask_kept}
-use Rattle.vb_guest.{proofs.RogueDevice.ask_rogue, proofs.Standing.alone_stands}
+use Rattle.vb_guest.proofs.{RogueQueues.ask_rogue, Standing.alone_stands}
 use Rattle.vb_guest.proofs.device.ask.Goals as goal
 
 pub ask_stats-requires : goal.ask_stats-requires

@@ -1,5 +1,5 @@
 use Rattle.{std.proofs.Common.◌∙◌, vb_guest.proofs.{Asked.has_ring, FinishStep.finish_step}}
-use Rattle.vb_guest.proofs.{Kept.finish_kept, Quiet.freeing_quiet, RogueDevice.finish_rogue}
+use Rattle.vb_guest.proofs.{Kept.finish_kept, Quiet.freeing_quiet, RogueQueues.finish_rogue}
 use Rattle.vb_guest.proofs.Standing.{none_loose, still_none, freed_loose, steps_freed}
 use Rattle.vb_guest.proofs.device.finish.Goals as goal
 

@@ -1,5 +1,5 @@
 use Rattle.vb_guest.{proofs.TakeStep.take_step, proofs.Kept.take_kept, proofs.Standing.alone_stands}
-use Rattle.vb_guest.proofs.RogueDevice.{take_rogue}
+use Rattle.vb_guest.proofs.RogueQueues.{take_rogue}
 use Rattle.vb_guest.proofs.device.take.Goals as goal
 
 pub returns-clause-step : goal.returns-clause-step

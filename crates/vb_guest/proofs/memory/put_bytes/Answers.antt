@@ -1,11 +1,11 @@
 use Rattle.std.{proofs.Common.{◌∙◌, ap, length, Err, refl}, specs.Prelude.{◌≡◌, ◌<◌, None}}
 use Rattle.vb_ram.specs.{Pages.{frame_at, Covers}, declared.fault.RamFault.TheVariants.OutOfRam}
-use Rattle.{vb_ram.specs.Part.Part, vb_guest.proofs.RogueMemory.write_done_rogue}
-use Rattle.vb_guest.proofs.RogueMemory.{write_outside_rogue, scribble_alone, scribble_outside}
+use Rattle.{vb_ram.specs.Part.Part, vb_guest.proofs.Exactly.{puts_outside, puts_there, puts_bare}}
+use Rattle.vb_guest.proofs.{RogueMemory.{write_done_rogue, write_outside_rogue}, Kept.as_it_was}
+use Rattle.vb_guest.proofs.Scribbles.{scribble_alone, scribble_outside}
 use Rattle.vb_guest.proofs.WriteStep.{write_backed, write_outside, needs_frame, not_covered}
-use Rattle.vb_guest.proofs.{Standing.{alone_stands, steps_quiet, stands_as}, Exactly.puts_outside}
-use Rattle.vb_guest.proofs.{Exactly.{puts_there, puts_bare}, Filling.{bare_written, bare_scribbled}}
-use Rattle.vb_guest.{proofs.Kept.as_it_was, specs.Supply.supply_of}
+use Rattle.vb_guest.{proofs.Standing.{alone_stands, steps_quiet, stands_as}, specs.Supply.supply_of}
+use Rattle.vb_guest.proofs.Filling.{bare_written, bare_scribbled}
 use Rattle.vb_guest.proofs.memory.put_bytes.Goals as goal
 
 pub returns-in-Ok : goal.returns-in-Ok
