@@ -1,15 +1,14 @@
 -- What a page of a memory of copies is.
 use Rattle.std.proofs.Common.{◌≡◌, ℕ, ◌<◌, ◌≤◌, List, [], Some, None, length, get_or, refl, sym}
-use Rattle.std.proofs.Common.{Option, false, is_some}
+use Rattle.std.proofs.Common.{Option, false, is_some, ◌∙◌, ap, set, arith, ◌∷◌}
 use Rattle.std.proofs.lemmas.List.FromFn.{get_or-map-range_with_len, length-map-range_with_len}
 use Rattle.std.proofs.lemmas.List.{get_or-set_same, get_or-set_other, length-set, ext_get_or}
-use Rattle.std.proofs.lemmas.List.{get_or_past}
-use Rattle.std.{proofs.Common.{◌∙◌, ap, set, arith, ◌∷◌}, specs.Prelude.slice_index}
+use Rattle.std.{proofs.lemmas.List.get_or_past, specs.Prelude.slice_index}
 use Rattle.vb_ram.{proofs.PageLemmas.wrote, specs.Put.PutAt}
 use Rattle.vb_ram.specs.Pages.{Page, byte_of, number_of, byte_at, page_at, frame_at, Wrote}
 use Rattle.vb_ring.specs.Layout.{IsInside}
 use Rattle.vb_core.specs.Copies.{lent, copy_number, copy_at, copy_of, copied, padded, copied_layout}
-use Rattle.vb_core.specs.{Copies.{kept_pages, PutsInto}, declared.copies.Kept.Kept}
+use Rattle.vb_core.{specs.Copies.{kept_pages, PutsInto}, specs.declared.copies.Kept.Kept}
 
 pub copied_length : (count : ℕ) (cs : List (List ℕ)) → length (copied count cs) ≡ count
 copied_length count cs = length-map-range_with_len (λ p. copy_at cs (copy_number p)) 0 count

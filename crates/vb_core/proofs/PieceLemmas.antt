@@ -1,22 +1,20 @@
 -- Buffers as plain data, the pieces that they say, and which pieces are a report.
-use Rattle.std.proofs.Common.{◌≡◌, ◌∙◌, ap, sym, refl, arith, ℕ, ◌+◌, ◌<◌, ◌≤◌, Bool, false, true, List}
-use Rattle.std.proofs.Common.{[], ◌∷◌, ◌++◌, length, map, take, get_or, Some, None, Ok, Err, zero, suc}
-use Rattle.std.proofs.Common.{◌/◌}
-use Rattle.std.proofs.Common.{slice_set, subst, length-append}
-use Rattle.std.proofs.lemmas.Bool.Decides.{nat_tests}
+use Rattle.std.proofs.Common.{◌≡◌, ◌∙◌, ap, sym, refl, arith, ℕ, ◌+◌, ◌<◌, ◌≤◌, Bool, false, true}
+use Rattle.std.proofs.Common.{List, [], ◌∷◌, ◌++◌, length, map, take, get_or, Some, None, Ok, Err}
+use Rattle.std.proofs.Common.{zero, suc, ◌/◌, slice_set, subst, length-append}
+use Rattle.std.{proofs.lemmas.Bool.Decides.nat_tests, proofs.lemmas.Grind.flat_map-append}
+use Rattle.std.{specs.Prelude.{◌||◌, not, nat_lt, Option, if◌then◌else◌}, specs.List.list_any}
+use Rattle.std.proofs.lemmas.List.{length-map, get_or-map, map-append, take_more, append-nil}
+use Rattle.std.proofs.lemmas.List.{take_more_set}
+use Rattle.std.proofs.lemmas.List.Folds.{list_all-append, list_any_at}
 use Rattle.vb_chain.specs.declared.fault.ChainFault.TheVariants.{WrongDirection, BadLength}
+use Rattle.vb_chain.{specs.declared.fault.ChainFault.ChainFault, specs.declared.pieces.Piece.Piece}
 use Rattle.vb_core.specs.declared.runs.Run.{Run}
-use Rattle.std.specs.{Prelude.{◌||◌, not, nat_lt, Option, if◌then◌else◌}, List.{list_any}}
-use Rattle.vb_chain.specs.declared.fault.ChainFault.{ChainFault}
+use Rattle.vb_core.{specs.declared.next.ChainPiece.ChainPiece, specs.Next.{piece_in, pieces_in}}
+use Rattle.vb_core.specs.Report.{is_reported, are_reported, run_of, is_beyond}
 use Rattle.vb_request.specs.Request.{unless_fault}
-use Rattle.std.proofs.lemmas.List.{length-map, get_or-map, map-append, take_more, append-nil, take_more_set}
-use Rattle.std.proofs.lemmas.{List.Folds.{list_all-append, list_any_at}, Grind.flat_map-append}
-use Rattle.vb_request.proofs.Reports.{piece_length}
-use Rattle.vb_chain.specs.declared.pieces.Piece.{Piece}
+use Rattle.vb_request.{proofs.Reports.piece_length, specs.Report.{pages_of_piece, pages_of_pieces}}
 use Rattle.vb_request.specs.Report.{has_bad_length, first_piece_fault, report_request}
-use Rattle.vb_request.specs.Report.{pages_of_piece, pages_of_pieces}
-use Rattle.vb_core.specs.declared.next.ChainPiece.{ChainPiece}
-use Rattle.vb_core.specs.{Next.{piece_in, pieces_in}, Report.{is_reported, are_reported, run_of, is_beyond}}
 
 pub none_in : pieces_in [] ≡ []
 unfolding pieces_in

@@ -1,17 +1,15 @@
 -- Lists of buffers, and of the pieces that they say.
-use Rattle.vb_core.proofs.PieceLemmas.{join_in, get_in}
-pub use Rattle.vb_core.proofs.PieceLemmas.{none_in, length_in}
+use Rattle.vb_core.{proofs.PieceLemmas.{join_in, get_in}, specs.declared.next.ChainPiece.ChainPiece}
+use Rattle.vb_core.specs.Next.{piece_in, pieces_in}
 use Rattle.std.proofs.Common.{◌≡◌, ◌∙◌, ap, sym, subst, refl, ℕ, ◌+◌, ◌<◌, ◌≤◌, Bool, false, true}
 use Rattle.std.proofs.Common.{List, [], ◌∷◌, ◌++◌, length, map, take, drop, get_or, slice_set}
-use Rattle.std.specs.{Prelude.{sum_by, fold}}
-use Rattle.std.proofs.lemmas.List.{take_more_set}
-use Rattle.vb_core.specs.declared.next.ChainPiece.{ChainPiece}
+use Rattle.std.{specs.Prelude.{sum_by, fold}, proofs.lemmas.List.take_more_set}
 use Rattle.vb_chain.specs.declared.pieces.Piece.{Piece}
 use Rattle.vb_request.specs.Request.{total_length}
-use Rattle.vb_monitor.specs.Pieces.{first_part, second_part, all_parts}
-use Rattle.vb_core.specs.Next.{piece_in, pieces_in}
-use Rattle.vb_monitor.{specs.Machine.behind_part, proofs.PartLemmas.{part_here, part_on, part_end}}
-use Rattle.vb_monitor.proofs.PartLemmas.{second_here, second_none, behind_end}
+use Rattle.vb_monitor.{specs.Pieces.{first_part, second_part, all_parts}, specs.Machine.behind_part}
+use Rattle.vb_monitor.proofs.PartLemmas.{part_here, part_on, part_end, second_here, second_none}
+use Rattle.vb_monitor.proofs.PartLemmas.{behind_end}
+pub use Rattle.vb_core.proofs.PieceLemmas.{none_in, length_in}
 
 -- ---- all of them
 

@@ -1,15 +1,13 @@
 -- Rows of large pages in a region: where they lie, and what is answered where none goes.
-use Rattle.std.proofs.Common.{◌≡◌, ◌∙◌, inl, inr, ap, sym, subst, arith, ℕ, ◌+◌, ◌-◌, ◌*◌, ◌/◌, ◌%◌, ◌≤◌, ◌<◌, Bool, true, List}
-use Rattle.std.proofs.Math.Nat.{mul-le-mul_left}
+use Rattle.std.proofs.Common.{◌≡◌, ◌∙◌, inl, inr, ap, sym, subst, arith, ℕ, ◌+◌, ◌-◌, ◌*◌, ◌/◌, ◌%◌}
+use Rattle.std.{proofs.Common.{◌≤◌, ◌<◌, Bool, true, List}, proofs.lemmas.Bool.Decides.nat_tests}
+use Rattle.std.{proofs.Math.Nat.mul-le-mul_left, proofs.lemmas.Nat.div-add-mod'}
 use Rattle.std.proofs.lemmas.Bool.{cases_lt}
-use Rattle.vb_model.{specs.Limits.page_size}
-use Rattle.vb_monitor.specs.declared.regions.Region.{Region}
+use Rattle.vb_model.specs.Limits.{page_size}
+use Rattle.vb_monitor.{specs.declared.regions.Region.Region, proofs.LargeLemmas.between_says}
 use Rattle.vb_monitor.specs.declared.cuts.Cut.{Cut}
-use Rattle.vb_monitor.specs.Large.{RowGoes, NoneGoes, may_go, small_pages, first_of, end_of_part, all_wait, LargeIf, LargeBy}
-use Rattle.vb_monitor.specs.declared.large.Large.{Large}
-use Rattle.std.proofs.lemmas.Nat.{div-add-mod'}
-use Rattle.std.proofs.lemmas.Bool.Decides.{nat_tests}
-use Rattle.vb_monitor.proofs.LargeLemmas.{between_says}
+use Rattle.vb_monitor.specs.Large.{RowGoes, NoneGoes, may_go, small_pages, first_of, end_of_part}
+use Rattle.vb_monitor.{specs.Large.{all_wait, LargeIf, LargeBy}, specs.declared.large.Large.Large}
 
 -- what fits, in numbers
 pub record Fits (size : ℕ) (r : Region) (part : Cut) : Type 0 where

@@ -1,16 +1,15 @@
 -- What is left of a notice gets less.
-use Rattle.std.proofs.Common.{◌≡◌, ap, subst, refl, arith, ℕ, zero, suc, ◌+◌, ◌-◌, ◌*◌, ◌<◌, ◌≤◌, List, Option, Some, None}
-use Rattle.std.proofs.Common.{false, length, take, length-take}
+use Rattle.std.proofs.Common.{◌≡◌, ap, subst, refl, arith, ℕ, zero, suc, ◌+◌, ◌-◌, ◌*◌, ◌<◌, ◌≤◌}
+use Rattle.std.proofs.Common.{List, Option, Some, None, false, length, take, length-take}
 use Rattle.std.specs.Prelude.{IfSome}
 use Rattle.vb_core.specs.declared.runs.Run.{Run}
-use Rattle.vb_monitor.{specs.declared.step.Phase.Phase, specs.declared.outcome.Tally.Tally}
-use Rattle.vb_monitor.specs.declared.step.Phase.TheVariants.{AwaitsIndex, AwaitsEntry}
-use Rattle.vb_monitor.specs.declared.step.Phase.TheVariants.{AwaitsDescriptor, AwaitsPart}
+use Rattle.vb_monitor.{specs.declared.step.Phase.Phase, specs.declared.room.TheConstants.MAX_RUNS}
+use Rattle.vb_monitor.{specs.declared.outcome.Tally.Tally, specs.declared.cuts.NextCut.NextCut}
 use Rattle.vb_monitor.specs.declared.step.Phase.TheVariants.{TellsPages, TellsFigures, Discards}
 use Rattle.vb_monitor.specs.declared.step.Phase.TheVariants.{GivesBack, AwaitsFlags, Ended}
-use Rattle.vb_monitor.specs.Machine.{is_ended, outcome_at}
-use Rattle.vb_monitor.specs.declared.cuts.NextCut.{NextCut}
-use Rattle.vb_monitor.{specs.declared.room.TheConstants.MAX_RUNS, specs.declared.regions.Region.Region}
+use Rattle.vb_monitor.specs.declared.step.Phase.TheVariants.{AwaitsDescriptor, AwaitsPart}
+use Rattle.vb_monitor.specs.declared.step.Phase.TheVariants.{AwaitsIndex, AwaitsEntry}
+use Rattle.vb_monitor.{specs.Machine.{is_ended, outcome_at}, specs.declared.regions.Region.Region}
 use Rattle.vb_monitor.specs.Left.{parts_left, of_chain, of_chains}
 
 times_more : (a b l : ℕ) → a + 1 ≤ b → a * l + l ≤ b * l

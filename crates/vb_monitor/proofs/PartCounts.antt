@@ -1,14 +1,12 @@
 -- How many parts the pieces of a chain have, and the runs of its pages.
-use Rattle.std.proofs.Common.{◌≡◌, arith, ℕ, suc, ◌+◌, ◌*◌, ◌≤◌, Bool}
-use Rattle.std.proofs.Common.{true, false, List, [], ◌∷◌, ◌++◌, length}
-use Rattle.std.{specs.Prelude.{◌==◌, if◌then◌else◌}}
-use Rattle.vb_chain.specs.declared.{pieces.Piece.Piece}
-use Rattle.vb_core.specs.declared.{runs.Run.Run}
-use Rattle.vb_monitor.specs.{Pieces.{first_part, second_part, unless_empty}}
-use Rattle.vb_monitor.specs.Pieces.{parts_of, all_parts}
+use Rattle.std.proofs.Common.{◌≡◌, arith, ℕ, suc, ◌+◌, ◌*◌, ◌≤◌, Bool, true, false, List, [], ◌∷◌}
+use Rattle.std.{proofs.Common.{◌++◌, length}, specs.Prelude.{◌==◌, if◌then◌else◌}}
+use Rattle.vb_chain.specs.declared.pieces.Piece.{Piece}
+use Rattle.vb_core.specs.declared.runs.Run.{Run}
+use Rattle.vb_monitor.specs.Pieces.{first_part, second_part, unless_empty, parts_of, all_parts}
 use Rattle.vb_monitor.specs.Regions.{meets, cut_of, cuts_from, cuts_of}
-use Rattle.vb_monitor.specs.declared.{cuts.Cut.Cut}
-use Rattle.vb_monitor.specs.declared.{parts.Part.Part, regions.Region.Region}
+use Rattle.vb_monitor.specs.declared.cuts.Cut.{Cut}
+use Rattle.vb_monitor.{specs.declared.parts.Part.Part, specs.declared.regions.Region.Region}
 
 one_at_most : (part : Part) (empty : Bool) → length (if empty then [] else part ∷ []) ≤ 1
 one_at_most part true = omega arith

@@ -1,20 +1,19 @@
 -- As many runs as are told have room.
-use Rattle.vb_core.specs.Next.{pieces_in}
-use Rattle.std.proofs.Common.{◌≡◌, sym, subst, ap, arith, ℕ, ◌≤◌, ◌/◌, Bool, true, false}
-use Rattle.std.proofs.Common.{List, length, Option, Some, None, Result, Ok, Err, refl}
+use Rattle.vb_core.{specs.Next.{pieces_in, told}, proofs.PieceLemmas.length_in}
+use Rattle.vb_core.specs.Name.{NamesBy, NamesRuns, AreNamed, fault_in, right_numbers, name_denial}
+use Rattle.vb_core.{specs.Name.is_request, specs.Report.{NamesPiecesBy, pieces_denial, named_by}}
+use Rattle.vb_core.{specs.declared.kinds.Kind.Kind, specs.declared.name.Named.Named}
+use Rattle.vb_core.{specs.declared.runs.Run.Run, specs.Devices.call_denial}
+use Rattle.vb_core.{specs.declared.device.Denial.Denial, specs.declared.device.Device.Device}
+use Rattle.vb_core.{specs.Settings.{memory_pages, skips}, specs.declared.next.ChainPiece.ChainPiece}
+use Rattle.std.proofs.Common.{◌≡◌, sym, subst, ap, arith, ℕ, ◌≤◌, ◌/◌, Bool, true, false, List}
+use Rattle.std.proofs.Common.{length, Option, Some, None, Result, Ok, Err, refl}
 use Rattle.std.{specs.Prelude.{nat_le, ◌&&◌}, proofs.lemmas.Bool.Decides.nat_tests}
 use Rattle.vb_chain.{specs.declared.fault.ChainFault.ChainFault, specs.declared.pieces.Piece.Piece}
 use Rattle.vb_request.{specs.Request.{numbers_of, is_request_length}, proofs.Once.numbers_of-length}
 use Rattle.vb_request.specs.Report.{report_request}
-use Rattle.vb_core.specs.Name.{NamesBy, NamesRuns, AreNamed, fault_in, right_numbers, name_denial}
-use Rattle.vb_core.specs.{Name.is_request, declared.kinds.Kind.Kind, declared.runs.Run.Run}
-use Rattle.vb_core.specs.{Next.told, declared.name.Named.Named, declared.device.Denial.Denial}
-use Rattle.vb_core.specs.{declared.device.Device.Device, Settings.{memory_pages, skips}}
-use Rattle.vb_core.specs.{Devices.call_denial, declared.next.ChainPiece.ChainPiece}
-use Rattle.vb_core.specs.Report.{NamesPiecesBy, pieces_denial, named_by}
 use Rattle.vb_model.specs.declared.limits.TheConstants.{MAX_QUEUE_SIZE}
-use Rattle.vb_monitor.{specs.declared.room.TheConstants.MAX_RUNS}
-use Rattle.vb_core.proofs.PieceLemmas.{length_in}
+use Rattle.vb_monitor.specs.declared.room.TheConstants.{MAX_RUNS}
 
 fits_then : (kind : Kind) (known fits copied : Bool) (d : Device) →
     call_denial kind known fits copied d ≡ None → fits ≡ true

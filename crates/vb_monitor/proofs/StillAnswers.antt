@@ -1,29 +1,24 @@
 -- What is answered to copies of memory that stays as it is, and what is refused.
-use Rattle.vb_monitor.proofs.StillFound.{ByFound, ends_so}
-use Rattle.vb_core.specs.Next.{piece_in, pieces_in}
-use Rattle.std.proofs.Common.{◌≡◌, ◌∙◌, ap, sym, subst, refl, arith, ℕ, ◌+◌}
-use Rattle.std.proofs.Common.{◌*◌, ◌≤◌, Bool, true, false, List, [], ◌∷◌, length, map}
-use Rattle.std.{proofs.Common.{take, Option, Some, None, Result, Ok, Err}, specs.Prelude.◌&&◌}
-use Rattle.std.specs.Prelude.{◌==◌, nat_le, not, IsOk}
-use Rattle.std.proofs.lemmas.{Bool.Decides.nat_tests}
+use Rattle.vb_monitor.{proofs.StillFound.{ByFound, ends_so}, specs.Chains.{CopiesBy, ServesPieces}}
+use Rattle.vb_monitor.{specs.declared.outcome.Tally.Tally, specs.Machine.{next_chain, serves}}
+use Rattle.vb_monitor.{specs.Accesses.Access, specs.Giving.Then, specs.Still.{Behind, DoesAs}}
+use Rattle.vb_monitor.specs.Ends.{Whole}
+use Rattle.vb_core.specs.Next.{piece_in, pieces_in, is_read, length_of, next_denial, told}
+use Rattle.vb_core.specs.Next.{are_copies, buffer_of, answer_of, answer_to, after_fault}
+use Rattle.vb_core.{specs.declared.kinds.Kind.Kind, specs.declared.device.Denial.TheVariants.Broken}
+use Rattle.vb_core.specs.declared.kinds.Kind.TheVariants.{Inflate, Deflate, Statistics, Report}
+use Rattle.vb_core.specs.declared.next.NextChain.{NextChain}
+use Rattle.vb_core.{specs.declared.next.ChainPiece.ChainPiece, specs.declared.device.Denial.Denial}
+use Rattle.vb_core.{specs.declared.device.Device.Device, specs.declared.settings.Settings.Settings}
+use Rattle.vb_core.specs.Devices.{ring_of, needing_reset, queue_denial, call_denial}
+use Rattle.vb_core.specs.Settings.{memory_pages, are_settings}
+use Rattle.std.proofs.Common.{◌≡◌, ◌∙◌, ap, sym, subst, refl, arith, ℕ, ◌+◌, ◌*◌, ◌≤◌, Bool, true}
+use Rattle.std.proofs.Common.{false, List, [], ◌∷◌, length, map, take, Option, Some, None, Result}
+use Rattle.std.proofs.Common.{Ok, Err}
+use Rattle.std.{specs.Prelude.{◌&&◌, ◌==◌, nat_le, not, IsOk}, proofs.lemmas.Bool.Decides.nat_tests}
 use Rattle.vb_model.specs.Tests.{one_if}
 use Rattle.vb_chain.{specs.declared.pieces.Piece.Piece, specs.declared.fault.ChainFault.ChainFault}
-use Rattle.vb_ring.{specs.declared.device.Taken.Taken}
-use Rattle.vb_core.specs.Next.{is_read, length_of, next_denial, told}
-use Rattle.vb_core.specs.Next.{are_copies, buffer_of, answer_of, answer_to, after_fault}
-use Rattle.vb_core.{specs.declared.kinds.Kind.Kind}
-use Rattle.vb_core.specs.declared.kinds.Kind.TheVariants.{Inflate, Deflate, Statistics, Report}
-use Rattle.vb_core.specs.declared.next.{NextChain.NextChain, ChainPiece.ChainPiece}
-use Rattle.vb_core.specs.declared.device.{Denial.Denial, Device.Device, Denial.TheVariants.Broken}
-use Rattle.vb_core.specs.Devices.{ring_of, needing_reset, queue_denial, call_denial}
-use Rattle.vb_core.{specs.declared.settings.Settings.Settings}
-use Rattle.vb_core.specs.Settings.{memory_pages, are_settings}
-use Rattle.vb_monitor.specs.declared.{outcome.Tally.Tally}
-use Rattle.vb_monitor.specs.{Accesses.{Access}, Ends.Whole}
-use Rattle.vb_monitor.specs.{Chains.{CopiesBy}}
-use Rattle.vb_monitor.specs.{Chains.ServesPieces, Giving.Then}
-use Rattle.vb_monitor.specs.{Machine.{next_chain, serves}}
-use Rattle.vb_monitor.specs.Still.{Behind, DoesAs}
+use Rattle.vb_ring.specs.declared.device.Taken.{Taken}
 
 -- ---- what is answered
 

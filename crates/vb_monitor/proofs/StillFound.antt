@@ -1,22 +1,17 @@
 -- What a notice does by what is found, where memory stays as it is.
-use Rattle.std.proofs.Common.{◌≡◌, ◌∙◌, ap, refl, arith, ℕ, ◌+◌}
-use Rattle.std.proofs.Common.{◌*◌, ◌%◌, ◌<◌, ◌≤◌, Bool, true, false, List, ◌∷◌}
-use Rattle.std.{proofs.Common.{Option, Some, None, Result, Ok, Err}}
+use Rattle.std.proofs.Common.{◌≡◌, ◌∙◌, ap, refl, arith, ℕ, ◌+◌, ◌*◌, ◌%◌, ◌<◌, ◌≤◌, Bool, true}
+use Rattle.std.proofs.Common.{false, List, ◌∷◌, Option, Some, None, Result, Ok, Err}
 use Rattle.std.specs.Prelude.{if◌then◌else◌, IsOkAnd, IsSomeAnd}
-use Rattle.std.proofs.lemmas.{Bool.Decides.nat_tests}
+use Rattle.std.proofs.lemmas.Bool.Decides.{nat_tests}
 use Rattle.vb_chain.{specs.declared.pieces.Piece.Piece, specs.declared.fault.ChainFault.ChainFault}
 use Rattle.vb_chain.specs.declared.fault.ChainFault.TheVariants.{IndexJump}
-use Rattle.vb_ring.{specs.declared.device.Taken.Taken}
-use Rattle.vb_core.{specs.declared.ring.Virtqueue.Virtqueue}
-use Rattle.vb_core.specs.declared.device.{Denial.Denial, Device.Device, Denial.TheVariants.Broken}
-use Rattle.vb_core.specs.Devices.{needing_reset}
-use Rattle.vb_monitor.specs.declared.{outcome.Tally.Tally}
-use Rattle.vb_monitor.specs.declared.outcome.{Outcome.Outcome}
-use Rattle.vb_monitor.specs.{Accesses.{Access}, Ends.Whole}
-use Rattle.vb_monitor.specs.{Ends.EndsWhere}
-use Rattle.vb_monitor.specs.{Notices.{entry_offset}}
-use Rattle.vb_monitor.specs.{Machine.{serves}}
-use Rattle.vb_monitor.specs.Still.{Behind}
+use Rattle.vb_ring.specs.declared.device.Taken.{Taken}
+use Rattle.vb_core.{specs.declared.ring.Virtqueue.Virtqueue, specs.declared.device.Denial.Denial}
+use Rattle.vb_core.specs.declared.device.Device.{Device}
+use Rattle.vb_core.{specs.declared.device.Denial.TheVariants.Broken, specs.Devices.needing_reset}
+use Rattle.vb_monitor.{specs.declared.outcome.Tally.Tally, specs.declared.outcome.Outcome.Outcome}
+use Rattle.vb_monitor.{specs.Accesses.Access, specs.Machine.serves, specs.Still.Behind}
+use Rattle.vb_monitor.{specs.Ends.{Whole, EndsWhere}, specs.Notices.entry_offset}
 
 pub one_behind : (does : List Access → Type 0) (x : Access) (rest log : List Access) → log ≡ x ∷ rest →
     Behind does rest → Behind does log

@@ -1,16 +1,15 @@
 -- A chain's first descriptor.
-use Rattle.vb_core.specs.Next.{pieces_in}
-use Rattle.vb_core.proofs.PieceLemmas.{none_in, length_in}
+use Rattle.vb_core.{specs.Next.pieces_in, specs.Devices.ring_of}
+use Rattle.vb_core.{proofs.PieceLemmas.{none_in, length_in}, specs.declared.device.Device.Device}
 use Rattle.std.proofs.Common.{◌≡◌, sym, subst, arith, ℕ, suc, ◌+◌, ◌-◌, ◌<◌, ◌*◌, Bool, true, false}
-use Rattle.std.{proofs.Common.{List, [], Option, Some}, specs.Prelude.nat_lt}
-use Rattle.std.proofs.lemmas.Bool.Decides.{nat_tests}
+use Rattle.std.{proofs.Common.{List, [], Option, Some}, proofs.lemmas.Bool.Decides.nat_tests}
+use Rattle.std.specs.Prelude.{nat_lt}
 use Rattle.vb_chain.specs.declared.pieces.Piece.{Piece}
-use Rattle.vb_core.{specs.declared.device.Device.Device, specs.Devices.ring_of}
-use Rattle.vb_monitor.specs.declared.{regions.Spot.Spot, outcome.Tally.Tally}
-use Rattle.vb_monitor.specs.{Accesses.Access, Regions.spot, Ends.Whole}
-use Rattle.vb_monitor.specs.{Notices.{HeadBy, AfterEntry}, Chains.{descriptors, AsksDescriptor}}
-use Rattle.vb_monitor.specs.{Chains.{DescriptorAt, Follows}, Machine.{next_chain, serves}}
-use Rattle.vb_monitor.proofs.{NextLemmas.follows_next}
+use Rattle.vb_monitor.{specs.declared.regions.Spot.Spot, specs.Machine.{next_chain, serves}}
+use Rattle.vb_monitor.{specs.declared.outcome.Tally.Tally, specs.Notices.{HeadBy, AfterEntry}}
+use Rattle.vb_monitor.{specs.Accesses.Access, specs.Regions.spot, proofs.NextLemmas.follows_next}
+use Rattle.vb_monitor.specs.Ends.{Whole}
+use Rattle.vb_monitor.specs.Chains.{descriptors, AsksDescriptor, DescriptorAt, Follows}
 
 is_less : (n m : ℕ) → n < m → nat_lt n m ≡ true
 is_less n m lt = grind (arith, nat_tests)

@@ -1,11 +1,9 @@
 use Rattle.std.proofs.Common.{ap, sym, subst, refl, ℕ, ◌+◌, Option, Ok, Err, take}
-use Rattle.vb_monitor.{specs.declared.step.Phase.TheVariants.AwaitsPart}
-use Rattle.vb_monitor.{specs.Machine.{whole}}
-use Rattle.vb_monitor.{specs.declared.notice.Notice.Notice}
+use Rattle.vb_monitor.{specs.declared.step.Phase.TheVariants.AwaitsPart, specs.Machine.whole}
+use Rattle.vb_monitor.{specs.declared.notice.Notice.Notice, specs.declared.outcome.Tally.Tally}
 use Rattle.vb_monitor.{specs.Giving.spent, proofs.ServedLemmas.request_goes}
-use Rattle.vb_monitor.specs.declared.outcome.Tally.{Tally}
 use Rattle.vb_c.{specs.declared.notice.VbRoom.VbRoom, specs.Serving.{room_in, GoesOnBy, HandsOver}}
-use Rattle.vb_c.specs.{Notices.{tally_of, place_of}, Served.telling_pages}
+use Rattle.vb_c.{specs.Notices.{tally_of, place_of}, specs.Served.telling_pages}
 use Rattle.vb_c.proofs.UsualLemmas.{awaits_part, says_notice, copied_part}
 use Rattle.vb_c.proofs.requests.go_request.Goals as goal
 

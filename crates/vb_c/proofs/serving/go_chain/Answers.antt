@@ -1,7 +1,6 @@
 use Rattle.std.proofs.Common.{◌∙◌, ap, sym, subst, refl, Option, Some}
 use Rattle.vb_monitor.{specs.declared.notice.Notice.Notice, specs.declared.step.Walk.Walk}
-use Rattle.vb_monitor.specs.declared.step.Phase.TheVariants.{AwaitsDescriptor}
-use Rattle.vb_monitor.{specs.Machine.{whole}}
+use Rattle.vb_monitor.{specs.declared.step.Phase.TheVariants.AwaitsDescriptor, specs.Machine.whole}
 use Rattle.vb_c.{specs.declared.notice.VbRoom.VbRoom, specs.Serving.GoesOnBy}
 use Rattle.vb_c.proofs.UsualLemmas.{awaits_descriptor, says_notice, copied_descriptor}
 use Rattle.vb_c.proofs.serving.go_chain.Goals as goal

@@ -1,9 +1,8 @@
 use Rattle.std.proofs.Common.{◌∙◌, ap, sym, subst, refl, Option, Some}
-use Rattle.vb_monitor.{specs.declared.step.Phase.TheVariants.AwaitsPart}
-use Rattle.vb_monitor.{specs.declared.step.Place.Place}
-use Rattle.vb_monitor.{specs.declared.notice.Notice.Notice}
-use Rattle.vb_c.{specs.declared.notice.VbRoom.VbRoom, specs.Serving.GoesOnBy}
-use Rattle.vb_c.proofs.UsualLemmas.{awaits_part, says_notice, copied_part}
+use Rattle.vb_monitor.specs.declared.step.Phase.TheVariants.{AwaitsPart}
+use Rattle.vb_monitor.{specs.declared.step.Place.Place, specs.declared.notice.Notice.Notice}
+use Rattle.vb_c.specs.declared.notice.VbRoom.{VbRoom}
+use Rattle.vb_c.{specs.Serving.GoesOnBy, proofs.UsualLemmas.{awaits_part, says_notice, copied_part}}
 use Rattle.vb_c.proofs.serving.go_part.Goals as goal
 
 pub returns-clause-goes : goal.returns-clause-goes

@@ -1,7 +1,6 @@
-use Rattle.std.proofs.Common.{◌∙◌, ap, arith, sym, ℕ, ◌/◌, get_or}
-use Rattle.std.proofs.lemmas.List.{take_all}
-use Rattle.vb_core.proofs.PieceLemmas.{none_in, not_reported, reported_more, pages_more, runs_more, length_in}
-use Rattle.vb_core.proofs.PieceLemmas.{below_in}
+use Rattle.std.{proofs.Common.{◌∙◌, ap, arith, sym, ℕ, ◌/◌, get_or}, proofs.lemmas.List.take_all}
+use Rattle.vb_core.proofs.PieceLemmas.{none_in, not_reported, reported_more, pages_more, runs_more}
+use Rattle.vb_core.proofs.PieceLemmas.{length_in, below_in}
 use Rattle.vb_core.proofs.report.put_reported.Goals as goal
 
 pub loop-k-init : goal.loop-k-init

@@ -1,6 +1,5 @@
 use Rattle.std.proofs.Common.{rules, ◌≡◌, ◌+◌, [], drop}
-use Rattle.vb_monitor.specs.Regions.{cuts_from}
-use Rattle.vb_monitor.proofs.SoleLemmas.{only_put}
+use Rattle.vb_monitor.{specs.Regions.cuts_from, proofs.SoleLemmas.only_put}
 use Rattle.vb_monitor.proofs.cuts.put_only.Goals as goal
 
 pub returns-in-Some-clause-put : goal.returns-in-Some-clause-put

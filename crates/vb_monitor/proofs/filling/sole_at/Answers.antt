@@ -1,6 +1,5 @@
 use Rattle.std.proofs.Common.{◌∙◌, sym, arith}
-use Rattle.vb_monitor.specs.declared.filling.TheConstants.{FEW}
-use Rattle.vb_monitor.proofs.SoleLemmas.{at_is}
+use Rattle.vb_monitor.{specs.declared.filling.TheConstants.FEW, proofs.SoleLemmas.at_is}
 use Rattle.vb_monitor.proofs.filling.sole_at.Goals as goal
 
 pub returns-else-not-has-clause-found : goal.returns-else-not-has-clause-found

@@ -1,9 +1,8 @@
 use Rattle.std.proofs.Common.{rules, ◌≡◌, ◌∙◌, ap, ℕ, ◌+◌, ◌<◌, true, Some}
-use Rattle.vb_core.{specs.Devices.ring_of, specs.Rings.used_entry, proofs.DenialLemmas.open_call}
-use Rattle.vb_monitor.{specs.Regions.spot, specs.Giving.used_spots, specs.Machine.whole}
-use Rattle.vb_core.specs.declared.ring.UsedEntry.{UsedEntry}
-use Rattle.vb_monitor.specs.Orders.{giving}
-use Rattle.vb_monitor.{specs.Served.looks_again, proofs.ServedLemmas.given_goes}
+use Rattle.vb_core.{specs.Devices.ring_of, specs.Rings.used_entry}
+use Rattle.vb_core.{proofs.DenialLemmas.open_call, specs.declared.ring.UsedEntry.UsedEntry}
+use Rattle.vb_monitor.{specs.Regions.spot, specs.Served.looks_again, proofs.ServedLemmas.given_goes}
+use Rattle.vb_monitor.{specs.Giving.used_spots, specs.Machine.whole, specs.Orders.giving}
 use Rattle.vb_monitor.proofs.served.give_and_look.Goals as goal
 
 pub used_entry-entry-requires : goal.used_entry-entry-requires

@@ -1,8 +1,7 @@
-use Rattle.vb_core.specs.Next.{pieces_in}
+use Rattle.vb_core.{specs.Next.pieces_in, specs.declared.next.ChainPiece.ChainPiece}
 use Rattle.std.proofs.Common.{rules, ◌∙◌, ap, sym, ◌≤◌, List, length}
-use Rattle.vb_core.specs.declared.next.ChainPiece.{ChainPiece}
-use Rattle.vb_monitor.specs.{declared.parts.Part.Part, Machine.behind_part}
-use Rattle.vb_monitor.{specs.Served.none_left, proofs.BufferLemmas.behind_in}
+use Rattle.vb_monitor.{specs.declared.parts.Part.Part, proofs.BufferLemmas.behind_in}
+use Rattle.vb_monitor.{specs.Machine.behind_part, specs.Served.none_left}
 use Rattle.vb_monitor.proofs.served.is_last.Goals as goal
 
 pub returns-then-place-chain : goal.returns-then-place-chain

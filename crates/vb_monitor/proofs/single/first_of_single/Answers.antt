@@ -1,15 +1,13 @@
-use Rattle.vb_core.specs.Next.{pieces_in}
-use Rattle.vb_core.proofs.PieceLemmas.{none_in, length_in}
-use Rattle.std.proofs.Common.{rules, ◌≡◌, ◌+◌, ◌∙◌, sym, ap, arith, ℕ, List, [], Some, take}
+use Rattle.vb_core.{specs.Next.pieces_in, proofs.PieceLemmas.{none_in, length_in}}
+use Rattle.vb_core.{specs.declared.next.ChainPiece.ChainPiece, specs.Devices.ring_of}
+use Rattle.std.proofs.Common.{rules, ◌≡◌, ◌+◌, ◌∙◌, sym, ap, arith, ℕ, List, [], Some, take, refl}
+use Rattle.std.proofs.Common.{length, false, Option, None}
 use Rattle.vb_chain.{specs.declared.descriptor.TheConstants.DESCRIPTOR_SIZE, specs.Rules.piece_of}
 use Rattle.vb_chain.specs.declared.pieces.Piece.{Piece}
-use Rattle.vb_core.specs.{declared.next.ChainPiece.ChainPiece, Devices.ring_of}
-use Rattle.vb_monitor.specs.{Pieces.{first_part}, Regions.spot, Machine.whole}
+use Rattle.vb_monitor.{specs.Pieces.first_part, specs.declared.single.FirstPart.FirstPart}
+use Rattle.vb_monitor.{specs.Regions.spot, specs.Machine.whole}
 use Rattle.vb_monitor.specs.Chains.{descriptor_of, descriptors, memory_end, table_fault}
-use Rattle.vb_monitor.proofs.{SingleLemmas.single_goes}
-use Rattle.vb_monitor.{proofs.SingleLemmas.single_by, specs.declared.single.FirstPart.FirstPart}
-use Rattle.vb_monitor.specs.declared.parts.Part.{Part}
-use Rattle.std.proofs.Common.{refl, length, false, Option, None}
+use Rattle.vb_monitor.{proofs.SingleLemmas.{single_goes, single_by}, specs.declared.parts.Part.Part}
 use Rattle.vb_monitor.proofs.single.first_of_single.Goals as goal
 
 none_taken : (bs : List ChainPiece) (n : ℕ) → n ≡ 0 → pieces_in (take n bs) ≡ []

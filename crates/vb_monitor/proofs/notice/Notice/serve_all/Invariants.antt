@@ -1,6 +1,5 @@
 use Rattle.std.proofs.Common.{◌≡◌}
-use Rattle.vb_monitor.specs.Machine.{Fits, Goes, Ahead, whole, room_of}
-use Rattle.vb_monitor.specs.Left.{left}
+use Rattle.vb_monitor.{specs.Machine.{Fits, Goes, Ahead, whole, room_of}, specs.Left.left}
 use Rattle.vb_monitor.proofs.notice.Notice.serve_all.Given as goal
 
 abbrev pub invariant-loop-outcome : goal.invariant-loop-outcome
