@@ -13,3 +13,6 @@ pub mod Visits
 pub mod OwnFrames
 mod CallFacts
 mod StepFacts
+mod TakeFacts
+mod UsedFacts
+mod OwnFacts

@@ -16,7 +16,7 @@ use Rattle.vb_device.specs.Calls.{FinishesBy, AsksBy}
 use Rattle.vb_device.proofs.CallFacts.{asked, queue, mem, busy}
 
 -- MUST_TELL_HOST and STATS_VQ were accepted, and the driver's buffer of statistics is taken.
-abbrev told : Part
+abbrev pub told : Part
 told = record busy { features = 3; statistics = queue 3 (asked 2 [] 0 ∷ []) }
 
 abbrev bare : List ℕ → Pages
@@ -121,74 +121,3 @@ detaches : (m2 : Pages) (p2 : Part) → DetachesBy mem m2 (record busy { target 
     })
     × SameFrames p2.loose (7 ∷ 9 ∷ [])
 detaches m2 p2 by = (by.memory, by.part, by.loose)
-
--- ---- a take, of memory that reads as zeros: its index is 0, and descriptor 0 a chain of no bytes
-
-abbrev zeros : Pages
-zeros = None ∷ None ∷ None ∷ None ∷ []
-
--- So many entries were taken.
-abbrev at : ℕ → Part
-at taken = record no_part { status = 15; queue_size = 8; inflate = queue taken [] }
-
-takes_nothing_more : (m2 : Pages) (p2 : Part) (result : Result (Option ℕ) Refusal)
-    → TakesBy 0 zeros m2 (at 0) p2 result → (result ≡ Ok None) × (p2 ≡ at 0) × (m2 ≡ zeros)
-unfolding byte_at field
-takes_nothing_more m2 p2 result by = (let left = by.empty refl refl in (left.0, left.1, by.memory))
-
-takes_from_an_index_that_jumped : (m2 : Pages) (p2 : Part) (result : Result (Option ℕ) Refusal)
-    → TakesBy 0 zeros m2 (at 60000) p2 result
-    → (result ≡ Err (Broken 7)) × (p2 ≡ record (at 60000) { status = 79 })
-unfolding byte_at field
-takes_from_an_index_that_jumped m2 p2 result by =
-    let left = by.jump IndexJump refl refl in (left.answer, left.part)
-
-takes_a_chain_of_no_bytes : (m2 : Pages) (p2 : Part) (result : Result (Option ℕ) Refusal)
-    → TakesBy 0 zeros m2 (at 65535) p2 result
-    → (result ≡ Err (Broken 8)) × (p2 ≡ record (at 65535) { status = 79 })
-unfolding byte_at field descriptor_at bytes_of page_request
-takes_a_chain_of_no_bytes m2 p2 result by =
-    let left = by.wrong 0 (record { addr = 0; len = 0; writable = false } ∷ []) BadLength
-    refl refl (record { path = 0 ∷ []; chain = alone; pieces_are = refl }) refl in
-    (left.answer, left.part)
-  where
-    alone : IsChain (descriptor_at zeros 0) 8 16384 0 (0 ∷ [])
-    alone = record {
-      inside = omega arith;
-      is_path = record {
-        some = omega arith;
-        begins = refl;
-        onward = (λ k lt. absurd (omega (arith, lt)));
-        linked = (λ k lt. absurd (omega (arith, lt)));
-      };
-      short = omega arith;
-      sound = sound;
-      ends = last;
-    } where
-      sound : (k : ℕ) → k < 1 → fault_at (descriptor_at zeros 0) 8 16384 (0 ∷ []) k ≡ None
-      sound zero lt = refl
-      sound (suc k) lt = absurd (omega (arith, lt))
-
-      last : (k : ℕ) → k + 1 ≡ 1 → has_next (descriptor_at zeros 0 (slice_index (0 ∷ []) k)) ≡ false
-      last zero e = refl
-      last (suc k) e = absurd (omega (arith, e))
-
--- ---- each answer of a take says its state
-
-refuses_a_take : (m2 : Pages) (p2 : Part) (result : Result (Option ℕ) Refusal)
-    → TakesBy 3 mem m2 busy p2 result → (result ≡ Err NoQueue) × (p2 ≡ busy) × (m2 ≡ mem)
-refuses_a_take m2 p2 result by =
-    let left = by.refused NoQueue refl in (left.0, left.1, by.memory)
-
-takes_none : (p2 : Part) → TakeMeans 0 mem busy p2 (Ok None) → p2 ≡ busy
-takes_none p2 means = means.1
-
-breaks : (p2 : Part) → TakeMeans 0 mem busy p2 (Err (Broken 7))
-    → p2 ≡ record busy { status = 79 }
-breaks p2 means = means.1
-
-is_not_busy : (p2 : Part) → TakeMeans 0 mem busy p2 (Err Busy) → ⊥
-is_not_busy p2 means = (let wrong : None ≡ Some Busy = means.0 in absurd cc)
-
-is_busy : (p2 : Part) → TakeMeans 2 mem told p2 (Ok None) → ⊥
-is_busy p2 means = (let wrong : Some Busy ≡ None = means.0 in absurd cc)
