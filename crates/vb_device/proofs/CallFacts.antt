@@ -1,15 +1,11 @@
 -- What calls leave of a device, worked out.
 use Rattle.std.proofs.Common.{◌≡◌, ℕ, true, false, List, [], ◌∷◌, map, refl, arith, ap}
-use Rattle.std.specs.Prelude.{Bool, Some, None, length}
-use Rattle.vb_model.specs.declared.replies.Refusal.TheVariants.{Busy, NotTaken, NotWorked}
+use Rattle.std.specs.Prelude.{Some, None, length}
 use Rattle.vb_model.specs.Requests.{Request}
 use Rattle.vb_ram.specs.{Pages.{Pages}, Part.{Part, QueuePart, no_part, no_queue}}
 use Rattle.vb_device.specs.declared.claimed.Claimed.TheVariants.{AskHost, NoFrame}
 use Rattle.vb_device.specs.Calls.{taking, settled, using, without_frames, lost_frames, next_visit}
 use Rattle.vb_device.specs.Calls.{attached, Claims, PutsBack, PopsLoose, HandsBack}
-use Rattle.vb_device.specs.{Conditions.{take_refusal, finish_refusal, ask_refusal}}
-use Rattle.vb_device.specs.Queues.{queue_part, with_queue, queue_end}
-use Rattle.vb_ring.specs.Layout.{layout_of}
 use Rattle.vb_device.specs.{BaseCalls.{visited_queue, page_to_visit, flags_after}}
 use Rattle.vb_device.specs.{Discards.{discarded, frames_behind}, Faults.needing_reset, Own.{has, without}}
 
@@ -110,13 +106,9 @@ takes : taking 0 4 (2 ∷ []) busy ≡ record busy {
 }
 takes = refl
 
-uses : using 0 0 busy ∷ using 0 1 busy ∷ []
-    ≡ record busy {
-      inflate = record { next_avail = 65535; next_used = 0; taken = asked 0 (3 ∷ 2 ∷ []) 0 ∷ [] };
-    }
-    ∷ record busy {
-      inflate = record { next_avail = 65535; next_used = 0; taken = asked 1 (1 ∷ []) 1 ∷ [] };
-    } ∷ []
+uses : using 0 0 busy ≡ record busy {
+  inflate = record { next_avail = 65535; next_used = 0; taken = asked 0 (3 ∷ 2 ∷ []) 0 ∷ [] };
+}
 uses = refl
 
 settles : map (λ q. (settled q (1 ∷ 3 ∷ []) busy).ballooned) (0 ∷ 1 ∷ 4 ∷ [])
@@ -142,62 +134,9 @@ next = (refl, refl, refl)
 needs_reset : needing_reset busy ≡ record busy { status = 79 }
 needs_reset = refl
 
-abbrev part : ℕ → ℕ → QueuePart
-part avail used = record { next_avail = avail; next_used = used; taken = [] }
-
--- a device with another value everywhere
-abbrev full : Part
-full = record {
-  status = 15;
-  features = 7;
-  target = 4;
-  actual = 3;
-  ballooned = true ∷ [];
-  queue_size = 8;
-  inflate = part 1 11;
-  deflate = part 2 12;
-  statistics = part 3 13;
-  report = part 4 14;
-  last = record { free = Some 1; total = Some 2 };
-  paced = true;
-  loose = 7 ∷ [];
-  keeps = true;
-  own = 9 ∷ [];
-}
-
-a_guest : attached (record { pages = 3; queue_size = 16; processors = 1 }) full ≡ record no_part {
-  ballooned = false ∷ false ∷ false ∷ [];
-  queue_size = 16;
-  paced = true;
-  loose = 7 ∷ [];
-  keeps = true;
-  own = 9 ∷ [];
-}
+a_guest : attached (record { pages = 3; queue_size = 8; processors = 1 }) busy
+    ≡ record no_part { ballooned = false ∷ false ∷ false ∷ []; queue_size = 8; paced = true }
 a_guest = refl
-
-queues : map (λ q. queue_part q full) (0 ∷ 1 ∷ 2 ∷ 4 ∷ []) ≡ part 1 11 ∷ part 2 12 ∷ part 3 13 ∷ part 4 14 ∷ []
-queues = refl
-
-replaced : map (λ q. with_queue q no_queue full) (0 ∷ 1 ∷ 2 ∷ 4 ∷ [])
-    ≡ record full { inflate = no_queue } ∷ record full { deflate = no_queue }
-    ∷ record full { statistics = no_queue } ∷ record full { report = no_queue } ∷ []
-replaced = refl
-
-end : queue_end 1 full ≡
-    record { layout = layout_of 1 8; size = 8; ready = true; next_avail = 2; next_used = 12 }
-end = refl
-
--- pages are visited before a finish where the device is paced, but not a deflate's; of its own
--- queue the one buffer is taken
-abbrev out : Bool → Part
-out paced =
-    let one : QueuePart = queue 1 (asked 0 (1 ∷ []) 0 ∷ []) in
-    record full { inflate = one; deflate = one; statistics = one; paced = paced }
-
-refusals : finish_refusal 0 0 (out true) ∷ finish_refusal 1 0 (out true) ∷ finish_refusal 0 0 (out false)
-    ∷ finish_refusal 0 1 (out true) ∷ take_refusal 2 (out true) ∷ take_refusal 2 full ∷ ask_refusal full ∷ []
-    ≡ Some NotWorked ∷ None ∷ None ∷ Some NotTaken ∷ Some Busy ∷ None ∷ Some NotTaken ∷ []
-refusals = refl
 
 own : map (has (4 ∷ 6 ∷ [])) (4 ∷ 5 ∷ 6 ∷ []) ≡ true ∷ false ∷ true ∷ []
 own = refl

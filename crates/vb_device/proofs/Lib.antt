@@ -14,5 +14,4 @@ pub mod OwnFrames
 mod CallFacts
 mod StepFacts
 mod TakeFacts
-mod UsedFacts
 mod OwnFacts

@@ -1,7 +1,7 @@
--- What a take says of one state: of each fault, of a request and of a buffer of statistics.
-use Rattle.std.proofs.Common.{◌≡◌, ◌≤◌, ◌<◌, ◌+◌, ℕ, zero, suc, true, false, List, [], ◌∷◌}
-use Rattle.std.proofs.Common.{refl, arith, ap, inr}
-use Rattle.std.specs.Prelude.{Option, Some, None, Result, Ok, Err, slice_index, replicate, is_some}
+-- What a take says of one state: of each kind of fault, of a request, and where it is refused.
+use Rattle.std.proofs.Common.{◌≡◌, ◌<◌, ◌+◌, ℕ, zero, suc, true, false, List, [], ◌∷◌, refl, arith}
+use Rattle.std.proofs.Common.{inr}
+use Rattle.std.specs.Prelude.{Option, Some, None, Result, Ok, Err, slice_index, replicate}
 use Rattle.vb_model.specs.declared.replies.Refusal.{Refusal}
 use Rattle.vb_model.specs.declared.replies.Refusal.TheVariants.{Broken, Busy, NoQueue}
 use Rattle.vb_chain.specs.declared.{descriptor.Descriptor.Descriptor, pieces.Piece.Piece}
@@ -10,9 +10,8 @@ use Rattle.vb_chain.specs.declared.fault.ChainFault.TheVariants.{Indirect}
 use Rattle.vb_chain.specs.Chain.{IsChain, BreaksAt, ChainGives, fault_at}
 use Rattle.vb_chain.specs.{Rules.has_next, Table.descriptor_at}
 use Rattle.vb_request.specs.{Request.{bytes_of, numbers_of, page_request}, Asked.request_of}
-use Rattle.vb_request.specs.Statistics.{statistics_of}
-use Rattle.vb_ram.specs.{Pages.{Page, Pages, byte_at, field}, Part.{Part, QueuePart, no_part}}
-use Rattle.vb_device.specs.Calls.{TakeMeans, TakesBy}
+use Rattle.vb_ram.specs.{Pages.{Page, Pages, byte_at, field}, Part.{Part, no_part}}
+use Rattle.vb_device.specs.{Calls.{TakeMeans, TakesBy}, Queues.next_available}
 use Rattle.vb_device.proofs.{CallFacts.{asked, queue, mem, busy}, StepFacts.told}
 
 -- ---- a chain of the first descriptor alone
@@ -69,7 +68,7 @@ no_bytes m2 p2 result by =
     refl in
     (left.answer, left.part, by.memory)
 
--- ---- of bytes in page 1, of which descriptor 0 of one ring says this
+-- ---- of bytes in page 1, of which descriptor 0 says this
 
 abbrev page : List ℕ → Option Page
 page bytes = Some (record { number = 1; bytes = bytes })
@@ -80,12 +79,12 @@ table len flags = page (0 ∷ 16 ∷ 0 ∷ 0 ∷ 0 ∷ 0 ∷ 0 ∷ 0 ∷ len ∷
 abbrev names : Pages
 names = table 8 0 ∷ page (17 ∷ 0 ∷ 0 ∷ 0 ∷ 16 ∷ []) ∷ replicate 16 None
 
-abbrev with_request : List ℕ → Part
-with_request pages = record (at 0) {
-  inflate = record { next_avail = 0; next_used = 65535; taken = asked 0 pages 0 ∷ [] };
+abbrev with_request : ℕ → List ℕ → Part
+with_request h pages = record (at 0) {
+  inflate = record { next_avail = 0; next_used = 65535; taken = asked h pages 0 ∷ [] };
 }
 
-request : Takes 0 names (at 65535) (Ok (Some 0)) (with_request (17 ∷ 16 ∷ []))
+request : Takes 0 names (at 65535) (Ok (Some 0)) (with_request 0 (17 ∷ 16 ∷ []))
 unfolding byte_at field descriptor_at bytes_of numbers_of page_request
 request m2 p2 result by =
     let left = by.takes 0 (record { addr = 4096; len = 8; writable = false } ∷ []) (17 ∷ 16 ∷ []) refl refl
@@ -99,25 +98,6 @@ indirect m2 p2 result by =
     let left = by.fault 0 Indirect refl refl
     (inr (0 ∷ [], breaks (descriptor_at (table 8 4 ∷ zeros) 0) 20480 Indirect refl)) in
     (left.answer, left.part, by.memory)
-
--- 9 bytes are free, and what was known before is forgotten
-abbrev tells : Pages
-tells = None ∷ page (4 ∷ 0 ∷ 9 ∷ []) ∷ table 10 0 ∷ None ∷ []
-
-abbrev listens : Part
-listens = record no_part { status = 15; features = 2; queue_size = 8; statistics = queue 65535 [] }
-
-buffer : Takes 2 tells (record listens { last = record { free = Some 1; total = Some 2 } })
-    (Ok (Some 0)) (record listens {
-      statistics = record { next_avail = 0; next_used = 65535; taken = asked 0 [] 0 ∷ [] };
-      last = record { free = Some 9; total = None };
-    })
-unfolding byte_at field descriptor_at bytes_of statistics_of
-buffer m2 p2 result by =
-    let left = by.takes 0 (record { addr = 4096; len = 10; writable = false } ∷ []) [] refl refl
-    (record { path = 0 ∷ []; chain = alone (descriptor_at tells 2) 16384 refl refl; pieces_are = refl })
-    refl in
-    (left.0, left.1, by.memory)
 
 -- ---- each answer says its state
 
@@ -133,26 +113,16 @@ leaves : (p2 : Part) → (TakeMeans 0 mem busy p2 (Ok None) → p2 ≡ busy)
     × (TakeMeans 2 mem told p2 (Err Busy) → p2 ≡ told)
 leaves p2 = (λ means. means.1, λ means. means.1, λ means. means.1)
 
-is_not_busy : (p2 : Part) → TakeMeans 0 mem busy p2 (Err Busy) → ⊥
-is_not_busy p2 means = (let wrong : None ≡ Some Busy = means.0 in absurd cc)
+-- what isn't so would make two refusals alike
+is_not_so : (p2 : Part) → (TakeMeans 0 mem busy p2 (Err Busy) → None ≡ Some Busy)
+    × (TakeMeans 2 mem told p2 (Ok None) → Some Busy ≡ None)
+    × (TakeMeans 3 mem busy p2 (Ok (Some 0)) → Some NoQueue ≡ None)
+    × (TakeMeans 3 mem busy p2 (Err (Broken 7)) → Some NoQueue ≡ None)
+is_not_so p2 = (λ means. means.0, λ means. means.0, λ means. means.0, λ means. means.0)
 
-is_busy : (p2 : Part) → TakeMeans 2 mem told p2 (Ok None) → ⊥
-is_busy p2 means = (let wrong : Some Busy ≡ None = means.0 in absurd cc)
-
-of_no_queue : (p2 : Part) → (TakeMeans 3 mem busy p2 (Ok (Some 0)) → ⊥)
-    × (TakeMeans 3 mem busy p2 (Err (Broken 7)) → ⊥)
-of_no_queue p2 = (
-  λ means. (let wrong : Some NoQueue ≡ None = means.0 in absurd cc),
-  λ means. (let wrong : Some NoQueue ≡ None = means.0 in absurd cc),
-)
-
-not_there : (p2 : Part) → TakeMeans 0 zeros (at 0) p2 (Ok (Some 0)) → ⊥
-unfolding byte_at field
-not_there p2 (may, (pages, next, part)) =
-    let none : Result (Option ℕ) ChainFault = Ok None in
-    (let wrong : none ≡ Ok (Some 0) = next.next in absurd cc)
-
-there : (p2 : Part) → TakeMeans 0 names (at 65535) p2 (Ok (Some 0))
-    → (pages : List ℕ) × (pieces : List Piece) × ChainGives (descriptor_at names 0) 8 73728 0 pieces
-    × (request_of 0 8 names pieces ≡ Ok pages) × (p2 ≡ with_request pages)
-there p2 (may, (pages, next, part)) = (pages, next.pieces, next.chain, next.request, part)
+said : (p2 : Part) → TakeMeans 0 names (at 65535) p2 (Ok (Some 3)) → (pages : List ℕ)
+    × (pieces : List Piece) × (next_available 0 names (at 65535) ≡ Ok (Some 3))
+    × ChainGives (descriptor_at names 0) 8 73728 3 pieces
+    × (request_of 0 8 names pieces ≡ Ok pages) × (p2 ≡ with_request 3 pages)
+said p2 (may, (pages, next, part)) =
+    (pages, next.pieces, next.next, next.chain, next.request, part)
