@@ -72,7 +72,5 @@ comes_back p2 other = (λ back. (back.1, back.2), λ back. back.0, λ back. (bac
 
 unused : (IsUnused mem no_part → mem ≡ [])
     × (IsUnused [] (keeper (7 ∷ []) []) → (keeper (7 ∷ []) []).loose ≡ [])
-unused = (λ is. is.no_memory, λ is. is.no_frames)
-
-not_plain : IsPlain has_four → (true ≡ false) × (has_four.own ≡ [])
-not_plain plain = (plain.keeps, plain.own)
+    × (IsPlain has_four → (true ≡ false) × (has_four.own ≡ []))
+unused = (λ is. is.no_memory, λ is. is.no_frames, λ is. (is.keeps, is.own))

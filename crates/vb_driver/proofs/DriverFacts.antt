@@ -1,6 +1,7 @@
 -- What calls move and leave of a driver, worked out.
-use Rattle.std.proofs.Common.{◌≡◌, true, false, [], ◌∷◌, map, refl, ap, arith}
+use Rattle.std.proofs.Common.{◌≡◌, true, false, [], ◌∷◌, ◌++◌, map, refl, ap, arith}
 use Rattle.std.specs.Prelude.{Some, None, replicate}
+use Rattle.vb_model.specs.declared.places.PlaceCounts.{PlaceCounts}
 use Rattle.vb_model.specs.declared.places.Place.TheVariants.{Reserved, Free, Used, Giving, Lent}
 use Rattle.vb_model.specs.declared.places.Place.TheVariants.{Taking, Stranded, Reporting}
 use Rattle.vb_model.specs.declared.replies.Refusal.TheVariants.{BadOrder, BadCpu, NoPages, NotHeld}
@@ -11,7 +12,8 @@ use Rattle.vb_pages.specs.declared.fault.PageFault.TheVariants.{BadOrder as Orde
 use Rattle.vb_pages.specs.declared.fault.PageFault.TheVariants.{BadCpu as NoSuchCpu}
 use Rattle.vb_pages.specs.declared.fault.PageFault.TheVariants.{NoPages as NoFreeBlock}
 use Rattle.vb_pages.specs.declared.fault.PageFault.TheVariants.{NotHeld as NoSuchBlock}
-use Rattle.vb_driver.specs.{Areas.{refusal_of, is_free_block, is_covered}, Coding.buffer_of}
+use Rattle.vb_driver.specs.{Areas.{refusal_of, is_free_block, is_covered}}
+use Rattle.vb_driver.specs.{Coding.buffer_of, Unchanged.AreCountsOf}
 use Rattle.vb_driver.specs.{Coding.statistics_buffer, Places.{number_of, is_at, first_place}}
 use Rattle.vb_driver.specs.{Places.AreLentBits, Reaps.{pages_sent, without_request, places_after}}
 use Rattle.vb_driver.specs.{Reaps.{with_actual, after_refusal, next_of}, Requests.numbers_extent}
@@ -37,14 +39,23 @@ at_no_other = refl
 first : map (first_place 2) (0 ∷ 1 ∷ 2 ∷ []) ≡ Reserved ∷ Reserved ∷ Free ∷ []
 first = refl
 
-a_word_for_a_page : AreLentBits (Free ∷ []) [] → ⊥
-a_word_for_a_page bits = omega (arith, bits.fewest)
+-- a page has one word of bits, and just a lent one has a bit that is 1
+no_lent_bits : (AreLentBits (Free ∷ []) [] → ⊥) × (AreLentBits (Free ∷ []) (0 ∷ 0 ∷ []) → ⊥)
+    × (AreLentBits (Free ∷ []) (1 ∷ []) → true ≡ false)
+    × (AreLentBits (Lent ∷ []) (0 ∷ []) → false ≡ true)
+no_lent_bits = (
+  λ bits. omega (arith, bits.fewest),
+  λ bits. omega (arith, bits.fewest),
+  λ bits. bits.tells 0 0 (omega arith),
+  λ bits. bits.tells 0 0 (omega arith),
+)
 
-no_word_more : AreLentBits (Free ∷ []) (0 ∷ 0 ∷ []) → ⊥
-no_word_more bits = omega (arith, bits.fewest)
-
-unlent : AreLentBits (Free ∷ []) (1 ∷ []) → ⊥
-unlent bits = (let wrong : true ≡ false = bits.tells 0 0 (omega arith) in absurd cc)
+counted : (c : PlaceCounts) → AreCountsOf c (Free ∷ [] ++ replicate 2 Used ++ replicate 3 Giving
+    ++ replicate 4 Lent ++ replicate 5 Taking ++ replicate 6 Stranded ++ replicate 7 Reporting)
+    → (c.free ≡ 1) × (c.used ≡ 2) × (c.giving ≡ 3) × (c.lent ≡ 4) × (c.taking ≡ 5)
+    × (c.stranded ≡ 6) × (c.reporting ≡ 7)
+counted c are =
+    (are.free, are.used, are.giving, are.lent, are.taking, are.stranded, are.reporting)
 
 -- ---- what stands in memory: 4 bytes a number, 1024 a request, in pages 4 to 7 and 8 to 11
 
