@@ -52,7 +52,7 @@ popped_none : PopsLoose (record busy { loose = 7 ∷ [] }) (record busy { loose 
 popped_none none = omega (arith, ap (λ (l : List ℕ). length l) none.0)
 
 -- a device with these frames loose and these of its own out
-abbrev keeper : List ℕ → List ℕ → Part
+abbrev pub keeper : List ℕ → List ℕ → Part
 keeper loose own = record busy { loose = loose; keeps = true; own = own }
 
 -- another's is given out, and one of the device's own that was met is taken back; or it isn't yet
@@ -67,33 +67,30 @@ another_given_first = grind arith
 own_taken_back : HandsBack (keeper (9 ∷ []) (4 ∷ 9 ∷ [])) (keeper [] (4 ∷ [])) None
 own_taken_back = grind arith
 
--- an own one isn't given out, whether it is out still or not
-own_given : HandsBack (keeper (9 ∷ []) (9 ∷ [])) (keeper [] (9 ∷ []))
-    (Some (record { number = 9; bytes = [] })) → ⊥
-own_given back = (let wrong : true ≡ false = back.1 in absurd cc)
+-- an own one isn't given out, whether it is out still or not; another's isn't kept, nor an own one
+-- lost or forgotten while it is out; nor is one given out that wasn't loose
+not_handed_back : (HandsBack (keeper (9 ∷ []) (9 ∷ [])) (keeper [] (9 ∷ []))
+    (Some (record { number = 9; bytes = [] })) → true ≡ false)
+    × (HandsBack (keeper (9 ∷ []) (9 ∷ [])) (keeper [] [])
+    (Some (record { number = 9; bytes = [] })) → ⊥)
+    × (HandsBack (keeper (7 ∷ []) (9 ∷ [])) (keeper [] (9 ∷ [])) None → ⊥)
+    × (HandsBack (keeper (9 ∷ []) (9 ∷ [])) (keeper [] (9 ∷ [])) None → ⊥)
+    × (HandsBack (keeper [] (9 ∷ [])) (keeper [] []) None → ⊥)
+    × (HandsBack (keeper [] (9 ∷ [])) (keeper [] (9 ∷ []))
+    (Some (record { number = 7; bytes = [] })) → ⊥)
+not_handed_back = (
+  λ back. back.1,
+  λ back. omega (arith, back.0.balance 9),
+  λ back. omega (arith, back.0.balance 7),
+  λ back. omega (arith, back.0.balance 9),
+  λ back. omega (arith, back.0.balance 9),
+  λ back. omega (arith, back.0.balance 7),
+)
 
-own_given_and_gone : HandsBack (keeper (9 ∷ []) (9 ∷ [])) (keeper [] [])
-    (Some (record { number = 9; bytes = [] })) → ⊥
-own_given_and_gone back = omega (arith, back.0.balance 9)
-
--- another's isn't kept, nor an own one lost or forgotten while it is out
-another_kept : HandsBack (keeper (7 ∷ []) (9 ∷ [])) (keeper [] (9 ∷ [])) None → ⊥
-another_kept back = omega (arith, back.0.balance 7)
-
-own_lost : HandsBack (keeper (9 ∷ []) (9 ∷ [])) (keeper [] (9 ∷ [])) None → ⊥
-own_lost back = omega (arith, back.0.balance 9)
-
-own_forgotten : HandsBack (keeper [] (9 ∷ [])) (keeper [] []) None → ⊥
-own_forgotten back = omega (arith, back.0.balance 9)
-
--- nor is one given out that wasn't loose, nor does another come to be loose and own
+-- and no other comes to be loose and own
 own_changed : HandsBack (keeper (4 ∷ 7 ∷ []) (4 ∷ [])) (keeper (9 ∷ []) (9 ∷ []))
-    (Some (record { number = 7; bytes = [] })) → ⊥
-own_changed back = (let wrong : false ≡ true = back.0.own 9 refl in absurd cc)
-
-none_loose : HandsBack (keeper [] (9 ∷ [])) (keeper [] (9 ∷ []))
-    (Some (record { number = 7; bytes = [] })) → ⊥
-none_loose back = omega (arith, back.0.balance 7)
+    (Some (record { number = 7; bytes = [] })) → false ≡ true
+own_changed back = back.0.own 9 refl
 
 -- ---- a queue: the index goes round, a new request is the last, and those behind a used one close up
 
@@ -144,14 +141,9 @@ own = refl
 one_less : without (4 ∷ 6 ∷ 4 ∷ []) 4 ≡ 6 ∷ []
 one_less = refl
 
-asks_the_host : Claims busy busy AskHost
-asks_the_host = (refl, refl)
-
-gives_none_of_its_own : Claims busy busy NoFrame → ⊥
-gives_none_of_its_own claims = (let wrong : false ≡ true = claims.0 in absurd cc)
+asks_the_host : Claims busy busy AskHost × (Claims busy busy NoFrame → false ≡ true)
+asks_the_host = ((refl, refl), λ claims. claims.0)
 
 comes_back : PutsBack busy busy (record { number = 7; bytes = [] }) (Some (record { number = 7; bytes = [] }))
-comes_back = (refl, refl, refl)
-
-keeps_of_another : PutsBack busy busy (record { number = 7; bytes = [] }) None → ⊥
-keeps_of_another back = (let wrong : false ≡ true = back.0 in absurd cc)
+    × (PutsBack busy busy (record { number = 7; bytes = [] }) None → false ≡ true)
+comes_back = ((refl, refl, refl), λ back. back.0)

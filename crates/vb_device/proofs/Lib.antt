@@ -13,3 +13,5 @@ pub mod Visits
 pub mod OwnFrames
 mod CallFacts
 mod StepFacts
+mod TakeFacts
+mod OwnFacts

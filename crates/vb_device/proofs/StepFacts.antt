@@ -1,26 +1,28 @@
 -- What the records of a device's calls say of one state: the answer, and what is left.
-use Rattle.std.proofs.Common.{◌≡◌, ℕ, zero, suc, ◌+◌, ◌<◌, true, false, List, [], ◌∷◌, refl, arith}
-use Rattle.std.specs.Prelude.{Option, Some, None, Result, Ok, Err, Bool, IsOk, slice_index}
+use Rattle.std.proofs.Common.{◌≡◌, ℕ, ◌+◌, true, false, List, [], ◌∷◌, refl}
+use Rattle.std.specs.Prelude.{Option, Some, None, Result, Ok, Err, Bool, IsOk}
 use Rattle.vb_model.specs.Tests.{marked}
 use Rattle.vb_model.specs.declared.replies.Refusal.{Refusal}
-use Rattle.vb_model.specs.declared.replies.Refusal.TheVariants.{Broken, Busy, NoFeature, NoQueue}
-use Rattle.vb_model.specs.declared.replies.Refusal.TheVariants.{NotBallooned, NotReady}
+use Rattle.vb_model.specs.declared.replies.Refusal.TheVariants.{NoFeature, NotBallooned, NotReady}
 use Rattle.vb_model.specs.declared.replies.Refusal.TheVariants.{NotTaken, NotWorked}
-use Rattle.vb_chain.specs.declared.fault.ChainFault.TheVariants.{IndexJump, BadLength}
-use Rattle.vb_chain.specs.{Chain.{IsChain, fault_at}, Rules.has_next, Table.descriptor_at}
-use Rattle.vb_request.specs.Request.{bytes_of, page_request}
-use Rattle.vb_ram.specs.{Pages.{Pages, byte_at, field}, Part.{Part, no_part, no_queue}}
+use Rattle.vb_ram.specs.{Pages.{Pages, field}, Part.{Part, no_part, no_queue}}
+use Rattle.vb_ring.specs.Frame.{SameOutside}
 use Rattle.vb_device.specs.declared.worked.Worked.{Worked}
-use Rattle.vb_device.specs.Calls.{SameFrames, DetachesBy, TakeMeans, TakesBy, WorksBy, SweepsBy}
-use Rattle.vb_device.specs.Calls.{FinishesBy, AsksBy}
+use Rattle.vb_device.specs.Calls.{SameFrames, DetachesBy, WorksBy, SweepsBy, FinishesBy, AsksBy}
 use Rattle.vb_device.proofs.CallFacts.{asked, queue, mem, busy}
 
 -- MUST_TELL_HOST and STATS_VQ were accepted, and the driver's buffer of statistics is taken.
-abbrev told : Part
+abbrev pub told : Part
 told = record busy { features = 3; statistics = queue 3 (asked 2 [] 0 ∷ []) }
 
 abbrev bare : List ℕ → Pages
 bare pages = marked pages None mem
+
+-- A call on that memory answers so, leaves this part, and memory as it was.
+abbrev Answers : (T : Type 0) → (Pages → Part → Result T Refusal → Type 0) → Part → Result T Refusal
+    → Type 0
+Answers T Does part answer = (m2 : Pages) (p2 : Part) (result : Result T Refusal) → Does m2 p2 result
+    → (result ≡ answer) × (p2 ≡ part) × (m2 ≡ mem)
 
 -- ---- work: the oldest page of an inflate, then of a report, then none; a stopped device refuses
 
@@ -49,14 +51,16 @@ works_at_a_report m2 p2 result by =
     let visits = by.report 1 refl refl refl in
     (visits.answer, visits.memory, visits.part, visits.loose)
 
-idles : (m2 : Pages) (p2 : Part) (result : Result (Option Worked) Refusal)
-    → WorksBy mem m2 (record busy { paced = false }) p2 result
-    → (result ≡ Ok None) × (p2 ≡ record busy { paced = false }) × (m2 ≡ mem)
+abbrev immediate : Part
+immediate = record busy { paced = false }
+
+idles : Answers _ (λ m2 p2 result. WorksBy mem m2 immediate p2 result) immediate (Ok None)
 idles m2 p2 result by = by.idle refl refl refl
 
-works_before_ready : (m2 : Pages) (p2 : Part) (result : Result (Option Worked) Refusal)
-    → WorksBy mem m2 (record busy { status = 3 }) p2 result
-    → (result ≡ Err NotReady) × (p2 ≡ record busy { status = 3 }) × (m2 ≡ mem)
+abbrev new : Part
+new = record busy { status = 3 }
+
+works_before_ready : Answers _ (λ m2 p2 result. WorksBy mem m2 new p2 result) new (Err NotReady)
 works_before_ready m2 p2 result by = by.refused NotReady refl
 
 -- ---- a sweep: of a ballooned page, by a device whose driver tells the host
@@ -66,12 +70,10 @@ sweeps : (m2 : Pages) (p2 : Part) (result : Result Bool Refusal) → SweepsBy 1 
     × SameFrames p2.loose (7 ∷ [])
 sweeps m2 p2 result by = (by.answer refl, by.memory refl, by.part refl, by.loose refl)
 
-sweeps_untold : (m2 : Pages) (p2 : Part) (result : Result Bool Refusal)
-    → SweepsBy 1 mem m2 busy p2 result → (result ≡ Err NoFeature) × (p2 ≡ busy) × (m2 ≡ mem)
+sweeps_untold : Answers _ (λ m2 p2 result. SweepsBy 1 mem m2 busy p2 result) busy (Err NoFeature)
 sweeps_untold m2 p2 result by = by.refused NoFeature refl
 
-sweeps_another : (m2 : Pages) (p2 : Part) (result : Result Bool Refusal)
-    → SweepsBy 3 mem m2 told p2 result → (result ≡ Err NotBallooned) × (p2 ≡ told) × (m2 ≡ mem)
+sweeps_another : Answers _ (λ m2 p2 result. SweepsBy 3 mem m2 told p2 result) told (Err NotBallooned)
 sweeps_another m2 p2 result by = by.refused NotBallooned refl
 
 -- ---- a finish, and a buffer that is asked for anew: the request is out, and its head is told
@@ -91,13 +93,10 @@ finishes : (m2 : Pages) (p2 : Part) (result : Result ℕ Refusal)
 finishes m2 p2 result by =
     let uses = by.finished (asked 1 (1 ∷ []) 1) refl refl in (uses.answer, uses.part, uses.loose)
 
-finishes_too_early : (m2 : Pages) (p2 : Part) (result : Result ℕ Refusal)
-    → FinishesBy 0 1 mem m2 busy p2 result
-    → (result ≡ Err NotWorked) × (p2 ≡ busy) × (m2 ≡ mem)
-finishes_too_early m2 p2 result by = by.refused NotWorked refl
+finishes_early : Answers _ (λ m2 p2 result. FinishesBy 0 1 mem m2 busy p2 result) busy (Err NotWorked)
+finishes_early m2 p2 result by = by.refused NotWorked refl
 
-finishes_none : (m2 : Pages) (p2 : Part) (result : Result ℕ Refusal)
-    → FinishesBy 1 0 mem m2 busy p2 result → (result ≡ Err NotTaken) × (p2 ≡ busy) × (m2 ≡ mem)
+finishes_none : Answers _ (λ m2 p2 result. FinishesBy 1 0 mem m2 busy p2 result) busy (Err NotTaken)
 finishes_none m2 p2 result by = by.refused NotTaken refl
 
 asks : (m2 : Pages) (p2 : Part) (result : Result ℕ Refusal) → AsksBy mem m2 told p2 result
@@ -105,9 +104,31 @@ asks : (m2 : Pages) (p2 : Part) (result : Result ℕ Refusal) → AsksBy mem m2 
     × (p2 ≡ record told { statistics = record { next_avail = 3; next_used = 4; taken = [] } })
 asks m2 p2 result by = (by.answers refl, by.part refl)
 
-asks_without_a_buffer : (m2 : Pages) (p2 : Part) (result : Result ℕ Refusal)
-    → AsksBy mem m2 busy p2 result → (result ≡ Err NotTaken) × (p2 ≡ busy) × (m2 ≡ mem)
+asks_without_a_buffer : Answers ℕ (λ m2 p2 result. AsksBy mem m2 busy p2 result) busy (Err NotTaken)
 asks_without_a_buffer m2 p2 result by = by.refused NotTaken refl
+
+-- ---- what they write to the used ring at a page: the head at this place, length 0 and the index
+
+abbrev Used : Pages → Pages → ℕ → ℕ → ℕ → ℕ → Type 0
+Used m1 m2 page place head index =
+    (field 4 m2 page place ≡ head) × (field 4 m2 page (place + 4) ≡ 0)
+    × (field 2 m2 page 154 ≡ index)
+    × SameOutside m1 m2 (record { page = page; from = place; to = place + 8 }
+    ∷ record { page = page; from = 154; to = 156 } ∷ [])
+
+-- an inflate's page loses its frame before, and the index goes round
+uses_a_request : (m2 : Pages) (p2 : Part) (result : Result ℕ Refusal)
+    → FinishesBy 0 0 mem m2 (record busy { queue_size = 8 }) p2 result
+    → Used (bare (1 ∷ [])) m2 0 212 1 0
+uses_a_request m2 p2 result by =
+    let uses = by.finished (asked 1 (1 ∷ []) 1) refl refl in
+    let puts = uses.memory.puts in (puts.id, puts.len, puts.index, puts.rest)
+
+uses_a_buffer : (m2 : Pages) (p2 : Part) (result : Result ℕ Refusal)
+    → AsksBy mem m2 (record told { queue_size = 8 }) p2 result → Used mem m2 2 180 2 4
+uses_a_buffer m2 p2 result by =
+    let puts = (by.memory (asked 2 [] 0) refl refl).puts in
+    (puts.id, puts.len, puts.index, puts.rest)
 
 -- ---- a guest's end: no page keeps a frame, and the target stays
 
@@ -121,74 +142,3 @@ detaches : (m2 : Pages) (p2 : Part) → DetachesBy mem m2 (record busy { target 
     })
     × SameFrames p2.loose (7 ∷ 9 ∷ [])
 detaches m2 p2 by = (by.memory, by.part, by.loose)
-
--- ---- a take, of memory that reads as zeros: its index is 0, and descriptor 0 a chain of no bytes
-
-abbrev zeros : Pages
-zeros = None ∷ None ∷ None ∷ None ∷ []
-
--- So many entries were taken.
-abbrev at : ℕ → Part
-at taken = record no_part { status = 15; queue_size = 8; inflate = queue taken [] }
-
-takes_nothing_more : (m2 : Pages) (p2 : Part) (result : Result (Option ℕ) Refusal)
-    → TakesBy 0 zeros m2 (at 0) p2 result → (result ≡ Ok None) × (p2 ≡ at 0) × (m2 ≡ zeros)
-unfolding byte_at field
-takes_nothing_more m2 p2 result by = (let left = by.empty refl refl in (left.0, left.1, by.memory))
-
-takes_from_an_index_that_jumped : (m2 : Pages) (p2 : Part) (result : Result (Option ℕ) Refusal)
-    → TakesBy 0 zeros m2 (at 60000) p2 result
-    → (result ≡ Err (Broken 7)) × (p2 ≡ record (at 60000) { status = 79 })
-unfolding byte_at field
-takes_from_an_index_that_jumped m2 p2 result by =
-    let left = by.jump IndexJump refl refl in (left.answer, left.part)
-
-takes_a_chain_of_no_bytes : (m2 : Pages) (p2 : Part) (result : Result (Option ℕ) Refusal)
-    → TakesBy 0 zeros m2 (at 65535) p2 result
-    → (result ≡ Err (Broken 8)) × (p2 ≡ record (at 65535) { status = 79 })
-unfolding byte_at field descriptor_at bytes_of page_request
-takes_a_chain_of_no_bytes m2 p2 result by =
-    let left = by.wrong 0 (record { addr = 0; len = 0; writable = false } ∷ []) BadLength
-    refl refl (record { path = 0 ∷ []; chain = alone; pieces_are = refl }) refl in
-    (left.answer, left.part)
-  where
-    alone : IsChain (descriptor_at zeros 0) 8 16384 0 (0 ∷ [])
-    alone = record {
-      inside = omega arith;
-      is_path = record {
-        some = omega arith;
-        begins = refl;
-        onward = (λ k lt. absurd (omega (arith, lt)));
-        linked = (λ k lt. absurd (omega (arith, lt)));
-      };
-      short = omega arith;
-      sound = sound;
-      ends = last;
-    } where
-      sound : (k : ℕ) → k < 1 → fault_at (descriptor_at zeros 0) 8 16384 (0 ∷ []) k ≡ None
-      sound zero lt = refl
-      sound (suc k) lt = absurd (omega (arith, lt))
-
-      last : (k : ℕ) → k + 1 ≡ 1 → has_next (descriptor_at zeros 0 (slice_index (0 ∷ []) k)) ≡ false
-      last zero e = refl
-      last (suc k) e = absurd (omega (arith, e))
-
--- ---- each answer of a take says its state
-
-refuses_a_take : (m2 : Pages) (p2 : Part) (result : Result (Option ℕ) Refusal)
-    → TakesBy 3 mem m2 busy p2 result → (result ≡ Err NoQueue) × (p2 ≡ busy) × (m2 ≡ mem)
-refuses_a_take m2 p2 result by =
-    let left = by.refused NoQueue refl in (left.0, left.1, by.memory)
-
-takes_none : (p2 : Part) → TakeMeans 0 mem busy p2 (Ok None) → p2 ≡ busy
-takes_none p2 means = means.1
-
-breaks : (p2 : Part) → TakeMeans 0 mem busy p2 (Err (Broken 7))
-    → p2 ≡ record busy { status = 79 }
-breaks p2 means = means.1
-
-is_not_busy : (p2 : Part) → TakeMeans 0 mem busy p2 (Err Busy) → ⊥
-is_not_busy p2 means = (let wrong : None ≡ Some Busy = means.0 in absurd cc)
-
-is_busy : (p2 : Part) → TakeMeans 2 mem told p2 (Ok None) → ⊥
-is_busy p2 means = (let wrong : Some Busy ≡ None = means.0 in absurd cc)

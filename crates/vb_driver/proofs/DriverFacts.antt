@@ -1,21 +1,24 @@
 -- What calls move and leave of a driver, worked out.
-use Rattle.std.proofs.Common.{◌≡◌, true, false, [], ◌∷◌, map, refl, ap, arith}
-use Rattle.{std.specs.Prelude.{Some, None, replicate}, vb_ring.specs.declared.layout.Layout.Layout}
+use Rattle.std.proofs.Common.{◌≡◌, true, false, [], ◌∷◌, map, refl, ap, arith, ◌++◌}
+use Rattle.std.specs.Prelude.{Some, None, replicate}
+use Rattle.vb_ring.specs.declared.layout.Layout.{Layout}
+use Rattle.vb_model.{specs.declared.places.PlaceCounts.PlaceCounts, specs.Pages.block_at}
 use Rattle.vb_model.specs.declared.places.Place.TheVariants.{Reserved, Free, Used, Giving, Lent}
 use Rattle.vb_model.specs.declared.places.Place.TheVariants.{Taking, Stranded, Reporting}
 use Rattle.vb_model.specs.declared.replies.Refusal.TheVariants.{BadOrder, BadCpu, NoPages, NotHeld}
 use Rattle.vb_model.specs.declared.replies.Refusal.TheVariants.{RingBroken, NotReady}
-use Rattle.{vb_model.specs.Pages.block_at, vb_ram.specs.Part.no_part, vb_driver.specs.State.IsQueue}
+use Rattle.vb_ram.specs.Part.{no_part}
+use Rattle.vb_driver.specs.State.{IsQueue, room, fresh_side, AreRequests, DriverState, fresh_driver}
+use Rattle.vb_driver.specs.State.{given_away, figures_of, pages_named}
+use Rattle.vb_driver.{specs.Areas.{refusal_of, is_free_block, is_covered}, specs.Reaps.places_after}
+use Rattle.vb_driver.specs.Reaps.{with_actual, after_refusal, next_of, pages_sent, without_request}
+use Rattle.vb_driver.{specs.Coding.{buffer_of, statistics_buffer}, specs.Unchanged.AreCountsOf}
+use Rattle.vb_driver.specs.Places.{number_of, is_at, first_place, AreLentBits}
+use Rattle.vb_driver.specs.Requests.{numbers_extent, figures_extent, stranded_first}
 use Rattle.vb_pages.specs.declared.fault.PageFault.TheVariants.{BadOrder as OrderTooLarge}
 use Rattle.vb_pages.specs.declared.fault.PageFault.TheVariants.{BadCpu as NoSuchCpu}
 use Rattle.vb_pages.specs.declared.fault.PageFault.TheVariants.{NoPages as NoFreeBlock}
 use Rattle.vb_pages.specs.declared.fault.PageFault.TheVariants.{NotHeld as NoSuchBlock}
-use Rattle.vb_driver.specs.{Areas.{refusal_of, is_free_block, is_covered}, State.{room, fresh_side}}
-use Rattle.vb_driver.specs.{Coding.{buffer_of, statistics_buffer}, Reaps.{after_refusal, next_of}}
-use Rattle.vb_driver.specs.{Places.{number_of, is_at, first_place, AreLentBits}, State.AreRequests}
-use Rattle.vb_driver.specs.Reaps.{pages_sent, without_request, places_after, with_actual}
-use Rattle.vb_driver.specs.Requests.{numbers_extent, figures_extent, stranded_first}
-use Rattle.vb_driver.specs.State.{DriverState, fresh_driver, given_away, figures_of, pages_named}
 
 -- ---- places
 
@@ -34,14 +37,23 @@ at_no_other = refl
 first : map (first_place 2) (0 ∷ 1 ∷ 2 ∷ []) ≡ Reserved ∷ Reserved ∷ Free ∷ []
 first = refl
 
-a_word_for_a_page : AreLentBits (Free ∷ []) [] → ⊥
-a_word_for_a_page bits = omega (arith, bits.fewest)
+-- a page has one word of bits, and just a lent one has a bit that is 1
+no_lent_bits : (AreLentBits (Free ∷ []) [] → ⊥) × (AreLentBits (Free ∷ []) (0 ∷ 0 ∷ []) → ⊥)
+    × (AreLentBits (Free ∷ []) (1 ∷ []) → true ≡ false)
+    × (AreLentBits (Lent ∷ []) (0 ∷ []) → false ≡ true)
+no_lent_bits = (
+  λ bits. omega (arith, bits.fewest),
+  λ bits. omega (arith, bits.fewest),
+  λ bits. bits.tells 0 0 (omega arith),
+  λ bits. bits.tells 0 0 (omega arith),
+)
 
-no_word_more : AreLentBits (Free ∷ []) (0 ∷ 0 ∷ []) → ⊥
-no_word_more bits = omega (arith, bits.fewest)
-
-unlent : AreLentBits (Free ∷ []) (1 ∷ []) → ⊥
-unlent bits = (let wrong : true ≡ false = bits.tells 0 0 (omega arith) in absurd cc)
+counted : (c : PlaceCounts) → AreCountsOf c (Free ∷ [] ++ replicate 2 Used ++ replicate 3 Giving
+    ++ replicate 4 Lent ++ replicate 5 Taking ++ replicate 6 Stranded ++ replicate 7 Reporting)
+    → (c.free ≡ 1) × (c.used ≡ 2) × (c.giving ≡ 3) × (c.lent ≡ 4) × (c.taking ≡ 5)
+    × (c.stranded ≡ 6) × (c.reporting ≡ 7)
+counted c are =
+    (are.free, are.used, are.giving, are.lent, are.taking, are.stranded, are.reporting)
 
 -- ---- what stands in memory: 4 bytes a number, 1024 a request, in pages 4 to 7 and 8 to 11
 

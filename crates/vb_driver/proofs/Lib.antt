@@ -27,3 +27,4 @@ pub mod ReportMoves
 pub mod Restarting
 mod DriverFacts
 mod StepFacts
+mod PostFacts

@@ -1,15 +1,22 @@
 -- What the exact records of a guest's calls say, of bytes, frames and lives.
 use Rattle.std.proofs.Common.{◌≡◌, ◌⊎◌, ℕ, true, false, List, [], ◌∷◌, refl, arith, ap}
 use Rattle.std.specs.Prelude.{Bool, Option, Some, None, Result, Ok, Err, IsOk, is_some}
-use Rattle.vb_model.specs.declared.calls.Claim.{Claim, TheVariants.{GaveNoFrame, GaveNoMemory}}
+use Rattle.vb_model.specs.declared.calls.Claim.{Claim, TheVariants.{Gave, GaveNoFrame}}
+use Rattle.vb_model.specs.declared.calls.Claim.TheVariants.{GaveNoMemory}
+use Rattle.vb_model.specs.declared.calls.Call.TheVariants.{Alloc, Free as FreeBlock, Read, Write}
+use Rattle.vb_model.specs.declared.calls.Call.TheVariants.{Scribble, Take, Work, Finish, Sweep, Ask}
+use Rattle.vb_model.specs.declared.{calls.Call.TheVariants.SetTarget, replies.Reply.{Reply}}
 use Rattle.vb_model.specs.declared.places.Place.{Place, TheVariants.{Used, Free}}
 use Rattle.vb_model.specs.declared.replies.Refusal.{Refusal, TheVariants.{NoFrame, NoMemory}}
 use Rattle.vb_model.specs.declared.replies.Refusal.TheVariants.{AlreadyUp, NotHeld, OutOfRam}
-use Rattle.vb_ram.specs.{Pages.{Pages, Wrote}, Part.{Part, no_part}}
+use Rattle.vb_ram.{specs.Pages.{Pages, Wrote, Supplied}, specs.Part.{Part, no_part}}
 use Rattle.vb_frames.specs.declared.keeper.Refused.TheVariants.{NoFrame as None_left, Memory}
-use Rattle.{vb_frames.specs.Out.TableAnswers, vb_driver.specs.State.{DriverState, fresh_driver}}
+use Rattle.vb_frames.specs.Out.{TableAnswers}
+use Rattle.vb_driver.{specs.State.{DriverState, fresh_driver}, specs.Calls.{InitsBy, Unchanged}}
+use Rattle.vb_model.specs.declared.replies.Refusal.TheVariants.{NoFrame, NoMemory}
 use Rattle.vb_guest.specs.{Supply.{Supply, IsClaimed}, Exact.{IsHandedBack, IsReset, KeepsFrames}}
-use Rattle.vb_guest.specs.Exact.{PutsBy, ReadsBy, FillsBy, Continues, InitialisesBy}
+use Rattle.vb_guest.specs.Exact.{PutsBy, ReadsBy, FillsBy, Continues, InitialisesBy, IsQuiet}
+use Rattle.vb_guest.specs.{Dispatch.CallsBy, Promises.Moment}
 
 -- page 1 has a frame
 abbrev mem : Pages
@@ -23,35 +30,33 @@ asks = record { keeps = false; own = []; out = true ∷ false ∷ [] }
 
 -- ---- bytes that are read
 
-reads : (result : Result (List ℕ) Refusal) → ReadsBy mem places 1 1 2 result
-    → (result ≡ Ok (2 ∷ 3 ∷ [])) ⊎ (result ≡ Err NoMemory)
-reads result by = by.bytes refl (record { page = omega arith; bytes = omega arith })
-
-reads_what_is_not_held : (result : Result (List ℕ) Refusal) → ReadsBy mem places 2 0 1 result
-    → result ≡ Err NotHeld
-reads_what_is_not_held result by = by.unheld refl
-
-reads_past_its_page : (result : Result (List ℕ) Refusal) → ReadsBy mem places 1 4095 2 result
-    → result ≡ Err OutOfRam
-reads_past_its_page result by = by.outside refl (λ covers. omega (arith, covers.bytes))
+reads : (result : Result (List ℕ) Refusal)
+    → (ReadsBy mem places 1 1 2 result → (result ≡ Ok (2 ∷ 3 ∷ [])) ⊎ (result ≡ Err NoMemory))
+    × (ReadsBy mem places 2 0 1 result → result ≡ Err NotHeld)
+    × (ReadsBy mem places 1 4095 2 result → result ≡ Err OutOfRam)
+reads result = (
+  λ by. by.bytes refl (record { page = omega arith; bytes = omega arith }),
+  λ by. by.unheld refl,
+  λ by. by.outside refl (λ covers. omega (arith, covers.bytes)),
+)
 
 -- ---- bytes that are written, past the end, none, over a frame, and where there is none
 
-writes_past_the_end : (s2 : Supply) (m2 : Pages) (p2 : Part) (claims : List Claim)
-    (result : Result Bool Refusal)
-    → PutsBy TableAnswers asks s2 mem m2 no_part p2 claims 3 0 (5 ∷ []) result
-    → (result ≡ Err OutOfRam) × (s2 ≡ asks) × (m2 ≡ mem) × (p2 ≡ no_part) × (claims ≡ [])
-writes_past_the_end s2 m2 p2 claims result by =
-    let left = by.outside (λ covers. omega (arith, covers.page)) in
-    (left.0, left.1.supply, left.1.mem, left.1.part, left.1.none)
-
 writes_nothing : (s2 : Supply) (m2 : Pages) (p2 : Part) (claims : List Claim)
     (result : Result Bool Refusal)
-    → PutsBy TableAnswers asks s2 mem m2 no_part p2 claims 0 9 [] result
-    → IsOk result × (s2 ≡ asks) × (m2 ≡ mem) × (p2 ≡ no_part) × (claims ≡ [])
-writes_nothing s2 m2 p2 claims result by =
-    let left = by.empty (record { page = omega arith; bytes = omega arith }) refl in
-    (left.0, left.1.supply, left.1.mem, left.1.part, left.1.none)
+    → (PutsBy TableAnswers asks s2 mem m2 no_part p2 claims 3 0 (5 ∷ []) result
+    → (result ≡ Err OutOfRam) × IsQuiet asks s2 mem m2 no_part p2 claims)
+    × (PutsBy TableAnswers asks s2 mem m2 no_part p2 claims 0 9 [] result
+    → IsOk result × IsQuiet asks s2 mem m2 no_part p2 claims)
+writes_nothing s2 m2 p2 claims result = (
+  λ by. by.outside (λ covers. omega (arith, covers.page)),
+  λ by. by.empty (record { page = omega arith; bytes = omega arith }) refl,
+)
+
+quiet : (s2 : Supply) (m2 : Pages) (p2 : Part) (claims : List Claim)
+    → IsQuiet asks s2 mem m2 no_part p2 claims
+    → (s2 ≡ asks) × (m2 ≡ mem) × (p2 ≡ no_part) × (claims ≡ [])
+quiet s2 m2 p2 claims is = (is.supply, is.mem, is.part, is.none)
 
 writes : (s2 : Supply) (m2 : Pages) (p2 : Part) (claims : List Claim) (result : Result Bool Refusal)
     → PutsBy TableAnswers asks s2 mem m2 no_part p2 claims 1 2 (5 ∷ []) result
@@ -68,13 +73,11 @@ writes_without_a_frame s2 m2 p2 claims result by =
     let bare = by.bare (record { page = omega arith; bytes = omega arith }) (omega arith) refl in
     (bare.claim, bare.noted, bare.claimed, bare.part, bare.fills)
 
-no_frame_left : (m2 : Pages) (result : Result Bool Refusal)
-    → FillsBy GaveNoFrame mem m2 0 2 (5 ∷ []) result → (result ≡ Err NoFrame) × (m2 ≡ mem)
-no_frame_left m2 result fills = fills
-
-no_memory_left : (m2 : Pages) (result : Result Bool Refusal)
-    → FillsBy GaveNoMemory mem m2 0 2 (5 ∷ []) result → (result ≡ Err NoMemory) × (m2 ≡ mem)
-no_memory_left m2 result fills = fills
+fills : (m2 : Pages) (result : Result Bool Refusal) → (FillsBy (Gave 1) mem m2 0 2 (5 ∷ []) result
+    → IsOk result × ((between : Pages) × Supplied mem between 0 1 × Wrote between m2 0 2 (5 ∷ [])))
+    × (FillsBy GaveNoFrame mem m2 0 2 (5 ∷ []) result → (result ≡ Err NoFrame) × (m2 ≡ mem))
+    × (FillsBy GaveNoMemory mem m2 0 2 (5 ∷ []) result → (result ≡ Err NoMemory) × (m2 ≡ mem))
+fills m2 result = (λ fills. fills, λ fills. fills, λ fills. fills)
 
 -- ---- frames that stay, and those that came back
 
@@ -92,22 +95,47 @@ a_reset new is = is
 
 -- ---- an initialisation
 
+abbrev driver : DriverState
+driver = fresh_driver 64 8 1
+
 inits_twice : (out : List Bool) (m2 : Pages) (p2 : Part) (d2 : DriverState) (claims : List Claim)
     (result : Result Bool Refusal)
     → InitialisesBy TableAnswers asks out mem m2 (record no_part { status = 15 }) p2
-    (fresh_driver 64 8 1) d2 claims 0 result
+    driver d2 claims 0 result
     → (result ≡ Err AlreadyUp) × (m2 ≡ mem) × (p2 ≡ record no_part { status = 15 })
-    × (d2 ≡ fresh_driver 64 8 1) × (claims ≡ [])
+    × (d2 ≡ driver) × (claims ≡ [])
 inits_twice out m2 p2 d2 claims result by =
     let left = by.up (λ e. omega (arith, e)) in
     (left.0, left.1.mem, left.1.part, left.1.driver, left.3)
 
-lacks_a_frame : (m2 : Pages) (p2 : Part) (d2 : DriverState) (result : Result Bool Refusal)
-    → Continues {U = Bool} (Err None_left) mem m2 no_part p2 (fresh_driver 64 8 1) d2 0 result
-    → (result ≡ Err NoFrame) × (m2 ≡ mem) × (p2 ≡ no_part) × (d2 ≡ fresh_driver 64 8 1)
-lacks_a_frame m2 p2 d2 result (is, left) = (is, left.mem, left.part, left.driver)
+continues : (m2 : Pages) (p2 : Part) (d2 : DriverState) (result : Result Bool Refusal)
+    → (Continues {U = Bool} (Ok true) mem m2 no_part p2 driver d2 1 result
+    → InitsBy mem m2 no_part p2 driver d2 1 result)
+    × (Continues {U = Bool} (Err None_left) mem m2 no_part p2 driver d2 0 result
+    → (result ≡ Err NoFrame) × Unchanged mem m2 no_part p2 driver d2)
+    × (Continues {U = Bool} (Err Memory) mem m2 no_part p2 driver d2 0 result
+    → (result ≡ Err NoMemory) × Unchanged mem m2 no_part p2 driver d2)
+continues m2 p2 d2 result = (λ on. on, λ on. on, λ on. on)
 
-lacks_memory : (m2 : Pages) (p2 : Part) (d2 : DriverState) (result : Result Bool Refusal)
-    → Continues {U = Bool} (Err Memory) mem m2 no_part p2 (fresh_driver 64 8 1) d2 0 result
-    → (result ≡ Err NoMemory) × (m2 ≡ mem) × (p2 ≡ no_part) × (d2 ≡ fresh_driver 64 8 1)
-lacks_memory m2 p2 d2 result (is, left) = (is, left.mem, left.part, left.driver)
+-- ---- what a call leaves alone: the driver, or the device, or all of it
+
+stays : (a b : Moment) (c : List Claim) (reply : Reply)
+    → ((CallsBy TableAnswers a b c (Alloc 0 0) reply → (b.mem ≡ a.mem) × (b.part ≡ a.part))
+    × (CallsBy TableAnswers a b c (FreeBlock 0 1 0) reply → (b.mem ≡ a.mem) × (b.part ≡ a.part))
+    × (CallsBy TableAnswers a b c (Read 1 0 1) reply → b ≡ a))
+    × ((CallsBy TableAnswers a b c (Write 1 0 []) reply → b.driver ≡ a.driver)
+    × (CallsBy TableAnswers a b c (Scribble 1 0 []) reply → b.driver ≡ a.driver)
+    × (CallsBy TableAnswers a b c (Take 0) reply → b.driver ≡ a.driver))
+    × ((CallsBy TableAnswers a b c Work reply → b.driver ≡ a.driver)
+    × (CallsBy TableAnswers a b c (Finish 0 0) reply → b.driver ≡ a.driver)
+    × (CallsBy TableAnswers a b c (Sweep 1) reply → b.driver ≡ a.driver))
+    × (CallsBy TableAnswers a b c Ask reply → b.driver ≡ a.driver)
+    × (CallsBy TableAnswers a b c (SetTarget 3) reply
+    → (b.mem ≡ a.mem) × (b.part ≡ record (a.part) { target = 3 }) × (b.driver ≡ a.driver))
+stays a b c reply = (
+  (λ by. by.3, λ by. by.3, λ by. by.3),
+  (λ by. by.3, λ by. by.3, λ by. by.3),
+  (λ by. by.3, λ by. by.3, λ by. by.3),
+  λ by. by.3,
+  λ by. (by.1, by.2, by.3),
+)

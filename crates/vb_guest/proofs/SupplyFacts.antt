@@ -1,18 +1,20 @@
 -- Replies, frames that move, and requests that are out, worked out.
-use Rattle.std.proofs.Common.{◌≡◌, ℕ, true, false, [], ◌∷◌, map, refl, arith}
-use Rattle.std.specs.Prelude.{Some, None, Ok, Err}
+use Rattle.std.proofs.Common.{◌≡◌, ℕ, ◌+◌, true, false, List, [], ◌∷◌, map, refl, arith}
+use Rattle.std.specs.Prelude.{Bool, Some, None, Ok, Err, length}
+use Rattle.vb_model.specs.declared.{calls.Claim.{Claim}, calls.Call.TheVariants.Work}
+use Rattle.vb_model.specs.{declared.replies.Reply.{Reply}, Rogue.GuestStep, Tests.one_if}
 use Rattle.vb_model.specs.declared.calls.Claim.TheVariants.{Gave, GaveNoFrame, GaveNoMemory}
 use Rattle.vb_model.specs.declared.replies.Refusal.TheVariants.{NotReady, NoMemory}
 use Rattle.vb_model.specs.declared.replies.Reply.TheVariants.{Ready, Page, ReadBytes, Posted, Filled, NotUsed}
 use Rattle.vb_model.specs.declared.replies.Reply.TheVariants.{Reaped, Taken, Empty, Worked, Idle, Finished}
 use Rattle.vb_model.specs.declared.replies.Reply.TheVariants.{Swept, Asked, Done, Pages, Refused}
 use Rattle.vb_model.specs.{Guest.{Guest, fresh}, Requests.{NoBuffer, BufferPosted, BufferTaken, BufferDone}}
-use Rattle.vb_frames.specs.Out.{TableAnswers}
+use Rattle.vb_frames.specs.Out.{TableAnswers, AllAnswered, is_out}
 use Rattle.vb_guest.specs.Buffer.{posted_heads, taken_heads, used_heads, taken_requests}
 use Rattle.vb_guest.specs.Replies.{ready_reply, bytes_reply, taken_reply, worked_reply, finished_reply}
 use Rattle.vb_guest.specs.Replies.{swept_reply, page_reply, posted_reply, reaped_reply, filled_reply}
 use Rattle.vb_guest.specs.Replies.{asked_reply, done_reply, runs_reply}
-use Rattle.vb_guest.specs.Steps.{backing_count, AreOut}
+use Rattle.vb_guest.specs.Steps.{backing_count, AreOut, StepsWithKeeper}
 use Rattle.vb_guest.specs.Supply.{Supply, is_used, Moves, nothing, AnswersTo, AreClaimed, AreLoose}
 
 -- ---- replies
@@ -62,14 +64,14 @@ used : map (is_used asks) (0 ∷ 1 ∷ []) ∷ map (is_used keeps) (0 ∷ 1 ∷ 
 used = refl
 
 -- a frame that goes out is gained, and none that isn't
-no_frame_comes_from_nowhere : Moves asks (record asks { out = true ∷ true ∷ [] }) nothing nothing → ⊥
-no_frame_comes_from_nowhere moves = omega (arith, moves.balance 1)
-
-no_frame_is_forgotten : Moves asks (record asks { out = false ∷ false ∷ [] }) nothing nothing → ⊥
-no_frame_is_forgotten moves = omega (arith, moves.balance 0)
-
-keeper_is_untouched : Moves keeps (record keeps { out = true ∷ true ∷ [] }) nothing nothing → ⊥
-keeper_is_untouched moves = (let wrong : true ∷ true ∷ [] ≡ true ∷ false ∷ [] = moves.untouched refl in absurd cc)
+no_moves : (Moves asks (record asks { out = true ∷ true ∷ [] }) nothing nothing → ⊥)
+    × (Moves asks (record asks { out = false ∷ false ∷ [] }) nothing nothing → ⊥)
+    × (Moves keeps (record keeps { out = [] }) nothing nothing → [] ≡ keeps.out)
+no_moves = (
+  λ moves. omega (arith, moves.balance 1),
+  λ moves. omega (arith, moves.balance 0),
+  λ moves. moves.untouched refl,
+)
 
 given_twice : AnswersTo TableAnswers (Gave 0) (true ∷ false ∷ []) (true ∷ false ∷ []) → ⊥
 given_twice answers = (let wrong : true ≡ false = answers.1.free in absurd cc)
@@ -80,11 +82,8 @@ none_given_for_no_memory answers = (let wrong : true ∷ true ∷ [] ≡ true �
 refusal_is_the_last : AreClaimed TableAnswers asks (GaveNoFrame ∷ Gave 1 ∷ []) → ⊥
 refusal_is_the_last (mid, claimed, last) = (let wrong : Gave 1 ∷ [] ≡ [] = last in absurd cc)
 
-loose_frames_are_out : AreLoose (1 ∷ []) asks → ⊥
-loose_frames_are_out loose = omega (arith, loose 1)
-
-loose_once : AreLoose (0 ∷ 0 ∷ []) asks → ⊥
-loose_once loose = omega (arith, loose 0)
+not_loose : (AreLoose (1 ∷ []) asks → ⊥) × (AreLoose (0 ∷ 0 ∷ []) asks → ⊥)
+not_loose = (λ loose. omega (arith, loose 1), λ loose. omega (arith, loose 0))
 
 -- ---- frames behind pages
 
@@ -96,8 +95,17 @@ guest = record (fresh (record { pages = 4; queue_size = 8; processors = 1; paced
 counts : map (λ n. backing_count n guest) (4 ∷ 5 ∷ 6 ∷ []) ≡ 0 ∷ 1 ∷ 1 ∷ []
 counts = refl
 
-one_frame_for_two : AreOut (record guest { frames = Some 0 ∷ Some 0 ∷ [] }) (true ∷ []) → ⊥
-one_frame_for_two out = omega (arith, out 0)
+not_out : (AreOut (record guest { frames = Some 0 ∷ Some 0 ∷ [] }) (true ∷ []) → ⊥)
+    × (AreOut guest (true ∷ []) → ⊥)
+not_out = (λ out. omega (arith, out 0), λ out. omega (arith, out 5))
 
-a_frame_that_is_not_out : AreOut guest (true ∷ []) → ⊥
-a_frame_that_is_not_out out = omega (arith, out 5)
+-- ---- a step over a keeper: what was claimed, what stands afterwards, and the frames that are out
+
+steps : (New : Guest → Type 0) (old new : List Bool) (reply : Reply)
+    → StepsWithKeeper New TableAnswers old new guest Work reply
+    → (claims : List Claim) × (g : Guest) × New g × GuestStep guest Work claims reply g
+    × AllAnswered TableAnswers old claims
+    × ((n : ℕ) → one_if (is_out new n) + backing_count n guest
+    ≡ one_if (is_out old n) + backing_count n g) × (length new ≡ length old)
+steps New old new reply by =
+    (by.claims, by.new, by.stands, by.step, by.answered, by.balance, by.count)
