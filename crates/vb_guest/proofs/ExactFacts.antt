@@ -13,7 +13,6 @@ use Rattle.vb_ram.{specs.Pages.{Pages, Wrote, Supplied}, specs.Part.{Part, no_pa
 use Rattle.vb_frames.specs.declared.keeper.Refused.TheVariants.{NoFrame as None_left, Memory}
 use Rattle.vb_frames.specs.Out.{TableAnswers}
 use Rattle.vb_driver.{specs.State.{DriverState, fresh_driver}, specs.Calls.{InitsBy, Unchanged}}
-use Rattle.vb_model.specs.declared.replies.Refusal.TheVariants.{NoFrame, NoMemory}
 use Rattle.vb_guest.specs.{Supply.{Supply, IsClaimed}, Exact.{IsHandedBack, IsReset, KeepsFrames}}
 use Rattle.vb_guest.specs.Exact.{PutsBy, ReadsBy, FillsBy, Continues, InitialisesBy, IsQuiet}
 use Rattle.vb_guest.specs.{Dispatch.CallsBy, Promises.Moment}
