@@ -1,5 +1,5 @@
 -- What the records of a driver's calls say of one state: the answer, and what is left.
-use Rattle.std.proofs.Common.{◌≡◌, ℕ, ◌+◌, ◌<◌, true, false, List, [], ◌∷◌, refl, arith, ap}
+use Rattle.std.proofs.Common.{◌≡◌, ℕ, ◌+◌, ◌<◌, true, false, List, [], ◌∷◌, ap}
 use Rattle.std.specs.Prelude.{Option, Some, None, Result, Ok, Err, Bool, IsTrue, length}
 use Rattle.std.specs.List.{list_all}
 use Rattle.vb_model.specs.declared.places.Place.TheVariants.{Reserved, Free, Used, Giving, Lent}
