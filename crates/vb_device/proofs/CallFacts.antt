@@ -2,7 +2,7 @@
 use Rattle.std.proofs.Common.{◌≡◌, ℕ, true, false, List, [], ◌∷◌, map, refl, arith, ap}
 use Rattle.std.specs.Prelude.{Some, None, length}
 use Rattle.vb_model.specs.Requests.{Request}
-use Rattle.vb_ram.specs.{Pages.{Pages}, Part.{Part, QueuePart, no_part, no_queue}}
+use Rattle.vb_ram.specs.{Pages.{Page, Pages}, Part.{Part, QueuePart, no_part, no_queue}}
 use Rattle.vb_device.specs.declared.claimed.Claimed.TheVariants.{AskHost, NoFrame}
 use Rattle.vb_device.specs.Calls.{taking, settled, using, without_frames, lost_frames, next_visit}
 use Rattle.vb_device.specs.Calls.{attached, Claims, PutsBack, PopsLoose, HandsBack}
@@ -15,9 +15,12 @@ asked head pages visited = record { head = head; pages = pages; visited = visite
 abbrev pub queue : ℕ → List Request → QueuePart
 queue at taken = record { next_avail = at; next_used = at; taken = taken }
 
+abbrev pub frame : ℕ → Page
+frame number = record { number = number; bytes = [] }
+
 -- of the pages 1 to 3 the second has no frame
 abbrev pub mem : Pages
-mem = None ∷ Some (record { number = 7; bytes = [] }) ∷ None ∷ Some (record { number = 9; bytes = [] }) ∷ []
+mem = None ∷ Some (frame 7) ∷ None ∷ Some (frame 9) ∷ []
 
 abbrev pub busy : Part
 busy = record no_part {
@@ -30,7 +33,7 @@ busy = record no_part {
 
 -- ---- frames
 
-bare : discarded (1 ∷ 2 ∷ []) mem ≡ None ∷ None ∷ None ∷ Some (record { number = 9; bytes = [] }) ∷ []
+bare : discarded (1 ∷ 2 ∷ []) mem ≡ None ∷ None ∷ None ∷ Some (frame 9) ∷ []
 bare = refl
 
 behind : frames_behind mem (3 ∷ 2 ∷ 1 ∷ 4 ∷ []) ≡ 9 ∷ 7 ∷ []
@@ -45,7 +48,7 @@ kept : without_frames 1 (3 ∷ []) mem ≡ mem
 kept = refl
 
 popped : PopsLoose (record busy { loose = 7 ∷ 9 ∷ [] }) (record busy { loose = 9 ∷ [] })
-    (Some (record { number = 7; bytes = [] }))
+    (Some (frame 7))
 popped = (λ n. refl, refl, refl)
 
 popped_none : PopsLoose (record busy { loose = 7 ∷ [] }) (record busy { loose = 7 ∷ [] }) None → ⊥
@@ -56,41 +59,34 @@ abbrev pub keeper : List ℕ → List ℕ → Part
 keeper loose own = record busy { loose = loose; keeps = true; own = own }
 
 -- another's is given out, and one of the device's own that was met is taken back; or it isn't yet
-another_given : HandsBack (keeper (9 ∷ 7 ∷ []) (9 ∷ 4 ∷ [])) (keeper [] (4 ∷ []))
-    (Some (record { number = 7; bytes = [] }))
+another_given : HandsBack (keeper (9 ∷ 7 ∷ []) (9 ∷ 4 ∷ [])) (keeper [] (4 ∷ [])) (Some (frame 7))
 another_given = grind arith
 
-another_given_first : HandsBack (keeper (9 ∷ 7 ∷ []) (9 ∷ [])) (keeper (9 ∷ []) (9 ∷ []))
-    (Some (record { number = 7; bytes = [] }))
-another_given_first = grind arith
+given_first : HandsBack (keeper (9 ∷ 7 ∷ []) (9 ∷ [])) (keeper (9 ∷ []) (9 ∷ [])) (Some (frame 7))
+given_first = grind arith
 
 own_taken_back : HandsBack (keeper (9 ∷ []) (4 ∷ 9 ∷ [])) (keeper [] (4 ∷ [])) None
 own_taken_back = grind arith
 
--- an own one isn't given out, whether it is out still or not; another's isn't kept, nor an own one
--- lost or forgotten while it is out; nor is one given out that wasn't loose
-not_handed_back : (HandsBack (keeper (9 ∷ []) (9 ∷ [])) (keeper [] (9 ∷ []))
-    (Some (record { number = 9; bytes = [] })) → true ≡ false)
-    × (HandsBack (keeper (9 ∷ []) (9 ∷ [])) (keeper [] [])
-    (Some (record { number = 9; bytes = [] })) → ⊥)
+-- an own one isn't given out; another's isn't kept, nor an own one lost or forgotten while it is
+-- out; nor is one given out that wasn't loose, nor does another come to be loose and own
+not_back : (HandsBack (keeper (9 ∷ []) (9 ∷ [])) (keeper [] (9 ∷ [])) (Some (frame 9)) → true ≡ false)
+    × (HandsBack (keeper (9 ∷ []) (9 ∷ [])) (keeper [] []) (Some (frame 9)) → ⊥)
     × (HandsBack (keeper (7 ∷ []) (9 ∷ [])) (keeper [] (9 ∷ [])) None → ⊥)
     × (HandsBack (keeper (9 ∷ []) (9 ∷ [])) (keeper [] (9 ∷ [])) None → ⊥)
     × (HandsBack (keeper [] (9 ∷ [])) (keeper [] []) None → ⊥)
-    × (HandsBack (keeper [] (9 ∷ [])) (keeper [] (9 ∷ []))
-    (Some (record { number = 7; bytes = [] })) → ⊥)
-not_handed_back = (
+    × (HandsBack (keeper [] (9 ∷ [])) (keeper [] (9 ∷ [])) (Some (frame 7)) → ⊥)
+    × (HandsBack (keeper (4 ∷ 7 ∷ []) (4 ∷ [])) (keeper (9 ∷ []) (9 ∷ [])) (Some (frame 7))
+    → false ≡ true)
+not_back = (
   λ back. back.1,
   λ back. omega (arith, back.0.balance 9),
   λ back. omega (arith, back.0.balance 7),
   λ back. omega (arith, back.0.balance 9),
   λ back. omega (arith, back.0.balance 9),
   λ back. omega (arith, back.0.balance 7),
+  λ back. back.0.own 9 refl,
 )
-
--- and no other comes to be loose and own
-own_changed : HandsBack (keeper (4 ∷ 7 ∷ []) (4 ∷ [])) (keeper (9 ∷ []) (9 ∷ []))
-    (Some (record { number = 7; bytes = [] })) → false ≡ true
-own_changed back = back.0.own 9 refl
 
 -- ---- a queue: the index goes round, a new request is the last, and those behind a used one close up
 
@@ -144,6 +140,6 @@ one_less = refl
 asks_the_host : Claims busy busy AskHost × (Claims busy busy NoFrame → false ≡ true)
 asks_the_host = ((refl, refl), λ claims. claims.0)
 
-comes_back : PutsBack busy busy (record { number = 7; bytes = [] }) (Some (record { number = 7; bytes = [] }))
-    × (PutsBack busy busy (record { number = 7; bytes = [] }) None → false ≡ true)
+comes_back : PutsBack busy busy (frame 7) (Some (frame 7))
+    × (PutsBack busy busy (frame 7) None → false ≡ true)
 comes_back = ((refl, refl, refl), λ back. back.0)

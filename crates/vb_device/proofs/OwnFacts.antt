@@ -9,15 +9,12 @@ use Rattle.vb_device.specs.declared.claimed.Claimed.TheVariants.{Gave, AskHost, 
 use Rattle.vb_device.specs.Calls.{SameFrames, PopsLoose, HandsBack, IsUnused}
 use Rattle.vb_device.specs.Calls.{Claims, IsAnswered, PutsBack}
 use Rattle.vb_device.specs.{Own.has, Base.IsPlain}
-use Rattle.vb_device.proofs.CallFacts.{mem, busy, keeper}
+use Rattle.vb_device.proofs.CallFacts.{frame, mem, busy, keeper}
 
 -- ---- loose frames: none is lost or comes from nowhere
 
 not_the_same : (SameFrames (7 ∷ 9 ∷ []) (7 ∷ []) → ⊥) × (SameFrames (9 ∷ []) (9 ∷ 9 ∷ []) → ⊥)
 not_the_same = (λ same. omega (arith, same 9), λ same. omega (arith, same 9))
-
-abbrev frame : ℕ → Page
-frame number = record { number = number; bytes = [] }
 
 pops : (p2 : Part) → (PopsLoose (keeper (9 ∷ []) (4 ∷ [])) p2 (Some (frame 9))
     → SameFrames (9 ∷ []) (9 ∷ p2.loose) × (p2 ≡ keeper p2.loose (4 ∷ [])))

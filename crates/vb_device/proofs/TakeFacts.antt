@@ -1,5 +1,5 @@
 -- What a take says of one state: of each kind of fault, of a request, and where it is refused.
-use Rattle.std.proofs.Common.{◌≡◌, ◌<◌, ◌+◌, ℕ, zero, suc, true, false, List, [], ◌∷◌, refl, arith}
+use Rattle.std.proofs.Common.{◌≡◌, ◌<◌, ◌+◌, ℕ, zero, suc, false, List, [], ◌∷◌, refl, arith}
 use Rattle.std.proofs.Common.{inr}
 use Rattle.std.specs.Prelude.{Option, Some, None, Result, Ok, Err, slice_index, replicate}
 use Rattle.vb_model.specs.declared.replies.Refusal.{Refusal}

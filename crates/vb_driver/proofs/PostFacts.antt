@@ -1,5 +1,5 @@
 -- What stands in memory, and what doesn't change, once a request, a report or figures went out.
-use Rattle.std.proofs.Common.{◌≡◌, ◌≢◌, ℕ, ◌+◌, ◌*◌, ◌/◌, ◌%◌, ◌<◌, ◌≤◌, true, false, List}
+use Rattle.std.proofs.Common.{◌≡◌, ◌≢◌, ℕ, ◌+◌, ◌*◌, ◌/◌, ◌%◌, ◌<◌, ◌≤◌, List}
 use Rattle.std.proofs.Common.{[], ◌∷◌, ◌++◌, refl, arith}
 use Rattle.std.specs.Prelude.{Some, Ok, length, slice_set, replicate}
 use Rattle.vb_model.specs.{Pages.{Block, block_at}, Layout.is_ring_page}

@@ -6,7 +6,7 @@ use Rattle.vb_model.specs.declared.places.Place.TheVariants.{Reserved, Free, Use
 use Rattle.vb_model.specs.declared.places.Place.TheVariants.{Taking, Stranded, Reporting}
 use Rattle.vb_model.specs.declared.replies.Refusal.{Refusal, TheVariants.RingBroken}
 use Rattle.vb_model.specs.declared.replies.Refusal.TheVariants.{AlreadyUp, BadCpu, NoFeature}
-use Rattle.vb_model.specs.declared.replies.Refusal.TheVariants.{RingBroken, NoFrame, VersionMissing}
+use Rattle.vb_model.specs.declared.replies.Refusal.TheVariants.{NoFrame, VersionMissing}
 use Rattle.vb_model.specs.declared.replies.Refusal.TheVariants.{NoPages, NoQueue, NotHeld, Nothing}
 use Rattle.vb_model.{specs.FirstRefusal.refusal_in, specs.Driver.AllDistinct}
 use Rattle.vb_model.{specs.Pages.{block_at, is_free, place_of, placed}, specs.Layout.is_ring_page}

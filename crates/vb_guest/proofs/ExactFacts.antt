@@ -9,13 +9,13 @@ use Rattle.vb_model.specs.declared.{calls.Call.TheVariants.SetTarget, replies.Re
 use Rattle.vb_model.specs.declared.places.Place.{Place, TheVariants.{Used, Free}}
 use Rattle.vb_model.specs.declared.replies.Refusal.{Refusal, TheVariants.{NoFrame, NoMemory}}
 use Rattle.vb_model.specs.declared.replies.Refusal.TheVariants.{AlreadyUp, NotHeld, OutOfRam}
-use Rattle.vb_ram.{specs.Pages.{Pages, Wrote, Supplied}, specs.Part.{Part, no_part}}
 use Rattle.vb_frames.specs.declared.keeper.Refused.TheVariants.{NoFrame as None_left, Memory}
 use Rattle.vb_frames.specs.Out.{TableAnswers}
 use Rattle.vb_driver.{specs.State.{DriverState, fresh_driver}, specs.Calls.{InitsBy, Unchanged}}
+use Rattle.vb_ram.{specs.Pages.{Pages, frame_at, Wrote, Supplied}, specs.Part.{Part, no_part}}
 use Rattle.vb_guest.specs.{Supply.{Supply, IsClaimed}, Exact.{IsHandedBack, IsReset, KeepsFrames}}
 use Rattle.vb_guest.specs.Exact.{PutsBy, ReadsBy, FillsBy, Continues, InitialisesBy, IsQuiet}
-use Rattle.vb_guest.specs.{Dispatch.CallsBy, Promises.Moment}
+use Rattle.vb_guest.specs.{Dispatch.CallsBy, Promises.Moment, Steps.IsBare}
 
 -- page 1 has a frame
 abbrev mem : Pages
@@ -91,6 +91,10 @@ a_reset : (new : Part)
     → IsReset (record no_part { status = 15; target = 4; actual = 3; loose = 7 ∷ [] }) new
     → new ≡ record no_part { target = 4; own = new.own }
 a_reset new is = is
+
+bare : (m : Pages) (part : Part) → IsBare m part
+    → ((page : ℕ) → frame_at m page ≡ None) × (part.loose ≡ [])
+bare m part is = (is.frames, is.loose)
 
 -- ---- an initialisation
 

@@ -79,8 +79,10 @@ given_twice answers = (let wrong : true ≡ false = answers.1.free in absurd cc)
 none_given_for_no_memory : AnswersTo TableAnswers GaveNoMemory (true ∷ false ∷ []) (true ∷ true ∷ []) → ⊥
 none_given_for_no_memory answers = (let wrong : true ∷ true ∷ [] ≡ true ∷ false ∷ [] = answers.1 in absurd cc)
 
-refusal_is_the_last : AreClaimed TableAnswers asks (GaveNoFrame ∷ Gave 1 ∷ []) → ⊥
-refusal_is_the_last (mid, claimed, last) = (let wrong : Gave 1 ∷ [] ≡ [] = last in absurd cc)
+refusal_is_the_last : (claims : List Claim)
+    → (AreClaimed TableAnswers asks (GaveNoFrame ∷ claims) → claims ≡ [])
+    × (AreClaimed TableAnswers asks (GaveNoMemory ∷ claims) → claims ≡ [])
+refusal_is_the_last claims = (λ are. are.2, λ are. are.2)
 
 not_loose : (AreLoose (1 ∷ []) asks → ⊥) × (AreLoose (0 ∷ 0 ∷ []) asks → ⊥)
 not_loose = (λ loose. omega (arith, loose 1), λ loose. omega (arith, loose 0))
