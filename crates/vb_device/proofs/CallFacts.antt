@@ -1,13 +1,12 @@
 -- What calls leave of a device, worked out.
 use Rattle.std.proofs.Common.{◌≡◌, ℕ, true, false, List, [], ◌∷◌, map, refl, arith, ap}
-use Rattle.std.specs.Prelude.{Some, None, length}
-use Rattle.vb_model.specs.Requests.{Request}
-use Rattle.vb_ram.specs.{Pages.{Pages}, Part.{Part, QueuePart, no_part, no_queue}}
-use Rattle.vb_device.specs.declared.claimed.Claimed.TheVariants.{AskHost, NoFrame}
-use Rattle.vb_device.specs.Calls.{taking, settled, using, without_frames, lost_frames, next_visit}
-use Rattle.vb_device.specs.Calls.{attached, Claims, PutsBack, PopsLoose, HandsBack}
-use Rattle.vb_device.specs.{BaseCalls.{visited_queue, page_to_visit, flags_after}}
-use Rattle.vb_device.specs.{Discards.{discarded, frames_behind}, Faults.needing_reset, Own.{has, without}}
+use Rattle.{std.specs.Prelude.{Some, None, length}, vb_model.specs.Requests.Request}
+use Rattle.vb_ram.specs.{Pages.Pages, Part.{Part, QueuePart, no_part, no_queue}}
+use Rattle.vb_device.specs.{declared.claimed.Claimed.TheVariants.{AskHost, NoFrame}, Calls.taking}
+use Rattle.vb_device.specs.Calls.{settled, using, without_frames, lost_frames, next_visit, attached}
+use Rattle.vb_device.specs.{Calls.{Claims, PutsBack, PopsLoose, HandsBack}, BaseCalls.visited_queue}
+use Rattle.vb_device.specs.{BaseCalls.{page_to_visit, flags_after}, Discards.discarded}
+use Rattle.vb_device.specs.{Discards.frames_behind, Faults.needing_reset, Own.{has, without}}
 
 abbrev pub asked : ℕ → List ℕ → ℕ → Request
 asked head pages visited = record { head = head; pages = pages; visited = visited }

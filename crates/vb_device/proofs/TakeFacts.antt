@@ -1,14 +1,11 @@
 -- What a take says of one state: of each kind of fault, of a request, and where it is refused.
-use Rattle.std.proofs.Common.{◌≡◌, ◌<◌, ◌+◌, ℕ, zero, suc, true, false, List, [], ◌∷◌, refl, arith}
-use Rattle.std.proofs.Common.{inr}
+use Rattle.std.proofs.Common.{◌≡◌, ◌<◌, ◌+◌, ℕ, zero, suc, false, List, [], ◌∷◌, refl, arith, inr}
+use Rattle.{std.proofs.Common.true, vb_chain.specs.Chain.{IsChain, BreaksAt, ChainGives, fault_at}}
 use Rattle.std.specs.Prelude.{Option, Some, None, Result, Ok, Err, slice_index, replicate}
-use Rattle.vb_model.specs.declared.replies.Refusal.{Refusal}
-use Rattle.vb_model.specs.declared.replies.Refusal.TheVariants.{Broken, Busy, NoQueue}
-use Rattle.vb_chain.specs.declared.{descriptor.Descriptor.Descriptor, pieces.Piece.Piece}
-use Rattle.vb_chain.specs.declared.fault.ChainFault.{ChainFault, TheVariants.{IndexJump, BadLength}}
-use Rattle.vb_chain.specs.declared.fault.ChainFault.TheVariants.{Indirect}
-use Rattle.vb_chain.specs.Chain.{IsChain, BreaksAt, ChainGives, fault_at}
-use Rattle.vb_chain.specs.{Rules.has_next, Table.descriptor_at}
+use Rattle.vb_model.specs.declared.replies.Refusal.{Refusal, TheVariants.{Broken, Busy, NoQueue}}
+use Rattle.vb_chain.specs.declared.{descriptor.Descriptor.Descriptor, fault.ChainFault.ChainFault}
+use Rattle.vb_chain.specs.{declared.pieces.Piece.Piece, Rules.has_next, Table.descriptor_at}
+use Rattle.vb_chain.specs.declared.fault.ChainFault.TheVariants.{IndexJump, BadLength, Indirect}
 use Rattle.vb_request.specs.{Request.{bytes_of, numbers_of, page_request}, Asked.request_of}
 use Rattle.vb_ram.specs.{Pages.{Page, Pages, byte_at, field}, Part.{Part, no_part}}
 use Rattle.vb_device.specs.{Calls.{TakeMeans, TakesBy}, Queues.next_available}
