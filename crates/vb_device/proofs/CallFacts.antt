@@ -2,12 +2,13 @@
 use Rattle.std.proofs.Common.{◌≡◌, ℕ, true, false, List, [], ◌∷◌, map, refl, arith, ap}
 use Rattle.std.specs.Prelude.{Some, None, length}
 use Rattle.vb_model.specs.Requests.{Request}
-use Rattle.vb_ram.specs.{Pages.{Page, Pages}, Part.{Part, QueuePart, no_part, no_queue}}
+use Rattle.vb_ram.{specs.Pages.{Page, Pages}, specs.Part.{Part, QueuePart, no_part, no_queue}}
 use Rattle.vb_device.specs.declared.claimed.Claimed.TheVariants.{AskHost, NoFrame}
 use Rattle.vb_device.specs.Calls.{taking, settled, using, without_frames, lost_frames, next_visit}
 use Rattle.vb_device.specs.Calls.{attached, Claims, PutsBack, PopsLoose, HandsBack}
-use Rattle.vb_device.specs.{BaseCalls.{visited_queue, page_to_visit, flags_after}}
-use Rattle.vb_device.specs.{Discards.{discarded, frames_behind}, Faults.needing_reset, Own.{has, without}}
+use Rattle.vb_device.specs.BaseCalls.{visited_queue, page_to_visit, flags_after}
+use Rattle.vb_device.{specs.Discards.{discarded, frames_behind}, specs.Faults.needing_reset}
+use Rattle.vb_device.specs.Own.{has, without}
 
 abbrev pub asked : ℕ → List ℕ → ℕ → Request
 asked head pages visited = record { head = head; pages = pages; visited = visited }

@@ -1,20 +1,18 @@
 -- Pages lose their frames one by one.
-use Rattle.std.specs.Prelude.{◌≡◌, ◌≢◌, ℕ, zero, suc, ◌+◌, ◌<◌, ◌≤◌, Bool, true, false, ◌||◌, ◌==◌}
-use Rattle.std.specs.Prelude.{List, [], ◌∷◌, ◌++◌, length, Option, None, All, refl, cond, Some}
-use Rattle.std.proofs.lemmas.List.{get_or-set_same, get_or-set_other, get_or_past, take_more}
-use Rattle.std.proofs.lemmas.List.{ext_get_or, append-nil, append_assoc, length-replicate}
+use Rattle.std.specs.Prelude.{◌≡◌, ◌≢◌, zero, suc, ◌+◌, false, ◌==◌, Option, None, Some, is_some}
+use Rattle.std.specs.Prelude.{ℕ, ◌<◌, ◌≤◌, Bool, true, ◌||◌, List, [], ◌∷◌, ◌++◌, refl, count_by}
+use Rattle.std.specs.{Prelude.{length, IfNone, if◌then◌else◌, replicate}, Option.option_to_list}
+use Rattle.std.{specs.Prelude.{All, cond}, proofs.lemmas.List.{get_or-set_other, get_or-replicate}}
+use Rattle.std.proofs.lemmas.List.{get_or-set_same, take_more, append-nil, map-id}
+use Rattle.std.proofs.lemmas.List.{get_or_past, ext_get_or, Folds.list_any-append, Sums.sum_by-set}
+use Rattle.std.proofs.lemmas.List.{append_assoc, length-replicate, FromFn.map-range_with_len_more}
 use Rattle.std.proofs.Common.{sym, ◌∙◌, ap, arith, get_or, take, eq-eqb, inl, inr, subst, add-one}
-use Rattle.std.specs.Prelude.{is_some, IfNone, count_by, if◌then◌else◌, replicate}
-use Rattle.std.{proofs.lemmas.Bool.{eqb-true, cases_eq, cases_lt}, specs.Option.option_to_list}
-use Rattle.std.{proofs.lemmas.List.FromFn.map-range_with_len_more, specs.List.range_with_len}
-use Rattle.std.{proofs.lemmas.List.{get_or-replicate, map-id}, proofs.Math.ListN.{set, length-set}}
-use Rattle.std.{proofs.lemmas.List.Folds.list_any-append, proofs.lemmas.Grind.flat_map-append}
-use Rattle.std.proofs.lemmas.List.Sums.{sum_by-set}
-use Rattle.vb_model.{specs.Tests.{is_in, one_if}, proofs.Tables.{length-each_from, each_page-get}}
-use Rattle.vb_model.proofs.PageSteps.{is_in-range, outside-range}
-use Rattle.vb_ram.specs.Pages.{Page, Pages, page_at, frame_at, number_of, Discarded}
-use Rattle.vb_request.{specs.Request.each_once, proofs.Once.each_once_push}
-use Rattle.vb_device.specs.Discards.{discarded, frames_behind}
+use Rattle.std.proofs.lemmas.{Bool.{eqb-true, cases_eq, cases_lt}, Grind.flat_map-append}
+use Rattle.{std.specs.List.range_with_len, vb_model.proofs.Tables.{length-each_from, each_page-get}}
+use Rattle.{std.proofs.Math.ListN.{set, length-set}, vb_ram.specs.Pages.{Pages, page_at, Discarded}}
+use Rattle.vb_model.{specs.Tests.{is_in, one_if}, proofs.PageSteps.{is_in-range, outside-range}}
+use Rattle.{vb_ram.specs.Pages.{Page, frame_at, number_of}, vb_request.proofs.Once.each_once_push}
+use Rattle.{vb_request.specs.Request.each_once, vb_device.specs.Discards.{discarded, frames_behind}}
 
 cond_same : {A : Type 0} (b : Bool) (x : A) → cond b x x ≡ x
 cond_same true x = refl

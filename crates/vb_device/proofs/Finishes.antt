@@ -1,22 +1,18 @@
 -- A finish by a device, from the end of its queue.
-use Rattle.std.specs.Prelude.{◌≡◌, ℕ, ◌+◌, ◌%◌, ◌<◌, ◌≤◌, Bool, true, List, [], length, remove}
-use Rattle.std.specs.Prelude.{Option, Some, None, OnSome, slice_get, All, refl}
-use Rattle.std.proofs.lemmas.Bool.{cases_eq}
-use Rattle.std.{proofs.Common.{sym, ◌∙◌, ap, arith, rules}, proofs.Math.ListN.set}
-use Rattle.vb_model.specs.{Device.next_page, Layout.{reserved_pages, ring_page}, Requests.Request}
-use Rattle.vb_model.specs.{Status.{contains, driver_ok}, Tables.has_chains}
-use Rattle.vb_model.specs.declared.replies.LastStatistics.{LastStatistics}
+use Rattle.std.{specs.Prelude.{◌≡◌, remove, OnSome, slice_get, All}, proofs.lemmas.Bool.cases_eq}
+use Rattle.std.specs.Prelude.{ℕ, ◌+◌, ◌%◌, ◌<◌, Bool, List, [], length, Option, Some, None, refl}
+use Rattle.{std.specs.Prelude.{◌≤◌, true}, vb_model.specs.{Requests.Request, Tables.has_chains}}
+use Rattle.std.proofs.{Common.{sym, ◌∙◌, ap, arith, rules}, Math.ListN.set}
+use Rattle.vb_model.specs.{Device.next_page, declared.replies.LastStatistics.LastStatistics}
+use Rattle.vb_model.specs.{Layout.{reserved_pages, ring_page}, Status.{contains, driver_ok}}
 use Rattle.vb_ram.specs.{Pages.{Page, Pages, page_at}, Part.QueuePart}
-use Rattle.vb_ring.{specs.declared.layout.Layout.Layout, specs.Layout.{layout_of, IsBacked}}
-use Rattle.vb_ring.{specs.Ends.DeviceEnd, specs.Calls.AddsUsedBy}
-use Rattle.vb_device.specs.{Queues.{queue_end, with_queue}, Base.index_of}
-use Rattle.vb_device.specs.QueueState.{QueueState, part_of}
-use Rattle.vb_device.specs.Base.{queue_at, base_part, IsDeviceQueue, IsBase}
-use Rattle.vb_device.{specs.BaseCalls.{UsesChain, CanUse}, proofs.Rings.backed_still}
-use Rattle.vb_device.{specs.Calls.without_frames, proofs.FourQueues.{part_get, part_set, set_here}}
-use Rattle.vb_device.proofs.{FourQueues.base_set, TakesBy.status_ok}
-use Rattle.vb_device.proofs.Discards.{discarded-length, reserved_still}
-use Rattle.vb_request.specs.Refusals.{readiness_refusal}
+use Rattle.vb_ring.specs.{declared.layout.Layout.Layout, Ends.DeviceEnd, Calls.AddsUsedBy}
+use Rattle.{vb_ring.specs.Layout.{layout_of, IsBacked}, vb_request.specs.Refusals.readiness_refusal}
+use Rattle.vb_device.specs.{Queues.{queue_end, with_queue}, Calls.without_frames}
+use Rattle.vb_device.specs.Base.{index_of, queue_at, base_part, IsDeviceQueue, IsBase}
+use Rattle.vb_device.specs.{QueueState.{QueueState, part_of}, BaseCalls.{UsesChain, CanUse}}
+use Rattle.vb_device.proofs.{Rings.backed_still, Discards.{discarded-length, reserved_still}}
+use Rattle.vb_device.proofs.{FourQueues.{part_get, part_set, set_here, base_set}, TakesBy.status_ok}
 
 abbrev pub without_taken : QueueState → ℕ → QueueState
 without_taken x index = record x { taken = remove x.taken index }

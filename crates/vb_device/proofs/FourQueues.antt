@@ -1,15 +1,12 @@
 -- The four queues of a device, of which one is changed, or all.
 use Rattle.std.specs.Prelude.{◌≡◌, ℕ, ◌<◌, ◌≤◌, Bool, true, false, List, [], ◌∷◌, length, map, refl}
-use Rattle.std.{proofs.Common.{◌∙◌, arith, get_or}, proofs.lemmas.List.length-map}
-use Rattle.std.proofs.Math.ListN.{set, length-set}
-use Rattle.vb_ram.specs.Pages.{Page, Pages}
-use Rattle.vb_model.specs.declared.replies.LastStatistics.{LastStatistics}
-use Rattle.vb_model.{specs.Status.{contains, driver_ok}, proofs.Queues.queue_cases}
-use Rattle.vb_model.specs.Tables.{has_chains, is_queue_of_requests}
-use Rattle.vb_ring.specs.Layout.{IsSize}
-use Rattle.vb_device.specs.Queues.{queue_part, with_queue}
-use Rattle.vb_device.specs.QueueState.{QueueState, part_of, new_queue, restarted}
-use Rattle.vb_device.specs.Base.{index_of, queue_at, new_queues, base_part, IsDeviceQueue, IsBase}
+use Rattle.{std.proofs.Common.◌∙◌, vb_model.proofs.Queues.queue_cases, vb_ring.specs.Layout.IsSize}
+use Rattle.std.proofs.{Common.{arith, get_or}, lemmas.List.length-map, Math.ListN.{set, length-set}}
+use Rattle.{vb_ram.specs.Pages.Page, vb_device.specs.QueueState.{QueueState, new_queue, restarted}}
+use Rattle.{vb_ram.specs.Pages.Pages, vb_model.specs.declared.replies.LastStatistics.LastStatistics}
+use Rattle.vb_model.specs.{Status.{contains, driver_ok}, Tables.{has_chains, is_queue_of_requests}}
+use Rattle.vb_device.specs.{Queues.{queue_part, with_queue}, Base.{queue_at, IsDeviceQueue}}
+use Rattle.vb_device.specs.{QueueState.part_of, Base.{index_of, new_queues, base_part, IsBase}}
 
 -- what holds of queues 0, 1, 2 and 4 holds of each queue
 pub at_each : (P : ℕ → Type 0) → P 0 → P 1 → P 2 → P 4 → (q : ℕ) → has_chains q ≡ true → P q

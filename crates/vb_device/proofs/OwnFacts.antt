@@ -2,14 +2,13 @@
 -- two things alike that aren't.
 use Rattle.std.proofs.Common.{◌≡◌, ℕ, ◌==◌, true, false, List, [], ◌∷◌, refl, arith}
 use Rattle.std.specs.Prelude.{Bool, Some, None}
-use Rattle.vb_model.specs.declared.calls.Claim.{Claim, TheVariants.{Gave as GaveNumber}}
-use Rattle.vb_model.specs.Guest.{zero_page}
-use Rattle.vb_ram.specs.{Pages.{Page}, Part.{Part, no_part}}
+use Rattle.vb_ram.{specs.Pages.Page, specs.Part.{Part, no_part}}
+use Rattle.vb_model.{specs.declared.calls.Claim.Claim, specs.Guest.zero_page}
+use Rattle.vb_model.specs.declared.calls.Claim.TheVariants.{Gave as GaveNumber}
+use Rattle.vb_device.{proofs.CallFacts.{keeper, frame, mem, busy}, specs.Calls.PutsBack}
 use Rattle.vb_device.specs.declared.claimed.Claimed.TheVariants.{Gave, AskHost, NoFrame, NoMemory}
-use Rattle.vb_device.specs.Calls.{SameFrames, PopsLoose, HandsBack, IsUnused}
-use Rattle.vb_device.specs.Calls.{Claims, IsAnswered, PutsBack}
-use Rattle.vb_device.specs.{Own.has, Base.IsPlain}
-use Rattle.vb_device.proofs.CallFacts.{frame, mem, busy, keeper}
+use Rattle.vb_device.specs.Calls.{SameFrames, PopsLoose, HandsBack, IsUnused, Claims, IsAnswered}
+use Rattle.vb_device.{specs.Own.has, specs.Base.IsPlain}
 
 -- ---- loose frames: none is lost or comes from nowhere
 

@@ -1,12 +1,10 @@
 -- A device that keeps frames of its own, round one that keeps none.
 use Rattle.std.specs.Prelude.{◌≡◌, ℕ, ◌==◌, Bool, true, false, List, Option, Some, None, Result, Ok}
 use Rattle.std.{proofs.Common.{arith, ◌∙◌, ap}, specs.Prelude.{Err, if◌then◌else◌, refl}}
-use Rattle.vb_model.{specs.declared.replies.Refusal.Refusal, specs.Tests.flagged}
-use Rattle.vb_model.specs.declared.replies.Refusal.TheVariants.{Broken}
-use Rattle.vb_ram.{specs.Pages.Pages, specs.Part.{Part, QueuePart}}
-use Rattle.vb_device.specs.Calls.{taking, noting, using, settled, TakeMeans, TakesBy, FinishesBy}
-use Rattle.vb_device.specs.Calls.{Visits, WorksBy, AsksBy, DetachesBy}
-use Rattle.vb_device.specs.declared.worked.Worked.{Worked}
+use Rattle.vb_model.specs.{declared.replies.Refusal.{Refusal, TheVariants.Broken}, Tests.flagged}
+use Rattle.{vb_ram.specs.{Pages.Pages, Part.{Part, QueuePart}}, vb_device.specs.Calls.taking}
+use Rattle.vb_device.specs.Calls.{noting, using, settled, TakeMeans, TakesBy, FinishesBy, Visits}
+use Rattle.vb_device.specs.{Calls.{WorksBy, AsksBy, DetachesBy}, declared.worked.Worked.Worked}
 
 -- the part with these frames of its own
 abbrev pub keeping : List ℕ → Part → Part

@@ -1,14 +1,13 @@
 -- A finish by a device: a request is settled, and its chain is used.
-use Rattle.std.specs.Prelude.{◌≡◌, ℕ, ◌+◌, ◌%◌, ◌++◌, Bool, true, false, not, List, [], Option}
-use Rattle.std.specs.Prelude.{Some, None, Result, Ok, Err, refl, if◌then◌else◌}
-use Rattle.std.proofs.Common.{arith, ◌∙◌, ap}
+use Rattle.std.specs.Prelude.{◌≡◌, ◌%◌, false, not, [], None, Result, Ok, if◌then◌else◌}
+use Rattle.std.specs.Prelude.{ℕ, ◌+◌, ◌++◌, Bool, true, List, Option, Some, Err, refl}
+use Rattle.{std.proofs.Common.{arith, ◌∙◌, ap}, vb_ram.specs.{Pages.Pages, Part.{Part, QueuePart}}}
 use Rattle.vb_model.specs.{Requests.Request, Tables.is_queue_of_requests}
 use Rattle.vb_model.specs.declared.replies.Refusal.{Refusal, TheVariants.NoQueue}
-use Rattle.vb_ram.{specs.Pages.{Pages}, specs.Part.{Part, QueuePart}}
-use Rattle.vb_device.specs.Calls.{lost_frames, without_frames, settled, using, FinishesBy, Uses}
-use Rattle.vb_device.specs.{BaseCalls.{SettlesBy, taken_out, UsesChain}, Queues.queue_part}
-use Rattle.vb_device.{specs.Queues.{with_queue, queue_end}, proofs.LooseFrames.all_but_loose}
-use Rattle.vb_device.proofs.{LooseFrames.lost_alone, FourQueues.at_requests}
+use Rattle.vb_device.specs.Calls.{lost_frames, without_frames, using}
+use Rattle.vb_device.specs.{Calls.{settled, FinishesBy, Uses}, BaseCalls.{taken_out, UsesChain}}
+use Rattle.vb_device.specs.{BaseCalls.SettlesBy, Queues.{queue_part, with_queue, queue_end}}
+use Rattle.vb_device.proofs.{LooseFrames.{all_but_loose, lost_alone}, FourQueues.at_requests}
 
 kind_of_finish : (a : Bool) (rest : Option Refusal) → (if not a then Some NoQueue else rest) ≡ None →
     a ≡ true

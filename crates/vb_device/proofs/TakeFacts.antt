@@ -1,18 +1,17 @@
 -- What a take says of one state: of each kind of fault, of a request, and where it is refused.
-use Rattle.std.proofs.Common.{◌≡◌, ◌<◌, ◌+◌, ℕ, zero, suc, false, List, [], ◌∷◌, refl, arith}
-use Rattle.std.proofs.Common.{inr}
+use Rattle.std.proofs.Common.{◌≡◌, ◌<◌, ◌+◌, ℕ, zero, suc, false, List, [], ◌∷◌, refl, arith, inr}
+use Rattle.std.proofs.Common.{true}
 use Rattle.std.specs.Prelude.{Option, Some, None, Result, Ok, Err, slice_index, replicate}
+use Rattle.vb_chain.{specs.Chain.{IsChain, BreaksAt, ChainGives, fault_at}, specs.Rules.has_next}
+use Rattle.vb_chain.{specs.declared.descriptor.Descriptor.Descriptor, specs.Table.descriptor_at}
+use Rattle.vb_chain.{specs.declared.fault.ChainFault.ChainFault, specs.declared.pieces.Piece.Piece}
+use Rattle.vb_chain.specs.declared.fault.ChainFault.TheVariants.{IndexJump, BadLength, Indirect}
 use Rattle.vb_model.specs.declared.replies.Refusal.{Refusal}
 use Rattle.vb_model.specs.declared.replies.Refusal.TheVariants.{Broken, Busy, NoQueue}
-use Rattle.vb_chain.specs.declared.{descriptor.Descriptor.Descriptor, pieces.Piece.Piece}
-use Rattle.vb_chain.specs.declared.fault.ChainFault.{ChainFault, TheVariants.{IndexJump, BadLength}}
-use Rattle.vb_chain.specs.declared.fault.ChainFault.TheVariants.{Indirect}
-use Rattle.vb_chain.specs.Chain.{IsChain, BreaksAt, ChainGives, fault_at}
-use Rattle.vb_chain.specs.{Rules.has_next, Table.descriptor_at}
-use Rattle.vb_request.specs.{Request.{bytes_of, numbers_of, page_request}, Asked.request_of}
-use Rattle.vb_ram.specs.{Pages.{Page, Pages, byte_at, field}, Part.{Part, no_part}}
-use Rattle.vb_device.specs.{Calls.{TakeMeans, TakesBy}, Queues.next_available}
-use Rattle.vb_device.proofs.{CallFacts.{asked, queue, mem, busy}, StepFacts.told}
+use Rattle.vb_request.{specs.Request.{bytes_of, numbers_of, page_request}, specs.Asked.request_of}
+use Rattle.vb_ram.{specs.Pages.{Page, Pages, byte_at, field}, specs.Part.{Part, no_part}}
+use Rattle.vb_device.{specs.Calls.{TakeMeans, TakesBy}, proofs.CallFacts.{asked, queue, mem, busy}}
+use Rattle.vb_device.{specs.Queues.next_available, proofs.StepFacts.told}
 
 -- ---- a chain of the first descriptor alone
 

@@ -1,14 +1,12 @@
 -- A take of the next chain of a queue, put together from what the ring's end and the request's
 -- bytes give.
-use Rattle.std.specs.Prelude.{◌≡◌, ℕ, ◌+◌, ◌%◌, ◌<◌, true, false, List, [], ◌∷◌, ◌++◌, Option, Some}
-use Rattle.std.specs.Prelude.{None, Result, Ok, Err, refl}
-use Rattle.std.proofs.Common.{sym, ◌∙◌, ap, arith, zero, suc, get_or, length}
-use Rattle.vb_model.specs.{Requests.Request, declared.replies.LastStatistics.LastStatistics}
-use Rattle.vb_model.specs.declared.replies.Refusal.{Refusal, TheVariants.Broken}
-use Rattle.vb_ram.specs.Pages.{Pages}
-use Rattle.vb_chain.specs.declared.fault.ChainFault.{ChainFault}
-use Rattle.vb_ring.{specs.declared.device.Taken.Taken, specs.Ends.DeviceEnd, specs.Calls.PopsBy}
-use Rattle.vb_request.{specs.Asked.{request_of, noted}, specs.Refusals.rule_of}
+use Rattle.std.specs.Prelude.{◌≡◌, ◌+◌, ◌%◌, ◌<◌, true, [], ◌∷◌, Some, None, Result, Ok, Err, refl}
+use Rattle.{std.specs.Prelude.{ℕ, List, ◌++◌, Option}, vb_ring.specs.{Ends.DeviceEnd, Calls.PopsBy}}
+use Rattle.std.{specs.Prelude.false, proofs.Common.{sym, ◌∙◌, ap, arith, zero, suc, get_or, length}}
+use Rattle.vb_model.specs.{Requests.Request, declared.replies.Refusal.{Refusal, TheVariants.Broken}}
+use Rattle.{vb_model.specs.declared.replies.LastStatistics.LastStatistics, vb_ram.specs.Pages.Pages}
+use Rattle.{vb_chain.specs.declared.fault.ChainFault.ChainFault, vb_request.specs.Refusals.rule_of}
+use Rattle.{vb_ring.specs.declared.device.Taken.Taken, vb_request.specs.Asked.{request_of, noted}}
 use Rattle.vb_device.specs.QueueState.{QueueState, with_request, is_full, TakesNext}
 
 abbrev at : ℕ → DeviceEnd → List Request → QueueState

@@ -1,31 +1,27 @@
 -- A take by a device, from the take of its queue.
-use Rattle.std.specs.Prelude.{◌≡◌, ℕ, Bool, true, false, not, ◌||◌, ◌*◌, ◌+◌, ◌%◌, ◌++◌, nat_le}
-use Rattle.std.specs.Prelude.{List, [], ◌∷◌, length, Option, Some, None, Result, Ok, Err}
-use Rattle.std.{proofs.Common.{arith, sym, ◌∙◌, ap, subst}, proofs.Math.ListN.set}
-use Rattle.std.specs.Prelude.{if◌then◌else◌, bit_or, refl}
+use Rattle.std.specs.Prelude.{◌≡◌, ℕ, ◌*◌, ◌+◌, List, ◌∷◌, Option, Some, None, Err, bit_or}
+use Rattle.std.specs.Prelude.{Bool, true, not, ◌||◌, ◌++◌, [], length, Result, if◌then◌else◌, refl}
+use Rattle.std.{specs.Prelude.{false, ◌%◌, nat_le, Ok}, proofs.Common.{arith, sym, ◌∙◌, ap, subst}}
+use Rattle.{std.proofs.Math.ListN.set, vb_ram.specs.{Pages.{Page, Pages}, Part.{Part, QueuePart}}}
 use Rattle.vb_model.specs.declared.replies.Refusal.TheVariants.{NoQueue, NotReady, NeedsReset, Busy}
-use Rattle.vb_model.specs.Tables.{is_queue_of_requests, has_chains, lacks_feature, is_not_ready}
-use Rattle.vb_model.{specs.Tables.work_causes, proofs.Cases.not_refused}
-use Rattle.vb_model.specs.FirstRefusal.{Cause, ◌⇒◌, first_refusal}
-use Rattle.vb_model.{specs.declared.replies.Refusal.TheVariants.Broken, specs.Layout.ring_page}
-use Rattle.vb_model.{specs.Tables.{has_fault, most_taken}, specs.declared.replies.Refusal.Refusal}
+use Rattle.vb_model.specs.Tables.{is_queue_of_requests, lacks_feature, is_not_ready, most_taken}
+use Rattle.vb_model.specs.{Tables.{has_chains, has_fault}, FirstRefusal.{Cause, ◌⇒◌, first_refusal}}
+use Rattle.vb_model.specs.{Tables.work_causes, declared.replies.LastStatistics.LastStatistics}
+use Rattle.{vb_model.proofs.Cases.not_refused, vb_request.specs.Asked.{request_of, noted}}
+use Rattle.vb_model.specs.{declared.replies.Refusal.{TheVariants.Broken, Refusal}, Layout.ring_page}
 use Rattle.vb_model.specs.Status.{contains, driver_ok, failed, needs_reset}
-use Rattle.vb_model.specs.declared.replies.LastStatistics.{LastStatistics}
-use Rattle.vb_ram.{specs.Pages.{Page, Pages}, specs.Part.{Part, QueuePart}}
-use Rattle.vb_chain.{specs.declared.fault.ChainFault.ChainFault, specs.declared.pieces.Piece.Piece}
-use Rattle.vb_chain.{specs.Table.descriptor_at, specs.Chain.{ChainGives, FaultGives}}
+use Rattle.vb_chain.specs.declared.{fault.ChainFault.ChainFault, pieces.Piece.Piece}
+use Rattle.vb_chain.specs.{Table.descriptor_at, Chain.{ChainGives, FaultGives}}
 use Rattle.vb_ring.specs.{declared.layout.Layout.Layout, Layout.layout_of, Entries.next_entry}
-use Rattle.vb_device.specs.QueueState.{QueueState, part_of, with_request, next_of, IsChainOf}
-use Rattle.vb_device.specs.QueueState.{IsFaultOf, is_full, NextMeans, Leaves, TakesNext}
-use Rattle.vb_device.{specs.QueueState.status_after, proofs.FromNext.KeepsRing}
-use Rattle.vb_device.specs.Queues.{queue_part, with_queue, next_available}
-use Rattle.vb_device.specs.Conditions.{take_refusal}
-use Rattle.vb_device.{specs.Faults.{Breaks, needing_reset}, specs.BaseCalls.queue_refusal}
-use Rattle.vb_device.specs.Base.{index_of, queue_at, base_part, IsDeviceQueue, IsBase}
-use Rattle.vb_device.specs.Calls.{HasChain, HasFault, taking, noting, TakeMeans, TakesBy}
+use Rattle.vb_device.specs.QueueState.{QueueState, with_request, next_of, IsChainOf, Leaves}
+use Rattle.vb_device.specs.QueueState.{part_of, IsFaultOf, NextMeans, TakesNext, status_after}
+use Rattle.vb_device.specs.{QueueState.is_full, Conditions.take_refusal, Calls.{TakeMeans, TakesBy}}
+use Rattle.vb_device.{proofs.FromNext.KeepsRing, specs.Calls.{HasChain, HasFault, taking, noting}}
+use Rattle.vb_device.specs.{Queues.{queue_part, with_queue, next_available}, Base.IsBase}
+use Rattle.vb_device.specs.{Faults.{Breaks, needing_reset}, BaseCalls.queue_refusal}
+use Rattle.vb_device.specs.Base.{index_of, queue_at, base_part, IsDeviceQueue}
 use Rattle.vb_device.proofs.FourQueues.{at_each, part_get, part_set, set_here, set_same, base_set}
 use Rattle.vb_request.specs.Refusals.{rule_of, readiness_refusal, take_refusal_by}
-use Rattle.vb_request.specs.Asked.{request_of, noted}
 
 -- ---- refusals
 

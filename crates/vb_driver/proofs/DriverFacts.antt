@@ -1,20 +1,18 @@
 -- What calls move and leave of a driver, worked out.
 use Rattle.std.proofs.Common.{◌≡◌, true, false, [], ◌∷◌, map, refl, ap, arith, ◌++◌}
-use Rattle.std.specs.Prelude.{Some, None, replicate}
-use Rattle.vb_ring.specs.declared.layout.Layout.{Layout}
-use Rattle.vb_model.{specs.declared.places.PlaceCounts.PlaceCounts, specs.Pages.block_at}
-use Rattle.vb_model.specs.declared.places.Place.TheVariants.{Reserved, Free, Used, Giving, Lent}
-use Rattle.vb_model.specs.declared.places.Place.TheVariants.{Taking, Stranded, Reporting}
-use Rattle.vb_model.specs.declared.replies.Refusal.TheVariants.{BadOrder, BadCpu, NoPages, NotHeld}
-use Rattle.vb_model.specs.declared.replies.Refusal.TheVariants.{RingBroken, NotReady}
-use Rattle.vb_ram.specs.Part.{no_part}
-use Rattle.vb_driver.specs.State.{IsQueue, room, fresh_side, AreRequests, DriverState, fresh_driver}
-use Rattle.vb_driver.specs.State.{given_away, figures_of, pages_named}
-use Rattle.vb_driver.{specs.Areas.{refusal_of, is_free_block, is_covered}, specs.Reaps.places_after}
-use Rattle.vb_driver.specs.Reaps.{with_actual, after_refusal, next_of, pages_sent, without_request}
-use Rattle.vb_driver.{specs.Coding.{buffer_of, statistics_buffer}, specs.Unchanged.AreCountsOf}
-use Rattle.vb_driver.specs.Places.{number_of, is_at, first_place, AreLentBits}
-use Rattle.vb_driver.specs.Requests.{numbers_extent, figures_extent, stranded_first}
+use Rattle.{std.specs.Prelude.{Some, None, replicate}, vb_ring.specs.declared.layout.Layout.Layout}
+use Rattle.vb_model.specs.{declared.places.PlaceCounts.PlaceCounts, Pages.block_at}
+use Rattle.vb_model.specs.declared.places.Place.TheVariants.{Reserved, Free, Used, Giving}
+use Rattle.vb_model.specs.declared.places.Place.TheVariants.{Lent, Taking, Stranded, Reporting}
+use Rattle.vb_model.specs.declared.replies.Refusal.TheVariants.{BadOrder, NotHeld, NotReady}
+use Rattle.vb_model.specs.declared.replies.Refusal.TheVariants.{BadCpu, NoPages, RingBroken}
+use Rattle.{vb_ram.specs.Part.no_part, vb_driver.specs.Requests.{numbers_extent, stranded_first}}
+use Rattle.vb_driver.specs.{State.{IsQueue, given_away, figures_of, pages_named}, Places.is_at}
+use Rattle.vb_driver.specs.State.{room, fresh_side, AreRequests, DriverState, fresh_driver}
+use Rattle.vb_driver.specs.{Areas.{refusal_of, is_free_block, is_covered}, Reaps.after_refusal}
+use Rattle.vb_driver.specs.Reaps.{places_after, with_actual, next_of, pages_sent, without_request}
+use Rattle.vb_driver.specs.{Coding.{buffer_of, statistics_buffer}, Unchanged.AreCountsOf}
+use Rattle.vb_driver.specs.{Places.{number_of, first_place, AreLentBits}, Requests.figures_extent}
 use Rattle.vb_pages.specs.declared.fault.PageFault.TheVariants.{BadOrder as OrderTooLarge}
 use Rattle.vb_pages.specs.declared.fault.PageFault.TheVariants.{BadCpu as NoSuchCpu}
 use Rattle.vb_pages.specs.declared.fault.PageFault.TheVariants.{NoPages as NoFreeBlock}

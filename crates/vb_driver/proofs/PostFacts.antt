@@ -1,17 +1,18 @@
 -- What stands in memory, and what doesn't change, once a request, a report or figures went out.
-use Rattle.std.proofs.Common.{◌≡◌, ◌≢◌, ℕ, ◌+◌, ◌*◌, ◌/◌, ◌%◌, ◌<◌, ◌≤◌, List}
-use Rattle.std.proofs.Common.{[], ◌∷◌, ◌++◌, refl, arith}
+use Rattle.std.proofs.Common.{◌≡◌, ◌≢◌, ℕ, ◌+◌, ◌*◌, ◌/◌, ◌%◌, ◌<◌, ◌≤◌, List, [], ◌∷◌, ◌++◌, refl}
+use Rattle.std.proofs.Common.{arith, true, false}
 use Rattle.std.specs.Prelude.{Some, Ok, length, slice_set, replicate}
-use Rattle.vb_model.specs.{Pages.{Block, block_at}, Layout.is_ring_page}
+use Rattle.vb_model.{specs.Pages.{Block, block_at}, specs.Layout.is_ring_page}
 use Rattle.vb_ram.specs.Pages.{Pages, field, byte_at, page_at, frame_at, contents_at, SameIn}
 use Rattle.vb_chain.specs.Table.{descriptor_at}
-use Rattle.vb_ring.specs.{Ends.{DriverEnd, after_add}, Frame.{SameOutside}, Layout.layout_of}
-use Rattle.vb_ring.specs.{Meaning.{UsedElem, ShowsEntries, Shows, Tracks}, Numbers.numbers}
+use Rattle.vb_driver.specs.State.{ReportSide, fresh_ring, RequestSide, AreRequests, fresh_side}
+use Rattle.vb_driver.{specs.State.fresh_report, specs.Calls.{PostsReport, figures_extent}}
 use Rattle.vb_driver.specs.Coding.{IsCoded, AreFigures, AreReported, SameButPages, SameButBuffer}
-use Rattle.vb_driver.specs.{Coding.AreZeroed, State.{RequestSide, ReportSide, AreRequests}}
-use Rattle.vb_driver.specs.State.{fresh_ring, fresh_side, fresh_report}
-use Rattle.vb_driver.specs.Calls.{Announces, Posts, PostsReport, PostsBuffer, written_of}
-use Rattle.vb_driver.specs.Calls.{numbers_extent, figures_extent}
+use Rattle.vb_driver.specs.Coding.{AreZeroed}
+use Rattle.vb_driver.specs.Calls.{PostsBuffer, written_of, numbers_extent, Announces, Posts}
+use Rattle.vb_ring.{specs.Ends.{DriverEnd, after_add}, specs.Layout.layout_of}
+use Rattle.vb_ring.{specs.Frame.SameOutside, specs.Meaning.{UsedElem, ShowsEntries, Shows, Tracks}}
+use Rattle.vb_ring.specs.Numbers.{numbers}
 
 -- ---- words and bytes
 

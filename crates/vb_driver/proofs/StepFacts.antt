@@ -1,28 +1,28 @@
 -- What the records of a driver's calls say of one state: the answer, and what is left.
-use Rattle.std.proofs.Common.{◌≡◌, ℕ, true, false, [], ◌∷◌, arith, ap, ◌+◌, ◌<◌, List, refl}
+use Rattle.std.proofs.Common.{◌≡◌, false, [], ◌∷◌, arith, ap, ◌+◌, ◌<◌, List, ℕ, true, refl}
 use Rattle.std.specs.Prelude.{Option, Some, None, Result, Ok, Err, Bool, IsTrue, length}
 use Rattle.std.specs.List.{list_all}
+use Rattle.vb_pages.specs.PageState.{AllocatesBlock, TakesFree}
+use Rattle.vb_pages.specs.declared.fault.PageFault.TheVariants.{NoPages as NoFreeBlock}
 use Rattle.vb_model.specs.declared.places.Place.TheVariants.{Reserved, Free, Used, Giving, Lent}
 use Rattle.vb_model.specs.declared.places.Place.TheVariants.{Taking, Stranded, Reporting}
-use Rattle.vb_model.specs.declared.replies.Refusal.{Refusal, TheVariants.RingBroken}
-use Rattle.vb_model.specs.declared.replies.Refusal.TheVariants.{AlreadyUp, BadCpu, NoFeature}
-use Rattle.vb_model.specs.declared.replies.Refusal.TheVariants.{NoFrame, VersionMissing}
+use Rattle.vb_model.{specs.declared.replies.Refusal.Refusal, specs.FirstRefusal.refusal_in}
+use Rattle.vb_model.specs.declared.replies.Refusal.TheVariants.{NoFeature, NoFrame, VersionMissing}
 use Rattle.vb_model.specs.declared.replies.Refusal.TheVariants.{NoPages, NoQueue, NotHeld, Nothing}
-use Rattle.vb_model.{specs.FirstRefusal.refusal_in, specs.Driver.AllDistinct}
+use Rattle.vb_model.specs.declared.replies.Refusal.TheVariants.{RingBroken, AlreadyUp, BadCpu}
+use Rattle.vb_model.specs.Driver.{AllDistinct}
 use Rattle.vb_model.{specs.Pages.{block_at, is_free, place_of, placed}, specs.Layout.is_ring_page}
 use Rattle.vb_ring.{specs.Ends.{after_take, used_answer}, specs.Meaning.{Shows, Tracks}}
 use Rattle.vb_ring.{specs.Calls.TakesUsedBy, specs.Numbers.numbers, specs.Layout.layout_of}
 use Rattle.vb_ram.{specs.Pages.Pages, specs.Part.{Part, no_part}}
 use Rattle.vb_driver.{specs.declared.answers.Posted.Posted, specs.Areas.{areas_with, areas_without}}
-use Rattle.vb_driver.{specs.declared.answers.Reaped.Reaped, specs.State.{page_state, figures_of}}
+use Rattle.vb_driver.specs.declared.answers.Reaped.{Reaped}
+use Rattle.vb_driver.specs.State.{page_state, figures_of, DriverState, fresh_report, fresh_side}
+use Rattle.vb_driver.{specs.State.{fresh_statistics, IsDriver}, specs.Coding.AreZeroed}
 use Rattle.vb_driver.specs.Calls.{AllocatesBy, FreesBy, InflatesBy, DeflatesBy, ReportsBy, ReapsBy}
 use Rattle.vb_driver.specs.Calls.{Reports, PostsReport, Unchanged, PostsBuffer, emptied, IsNewRing}
 use Rattle.vb_driver.specs.Calls.{FillsBy, InitsBy, ResetsBy, DeflatesOnOomBy, Posts, AsksBack}
 use Rattle.vb_driver.{specs.Calls.{FirstBuffer, with_nothing_out}, proofs.DriverFacts.busy}
-use Rattle.vb_driver.specs.State.{DriverState, fresh_report, fresh_side, fresh_statistics, IsDriver}
-use Rattle.vb_driver.specs.Coding.{AreZeroed}
-use Rattle.vb_pages.specs.PageState.{AllocatesBlock, TakesFree}
-use Rattle.vb_pages.specs.declared.fault.PageFault.TheVariants.{NoPages as NoFreeBlock}
 
 abbrev up : Part
 up = record no_part { status = 15 }

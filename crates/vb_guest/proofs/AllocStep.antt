@@ -1,13 +1,12 @@
 -- A guest's allocation is a step of the definitions.
 use Rattle.std.{specs.Prelude.{ℕ, [], Result, Ok, Err, refl}, proofs.Common.{sym, subst, inl, inr}}
-use Rattle.vb_model.specs.{Driver.with_block, Guest.Guest, Pages.{pages_of, placed}}
+use Rattle.{vb_model.specs.{Driver.with_block, Pages.{pages_of, placed}}, vb_ram.specs.Part.Part}
+use Rattle.vb_model.specs.{Guest.Guest, declared.replies.{Refusal.Refusal, Reply.TheVariants.Page}}
 use Rattle.vb_model.specs.declared.{calls.Call.TheVariants.Alloc, places.Place.TheVariants.Used}
-use Rattle.vb_model.specs.declared.replies.{Refusal.Refusal, Reply.TheVariants.Page}
-use Rattle.vb_ram.{specs.Pages.Pages, specs.Part.Part}
+use Rattle.{vb_ram.specs.Pages.Pages, vb_guest.specs.{Steps.StepsAlone, Replies.page_reply}}
 use Rattle.vb_driver.specs.{State.{FreePages, DriverState}, Answers.block_at, Calls.AllocatesBy}
-use Rattle.vb_guest.{specs.Stands.{Honest, Ties}, specs.Steps.StepsAlone, specs.Replies.page_reply}
+use Rattle.vb_guest.{specs.Stands.{Honest, Ties}, proofs.DriverWords.{Sides, driver_of, in_words}}
 use Rattle.vb_guest.proofs.Closing.{honest_performed, honest_refused, steps_alone, ties_areas}
-use Rattle.vb_guest.proofs.DriverWords.{Sides, driver_of, in_words}
 
 by_result : {m : Pages} {p : Part} {g : Guest} (areas : FreePages)
     (sides : Sides) {d2 : DriverState} {cpu order : ℕ} (result : Result ℕ Refusal)

@@ -1,15 +1,14 @@
 -- What a call of `supply_from` makes of one page and of the rest.
-use Rattle.std.specs.Prelude.{◌≡◌, ℕ, suc, ◌+◌, ◌-◌, ◌<◌, ◌≤◌, Bool, true, false}
-use Rattle.std.specs.Prelude.{cond, List, [], ◌∷◌, length, None, filter, Result, Ok, Err, IsErrAnd}
-use Rattle.std.specs.{Prelude.◌++◌, List.range_with_len}
+use Rattle.std.specs.Prelude.{◌≡◌, ℕ, ◌+◌, ◌<◌, true, false, cond, ◌∷◌, length, IsErrAnd, ◌++◌}
+use Rattle.std.specs.Prelude.{suc, ◌-◌, ◌≤◌, Bool, List, [], None, filter, Result, Ok, Err}
+use Rattle.{std.specs.List.range_with_len, vb_ram.specs.Pages.{Pages, frame_at, Supplied}}
 use Rattle.std.proofs.{lemmas.List.{append-nil, append_assoc}, Common.{sym, ◌∙◌, ap, subst, arith}}
 use Rattle.vb_model.specs.{declared.calls.Claim.{Claim, TheVariants.Gave}, Layout.reserved_pages}
-use Rattle.{vb_model.specs.{Driver.given, Orderly.times}, vb_ram.specs.Pages.{Pages, frame_at}}
-use Rattle.{vb_ram.specs.Pages.Supplied, vb_frames.specs.declared.keeper.Refused.Refused}
-use Rattle.{vb_frames.specs.Out.claim_in, vb_guest.specs.Supply.{Supply, is_used, IsClaimed}}
-use Rattle.vb_guest.specs.{Supply.{Moves, nothing}, Lives.{is_bare, bare_from, SuppliesBy}}
-use Rattle.vb_guest.proofs.Supplying.{not_again, supplied_count, supplied_other}
-use Rattle.vb_guest.proofs.Moving.{times_first, times_one, moves_then, moves_as}
+use Rattle.{vb_model.specs.{Driver.given, Orderly.times}, vb_guest.specs.Lives.{is_bare, bare_from}}
+use Rattle.vb_frames.specs.{declared.keeper.Refused.Refused, Out.claim_in}
+use Rattle.vb_guest.specs.{Supply.{Supply, is_used, IsClaimed, nothing}, Lives.SuppliesBy}
+use Rattle.vb_guest.{specs.Supply.Moves, proofs.Moving.{times_first, times_one, moves_then}}
+use Rattle.vb_guest.proofs.{Supplying.{not_again, supplied_count, supplied_other}, Moving.moves_as}
 
 -- ---- the pages without frames
 

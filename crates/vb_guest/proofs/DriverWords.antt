@@ -1,5 +1,5 @@
 -- The driver in the words of its guest.
-use Rattle.{std.{specs.Prelude.◌≡◌, proofs.Common.{◌∙◌, ap, subst}}, vb_model.specs.Guest.Guest}
+use Rattle.{std.{specs.Prelude.◌≡◌, proofs.Common.{subst, arith}}, vb_model.specs.Guest.Guest}
 use Rattle.{vb_ram.specs.{Pages.Pages, Part.Part}, vb_ring.specs.Ends.DriverEnd}
 use Rattle.vb_driver.specs.State.{FreePages, RequestSide, ReportSide, DriverState}
 use Rattle.vb_guest.specs.Stands.{Honest, HasParts, beside_queues, beside_sides, beside_requests}
@@ -38,36 +38,7 @@ driver_of g areas sides = record {
 
 driver_is : (p : Part) {d : DriverState} (g : Guest) → HasParts
     (beside_queues p) (beside_sides d) (beside_requests g) → d ≡ driver_of g d.areas (sides_of d)
-driver_is p {d} g has = ap (λ x. record d { pages = x }) has.driver.pages
-    ∙ ap (λ x. record d { pages = g.config.pages; queue_size = x }) has.driver.queue_size ∙ ap
-    (λ x. record d { pages = g.config.pages; queue_size = g.config.queue_size; processors = x })
-    has.driver.processors ∙ ap (λ x. record d {
-      pages = g.config.pages;
-      queue_size = g.config.queue_size;
-      processors = g.config.processors;
-      places = x;
-    }) has.driver.places ∙ ap (λ x. record d {
-      pages = g.config.pages;
-      queue_size = g.config.queue_size;
-      processors = g.config.processors;
-      places = g.places;
-      held = x;
-    }) has.driver.held ∙ ap (λ x. record d {
-      pages = g.config.pages;
-      queue_size = g.config.queue_size;
-      processors = g.config.processors;
-      places = g.places;
-      held = g.held;
-      features = x;
-    }) has.driver.accepted ∙ ap (λ x. record d {
-      pages = g.config.pages;
-      queue_size = g.config.queue_size;
-      processors = g.config.processors;
-      places = g.places;
-      held = g.held;
-      features = g.features;
-      actual = x;
-    }) has.driver.told
+driver_is p g has = grind arith
 
 -- what a call did to a driver, said of the guest's driver
 pub in_words : {R : Type 0} (P : DriverState → Type 0) {m : Pages} {p : Part}

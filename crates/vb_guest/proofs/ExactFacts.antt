@@ -1,21 +1,22 @@
 -- What the exact records of a guest's calls say, of bytes, frames and lives.
 use Rattle.std.proofs.Common.{◌≡◌, ◌⊎◌, ℕ, true, false, List, [], ◌∷◌, refl, arith, ap}
 use Rattle.std.specs.Prelude.{Bool, Option, Some, None, Result, Ok, Err, IsOk, is_some}
-use Rattle.vb_model.specs.declared.calls.Claim.{Claim, TheVariants.{Gave, GaveNoFrame}}
-use Rattle.vb_model.specs.declared.calls.Claim.TheVariants.{GaveNoMemory}
-use Rattle.vb_model.specs.declared.calls.Call.TheVariants.{Alloc, Free as FreeBlock, Read, Write}
-use Rattle.vb_model.specs.declared.calls.Call.TheVariants.{Scribble, Take, Work, Finish, Sweep, Ask}
-use Rattle.vb_model.specs.declared.{calls.Call.TheVariants.SetTarget, replies.Reply.{Reply}}
-use Rattle.vb_model.specs.declared.places.Place.{Place, TheVariants.{Used, Free}}
-use Rattle.vb_model.specs.declared.replies.Refusal.{Refusal, TheVariants.{NoFrame, NoMemory}}
-use Rattle.vb_model.specs.declared.replies.Refusal.TheVariants.{AlreadyUp, NotHeld, OutOfRam}
+use Rattle.vb_model.{specs.declared.calls.Claim.Claim, specs.declared.places.Place.Place}
+use Rattle.vb_model.specs.declared.calls.Call.TheVariants.{Ask, SetTarget, Free as FreeBlock, Write}
+use Rattle.vb_model.specs.declared.calls.Call.TheVariants.{Take, Work, Finish, Alloc, Read, Sweep}
+use Rattle.vb_model.specs.declared.calls.Call.TheVariants.{Scribble}
+use Rattle.vb_model.specs.declared.calls.Claim.TheVariants.{Gave, GaveNoFrame, GaveNoMemory}
+use Rattle.vb_model.{specs.declared.replies.Reply.Reply, specs.declared.replies.Refusal.Refusal}
+use Rattle.vb_model.specs.declared.places.Place.TheVariants.{Used, Free}
+use Rattle.vb_model.specs.declared.replies.Refusal.TheVariants.{NoFrame, NoMemory, AlreadyUp}
+use Rattle.vb_model.specs.declared.replies.Refusal.TheVariants.{NotHeld, OutOfRam}
+use Rattle.vb_guest.{specs.Supply.{Supply, IsClaimed}, specs.Promises.Moment, specs.Steps.IsBare}
+use Rattle.vb_guest.specs.Exact.{IsHandedBack, IsReset, KeepsFrames, PutsBy, ReadsBy, FillsBy}
+use Rattle.vb_guest.{specs.Exact.{Continues, InitialisesBy, IsQuiet}, specs.Dispatch.CallsBy}
 use Rattle.vb_frames.specs.declared.keeper.Refused.TheVariants.{NoFrame as None_left, Memory}
 use Rattle.vb_frames.specs.Out.{TableAnswers}
 use Rattle.vb_driver.{specs.State.{DriverState, fresh_driver}, specs.Calls.{InitsBy, Unchanged}}
 use Rattle.vb_ram.{specs.Pages.{Pages, frame_at, Wrote, Supplied}, specs.Part.{Part, no_part}}
-use Rattle.vb_guest.specs.{Supply.{Supply, IsClaimed}, Exact.{IsHandedBack, IsReset, KeepsFrames}}
-use Rattle.vb_guest.specs.Exact.{PutsBy, ReadsBy, FillsBy, Continues, InitialisesBy, IsQuiet}
-use Rattle.vb_guest.specs.{Dispatch.CallsBy, Promises.Moment, Steps.IsBare}
 
 -- page 1 has a frame
 abbrev mem : Pages

@@ -1,16 +1,15 @@
 -- The device uses a taken request.
-use Rattle.std.specs.Prelude.{◌≡◌, ◌≢◌, ℕ, ◌+◌, ◌%◌, ◌<◌}
-use Rattle.std.specs.Prelude.{true, List, [], ◌∷◌, ◌++◌, remove, Some, slice_get, slice_index_or}
+use Rattle.std.specs.Prelude.{◌≡◌, ℕ, ◌%◌, List, [], ◌∷◌, remove, Some, slice_get, slice_index_or}
+use Rattle.{std.specs.Prelude.{◌≢◌, ◌+◌, ◌<◌, true, ◌++◌}, vb_chain.specs.Table.descriptor_at}
 use Rattle.std.proofs.{lemmas.List.Elements.All-push, Common.{sym, ◌∙◌, ap, subst, arith}}
-use Rattle.vb_model.specs.Layout.{ring_page, buffers_page, buffer_page}
-use Rattle.{vb_model.specs.Requests.{Request, Requests}, vb_ram.specs.{Part.QueuePart, Pages.Pages}}
-use Rattle.{vb_chain.specs.Table.descriptor_at, vb_ring.specs.declared.layout.Layout.Layout}
+use Rattle.vb_model.specs.{Layout.{ring_page, buffers_page, buffer_page}, Requests.Requests}
+use Rattle.{vb_model.specs.Requests.Request, vb_guest.proofs.Apart.{buffer_apart_page, coded_kept}}
+use Rattle.{vb_ram.specs.{Part.QueuePart, Pages.Pages}, vb_ring.specs.declared.layout.Layout.Layout}
 use Rattle.vb_ring.specs.{Ends.{DriverEnd, DeviceEnd}, Layout.{IsSize, layout_of}, Calls.AddsUsedBy}
 use Rattle.vb_driver.specs.{State.{RequestSide, ReportSide}, Coding.{IsCoded, AreReported}}
-use Rattle.vb_guest.proofs.Heads.{heads-push, heads-remove, heads-get, all_remove}
-use Rattle.vb_guest.proofs.{Heads.one_of, RingUsed.ring_used, Apart.buffer_apart_page}
-use Rattle.vb_guest.{proofs.{Apart.coded_kept, RingApart.ring_parts}, specs.Line.QueueLine}
-use Rattle.vb_guest.specs.{Line.{IsRequest, RingOf, heads_of}, Reported.IsReport, Ring.RingStands}
+use Rattle.vb_guest.proofs.{Heads.{heads-push, heads-remove, heads-get, one_of}, RingUsed.ring_used}
+use Rattle.vb_guest.{proofs.{Heads.all_remove, RingApart.ring_parts}, specs.Reported.IsReport}
+use Rattle.vb_guest.specs.{Line.{QueueLine, IsRequest, RingOf, heads_of}, Ring.RingStands}
 
 -- the device's end of a queue
 abbrev pub end_of : DriverEnd → QueuePart → DeviceEnd

@@ -1,11 +1,10 @@
 -- A guest as it is plugged in, or as a new life begins.
-use Rattle.std.specs.Prelude.{◌≡◌, ℕ, true}
-use Rattle.std.specs.Prelude.{false, None, zero, suc, count_by, replicate, slice_index_or, refl}
+use Rattle.std.specs.Prelude.{◌≡◌, ℕ, true, false, None, zero, suc, replicate, slice_index_or, refl}
+use Rattle.{std.specs.Prelude.count_by, vb_ram.{proofs.Contents.length-zero_page, specs.Part.Part}}
 use Rattle.std.proofs.{Common.arith, lemmas.List.{length-replicate, get_or-replicate, get_or_past}}
-use Rattle.vb_model.specs.{Limits.is_config, Guest.{Config, fresh, no_statistics, zero_page}}
+use Rattle.{vb_model.specs.{Limits.is_config, Guest.fresh}, vb_driver.specs.State.fresh_driver}
+use Rattle.vb_model.{specs.Guest.{Config, no_statistics, zero_page}, proofs.Tables.count_by-cons}
 use Rattle.vb_model.proofs.{LifeSteps.fresh_consistent, OrderlySteps.fresh_order}
-use Rattle.{vb_model.proofs.Tables.count_by-cons, vb_ram.proofs.Contents.length-zero_page}
-use Rattle.{vb_ram.specs.Part.Part, vb_driver.specs.State.fresh_driver}
 use Rattle.vb_guest.specs.{Stands.{Honest, DeviceKeeps, HasPages}, Steps.is_frame}
 
 -- a list of one element has it everywhere

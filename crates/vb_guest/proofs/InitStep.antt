@@ -1,29 +1,28 @@
 -- A guest's initialisation is a step of the definitions.
-use Rattle.std.specs.Prelude.{◌≡◌, ◌≢◌, ℕ, ◌<◌, ◌≤◌, ◌==◌, Bool, true, false, not}
-use Rattle.std.specs.Prelude.{◌-◌, ◌&&◌, List, [], ◌∷◌, length, Option, Some, None, IsSome, is_some}
-use Rattle.std.specs.Prelude.{is_none, MatchOption, Result, Ok, Err, filter, count_by, refl}
-use Rattle.std.specs.List.{range_with_len, list_all}
-use Rattle.std.proofs.{lemmas.Bool.cases_Bool, Common.{sym, ◌∙◌, ap, subst, arith, inl, inr}}
-use Rattle.vb_model.proofs.{Performed.Supplying, Shapes.{reserved_most, start_reserved}}
-use Rattle.vb_model.specs.{Driver.{given, figures}, Guest.{Guest, frame_of, all_backed, stats_vq}}
-use Rattle.vb_model.specs.Layout.{reserved_pages, is_start_page, start_pages}
-use Rattle.vb_model.specs.Life.{lacking, feature_refusal, accepted_before, Negotiates}
-use Rattle.vb_model.specs.Refusals.{◌⇒◌, first_refusal, refusal_of}
-use Rattle.vb_model.specs.{Tests.is_in, declared.calls.{Call.TheVariants.Init, Claim.Claim}}
-use Rattle.vb_model.specs.declared.replies.Refusal.{Refusal, TheVariants.AlreadyUp}
-use Rattle.vb_model.specs.declared.replies.Reply.{Reply, TheVariants.{Ready, Refused}}
-use Rattle.vb_ram.specs.{Pages.{Pages, frame_at, number_of}, Part.Part, declared.shape.Shape.Shape}
+use Rattle.{std.specs.Prelude.{◌≡◌, ◌==◌, Ok}, vb_ram.specs.Pages.{Pages, frame_at, number_of}}
+use Rattle.std.specs.Prelude.{◌≢◌, ℕ, ◌<◌, Bool, true, ◌-◌, ◌∷◌, Some, None, IsSome, is_none, Err}
+use Rattle.std.specs.Prelude.{◌≤◌, ◌&&◌, List, [], Option, is_some, Result, filter, count_by, refl}
+use Rattle.std.specs.{Prelude.{false, not, length, MatchOption}, List.{range_with_len, list_all}}
+use Rattle.std.proofs.{lemmas.Bool.cases_Bool, Common.{◌∙◌, subst, arith, inl, inr}}
+use Rattle.{std.proofs.Common.{sym, ap}, vb_model.proofs.Shapes.{reserved_most, start_reserved}}
+use Rattle.vb_model.{proofs.Performed.Supplying, specs.Layout.{reserved_pages, is_start_page}}
+use Rattle.vb_model.specs.{Driver.{given, figures}, Guest.all_backed, Refusals.{◌⇒◌, refusal_of}}
+use Rattle.vb_model.specs.{Guest.{Guest, frame_of, stats_vq}, Layout.start_pages, Tests.is_in}
+use Rattle.vb_model.specs.{Life.{lacking, accepted_before, Negotiates}, Refusals.first_refusal}
+use Rattle.vb_model.specs.{Life.feature_refusal, declared.replies.Refusal.TheVariants.AlreadyUp}
+use Rattle.vb_model.specs.declared.{calls.{Call.TheVariants.Init, Claim.Claim}, replies.Reply.Reply}
+use Rattle.vb_model.specs.declared.replies.{Refusal.Refusal, Reply.TheVariants.{Ready, Refused}}
+use Rattle.{vb_ram.specs.{Part.Part, declared.shape.Shape.Shape}, vb_guest.specs.Lives.AllSupplied}
 use Rattle.vb_frames.specs.declared.keeper.Refused.{Refused as WhyRefused}
-use Rattle.vb_driver.specs.{State.DriverState, Answers.{has_frames, init_causes}}
-use Rattle.{vb_driver.specs.Calls.{InitsBy, InitRefused, GivesUp}, vb_guest.specs.Stands.Honest}
-use Rattle.vb_guest.specs.Stands.{Ties, HasParts, HasPages, IsIdle, beside_queues, beside_sides}
-use Rattle.vb_guest.specs.{Stands.beside_requests, Replies.ready_reply, Steps.is_frame}
-use Rattle.vb_guest.specs.{Steps.{backing_count, StepsAlone, StepsOver}, Supply.{Supply, supply_of}}
-use Rattle.vb_guest.specs.{Supply.Moves, Lives.{is_bare, bare_from, AllSupplied, why_unsupplied}}
-use Rattle.vb_guest.{specs.Lives.SuppliesBy, proofs.Supplying.{all_distinct, bounded, among}}
-use Rattle.vb_guest.proofs.Supplying.{supplied_count, supplied_other, supplied_backed, pages_filled}
-use Rattle.vb_guest.proofs.{Supplying.frames_filled, Freed.large, Closing.honest_performed}
-use Rattle.vb_guest.proofs.{Closing.{guest_step, still_stands}, Writing.frames_of, Moving.moves_as}
+use Rattle.vb_driver.specs.{State.DriverState, Calls.{InitsBy, InitRefused, GivesUp}}
+use Rattle.{vb_driver.specs.Answers.{has_frames, init_causes}, vb_guest.proofs.Writing.frames_of}
+use Rattle.vb_guest.specs.{Stands.{Honest, Ties, HasParts, HasPages, beside_sides}, Steps.StepsOver}
+use Rattle.vb_guest.specs.{Stands.{IsIdle, beside_queues, beside_requests}, Supply.{Supply, Moves}}
+use Rattle.vb_guest.specs.{Replies.ready_reply, Steps.{is_frame, backing_count, StepsAlone}}
+use Rattle.vb_guest.specs.{Supply.supply_of, Lives.{is_bare, bare_from, why_unsupplied, SuppliesBy}}
+use Rattle.vb_guest.proofs.Supplying.{all_distinct, supplied_count, supplied_other, supplied_backed}
+use Rattle.vb_guest.proofs.{Supplying.{bounded, among, pages_filled, frames_filled}, Freed.large}
+use Rattle.vb_guest.proofs.{Closing.{honest_performed, guest_step, still_stands}, Moving.moves_as}
 use Rattle.vb_guest.proofs.{Kept.SameOwn, Starting.{first_buffer, started, stopped}}
 
 -- ---- a device that isn't new

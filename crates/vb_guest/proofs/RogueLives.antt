@@ -1,9 +1,11 @@
 -- A guest that wrote past its driver is initialised; an honest guest becomes one.
 use Rattle.std.specs.Prelude.{◌≡◌, ℕ, ◌-◌, ◌<◌, Bool, true, false, List, [], length, Option, Some}
 use Rattle.std.specs.Prelude.{Result, Ok, Err, IsSome, MatchOption, refl, ◌≤◌, ◌≢◌, not, ◌==◌, ◌∷◌}
-use Rattle.{std.{specs.Prelude.None, proofs.lemmas.Bool.ne_eqb}, vb_guest.specs.Stands.Rogue}
-use Rattle.std.proofs.{lemmas.List.length-replicate, Common.{sym, ◌∙◌, ap, subst, arith}}
-use Rattle.{std.proofs.lemmas.List.Elements.All-nil, vb_guest.proofs.Supplying.supplied_count}
+use Rattle.{std.specs.Prelude.None, vb_guest.proofs.{Supplying.frames_filled, Fresh.everywhere}}
+use Rattle.std.proofs.lemmas.{Bool.ne_eqb, List.{length-replicate, Elements.All-nil}}
+use Rattle.{vb_guest.specs.{Stands.Rogue, Replies.ready_reply}, vb_ram.proofs.Limits.config_limits}
+use Rattle.{std.proofs.Common.{sym, ◌∙◌, ap, subst, arith}, vb_ram.specs.Pages.{Pages, frame_at}}
+use Rattle.vb_guest.proofs.Supplying.{supplied_count, all_distinct, bounded, frames_given}
 use Rattle.vb_model.proofs.{Shapes.reserved_most, Wanting.{wants, no_want, refused_otherwise}}
 use Rattle.vb_model.specs.{Driver.{AllDistinct, given, AreClaimsFor, claim_refusal}, Tests.is_in}
 use Rattle.vb_model.specs.{FirstRefusal.{◌⇒◌, first_refusal}, Guest.{Guest, all_backed, stats_vq}}
@@ -14,16 +16,13 @@ use Rattle.vb_model.specs.Rogue.{LosesFrames, pages_to_back, unless_refused, aft
 use Rattle.vb_model.specs.declared.{calls.Call.TheVariants.Init, replies.Reply.TheVariants.Refused}
 use Rattle.vb_model.specs.declared.replies.{LastStatistics.LastStatistics, Refusal.Refusal}
 use Rattle.vb_model.specs.declared.replies.Refusal.TheVariants.{AlreadyUp, NoFrame, NoMemory}
-use Rattle.vb_ram.{specs.{Pages.{Pages, frame_at}, Part.Part}, proofs.Limits.config_limits}
-use Rattle.vb_frames.specs.declared.keeper.Refused.{Refused as WhyRefused}
+use Rattle.{vb_ram.specs.Part.Part, vb_frames.specs.declared.keeper.Refused.Refused as WhyRefused}
 use Rattle.vb_driver.specs.{State.DriverState, Calls.{InitsBy, Starts, FirstBuffer, GivesUp}}
 use Rattle.vb_guest.proofs.Rogues.{shape_of, shaped, Keeps, DeviceSame, driver_same, rogue_after}
 use Rattle.vb_guest.proofs.Rogues.{rogue_stands, rogue_steps, device_alike, kept_of_rogue}
-use Rattle.vb_guest.proofs.Supplying.{all_distinct, bounded, frames_given, frames_filled}
-use Rattle.vb_guest.proofs.{Fresh.everywhere, Moving.moves_as, Writing.HasFrames}
-use Rattle.vb_guest.proofs.InitStep.{bare_is, now_backed, has_all, driver_causes}
+use Rattle.vb_guest.proofs.{Moving.moves_as, InitStep.{bare_is, now_backed, has_all, driver_causes}}
+use Rattle.vb_guest.{proofs.Writing.HasFrames, specs.Steps.{backing_count, StepsAlone, StepsOver}}
 use Rattle.vb_guest.{proofs.InitStep.given_up as stopped, specs.Supply.{Supply, supply_of, Moves}}
-use Rattle.vb_guest.specs.{Replies.ready_reply, Steps.{backing_count, StepsAlone, StepsOver}}
 use Rattle.vb_guest.specs.Lives.{is_bare, bare_from, AllSupplied, why_unsupplied, SuppliesBy}
 
 pub init_up_rogue : {m : Pages} {p : Part} {d : DriverState} {g : Guest} {wanted : ℕ}

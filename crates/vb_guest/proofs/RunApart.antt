@@ -1,12 +1,11 @@
 -- What leaves the queues of a running guest alone.
-use Rattle.std.{specs.Prelude.{◌≡◌, ◌≢◌, ℕ, ◌+◌, ◌<◌, ◌≤◌, length}, proofs.Common.sym}
-use Rattle.{std.proofs.Common.{subst, arith}, vb_model.specs.Layout.{reserved_pages, ring_number}}
-use Rattle.vb_model.{specs.{Layout.{ring_page, buffers_page}, Guest.Guest}, proofs.Shapes.InRing}
-use Rattle.{vb_model.proofs.Shapes.rings_apart, vb_ram.specs.Pages.{Pages, page_at, frame_at}}
-use Rattle.{vb_ram.specs.Part.Part, vb_ring.specs.{declared.layout.Layout.Layout, Layout.IsSize}}
-use Rattle.{vb_ring.specs.{Layout.layout_of, Ends.DriverEnd}, vb_driver.specs.State.DriverState}
-use Rattle.{vb_driver.proofs.Shapes.buffers_between, vb_guest.proofs.Apart.SameLine}
-use Rattle.vb_guest.proofs.Apart.{SameReserved, SameBut, no_buffer, other_ring, other_line}
+use Rattle.{std.specs.Prelude.{◌≡◌, ◌≢◌, ℕ, ◌+◌, ◌<◌, ◌≤◌, length}, vb_guest.proofs.Apart.SameBut}
+use Rattle.{std.proofs.Common.{sym, subst, arith}, vb_model.proofs.Shapes.{InRing, rings_apart}}
+use Rattle.vb_model.specs.Layout.{reserved_pages, ring_number, ring_page, buffers_page}
+use Rattle.{vb_model.specs.Guest.Guest, vb_ram.specs.{Pages.{Pages, page_at, frame_at}, Part.Part}}
+use Rattle.vb_ring.specs.{declared.layout.Layout.Layout, Layout.{IsSize, layout_of}, Ends.DriverEnd}
+use Rattle.vb_driver.{specs.State.DriverState, proofs.Shapes.buffers_between}
+use Rattle.vb_guest.proofs.Apart.{SameLine, SameReserved, no_buffer, other_ring, other_line}
 use Rattle.vb_guest.{proofs.{RingApart.SameRing, PagesKept.SamePages}, specs.Stands.IsRunning}
 
 -- all four rings have so many descriptors

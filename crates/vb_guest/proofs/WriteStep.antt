@@ -1,24 +1,23 @@
 -- A guest's write is a step of the definitions.
-use Rattle.std.specs.Prelude.{◌≡◌, ℕ, ◌<◌, ◌≤◌, Bool, true, false, List, []}
-use Rattle.std.specs.Prelude.{◌∷◌, length, Option, Some, None, IsSome, Result, Err, IsOk}
-use Rattle.std.{specs.Prelude.{refl, ◌⊎◌}, proofs.Common.{sym, ◌∙◌, ap, subst, arith, inl, inr}}
-use Rattle.std.proofs.lemmas.Bool.{cases_lt, Decides.nat_tests}
-use Rattle.vb_model.{proofs.Performed.Supplying, specs.Driver.{overwritten, pages_needed, Written}}
-use Rattle.vb_model.specs.{Guest.{Guest, frame_of, backed}, Layout.reserved_pages, Pages.place_of}
-use Rattle.vb_model.specs.{Pages.is_used, Refusals.{◌⇒◌, first_refusal, refusal_of, is_outside}}
+use Rattle.std.specs.Prelude.{◌≡◌, ℕ, ◌≤◌, true, false, List, [], ◌∷◌, length, Result, IsOk, refl}
+use Rattle.std.{specs.Prelude.{◌<◌, Err, ◌⊎◌}, proofs.Common.{sym, ◌∙◌, ap, subst, arith, inl, inr}}
+use Rattle.{std.specs.Prelude.{Bool, Option, Some, None, IsSome}, vb_ram.specs.Part.Part}
+use Rattle.{std.proofs.lemmas.Bool.{cases_lt, Decides.nat_tests}, vb_guest.specs.Supply.supply_of}
+use Rattle.vb_model.{proofs.Performed.Supplying, specs.Refusals.{◌⇒◌, refusal_of, is_outside}}
+use Rattle.vb_model.specs.{Driver.{overwritten, pages_needed, Written}, Guest.{Guest, backed}}
+use Rattle.vb_model.specs.{Guest.frame_of, declared.replies.Reply.TheVariants.{Done, Refused}}
+use Rattle.vb_model.specs.{Layout.reserved_pages, Pages.{place_of, is_used}, Refusals.first_refusal}
 use Rattle.vb_model.specs.declared.calls.{Call.TheVariants.Write, Claim.{Claim, TheVariants.Gave}}
-use Rattle.vb_model.specs.declared.replies.Refusal.{Refusal, TheVariants.{NotHeld, OutOfRam}}
-use Rattle.vb_model.specs.declared.replies.Refusal.TheVariants.{NoMemory, NoFrame as NoFrameLeft}
-use Rattle.vb_model.specs.declared.replies.Reply.TheVariants.{Done, Refused}
-use Rattle.vb_ram.specs.Pages.{Pages, frame_at, Covers, Wrote}
-use Rattle.vb_ram.specs.{Pages.Supplied, Part.Part, declared.fault.RamFault.RamFault}
-use Rattle.vb_ram.specs.declared.fault.RamFault.TheVariants.{NeedsFrame, OutOfRam as OutOfMemory}
-use Rattle.vb_frames.specs.declared.keeper.Refused.{Refused as KeeperRefused, TheVariants.NoFrame}
-use Rattle.vb_frames.specs.{declared.keeper.Refused.TheVariants.Memory, Out.claim_in}
-use Rattle.{vb_driver.specs.State.DriverState, vb_guest.proofs.Closing.honest_performed}
-use Rattle.vb_guest.proofs.Closing.{guest_step, still_stands, steps_alone, honest_own}
+use Rattle.vb_model.specs.declared.replies.Refusal.{Refusal, TheVariants.{OutOfRam, NoMemory}}
+use Rattle.vb_model.specs.declared.replies.Refusal.TheVariants.{NotHeld, NoFrame as NoFrameLeft}
+use Rattle.{vb_ram.specs.Pages.{Pages, Covers, Supplied}, vb_driver.specs.State.DriverState}
+use Rattle.vb_ram.specs.{Pages.{frame_at, Wrote}, declared.fault.RamFault.TheVariants.NeedsFrame}
+use Rattle.vb_ram.specs.declared.fault.RamFault.{RamFault, TheVariants.OutOfRam as OutOfMemory}
+use Rattle.vb_frames.specs.{declared.keeper.Refused.Refused as KeeperRefused, Out.claim_in}
+use Rattle.vb_frames.specs.declared.keeper.Refused.TheVariants.{NoFrame, Memory}
+use Rattle.vb_guest.proofs.{Closing.{honest_performed, steps_alone}, Moving.{moves_as, times_one}}
+use Rattle.vb_guest.proofs.{Closing.{guest_step, still_stands, honest_own}, Running.runs_on}
 use Rattle.vb_guest.proofs.Writing.{at_page, used_high, pages_wrote, pages_supplied, count_backed}
-use Rattle.vb_guest.{proofs.{Running.runs_on, Moving.{moves_as, times_one}}, specs.Supply.supply_of}
 use Rattle.vb_guest.specs.{Supply.IsClaimed, Steps.{StepsAlone, StepsOver}, Stands.{Honest, Ties}}
 
 -- how a refused claim is replied

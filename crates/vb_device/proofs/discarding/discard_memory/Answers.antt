@@ -1,7 +1,6 @@
-use Rattle.std.{proofs.Common.arith, proofs.lemmas.List.{append-nil, take_all}}
-use Rattle.std.proofs.lemmas.List.FromFn.{length-range_with_len, get_or-range_with_len}
-use Rattle.vb_device.proofs.Discards.{discard_more, loose_more, discarded_none, all_once}
-use Rattle.vb_device.proofs.Discards.{all_discarded}
+use Rattle.{std.proofs.{Common.arith, lemmas.List.append-nil}, vb_device.proofs.Discards.loose_more}
+use Rattle.std.proofs.lemmas.List.{take_all, FromFn.{length-range_with_len, get_or-range_with_len}}
+use Rattle.vb_device.proofs.Discards.{discard_more, discarded_none, all_once, all_discarded}
 use Rattle.vb_device.proofs.discarding.discard_memory.Goals as goal
 
 pub loop-page-init : goal.loop-page-init

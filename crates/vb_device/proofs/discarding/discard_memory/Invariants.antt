@@ -1,7 +1,6 @@
 use Rattle.std.{proofs.Common.{◌≡◌, ◌≤◌, ◌+◌, ◌++◌, take, length}, specs.Prelude.vec_capacity}
-use Rattle.std.specs.List.{range_with_len}
-use Rattle.vb_device.{specs.Base.numbers_of_frames, specs.Discards.{discarded, frames_behind}}
-use Rattle.vb_device.proofs.Discards.{frame_count}
+use Rattle.{std.specs.List.range_with_len, vb_device.specs.Base.numbers_of_frames}
+use Rattle.vb_device.{specs.Discards.{discarded, frames_behind}, proofs.Discards.frame_count}
 use Rattle.vb_request.specs.Request.{each_once}
 use Rattle.vb_device.proofs.discarding.discard_memory.Given as goal
 

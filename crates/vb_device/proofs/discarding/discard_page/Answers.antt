@@ -1,5 +1,4 @@
-use Rattle.std.proofs.Common.{arith}
-use Rattle.vb_device.proofs.Discards.{loses_found}
+use Rattle.{std.proofs.Common.arith, vb_device.proofs.Discards.loses_found}
 use Rattle.vb_device.proofs.discarding.discard_page.Goals as goal
 
 pub put_loose-requires : goal.put_loose-requires

@@ -1,5 +1,4 @@
-use Rattle.std.proofs.Common.{◌≡◌, take}
-use Rattle.vb_device.specs.Discards.{flagged}
+use Rattle.{std.proofs.Common.{◌≡◌, take}, vb_device.specs.Discards.flagged}
 use Rattle.vb_device.proofs.flags.set_all.Given as goal
 
 abbrev pub invariant-loop-k : goal.invariant-loop-k

@@ -1,5 +1,4 @@
-use Rattle.std.proofs.Common.{arith}
-use Rattle.vb_guest.proofs.Moving.{own_gone, goes_back}
+use Rattle.{std.proofs.Common.arith, vb_guest.proofs.Moving.{own_gone, goes_back}}
 use Rattle.vb_guest.proofs.frames.return_loose.Goals as goal
 
 pub loop-frame-preserved : goal.loop-frame-preserved

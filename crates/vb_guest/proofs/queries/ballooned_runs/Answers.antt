@@ -1,7 +1,6 @@
-use Rattle.std.proofs.Common.{◌∙◌, ap, arith, sym, false}
-use Rattle.vb_guest.proofs.Runs.{runs_more, runs_same}
+use Rattle.{std.proofs.Common.{◌∙◌, ap, arith, sym, false}, vb_guest.proofs.Runs.runs_more}
+use Rattle.vb_guest.proofs.{Runs.runs_same, queries.ballooned_runs.Goals.else-ballooned}
 use Rattle.vb_guest.proofs.queries.ballooned_runs.Goals.{then-ballooned+in_ok-push_page}
-use Rattle.vb_guest.proofs.queries.ballooned_runs.Goals.{else-ballooned}
 use Rattle.vb_guest.proofs.queries.ballooned_runs.Goals as goal
 
 pub loop-page-preserved : goal.loop-page-preserved

@@ -1,6 +1,5 @@
-use Rattle.std.proofs.Common.{◌∙◌, ap, sym}
-use Rattle.vb_model.{specs.declared.places.Place.TheVariants.Reserved, specs.Queries.is_place}
-use Rattle.vb_guest.proofs.Runs.{runs_more, runs_same}
+use Rattle.{std.proofs.Common.{◌∙◌, ap, sym}, vb_guest.proofs.Runs.{runs_more, runs_same}}
+use Rattle.vb_model.specs.{declared.places.Place.TheVariants.Reserved, Queries.is_place}
 use Rattle.vb_guest.proofs.queries.runs_at.Goals.{then-is_at+in_ok-push_page, else-is_at}
 use Rattle.vb_guest.proofs.queries.runs_at.Goals as goal
 

@@ -1,7 +1,6 @@
-use Rattle.std.proofs.Common.{◌∙◌, refl, ap, sym}
-use Rattle.vb_model.specs.Device.{next_page}
-use Rattle.vb_device.{proofs.Finishes.{visits_attached, visits_some}, specs.QueueState.QueueState}
-use Rattle.vb_device.{proofs.FourQueues.{entry_is, last_entry}, specs.Base.queue_at}
+use Rattle.{std.proofs.Common.{◌∙◌, refl, ap, sym}, vb_model.specs.Device.next_page}
+use Rattle.vb_device.proofs.{Finishes.{visits_attached, visits_some}, FourQueues.entry_is}
+use Rattle.vb_device.{specs.{QueueState.QueueState, Base.queue_at}, proofs.FourQueues.last_entry}
 use Rattle.vb_device.proofs.balloon.BalloonDevice.count_visit.Goals as goal
 
 pub returns-in-Some-clause-attached : goal.returns-in-Some-clause-attached

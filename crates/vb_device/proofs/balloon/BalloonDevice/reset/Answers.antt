@@ -1,6 +1,5 @@
 use Rattle.std.proofs.Common.{false, length, List, Bool, ap, ◌∙◌, rules}
-use Rattle.std.proofs.lemmas.List.{length-replicate}
-use Rattle.vb_status.specs.Bits.{status_bits}
+use Rattle.{std.proofs.lemmas.List.length-replicate, vb_status.specs.Bits.status_bits}
 use Rattle.vb_device.proofs.FourQueues.{base_restarted}
 use Rattle.vb_device.proofs.balloon.BalloonDevice.reset.Goals as goal
 

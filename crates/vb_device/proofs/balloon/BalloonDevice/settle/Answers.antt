@@ -1,14 +1,12 @@
-use Rattle.std.proofs.Common.{◌≡◌, ◌∙◌, ℕ, List, Bool, None, Some, get_or, true, sym, ap, subst, rules}
+use Rattle.std.proofs.Common.{◌≡◌, ◌∙◌, ℕ, Bool, None, Some, get_or, true, sym, ap, subst, rules}
+use Rattle.{std.proofs.Common.List, vb_device.specs.{Base.{queue_at, IsBase}, State.DeviceState}}
 use Rattle.std.{specs.Prelude.{length, slice_get, vec_capacity}, proofs.Math.ListN.set}
-use Rattle.vb_model.{specs.declared.replies.LastStatistics.LastStatistics, specs.Tables.has_chains}
-use Rattle.vb_model.{specs.Status.{contains, driver_ok}, specs.Requests.Request}
-use Rattle.vb_ram.specs.Pages.{Pages}
-use Rattle.vb_status.specs.Bits.{status_bits, feature_bits}
-use Rattle.vb_device.specs.Calls.{without_frames}
+use Rattle.{vb_model.specs.declared.replies.LastStatistics.LastStatistics, vb_ram.specs.Pages.Pages}
+use Rattle.vb_model.specs.{Tables.has_chains, Status.{contains, driver_ok}, Requests.Request}
+use Rattle.{vb_status.specs.Bits.{status_bits, feature_bits}, vb_device.proofs.Marks.after-length}
+use Rattle.vb_device.specs.{Calls.without_frames, BaseCalls.queue_refusal, QueueState.QueueState}
 use Rattle.vb_device.proofs.Finishes.{without_taken, base_used, has_pages, can_use, kept_length}
-use Rattle.vb_device.proofs.{FourQueues.entry_is, Marks.after-length, TakesBy.queue_known}
-use Rattle.vb_device.{proofs.TakesBy.{queue_status, status_ok}, specs.Base.{queue_at, IsBase}}
-use Rattle.vb_device.specs.{BaseCalls.queue_refusal, QueueState.QueueState, State.DeviceState}
+use Rattle.vb_device.proofs.{FourQueues.entry_is, TakesBy.{queue_known, queue_status, status_ok}}
 use Rattle.vb_device.proofs.balloon.BalloonDevice.settle.Goals as goal
 
 pub invariant_of-self : goal.invariant_of-self

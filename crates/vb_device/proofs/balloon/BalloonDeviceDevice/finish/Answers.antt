@@ -1,5 +1,4 @@
-use Rattle.std.proofs.Common.{arith}
-use Rattle.vb_device.proofs.Settles.{finishes_err, finishes_ok}
+use Rattle.{std.proofs.Common.arith, vb_device.proofs.Settles.{finishes_err, finishes_ok}}
 use Rattle.vb_device.proofs.balloon.BalloonDeviceDevice.finish.Goals as goal
 
 pub returns-in_err-head : goal.returns-in_err-head

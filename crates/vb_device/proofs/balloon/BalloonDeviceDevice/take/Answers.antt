@@ -1,10 +1,9 @@
-use Rattle.std.proofs.Common.{arith, ◌≡◌, true, None, sym}
-use Rattle.vb_model.{specs.declared.replies.LastStatistics.LastStatistics, specs.Tables.has_chains}
-use Rattle.vb_status.specs.Bits.{status_bits, feature_bits}
+use Rattle.{std.proofs.Common.{arith, ◌≡◌, true, None, sym}, vb_device.specs.QueueState.TakesNext}
+use Rattle.vb_model.specs.{declared.replies.LastStatistics.LastStatistics, Tables.has_chains}
+use Rattle.{vb_status.specs.Bits.{status_bits, feature_bits}, vb_device.proofs.FourQueues.entry_is}
 use Rattle.vb_request.specs.{declared.statistics.Statistics.Statistics, Refusals.take_refusal_by}
-use Rattle.vb_device.proofs.TakesBy.{takes_refused, takes_at, base_kept, take_known, take_ready}
-use Rattle.vb_device.proofs.{TakesBy.status_ok, FourQueues.entry_is, FromNext.keeps_ring}
-use Rattle.vb_device.specs.{Base.queue_at, QueueState.TakesNext}
+use Rattle.vb_device.{proofs.TakesBy.{takes_refused, take_known, status_ok}, specs.Base.queue_at}
+use Rattle.vb_device.proofs.{TakesBy.{takes_at, base_kept, take_ready}, FromNext.keeps_ring}
 use Rattle.vb_device.proofs.balloon.BalloonDeviceDevice.take.{Goals.After-take-taken, Given.Over}
 use Rattle.vb_device.proofs.balloon.BalloonDeviceDevice.take.Goals as goal
 

@@ -1,5 +1,4 @@
-use Rattle.std.proofs.Common.{◌∙◌}
-use Rattle.vb_device.proofs.LooseFrames.{keeps_popped}
+use Rattle.{std.proofs.Common.◌∙◌, vb_device.proofs.LooseFrames.keeps_popped}
 use Rattle.vb_device.proofs.device.Device.hand_back.Goals as goal
 
 pub loop-frame-preserved : goal.loop-frame-preserved

@@ -1,5 +1,4 @@
-use Rattle.std.proofs.Common.{◌≡◌, [], length}
-use Rattle.vb_device.specs.Calls.{GoBack}
+use Rattle.{std.proofs.Common.{◌≡◌, [], length}, vb_device.specs.Calls.GoBack}
 use Rattle.vb_device.proofs.device.Device.hand_back.Given as goal
 
 abbrev pub invariant-loop-frame : goal.invariant-loop-frame

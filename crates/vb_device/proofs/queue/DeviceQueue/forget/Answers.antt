@@ -1,6 +1,5 @@
-use Rattle.std.proofs.Common.{suc, take, drop}
-use Rattle.std.proofs.lemmas.List.Elements.{All-append, All-take, All-drop}
-use Rattle.vb_device.specs.QueueState.{IsTaken}
+use Rattle.std.proofs.{Common.{suc, take, drop}, lemmas.List.Elements.{All-append, All-take}}
+use Rattle.{std.proofs.lemmas.List.Elements.All-drop, vb_device.specs.QueueState.IsTaken}
 use Rattle.vb_device.proofs.queue.DeviceQueue.forget.Goals as goal
 
 pub invariant_of-self : goal.invariant_of-self

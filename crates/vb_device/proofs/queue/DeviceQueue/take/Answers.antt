@@ -1,18 +1,14 @@
-use Rattle.std.proofs.Common.{◌≡◌, true, false, rules, ◌∙◌, ◌*◌, ℕ, List, ◌∷◌, [], Option, Result}
-use Rattle.std.{proofs.Common.{Ok, Err, sym, ap}, specs.Prelude.length}
-use Rattle.std.proofs.lemmas.List.Elements.{All-append}
-use Rattle.vb_model.{specs.Requests.Request, specs.declared.replies.LastStatistics.LastStatistics}
-use Rattle.vb_ram.specs.Pages.{Pages}
-use Rattle.vb_chain.{specs.declared.fault.ChainFault.ChainFault, specs.declared.pieces.Piece.Piece}
-use Rattle.vb_chain.specs.Table.{descriptor_at}
-use Rattle.vb_ring.{specs.declared.device.Taken.Taken, specs.Ends.DeviceEnd}
-use Rattle.vb_request.{specs.Asked.{request_of, noted}, proofs.Chains.chain_fits}
-use Rattle.vb_request.specs.declared.statistics.Statistics.{Statistics}
-use Rattle.vb_device.specs.QueueState.{QueueState, IsTaken, is_full}
-use Rattle.vb_device.proofs.FromNext.{next_busy, next_idle}
+use Rattle.std.proofs.{Common.{◌≡◌, true, ◌∙◌, ℕ, ◌∷◌, [], Result}, lemmas.List.Elements.All-append}
+use Rattle.std.proofs.Common.{false, rules, ◌*◌, List, Option, Ok, Err, sym, ap}
+use Rattle.{std.specs.Prelude.length, vb_device.specs.QueueState.{QueueState, IsTaken, is_full}}
+use Rattle.vb_model.specs.{Requests.Request, declared.replies.LastStatistics.LastStatistics}
+use Rattle.{vb_ram.specs.Pages.Pages, vb_ring.specs.{declared.device.Taken.Taken, Ends.DeviceEnd}}
+use Rattle.vb_chain.specs.declared.{fault.ChainFault.ChainFault, pieces.Piece.Piece}
+use Rattle.{vb_chain.specs.Table.descriptor_at, vb_request.proofs.Chains.chain_fits}
+use Rattle.vb_request.specs.{Asked.{request_of, noted}, declared.statistics.Statistics.Statistics}
+use Rattle.vb_device.proofs.{FromNext.{next_busy, next_idle}, queue.DeviceQueue.take.Given.Over}
 use Rattle.vb_device.proofs.Takes.{IsOpen, next_none, next_err, next_wrong, next_right, one_all}
 use Rattle.vb_device.proofs.queue.DeviceQueue.take.Goals.{After-pop_descriptor_chain_into}
-use Rattle.vb_device.proofs.queue.DeviceQueue.take.Given.{Over}
 use Rattle.vb_device.proofs.queue.DeviceQueue.take.Goals as goal
 
 -- what the device knows of its guest's memory

@@ -1,8 +1,7 @@
-use Rattle.std.proofs.Common.{arith, ◌∙◌, sym, ap, List, Ok}
-use Rattle.vb_model.{specs.Pages.{Block, pages_of, placed}, specs.declared.places.Place.Place}
-use Rattle.vb_model.specs.declared.places.Place.TheVariants.{Used}
-use Rattle.vb_driver.proofs.Owning.{whole_is, alloc_tests_same, free_block_inside, allocated_kept}
-use Rattle.vb_driver.{proofs.Owning.unallocated_kept, specs.Answers.block_at}
+use Rattle.{std.proofs.Common.{arith, ◌∙◌, sym, ap, List, Ok}, vb_model.specs.Pages.{Block, placed}}
+use Rattle.vb_model.specs.{Pages.pages_of, declared.places.Place.{Place, TheVariants.Used}}
+use Rattle.vb_driver.{proofs.Owning.{whole_is, allocated_kept}, specs.Answers.block_at}
+use Rattle.vb_driver.proofs.Owning.{alloc_tests_same, free_block_inside, unallocated_kept}
 use Rattle.vb_driver.specs.{State.DriverState, Calls.AllocatesBy, contracts.driver.Driver.the_view}
 use Rattle.vb_driver.proofs.driver.Driver.alloc.Goals as goal
 

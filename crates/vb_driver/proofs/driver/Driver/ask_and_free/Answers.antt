@@ -1,10 +1,9 @@
 use Rattle.std.proofs.Common.{◌≡◌, ◌∙◌, sym, ap, arith, refl, ℕ, List, true, false}
-use Rattle.vb_model.{specs.declared.places.Place.TheVariants.{Free, Lent}, specs.Tests.is_in}
-use Rattle.vb_model.specs.Pages.{placed, is_lent}
-use Rattle.vb_driver.{proofs.Moving.{lowest_is, asked_freed, IsOut, is_out}, specs.Areas.flags_of}
-use Rattle.vb_driver.{specs.State.{DriverState, IsDriver, tells_host}, specs.Places.marked}
-use Rattle.vb_driver.{specs.Calls.lowest_lent, proofs.Counting.at_is}
-use Rattle.vb_driver.{specs.contracts.driver.Driver.the_view, proofs.Naming.once_lowest}
+use Rattle.vb_model.specs.{declared.places.Place.TheVariants.{Free, Lent}, Pages.{placed, is_lent}}
+use Rattle.{vb_model.specs.Tests.is_in, vb_driver.proofs.Moving.{lowest_is, IsOut, is_out}}
+use Rattle.vb_driver.proofs.{Moving.asked_freed, Counting.at_is, Naming.once_lowest}
+use Rattle.vb_driver.specs.{Areas.flags_of, State.{IsDriver, tells_host}, Calls.lowest_lent}
+use Rattle.vb_driver.specs.{State.DriverState, Places.marked, contracts.driver.Driver.the_view}
 use Rattle.vb_driver.proofs.driver.Driver.ask_and_free.Goals as goal
 
 out_again : (d : DriverState) (count p : ℕ) (pages : List ℕ)

@@ -1,9 +1,8 @@
 use Rattle.std.proofs.Common.{arith, ◌≡◌, sym, subst, ℕ, List, true}
-use Rattle.vb_model.{specs.declared.places.Place.TheVariants.Taking, specs.Pages.placed}
-use Rattle.vb_model.{specs.Requests.{Deflating, place_posted}, specs.declared.places.Place.Place}
-use Rattle.vb_driver.specs.State.{RequestSide, DriverState, IsDriver, tells_host}
-use Rattle.vb_driver.{specs.contracts.driver.Driver.the_view, proofs.Moving.asked_kept}
-use Rattle.vb_driver.specs.Calls.{areas_asked}
+use Rattle.vb_model.specs.{declared.places.Place.{TheVariants.Taking, Place}, Pages.placed}
+use Rattle.vb_model.specs.Requests.{Deflating, place_posted}
+use Rattle.vb_driver.{specs.State.{RequestSide, DriverState, IsDriver}, proofs.Moving.asked_kept}
+use Rattle.vb_driver.specs.{State.tells_host, contracts.driver.Driver.the_view, Calls.areas_asked}
 use Rattle.vb_driver.proofs.driver.Driver.ask_and_wait.Goals as goal
 
 -- where the host is told first, the pages are taking, and no area changes

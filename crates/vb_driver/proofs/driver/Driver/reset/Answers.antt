@@ -1,11 +1,10 @@
-use Rattle.std.{specs.Prelude.{◌≡◌, true}, proofs.{lemmas.List.length-map, Common.{◌∙◌, sym, ap}}}
-use Rattle.{std.proofs.Common.{subst, refl, ℕ, List, map, length}, vb_model.specs.Tests.pages_where}
+use Rattle.{std.{specs.Prelude.{◌≡◌, true}, proofs.Common.List}, vb_status.specs.Bits.feature_bits}
+use Rattle.std.proofs.{lemmas.List.length-map, Common.{◌∙◌, sym, ap, subst, refl, ℕ, map, length}}
+use Rattle.vb_model.specs.{Tests.pages_where, declared.places.Place.{Place, TheVariants.Reporting}}
 use Rattle.vb_model.specs.{Pages.{Block, place_of, is_free, is_reporting}, Life.place_after_reset}
-use Rattle.vb_model.specs.declared.places.Place.{Place, TheVariants.Reporting}
-use Rattle.{vb_status.specs.Bits.feature_bits, vb_driver.specs.contracts.driver.Driver.the_view}
-use Rattle.vb_driver.specs.{State.{DriverState, IsDriver}, Areas.{AreFor, flags_of}}
-use Rattle.vb_driver.{specs.{Calls.with_nothing_out, Places.marked}, proofs.Resetting.reset_kept}
-use Rattle.vb_driver.proofs.{Moving.is_out, Counting.at_is}
+use Rattle.vb_driver.specs.{contracts.driver.Driver.the_view, Calls.with_nothing_out}
+use Rattle.vb_driver.specs.{State.{DriverState, IsDriver}, Areas.{AreFor, flags_of}, Places.marked}
+use Rattle.vb_driver.proofs.{Resetting.reset_kept, Moving.is_out, Counting.at_is}
 use Rattle.vb_driver.proofs.driver.Driver.reset.Goals as goal
 
 pub give_reported-requires : goal.give_reported-requires

@@ -1,9 +1,8 @@
-use Rattle.std.proofs.Common.{◌≡◌, ◌∙◌, ◌-◌, ◌++◌, sym, ap, arith, ℕ, List, length, take, drop}
-use Rattle.std.proofs.{Common.{count_by, get_or}, lemmas.Bool.or_parts, Math.Seq.take-append_seam}
-use Rattle.{std.specs.List.range_with_len, vb_model.specs.declared.places.Place.Place}
-use Rattle.vb_model.specs.Pages.{placed, is_lent, is_stranded}
-use Rattle.vb_driver.{specs.Places.is_at, proofs.Placing.marked_one}
-use Rattle.vb_driver.proofs.{Placing.length-marked, Runs.{AreAt, run_is, run_some, run_table}}
+use Rattle.std.proofs.{Common.{◌≡◌, length}, lemmas.Bool.or_parts, Math.Seq.take-append_seam}
+use Rattle.std.proofs.Common.{◌∙◌, ◌-◌, ◌++◌, sym, ap, arith, ℕ, List, take, drop, count_by, get_or}
+use Rattle.{std.specs.List.range_with_len, vb_driver.proofs.Placing.{marked_one, length-marked}}
+use Rattle.vb_model.specs.{declared.places.Place.Place, Pages.{placed, is_lent, is_stranded}}
+use Rattle.vb_driver.{specs.Places.is_at, proofs.Runs.{AreAt, run_is, run_some, run_table}}
 use Rattle.vb_driver.proofs.places.PlaceTable.move_run.Goals as goal
 
 pub returns-then-is_in_set-clause-moved : goal.returns-then-is_in_set-clause-moved

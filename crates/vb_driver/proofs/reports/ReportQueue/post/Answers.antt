@@ -1,9 +1,8 @@
-use Rattle.std.proofs.{Common.{◌≡◌, subst, arith}, lemmas.List.length-map}
-use Rattle.vb_report.specs.Blocks.{block_of, blocks_of, pieces_of}
-use Rattle.vb_driver.proofs.ReportPosting.{reporting, same_head, nothing, answer_is, ring_is}
+use Rattle.{std.proofs.Common.{◌≡◌, subst}, vb_report.specs.Blocks.{block_of, blocks_of, pieces_of}}
+use Rattle.{std.proofs.{Common.arith, lemmas.List.length-map}, vb_driver.specs.State.ReportSide}
+use Rattle.vb_driver.proofs.{ReportPosting.{reporting, answer_is, posts_report}, Shapes.ring_backed}
+use Rattle.vb_driver.proofs.ReportPosting.{same_head, nothing, ring_is, not_full}
 use Rattle.vb_driver.{proofs.ReportTables.{orders_of, posted_report_queue}, specs.Calls.PostsReport}
-use Rattle.vb_driver.{proofs.ReportPosting.{posts_report, not_full}, proofs.Shapes.ring_backed}
-use Rattle.vb_driver.specs.State.{ReportSide}
 use Rattle.vb_driver.proofs.reports.ReportQueue.post.Goals as goal
 
 pub encode-pieces-requires-clause-orders : goal.encode-pieces-requires-clause-orders

@@ -1,5 +1,4 @@
-use Rattle.std.proofs.Common.{true, refl}
-use Rattle.vb_status.specs.Bits.{status_bits}
+use Rattle.{std.proofs.Common.{true, refl}, vb_status.specs.Bits.status_bits}
 use Rattle.vb_device.proofs.FourQueues.{base_restarted}
 use Rattle.vb_device.proofs.balloon.status.BalloonDevicePort.write_status.Goals as goal
 
