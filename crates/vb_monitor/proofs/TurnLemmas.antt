@@ -288,8 +288,8 @@ tells_each w d0 next on d t head pieces bytes runs named b log is read right h =
       subst (λ (l : List Access). Each (Comes w d0) b1 l) (sym h.discards.asks)
           (discards_each w d0 (with_one_taken w.kind d) head pieces bytes
           (cuts_for w.kind (keeps_reports (with_one_taken w.kind d)) w.regions runs) b1 h.discards.rest
-          (λ b2 is2 read2 left2 first2. gives_each w d0 next on (with_one_taken w.kind d) t head
-          pieces bytes b2 h.discards.rest is2 read2 left2 first2 h.discards.gives_back)
+          (λ b2 is2 read2 left2 first2. gives_each w d0 next on _ t head pieces bytes b2 _ is2 read2
+          left2 first2 h.discards.gives_back)
           (one_taken w d0 b b1 d is refl refl) read
           (ap (λ (kept : Bool). cuts_for w.kind kept w.regions runs)
           (sym (taken_keeps w.kind d ∙ is.keeps))) refl),

@@ -175,10 +175,9 @@ copies_each : (w : Whole) (d0 d : Device) (t : Tally) (head : ℕ) (pieces : Lis
     known w.kind b ≡ Has head pieces parts so_far → CopiesParts w served d t parts so_far log →
     Each (Comes w d0) b log
 copies_each w d0 d t head pieces served on [] so_far b log is read h = on so_far b log is read h
-copies_each w d0 d t head pieces served on (part ∷ parts) so_far b log is read h = part_by w
-    d0 d t head pieces part parts (CopiesParts w served d t parts) (λ bytes b2 rest is2 read2 more.
-    copies_each w d0 d t head pieces served on parts bytes b2 rest is2 read2 more) so_far
-    (fits_behind so_far part) b log is read h
+copies_each w d0 d t head pieces served on (part ∷ parts) so_far b log is read h =
+    part_by w d0 d t head pieces part parts (CopiesParts w served d t parts)
+    (copies_each w d0 d t head pieces served on parts) so_far _ b log is read h
 
 -- ---- pieces
 
@@ -197,10 +196,9 @@ copies_by : (w : Whole) (d0 : Device) (next : Then) (on : After w d0 next) (d : 
     → CopiesBy len w next d t head pieces log → Each (Comes w d0) b log
 copies_by w d0 next on d t head pieces (Err fault) b log is read h =
     breaks_each w d0 d t _ b log is h
-copies_by w d0 next on d t head pieces (Ok n) b log is read h = copies_each w d0 d t head pieces
-    (λ bytes rest. AfterBytes w.kind w next d t head bytes rest) (λ bytes b2 rest is2 read2 more.
-    bytes_each w d0 w.kind refl next on d t head pieces bytes b2 rest is2 read2 more)
-    (all_parts pieces) [] b log is read h
+copies_by w d0 next on d t head pieces (Ok n) b log is read h =
+    copies_each w d0 d t head pieces (AfterBytes w.kind w next d t head)
+    (bytes_each w d0 w.kind refl next on d t head pieces) (all_parts pieces) [] b log is read h
 
 pieces_right : (w : Whole) (d d2 : Device) (pieces : List Piece) (room : ℕ) (runs : List Run)
     (answer : Result Named Denial) → w.kind ≡ Report →
