@@ -1,23 +1,22 @@
 -- What comes behind what in a notice.
 use Rattle.std.proofs.Common.{◌≡◌, sym, subst, refl, ℕ, zero, suc, ◌+◌, ◌*◌, Bool, true, false}
 use Rattle.std.proofs.Common.{List, [], ◌∷◌, ◌++◌, length, Option, Some, None, Result, Ok, Err}
-use Rattle.std.specs.Prelude.{◌==◌, nat_lt}
+use Rattle.std.specs.Prelude.{◌==◌}
 use Rattle.vb_chain.{specs.declared.pieces.Piece.Piece, specs.declared.fault.ChainFault.ChainFault}
 use Rattle.vb_chain.{specs.declared.descriptor.Descriptor.Descriptor, specs.Rules.has_next}
 use Rattle.vb_request.{specs.Request.request_length, specs.Statistics.statistics_length}
 use Rattle.vb_core.specs.{Devices.{ring_of, queue_denial}, Statistics.statistics_denial}
 use Rattle.vb_core.specs.declared.{device.Denial.Denial, device.Device.Device, kinds.Kind.Kind}
 use Rattle.vb_core.specs.declared.kinds.Kind.TheVariants.{Inflate, Deflate, Statistics, Report}
-use Rattle.vb_monitor.specs.Accesses.{Access, ReadWord, CopyBytes, Acquire, Release, Full}
+use Rattle.vb_monitor.specs.Accesses.{Access, ReadWord, CopyBytes, Acquire}
 use Rattle.vb_monitor.specs.Chains.{FiguresBy, AfterBytes, CopiesBy, ServesPieces, GoesOn}
-use Rattle.vb_monitor.specs.Chains.{DescriptorBy, DescriptorAt, Follows, table_fault, descriptor_of}
-use Rattle.vb_monitor.specs.Notices.{HeadBy, EntryAt, entry_offset, stands, AfterIndex, IndexAt}
+use Rattle.vb_monitor.specs.Chains.{DescriptorBy, DescriptorAt, Follows, descriptor_of}
+use Rattle.vb_monitor.specs.Notices.{HeadBy, EntryAt, entry_offset, AfterIndex, IndexAt}
 use Rattle.vb_monitor.specs.Notices.{LooksBy, AfterGiven, TakesUnlessSpent, TakesNext, Looks}
-use Rattle.vb_monitor.specs.Accesses.{TellPages, TellFigures, Discard, WriteNumber, WriteWord}
-use Rattle.vb_monitor.specs.Pieces.{PartAt, PartBy, fits_behind, CopiesParts, all_parts}
+use Rattle.vb_monitor.specs.Pieces.{PartAt, PartBy, CopiesParts, all_parts}
 use Rattle.vb_monitor.{proofs.GivenLemmas.{Allows, After, ends_row, name_row}, specs.Regions.spot}
 use Rattle.vb_monitor.{specs.declared.room.TheConstants.MAX_FIGURES, specs.declared.parts.Part.Part}
-use Rattle.vb_monitor.{specs.Chains.{descriptors, memory_end}, specs.declared.outcome.Tally.Tally}
+use Rattle.vb_monitor.{specs.Chains.{descriptors}, specs.declared.outcome.Tally.Tally}
 use Rattle.vb_monitor.{specs.Order.{is_read, is_copied, Row}, specs.declared.regions.Spot.Spot}
 use Rattle.vb_monitor.{specs.Notices.with_chains, specs.Giving.Then, specs.Ends.Whole}
 

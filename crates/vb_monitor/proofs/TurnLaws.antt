@@ -1,7 +1,7 @@
 -- What each access of a notice is, by those before it: the walk along a chain, looks, and the laws.
 use Rattle.std.proofs.Common.{◌≡◌, ap, sym, subst, refl, ℕ, zero, suc, ◌+◌, ◌*◌, Bool, true}
-use Rattle.std.proofs.Common.{false, List, [], ◌∷◌, ◌++◌, length, Option, Some, None, Result, Ok}
-use Rattle.std.{proofs.Common.Err, specs.Prelude.{◌==◌, nat_lt}}
+use Rattle.std.proofs.Common.{false, List, [], ◌∷◌, ◌++◌, Option, Some, None, Result, Ok}
+use Rattle.std.{proofs.Common.Err, specs.Prelude.{◌==◌}}
 use Rattle.vb_chain.specs.declared.{pieces.Piece.Piece, fault.ChainFault.ChainFault}
 use Rattle.vb_chain.specs.{declared.descriptor.Descriptor.Descriptor, Rules.{has_next, piece_of}}
 use Rattle.vb_core.{specs.declared.kinds.Kind.Kind, specs.declared.ring.Virtqueue.Virtqueue}
@@ -10,10 +10,10 @@ use Rattle.vb_core.{specs.declared.device.Denial.Denial, specs.declared.device.D
 use Rattle.vb_core.specs.Devices.{ring_of, queue_denial}
 use Rattle.vb_monitor.proofs.TurnLemmas.{Comes, Agrees, flags_of, ends_each, breaks_each, After}
 use Rattle.vb_monitor.{proofs.TurnRows.{Begun, pieces_each}, specs.Accesses.{Access, ReadWord}}
-use Rattle.vb_monitor.specs.{Accesses.{CopyBytes, Acquire, WriteWord}, Chains.ServesPieces}
-use Rattle.vb_monitor.specs.Chains.{GoesOn, DescriptorBy, DescriptorAt, Follows, table_fault}
-use Rattle.vb_monitor.specs.{Chains.{descriptor_of, descriptors, memory_end}, Ends.Whole}
-use Rattle.vb_monitor.specs.{Giving.Then, Notices.{HeadBy, EntryAt, entry_offset, stands}}
+use Rattle.vb_monitor.specs.{Accesses.{CopyBytes, Acquire, WriteWord}}
+use Rattle.vb_monitor.specs.Chains.{GoesOn, DescriptorBy, DescriptorAt, Follows}
+use Rattle.vb_monitor.specs.{Chains.{descriptors}, Ends.Whole}
+use Rattle.vb_monitor.specs.{Giving.Then, Notices.{HeadBy, EntryAt, entry_offset}}
 use Rattle.vb_monitor.specs.Notices.{AfterIndex, IndexAt, LooksBy, AfterGiven, TakesUnlessSpent}
 use Rattle.vb_monitor.specs.{Notices.{TakesNext, with_chains, Serves, fresh}, Regions.spot}
 use Rattle.vb_monitor.specs.SoFar.{Each, Known, Unknown, Walks, known, ring_after, is_fenced}

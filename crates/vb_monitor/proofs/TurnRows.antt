@@ -13,10 +13,10 @@ use Rattle.vb_core.specs.{Report.NamesPiecesBy, Name.NamesBy}
 use Rattle.vb_monitor.specs.Chains.{FiguresBy, AfterBytes, NamesBytes, CopiesBy, ServesPieces}
 use Rattle.vb_monitor.specs.SoFar.{Each, Known, Has, known, ring_after, parts_read, with_copied}
 use Rattle.vb_monitor.proofs.TurnLemmas.{Comes, Agrees, Flags, flags_of, ends_each, breaks_each}
-use Rattle.vb_monitor.proofs.{TurnLemmas.{After, Read, tells_each}, NamedLemmas.names_avail}
+use Rattle.vb_monitor.proofs.{TurnLemmas.{moves, After, Read, tells_each}, NamedLemmas.names_avail}
 use Rattle.vb_monitor.proofs.NamedLemmas.{pieces_avail, named_numbers, no_report, named_pieces}
 use Rattle.vb_monitor.specs.{Accesses.{Access, CopyBytes, TellFigures}, Pieces.{PartAt, PartBy}}
-use Rattle.vb_monitor.specs.{Pieces.{fits_behind, CopiesParts, all_parts}, Turns.CopiesNext}
+use Rattle.vb_monitor.specs.{Pieces.{CopiesParts, all_parts}, Turns.CopiesNext}
 use Rattle.vb_monitor.specs.{Turns.{TellNamed, TellNumbers, FiguresOf}, Regions.spot, Giving.Then}
 use Rattle.vb_monitor.specs.Giving.{AfterName, TellsThen, spent}
 use Rattle.vb_monitor.specs.declared.{room.TheConstants.MAX_FIGURES, parts.Part.Part}
@@ -45,13 +45,6 @@ names_each w d0 next on d d2 t head pieces bytes runs (Ok named) b log is read f
     named log) x.1 h)
 
 -- figures that are told
-statistics_avail : (kind : Kind) (d : Device) →
-    (ring_of kind (with_one_taken Statistics d)).avail ≡ (ring_of kind d).avail
-statistics_avail Inflate d = refl
-statistics_avail Deflate d = refl
-statistics_avail Statistics d = refl
-statistics_avail Report d = refl
-
 figures_each : (w : Whole) (d0 d : Device) (t : Tally) (head : ℕ) (pieces : List Piece)
     (bytes : List ℕ) (denial : Option Denial) (b log : List Access) → w.kind ≡ Statistics →
     Agrees w d0 b d → Read w head pieces bytes b → FiguresBy denial w d t head bytes log →
@@ -73,7 +66,7 @@ figures_each w d0 d t head pieces bytes None b log e is read h =
         ),
       ),
       ends_each w d0 (with_one_taken Statistics d) _ _ false (TellFigures told ∷ b) h.tells.rest
-          (statistics_avail w.kind d ∙ (flags_of w d0 b d is).0, refl) h.tells.ends,
+          ((moves w.kind d).figures_avail ∙ (flags_of w d0 b d is).0, refl) h.tells.ends,
     )
 
 right_of : (w : Whole) (d : Device) (pieces : List Piece) (bytes : List ℕ) (runs : List Run)
