@@ -2,11 +2,11 @@
 use Rattle.vb_monitor.proofs.PartCounts.{two_at_most}
 use Rattle.std.proofs.Common.{◌≡◌, ap, sym, subst, refl, arith, ℕ, zero, suc, ◌+◌, ◌*◌, ◌≤◌, Bool}
 use Rattle.std.proofs.Common.{true, false, List, [], ◌∷◌, ◌++◌, length, map, Option, Some, None}
-use Rattle.std.{proofs.Common.{Result, Ok, Err}, specs.Prelude.{◌==◌, nat_lt}}
+use Rattle.std.{proofs.Common.{Result, Ok, Err}, specs.Prelude.{◌==◌}}
 use Rattle.vb_chain.specs.declared.{pieces.Piece.Piece, fault.ChainFault.ChainFault}
 use Rattle.vb_chain.specs.{declared.descriptor.Descriptor.Descriptor, Rules.{has_next, piece_of}}
 use Rattle.vb_request.{specs.Request.request_length, specs.Statistics.statistics_length}
-use Rattle.vb_core.specs.{Config.keeps_reports, Devices.{ring_of, queue_denial}, Rings.used_entry}
+use Rattle.vb_core.specs.{Devices.{ring_of, queue_denial}}
 use Rattle.vb_core.specs.{Statistics.statistics_denial, Using.use_denial}
 use Rattle.vb_core.specs.declared.{device.Denial.Denial, device.Device.Device, kinds.Kind.Kind}
 use Rattle.vb_core.specs.declared.kinds.Kind.TheVariants.{Inflate, Deflate, Statistics, Report}
@@ -17,12 +17,11 @@ use Rattle.vb_monitor.specs.Chains.{ServesPieces, GoesOn, DescriptorBy, Descript
 use Rattle.vb_monitor.specs.Chains.{table_fault, descriptor_of, descriptors, memory_end}
 use Rattle.vb_monitor.specs.{Counts.others, Ends.{Whole, Ends, EndsWhere, FlagsAt}, Giving.Then}
 use Rattle.vb_monitor.specs.Giving.{three_spots, UsedAt, GivesBack, GivesBackBy, with_given}
-use Rattle.vb_monitor.specs.{Giving.{after_use, cuts_for, TellsThen, AfterName}, Notices.HeadBy}
-use Rattle.vb_monitor.specs.Notices.{EntryAt, entry_offset, stands, AfterIndex, IndexAt, LooksBy}
+use Rattle.vb_monitor.specs.{Giving.{after_use, TellsThen, AfterName}, Notices.HeadBy}
+use Rattle.vb_monitor.specs.Notices.{EntryAt, AfterIndex, IndexAt, LooksBy}
 use Rattle.vb_monitor.specs.Notices.{AfterGiven, TakesUnlessSpent, TakesNext, with_chains, Serves}
 use Rattle.vb_monitor.specs.{Notices.fresh}
-use Rattle.vb_monitor.specs.Pieces.{PartAt, PartBy, fits_behind, CopiesParts, all_parts}
-use Rattle.vb_monitor.specs.Regions.{spot}
+use Rattle.vb_monitor.specs.Pieces.{PartAt, PartBy, CopiesParts, all_parts}
 use Rattle.vb_monitor.specs.declared.{cuts.Cut.Cut, outcome.Budget.Budget, outcome.Outcome.Outcome}
 use Rattle.vb_monitor.specs.declared.{outcome.Tally.Tally, parts.Part.Part, regions.Region.Region}
 use Rattle.vb_monitor.specs.declared.{regions.Spot.Spot, room.TheConstants.MAX_FIGURES}
