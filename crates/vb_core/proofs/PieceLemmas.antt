@@ -1,20 +1,19 @@
 -- Buffers as plain data, the pieces that they say, and which pieces are a report.
 use Rattle.std.proofs.Common.{◌≡◌, ◌∙◌, ap, sym, refl, arith, ℕ, ◌+◌, ◌<◌, ◌≤◌, Bool, false, true}
-use Rattle.std.proofs.Common.{List, [], ◌∷◌, ◌++◌, length, map, take, get_or, Some, None, Ok, Err}
-use Rattle.std.proofs.Common.{zero, suc, ◌/◌, slice_set, subst, length-append}
+use Rattle.std.proofs.Common.{List, [], ◌∷◌, ◌++◌, length, map, take, get_or, None, Ok, Err, zero}
+use Rattle.std.{proofs.Common.{suc, ◌/◌, slice_set, subst, length-append}, specs.List.list_any}
 use Rattle.std.{proofs.lemmas.Bool.Decides.nat_tests, proofs.lemmas.Grind.flat_map-append}
-use Rattle.std.{specs.Prelude.{◌||◌, not, nat_lt, Option, if◌then◌else◌}, specs.List.list_any}
+use Rattle.std.{specs.Prelude.{◌||◌, not, Option, if◌then◌else◌}, proofs.lemmas.List.take_more_set}
 use Rattle.std.proofs.lemmas.List.{length-map, get_or-map, map-append, take_more, append-nil}
-use Rattle.std.proofs.lemmas.List.{take_more_set}
 use Rattle.std.proofs.lemmas.List.Folds.{list_all-append, list_any_at}
 use Rattle.vb_chain.specs.declared.fault.ChainFault.TheVariants.{WrongDirection, BadLength}
 use Rattle.vb_chain.{specs.declared.fault.ChainFault.ChainFault, specs.declared.pieces.Piece.Piece}
 use Rattle.vb_core.specs.declared.runs.Run.{Run}
 use Rattle.vb_core.{specs.declared.next.ChainPiece.ChainPiece, specs.Next.{piece_in, pieces_in}}
 use Rattle.vb_core.specs.Report.{is_reported, are_reported, run_of, is_beyond}
-use Rattle.vb_request.specs.Request.{unless_fault}
-use Rattle.vb_request.{proofs.Reports.piece_length, specs.Report.{pages_of_piece, pages_of_pieces}}
-use Rattle.vb_request.specs.Report.{has_bad_length, first_piece_fault, report_request}
+use Rattle.vb_request.{specs.Request.unless_fault, specs.Report.{first_piece_fault, report_request}}
+use Rattle.vb_request.proofs.Reports.{piece_length}
+use Rattle.vb_request.specs.Report.{pages_of_piece, pages_of_pieces, has_bad_length}
 
 pub none_in : pieces_in [] ≡ []
 unfolding pieces_in
@@ -38,10 +37,7 @@ any_in test (b ∷ bs) = ap (λ (x : Bool). test (piece_in b) || x) (any_in test
 pub push_in : (bs : List ChainPiece) (k : ℕ) (d : ChainPiece) (items more : List Piece) (p : Piece) →
     k < length bs → items ≡ pieces_in (take k bs) → p ≡ piece_in (get_or bs k d) →
     more ≡ items ++ p ∷ [] → more ≡ pieces_in (take (k + 1) bs)
-push_in bs k d items more p lt e f g = g ∙ (ap (λ (l : List Piece). l ++ p ∷ []) e
-    ∙ (ap (λ (q : Piece). pieces_in (take k bs) ++ q ∷ []) f
-    ∙ (sym (join_in (take k bs) (get_or bs k d))
-    ∙ ap (λ (l : List ChainPiece). pieces_in l) (sym (take_more bs k d lt)))))
+push_in bs k d items more p lt e f g = grind (arith, join_in, take_more bs k d lt)
 
 pub get_in : (bs : List ChainPiece) (n : ℕ) (d : ChainPiece) → n < length bs →
     get_or (pieces_in bs) n (piece_in d) ≡ piece_in (get_or bs n d)
@@ -76,11 +72,7 @@ pub reported_more : (reserved : ℕ) (bs : List ChainPiece) (k : ℕ) (d : Chain
     are_reported reserved (pieces_in (take k bs)) ≡ true →
     is_reported reserved (piece_in (get_or bs k d)) ≡ true →
     are_reported reserved (pieces_in (take (k + 1) bs)) ≡ true
-reported_more reserved bs k d lt e f = grind (
-  arith,
-  more_in bs k d lt,
-  list_all-append (is_reported reserved) (pieces_in (take k bs)) (piece_in (get_or bs k d) ∷ []),
-)
+reported_more reserved bs k d lt e f = grind (arith, more_in bs k d lt, list_all-append)
 
 -- one that isn't right spoils the report
 spoils : (reserved : ℕ) (ps : List Piece) (k : ℕ) (d : Piece) → k < length ps →
@@ -112,12 +104,8 @@ pub runs_more : (bs : List ChainPiece) (k : ℕ) (d : ChainPiece) (runs : List R
     k < length runs → take k runs ≡ map run_of (pieces_in (take k bs)) →
     run ≡ run_of (piece_in (get_or bs k d)) →
     take (k + 1) (slice_set runs k run) ≡ map run_of (pieces_in (take (k + 1) bs))
-runs_more bs k d runs run lt room e f = grind (
-  arith,
-  more_in bs k d lt,
-  take_more_set runs k run room,
-  map-append run_of (pieces_in (take k bs)) (piece_in (get_or bs k d) ∷ []),
-)
+runs_more bs k d runs run lt room e f =
+    grind (arith, more_in bs k d lt, take_more_set runs k run room, map-append)
 
 -- no buffer begins past memory
 pub below_in : (bs : List ChainPiece) (k : ℕ) (d : ChainPiece) → k < length bs →
@@ -125,10 +113,6 @@ pub below_in : (bs : List ChainPiece) (k : ℕ) (d : ChainPiece) → k < length 
 below_in bs k d lt e = grind (arith, any_in is_beyond bs, list_any_at)
 
 -- ---- reports that are none
-
-many : (reserved : ℕ) (ps : List Piece) → list_any (λ (p : Piece). not p.writable) ps ≡ false →
-    32 < length ps → report_request ps reserved ≡ Err BadLength
-many reserved ps e lt = grind (arith, nat_tests)
 
 pub many_readable : (bs : List ChainPiece) (any : Bool) →
     any ≡ list_any (λ (b : ChainPiece). not (piece_in b).writable) bs → any ≡ true →
@@ -138,9 +122,8 @@ many_readable bs any e f reserved = grind (arith, any_in (λ (p : Piece). not p.
 pub many_long : (bs : List ChainPiece) (any : Bool) →
     any ≡ list_any (λ (b : ChainPiece). not (piece_in b).writable) bs → any ≡ false → 32 < length bs →
     (reserved : ℕ) → report_request (pieces_in bs) reserved ≡ Err BadLength
-many_long bs any e f lt reserved = many reserved (pieces_in bs)
-    (any_in (λ (p : Piece). not p.writable) bs ∙ (sym e ∙ f))
-    (subst (λ (n : ℕ). 32 < n) (sym (length_in bs)) lt)
+many_long bs any e f lt reserved =
+    grind (arith, nat_tests, any_in (λ (p : Piece). not p.writable) bs, length_in bs)
 
 pub is_report : (reserved : ℕ) (ps : List Piece) → length ps ≤ 32 → are_reported reserved ps ≡ true →
     report_request ps reserved ≡ Ok (pages_of_pieces ps)
@@ -150,16 +133,9 @@ is_report reserved ps le e = let all = right reserved ps e in
 by_tests : (a b c : Bool) (o : Option ChainFault) (ns pages : List ℕ)
     → (if a then Err WrongDirection else (if b || c then Err BadLength else unless_fault o ns)) ≡ Ok pages
     → (a ≡ false) × (c ≡ false) × (o ≡ None)
-by_tests true b c o ns pages e = absurd cc
-by_tests false true c o ns pages e = absurd cc
-by_tests false false true o ns pages e = absurd cc
-by_tests false false false (Some f) ns pages e = absurd cc
-by_tests false false false None ns pages e = (refl, refl, refl)
+by_tests a b c o ns pages e = (grind arith, grind arith, grind arith)
 
 pub is_none_else : (reserved : ℕ) (ps : List Piece) (pages : List ℕ) →
     report_request ps reserved ≡ Ok pages → are_reported reserved ps ≡ true
-is_none_else reserved ps pages e =
-    let tests = by_tests (list_any (λ (p : Piece). not p.writable) ps) (nat_lt 32 (length ps))
-    (list_any has_bad_length ps) (first_piece_fault reserved ps) (pages_of_pieces ps) pages e in
-    reported reserved ps
-    (record { writable = tests.0; long = tests.1; placed = tests.2 })
+is_none_else reserved ps pages e = let tests = by_tests _ _ _ _ _ pages e in
+    reported reserved ps (record { writable = tests.0; long = tests.1; placed = tests.2 })

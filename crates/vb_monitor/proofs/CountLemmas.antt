@@ -2,11 +2,11 @@
 use Rattle.vb_monitor.proofs.PartCounts.{two_at_most}
 use Rattle.std.proofs.Common.{◌≡◌, ap, sym, subst, refl, arith, ℕ, zero, suc, ◌+◌, ◌*◌, ◌≤◌, Bool}
 use Rattle.std.proofs.Common.{true, false, List, [], ◌∷◌, ◌++◌, length, map, Option, Some, None}
-use Rattle.std.{proofs.Common.{Result, Ok, Err}, specs.Prelude.{◌==◌, nat_lt}}
+use Rattle.std.{proofs.Common.{Result, Ok, Err}, specs.Prelude.{◌==◌}}
 use Rattle.vb_chain.specs.declared.{pieces.Piece.Piece, fault.ChainFault.ChainFault}
 use Rattle.vb_chain.specs.{declared.descriptor.Descriptor.Descriptor, Rules.{has_next, piece_of}}
 use Rattle.vb_request.{specs.Request.request_length, specs.Statistics.statistics_length}
-use Rattle.vb_core.specs.{Config.keeps_reports, Devices.{ring_of, queue_denial}, Rings.used_entry}
+use Rattle.vb_core.specs.{Devices.{ring_of, queue_denial}}
 use Rattle.vb_core.specs.{Statistics.statistics_denial, Using.use_denial}
 use Rattle.vb_core.specs.declared.{device.Denial.Denial, device.Device.Device, kinds.Kind.Kind}
 use Rattle.vb_core.specs.declared.kinds.Kind.TheVariants.{Inflate, Deflate, Statistics, Report}
@@ -17,12 +17,11 @@ use Rattle.vb_monitor.specs.Chains.{ServesPieces, GoesOn, DescriptorBy, Descript
 use Rattle.vb_monitor.specs.Chains.{table_fault, descriptor_of, descriptors, memory_end}
 use Rattle.vb_monitor.specs.{Counts.others, Ends.{Whole, Ends, EndsWhere, FlagsAt}, Giving.Then}
 use Rattle.vb_monitor.specs.Giving.{three_spots, UsedAt, GivesBack, GivesBackBy, with_given}
-use Rattle.vb_monitor.specs.{Giving.{after_use, cuts_for, TellsThen, AfterName}, Notices.HeadBy}
-use Rattle.vb_monitor.specs.Notices.{EntryAt, entry_offset, stands, AfterIndex, IndexAt, LooksBy}
+use Rattle.vb_monitor.specs.{Giving.{after_use, TellsThen, AfterName}, Notices.HeadBy}
+use Rattle.vb_monitor.specs.Notices.{EntryAt, AfterIndex, IndexAt, LooksBy}
 use Rattle.vb_monitor.specs.Notices.{AfterGiven, TakesUnlessSpent, TakesNext, with_chains, Serves}
 use Rattle.vb_monitor.specs.{Notices.fresh}
-use Rattle.vb_monitor.specs.Pieces.{PartAt, PartBy, fits_behind, CopiesParts, all_parts}
-use Rattle.vb_monitor.specs.Regions.{spot}
+use Rattle.vb_monitor.specs.Pieces.{PartAt, PartBy, CopiesParts, all_parts}
 use Rattle.vb_monitor.specs.declared.{cuts.Cut.Cut, outcome.Budget.Budget, outcome.Outcome.Outcome}
 use Rattle.vb_monitor.specs.declared.{outcome.Tally.Tally, parts.Part.Part, regions.Region.Region}
 use Rattle.vb_monitor.specs.declared.{regions.Spot.Spot, room.TheConstants.MAX_FIGURES}
@@ -50,8 +49,7 @@ flags_few m w (Some at) d t why more log le h =
 ends_where : (m : ℕ) (w : Whole) (given : Bool) (d : Device) (t : Tally) (why : Option Denial)
     (more : Bool) (log : List Access) → 2 ≤ m → EndsWhere given w d t why more log → Few m log
 ends_where m w false d t why more log le h = asked m log [] h.nothing (omega arith)
-ends_where m w true d t why more log le h =
-    flags_few m w (spot w.regions (ring_of w.kind d).avail 2) d t why more log le h
+ends_where m w true d t why more log le h = flags_few m w _ d t why more log le h
 
 ends : (m : ℕ) (w : Whole) (d : Device) (t : Tally) (why : Option Denial) (more : Bool)
     (log : List Access) → 2 ≤ m → Ends w d t why more log → Few m log
@@ -76,9 +74,8 @@ gives_by : (m : ℕ) (w : Whole) (next : Then) (on : After m next) (d : Device) 
     (head : ℕ) (denial : Option Denial) (log : List Access) →
     GivesBackBy denial w next d t head log → Few (4 + m) log
 gives_by m w next on d t head (Some why) log h = ends (4 + m) w d t _ false log (omega arith) h
-gives_by m w next on d t head None log h = used_at m w (next (after_use w.kind d) (with_given t))
-    (λ rest more. on (after_use w.kind d) (with_given t) rest more) (after_use w.kind d) t
-    (used_entry (ring_of w.kind d) head) _ _ _ log h
+gives_by m w next on d t head None log h =
+    used_at m w _ (on (after_use w.kind d) (with_given t)) (after_use w.kind d) t _ _ _ _ log h
 
 gives : (m : ℕ) (w : Whole) (next : Then) (on : After m next) (d : Device) (t : Tally) (head : ℕ)
     (log : List Access) → GivesBack w next d t head log → Few (4 + m) log
@@ -93,9 +90,8 @@ tells : (m : ℕ) (w : Whole) (next : Then) (on : After m next) (d : Device) (t 
     (runs : List Run) (named : Named) (log : List Access) →
     TellsThen w next d t head runs named log → Few (5 + m) log
 tells m w next on d t head runs named log h =
-    let few : others h.rest ≤ 4 + m =
-    asked (4 + m) h.rest _ h.discards.asks (cuts_few (4 + m) (cuts_for w.kind (keeps_reports d) w.regions runs)
-    h.discards.rest (gives m w next on d t head h.discards.rest h.discards.gives_back)) in
+    let few : others h.rest ≤ 4 + m = asked (4 + m) h.rest _ h.discards.asks
+    (cuts_few (4 + m) _ _ (gives m w next on d t head h.discards.rest h.discards.gives_back)) in
     asked (5 + m) log _ h.asks (omega (arith, few))
 
 names : (m : ℕ) (w : Whole) (next : Then) (on : After m next) (d : Device) (t : Tally) (head : ℕ)
@@ -109,8 +105,7 @@ figures : (m : ℕ) (w : Whole) (d : Device) (t : Tally) (head : ℕ) (bytes : L
     Few (5 + m) log
 figures m w d t head bytes (Some why) log h = ends (5 + m) w d t _ false log (omega arith) h
 figures m w d t head bytes None log h =
-    let few : others h.tells.rest ≤ 2 =
-    ends 2 w _ _ _ false h.tells.rest (omega arith) h.tells.ends in
+    let few = ends 2 w _ _ _ false h.tells.rest (omega arith) h.tells.ends in
     asked (5 + m) log _ h.tells.asks (omega (arith, few))
 
 bytes_few : (m : ℕ) (w : Whole) (kind : Kind) (next : Then) (on : After m next) (d : Device)
@@ -151,9 +146,8 @@ copies : (m : ℕ) (w : Whole) (served : List ℕ → List Access → Type 0) (o
     CopiesParts w served d t parts so_far log → Few (length parts + m) log
 copies m w served on d t [] so_far log le h = let few = on so_far log h in omega (arith, few)
 copies m w served on d t (part ∷ parts) so_far log le h =
-    let few = part_by (length parts + m) w (CopiesParts w served d t parts)
-    (λ bytes rest more. copies m w served on d t parts bytes rest le more) d t part so_far
-    (fits_behind so_far part) log (omega (arith, le)) h in
+    let few = part_by (length parts + m) w (CopiesParts w served d t parts) (λ bytes rest.
+    copies m w served on d t parts bytes rest le) d t part so_far _ log (omega (arith, le)) h in
     omega (arith, few)
 
 -- ---- pieces
@@ -164,9 +158,8 @@ copies_by : (m : ℕ) (w : Whole) (next : Then) (on : After m next) (d : Device)
 copies_by m w next on d t head pieces (Err fault) log h =
     ends (2 * length pieces + (5 + m)) w _ t _ false log (omega arith) h
 copies_by m w next on d t head pieces (Ok n) log h =
-    let few = copies (5 + m) w (λ bytes rest. AfterBytes w.kind w next d t head bytes rest)
-    (λ bytes rest more. bytes_few m w w.kind next on d t head bytes rest more) d t
-    (all_parts pieces) [] log (omega arith) h in
+    let few = copies (5 + m) w (AfterBytes w.kind w next d t head)
+    (bytes_few m w w.kind next on d t head) d t (all_parts pieces) [] log (omega arith) h in
     let parts = two_at_most pieces in
     omega (arith, few, parts)
 
@@ -246,8 +239,7 @@ follows : (n m : ℕ) (w : Whole) (d : Device) (t : Tally) (done : List Piece �
 follows zero m w d t done last number writing pieces log h =
     ends (walk_room zero (length pieces) m) w _ t _ false log (omega arith) h
 follows (suc n) m w d t done last number writing pieces log h = descriptor_at n m w d t
-    (Follows n w d t done) done (λ k wr ps rest go. follows n m w d t done last k wr ps rest go)
-    last writing pieces (spot w.regions ((ring_of w.kind d).table + 16 * number) 16) log h
+    (Follows n w d t done) done (follows n m w d t done last) last writing pieces _ log h
 
 -- ---- a look
 
@@ -259,10 +251,8 @@ head_few : (m : ℕ) (w : Whole) (next : Then) (on : After m next) (d : Device) 
     (head : ℕ) (is : Bool) (log : List Access) → HeadBy is w next d t head log → Few (773 + m) log
 head_few m w next on d t head false log h = ends (773 + m) w _ t _ false log (omega arith) h
 head_few m w next on d t head true log h =
-    let few = follows (descriptors (ring_of w.kind d)) m w d t
-    (λ pieces rest. ServesPieces w.kind w next d t head pieces rest)
-    (λ pieces rest more. pieces_few m w w.kind next on d t head pieces rest more) head false []
-    log h in
+    let few = follows (descriptors (ring_of w.kind d)) m w d t _
+    (pieces_few m w w.kind next on d t head) head false [] log h in
     let table = a_table (ring_of w.kind d) in
     omega (arith, few, table)
 
@@ -270,15 +260,13 @@ entry_few : (m : ℕ) (w : Whole) (next : Then) (on : After m next) (d : Device)
     (o : Option Spot) (log : List Access) → EntryAt w next d t o log → Few (775 + m) log
 entry_few m w next on d t None log h = ends (775 + m) w _ t _ false log (omega arith) h
 entry_few m w next on d t (Some at) log h =
-    let few = head_few m w next on d t h.head (nat_lt h.head (descriptors (ring_of w.kind d)))
-    h.rest h.goes_on in
+    let few = head_few m w next on d t h.head _ h.rest h.goes_on in
     asked (775 + m) log _ h.asks (omega (arith, few))
 
 unless_spent : (m : ℕ) (w : Whole) (next : Then) (on : After m next) (d : Device) (t : Tally)
     (spent : Bool) (log : List Access) → TakesUnlessSpent spent w next d t log → Few (775 + m) log
 unless_spent m w next on d t true log h = ends (775 + m) w d t _ true log (omega arith) h
-unless_spent m w next on d t false log h = entry_few m w next on d t
-    (spot w.regions ((ring_of w.kind d).avail + entry_offset (ring_of w.kind d)) 2) log h
+unless_spent m w next on d t false log h = entry_few m w next on d t _ log h
 
 abbrev Taken : ℕ → (List Access → Type 0) → Type 0
 Taken m takes = (rest : List Access) → takes rest → Few m rest
@@ -295,15 +283,14 @@ index_at : (m : ℕ) (w : Whole) (takes : List Access → Type 0) (on : Taken m 
     Few (1 + m) log
 index_at m w takes on d t None log le h = ends (1 + m) w _ t _ false log (omega (arith, le)) h
 index_at m w takes on d t (Some at) log le h =
-    let few = index_by m w takes on d t (stands (ring_of w.kind d) h.index) h.rest le h.goes_on in
+    let few = index_by m w takes on d t _ h.rest le h.goes_on in
     asked (1 + m) log _ h.asks (omega (arith, few))
 
 looks_by : (m : ℕ) (w : Whole) (takes : List Access → Type 0) (on : Taken m takes) (d : Device)
     (t : Tally) (denial : Option Denial) (log : List Access) → 2 ≤ m →
     LooksBy denial w takes d t log → Few (1 + m) log
 looks_by m w takes on d t (Some why) log le h = ends (1 + m) w d t _ false log (omega (arith, le)) h
-looks_by m w takes on d t None log le h =
-    index_at m w takes on d t (spot w.regions ((ring_of w.kind d).avail + 2) 2) log le h
+looks_by m w takes on d t None log le h = index_at m w takes on d t _ log le h
 
 given : (m : ℕ) (w : Whole) (kind : Kind) (looks : Then) (on : After m looks) → 2 ≤ m →
     After m (AfterGiven kind w looks)
@@ -317,11 +304,9 @@ takes zero w d t log h = ends (2 + 776 * zero) w d t _ true log (omega arith) h
 takes (suc n) w d t log h =
     let few = unless_spent (1 + (2 + 776 * n)) w
     (AfterGiven w.kind w (λ d2 t2 rest. LooksBy (queue_denial w.kind d2) w (TakesNext n w d2 t2)
-    d2 t2 rest)) (given (1 + (2 + 776 * n)) w w.kind
-    (λ d2 t2 rest. LooksBy (queue_denial w.kind d2) w (TakesNext n w d2 t2) d2 t2 rest)
-    (λ d2 t2 rest more. looks_by (2 + 776 * n) w (TakesNext n w d2 t2)
-    (λ rest2 go. takes n w d2 t2 rest2 go) d2 t2 (queue_denial w.kind d2) rest (omega arith)
-    more) (omega arith)) d (with_chains n t) (t.pages == 0) log h in
+    d2 t2 rest)) (given (1 + (2 + 776 * n)) w w.kind _ (λ d2 t2 rest.
+    looks_by (2 + 776 * n) w _ (takes n w d2 t2) d2 t2 _ rest (omega arith)) (omega arith))
+    d (with_chains n t) (t.pages == 0) log h in
     omega (arith, few)
 
 pub few_others : (regions : List Region) (kind : Kind) (budget : Budget) (d1 d2 : Device)
@@ -329,7 +314,6 @@ pub few_others : (regions : List Region) (kind : Kind) (budget : Budget) (d1 d2 
     others log ≤ 3 + 776 * budget.chains
 few_others regions kind budget d1 d2 outcome log h =
     let w : Whole = record { regions = regions; kind = kind; device = d2; outcome = outcome } in
-    let few = looks_by (2 + 776 * budget.chains) w (TakesNext budget.chains w d1 (fresh budget))
-    (λ rest go. takes budget.chains w d1 (fresh budget) rest go) d1 (fresh budget)
-    (queue_denial kind d1) log (omega arith) h in
+    let few = looks_by (2 + 776 * budget.chains) w _ (takes budget.chains w d1 (fresh budget)) d1
+    (fresh budget) _ log (omega arith) h in
     omega (arith, few)

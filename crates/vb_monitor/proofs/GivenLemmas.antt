@@ -103,8 +103,7 @@ gives_by : (w : Whole) (may : Option Access → Access → Type 0) (allows : All
 gives_by w may allows next on d t head (Some why) b log told h =
     ends_row w may allows d t _ false b log h
 gives_by w may allows next on d t head None b log told h =
-    used_at w may allows (next (after_use w.kind d) (with_given t))
-    (λ b2 rest more. on (after_use w.kind d) (with_given t) b2 rest more) (after_use w.kind d) t
+    used_at w may allows _ (on (after_use w.kind d) (with_given t)) (after_use w.kind d) t
     (used_entry (ring_of w.kind d) head) _ _ _ b log told refl refl refl h
 
 pub gives_row : (w : Whole) (may : Option Access → Access → Type 0) (allows : Allows w may) (next : Then) (on : After may next) (d : Device) (t : Tally) (head : ℕ)
@@ -121,25 +120,11 @@ cuts_for_row w may allows Report true runs = tt
 cuts_for_row w may allows Report false runs = allows.discards runs
 
 cuts_row : (may : Option Access → Access → Type 0) (cuts : List Cut) (b : Option Access)
-    (rest : List Access) (then_row : (b2 : Option Access) → is_told b2 ≡ true → Row may b2 rest) →
-    is_told b ≡ true → Cuts may cuts → Row may b (map Discard cuts ++ rest)
-cuts_row may [] b rest then_row told is = then_row b told
-cuts_row may (cut ∷ cuts) b rest then_row told is =
-    (is.0 b told, cuts_row may cuts (Some (Discard cut)) rest then_row refl is.1)
-
--- what was told or discarded may be given back
-is_named_so : (b : Option Access) → is_told b ≡ true → is_named b ≡ true
-is_named_so None h = absurd cc
-is_named_so (Some (TellPages kind runs named)) h = refl
-is_named_so (Some (Discard cut)) h = refl
-is_named_so (Some (ReadWord at answer)) h = absurd cc
-is_named_so (Some (CopyBytes at answer)) h = absurd cc
-is_named_so (Some Acquire) h = absurd cc
-is_named_so (Some Release) h = absurd cc
-is_named_so (Some Full) h = absurd cc
-is_named_so (Some (TellFigures figures)) h = absurd cc
-is_named_so (Some (WriteNumber at n)) h = absurd cc
-is_named_so (Some (WriteWord at n)) h = absurd cc
+    (rest : List Access) (then_row : (b2 : Option Access) → is_named b2 ≡ true → Row may b2 rest) →
+    is_told b ≡ true → is_named b ≡ true → Cuts may cuts → Row may b (map Discard cuts ++ rest)
+cuts_row may [] b rest then_row told named is = then_row b named
+cuts_row may (cut ∷ cuts) b rest then_row told named is =
+    (is.0 b told, cuts_row may cuts (Some (Discard cut)) rest then_row refl refl is.1)
 
 tells_row : (w : Whole) (may : Option Access → Access → Type 0) (allows : Allows w may) (next : Then) (on : After may next) (d : Device) (t : Tally) (head : ℕ)
     (runs : List Run) (named : Named) (b : Option Access) (log : List Access) →
@@ -149,8 +134,8 @@ tells_row w may allows next on d t head runs named b log copied h =
       allows.pages b runs named copied,
       subst (λ (l : List Access). Row may (Some (TellPages w.kind runs named)) l) (sym h.discards.asks)
           (cuts_row may (cuts_for w.kind (keeps_reports d) w.regions runs) (Some (TellPages w.kind runs named)) h.discards.rest
-          (λ b2 told. gives_row w may allows next on d t head b2 h.discards.rest (is_named_so b2 told)
-          h.discards.gives_back) refl (cuts_for_row w may allows w.kind (keeps_reports d) runs)),
+          (λ b2 named. gives_row w may allows next on d t head b2 h.discards.rest named
+          h.discards.gives_back) refl refl (cuts_for_row w may allows w.kind _ runs)),
     )
 
 pub name_row : (w : Whole) (may : Option Access → Access → Type 0) (allows : Allows w may) (next : Then) (on : After may next) (d : Device) (t : Tally) (head : ℕ)

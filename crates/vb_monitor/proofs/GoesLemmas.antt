@@ -57,11 +57,10 @@ over_at (AwaitsFlags at why more) t regions kind d out room e = absurd (grind ar
 pub all_served : (o : Option Outcome) (l0 l1 : List Access) (regions : List Region) (kind : Kind)
     (f0 : Device → Outcome → List Access → Type 0) (step : Step) (d : Device) (room : Room) →
     o ≡ outcome_at step.phase step.tally →
-    Goes l0 l1 f0 (λ after outcome log. Ahead (whole regions kind after outcome) step d room log) →
+    Goes l0 l1 f0 (λ after outcome. Ahead (whole regions kind after outcome) step d room) →
     IfSome o (λ out. Adds l0 l1 (f0 d out))
 all_served None l0 l1 regions kind f0 step d room e goes = tt
-all_served (Some out) l0 l1 regions kind f0 step d room e goes = goes_all l0 l1 f0
-    (λ after outcome log. Ahead (whole regions kind after outcome) step d room log) d out goes
-    (over_at step.phase step.tally regions kind d out room e)
+all_served (Some out) l0 l1 regions kind f0 step d room e goes =
+    goes_all l0 l1 f0 _ d out goes (over_at step.phase step.tally regions kind d out room e)
 
 pub ruleset goes_steps = (goes_none, goes_more)

@@ -240,12 +240,6 @@ none_goes small first end low last a b set is begins stops none n it =
     let bounds = only small first end low last a b n set is begins stops it in
     omega (arith, none, bounds.0, bounds.1)
 
--- a part of no page has no large page
-pub empty_goes : (small first end : ℕ) (set : List ℕ) → end ≤ first → NoneGoes small first end set
-empty_goes small first end set none n it =
-    let part = between_says first end it.page it.of_part in
-    omega (arith, none, part.0, part.1)
-
 -- ---- how many are left
 
 out_by : (a b f : ℕ) → (f < a) ⊎ (b ≤ f) → is_between a b f ≡ false

@@ -11,16 +11,16 @@ use Rattle.vb_core.specs.declared.device.{Denial.TheVariants.NoQueue, Device.Dev
 use Rattle.vb_core.specs.declared.{kinds.Kind.Kind, kinds.Kind.TheVariants.Report, name.Named.Named}
 use Rattle.vb_core.specs.declared.{ring.Virtqueue.Virtqueue, runs.Run.Run}
 use Rattle.vb_monitor.specs.Turns.{TellNumbers, TellPieces}
-use Rattle.vb_monitor.proofs.TurnLemmas.{same_ring, taken_ring}
+use Rattle.vb_monitor.proofs.TurnLemmas.{moves}
 
 -- ---- where the flags lie is no other
 
 answered_avail : (kind : Kind) (d d2 : Device) (answer : Result Named ChainFault) →
     d2 ≡ after_request kind answer d → (ring_of kind d2).avail ≡ (ring_of kind d).avail
 answered_avail kind d d2 (Ok named) e = ap (λ (x : Device). (ring_of kind x).avail) e
-    ∙ ap (λ (r : Virtqueue). r.avail) (taken_ring kind d)
+    ∙ ap (λ (r : Virtqueue). r.avail) (moves kind d).taken_ring
 answered_avail kind d d2 (Err fault) e = ap (λ (x : Device). (ring_of kind x).avail) e
-    ∙ ap (λ (r : Virtqueue). r.avail) (same_ring kind d)
+    ∙ ap (λ (r : Virtqueue). r.avail) (moves kind d).same_ring
 
 avail_by : (kind : Kind) (bytes : List ℕ) (room : ℕ) (runs : List Run) (d d2 : Device)
     (result : Result Named Denial) (denial : Option Denial) →

@@ -1,23 +1,22 @@
 -- What comes behind what in a notice.
 use Rattle.std.proofs.Common.{◌≡◌, sym, subst, refl, ℕ, zero, suc, ◌+◌, ◌*◌, Bool, true, false}
 use Rattle.std.proofs.Common.{List, [], ◌∷◌, ◌++◌, length, Option, Some, None, Result, Ok, Err}
-use Rattle.std.specs.Prelude.{◌==◌, nat_lt}
+use Rattle.std.specs.Prelude.{◌==◌}
 use Rattle.vb_chain.{specs.declared.pieces.Piece.Piece, specs.declared.fault.ChainFault.ChainFault}
 use Rattle.vb_chain.{specs.declared.descriptor.Descriptor.Descriptor, specs.Rules.has_next}
 use Rattle.vb_request.{specs.Request.request_length, specs.Statistics.statistics_length}
 use Rattle.vb_core.specs.{Devices.{ring_of, queue_denial}, Statistics.statistics_denial}
 use Rattle.vb_core.specs.declared.{device.Denial.Denial, device.Device.Device, kinds.Kind.Kind}
 use Rattle.vb_core.specs.declared.kinds.Kind.TheVariants.{Inflate, Deflate, Statistics, Report}
-use Rattle.vb_monitor.specs.Accesses.{Access, ReadWord, CopyBytes, Acquire, Release, Full}
+use Rattle.vb_monitor.specs.Accesses.{Access, ReadWord, CopyBytes, Acquire}
 use Rattle.vb_monitor.specs.Chains.{FiguresBy, AfterBytes, CopiesBy, ServesPieces, GoesOn}
-use Rattle.vb_monitor.specs.Chains.{DescriptorBy, DescriptorAt, Follows, table_fault, descriptor_of}
-use Rattle.vb_monitor.specs.Notices.{HeadBy, EntryAt, entry_offset, stands, AfterIndex, IndexAt}
+use Rattle.vb_monitor.specs.Chains.{DescriptorBy, DescriptorAt, Follows, descriptor_of}
+use Rattle.vb_monitor.specs.Notices.{HeadBy, EntryAt, entry_offset, AfterIndex, IndexAt}
 use Rattle.vb_monitor.specs.Notices.{LooksBy, AfterGiven, TakesUnlessSpent, TakesNext, Looks}
-use Rattle.vb_monitor.specs.Accesses.{TellPages, TellFigures, Discard, WriteNumber, WriteWord}
-use Rattle.vb_monitor.specs.Pieces.{PartAt, PartBy, fits_behind, CopiesParts, all_parts}
+use Rattle.vb_monitor.specs.Pieces.{PartAt, PartBy, CopiesParts, all_parts}
 use Rattle.vb_monitor.{proofs.GivenLemmas.{Allows, After, ends_row, name_row}, specs.Regions.spot}
 use Rattle.vb_monitor.{specs.declared.room.TheConstants.MAX_FIGURES, specs.declared.parts.Part.Part}
-use Rattle.vb_monitor.{specs.Chains.{descriptors, memory_end}, specs.declared.outcome.Tally.Tally}
+use Rattle.vb_monitor.{specs.Chains.{descriptors}, specs.declared.outcome.Tally.Tally}
 use Rattle.vb_monitor.{specs.Order.{is_read, is_copied, Row}, specs.declared.regions.Spot.Spot}
 use Rattle.vb_monitor.{specs.Notices.with_chains, specs.Giving.Then, specs.Ends.Whole}
 
@@ -44,39 +43,29 @@ bytes_row w may allows Statistics next on d t head bytes b log copied h = figure
 bytes_row w may allows Report next on d t head bytes b log copied h =
     name_row w may allows next on h.device t head h.runs h.answer b log copied h.goes_on
 
--- what was copied was read
-is_read_so : (b : Option Access) → is_copied b ≡ true → is_read b ≡ true
-is_read_so None h = absurd cc
-is_read_so (Some (CopyBytes at answer)) h = refl
-is_read_so (Some (TellPages kind runs named)) h = absurd cc
-is_read_so (Some (Discard cut)) h = absurd cc
-is_read_so (Some (ReadWord at answer)) h = absurd cc
-is_read_so (Some Acquire) h = absurd cc
-is_read_so (Some Release) h = absurd cc
-is_read_so (Some Full) h = absurd cc
-is_read_so (Some (TellFigures figures)) h = absurd cc
-is_read_so (Some (WriteNumber at n)) h = absurd cc
-is_read_so (Some (WriteWord at n)) h = absurd cc
+-- bytes were copied, and so were read
+abbrev Bytes : Option Access → Type 0
+Bytes b = (is_copied b ≡ true) × (is_read b ≡ true)
 
 abbrev Copied : (Option Access → Access → Type 0) → (List ℕ → List Access → Type 0) → Type 0
 Copied may go = (bytes : List ℕ) (b : Option Access) (rest : List Access)
-    → is_copied b ≡ true → go bytes rest → Row may b rest
+    → Bytes b → go bytes rest → Row may b rest
 
 part_at : (w : Whole) (may : Option Access → Access → Type 0) (allows : Allows w may) (go : List ℕ → List Access → Type 0) (on : Copied may go) (d : Device) (t : Tally)
     (part : Part) (so_far : List ℕ) (o : Option Spot) (b : Option Access) (log : List Access) →
-    is_copied b ≡ true → spot w.regions (part.address + part.plus) part.length ≡ o →
+    Bytes b → spot w.regions (part.address + part.plus) part.length ≡ o →
     PartAt w go d t part so_far o log → Row may b log
 part_at w may allows go on d t part so_far None b log copied e h =
     ends_row w may allows _ t _ false b log h
 part_at w may allows go on d t part so_far (Some at) b log copied e h =
     subst (λ (l : List Access). Row may b l) (sym h.asks) (
-      allows.copy b (part.address + part.plus) part.length at h.bytes (is_read_so b copied) e h.long,
-      on (so_far ++ h.bytes) (Some (CopyBytes at h.bytes)) h.rest refl h.goes_on,
+      allows.copy b (part.address + part.plus) part.length at h.bytes copied.1 e h.long,
+      on (so_far ++ h.bytes) (Some (CopyBytes at h.bytes)) h.rest (refl, refl) h.goes_on,
     )
 
 part_by : (w : Whole) (may : Option Access → Access → Type 0) (allows : Allows w may) (go : List ℕ → List Access → Type 0) (on : Copied may go) (d : Device) (t : Tally)
     (part : Part) (so_far : List ℕ) (fits : Bool) (b : Option Access) (log : List Access) →
-    is_copied b ≡ true → PartBy fits w go d t part so_far log → Row may b log
+    Bytes b → PartBy fits w go d t part so_far log → Row may b log
 part_by w may allows go on d t part so_far true b log copied h =
     part_at w may allows go on d t part so_far _ b log copied refl h
 part_by w may allows go on d t part so_far false b log copied h =
@@ -84,26 +73,25 @@ part_by w may allows go on d t part so_far false b log copied h =
 
 copies_row : (w : Whole) (may : Option Access → Access → Type 0) (allows : Allows w may) (served : List ℕ → List Access → Type 0) (on : Copied may served) (d : Device)
     (t : Tally) (parts : List Part) (so_far : List ℕ) (b : Option Access) (log : List Access) →
-    is_copied b ≡ true → CopiesParts w served d t parts so_far log → Row may b log
+    Bytes b → CopiesParts w served d t parts so_far log → Row may b log
 copies_row w may allows served on d t [] so_far b log copied h = on so_far b log copied h
 copies_row w may allows served on d t (part ∷ parts) so_far b log copied h =
     part_by w may allows (CopiesParts w served d t parts)
-    (λ bytes b2 rest was more. copies_row w may allows served on d t parts bytes b2 rest was more) d
-    t part so_far (fits_behind so_far part) b log copied h
+    (copies_row w may allows served on d t parts) d t part so_far _ b log copied h
 
 copies_by : (w : Whole) (may : Option Access → Access → Type 0) (allows : Allows w may) (next : Then) (on : After may next) (d : Device) (t : Tally) (head : ℕ)
     (pieces : List Piece) (len : Result ℕ ChainFault) (b : Option Access) (log : List Access) →
-    is_copied b ≡ true → CopiesBy len w next d t head pieces log → Row may b log
+    Bytes b → CopiesBy len w next d t head pieces log → Row may b log
 copies_by w may allows next on d t head pieces (Err fault) b log copied h =
     ends_row w may allows _ t _ false b log h
 copies_by w may allows next on d t head pieces (Ok n) b log copied h =
-    copies_row w may allows (λ bytes rest. AfterBytes w.kind w next d t head bytes rest)
-    (λ bytes b2 rest was more. bytes_row w may allows w.kind next on d t head bytes b2 rest was more)
+    copies_row w may allows (AfterBytes w.kind w next d t head)
+    (λ bytes b2 rest was. bytes_row w may allows w.kind next on d t head bytes b2 rest was.0)
     d t (all_parts pieces) [] b log copied h
 
 pieces_row : (w : Whole) (may : Option Access → Access → Type 0) (allows : Allows w may) (kind : Kind) (next : Then) (on : After may next) (d : Device) (t : Tally)
     (head : ℕ) (pieces : List Piece) (b : Option Access) (log : List Access) →
-    is_copied b ≡ true → ServesPieces kind w next d t head pieces log → Row may b log
+    Bytes b → ServesPieces kind w next d t head pieces log → Row may b log
 pieces_row w may allows Inflate next on d t head pieces b log copied h =
     copies_by w may allows next on d t head pieces (request_length pieces) b log copied h
 pieces_row w may allows Deflate next on d t head pieces b log copied h =
@@ -111,23 +99,23 @@ pieces_row w may allows Deflate next on d t head pieces b log copied h =
 pieces_row w may allows Statistics next on d t head pieces b log copied h =
     copies_by w may allows next on d t head pieces (statistics_length pieces) b log copied h
 pieces_row w may allows Report next on d t head pieces b log copied h =
-    name_row w may allows next on h.device t head h.runs h.answer b log copied h.goes_on
+    name_row w may allows next on h.device t head h.runs h.answer b log copied.0 h.goes_on
 
 -- ---- the walk
 
 abbrev More : (Option Access → Access → Type 0) → (ℕ → Bool → List Piece → List Access → Type 0) →
     Type 0
 More may on = (n : ℕ) (writing : Bool) (ps : List Piece) (b : Option Access) (rest : List Access)
-    → is_copied b ≡ true → on n writing ps rest → Row may b rest
+    → Bytes b → on n writing ps rest → Row may b rest
 
 abbrev Last : (Option Access → Access → Type 0) → (List Piece → List Access → Type 0) → Type 0
 Last may done = (ps : List Piece) (b : Option Access) (rest : List Access)
-    → is_copied b ≡ true → done ps rest → Row may b rest
+    → Bytes b → done ps rest → Row may b rest
 
 goes_on : (w : Whole) (may : Option Access → Access → Type 0) (allows : Allows w may) (on : ℕ → Bool → List Piece → List Access → Type 0)
     (done : List Piece → List Access → Type 0) (more : More may on) (last : Last may done)
     (goes : Bool) (writing : Bool) (x : Descriptor) (pieces : List Piece) (b : Option Access)
-    (log : List Access) → is_copied b ≡ true → GoesOn goes on done writing x pieces log →
+    (log : List Access) → Bytes b → GoesOn goes on done writing x pieces log →
     Row may b log
 goes_on w may allows on done more last true writing x pieces b log copied h =
     more _ _ _ b log copied h
@@ -136,7 +124,7 @@ goes_on w may allows on done more last false writing x pieces b log copied h = l
 descriptor_by : (w : Whole) (may : Option Access → Access → Type 0) (allows : Allows w may) (d : Device) (t : Tally) (on : ℕ → Bool → List Piece → List Access → Type 0)
     (done : List Piece → List Access → Type 0) (more : More may on) (last : Last may done)
     (fault : Option ChainFault) (writing : Bool) (x : Descriptor) (pieces : List Piece)
-    (b : Option Access) (log : List Access) → is_copied b ≡ true →
+    (b : Option Access) (log : List Access) → Bytes b →
     DescriptorBy fault w d t on done writing x pieces log → Row may b log
 descriptor_by w may allows d t on done more last (Some fault) writing x pieces b log copied h =
     ends_row w may allows _ t _ false b log h
@@ -153,10 +141,8 @@ descriptor_at w may allows a d t on done more last writing pieces None b log was
 descriptor_at w may allows a d t on done more last writing pieces (Some at) b log was e h =
     subst (λ (l : List Access). Row may b l) (sym h.asks) (
       allows.copy b a 16 at h.bytes was e h.long,
-      descriptor_by w may allows d t on done more last
-          (table_fault (descriptors (ring_of w.kind d)) (memory_end d) writing (length pieces)
-          (descriptor_of h.bytes)) writing (descriptor_of h.bytes) pieces (Some (CopyBytes at h.bytes))
-          h.rest refl h.goes_on,
+      descriptor_by w may allows d t on done more last _ writing (descriptor_of h.bytes) pieces
+          (Some (CopyBytes at h.bytes)) h.rest (refl, refl) h.goes_on,
     )
 
 follows_row : (n : ℕ) (w : Whole) (may : Option Access → Access → Type 0) (allows : Allows w may) (d : Device) (t : Tally) (done : List Piece → List Access → Type 0)
@@ -167,9 +153,8 @@ follows_row zero w may allows d t done last number writing pieces b log was h =
     ends_row w may allows _ t _ false b log h
 follows_row (suc n) w may allows d t done last number writing pieces b log was h =
     descriptor_at w may allows ((ring_of w.kind d).table + 16 * number) d t (Follows n w d t done)
-    done (λ m wr ps b2 rest copied go.
-    follows_row n w may allows d t done last m wr ps b2 rest (is_read_so b2 copied) go) last writing
-    pieces (spot w.regions ((ring_of w.kind d).table + 16 * number) 16) b log was refl h
+    done (λ m wr ps b2 rest is. follows_row n w may allows d t done last m wr ps b2 rest is.1)
+    last writing pieces _ b log was refl h
 
 -- ---- a look
 
@@ -178,10 +163,8 @@ head_row : (w : Whole) (may : Option Access → Access → Type 0) (allows : All
     HeadBy is w next d t head log → Row may b log
 head_row w may allows next on d t head false b log was h = ends_row w may allows _ t _ false b log h
 head_row w may allows next on d t head true b log was h =
-    follows_row (descriptors (ring_of w.kind d)) w may allows d t
-    (λ pieces rest. ServesPieces w.kind w next d t head pieces rest) (λ pieces b2 rest copied more.
-    pieces_row w may allows w.kind next on d t head pieces b2 rest copied more) head false [] b log
-    was h
+    follows_row (descriptors (ring_of w.kind d)) w may allows d t _
+    (pieces_row w may allows w.kind next on d t head) head false [] b log was h
 
 entry_row : (w : Whole) (may : Option Access → Access → Type 0) (allows : Allows w may) (a : ℕ) (next : Then) (on : After may next) (d : Device) (t : Tally)
     (o : Option Spot) (at0 : Spot) (answer : ℕ) (log : List Access) → spot w.regions a 2 ≡ o →
@@ -193,8 +176,7 @@ entry_row w may allows a next on d t (Some at) at0 answer log e h =
       allows.acquire at0 answer,
       (
         allows.word (Some Acquire) a at h.head e,
-        head_row w may allows next on d t h.head (nat_lt h.head (descriptors (ring_of w.kind d)))
-            (Some (ReadWord at h.head)) h.rest refl h.goes_on,
+        head_row w may allows next on d t h.head _ (Some (ReadWord at h.head)) _ refl h.goes_on,
       ),
     )
 
@@ -210,8 +192,7 @@ unless_spent w may allows next on d t true at answer log h =
     ends_row w may allows d t _ true _ log h
 unless_spent w may allows next on d t false at answer log h =
     entry_row w may allows ((ring_of w.kind d).avail + entry_offset (ring_of w.kind d)) next on d t
-    (spot w.regions ((ring_of w.kind d).avail + entry_offset (ring_of w.kind d)) 2) at answer log
-    refl h
+    _ at answer log refl h
 
 index_by : (w : Whole) (may : Option Access → Access → Type 0) (allows : Allows w may) (takes : List Access → Type 0) (on : Taken may takes) (d : Device) (t : Tally)
     (there : Result Bool ChainFault) (at : Spot) (answer : ℕ) (log : List Access) →
@@ -229,8 +210,7 @@ index_at w may allows a takes on d t None b log e h = ends_row w may allows _ t 
 index_at w may allows a takes on d t (Some at) b log e h =
     subst (λ (l : List Access). Row may b l) (sym h.asks) (
       allows.word b a at h.index e,
-      index_by w may allows takes on d t (stands (ring_of w.kind d) h.index) at h.index h.rest
-          h.goes_on,
+      index_by w may allows takes on d t _ at h.index h.rest h.goes_on,
     )
 
 looks_by : (w : Whole) (may : Option Access → Access → Type 0) (allows : Allows w may) (takes : List Access → Type 0) (on : Taken may takes) (d : Device) (t : Tally)
@@ -238,8 +218,7 @@ looks_by : (w : Whole) (may : Option Access → Access → Type 0) (allows : All
     LooksBy denial w takes d t log → Row may b log
 looks_by w may allows takes on d t (Some why) b log h = ends_row w may allows d t _ false b log h
 looks_by w may allows takes on d t None b log h =
-    index_at w may allows ((ring_of w.kind d).avail + 2) takes on d t
-    (spot w.regions ((ring_of w.kind d).avail + 2) 2) b log refl h
+    index_at w may allows ((ring_of w.kind d).avail + 2) takes on d t _ b log refl h
 
 given_row : (w : Whole) (may : Option Access → Access → Type 0) (allows : Allows w may) (kind : Kind) (looks : Then) (on : After may looks) →
     After may (AfterGiven kind w looks)
@@ -253,13 +232,10 @@ takes_row zero w may allows d t at answer log h = ends_row w may allows d t _ tr
 takes_row (suc n) w may allows d t at answer log h = unless_spent w may allows
     (AfterGiven w.kind w (λ d2 t2 rest. LooksBy (queue_denial w.kind d2) w (TakesNext n w d2 t2) d2
     t2 rest)) (given_row w may allows w.kind
-    (λ d2 t2 rest. LooksBy (queue_denial w.kind d2) w (TakesNext n w d2 t2) d2 t2 rest)
-    (λ d2 t2 b2 rest more. looks_by w may allows (TakesNext n w d2 t2)
-    (λ at2 answer2 rest2 go. takes_row n w may allows d2 t2 at2 answer2 rest2 go) d2 t2
-    (queue_denial w.kind d2) b2 rest more)) d (with_chains n t) (t.pages == 0) at answer log h
+    _ (λ d2 t2. looks_by w may allows _ (takes_row n w may allows d2 t2) d2 t2 _))
+    d (with_chains n t) (t.pages == 0) at answer log h
 
 pub looks_row : (n : ℕ) (w : Whole) (may : Option Access → Access → Type 0) (allows : Allows w may) (d : Device) (t : Tally) (b : Option Access) (log : List Access) →
     Looks n w d t log → Row may b log
-looks_row n w may allows d t b log h = looks_by w may allows (TakesNext n w d t)
-    (λ at answer rest go. takes_row n w may allows d t at answer rest go) d t
-    (queue_denial w.kind d) b log h
+looks_row n w may allows d t b log h =
+    looks_by w may allows (TakesNext n w d t) (takes_row n w may allows d t) d t _ b log h

@@ -1,13 +1,15 @@
 -- Regions, a ring, a device and the accesses of a notice, which the facts share.
-use Rattle.std.proofs.Common.{◌≡◌, ℕ, false, List, [], ◌∷◌, None}
+use Rattle.std.proofs.Common.{◌≡◌, ℕ, false, true, List, [], ◌∷◌, None}
 use Rattle.vb_chain.specs.declared.pieces.Piece.{Piece}
 use Rattle.vb_core.{specs.declared.kinds.Kind.TheVariants.Inflate, specs.declared.runs.Run.Run}
 use Rattle.vb_core.{specs.declared.ring.Virtqueue.Virtqueue, specs.declared.name.Named.Named}
 use Rattle.vb_core.{specs.declared.settings.Settings.Settings}
 use Rattle.vb_core.{specs.declared.device.Device.Device, specs.Devices.{new_device, placed}}
 use Rattle.vb_monitor.specs.Accesses.{Access, ReadWord, CopyBytes, TellPages, TellFigures, Discard}
+use Rattle.vb_monitor.specs.Accesses.{Full, Release}
 use Rattle.vb_monitor.specs.{Accesses.{WriteNumber, WriteWord}, declared.regions.Region.Region}
 use Rattle.vb_monitor.specs.declared.{regions.Spot.Spot, cuts.Cut.Cut, outcome.Tally.Tally}
+use Rattle.vb_monitor.specs.declared.outcome.{Budget.Budget, Outcome.Outcome}
 
 abbrev pub Same : ℕ → ℕ → Type 0
 Same a b = a ≡ b
@@ -125,3 +127,19 @@ used_index = WriteWord (at 0x202) 1
 
 abbrev pub flags : Access
 flags = ReadWord (at 0x100) 0
+
+-- a chain is given back, the queue is looked at again, and nothing stands there
+abbrev pub given : List Access
+given = id ∷ used_length ∷ Release ∷ used_index ∷ index ∷ Full ∷ flags ∷ []
+
+-- a notice of one chain of one page
+abbrev pub budget : Budget
+budget = record { chains = 8; pages = 256 }
+
+abbrev pub outcome : Outcome
+outcome = record {
+  tally = record { chains = 7; pages = 255; given = true; held = None };
+  why = None;
+  interrupt = true;
+  more = false;
+}

@@ -10,7 +10,7 @@ use Rattle.vb_core.specs.declared.kinds.Kind.TheVariants.{Inflate, Deflate, Stat
 use Rattle.vb_core.specs.declared.{kinds.Kind.Kind, device.Device.Device, device.Denial.Denial}
 use Rattle.vb_core.specs.{declared.runs.Run.Run, declared.name.Named.Named, Rings.used_entry}
 use Rattle.vb_core.specs.declared.ring.UsedEntry.{UsedEntry}
-use Rattle.vb_core.specs.Devices.{ring_of, call_denial, queue_denial, with_one_taken}
+use Rattle.vb_core.specs.Devices.{ring_of, call_denial, queue_denial}
 use Rattle.vb_core.specs.{Name.{is_request, NamesBy, name_denial, after_request}, Next.told}
 use Rattle.vb_core.specs.Using.{use_denial}
 use Rattle.vb_monitor.specs.declared.{regions.{Region.Region, Spot.Spot}, giving.UsedSpots.UsedSpots}
@@ -22,6 +22,8 @@ use Rattle.vb_monitor.specs.{Giving.{with_given, after_use, AfterName, three_spo
 use Rattle.vb_monitor.specs.{Chains.{NamesBytes, AfterBytes}, Machine.{next_chain, served}}
 use Rattle.vb_monitor.specs.Notices.{TakesNext, AsksIndex, IndexAt, Looks, LooksBy, AfterGiven}
 use Rattle.vb_monitor.specs.Served.{looks_again, none_left}
+use Rattle.vb_core.specs.declared.ring.Virtqueue.{Virtqueue}
+use Rattle.vb_monitor.proofs.TurnLemmas.{moves}
 use Rattle.vb_monitor.proofs.{NextLemmas.copies_none, RoomLemmas.few_named}
 
 -- ---- a queue that is served stays so
@@ -31,26 +33,6 @@ opened : (kind : Kind) (known fits : Bool) (d : Device) →
 opened kind true true d e = e
 opened kind false fits d e = absurd cc
 opened kind true false d e = absurd cc
-
-open_taken : (kind : Kind) (d : Device) →
-    queue_denial kind (with_one_taken kind d) ≡ queue_denial kind d
-open_taken Inflate d = refl
-open_taken Deflate d = refl
-open_taken Statistics d = refl
-open_taken Report d = refl
-
-open_used : (kind : Kind) (d : Device) → queue_denial kind (after_use kind d) ≡ queue_denial kind d
-open_used Inflate d = refl
-open_used Deflate d = refl
-open_used Statistics d = refl
-open_used Report d = refl
-
-avail_used : (kind : Kind) (d : Device) →
-    (ring_of kind (after_use kind d)).avail ≡ (ring_of kind d).avail
-avail_used Inflate d = refl
-avail_used Deflate d = refl
-avail_used Statistics d = refl
-avail_used Report d = refl
 
 -- ---- a chain is given back, and the queue looked at again
 
@@ -86,8 +68,8 @@ given_goes w d d2 t head u s at log looks lt ready spots place after writes h =
     let used = after_use w.kind d in
     let next = next_chain w t in
     let looked_at : Looks t.chains w used (with_given t) log =
-    looked w used (with_given t) at log (open_used w.kind d ∙ ready)
-    (ap (λ (a : ℕ). spot w.regions (a + 2) 2) (avail_used w.kind d) ∙ place)
+    looked w used (with_given t) at log ((moves w.kind d).used_denial ∙ ready)
+    (ap (λ (r : Virtqueue). spot w.regions (r.avail + 2) 2) (moves w.kind d).used_ring ∙ place)
     (subst (λ (x : Device). AsksIndex w (TakesNext t.chains w x (with_given t)) x (with_given t) at
     log) after h) in
     subst (λ (o : Option Denial). GivesBackBy o w next d t head (giving true u ++ log))
@@ -148,13 +130,6 @@ only_run rs [] d cuts e h = absurd (omega (arith, e))
 only_run rs (run ∷ []) d cuts e h = append-nil (cuts_from 0 rs run) ∙ h
 only_run rs (run ∷ next ∷ more) d cuts e h = absurd (omega (arith, e))
 
--- and how many they are
-pub one_run : (rs : List Region) (runs : List Run) (d : Run) → length runs ≡ 1 →
-    length (cuts_of rs runs) ≡ length (cuts_from 0 (drop 0 rs) (get_or runs 0 d))
-one_run rs [] d e = absurd (omega (arith, e))
-one_run rs (run ∷ []) d e = ap length (append-nil (cuts_from 0 rs run))
-one_run rs (run ∷ next ∷ more) d e = absurd (omega (arith, e))
-
 -- ---- a request whose pages were named
 
 open_after : (answer : Result Named ChainFault) (kind : Kind) (d d2 : Device) (named : Named) →
@@ -162,7 +137,7 @@ open_after : (answer : Result Named ChainFault) (kind : Kind) (d d2 : Device) (n
     queue_denial kind d2 ≡ None
 open_after (Err f) kind d d2 named is after ready = absurd cc
 open_after (Ok x) kind d d2 named is after ready =
-    ap (λ (y : Device). queue_denial kind y) after ∙ (open_taken kind d ∙ ready)
+    ap (λ (y : Device). queue_denial kind y) after ∙ ((moves kind d).taken_denial ∙ ready)
 
 open_by : (o : Option Denial) (kind : Kind) (bytes : List ℕ) (room : ℕ) (runs : List Run)
     (d d2 : Device) (named : Named) → name_denial kind (length bytes) room d ≡ o →

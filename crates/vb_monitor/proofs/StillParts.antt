@@ -130,9 +130,8 @@ copies byte w does d t (part ∷ parts) so_far log mapped room stays h =
     length-map-range_with_len byte (part.address + part.plus) part.length in
     let room_so : fits_behind so_far part ≡ true =
     fits so_far (part_bytes byte part) (parts_bytes byte parts) part long room in
-    copied byte w does d t part parts so_far (spot w.regions (part.address + part.plus) part.length)
-    log (λ now l room2 stays2 h2. copies byte w does d t parts now l mapped.1 room2 stays2 h2) refl
-    mapped.0 room stays
+    copied byte w does d t part parts so_far _ log
+    (λ now l. copies byte w does d t parts now l mapped.1) refl mapped.0 room stays
     (subst (λ (b : Bool). PartBy b w (CopiesParts w does d t parts) d t part so_far log) room_so h)
 
 -- ---- a chain
@@ -152,15 +151,15 @@ by_kind : (byte : ℕ → ℕ) (kind : Kind) (w : Whole) (next : Then) (d : Devi
     (pieces : List Piece) (n : ℕ) (log : List Access) → is_read kind ≡ true → length_of kind pieces
     ≡ Ok n → ArePartsMapped w.regions (all_parts pieces) → length (bytes_of byte pieces) ≤ MAX_BYTES
     → Stays byte w.regions log → ServesPieces kind w next d t head pieces log
-    → Behind (λ rest. AfterBytes w.kind w next d t head (bytes_of byte pieces) rest) log
-by_kind byte Inflate w next d t head pieces n log read e mapped room stays h = read_whole byte w
-    (λ bytes rest. AfterBytes w.kind w next d t head bytes rest) d t pieces log mapped room stays
+    → Behind (AfterBytes w.kind w next d t head (bytes_of byte pieces)) log
+by_kind byte Inflate w next d t head pieces n log read e mapped room stays h =
+    read_whole byte w (AfterBytes w.kind w next d t head) d t pieces log mapped room stays
     (subst (λ (o : Result ℕ ChainFault). CopiesBy o w next d t head pieces log) e h)
-by_kind byte Deflate w next d t head pieces n log read e mapped room stays h = read_whole byte w
-    (λ bytes rest. AfterBytes w.kind w next d t head bytes rest) d t pieces log mapped room stays
+by_kind byte Deflate w next d t head pieces n log read e mapped room stays h =
+    read_whole byte w (AfterBytes w.kind w next d t head) d t pieces log mapped room stays
     (subst (λ (o : Result ℕ ChainFault). CopiesBy o w next d t head pieces log) e h)
-by_kind byte Statistics w next d t head pieces n log read e mapped room stays h = read_whole byte w
-    (λ bytes rest. AfterBytes w.kind w next d t head bytes rest) d t pieces log mapped room stays
+by_kind byte Statistics w next d t head pieces n log read e mapped room stays h =
+    read_whole byte w (AfterBytes w.kind w next d t head) d t pieces log mapped room stays
     (subst (λ (o : Result ℕ ChainFault). CopiesBy o w next d t head pieces log) e h)
 by_kind byte Report w next d t head pieces n log read e mapped room stays h = absurd cc
 

@@ -166,7 +166,7 @@ descriptor byte w d t whole follows q head path i index writing pieces log on
     ∙ first_alone q end writing i (ds index) lt)) in
     further w d t whole ds q end head (CopyBytes at h.bytes) h.rest log h.asks
     (by_fault byte w d t whole follows ds q end head path i index writing pieces h.rest on
-    (first_fault q end writing i (ds index)) lt walked refl both.1
+    _ lt walked refl both.1
     (subst (λ (x : Descriptor). DescriptorBy (first_fault q end writing i (ds index)) w d t follows
     whole writing x pieces h.rest) same
     (subst (λ (o : Option ChainFault). DescriptorBy o w d t follows whole writing
@@ -184,9 +184,7 @@ pub walks : (n : ℕ) (byte : ℕ → ℕ) (w : Whole) (d : Device) (t : Tally)
 walks zero byte w d t whole q head path i index writing pieces log is mapped sum lt below walked
     stays h = absurd (omega (arith, sum, lt))
 walks (suc n) byte w d t whole q head path i index writing pieces log is mapped sum lt below walked
-    stays h = descriptor byte w d t whole (Follows n w d t whole) q head path
-    i index writing pieces log (λ path2 index2 writing2 pieces2 log2 lt2 below2 walked2 stays2 h2.
-    walks n byte w d t whole q head path2 (i + 1) index2 writing2 pieces2 log2 is mapped
-    (omega (arith, sum)) lt2 below2 walked2 stays2 h2)
-    (spot w.regions ((ring_of w.kind d).table + 16 * index) 16) is refl
-    (mapped index below) lt walked stays h
+    stays h = descriptor byte w d t whole (Follows n w d t whole) q head path i index writing pieces
+    log (λ path2 index2 writing2 pieces2 log2. walks n byte w d t whole q head path2 (i + 1) index2
+    writing2 pieces2 log2 is mapped (omega (arith, sum))) _ is refl (mapped index below) lt walked
+    stays h

@@ -34,18 +34,11 @@ found_by r rs n a len at behind true e h =
     let held = is_held r a len e in
     subst (λ (s : Spot). Found (r ∷ rs) n len s) is
     (0, (omega arith, record { region = r; there = refl; possible = held.0; inside = held.1 }))
-found_by r rs n a len at behind false e h = let x = behind h in (
-  suc x.0,
-  (
-    omega (arith, x.1.0),
-    record {
-      region = x.1.1.region;
-      there = x.1.1.there;
-      possible = x.1.1.possible;
-      inside = x.1.1.inside;
-    },
-  ),
-)
+found_by r rs n a len at behind false e h =
+    let (k, (is, x)) = behind h in
+    let on : IsIn (r ∷ rs) (suc k) at.offset len =
+    record { region = x.region; there = x.there; possible = x.possible; inside = x.inside } in
+    (suc k, (omega (arith, is), on))
 
 found : (rs : List Region) (n a len : ℕ) (at : Spot) → spot_from n rs a len ≡ Some at →
     Found rs n len at
@@ -56,14 +49,10 @@ found (r ∷ rs) n a len at h =
 pub within : (rs : List Region) (a len : ℕ) (at : Spot) → spot rs a len ≡ Some at →
     IsWithin rs at.region at.offset len
 within rs a len at h =
-    let x = found rs 0 a len at h in
-    let is : x.0 ≡ at.region = omega (arith, x.1.0) in
-    subst (λ (k : ℕ). IsWithin rs k at.offset len) is (record {
-      region = x.1.1.region;
-      there = x.1.1.there;
-      possible = x.1.1.possible;
-      inside = x.1.1.inside;
-    })
+    let (k, (e, x)) = found rs 0 a len at h in
+    let is : k ≡ at.region = omega (arith, e) in
+    subst (λ (k : ℕ). IsWithin rs k at.offset len) is
+    (record { region = x.region; there = x.there; possible = x.possible; inside = x.inside })
 
 -- ---- parts of runs
 

@@ -1,7 +1,7 @@
 -- What each access of a notice is, by those before it: the walk along a chain, looks, and the laws.
 use Rattle.std.proofs.Common.{◌≡◌, ap, sym, subst, refl, ℕ, zero, suc, ◌+◌, ◌*◌, Bool, true}
-use Rattle.std.proofs.Common.{false, List, [], ◌∷◌, ◌++◌, length, Option, Some, None, Result, Ok}
-use Rattle.std.{proofs.Common.Err, specs.Prelude.{◌==◌, nat_lt}}
+use Rattle.std.proofs.Common.{false, List, [], ◌∷◌, ◌++◌, Option, Some, None, Result, Ok}
+use Rattle.std.{proofs.Common.Err, specs.Prelude.{◌==◌}}
 use Rattle.vb_chain.specs.declared.{pieces.Piece.Piece, fault.ChainFault.ChainFault}
 use Rattle.vb_chain.specs.{declared.descriptor.Descriptor.Descriptor, Rules.{has_next, piece_of}}
 use Rattle.vb_core.{specs.declared.kinds.Kind.Kind, specs.declared.ring.Virtqueue.Virtqueue}
@@ -10,10 +10,10 @@ use Rattle.vb_core.{specs.declared.device.Denial.Denial, specs.declared.device.D
 use Rattle.vb_core.specs.Devices.{ring_of, queue_denial}
 use Rattle.vb_monitor.proofs.TurnLemmas.{Comes, Agrees, flags_of, ends_each, breaks_each, After}
 use Rattle.vb_monitor.{proofs.TurnRows.{Begun, pieces_each}, specs.Accesses.{Access, ReadWord}}
-use Rattle.vb_monitor.specs.{Accesses.{CopyBytes, Acquire, WriteWord}, Chains.ServesPieces}
-use Rattle.vb_monitor.specs.Chains.{GoesOn, DescriptorBy, DescriptorAt, Follows, table_fault}
-use Rattle.vb_monitor.specs.{Chains.{descriptor_of, descriptors, memory_end}, Ends.Whole}
-use Rattle.vb_monitor.specs.{Giving.Then, Notices.{HeadBy, EntryAt, entry_offset, stands}}
+use Rattle.vb_monitor.specs.{Accesses.{CopyBytes, Acquire, WriteWord}}
+use Rattle.vb_monitor.specs.Chains.{GoesOn, DescriptorBy, DescriptorAt, Follows}
+use Rattle.vb_monitor.specs.{Chains.{descriptors}, Ends.Whole}
+use Rattle.vb_monitor.specs.{Giving.Then, Notices.{HeadBy, EntryAt, entry_offset}}
 use Rattle.vb_monitor.specs.Notices.{AfterIndex, IndexAt, LooksBy, AfterGiven, TakesUnlessSpent}
 use Rattle.vb_monitor.specs.{Notices.{TakesNext, with_chains, Serves, fresh}, Regions.spot}
 use Rattle.vb_monitor.specs.SoFar.{Each, Known, Unknown, Walks, known, ring_after, is_fenced}
@@ -71,9 +71,7 @@ descriptor_at w d0 d t head number on done more last writing pieces (Some at) b 
             h.bytes) (sym read) (record { place = there; long = h.long }),
         (tt, tt),
       ),
-      descriptor_by w d0 d t head on done more last
-          (table_fault (descriptors (ring_of w.kind d)) (memory_end d) writing (length pieces)
-          (descriptor_of h.bytes)) writing (descriptor_of h.bytes) pieces (CopyBytes at h.bytes ∷ b)
+      descriptor_by w d0 d t head on done more last _ writing _ pieces (CopyBytes at h.bytes ∷ b)
           h.rest (record { ring = is.ring; settings = is.settings; keeps = is.keeps; lasts = refl })
           (ap (λ (k : Known). with_copied w.kind h.bytes k) read) h.goes_on,
     )
@@ -86,9 +84,8 @@ follows_each : (n : ℕ) (w : Whole) (d0 d : Device) (t : Tally) (head : ℕ)
 follows_each zero w d0 d t head done last number writing pieces b log is read h =
     breaks_each w d0 d t _ b log is h
 follows_each (suc n) w d0 d t head done last number writing pieces b log is read h =
-    descriptor_at w d0 d t head number (Follows n w d t done) done (λ m wr ps b2 rest is2 read2 go.
-    follows_each n w d0 d t head done last m wr ps b2 rest is2 read2 go) last writing pieces
-    (spot w.regions ((ring_of w.kind d).table + 16 * number) 16) b log is read refl h
+    descriptor_at w d0 d t head number (Follows n w d t done) done
+    (follows_each n w d0 d t head done last) last writing pieces _ b log is read refl h
 
 -- ---- a look
 
@@ -96,11 +93,9 @@ head_each : (w : Whole) (d0 : Device) (next : Then) (on : After w d0 next) (d : 
     (head : ℕ) (there : Bool) (b log : List Access) → Agrees w d0 b d → known w.kind b
     ≡ Walks head head [] → HeadBy there w next d t head log → Each (Comes w d0) b log
 head_each w d0 next on d t head false b log is read h = breaks_each w d0 d t _ b log is h
-head_each w d0 next on d t head true b log is read h = follows_each (descriptors (ring_of w.kind d))
-    w d0 d t head (λ pieces rest. ServesPieces w.kind w next d t head pieces rest)
-    (λ pieces b2 rest is2 begun more.
-    pieces_each w d0 w.kind refl next on d t head pieces b2 rest is2 begun more) head false [] b log
-    is read h
+head_each w d0 next on d t head true b log is read h =
+    follows_each (descriptors (ring_of w.kind d)) w d0 d t head _
+    (pieces_each w d0 w.kind refl next on d t head) head false [] b log is read h
 
 entry_each : (w : Whole) (d0 : Device) (next : Then) (on : After w d0 next) (d : Device)
     (t : Tally) (o : Option Spot) (b log : List Access) → Agrees w d0 b d →
@@ -115,8 +110,7 @@ entry_each w d0 next on d t (Some at) b log is new e h =
           subst (λ (r : Virtqueue). spot w.regions (r.avail + entry_offset r) 2 ≡ Some at) is.ring e,
           (tt, tt),
         ),
-        head_each w d0 next on d t h.head (nat_lt h.head (descriptors (ring_of w.kind d)))
-            (ReadWord at h.head ∷ Acquire ∷ b) h.rest
+        head_each w d0 next on d t h.head _ (ReadWord at h.head ∷ Acquire ∷ b) h.rest
             (record { ring = is.ring; settings = is.settings; keeps = is.keeps; lasts = refl }) refl h.goes_on,
       ),
     )
@@ -126,9 +120,8 @@ unless_spent : (w : Whole) (d0 : Device) (next : Then) (on : After w d0 next) (d
     known w.kind b ≡ Unknown → TakesUnlessSpent spent w next d t log → Each (Comes w d0) b log
 unless_spent w d0 next on d t true b log is new h =
     ends_each w d0 d t _ true b log (flags_of w d0 b d is) h
-unless_spent w d0 next on d t false b log is new h = entry_each w d0 next on d t
-    (spot w.regions ((ring_of w.kind d).avail + entry_offset (ring_of w.kind d)) 2)
-    b log is new refl h
+unless_spent w d0 next on d t false b log is new h =
+    entry_each w d0 next on d t _ b log is new refl h
 
 abbrev Taken : Whole → Device → Device → (List Access → Type 0) → Type 0
 Taken w d0 d takes = (b rest : List Access)
@@ -161,7 +154,7 @@ index_at w d0 d t takes on (Some at) b log is looked e h =
             (subst (λ (r : Virtqueue). spot w.regions (r.avail + 2) 2 ≡ Some at) is.ring e),
         (tt, tt),
       ),
-      index_by w d0 d t takes on (stands (ring_of w.kind d) h.index) (ReadWord at h.index ∷ b)
+      index_by w d0 d t takes on _ (ReadWord at h.index ∷ b)
           h.rest (record { ring = is.ring; settings = is.settings; keeps = is.keeps; lasts = looked.lasts })
           (ap (λ (fenced : Bool). with_word fenced h.index) looked.unfenced) h.goes_on,
     )
@@ -171,8 +164,8 @@ looks_by : (w : Whole) (d0 d : Device) (t : Tally) (takes : List Access → Type
     Looked b → LooksBy denial w takes d t log → Each (Comes w d0) b log
 looks_by w d0 d t takes on (Some why) b log is looked h =
     ends_each w d0 d t _ false b log (flags_of w d0 b d is) h
-looks_by w d0 d t takes on None b log is looked h = index_at w d0 d t takes on
-    (spot w.regions ((ring_of w.kind d).avail + 2) 2) b log is looked refl h
+looks_by w d0 d t takes on None b log is looked h =
+    index_at w d0 d t takes on _ b log is looked refl h
 
 given_each : (w : Whole) (d0 : Device) (kind : Kind) (looks : Then) (on : After w d0 looks) →
     After w d0 (AfterGiven kind w looks)
@@ -186,11 +179,8 @@ takes_each : (n : ℕ) (w : Whole) (d0 d : Device) (t : Tally) → Taken w d0 d 
 takes_each zero w d0 d t b log is new h = ends_each w d0 d t _ true b log (flags_of w d0 b d is) h
 takes_each (suc n) w d0 d t b log is new h = unless_spent w d0
     (AfterGiven w.kind w (λ d2 t2 rest. LooksBy (queue_denial w.kind d2) w (TakesNext n w d2 t2) d2
-    t2 rest)) (given_each w d0 w.kind
-    (λ d2 t2 rest. LooksBy (queue_denial w.kind d2) w (TakesNext n w d2 t2) d2 t2 rest)
-    (λ d2 t2 at n2 b2 rest is2 more. looks_by w d0 d2 t2 (TakesNext n w d2 t2)
-    (λ b3 rest3 is3 new3 go. takes_each n w d0 d2 t2 b3 rest3 is3 new3 go) (queue_denial w.kind d2)
-    (WriteWord at n2 ∷ b2) rest is2
+    t2 rest)) (given_each w d0 w.kind _ (λ d2 t2 at n2 b2 rest is2 more.
+    looks_by w d0 d2 t2 _ (takes_each n w d0 d2 t2) _ (WriteWord at n2 ∷ b2) rest is2
     (record { word = λ rs r at3 e. e; unfenced = refl; lasts = refl }) more))
     d (with_chains n t) (t.pages == 0) b log is new h
 
@@ -201,9 +191,8 @@ all_come : (regions : List Region) (kind : Kind) (budget : Budget) (d1 d2 : Devi
     Each (Comes (record { regions = regions; kind = kind; device = d2; outcome = outcome }) d1) [] log
 all_come regions kind budget d1 d2 outcome log h =
     let w : Whole = record { regions = regions; kind = kind; device = d2; outcome = outcome } in
-    looks_by w d1 d1 (fresh budget) (TakesNext budget.chains w d1 (fresh budget))
-    (λ b rest is new go. takes_each budget.chains w d1 d1 (fresh budget) b rest is new go)
-    (queue_denial kind d1) [] log (record { ring = refl; settings = refl; keeps = refl; lasts = refl })
+    looks_by w d1 d1 (fresh budget) _ (takes_each budget.chains w d1 d1 (fresh budget)) _ [] log
+    (record { ring = refl; settings = refl; keeps = refl; lasts = refl })
     (record { word = λ rs r at e. e; unfenced = refl; lasts = refl }) h
 
 each_so : (may so : List Access → Access → Type 0) (b log : List Access) →
@@ -216,22 +205,16 @@ pub reads_in_turn : (regions : List Region) (kind : Kind) (budget : Budget) (d1 
     (outcome : Outcome) (log : List Access) → Serves regions kind budget d1 d2 outcome log →
     Each (ReadsInTurn regions kind d1) [] log
 reads_in_turn regions kind budget d1 d2 outcome log h =
-    let w : Whole = record { regions = regions; kind = kind; device = d2; outcome = outcome } in
-    each_so (Comes w d1) (ReadsInTurn regions kind d1) [] log (λ b x is. is.0)
-    (all_come regions kind budget d1 d2 outcome log h)
+    each_so _ _ [] log (λ b x is. is.0) (all_come regions kind budget d1 d2 outcome log h)
 
 pub tells_in_turn : (regions : List Region) (kind : Kind) (budget : Budget) (d1 d2 : Device)
     (outcome : Outcome) (log : List Access) → Serves regions kind budget d1 d2 outcome log →
     Each (TellsInTurn regions kind d1) [] log
 tells_in_turn regions kind budget d1 d2 outcome log h =
-    let w : Whole = record { regions = regions; kind = kind; device = d2; outcome = outcome } in
-    each_so (Comes w d1) (TellsInTurn regions kind d1) [] log (λ b x is. is.1.0)
-    (all_come regions kind budget d1 d2 outcome log h)
+    each_so _ _ [] log (λ b x is. is.1.0) (all_come regions kind budget d1 d2 outcome log h)
 
 pub writes_used : (regions : List Region) (kind : Kind) (budget : Budget) (d1 d2 : Device)
     (outcome : Outcome) (log : List Access) → Serves regions kind budget d1 d2 outcome log →
     Each (WritesUsedAlone regions kind d1) [] log
 writes_used regions kind budget d1 d2 outcome log h =
-    let w : Whole = record { regions = regions; kind = kind; device = d2; outcome = outcome } in
-    each_so (Comes w d1) (WritesUsedAlone regions kind d1) [] log (λ b x is. is.1.1)
-    (all_come regions kind budget d1 d2 outcome log h)
+    each_so _ _ [] log (λ b x is. is.1.1) (all_come regions kind budget d1 d2 outcome log h)

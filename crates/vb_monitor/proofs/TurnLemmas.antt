@@ -1,22 +1,23 @@
 -- What each access of a notice is, by those before it: the end of a chain.
 use Rattle.std.proofs.Common.{◌≡◌, ◌∙◌, ap, sym, subst, refl, ℕ, ◌+◌, Bool, true, false, List, []}
-use Rattle.std.proofs.Common.{◌∷◌, ◌++◌, map, Option, Some, None}
+use Rattle.std.proofs.Common.{◌∷◌, ◌++◌, map, Option, Some, None, rules}
 use Rattle.vb_chain.{specs.declared.pieces.Piece.Piece, specs.declared.fault.ChainFault.ChainFault}
-use Rattle.vb_core.specs.declared.{kinds.Kind.Kind, runs.Run.Run, kinds.Kind.TheVariants.Inflate}
-use Rattle.vb_core.specs.declared.kinds.Kind.TheVariants.{Deflate, Statistics, Report}
-use Rattle.vb_core.specs.declared.{name.Named.Named, ring.Virtqueue.Virtqueue, device.Denial.Denial}
-use Rattle.vb_core.specs.declared.{settings.Settings.Settings, device.Device.Device}
-use Rattle.vb_core.specs.{Using.use_denial, Devices.{ring_of, with_one_taken, needing_reset}}
-use Rattle.vb_core.specs.{Rings.{used_entry, with_taken, with_used}, Config.keeps_reports}
+use Rattle.vb_core.{specs.declared.kinds.Kind.Kind, specs.Rings.{used_entry, with_taken, with_used}}
+use Rattle.vb_core.{specs.declared.runs.Run.Run, specs.declared.name.Named.Named}
+use Rattle.vb_core.specs.declared.kinds.Kind.TheVariants.{Inflate, Deflate, Statistics, Report}
+use Rattle.vb_core.{specs.declared.ring.Virtqueue.Virtqueue, specs.declared.device.Device.Device}
+use Rattle.vb_core.{specs.declared.device.Denial.Denial, specs.declared.settings.Settings.Settings}
+use Rattle.vb_core.{specs.Using.use_denial, specs.Config.keeps_reports}
+use Rattle.vb_core.specs.Devices.{ring_of, with_one_taken, needing_reset, queue_denial}
 use Rattle.vb_monitor.specs.Accesses.{Access, ReadWord, Release, Full, TellPages, Discard}
-use Rattle.vb_monitor.specs.{Accesses.{WriteNumber, WriteWord}, Giving.{Then, three_spots, UsedAt}}
-use Rattle.vb_monitor.specs.Giving.{GivesBack, GivesBackBy, with_given, after_use, cuts_for}
-use Rattle.vb_monitor.specs.{Giving.TellsThen, SoFar.{Each, Known, Has, known, ring_after, left}}
-use Rattle.vb_monitor.specs.{SoFar.without_first, Turns.{is_over, ReadsInTurn, TellsOf, TellNamed}}
-use Rattle.vb_monitor.specs.Turns.{TellsInTurn, IsNext, ends_in_number, NumberFor, IndexFor}
-use Rattle.vb_monitor.specs.{Turns.WritesUsedAlone, Regions.spot, Ends.{Whole, Ends, EndsWhere}}
-use Rattle.vb_monitor.specs.{Ends.{FlagsAt, Breaks}, declared.outcome.Tally.Tally}
-use Rattle.vb_monitor.specs.declared.{regions.Spot.Spot, cuts.Cut.Cut}
+use Rattle.vb_monitor.{specs.Accesses.{WriteNumber, WriteWord}, specs.declared.outcome.Tally.Tally}
+use Rattle.vb_monitor.specs.Giving.{Then, three_spots, UsedAt, GivesBack, GivesBackBy, with_given}
+use Rattle.vb_monitor.{specs.Giving.{after_use, cuts_for, TellsThen}, specs.declared.cuts.Cut.Cut}
+use Rattle.vb_monitor.specs.SoFar.{Each, Known, Has, known, ring_after, left, without_first}
+use Rattle.vb_monitor.specs.Turns.{is_over, ReadsInTurn, TellsOf, TellNamed, TellsInTurn, IsNext}
+use Rattle.vb_monitor.specs.Turns.{ends_in_number, NumberFor, IndexFor, WritesUsedAlone}
+use Rattle.vb_monitor.{specs.Regions.spot, specs.Ends.{Whole, Ends, EndsWhere, FlagsAt, Breaks}}
+use Rattle.vb_monitor.specs.declared.regions.Spot.{Spot}
 
 -- the access comes in its turn
 abbrev pub Comes : Whole → Device → List Access → Access → Type 0
@@ -36,58 +37,32 @@ none_left may b log e = subst (λ (l : List Access). Each may b l) (sym e) tt
 
 -- ---- rings of devices
 
-pub same_ring : (kind : Kind) (d : Device) → ring_of kind (needing_reset d) ≡ ring_of kind d
-same_ring Inflate d = refl
-same_ring Deflate d = refl
-same_ring Statistics d = refl
-same_ring Report d = refl
+-- what a flaw, a chain that is taken and one that is given back leave of a device, and what moves
+pub record Moves (kind : Kind) (d : Device) : Type 0 where
+  pub same_ring : ring_of kind (needing_reset d) ≡ ring_of kind d
+  pub taken_ring : ring_of kind (with_one_taken kind d) ≡ with_taken (ring_of kind d)
+  pub taken_settings : (with_one_taken kind d).settings ≡ d.settings
+  pub taken_keeps : keeps_reports (with_one_taken kind d) ≡ keeps_reports d
+  pub taken_denial : queue_denial kind (with_one_taken kind d) ≡ queue_denial kind d
+  pub figures_avail : (ring_of kind (with_one_taken Statistics d)).avail ≡ (ring_of kind d).avail
+  pub used_ring : ring_of kind (after_use kind d) ≡ with_used (ring_of kind d)
+  pub used_settings : (after_use kind d).settings ≡ d.settings
+  pub used_keeps : keeps_reports (after_use kind d) ≡ keeps_reports d
+  pub used_denial : queue_denial kind (after_use kind d) ≡ queue_denial kind d
 
-pub taken_ring : (kind : Kind) (d : Device) →
-    ring_of kind (with_one_taken kind d) ≡ with_taken (ring_of kind d)
-taken_ring Inflate d = refl
-taken_ring Deflate d = refl
-taken_ring Statistics d = refl
-taken_ring Report d = refl
-
-pub taken_settings : (kind : Kind) (d : Device) → (with_one_taken kind d).settings ≡ d.settings
-taken_settings Inflate d = refl
-taken_settings Deflate d = refl
-taken_settings Statistics d = refl
-taken_settings Report d = refl
-
-used_ring : (kind : Kind) (d : Device) →
-    ring_of kind (after_use kind d) ≡ with_used (ring_of kind d)
-used_ring Inflate d = refl
-used_ring Deflate d = refl
-used_ring Statistics d = refl
-used_ring Report d = refl
-
-pub taken_keeps : (kind : Kind) (d : Device) →
-    keeps_reports (with_one_taken kind d) ≡ keeps_reports d
-taken_keeps Inflate d = refl
-taken_keeps Deflate d = refl
-taken_keeps Statistics d = refl
-taken_keeps Report d = refl
-
-used_keeps : (kind : Kind) (d : Device) → keeps_reports (after_use kind d) ≡ keeps_reports d
-used_keeps Inflate d = refl
-used_keeps Deflate d = refl
-used_keeps Statistics d = refl
-used_keeps Report d = refl
-
-used_settings : (kind : Kind) (d : Device) → (after_use kind d).settings ≡ d.settings
-used_settings Inflate d = refl
-used_settings Deflate d = refl
-used_settings Statistics d = refl
-used_settings Report d = refl
+pub moves : (kind : Kind) (d : Device) → Moves kind d
+moves Inflate d = search rules
+moves Deflate d = search rules
+moves Statistics d = search rules
+moves Report d = search rules
 
 pub one_taken : (w : Whole) (d0 : Device) (b c : List Access) (d : Device) → Agrees w d0 b d →
     ring_after (ring_of w.kind d0) c ≡ with_taken (ring_after (ring_of w.kind d0) b) →
     is_over c ≡ false → Agrees w d0 c (with_one_taken w.kind d)
 one_taken w d0 b c d is e lasts = record {
-  ring = taken_ring w.kind d ∙ (ap (λ (r : Virtqueue). with_taken r) is.ring ∙ sym e);
-  settings = taken_settings w.kind d ∙ is.settings;
-  keeps = taken_keeps w.kind d ∙ is.keeps;
+  ring = (moves w.kind d).taken_ring ∙ (ap (λ (r : Virtqueue). with_taken r) is.ring ∙ sym e);
+  settings = (moves w.kind d).taken_settings ∙ is.settings;
+  keeps = (moves w.kind d).taken_keeps ∙ is.keeps;
   lasts = lasts;
 }
 
@@ -95,9 +70,9 @@ one_used : (w : Whole) (d0 : Device) (b c : List Access) (d : Device) → Agrees
     ring_after (ring_of w.kind d0) c ≡ with_used (ring_after (ring_of w.kind d0) b) →
     is_over c ≡ false → Agrees w d0 c (after_use w.kind d)
 one_used w d0 b c d is e lasts = record {
-  ring = used_ring w.kind d ∙ (ap (λ (r : Virtqueue). with_used r) is.ring ∙ sym e);
-  settings = used_settings w.kind d ∙ is.settings;
-  keeps = used_keeps w.kind d ∙ is.keeps;
+  ring = (moves w.kind d).used_ring ∙ (ap (λ (r : Virtqueue). with_used r) is.ring ∙ sym e);
+  settings = (moves w.kind d).used_settings ∙ is.settings;
+  keeps = (moves w.kind d).used_keeps ∙ is.keeps;
   lasts = lasts;
 }
 
@@ -114,13 +89,14 @@ flags_of w d0 b d is = (ap (λ (r : Virtqueue). r.avail) is.ring, is.lasts)
 
 pub broken : (w : Whole) (d0 : Device) (b : List Access) (d : Device) → Agrees w d0 b d →
     Flags w d0 b (needing_reset d)
-broken w d0 b d is = (ap (λ (r : Virtqueue). r.avail) (same_ring w.kind d ∙ is.ring), is.lasts)
+broken w d0 b d is =
+    (ap (λ (r : Virtqueue). r.avail) ((moves w.kind d).same_ring ∙ is.ring), is.lasts)
 
 broken_use : (w : Whole) (d0 : Device) (b : List Access) (d : Device) → Agrees w d0 b d →
     Flags w d0 b (needing_reset (after_use w.kind d))
 broken_use w d0 b d is = (
-  ap (λ (r : Virtqueue). r.avail) (same_ring w.kind (after_use w.kind d))
-      ∙ (ap (λ (r : Virtqueue). r.avail) (used_ring w.kind d) ∙ (flags_of w d0 b d is).0),
+  ap (λ (r : Virtqueue). r.avail) ((moves w.kind (after_use w.kind d)).same_ring)
+      ∙ (ap (λ (r : Virtqueue). r.avail) ((moves w.kind d).used_ring) ∙ (flags_of w d0 b d is).0),
   is.lasts,
 )
 
@@ -288,9 +264,9 @@ tells_each w d0 next on d t head pieces bytes runs named b log is read right h =
       subst (λ (l : List Access). Each (Comes w d0) b1 l) (sym h.discards.asks)
           (discards_each w d0 (with_one_taken w.kind d) head pieces bytes
           (cuts_for w.kind (keeps_reports (with_one_taken w.kind d)) w.regions runs) b1 h.discards.rest
-          (λ b2 is2 read2 left2 first2. gives_each w d0 next on (with_one_taken w.kind d) t head
-          pieces bytes b2 h.discards.rest is2 read2 left2 first2 h.discards.gives_back)
+          (λ b2 is2 read2 left2 first2. gives_each w d0 next on _ t head pieces bytes b2 _ is2 read2
+          left2 first2 h.discards.gives_back)
           (one_taken w d0 b b1 d is refl refl) read
           (ap (λ (kept : Bool). cuts_for w.kind kept w.regions runs)
-          (sym (taken_keeps w.kind d ∙ is.keeps))) refl),
+          (sym ((moves w.kind d).taken_keeps ∙ is.keeps))) refl),
     )

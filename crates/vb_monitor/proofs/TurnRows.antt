@@ -13,10 +13,10 @@ use Rattle.vb_core.specs.{Report.NamesPiecesBy, Name.NamesBy}
 use Rattle.vb_monitor.specs.Chains.{FiguresBy, AfterBytes, NamesBytes, CopiesBy, ServesPieces}
 use Rattle.vb_monitor.specs.SoFar.{Each, Known, Has, known, ring_after, parts_read, with_copied}
 use Rattle.vb_monitor.proofs.TurnLemmas.{Comes, Agrees, Flags, flags_of, ends_each, breaks_each}
-use Rattle.vb_monitor.proofs.{TurnLemmas.{After, Read, tells_each}, NamedLemmas.names_avail}
+use Rattle.vb_monitor.proofs.{TurnLemmas.{moves, After, Read, tells_each}, NamedLemmas.names_avail}
 use Rattle.vb_monitor.proofs.NamedLemmas.{pieces_avail, named_numbers, no_report, named_pieces}
 use Rattle.vb_monitor.specs.{Accesses.{Access, CopyBytes, TellFigures}, Pieces.{PartAt, PartBy}}
-use Rattle.vb_monitor.specs.{Pieces.{fits_behind, CopiesParts, all_parts}, Turns.CopiesNext}
+use Rattle.vb_monitor.specs.{Pieces.{CopiesParts, all_parts}, Turns.CopiesNext}
 use Rattle.vb_monitor.specs.{Turns.{TellNamed, TellNumbers, FiguresOf}, Regions.spot, Giving.Then}
 use Rattle.vb_monitor.specs.Giving.{AfterName, TellsThen, spent}
 use Rattle.vb_monitor.specs.declared.{room.TheConstants.MAX_FIGURES, parts.Part.Part}
@@ -45,13 +45,6 @@ names_each w d0 next on d d2 t head pieces bytes runs (Ok named) b log is read f
     named log) x.1 h)
 
 -- figures that are told
-statistics_avail : (kind : Kind) (d : Device) →
-    (ring_of kind (with_one_taken Statistics d)).avail ≡ (ring_of kind d).avail
-statistics_avail Inflate d = refl
-statistics_avail Deflate d = refl
-statistics_avail Statistics d = refl
-statistics_avail Report d = refl
-
 figures_each : (w : Whole) (d0 d : Device) (t : Tally) (head : ℕ) (pieces : List Piece)
     (bytes : List ℕ) (denial : Option Denial) (b log : List Access) → w.kind ≡ Statistics →
     Agrees w d0 b d → Read w head pieces bytes b → FiguresBy denial w d t head bytes log →
@@ -73,7 +66,7 @@ figures_each w d0 d t head pieces bytes None b log e is read h =
         ),
       ),
       ends_each w d0 (with_one_taken Statistics d) _ _ false (TellFigures told ∷ b) h.tells.rest
-          (statistics_avail w.kind d ∙ (flags_of w d0 b d is).0, refl) h.tells.ends,
+          ((moves w.kind d).figures_avail ∙ (flags_of w d0 b d is).0, refl) h.tells.ends,
     )
 
 right_of : (w : Whole) (d : Device) (pieces : List Piece) (bytes : List ℕ) (runs : List Run)
@@ -175,10 +168,9 @@ copies_each : (w : Whole) (d0 d : Device) (t : Tally) (head : ℕ) (pieces : Lis
     known w.kind b ≡ Has head pieces parts so_far → CopiesParts w served d t parts so_far log →
     Each (Comes w d0) b log
 copies_each w d0 d t head pieces served on [] so_far b log is read h = on so_far b log is read h
-copies_each w d0 d t head pieces served on (part ∷ parts) so_far b log is read h = part_by w
-    d0 d t head pieces part parts (CopiesParts w served d t parts) (λ bytes b2 rest is2 read2 more.
-    copies_each w d0 d t head pieces served on parts bytes b2 rest is2 read2 more) so_far
-    (fits_behind so_far part) b log is read h
+copies_each w d0 d t head pieces served on (part ∷ parts) so_far b log is read h =
+    part_by w d0 d t head pieces part parts (CopiesParts w served d t parts)
+    (copies_each w d0 d t head pieces served on parts) so_far _ b log is read h
 
 -- ---- pieces
 
@@ -197,10 +189,9 @@ copies_by : (w : Whole) (d0 : Device) (next : Then) (on : After w d0 next) (d : 
     → CopiesBy len w next d t head pieces log → Each (Comes w d0) b log
 copies_by w d0 next on d t head pieces (Err fault) b log is read h =
     breaks_each w d0 d t _ b log is h
-copies_by w d0 next on d t head pieces (Ok n) b log is read h = copies_each w d0 d t head pieces
-    (λ bytes rest. AfterBytes w.kind w next d t head bytes rest) (λ bytes b2 rest is2 read2 more.
-    bytes_each w d0 w.kind refl next on d t head pieces bytes b2 rest is2 read2 more)
-    (all_parts pieces) [] b log is read h
+copies_by w d0 next on d t head pieces (Ok n) b log is read h =
+    copies_each w d0 d t head pieces (AfterBytes w.kind w next d t head)
+    (bytes_each w d0 w.kind refl next on d t head pieces) (all_parts pieces) [] b log is read h
 
 pieces_right : (w : Whole) (d d2 : Device) (pieces : List Piece) (room : ℕ) (runs : List Run)
     (answer : Result Named Denial) → w.kind ≡ Report →

@@ -1,16 +1,13 @@
 -- A whole notice of a report, worked out: page 5 is free. It is told and discarded, or told and kept.
-use Rattle.std.proofs.Common.{refl, ℕ, true, false, List, [], ◌∷◌, None, Ok}
+use Rattle.std.proofs.Common.{refl, ℕ, true, List, [], ◌∷◌, Ok}
 use Rattle.vb_chain.specs.declared.pieces.Piece.{Piece}
 use Rattle.vb_core.specs.declared.{kinds.Kind.TheVariants.Report, device.Device.Device}
 use Rattle.vb_core.specs.{Devices.with_one_taken, Report.NamesPiecesBy}
 use Rattle.vb_monitor.proofs.Samples.{two, at, settings, ready, page_5, one_page, index, entry, part, discard}
-use Rattle.vb_monitor.specs.Accesses.{Access, CopyBytes, Acquire, Release, Full, TellPages}
-use Rattle.vb_monitor.{proofs.Samples.{id, used_length, used_index, flags}, specs.Giving.after_use}
+use Rattle.vb_monitor.specs.Accesses.{Access, CopyBytes, Acquire, Full, TellPages}
+use Rattle.vb_monitor.{proofs.Samples.{flags, given, budget, outcome}, specs.Giving.after_use}
 use Rattle.vb_monitor.{proofs.TurnLaws.{reads_in_turn, tells_in_turn}, specs.Notices.Serves}
-use Rattle.vb_monitor.{specs.declared.outcome.Outcome.Outcome, specs.declared.outcome.Budget.Budget}
-
-abbrev budget : Budget
-budget = record { chains = 8; pages = 256 }
+use Rattle.vb_monitor.{specs.declared.outcome.Outcome.Outcome}
 
 -- descriptor 3: page 5, which the device may write, and no more
 abbrev bytes : List ℕ
@@ -25,22 +22,11 @@ descriptor = CopyBytes (at 0x30) bytes
 abbrev told : Access
 told = TellPages Report (page_5 ∷ []) one_page
 
-abbrev given : List Access
-given = id ∷ used_length ∷ Release ∷ used_index ∷ index ∷ Full ∷ flags ∷ []
-
 abbrev taken : Device → Device
 taken d = with_one_taken Report d
 
 abbrev used : Device → Device
 used d = after_use Report (taken d)
-
-abbrev outcome : Outcome
-outcome = record {
-  tally = record { chains = 7; pages = 255; given = true; held = None };
-  why = None;
-  interrupt = true;
-  more = false;
-}
 
 -- ---- one that is discarded
 

@@ -1,4 +1,4 @@
-use Rattle.std.proofs.Common.{◌<◌, ◌*◌, ◌^◌, ℕ, List, Option, None, Some, Ok, subst, sym, refl}
+use Rattle.std.proofs.Common.{◌<◌, ◌*◌, ◌^◌, ℕ, Option, None, Ok, subst, sym, refl}
 use Rattle.std.specs.Prelude.{All}
 use Rattle.vb_model.specs.Limits.{page_size}
 use Rattle.vb_chain.specs.declared.pieces.Piece.{Piece}
@@ -8,12 +8,9 @@ use Rattle.vb_core.proofs.report.next_report.Goals as goal
 
 pub put_runs-requires-clause-inside : goal.put_runs-requires-clause-inside
 put_runs-requires-clause-inside c =
-    let pops : PopsCopies c.args.pages c.args.ring c.args.avail.now c.args.table.now
-    (Ok (Some (record { head = c.in-Some.head; chain = c.pop.new.chain }))) =
-    subst (λ (o : Option ℕ). PopsCopies c.args.pages c.args.ring c.args.avail.now
+    let pops = subst (λ (o : Option ℕ). PopsCopies c.args.pages c.args.ring c.args.avail.now
     c.args.table.now (popped (Ok o) c.pop.new.chain)) c.in-Some.is c.in-Ok.ensures.pops in
-    subst (λ (pieces : List Piece). All (λ piece. piece.addr < page_size * 2 ^ 32) pieces)
-    (sym c.pieces-pieces.ensures)
+    subst (All (λ (piece : Piece). piece.addr < page_size * 2 ^ 32)) (sym c.pieces-pieces.ensures)
     (pieces_inside c.args.pages c.args.ring c.args.avail.now c.args.table.now c.in-Some.head
     c.pop.new.chain pops c.ranges.pages.fits)
 

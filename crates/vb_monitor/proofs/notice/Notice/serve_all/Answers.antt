@@ -10,11 +10,9 @@ loop-outcome-smaller g c =
 
 pub returns-in-Some : goal.returns-in-Some
 returns-in-Some g c =
-    let goes = c.loop-outcome.invariant.goes in
-    let room = room_of c.loop-outcome.pieces c.loop-outcome.bytes c.loop-outcome.runs
-    c.loop-outcome.figures in
-    all_served (Some c.in-Some.outcome) _ (g.M.LiveMemory.log c.loop-outcome.memory) c.args.regions.now
-    c.args.self.now.kind (λ after outcome log. Ahead (whole c.args.regions.now c.args.self.now.kind
-    after outcome) c.args.self.now.step c.args.device.now (room_of c.args.pieces.now
-    c.args.bytes.now c.args.runs.now c.args.figures.now) log) c.loop-outcome.self.step
-    c.loop-outcome.device room (sym c.in-Some.is ∙ c.outcome.ensures) goes
+    all_served (Some c.in-Some.outcome) _ (g.M.LiveMemory.log c.loop-outcome.memory)
+    c.args.regions.now c.args.self.now.kind
+    (λ after outcome. Ahead (whole c.args.regions.now c.args.self.now.kind after outcome)
+    c.args.self.now.step c.args.device.now (room_of c.args.pieces.now c.args.bytes.now
+    c.args.runs.now c.args.figures.now)) c.loop-outcome.self.step c.loop-outcome.device _
+    (sym c.in-Some.is ∙ c.outcome.ensures) c.loop-outcome.invariant.goes

@@ -7,10 +7,10 @@ invariant-loop-outcome g l = record {
   kind : l.self.kind ≡ l.fn.self.kind;
   fits : Fits l.self.step.phase;
   goes : Goes (g.M.LiveMemory.log l.fn.memory) (g.M.LiveMemory.log l.memory)
-      (λ after outcome log. Ahead (whole l.regions l.fn.self.kind after outcome) l.fn.self.step
-      l.fn.device (room_of l.fn.pieces l.fn.bytes l.fn.runs l.fn.figures) log)
-      (λ after outcome log. Ahead (whole l.regions l.fn.self.kind after outcome) l.self.step
-      l.device (room_of l.pieces l.bytes l.runs l.figures) log);
+      (λ after outcome. Ahead (whole l.regions l.fn.self.kind after outcome) l.fn.self.step
+      l.fn.device (room_of l.fn.pieces l.fn.bytes l.fn.runs l.fn.figures))
+      (λ after outcome. Ahead (whole l.regions l.fn.self.kind after outcome) l.self.step
+      l.device (room_of l.pieces l.bytes l.runs l.figures));
 }
 
 abbrev pub decreases-loop-outcome : goal.decreases-loop-outcome
