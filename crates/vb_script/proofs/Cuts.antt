@@ -1,13 +1,12 @@
 -- A text, cut at the first place of a byte.
-use Rattle.std.proofs.Common.{◌≡◌, ℕ, ◌+◌, ◌-◌, ◌<◌, ◌≤◌, ◌==◌, Option, Some, None, IfNone, Bor}
-use Rattle.std.proofs.Common.{Bool, true, false, cond, ltb, List, [], ◌∷◌, length, length-drop}
+use Rattle.std.proofs.Common.{◌≡◌, ℕ, ◌+◌, ◌-◌, ◌<◌, ◌≤◌, ◌==◌, Option, Some, None, IfNone}
+use Rattle.std.proofs.Common.{Bor, Bool, true, false, cond, ltb, List, [], ◌∷◌, length, length-drop}
 use Rattle.std.proofs.lemmas.List.Sums.{fails_before_first, passes_at_first, position_or_len_is}
 use Rattle.std.proofs.lemmas.List.Splits.{slice_split_first, slice_split_none}
-use Rattle.std.proofs.lemmas.List.{take_all, get_or-take, length-take-le}
-use Rattle.std.{specs.List.{slice_split, onto_first, position_or_len}, specs.Option.option_map_or}
-use Rattle.std.{proofs.Common.{take, drop, refl, arith}, proofs.lemmas.Bool.Decides.nat_tests}
-use Rattle.vb_script.{specs.Texts.{last_line, lines_of}, specs.Words.is_empty}
-use Rattle.memchr.specs.Find.{IsFirstByte, is_byte}
+use Rattle.std.proofs.lemmas.{List.{take_all, get_or-take, length-take-le}, Bool.Decides.nat_tests}
+use Rattle.std.specs.{List.{slice_split, onto_first, position_or_len}, Option.option_map_or}
+use Rattle.{std.proofs.Common.{take, drop, refl, arith}, memchr.specs.Find.{IsFirstByte, is_byte}}
+use Rattle.vb_script.specs.{Texts.{last_line, lines_of}, Words.is_empty}
 
 fails : (passes : Bool) → (passes ≡ true → ⊥) → passes ≡ false
 fails true never = absurd (never refl)

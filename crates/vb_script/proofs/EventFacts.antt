@@ -1,20 +1,18 @@
 -- What each line of a script says, and which lines are bad, worked out.
 use Rattle.std.proofs.Common.{◌≡◌, ℕ, List, [], ◌∷◌, Some, None, Ok, Err, codes, refl, map}
-use Rattle.std.specs.Prelude.{Option}
-use Rattle.hex.specs.Hex.{decode_pairs}
-use Rattle.vb_model.specs.declared.calls.Call.TheVariants.{Init, Reset, Alloc, Free, Read, Write, Scribble}
-use Rattle.vb_model.specs.declared.calls.Call.TheVariants.{Inflate, Deflate, Oom, Report, Stats, Reap}
-use Rattle.vb_model.specs.declared.calls.Call.TheVariants.{Take, Work, Finish, Sweep, Ask, SetTarget}
-use Rattle.vb_model.specs.declared.calls.Query.TheVariants.{Places, PagesAt, PagesBallooned, Balloon}
-use Rattle.vb_model.specs.declared.calls.Query.TheVariants.{Memory, Backing}
-use Rattle.vb_model.specs.declared.calls.Event.{Event}
-use Rattle.vb_model.specs.declared.calls.Event.TheVariants.{Plug, Unplug, Restart, Guest, Query, Balance}
-use Rattle.vb_model.specs.declared.calls.Event.TheVariants.{Frames}
-use Rattle.vb_model.specs.declared.places.Place.TheVariants.{Stranded}
-use Rattle.vb_script.specs.declared.lines.{LineFault.TheVariants.Bad, Pace.TheVariants.{Immediate, Paced}}
-use Rattle.vb_script.specs.{Events.event_of, Lines.{host_of, spare_of}, Names.{form_of, pages_query_of}}
-use Rattle.vb_script.specs.{Names.pace_of, Values.{features_of, bytes_of, positive_of}}
-use Rattle.vb_script.specs.Words.{number_of, words_of}
+use Rattle.{std.specs.Prelude.Option, vb_script.specs.Values.{features_of, bytes_of, positive_of}}
+use Rattle.{hex.specs.Hex.decode_pairs, vb_model.specs.declared.places.Place.TheVariants.Stranded}
+use Rattle.vb_model.specs.declared.calls.Call.TheVariants.{Init, Reset, Alloc}
+use Rattle.vb_model.specs.declared.calls.Call.TheVariants.{Free, Read, Write, Scribble, Inflate}
+use Rattle.vb_model.specs.declared.calls.Call.TheVariants.{Deflate, Oom, Report, Stats, Reap, Take}
+use Rattle.vb_model.specs.declared.calls.Call.TheVariants.{Work, Finish, Sweep, Ask, SetTarget}
+use Rattle.vb_model.specs.declared.calls.Query.TheVariants.{Places, PagesAt, PagesBallooned}
+use Rattle.vb_model.specs.declared.calls.Query.TheVariants.{Balloon, Memory, Backing}
+use Rattle.vb_model.specs.declared.calls.Event.{Event, TheVariants.{Guest, Query, Balance, Frames}}
+use Rattle.vb_model.specs.declared.calls.Event.TheVariants.{Plug, Unplug, Restart}
+use Rattle.vb_script.specs.{declared.lines.LineFault.TheVariants.Bad, Words.{number_of, words_of}}
+use Rattle.vb_script.specs.{declared.lines.Pace.TheVariants.{Immediate, Paced}, Events.event_of}
+use Rattle.vb_script.specs.{Lines.{host_of, spare_of}, Names.{form_of, pages_query_of, pace_of}}
 
 abbrev says : List ℕ → Option Event
 says line = event_of (words_of line)

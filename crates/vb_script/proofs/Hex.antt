@@ -1,9 +1,8 @@
 -- Which words of hexadecimal digits show bytes.
-use Rattle.std.proofs.Common.{◌≡◌, ℕ, ◌*◌, ◌/◌, ◌<◌, ◌≤◌, List, length, Result, Ok, Err}
-use Rattle.std.proofs.Common.{MatchResult, arith}
-use Rattle.hex.{specs.Hex.{decode_of, decode_sized}, specs.declared.error.FromHexError.FromHexError}
+use Rattle.std.proofs.Common.{◌≡◌, ℕ, ◌*◌, ◌/◌, ◌<◌, ◌≤◌, List, length, Result}
+use Rattle.{std.proofs.Common.{Ok, Err, MatchResult, arith}, vb_script.specs.Numbers.IsByteWord}
+use Rattle.hex.specs.{Hex.{decode_of, decode_sized}, declared.error.FromHexError.FromHexError}
 use Rattle.hex.proofs.HexLemmas.{decode_of-digits, decode_of-ok}
-use Rattle.vb_script.specs.Numbers.{IsByteWord}
 
 -- what decodes is digits
 pub IsByteWord-decodes : (word bytes : List ℕ) → 0 < length word → length word ≤ 2 * 4096

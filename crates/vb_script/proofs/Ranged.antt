@@ -1,7 +1,6 @@
 -- A list that has something for each number below a limit, with one more.
-use Rattle.std.proofs.Common.{◌≡◌, ℕ, ◌+◌, List, [], ◌∷◌, ◌++◌, map, arith}
-use Rattle.std.{proofs.lemmas.List.map-append, proofs.lemmas.List.FromFn.map-range_with_len_more}
-use Rattle.std.specs.List.{range_with_len}
+use Rattle.std.proofs.{Common.◌≡◌, lemmas.List.{map-append, FromFn.map-range_with_len_more}}
+use Rattle.std.{proofs.Common.{ℕ, ◌+◌, List, [], ◌∷◌, ◌++◌, map, arith}, specs.List.range_with_len}
 
 pub one_more : {X Y : Type 0} → (g : X → Y) (f : ℕ → Y) (old new : List X) (one : X) (n : ℕ)
     → map g old ≡ map f (range_with_len 0 n) → new ≡ old ++ one ∷ [] → g one ≡ f n

@@ -1,20 +1,19 @@
 -- Each step keeps the rule.
-use Rattle.std.proofs.Common.{◌≡◌, ◌≢◌, ℕ, zero, suc, ◌+◌, ◌<◌, ◌≤◌, Bool, true, false, cond, eqb}
-use Rattle.std.proofs.Common.{List, [], ◌∷◌, length, set, refl, sym, ap, ◌∙◌, subst, ⊎_elim, arith}
-use Rattle.std.proofs.Common.{eq-eqb, ne_eqb, eqb-true, get_or-set_same, get_or-set_other}
-use Rattle.std.{proofs.Common.length-set, specs.Prelude.slice_index, proofs.lemmas.List.set-get_or}
+use Rattle.std.proofs.Common.{◌≡◌, ◌≢◌, ℕ, zero, suc, ◌+◌, ◌<◌, ◌≤◌, Bool, true, false, cond}
+use Rattle.std.proofs.Common.{eqb, List, [], ◌∷◌, length, set, refl, sym, ap, ◌∙◌, subst, ⊎_elim}
+use Rattle.std.proofs.Common.{arith, eq-eqb, ne_eqb, eqb-true, get_or-set_same, get_or-set_other}
+use Rattle.std.{proofs.{Common.length-set, lemmas.List.set-get_or}, specs.Prelude.slice_index}
+use Rattle.atomic_table.{specs.Table.{Me, Allows, step}, proofs.Lists.{at_set, set_again}}
+use Rattle.{vb_model.specs.Tests.one_if, vb_device.specs.Own.{has, without}}
+use Rattle.vb_shared.proofs.Lists.{has_without, has_not_without, without_none}
+use Rattle.vb_shared.specs.Rule.{pass, count, count_all, AllTied, IsKept, Kept, StepKind, TryClaim}
+use Rattle.vb_shared.specs.{Rule.{PutBack, word_after, held_after}, Steps.{claimed, returned}}
+use Rattle.vb_shared.specs.declared.rule.{Holding.Holding, Size.Size, View.View}
 use mathlib.Core.Option.{some, none, some-ne-none, some-injective}
 use mathlib.Core.Logic.{dite}
 use native.Mathlib.Decide.{ℕ_discrete}
 use prog.Atomic.{either}
 use lib.ListN.{get_elem?}
-use Rattle.atomic_table.{specs.Table.{Me, Allows, step}, proofs.Lists.{at_set, set_again}}
-use Rattle.vb_model.specs.Tests.{one_if}
-use Rattle.vb_device.specs.Own.{has, without}
-use Rattle.vb_shared.{proofs.Lists.{has_without, has_not_without, without_none}, specs.Rule.pass}
-use Rattle.vb_shared.specs.Rule.{count, count_all, AllTied, IsKept, Kept, StepKind, TryClaim}
-use Rattle.vb_shared.specs.{Rule.{PutBack, word_after, held_after}, Steps.{claimed, returned}}
-use Rattle.vb_shared.specs.declared.rule.{Holding.Holding, Size.Size, View.View}
 
 -- ---- tags
 

@@ -1,11 +1,9 @@
 -- Numbers in a list, numbers from one on and below a bound, and passes that hold nothing.
-use Rattle.std.proofs.Common.{◌≡◌, ◌≢◌, ℕ, zero, suc, ◌+◌, ◌≤◌, true, false, not, ◌==◌, List, []}
-use Rattle.std.proofs.Common.{◌∷◌, ◌++◌, refl, sym, ap, ◌∙◌, arith, eq-eqb, ne_eqb, eqb-true}
-use Rattle.std.{proofs.Common.{replicate, None}, specs.Prelude.slice_index}
-use Rattle.std.proofs.lemmas.Map.Views.{any-filter_same}
-use Rattle.atomic_table.specs.Seated.{TableId}
-use Rattle.vb_device.specs.Own.{has, without}
-use Rattle.vb_shared.specs.Passes.{Within, Pass, new_passes}
+use Rattle.std.proofs.Common.{◌≡◌, ◌≢◌, ℕ, zero, suc, ◌+◌, ◌≤◌, true, false}
+use Rattle.std.proofs.Common.{not, ◌==◌, List, [], ◌∷◌, ◌++◌, refl, sym, ap, ◌∙◌, arith, eq-eqb}
+use Rattle.std.proofs.{Common.{ne_eqb, eqb-true, replicate, None}, lemmas.Map.Views.any-filter_same}
+use Rattle.{std.specs.Prelude.slice_index, atomic_table.specs.Seated.TableId}
+use Rattle.{vb_device.specs.Own.{has, without}, vb_shared.specs.Passes.{Within, Pass, new_passes}}
 
 -- ---- numbers in a list
 

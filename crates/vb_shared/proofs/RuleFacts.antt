@@ -1,10 +1,8 @@
 -- Worked facts of the rule over the words, and of the three kinds of step.
-use Rattle.std.proofs.Common.{◌≡◌, ◌≢◌, ℕ, ◌||◌, Bool, true, false, List, [], ◌∷◌, map, refl, ap}
-use Rattle.std.proofs.Common.{arith, ne_eqb}
-use Rattle.vb_device.specs.Own.{has}
-use Rattle.vb_shared.specs.Rule.{holding, view_of, pass, count, count_all, IsTied, IsKept}
-use Rattle.vb_shared.specs.declared.rule.Size.{Size}
-use Rattle.vb_shared.specs.Rule.{FrameRule, TryClaim, PutBack, Look, word_after, held_after}
+use Rattle.{std.proofs.Common.{◌≡◌, ◌≢◌, ℕ}, vb_device.specs.Own.has, vb_shared.specs.Rule.view_of}
+use Rattle.std.proofs.Common.{◌||◌, Bool, true, false, List, [], ◌∷◌, map, refl, ap, arith, ne_eqb}
+use Rattle.vb_shared.specs.{Rule.{holding, pass, count, count_all, IsTied}, declared.rule.Size.Size}
+use Rattle.vb_shared.specs.Rule.{IsKept, FrameRule, TryClaim, PutBack, Look, word_after, held_after}
 
 -- three frames and two guests: a frame that is free, one of the first guest, one of the second
 abbrev sizes : Size

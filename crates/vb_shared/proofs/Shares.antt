@@ -1,20 +1,18 @@
 -- Views that are cut, joined and compared.
-use Rattle.std.proofs.Common.{◌≡◌, ◌≢◌, ℕ, zero, suc, ◌+◌, ◌<◌, ◌≤◌, eqb, List, [], ◌∷◌, ◌++◌}
-use Rattle.std.proofs.Common.{length, set, refl, sym, ap, ◌∙◌, subst, arith, eq-eqb, ne_eqb}
-use Rattle.std.{proofs.Common.{eqb-true, replicate}, specs.Prelude.slice_index}
-use Rattle.std.proofs.lemmas.List.{length-replicate}
+use Rattle.std.{proofs.{Common.{◌≡◌, ◌≢◌}, lemmas.List.length-replicate}, specs.Prelude.slice_index}
+use Rattle.std.proofs.Common.{ℕ, zero, suc, ◌+◌, ◌<◌, ◌≤◌, eqb, List, [], ◌∷◌, ◌++◌, length, set}
+use Rattle.std.proofs.Common.{refl, sym, ap, ◌∙◌, subst, arith, eq-eqb, ne_eqb, eqb-true, replicate}
+use Rattle.atomic_table.specs.Table.{Me, Allows, Splits, Joins, step, opening, keeps}
+use Rattle.{atomic_table.proofs.Lists.{at_set, at_snoc}, vb_shared.proofs.Lists.zeros}
+use Rattle.vb_model.specs.Tests.{one_if}
+use Rattle.vb_shared.specs.{Steps.Apart, declared.rule.{Holding.Holding, View.View, Size.Size}}
+use Rattle.vb_shared.specs.Steps.{met, no_view, first_of, rest_of, new_holdings, opening_view}
+use Rattle.vb_shared.specs.Rule.{view_of, count, count_all, AllTied, IsKept, Kept, pass, FrameRule}
+use Rattle.vb_shared.proofs.Keeps.{count_set, count_at, count_two, one_tag, not_tag, still}
 use mathlib.Core.Option.{some, none, some-ne-none, some-injective}
 use mathlib.Core.Logic.{dite}
 use native.Mathlib.Decide.{ℕ_discrete}
 use lib.ListN.{get_elem?}
-use Rattle.atomic_table.specs.Table.{Me, Allows, Splits, Joins, step, opening, keeps}
-use Rattle.atomic_table.proofs.Lists.{at_set, at_snoc}
-use Rattle.vb_model.specs.Tests.{one_if}
-use Rattle.vb_shared.specs.Steps.{Apart, met, no_view, first_of, rest_of, new_holdings}
-use Rattle.vb_shared.specs.Rule.{view_of, count, count_all, AllTied, IsKept, Kept, pass, FrameRule}
-use Rattle.vb_shared.proofs.Keeps.{count_set, count_at, count_two, one_tag, not_tag, still}
-use Rattle.vb_shared.{specs.declared.rule.Holding.Holding, specs.declared.rule.View.View}
-use Rattle.vb_shared.{specs.declared.rule.Size.Size, specs.Steps.opening_view, proofs.Lists.zeros}
 
 count_snoc : (tag : ℕ) (views : List View) (v : View)
     → count_all tag (views ++ v ∷ []) ≡ count_all tag views + count tag v.holdings

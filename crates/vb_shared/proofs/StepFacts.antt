@@ -1,14 +1,12 @@
 -- Worked facts of what a step tells its pass, and of how seats are cut.
-use Rattle.std.proofs.Common.{◌≡◌, ℕ, true, false, List, [], ◌∷◌, map, length, refl, sym, ap, arith}
-use Rattle.std.proofs.Common.{Some, None}
-use mathlib.Core.Option.{none}
-use Rattle.atomic_table.specs.Table.{Me, Step, step}
+use Rattle.{std.proofs.Common.{◌≡◌, ℕ, true}, vb_shared.specs.Rule.{holding, view_of, pass, count}}
+use Rattle.std.proofs.Common.{false, List, [], ◌∷◌, map, length, refl, sym, ap, arith, Some, None}
+use Rattle.{atomic_table.specs.Table.{Me, Step, step}, vb_ram.specs.Pages.Page}
 use Rattle.vb_device.specs.declared.claimed.Claimed.TheVariants.{Gave, AskHost, NoFrame, NoMemory}
-use Rattle.vb_ram.specs.Pages.{Page}
 use Rattle.vb_shared.specs.Steps.{held_of, added, removed, claimed, returned, Apart, met, no_view}
-use Rattle.vb_shared.specs.Passes.{new_passes, Within, IsPass}
+use Rattle.vb_shared.specs.{Passes.{new_passes, Within, IsPass}, declared.rule.View.View}
 use Rattle.vb_shared.specs.{Leases.AnswersAs, Steps.{first_of, rest_of, new_holdings, opening_view}}
-use Rattle.vb_shared.specs.{Rule.{holding, view_of, pass, count}, declared.rule.View.View}
+use mathlib.Core.Option.{none}
 
 -- ---- what a seat's first pass holds, with a frame more and without one
 

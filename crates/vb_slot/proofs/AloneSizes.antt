@@ -1,9 +1,7 @@
 -- How many pages a guest that is there has.
 use Rattle.std.{proofs.Common.{◌≡◌, Bool, true, false}, specs.Prelude.length}
-use Rattle.vb_model.specs.Guest.{Guest}
-use Rattle.vb_ram.{specs.Pages.Pages, specs.Part.Part}
-use Rattle.vb_driver.specs.State.{DriverState}
-use Rattle.vb_guest.specs.Stands.{Stands, StandsBy}
+use Rattle.{vb_model.specs.Guest.Guest, vb_ram.specs.{Pages.Pages, Part.Part}}
+use Rattle.{vb_driver.specs.State.DriverState, vb_guest.specs.Stands.{Stands, StandsBy}}
 
 -- each of its pages has a frame or none
 pub each_page_framed : (keeps : Bool) (mem : Pages) (part : Part) (d : DriverState) (g : Guest)

@@ -1,16 +1,12 @@
 -- A guest whose frames come from its device alone: what it is plugged in with, and what a call does.
-use Rattle.std.specs.Prelude.{◌≡◌, ℕ, ◌≤◌, Bool, true, false, List, [], ◌∷◌, refl, if◌then◌else◌}
-use Rattle.std.{specs.Prelude.{Option, None}, proofs.Common.{sym, ◌∙◌, ap, arith, suc, zero}}
-use Rattle.vb_model.{specs.declared.calls.Call.Call, specs.declared.calls.Claim.Claim}
-use Rattle.vb_model.{specs.declared.replies.Reply.Reply, specs.Guest.{Guest, Config, fresh}}
-use Rattle.vb_model.{specs.declared.replies.Reply.TheVariants.Backing, specs.Tests.one_if}
-use Rattle.vb_frames.specs.Out.{is_out}
-use Rattle.vb_ram.{specs.Pages.Pages, specs.Part.Part}
-use Rattle.vb_device.specs.Own.{has}
-use Rattle.vb_driver.specs.State.{DriverState}
-use Rattle.vb_guest.{specs.Stands.Stands, specs.Steps.{AreOut, StepsOver, backing_count}}
-use Rattle.vb_guest.{specs.Supply.{supply_of, is_used}, proofs.Fresh.backs_none}
-use Rattle.vb_slot.specs.Alone.{AreBehind, IsAlone, StepsTo}
+use Rattle.std.{specs.Prelude.{◌≡◌, ℕ, ◌≤◌}, proofs.Common.{sym, ◌∙◌, ap, arith, suc, zero}}
+use Rattle.std.specs.Prelude.{Bool, true, false, List, [], ◌∷◌, refl, if◌then◌else◌, Option, None}
+use Rattle.vb_model.specs.declared.{calls.Call.Call, replies.Reply.{Reply, TheVariants.Backing}}
+use Rattle.vb_model.specs.{declared.calls.Claim.Claim, Guest.{Guest, Config, fresh}, Tests.one_if}
+use Rattle.{vb_frames.specs.Out.is_out, vb_guest.{specs.Stands.Stands, proofs.Fresh.backs_none}}
+use Rattle.{vb_ram.specs.{Pages.Pages, Part.Part}, vb_device.specs.Own.has}
+use Rattle.{vb_driver.specs.State.DriverState, vb_slot.specs.Alone.{AreBehind, IsAlone, StepsTo}}
+use Rattle.vb_guest.specs.{Steps.{AreOut, StepsOver, backing_count}, Supply.{supply_of, is_used}}
 
 -- a device that keeps no frames has none out
 none_out : (p : Part) (n : ℕ) → p.own ≡ [] → one_if (has p.own n) ≡ 0

@@ -1,12 +1,10 @@
 -- A slot stands for its guest as it is plugged in.
 use Rattle.std.specs.Prelude.{◌≡◌, ℕ, true, List, [], None, replicate, refl}
-use Rattle.std.proofs.Common.{sym, ◌∙◌, ap, subst}
-use Rattle.vb_model.{specs.Limits.is_config, specs.Tests.one_if, specs.Guest.{Guest, Config, fresh}}
-use Rattle.vb_ram.{specs.Pages.Pages, specs.Part.Part}
-use Rattle.vb_device.{specs.Calls.{IsUnused, attached}, specs.Own.has}
-use Rattle.vb_driver.specs.State.{DriverState, fresh_driver}
+use Rattle.{std.proofs.Common.{sym, ◌∙◌, ap, subst}, vb_device.specs.Calls.{IsUnused, attached}}
+use Rattle.vb_model.specs.{Limits.is_config, Tests.one_if, Guest.{Guest, Config, fresh}}
+use Rattle.vb_ram.specs.{Pages.Pages, Part.Part, declared.config.Config.Config as Sizes}
+use Rattle.{vb_device.specs.Own.has, vb_driver.specs.State.{DriverState, fresh_driver}}
 use Rattle.vb_guest.{specs.Stands.{Honest, Stands}, proofs.Fresh.{backs_none, fresh_honest}}
-use Rattle.vb_ram.specs.declared.config.Config.{Config as Sizes}
 
 pub fresh_stands : (m1 m2 : Pages) (p1 p2 : Part) (d : DriverState) (sizes : Sizes)
     → is_config sizes.pages sizes.queue_size sizes.processors ≡ true → IsUnused m1 p1

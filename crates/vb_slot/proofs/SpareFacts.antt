@@ -1,7 +1,6 @@
 -- Devices that wait for a guest, and frames behind the pages of one, worked out.
 use Rattle.std.proofs.Common.{◌≡◌, ℕ, true, false, List, [], ◌∷◌, Option, Some, None, refl, arith}
-use Rattle.vb_model.specs.Guest.{Guest, fresh}
-use Rattle.vb_ram.specs.Part.{no_part}
+use Rattle.{vb_model.specs.Guest.{Guest, fresh}, vb_ram.specs.Part.no_part}
 use Rattle.vb_slot.specs.{Alone.AreBehind, Spare.{IsSpare, IsNew, config_of}}
 
 sizes_are : config_of (record { pages = 64; queue_size = 8; processors = 2 }) true

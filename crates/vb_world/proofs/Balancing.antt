@@ -1,20 +1,19 @@
 -- A balance of a host is one of its world.
-use Rattle.std.proofs.Common.{Bool, List, None, Option, Some, [], ap, arith, count_by, false, inl}
-use Rattle.std.proofs.Common.{inr, is_some, length, refl, subst, sym, true, ℕ, ◌++◌, ◌+◌, ◌<◌, ◌∙◌}
-use Rattle.std.proofs.{Common.{◌∷◌, ◌≡◌, ◌≤◌}, lemmas.{Bool.Decides.eqb_tells, List.append-nil}}
-use Rattle.std.{proofs.lemmas.List.{get_or_past, length-append}, specs.Option.option_to_list}
-use Rattle.std.specs.Prelude.{MatchBool, slice_index, ◌==◌}
-use Rattle.slab.specs.Slab.{Slab, get, with_value}
-use Rattle.vb_model.{proofs.Tables.count_by-cons, specs.Balance.{AreTargets, Need, need, shortage}}
+use Rattle.std.{proofs.Common.{Bool, List}, specs.Prelude.{MatchBool, slice_index, ◌==◌}}
+use Rattle.std.proofs.Common.{None, Option, Some, [], ap, arith, count_by, false, inl, inr, is_some}
+use Rattle.std.proofs.Common.{length, refl, subst, sym, true, ℕ, ◌++◌, ◌+◌, ◌<◌, ◌∙◌, ◌∷◌, ◌≡◌, ◌≤◌}
+use Rattle.std.proofs.lemmas.{Bool.Decides.eqb_tells, List.{append-nil, get_or_past, length-append}}
+use Rattle.{std.specs.Option.option_to_list, slab.specs.Slab.{Slab, get, with_value}}
+use Rattle.vb_model.{proofs.Tables.count_by-cons, specs.declared.calls.Event.TheVariants.Balance}
+use Rattle.vb_model.specs.{Balance.{AreTargets, Need, need, shortage}, Limits.max_guests}
 use Rattle.vb_model.specs.{Guest.Guest, HostEvents.{WorldStep, needs, with_targets}}
-use Rattle.vb_model.specs.{HostRefusals.plugged_count, Limits.max_guests, World.{World, guest_at}}
-use Rattle.vb_model.specs.{World.with_guest, declared.calls.Event.TheVariants.Balance}
-use Rattle.vb_model.specs.declared.replies.{Refusal.TheVariants.Short, Reply.TheVariants.Refused}
-use Rattle.vb_model.specs.declared.replies.Reply.TheVariants.{Targets}
+use Rattle.vb_model.specs.{HostRefusals.plugged_count, World.{World, guest_at, with_guest}}
+use Rattle.vb_model.specs.declared.replies.Refusal.TheVariants.{Short}
+use Rattle.vb_model.specs.declared.replies.Reply.TheVariants.{Refused, Targets}
 use Rattle.vb_world.proofs.Aiming.{aimed, aimed_at, aimed_more, aimed_same, all_aimed, all_needs}
 use Rattle.vb_world.proofs.Aiming.{first_few, first_more, first_of, need_at, need_of, nobody, rank}
-use Rattle.vb_world.proofs.{Aiming.{rank_below, rank_more, rank_same}, Calls.{guest_of, host_with}}
-use Rattle.vb_world.{proofs.{Calls.no_guest, KeeperFrames.KeeperMoves}, specs.Hosts.IsHost}
+use Rattle.vb_world.proofs.{Aiming.{rank_below, rank_more, rank_same}, KeeperFrames.KeeperMoves}
+use Rattle.vb_world.{proofs.Calls.{guest_of, host_with, no_guest}, specs.Hosts.IsHost}
 
 none_moves : (out : List Bool) (a b : ℕ → ℕ) → ((f : ℕ) → a f ≡ b f) → KeeperMoves out out a b
 none_moves out a b same = record { balance = λ f. omega (arith, same f); count = refl }

@@ -1,24 +1,22 @@
 -- What an event does to a host is what it does to its world.
 use Rattle.std.proofs.Common.{◌≡◌, ℕ, ◌-◌, ◌<◌, ◌≤◌, Bool, true, cond, List, length, refl, sym, ap}
-use Rattle.std.{specs.Prelude.{MatchOption, ⊤}, proofs.lemmas.List.Sums.sum_by-set}
+use Rattle.std.{specs.Prelude.{MatchOption, ⊤}, proofs.lemmas.Bool.{cases_lt, Decides.eqb_tells}}
+use Rattle.std.proofs.lemmas.List.{Sums.sum_by-set, get_or-set_same, get_or-set_other, get_or_past}
 use Rattle.std.proofs.Common.{subst, ◌∙◌, inl, inr, arith, Option, Some, None, is_some, count_by}
-use Rattle.std.proofs.lemmas.List.{get_or-set_same, get_or-set_other, get_or_past}
-use Rattle.std.{proofs.lemmas.Bool.cases_lt, proofs.lemmas.Bool.Decides.eqb_tells}
 use Rattle.slab.specs.Slab.{Slab, get, slab_len, with_value, Updates}
-use Rattle.vb_model.{proofs.Changes.{with_guest-same, with_guest-other}, specs.Guest.Guest}
-use Rattle.vb_model.specs.{HostEvents.WorldStep, HostFrames.{used_frames, Gives, IsOut}}
-use Rattle.vb_model.specs.{HostRefusals.plugged_count, Limits.max_guests, Queries.Answers}
-use Rattle.vb_model.specs.{World.{World, guest_at, with_guest, put_guest}, declared.calls.Call.Call}
+use Rattle.vb_model.proofs.Changes.{with_guest-same, with_guest-other}
+use Rattle.vb_model.specs.{Guest.Guest, HostFrames.{used_frames, Gives, IsOut}, Queries.Answers}
+use Rattle.vb_model.specs.{HostEvents.WorldStep, World.{World, guest_at, with_guest, put_guest}}
+use Rattle.vb_model.specs.{HostRefusals.plugged_count, Limits.max_guests}
+use Rattle.vb_model.specs.declared.calls.{Call.Call, Event.TheVariants.Frames as CountFrames}
 use Rattle.vb_model.specs.declared.{calls.Query.Query, replies.Refusal.TheVariants.NoGuest}
 use Rattle.vb_model.specs.declared.replies.Reply.{Reply, TheVariants.{Frames, Refused}}
-use Rattle.vb_frames.{specs.Out.{is_out, TableAnswers}, proofs.Returns.same_gives}
-use Rattle.vb_frames.proofs.Least.{table_gives}
+use Rattle.{vb_frames.specs.Out.{is_out, TableAnswers}, vb_world.specs.Hosts.{IsHost, StandsAt}}
+use Rattle.vb_frames.proofs.{Returns.same_gives, Least.table_gives}
 use Rattle.vb_slot.specs.Steps.{StepsWithKeeper, AreOut, backing_count}
-use Rattle.vb_world.{proofs.KeeperFrames.KeeperMoves, specs.Hosts.{IsHost, StandsAt, backing_at}}
+use Rattle.vb_world.{proofs.{KeeperFrames.KeeperMoves, Frames.used_are_out}, specs.Hosts.backing_at}
 use Rattle.vb_world.proofs.Guests.{backing-with, backing-part, count-with, backs_out, out_backs}
-use Rattle.vb_world.proofs.Frames.{used_are_out}
 use Rattle.vb_model.specs.declared.calls.Event.TheVariants.{Guest as OnGuest, Query as OnQuery}
-use Rattle.vb_model.specs.declared.calls.Event.TheVariants.{Frames as CountFrames}
 
 module _ {S D : Type 0} (Stand : S → Guest → Type 0) (Spare : D → Bool → Type 0) (slots : Slab S)
     (out : List Bool) (devices : List D) (w : World) where

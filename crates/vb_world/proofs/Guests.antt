@@ -1,13 +1,11 @@
 -- Sums and counts over all guests, where one of them changes.
-use Rattle.std.proofs.Common.{◌≡◌, ℕ, zero, suc, ◌+◌, ◌≤◌, Bool, true, false, cond, List, [], ◌∷◌}
-use Rattle.std.proofs.Common.{refl, ap, ◌∙◌, inl, inr, arith, sum_by, Option, Some, None, is_some}
-use Rattle.std.{proofs.Common.count_by, specs.Prelude.{◌==◌, slice_index_or}}
-use Rattle.std.proofs.lemmas.{List.Sums.sum_by-cons, Bool.cases_lt, Bool.Decides.eqb_tells}
-use Rattle.vb_model.{specs.Tests.one_if, specs.Guest.Guest, specs.HostFrames.IsOut}
-use Rattle.vb_model.{specs.World.{World, guest_at, with_guest}, proofs.Tables.count_by-cons}
-use Rattle.vb_slot.specs.Steps.{is_frame, backing_count}
-use Rattle.vb_frames.specs.Out.{is_out}
-use Rattle.vb_world.specs.Hosts.{backing_at, backing_of}
+use Rattle.{std.proofs.Common.{◌≡◌, inl}, vb_model.{specs.Guest.Guest, proofs.Tables.count_by-cons}}
+use Rattle.std.proofs.Common.{ℕ, ◌≤◌, true, cond, List, ◌∷◌, ap, ◌∙◌, arith, Option, Some, None}
+use Rattle.std.proofs.Common.{zero, suc, ◌+◌, Bool, false, [], refl, inr, sum_by, is_some, count_by}
+use Rattle.{std.specs.Prelude.{◌==◌, slice_index_or}, vb_slot.specs.Steps.{is_frame, backing_count}}
+use Rattle.std.proofs.lemmas.{List.Sums.sum_by-cons, Bool.{cases_lt, Decides.eqb_tells}}
+use Rattle.vb_model.specs.{Tests.one_if, HostFrames.IsOut, World.{World, guest_at, with_guest}}
+use Rattle.{vb_frames.specs.Out.is_out, vb_world.specs.Hosts.{backing_at, backing_of}}
 
 pub sum-with : (m : Option Guest → ℕ) → m None ≡ 0
     → (n : ℕ) (x : Option Guest) (gs : List (Option Guest))

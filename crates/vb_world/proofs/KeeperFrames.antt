@@ -1,15 +1,12 @@
 -- What stands for a guest whose device keeps no frames: the keeper's frames alone count.
 use Rattle.std.specs.Prelude.{◌≡◌, ℕ, ◌+◌, Bool, false, List, [], ◌∷◌, length, if◌then◌else◌}
-use Rattle.std.proofs.Common.{◌∙◌, ap, subst, arith}
-use Rattle.vb_model.{specs.declared.calls.Call.Call, specs.declared.calls.Claim.Claim}
+use Rattle.{std.proofs.Common.{◌∙◌, ap, subst, arith}, vb_driver.specs.State.DriverState}
+use Rattle.{vb_model.specs.{declared.calls.Call.Call, Guest.Guest}, vb_device.specs.Own.has}
+use Rattle.vb_model.specs.{declared.{calls.Claim.Claim, replies.Reply.Reply}, Tests.one_if}
 use Rattle.vb_model.specs.declared.calls.Claim.TheVariants.{Gave, GaveNoFrame, GaveNoMemory}
-use Rattle.vb_model.{specs.declared.replies.Reply.Reply, specs.Tests.one_if, specs.Guest.Guest}
-use Rattle.vb_ram.{specs.Pages.Pages, specs.Part.Part}
-use Rattle.vb_driver.specs.State.{DriverState}
-use Rattle.vb_device.specs.Own.{has}
-use Rattle.vb_frames.specs.Out.{is_out, AllAnswered}
-use Rattle.vb_slot.{specs.Stands.Stands, specs.Steps.{backing_count, StepsWithKeeper, StepsOver}}
-use Rattle.vb_slot.specs.Supply.{Supply, AreClaimed, is_used, Moves}
+use Rattle.{vb_ram.specs.{Pages.Pages, Part.Part}, vb_frames.specs.Out.{is_out, AllAnswered}}
+use Rattle.vb_slot.specs.{Stands.Stands, Supply.{Supply, AreClaimed, is_used, Moves}}
+use Rattle.vb_slot.specs.Steps.{backing_count, StepsWithKeeper, StepsOver}
 
 claimed_asked : (Answers : List Bool → Claim → Type 0) (s : Supply) (claims : List Claim)
     → s.keeps ≡ false → AreClaimed Answers s claims → AllAnswered Answers s.out claims

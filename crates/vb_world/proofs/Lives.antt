@@ -1,16 +1,15 @@
 -- A guest of a host begins a new life, or goes.
-use Rattle.std.proofs.Common.{Bool, List, None, Option, Some, ap, arith, cond, false, is_some, refl}
-use Rattle.std.proofs.Common.{sym, ℕ, ◌+◌, ◌≡◌}
+use Rattle.std.proofs.Common.{Bool, List, None, Option, Some, ap, arith, cond, false}
+use Rattle.{std.proofs.Common.{is_some, refl, sym, ℕ, ◌+◌, ◌≡◌}, vb_slot.proofs.Fresh.backs_none}
 use Rattle.slab.specs.Slab.{Slab, Updates, get, slab_len, with_value}
 use Rattle.vb_model.specs.{Guest.Guest, HostEvents.WorldStep, World.{World, guest_at, put_guest}}
 use Rattle.vb_model.specs.{Life.after_restart, declared.calls.Event.TheVariants.{Restart, Unplug}}
 use Rattle.vb_model.specs.declared.replies.Reply.TheVariants.{Done, Refused}
 use Rattle.vb_model.specs.{HostRefusals.plugged_count, declared.replies.Refusal.TheVariants.NoGuest}
 use Rattle.vb_slot.specs.{Steps.{AllReturn, backing_count}, Supply.{Supply, nothing}}
-use Rattle.vb_slot.proofs.Fresh.{backs_none}
-use Rattle.vb_world.{proofs.Calls.{guest_of, host_updated, host_with, no_guest}, specs.Hosts.IsHost}
-use Rattle.vb_world.{proofs.KeeperFrames.{KeeperMoves, moves_asked}, specs.Hosts.backing_at}
-use Rattle.vb_world.proofs.Guests.{count-with}
+use Rattle.vb_world.proofs.Calls.{guest_of, host_updated, host_with, no_guest}
+use Rattle.vb_world.specs.Hosts.{IsHost, backing_at}
+use Rattle.vb_world.proofs.{KeeperFrames.{KeeperMoves, moves_asked}, Guests.count-with}
 
 -- the keeper's frames that came back are those behind the guest's pages
 pub returned : (s1 s2 : Supply) (g : Guest) → s1.keeps ≡ false → AllReturn s1 s2 g

@@ -1,24 +1,21 @@
 -- A host is made, and guests are plugged in.
-use Rattle.std.proofs.Common.{◌≡◌, ℕ, suc, ◌+◌, ◌<◌, ◌≤◌, Bool, true, false, cond, List, [], ◌∷◌}
-use Rattle.std.proofs.Common.{length, get_or, map, refl, sym, ap, subst, ◌∙◌, inl, inr, arith}
-use Rattle.std.{proofs.Common.{Option, Some, None, is_some, count_by, All}, specs.List.remove}
-use Rattle.std.specs.Prelude.{◌==◌, MatchOption, replicate, ⊤, nat_le, if◌then◌else◌}
+use Rattle.{std.proofs.Common.{◌≡◌, ℕ, suc, ◌+◌, ◌<◌, ◌≤◌, Bool, true}, vb_frames.specs.Out.is_out}
+use Rattle.std.proofs.Common.{false, cond, List, [], ◌∷◌, length, get_or, map, refl, sym, ap, subst}
+use Rattle.std.proofs.Common.{◌∙◌, inl, inr, arith, Option, Some, None, is_some, count_by, All}
+use Rattle.std.specs.{List.remove, Prelude.{◌==◌, MatchOption, replicate, ⊤, nat_le, if◌then◌else◌}}
 use Rattle.std.proofs.lemmas.List.{get_or_past, get_or-replicate, length-replicate}
-use Rattle.std.{proofs.lemmas.Bool.cases_lt, proofs.lemmas.Bool.Decides.{eqb_tells, nat_tests}}
-use Rattle.slab.specs.Slab.{Slab, get, slab_len, Updates}
-use Rattle.vb_model.{proofs.Changes.{with_guest-same, with_guest-other}, specs.Guest.Guest}
-use Rattle.vb_model.specs.{Guest.{Config, fresh}, HostEvents.{Plugs, PlugsIn, WorldStep}}
-use Rattle.vb_model.specs.{HostRefusals.plugged_count, Limits.{max_guests, is_config}, World.World}
-use Rattle.vb_model.specs.{World.{guest_at, with_guest, made}, declared.calls.Event.Event}
-use Rattle.vb_model.specs.declared.calls.{Event.TheVariants.Plug, GuestSize.GuestSize}
-use Rattle.vb_model.specs.declared.replies.Refusal.TheVariants.{NoMemory, BadConfig, TooMany}
-use Rattle.vb_model.specs.declared.replies.{Refusal.TheVariants.NoDevice, Reply.Reply}
-use Rattle.vb_model.specs.declared.replies.Reply.TheVariants.{Plugged, Refused}
-use Rattle.vb_frames.specs.Out.{is_out}
-use Rattle.vb_ram.{specs.Pages.Pages, specs.Part.Part}
-use Rattle.vb_slot.{specs.Spare.IsSpare, proofs.Fresh.backs_none}
+use Rattle.std.proofs.lemmas.Bool.{cases_lt, Decides.{eqb_tells, nat_tests}}
+use Rattle.{slab.specs.Slab.{Slab, get, slab_len, Updates}, vb_ram.specs.{Pages.Pages, Part.Part}}
+use Rattle.vb_model.proofs.Changes.{with_guest-same, with_guest-other}
+use Rattle.vb_model.specs.{Guest.{Guest, Config, fresh}, World.{World, guest_at, with_guest, made}}
+use Rattle.vb_model.specs.{HostEvents.{Plugs, PlugsIn, WorldStep}, Limits.{max_guests, is_config}}
+use Rattle.{vb_model.specs.HostRefusals.plugged_count, vb_slot.specs.Spare.IsSpare}
+use Rattle.vb_model.specs.declared.calls.{Event.{Event, TheVariants.Plug}, GuestSize.GuestSize}
+use Rattle.vb_model.specs.declared.replies.Refusal.TheVariants.{NoMemory, TooMany, NoDevice}
+use Rattle.vb_model.specs.declared.replies.Refusal.TheVariants.{BadConfig}
+use Rattle.vb_model.specs.declared.replies.Reply.{Reply, TheVariants.{Plugged, Refused}}
+use Rattle.{vb_slot.proofs.Fresh.backs_none, vb_world.proofs.Guests.{backing-with, count-with}}
 use Rattle.vb_world.{specs.Hosts.{IsHost, StandsAt, AreSpares, backing_at}, proofs.Calls.no_guest}
-use Rattle.vb_world.proofs.Guests.{backing-with, count-with}
 
 -- ---- a host as made
 

@@ -1,16 +1,9 @@
-use Rattle.std.proofs.Common.{arith}
-use Rattle.vb_pages.proofs.HalvesLemmas.{rest_upper, rest_empty, rest_tiled, rest_room, rest_set}
-use Rattle.vb_pages.proofs.HalvesLemmas.{none_left}
+use Rattle.{std.proofs.Common.arith, vb_pages.proofs.HalvesLemmas.rest_upper}
+use Rattle.vb_pages.proofs.HalvesLemmas.{rest_empty, rest_tiled, rest_room, rest_set, none_left}
 use Rattle.vb_pages.proofs.areas.+put_rest.Goals as goal
 
 pub add-requires-clause-aligned : goal.add-requires-clause-aligned
 add-requires-clause-aligned t c = grind (arith, rest_upper)
-
-pub add-requires-clause-fits : goal.add-requires-clause-fits
-add-requires-clause-fits t c = grind (
-  arith,
-  rest_upper c.args.table.now c.args.start c.args.whole c.size_of.result c.requires.tiled c.requires.room (omega arith) c.size_of.ensures.size,
-)
 
 pub add-requires-clause-empty : goal.add-requires-clause-empty
 add-requires-clause-empty t c = grind (arith, rest_empty)

@@ -1,5 +1,4 @@
-use Rattle.std.proofs.Common.{arith}
-use Rattle.vb_pages.proofs.Aligned.{left_of, pow_twice}
+use Rattle.{std.proofs.Common.arith, vb_pages.proofs.Aligned.{left_of, pow_twice}}
 use Rattle.vb_pages.proofs.areas.buddy_of.Goals as goal
 
 pub returns-else-start-size-eq0 : goal.returns-else-start-size-eq0

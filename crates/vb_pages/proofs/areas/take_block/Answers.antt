@@ -1,8 +1,7 @@
-use Rattle.std.proofs.Common.{◌≡◌, ◌≤◌, ℕ, List, Option, Some, None, set, ap, subst, ◌∙◌, sym}
-use Rattle.std.proofs.Common.{arith}
+use Rattle.{std.proofs.Common.◌≡◌, vb_pages.specs.{Table.IsLowestStart, Tiles.{HasRoom, IsTiled}}}
+use Rattle.std.proofs.Common.{◌≤◌, ℕ, List, Option, Some, None, set, ap, subst, ◌∙◌, sym, arith}
 use Rattle.vb_pages.proofs.HalvesLemmas.{removed_tiled, removed_room, none_more, part_left}
 use Rattle.vb_pages.proofs.{TilesLemmas.{chosen, none_inside}, areas.take_block.Goals.After-remove}
-use Rattle.vb_pages.specs.{Table.IsLowestStart, Tiles.{HasRoom, IsTiled}}
 use Rattle.vb_pages.proofs.areas.take_block.Goals as goal
 
 -- the start that was found, in the table as it was

@@ -1,5 +1,4 @@
-use Rattle.std.proofs.Common.{◌≡◌, ◌<◌, ◌≤◌, ℕ, Some}
-use Rattle.vb_pages.specs.Table.{order_at}
+use Rattle.{std.proofs.Common.{◌≡◌, ◌<◌, ◌≤◌, ℕ, Some}, vb_pages.specs.Table.order_at}
 use Rattle.vb_pages.proofs.areas.take_block.Given as goal
 
 -- the table is as it was, and has no block of the orders that were gone over

@@ -1,5 +1,4 @@
-use Rattle.std.{proofs.Common.arith, proofs.lemmas.Nat.one_shl}
-use Rattle.vb_pages.proofs.Aligned.{pow_small}
+use Rattle.{std.proofs.{Common.arith, lemmas.Nat.one_shl}, vb_pages.proofs.Aligned.pow_small}
 use Rattle.vb_pages.proofs.block.size_of.Goals as goal
 
 pub returns-clause-small : goal.returns-clause-small

@@ -1,5 +1,4 @@
-use Rattle.std.proofs.Common.{take, All}
-use Rattle.vb_run.specs.Reports.{IsRound}
+use Rattle.{std.proofs.Common.{take, All}, vb_run.specs.Reports.IsRound}
 use Rattle.vb_run.proofs.audit.are_rounds.Given as goal
 
 abbrev pub invariant-loop-round : goal.invariant-loop-round

@@ -1,5 +1,4 @@
-use Rattle.std.proofs.Common.{rules, ◌≡◌, ◌∙◌, ap, get_or}
-use Rattle.vb_run.proofs.Lists.{mapped_alike}
+use Rattle.{std.proofs.Common.{rules, ◌≡◌, ◌∙◌, ap, get_or}, vb_run.proofs.Lists.mapped_alike}
 use Rattle.vb_run.proofs.audit.are_sizes.Goals as goal
 
 pub returns-then-need-guests : goal.returns-then-need-guests

@@ -1,5 +1,4 @@
-use Rattle.std.proofs.Common.{◌≡◌, take}
-use Rattle.vb_run.specs.Rounds.{round_entries}
+use Rattle.{std.proofs.Common.{◌≡◌, take}, vb_run.specs.Rounds.round_entries}
 use Rattle.vb_run.proofs.audit.expected_of.Given as goal
 
 abbrev pub invariant-loop-round : goal.invariant-loop-round

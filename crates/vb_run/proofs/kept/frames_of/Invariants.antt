@@ -1,5 +1,4 @@
-use Rattle.std.{proofs.Common.{◌≡◌, take}, specs.Prelude.filter_map}
-use Rattle.vb_model.specs.Guest.{Guest}
+use Rattle.{std.{proofs.Common.{◌≡◌, take}, specs.Prelude.filter_map}, vb_model.specs.Guest.Guest}
 use Rattle.vb_run.proofs.kept.frames_of.Given as goal
 
 abbrev pub invariant-loop-page : goal.invariant-loop-page

@@ -1,5 +1,4 @@
-use Rattle.std.proofs.Common.{◌≡◌, drop}
-use Rattle.vb_run.specs.Plans.{are_scripts}
+use Rattle.{std.proofs.Common.{◌≡◌, drop}, vb_run.specs.Plans.are_scripts}
 use Rattle.vb_run.proofs.plan.are_scripts.Given as goal
 
 -- what is left decides

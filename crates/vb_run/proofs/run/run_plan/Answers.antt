@@ -1,5 +1,4 @@
-use Rattle.std.proofs.Common.{rules, sym}
-use Rattle.vb_run.proofs.Closing.{reported}
+use Rattle.{std.proofs.Common.{rules, sym}, vb_run.proofs.Closing.reported}
 use Rattle.vb_run.proofs.run.run_plan.Goals as goal
 
 pub returns : goal.returns

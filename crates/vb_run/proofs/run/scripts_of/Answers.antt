@@ -1,7 +1,6 @@
 use Rattle.std.proofs.Common.{rules, ◌≡◌, ◌∷◌, [], ◌++◌, Some, slice_get, ap, sym, ◌∙◌, length}
-use Rattle.std.proofs.lemmas.Option.{slice_get-get_or}
-use Rattle.vb_run.{specs.Past.IsScript, proofs.Lists.{each_push, some_same}}
-use Rattle.vb_run.proofs.Starting.{begun_push, script_at}
+use Rattle.{std.proofs.lemmas.Option.slice_get-get_or, vb_run.specs.Past.IsScript}
+use Rattle.vb_run.proofs.{Lists.{each_push, some_same}, Starting.{begun_push, script_at}}
 use Rattle.vb_run.proofs.run.scripts_of.Goals as goal
 
 pub loop-own-preserved : goal.loop-own-preserved

@@ -1,7 +1,6 @@
 use Rattle.std.proofs.Common.{rules, ◌≡◌, ◌∷◌, [], ◌++◌, Some, slice_get, ap, ◌∙◌}
-use Rattle.std.proofs.lemmas.Option.{slice_get-get_or}
-use Rattle.vb_run.{specs.Plans.is_guest_plan, proofs.Lists.{passes_at, first_of, rest_of}}
-use Rattle.vb_run.proofs.Starting.{map_next}
+use Rattle.{std.proofs.lemmas.Option.slice_get-get_or, vb_run.specs.Plans.is_guest_plan}
+use Rattle.vb_run.proofs.{Lists.{passes_at, first_of, rest_of}, Starting.map_next}
 use Rattle.vb_run.proofs.run.seats_of.Goals as goal
 
 pub seat_at-requires-clause-plan : goal.seat_at-requires-clause-plan

@@ -1,5 +1,4 @@
-use Rattle.std.proofs.Common.{◌≡◌, drop}
-use Rattle.vb_script.specs.Names.{found_in}
+use Rattle.{std.proofs.Common.{◌≡◌, drop}, vb_script.specs.Names.found_in}
 use Rattle.vb_script.proofs.names.find.Given as goal
 
 abbrev pub invariant-loop-name : goal.invariant-loop-name

@@ -1,5 +1,4 @@
-use Rattle.std.{proofs.Common.{◌≡◌, drop}, specs.List.list_all}
-use Rattle.vb_script.specs.Plans.{has_few}
+use Rattle.{std.{proofs.Common.{◌≡◌, drop}, specs.List.list_all}, vb_script.specs.Plans.has_few}
 use Rattle.vb_script.proofs.plans.have_few.Given as goal
 
 abbrev pub invariant-loop-plug : goal.invariant-loop-plug

@@ -1,5 +1,4 @@
-use Rattle.std.proofs.Common.{rules}
-use Rattle.vb_script.specs.Plans.{plan_of}
+use Rattle.{std.proofs.Common.rules, vb_script.specs.Plans.plan_of}
 use Rattle.vb_script.proofs.plans.plan.Goals as goal
 
 pub returns-then-not-is_plan : goal.returns-then-not-is_plan

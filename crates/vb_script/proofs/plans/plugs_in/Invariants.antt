@@ -1,5 +1,4 @@
-use Rattle.std.proofs.Common.{◌≡◌, ◌++◌, drop}
-use Rattle.vb_script.specs.Plans.{plugs_in}
+use Rattle.{std.proofs.Common.{◌≡◌, ◌++◌, drop}, vb_script.specs.Plans.plugs_in}
 use Rattle.vb_script.proofs.plans.plugs_in.Given as goal
 
 abbrev pub invariant-loop-line : goal.invariant-loop-line

@@ -1,5 +1,4 @@
-use Rattle.std.proofs.Common.{rules}
-use Rattle.vb_script.specs.Texts.{script_of}
+use Rattle.{std.proofs.Common.rules, vb_script.specs.Texts.script_of}
 use Rattle.vb_script.proofs.reading.parse.Goals as goal
 
 pub returns-in_err-read-clause-bad : goal.returns-in_err-read-clause-bad

@@ -1,6 +1,5 @@
-use Rattle.std.proofs.Common.{rules}
-use Rattle.vb_script.{specs.Plans.threads_script_of, specs.Scripts.told_by, specs.Threads.threads}
-use Rattle.vb_script.proofs.Speaking.{speaks}
+use Rattle.{std.proofs.Common.rules, vb_script.specs.Plans.threads_script_of}
+use Rattle.vb_script.{specs.{Scripts.told_by, Threads.threads}, proofs.Speaking.speaks}
 use Rattle.vb_script.proofs.reading.parse_threads.Goals as goal
 
 pub returns-in_err-read-clause-bad : goal.returns-in_err-read-clause-bad

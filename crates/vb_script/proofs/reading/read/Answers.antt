@@ -1,5 +1,4 @@
-use Rattle.std.proofs.Common.{rules}
-use Rattle.vb_script.specs.Texts.{begins_with_host, told_in}
+use Rattle.{std.proofs.Common.rules, vb_script.specs.Texts.{begins_with_host, told_in}}
 use Rattle.vb_script.proofs.reading.read.Goals as goal
 
 pub returns-in_default-clause-ok : goal.returns-in_default-clause-ok

@@ -1,6 +1,5 @@
 use Rattle.std.proofs.Common.{◌≡◌, List, [], Option, Some, None, Bor, ℕ, refl, ap, ◌∙◌, unwrap_or}
-use Rattle.std.specs.Option.{option_map_or}
-use Rattle.vb_script.proofs.Cuts.{first_of_lines}
+use Rattle.{std.specs.Option.option_map_or, vb_script.proofs.Cuts.first_of_lines}
 use Rattle.vb_script.proofs.texts.first_line.Goals as goal
 
 or_nothing : (after : Option (Bor (List ℕ))) (nothing : Bor (List ℕ)) → nothing.now ≡ []

@@ -1,5 +1,4 @@
-use Rattle.std.proofs.Common.{rules}
-use Rattle.vb_script.proofs.WordLemmas.{features_shown}
+use Rattle.{std.proofs.Common.rules, vb_script.proofs.WordLemmas.features_shown}
 use Rattle.vb_script.proofs.values.features.Goals as goal
 
 pub returns-in_err-ok-clause-value : goal.returns-in_err-ok-clause-value

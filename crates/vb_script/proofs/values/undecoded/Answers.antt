@@ -1,6 +1,5 @@
-use Rattle.std.proofs.Common.{rules, refl}
+use Rattle.{std.proofs.Common.{rules, refl}, vb_script.proofs.WordLemmas.{bytes_read, no_bytes}}
 use Rattle.vb_script.proofs.Hex.{decoded, decoded_err, decoded_ok, not_byte_word}
-use Rattle.vb_script.proofs.WordLemmas.{bytes_read, no_bytes}
 use Rattle.vb_script.proofs.values.undecoded.Goals as goal
 
 pub returns-in-Ok-clause-memory : goal.returns-in-Ok-clause-memory

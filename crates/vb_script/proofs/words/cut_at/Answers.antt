@@ -1,6 +1,5 @@
 use Rattle.std.proofs.Common.{subst}
-use Rattle.memchr.specs.Find.{IsFirstByte, is_byte}
-use Rattle.vb_script.proofs.Cuts.{cut_found, not_cut}
+use Rattle.{memchr.specs.Find.{IsFirstByte, is_byte}, vb_script.proofs.Cuts.{cut_found, not_cut}}
 use Rattle.vb_script.proofs.words.cut_at.Goals as goal
 
 pub returns-in-Some-clause-split : goal.returns-in-Some-clause-split

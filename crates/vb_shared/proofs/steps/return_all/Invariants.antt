@@ -1,5 +1,4 @@
-use Rattle.std.proofs.Common.{◌≡◌, []}
-use Rattle.vb_shared.{specs.Rule.pass, specs.Steps.held_of, specs.Passes.Within}
+use Rattle.{std.proofs.Common.{◌≡◌, []}, vb_shared.specs.{Rule.pass, Steps.held_of, Passes.Within}}
 use Rattle.vb_shared.proofs.steps.return_all.Given as goal
 
 abbrev pub invariant-loop-frame : goal.invariant-loop-frame

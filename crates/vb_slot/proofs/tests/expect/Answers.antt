@@ -1,10 +1,7 @@
-use Rattle.std.proofs.Common.{subst, refl, Bool, true, ◌≡◌}
+use Rattle.{std.proofs.Common.{subst, refl, Bool, true, ◌≡◌}, vb_model.specs.Guest.Guest}
+use Rattle.{vb_ram.specs.{Pages.Pages, Part.Part}, vb_driver.specs.State.DriverState}
+use Rattle.{vb_guest.specs.Stands.Stands, vb_slot.proofs.tests.expect.OwnLists.{own-1, at-1-1}}
 use denote.Param.Object.{read_made}
-use Rattle.vb_model.specs.Guest.{Guest}
-use Rattle.vb_ram.{specs.Pages.Pages, specs.Part.Part}
-use Rattle.vb_driver.specs.State.{DriverState}
-use Rattle.vb_guest.specs.Stands.{Stands}
-use Rattle.vb_slot.proofs.tests.expect.OwnLists.{own-1, at-1-1}
 use Rattle.vb_slot.proofs.tests.expect.Goals as goal
 
 keeps_its_own : (keeps : Bool) (mem : Pages) (part : Part) (d : DriverState) (g : Guest) → keeps ≡ true

@@ -1,6 +1,4 @@
-use Rattle.std.proofs.Common.{true}
-use Rattle.vb_model.specs.Guest.{Guest}
-use Rattle.vb_slot.specs.Slots.{stands_for}
+use Rattle.{std.proofs.Common.true, vb_model.specs.Guest.Guest, vb_slot.specs.Slots.stands_for}
 use Rattle.vb_slot.proofs.tests.first_wrong.Given as goal
 
 abbrev pub invariant-loop-at : goal.invariant-loop-at

@@ -1,6 +1,5 @@
 use Rattle.std.proofs.Common.{ℕ, List, Bool, max, subst, ◌∙◌, sym, ap, ◌/◌, ◌^◌, ◌*◌, ◌+◌}
-use Rattle.std.specs.Int.{div_ceil}
-use Rattle.vb_pages.specs.Areas.{block_at, AreBlockBits}
+use Rattle.{std.specs.Int.div_ceil, vb_pages.specs.Areas.{block_at, AreBlockBits}}
 use Rattle.vb_pages.proofs.TilesLemmas.{length-set_of, listed_maximal, maximal_listed}
 use Rattle.vb_pages.proofs.areas.Areas.bits.Goals as goal
 

@@ -1,6 +1,5 @@
-use Rattle.std.proofs.Common.{arith}
+use Rattle.{std.proofs.Common.arith, vb_pages.proofs.{AreasLemmas.unreserved_is, Sets.block_bounds}}
 use Rattle.vb_pages.proofs.Sets.{with_cases, with_old, with_new, length-with_pages, in_block}
-use Rattle.vb_pages.proofs.{AreasLemmas.unreserved_is, Sets.block_bounds}
 use Rattle.vb_pages.proofs.areas.Areas.fill.Goals as goal
 
 pub returns : goal.returns

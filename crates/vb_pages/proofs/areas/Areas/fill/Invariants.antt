@@ -1,5 +1,4 @@
-use Rattle.std.proofs.Common.{◌≡◌, ◌-◌, ◌<◌, ◌≤◌, ℕ, length, true}
-use Rattle.vb_pages.specs.Areas.{has}
+use Rattle.{std.proofs.Common.{◌≡◌, ◌-◌, ◌<◌, ◌≤◌, ℕ, length, true}, vb_pages.specs.Areas.has}
 use Rattle.vb_pages.proofs.areas.Areas.fill.Given as goal
 
 -- the pages that were gone over are in, and no others

@@ -1,8 +1,7 @@
 use Rattle.std.proofs.Common.{◌≡◌, ◌≤◌, ◌+◌, ◌^◌, List, Bool, length, ap, ◌∙◌, arith}
-use Rattle.std.proofs.lemmas.Bool.{eqb-true}
-use Rattle.vb_pages.{specs.Areas.{has, block_at, LiesOutside}, specs.Tiles.set_of}
-use Rattle.vb_pages.{proofs.Sets.count_le, proofs.TilesLemmas.length-set_of}
-use Rattle.vb_pages.{proofs.AreasLemmas.count_with_block, proofs.areas.Areas.give.Goals.After-self}
+use Rattle.{std.proofs.lemmas.Bool.eqb-true, vb_pages.specs.Areas.{has, block_at, LiesOutside}}
+use Rattle.vb_pages.{specs.Tiles.set_of, proofs.{Sets.count_le, TilesLemmas.length-set_of}}
+use Rattle.vb_pages.proofs.{AreasLemmas.count_with_block, areas.Areas.give.Goals.After-self}
 use Rattle.vb_pages.proofs.areas.Areas.give.Goals as goal
 
 outside : (c : After-self)

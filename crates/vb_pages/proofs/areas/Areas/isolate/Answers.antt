@@ -1,5 +1,4 @@
-use Rattle.std.proofs.Common.{◌≡◌, Some, ap, ◌∙◌, arith}
-use Rattle.vb_model.specs.Pages.{pages_of}
+use Rattle.{std.proofs.Common.{◌≡◌, Some, ap, ◌∙◌, arith}, vb_model.specs.Pages.pages_of}
 use Rattle.vb_pages.proofs.AreasLemmas.{count_without_block, lowest_is, lowest_none}
 use Rattle.vb_pages.proofs.{TilesLemmas.{listed_inside, removed_set}, HalvesLemmas.removed_tiled}
 use Rattle.vb_pages.specs.{Areas.{without_pages, block_at}, Table.order_at, Tiles.set_of}

@@ -1,5 +1,4 @@
-use Rattle.std.proofs.Common.{arith}
-use Rattle.vb_pages.proofs.AreasLemmas.{count_none, length-none_set}
+use Rattle.{std.proofs.Common.arith, vb_pages.proofs.AreasLemmas.{count_none, length-none_set}}
 use Rattle.vb_pages.proofs.TilesLemmas.{none_tiled, none_set}
 use Rattle.vb_pages.proofs.areas.Areas.new.Goals as goal
 

@@ -1,6 +1,5 @@
 use Rattle.std.proofs.Common.{◌≡◌, ℕ, List, ◌++◌, length, take, drop, map, ap, ◌∙◌}
-use Rattle.vb_pages.specs.FreePages.{drained}
-use Rattle.std.proofs.lemmas.List.{length-map}
+use Rattle.{vb_pages.specs.FreePages.drained, std.proofs.lemmas.List.length-map}
 use Rattle.vb_pages.proofs.FreeLemmas.{rows_back, sound_at, drained_sound, free_of, nothing}
 use Rattle.vb_pages.proofs.free.FreePages.drain.Goals as goal
 

@@ -1,10 +1,9 @@
-use Rattle.std.proofs.Common.{◌≡◌, ◌<◌, ◌≤◌, ◌+◌, ℕ, List, [], ◌∷◌, length, take, ap, subst, ◌∙◌}
-use Rattle.std.proofs.lemmas.{Bool.eqb-false, List.{get_or_default, length-append}}
-use Rattle.std.{proofs.Common.{sym, arith}, specs.Prelude.{◌==◌, false}}
-use Rattle.vb_pages.proofs.FreeLemmas.{block_sound, free_of, front_once, spilled_sound}
-use Rattle.vb_pages.proofs.free.FreePages.give.Goals.{After-push}
-use Rattle.vb_pages.specs.FreePages.{FreePages, HasRoomFor, list_of}
-use Rattle.vb_pages.proofs.{FreeLemmas.{pushed_sound, longer, room_zero, nothing}, ListsLemmas.Once}
+use Rattle.std.proofs.{Common.{◌≡◌, ◌<◌, ◌≤◌, ◌+◌, ℕ, List, [], ◌∷◌, length}, lemmas.Bool.eqb-false}
+use Rattle.{std.proofs.Common.{take, ap, subst, ◌∙◌, sym, arith}, vb_pages.proofs.ListsLemmas.Once}
+use Rattle.std.{proofs.lemmas.List.{get_or_default, length-append}, specs.Prelude.{◌==◌, false}}
+use Rattle.vb_pages.proofs.{FreeLemmas.{block_sound, free_of}, free.FreePages.give.Goals.After-push}
+use Rattle.vb_pages.proofs.FreeLemmas.{front_once, spilled_sound, pushed_sound, longer, room_zero}
+use Rattle.vb_pages.{specs.FreePages.{FreePages, HasRoomFor, list_of}, proofs.FreeLemmas.nothing}
 use Rattle.vb_pages.proofs.free.FreePages.give.Goals as goal
 
 pub invariant_of-self : goal.invariant_of-self

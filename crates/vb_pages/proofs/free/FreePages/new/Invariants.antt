@@ -1,5 +1,4 @@
-use Rattle.std.proofs.Common.{◌≡◌, replicate}
-use Rattle.vb_pages.proofs.FreeLemmas.{nothing}
+use Rattle.{std.proofs.Common.{◌≡◌, replicate}, vb_pages.proofs.FreeLemmas.nothing}
 use Rattle.vb_pages.proofs.free.FreePages.new.Given as goal
 
 abbrev pub invariant-loop-cpu : goal.invariant-loop-cpu

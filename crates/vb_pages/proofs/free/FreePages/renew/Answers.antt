@@ -1,8 +1,7 @@
-use Rattle.std.proofs.lemmas.List.{length-map}
-use Rattle.std.proofs.Common.{◌≡◌, ℕ, List, ◌++◌, length, take, drop, map, arith}
-use Rattle.vb_pages.proofs.FreeLemmas.{rows_back, sound_at, all_nothing, fresh_sound, flat-empty}
-use Rattle.vb_pages.proofs.free.FreePages.renew.Goals.{After-loop-list}
-use Rattle.vb_pages.proofs.FreeLemmas.{list-empty, free_of, same_free, nothing}
+use Rattle.std.proofs.{lemmas.List.length-map, Common.{List, ◌++◌, length, take, drop, map, arith}}
+use Rattle.{std.proofs.Common.{◌≡◌, ℕ}, vb_pages.proofs.free.FreePages.renew.Goals.After-loop-list}
+use Rattle.vb_pages.proofs.FreeLemmas.{rows_back, sound_at, all_nothing, fresh_sound}
+use Rattle.vb_pages.proofs.FreeLemmas.{flat-empty, list-empty, free_of, same_free, nothing}
 use Rattle.vb_pages.proofs.free.FreePages.renew.Goals as goal
 
 rows : (c : After-loop-list) → take c.self.inside.lists.len

@@ -1,5 +1,4 @@
-use Rattle.std.proofs.Common.{◌≡◌, ◌<◌, ℕ, get_or}
-use Rattle.vb_pages.proofs.FreeLemmas.{nothing}
+use Rattle.{std.proofs.Common.{◌≡◌, ◌<◌, ℕ, get_or}, vb_pages.proofs.FreeLemmas.nothing}
 use Rattle.vb_pages.proofs.free.FreePages.renew.Given as goal
 
 abbrev pub invariant-loop-list : goal.invariant-loop-list

@@ -1,8 +1,7 @@
-use Rattle.std.{proofs.Common.{◌≡◌, ◌+◌, ◌^◌, ◌≤◌, None, length, arith}, proofs.lemmas.Nat.pow_pos}
-use Rattle.std.{proofs.lemmas.Bool.eqb-true, proofs.lemmas.List.length-set}
-use Rattle.vb_pages.{specs.Table.order_at, proofs.TableLemmas.with_block_added}
+use Rattle.std.proofs.{Common.{◌≡◌, ◌+◌, ◌^◌, ◌≤◌, None, length, arith}, lemmas.Bool.eqb-true}
+use Rattle.{std.proofs.lemmas.{Nat.pow_pos, List.length-set}, vb_pages.specs.Table.order_at}
+use Rattle.vb_pages.proofs.{TableLemmas.with_block_added, held.Held.add.Goals.After-self}
 use Rattle.vb_pages.proofs.HeldLemmas.{held_of, same_held, blocks-with, uncovered_empty}
-use Rattle.vb_pages.proofs.held.Held.add.Goals.{After-self}
 use Rattle.vb_pages.proofs.held.Held.add.Goals as goal
 
 fits : (c : After-self) → c.args.start + 2 ^ c.args.order ≤ length c.self.inside.table

@@ -1,7 +1,6 @@
-use Rattle.std.{proofs.Common.{◌≡◌, length, ap, ◌∙◌}, specs.List.list_any}
-use Rattle.vb_model.specs.Pages.{is_same_block}
-use Rattle.vb_pages.{specs.Areas.block_at, specs.Held.{HeldBlocks, blocks_of}}
-use Rattle.vb_pages.{proofs.Sets.same_bool, proofs.HeldLemmas.{held_of, holds_at, at_holds}}
+use Rattle.{std.proofs.Common.{◌≡◌, length, ap, ◌∙◌}, vb_model.specs.Pages.is_same_block}
+use Rattle.{std.specs.List.list_any, vb_pages.specs.{Areas.block_at, Held.{HeldBlocks, blocks_of}}}
+use Rattle.vb_pages.proofs.{Sets.same_bool, HeldLemmas.{held_of, holds_at, at_holds}}
 use Rattle.vb_pages.proofs.held.Held.holds.Goals as goal
 
 pub returns : goal.returns

@@ -1,9 +1,8 @@
-use Rattle.std.proofs.lemmas.List.{length-set}
+use Rattle.{std.proofs.lemmas.List.length-set, vb_model.specs.Pages.is_same_block}
 use Rattle.std.{proofs.Common.{arith, ◌≡◌, Some, length, ap, subst, sym, ◌∙◌}, specs.List.list_any}
-use Rattle.vb_model.specs.Pages.{is_same_block}
-use Rattle.vb_pages.specs.Table.{order_at, AreBlocks}
+use Rattle.vb_pages.specs.{Table.{order_at, AreBlocks}, Held.{HeldBlocks, blocks_of}}
 use Rattle.vb_pages.{proofs.TableLemmas.{is_there, with_block_removed}, specs.Areas.block_at}
-use Rattle.vb_pages.{proofs.held.Held.remove.Goals.After-self, specs.Held.{HeldBlocks, blocks_of}}
+use Rattle.vb_pages.proofs.held.Held.remove.Goals.{After-self}
 use Rattle.vb_pages.proofs.HeldLemmas.{held_of, same_held, blocks-without, holds_at}
 use Rattle.vb_pages.proofs.held.Held.remove.Goals as goal
 

@@ -1,6 +1,5 @@
-use Rattle.std.proofs.Common.{arith}
-use Rattle.vb_pages.proofs.ListsLemmas.{last_inside, rest_once, rest_set, last_count}
-use Rattle.vb_pages.proofs.ListsLemmas.{last_length, with_none}
+use Rattle.{std.proofs.Common.arith, vb_pages.proofs.ListsLemmas.last_inside}
+use Rattle.vb_pages.proofs.ListsLemmas.{rest_once, rest_set, last_count, last_length, with_none}
 use Rattle.vb_pages.proofs.lists.PageList.+drain.Goals as goal
 
 pub give-requires-clause-inside : goal.give-requires-clause-inside

@@ -1,10 +1,9 @@
 use Rattle.std.proofs.Common.{◌≡◌, ◌<◌, not, length, ap, ◌∙◌, sym, refl, arith}
-use Rattle.std.specs.Prelude.{◌&&◌}
-use Rattle.vb_model.{specs.Pages.covers, specs.Driver.with_block}
+use Rattle.{std.specs.Prelude.◌&&◌, vb_model.specs.{Pages.covers, Driver.with_block}}
 use Rattle.vb_pages.proofs.PagesLemmas.{kept_at, state_of, drained_kept, out_kept, out_free}
-use Rattle.vb_pages.{specs.Areas.block_at, specs.PageState.{PageState, is_free_page}}
-use Rattle.vb_pages.proofs.{FreeLemmas.{nothing, drained_times}, ServingLemmas.serves_is_block}
-use Rattle.vb_pages.proofs.HeldLemmas.{held_of}
+use Rattle.vb_pages.specs.{Areas.block_at, PageState.{PageState, is_free_page}}
+use Rattle.vb_pages.proofs.FreeLemmas.{nothing, drained_times}
+use Rattle.vb_pages.proofs.{ServingLemmas.serves_is_block, HeldLemmas.held_of}
 use Rattle.vb_pages.proofs.PagesLemmas.{out_fits, out_outside, out_left, none_free, free_same}
 use Rattle.vb_pages.proofs.pages.Pages.alloc.Goals as goal
 

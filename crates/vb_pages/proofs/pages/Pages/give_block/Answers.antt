@@ -1,8 +1,7 @@
 use Rattle.std.{proofs.Common.{◌≡◌, ap, subst, ◌∙◌, sym, refl}, specs.Prelude.◌||◌}
-use Rattle.vb_model.specs.Pages.{covers, pages_of}
-use Rattle.vb_pages.{specs.Areas.{block_at, with_pages}, specs.FreePages.{FreePages, is_free_in}}
+use Rattle.{vb_model.specs.Pages.{covers, pages_of}, vb_pages.proofs.FreeLemmas.free_of}
+use Rattle.vb_pages.specs.{Areas.{block_at, with_pages}, FreePages.{FreePages, is_free_in}}
 use Rattle.vb_pages.specs.PageState.{PageState, is_free_page, HasRoomIn}
-use Rattle.vb_pages.proofs.FreeLemmas.{free_of}
 use Rattle.vb_pages.proofs.PagesLemmas.{kept_at, state_of, given_kept, given_gained}
 use Rattle.vb_pages.proofs.pages.Pages.give_block.Goals as goal
 

@@ -1,8 +1,7 @@
-use Rattle.std.proofs.Common.{◌≡◌, ◌/◌, ◌<◌, None, Some, Option, List, ℕ, length, set, true, ◌∙◌}
-use Rattle.std.proofs.Common.{ap, arith}
-use Rattle.vb_pages.proofs.TableLemmas.{StandFor, added, ten_sets, set_now, block_below}
-use Rattle.vb_pages.proofs.{TableLemmas.length-set_of_order, table.Table.add.Goals.After-insert}
-use Rattle.vb_pages.specs.Table.{order_at, table_of}
+use Rattle.std.proofs.Common.{◌≡◌, ◌/◌, ◌<◌, None, Some, Option, List, ℕ, length}
+use Rattle.{std.proofs.Common.{set, true, ◌∙◌, ap, arith}, vb_pages.proofs.TableLemmas.StandFor}
+use Rattle.vb_pages.proofs.TableLemmas.{added, ten_sets, set_now, block_below, length-set_of_order}
+use Rattle.vb_pages.{proofs.table.Table.add.Goals.After-insert, specs.Table.{order_at, table_of}}
 use Rattle.vb_pages.proofs.table.Table.add.Goals as goal
 
 pub index_mut-requires : goal.index_mut-requires

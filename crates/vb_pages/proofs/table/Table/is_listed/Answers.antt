@@ -1,7 +1,6 @@
 use Rattle.std.proofs.Common.{◌≡◌, ◌/◌, ◌%◌, ◌^◌, List, Bool, ℕ, sym, ◌∙◌, ap}
-use Rattle.vb_bits.specs.Sets.{has}
-use Rattle.vb_pages.{specs.Table.{order_at, set_of_order}, proofs.Aligned.multiple_of}
-use Rattle.vb_pages.proofs.TableLemmas.{member_listed, listed_member}
+use Rattle.{vb_bits.specs.Sets.has, vb_pages.specs.Table.{order_at, set_of_order}}
+use Rattle.vb_pages.proofs.{Aligned.multiple_of, TableLemmas.{member_listed, listed_member}}
 use Rattle.vb_pages.proofs.table.Table.is_listed.Goals as goal
 
 pub returns-then-page-size-eq0 : goal.returns-then-page-size-eq0

@@ -1,9 +1,8 @@
-use Rattle.std.proofs.Common.{◌≡◌, ◌+◌, ◌/◌, ℕ, None, List, Bool, false, [], ◌∷◌, ◌++◌}
+use Rattle.std.proofs.Common.{◌≡◌, ◌+◌, ◌/◌, None, Bool, false, [], ◌++◌, replicate, arith, ◌∙◌}
+use Rattle.std.{proofs.Common.{ℕ, List, ◌∷◌, map, max, ap}, specs.List.range_with_len}
 use Rattle.std.proofs.lemmas.List.FromFn.{map-range_with_len_more, length-map-range_with_len}
-use Rattle.std.proofs.Common.{map, max, replicate, arith, ◌∙◌, ap}
-use Rattle.std.{specs.List.range_with_len, proofs.lemmas.List.FromFn.get_or-map-range_with_len}
-use Rattle.vb_pages.{specs.Table.room_of, proofs.TableLemmas.{StandFor, none}}
-use Rattle.vb_pages.proofs.table.Table.new.Goals.{After-loop-order}
+use Rattle.{std.proofs.lemmas.List.FromFn.get_or-map-range_with_len, vb_pages.specs.Table.room_of}
+use Rattle.vb_pages.proofs.{TableLemmas.{StandFor, none}, table.Table.new.Goals.After-loop-order}
 use Rattle.vb_pages.proofs.table.Table.new.Goals as goal
 
 -- a set without a member

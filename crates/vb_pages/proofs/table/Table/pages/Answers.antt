@@ -1,5 +1,4 @@
-use Rattle.std.proofs.Common.{length, ap, sym, ◌∙◌}
-use Rattle.vb_pages.proofs.TableLemmas.{length-table_of}
+use Rattle.{std.proofs.Common.{length, ap, sym, ◌∙◌}, vb_pages.proofs.TableLemmas.length-table_of}
 use Rattle.vb_pages.proofs.table.Table.pages.Goals as goal
 
 pub returns : goal.returns

@@ -1,8 +1,7 @@
-use Rattle.std.proofs.Common.{◌≡◌, ◌/◌, ◌<◌, None, Some, Option, List, ℕ, set, false, ◌∙◌, ap}
-use Rattle.std.proofs.Common.{arith}
-use Rattle.vb_pages.proofs.TableLemmas.{StandFor, removed, ten_sets, set_now, block_below}
-use Rattle.vb_pages.proofs.{TableLemmas.length-set_of_order, table.Table.remove.Goals.After-remove}
-use Rattle.vb_pages.specs.Table.{order_at, table_of}
+use Rattle.std.proofs.Common.{◌≡◌, ◌/◌, ◌<◌, None, Some, Option, List, ℕ, set, false}
+use Rattle.{std.proofs.Common.{◌∙◌, ap, arith}, vb_pages.proofs.TableLemmas.{StandFor, removed}}
+use Rattle.vb_pages.proofs.TableLemmas.{ten_sets, set_now, block_below, length-set_of_order}
+use Rattle.vb_pages.{proofs.table.Table.remove.Goals.After-remove, specs.Table.{order_at, table_of}}
 use Rattle.vb_pages.proofs.table.Table.remove.Goals as goal
 
 pub index_mut-requires : goal.index_mut-requires

@@ -1,8 +1,8 @@
-use Rattle.std.proofs.Common.{refl, subst, sym, ◌∙◌}
+use Rattle.std.proofs.Common.{refl, sym, ◌∙◌}
 use Rattle.vb_model.specs.declared.calls.Actor.TheVariants.{Worker}
 use Rattle.vb_run.proofs.{Keeping.{call_aside, copied_noted, served_quiet}, Lists.contains_at}
-use Rattle.vb_run.{proofs.{Noted.noted_service, Tended.service_plain}, specs.Notes.history_of}
-use Rattle.vb_run.specs.{Past.{NotesService, Past, scripts_in, unknown}, Services.services}
+use Rattle.vb_run.proofs.{Noted.noted_service, Tended.service_plain}
+use Rattle.vb_run.specs.{Past.scripts_in, Services.services}
 use Rattle.vb_run.proofs.kept.Kept.serve.Goals as goal
 
 pub invariant_of-self-then-found_nothing : goal.invariant_of-self-then-found_nothing
@@ -35,19 +35,8 @@ invariant_of-self-2 g c =
 
 pub returns-clause-noted : goal.returns-clause-noted
 returns-clause-noted g c =
-    let new : Past =
-    record {
-      guest = c.self.inside.guest;
-      sizes = c.self.inside.sizes;
-      paced = c.self.inside.paced;
-      history = history_of c.self.inside.guest (scripts_in c.self.inside.scripts.items)
-          c.push_reserved.new.self.items;
-      scripts = c.self.inside.scripts.items;
-      quiet = unknown;
-      short = c.self.inside.short;
-    } in
     copied_noted _ _ _ _ c.copy-answer.ensures (sym c.found_nothing.ensures ∙ c.if-found_nothing.false)
-    (subst (λ (p : Past). NotesService c.args.number c.call-reply.result p new) c.self.view_is (
+    (rw (← c.self.view_is) (
       c.service-call.result,
       c.claims_in-claims.result.items,
       c.service-call.ensures,

@@ -1,6 +1,5 @@
-use Rattle.std.proofs.Common.{refl}
+use Rattle.{std.proofs.Common.refl, vb_run.proofs.{Keeping.call_aside, Noted.note_push}}
 use Rattle.vb_model.specs.declared.calls.{Actor.TheVariants.Balancer, Call.TheVariants.SetTarget}
-use Rattle.vb_run.proofs.{Keeping.call_aside, Noted.note_push}
 use Rattle.vb_run.proofs.kept.Kept.set_target.Goals as goal
 
 pub invariant_of-self-2 : goal.invariant_of-self-2

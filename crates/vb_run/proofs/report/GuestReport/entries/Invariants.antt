@@ -1,5 +1,4 @@
-use Rattle.std.proofs.Common.{◌≡◌, take, map}
-use Rattle.vb_run.specs.Notes.{history_of}
+use Rattle.{std.proofs.Common.{◌≡◌, take, map}, vb_run.specs.Notes.history_of}
 use Rattle.vb_run.proofs.report.GuestReport.entries.Given as goal
 
 abbrev pub invariant-loop-note : goal.invariant-loop-note

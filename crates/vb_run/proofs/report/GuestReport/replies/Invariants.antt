@@ -1,5 +1,4 @@
-use Rattle.std.proofs.Common.{◌≡◌, take}
-use Rattle.vb_run.specs.Notes.{replies_in}
+use Rattle.{std.proofs.Common.{◌≡◌, take}, vb_run.specs.Notes.replies_in}
 use Rattle.vb_run.proofs.report.GuestReport.replies.Given as goal
 
 abbrev pub invariant-loop-note : goal.invariant-loop-note

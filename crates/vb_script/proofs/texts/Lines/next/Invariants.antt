@@ -1,5 +1,4 @@
-use Rattle.std.proofs.Common.{◌≡◌, length, ◌≤◌}
-use Rattle.vb_script.specs.Texts.{lines_of, numbered}
+use Rattle.{std.proofs.Common.{◌≡◌, length, ◌≤◌}, vb_script.specs.Texts.{lines_of, numbered}}
 use Rattle.vb_script.proofs.texts.Lines.next.Given as goal
 
 abbrev pub invariant-loop-text : goal.invariant-loop-text

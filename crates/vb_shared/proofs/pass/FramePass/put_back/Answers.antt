@@ -1,5 +1,4 @@
-use Rattle.std.proofs.Common.{ℕ, List, sym, ap, rules}
-use Rattle.vb_shared.specs.Steps.{held_of}
+use Rattle.{std.proofs.Common.{ℕ, List, sym, ap, rules}, vb_shared.specs.Steps.held_of}
 use Rattle.vb_shared.proofs.Lists.{within_absent, within_whole, within_without}
 use Rattle.vb_shared.proofs.pass.FramePass.put_back.Goals as goal
 

@@ -1,5 +1,4 @@
-use Rattle.std.proofs.Common.{[], ◌∷◌}
-use Rattle.vb_slot.proofs.AloneSteps.{are_out, alone_steps}
+use Rattle.{std.proofs.Common.{[], ◌∷◌}, vb_slot.proofs.AloneSteps.{are_out, alone_steps}}
 use Rattle.vb_slot.proofs.lone.LoneSlotGuestSlot.call.Goals as goal
 
 pub call-requires : goal.call-requires

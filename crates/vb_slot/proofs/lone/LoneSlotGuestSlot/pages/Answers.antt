@@ -1,5 +1,4 @@
-use Rattle.std.proofs.Common.{◌∙◌, sym}
-use Rattle.vb_slot.proofs.AloneSizes.{each_page_framed}
+use Rattle.{std.proofs.Common.{◌∙◌, sym}, vb_slot.proofs.AloneSizes.each_page_framed}
 use Rattle.vb_slot.proofs.lone.LoneSlotGuestSlot.pages.Goals as goal
 
 pub returns-clause-pages : goal.returns-clause-pages

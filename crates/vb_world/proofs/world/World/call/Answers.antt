@@ -1,5 +1,4 @@
-use Rattle.std.proofs.Common.{sym, false}
-use Rattle.vb_world.proofs.KeeperFrames.{steps_asked}
+use Rattle.{std.proofs.Common.{sym, false}, vb_world.proofs.KeeperFrames.steps_asked}
 use Rattle.vb_world.proofs.Calls.{guest_step, guest_frames, guest_of, no_guest_step}
 use Rattle.vb_world.proofs.world.World.call.Goals as goal
 

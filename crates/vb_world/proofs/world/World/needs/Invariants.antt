@@ -1,5 +1,4 @@
-use Rattle.std.proofs.Common.{◌≡◌}
-use Rattle.vb_model.specs.World.{World}
+use Rattle.{std.proofs.Common.◌≡◌, vb_model.specs.World.World}
 use Rattle.vb_world.{specs.Hosts.IsWorld, proofs.Aiming.{first_of, need_at}}
 use Rattle.vb_world.proofs.world.World.needs.Given as goal
 

@@ -1,6 +1,5 @@
-use Rattle.std.proofs.Common.{arith}
-use Rattle.vb_world.proofs.Plugs.{config_none, config_some, bad_config, too_many, no_device}
-use Rattle.vb_world.proofs.Plugs.{plug_happens, none_there, some_there}
+use Rattle.{std.proofs.Common.arith, vb_world.proofs.Plugs.{config_none, config_some, bad_config}}
+use Rattle.vb_world.proofs.Plugs.{too_many, no_device, plug_happens, none_there, some_there}
 use Rattle.vb_world.proofs.world.World.plug.Goals as goal
 
 pub returns-in_default : goal.returns-in_default

@@ -1,5 +1,4 @@
-use Rattle.std.proofs.Common.{sym, false}
-use Rattle.vb_world.proofs.Calls.{guest_of, guest_frames}
+use Rattle.{std.proofs.Common.{sym, false}, vb_world.proofs.Calls.{guest_of, guest_frames}}
 use Rattle.vb_world.proofs.Lives.{restarted, not_restarted, returned}
 use Rattle.vb_world.proofs.world.World.restart.Goals as goal
 

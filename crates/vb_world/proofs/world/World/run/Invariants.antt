@@ -1,6 +1,5 @@
 use Rattle.std.proofs.Common.{◌≡◌, ◌≤◌, length, take, vec_len, vec_capacity}
-use Rattle.vb_model.specs.World.{World}
-use Rattle.vb_world.{specs.Hosts.IsWorld, proofs.Runs.Ran}
+use Rattle.{vb_model.specs.World.World, vb_world.{specs.Hosts.IsWorld, proofs.Runs.Ran}}
 use Rattle.vb_world.proofs.world.World.run.Given as goal
 
 abbrev pub invariant-loop-event : goal.invariant-loop-event

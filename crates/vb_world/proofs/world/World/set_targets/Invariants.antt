@@ -1,6 +1,5 @@
 use Rattle.std.proofs.Common.{◌≡◌}
-use Rattle.vb_model.specs.World.{World}
-use Rattle.vb_world.{specs.Hosts.IsWorld, proofs.Aiming.{aimed, rank}}
+use Rattle.{vb_model.specs.World.World, vb_world.{specs.Hosts.IsWorld, proofs.Aiming.{aimed, rank}}}
 use Rattle.vb_world.proofs.world.World.set_targets.Given as goal
 
 abbrev pub invariant-loop-key : goal.invariant-loop-key
