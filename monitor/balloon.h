@@ -20,9 +20,8 @@
 #define BALLOON_MOST_REGIONS 64         /* regions that a balloon has at most */
 #endif
 
-enum { BALLOON_PAGE = 4096 };
 /* In place of a file: private anonymous memory; shared anonymous memory, or a file that the monitor has no descriptor of. */
-enum { BALLOON_PRIVATE = -1, BALLOON_SHARED = -2 };
+enum { BALLOON_PRIVATE = -1, BALLOON_SHARED = -2, BALLOON_PAGE = 4096 };
 
 /* Guest memory from one address on, mapped at `host`: whole pages. No two overlap; their order is free. */
 struct balloon_region {
@@ -40,6 +39,7 @@ struct balloon {
     VbRegion places[BALLOON_MOST_REGIONS];  /* the same, as the library sees them */
     /* What a monitor may set after balloon_init; each hook may be NULL. They get `context`. */
     uint32_t most_chains, most_pages;   /* a notice begins no further chain after so many chains, or so many pages */
+    bool keeps_pages;           /* no page is discarded (counted: kept), as under a passed-through device; may be set at any time */
     void *context;
     /* These pages are given up (VB_INFLATE) or free (VB_REPORT), before any is discarded; or asked back (VB_DEFLATE). */
     void (*on_pages)(void *context, uint32_t kind, const VbRun *runs, uint32_t count);
@@ -66,7 +66,7 @@ struct balloon_result {
     uint64_t waiting;           /* of these, pages whose large page wasn't given up whole yet (vb_large_pages) */
     uint64_t skipped;           /* numbers past the end or of reserved pages */
     uint64_t marked, unmarked;  /* pages put into the set of ballooned pages, or taken out; those that it hasn't words for */
-    uint64_t in_holes, kept;    /* in no region; not discarded, by `error`, or since reports keep their bytes (vb_keeps_reports) */
+    uint64_t in_holes, kept;    /* in no region; not discarded, by `error`, keeps_pages, or since reports stay (vb_keeps_reports) */
     int error;
 };
 
@@ -134,7 +134,7 @@ static inline void balloon_tell_pages(struct balloon *balloon, struct balloon_re
     const VbNotice *notice = &balloon->notice;
     result->pages += notice->pages;
     result->skipped += notice->skipped;
-    result->kept += notice->kind == VB_REPORT && vb_keeps_reports(&balloon->state.device) ? notice->pages : 0;
+    result->kept += notice->kept;
     if (balloon->ballooned) {
         VbMarked marked = vb_mark(notice->kind, balloon->room.runs, notice->runs, balloon->ballooned, balloon->ballooned_words);
         result->marked += marked.pages;

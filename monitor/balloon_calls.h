@@ -46,7 +46,7 @@ static inline struct balloon_result balloon_finish(struct balloon *balloon)
 static inline struct balloon_result balloon_notify(struct balloon *balloon, uint32_t kind)
 {
     vb_begin(&balloon->notice, &balloon->state, balloon->places, balloon->region_count, &balloon->room, kind,
-             balloon->most_chains, balloon->most_pages);
+             balloon->most_chains, balloon->most_pages, balloon->keeps_pages);
     return balloon_finish(balloon);
 }
 

@@ -1,12 +1,6 @@
 /* The bench's side that is served by balloon.h. */
 #include "bench.h"
 
-static int discard_nothing(void *context, const struct balloon_region *region, uint64_t at, uint64_t length)
-{
-    (void)context, (void)region, (void)at, (void)length;
-    return 0;
-}
-
 static void told(void *context, uint32_t kind, const VbRun *runs, uint32_t count)
 {
     (void)context, (void)kind;
@@ -16,7 +10,7 @@ static void told(void *context, uint32_t kind, const VbRun *runs, uint32_t count
 void shim_discards(struct guest *guest, bool discards)
 {
     guest->balloon.on_pages = told;
-    guest->balloon.discard = discards ? NULL : discard_nothing;
+    guest->balloon.keeps_pages = !discards;
 }
 
 uint64_t shim_notify(struct guest *guest, uint32_t kind)

@@ -139,6 +139,7 @@ static void begin(void)
     balloon.on_pages = maybe() ? be_told : NULL;
     balloon.on_statistics = maybe() ? hear : NULL;
     balloon.discard = maybe() ? discard : NULL;
+    balloon.keeps_pages = maybe();
     balloon.ballooned = has_set ? words : NULL;
     balloon.ballooned_words = WORDS;
 }

@@ -182,9 +182,10 @@ enum { READS = false, WRITES = true };
 #define GIVEN { ELEMENT, 0, WRITES }, { ELEMENT, 1, WRITES }, { FENCE, __ATOMIC_RELEASE, READS }, { USED_INDEX, 0, WRITES }
 #define ASKED { FENCE, __ATOMIC_SEQ_CST, READS }, { FLAGS, 0, READS }, { OTHER, 0, READS }
 
-static void serve(uint32_t kind)
+static void serve(uint32_t kind, bool keeps)
 {
     begin(kind);
+    balloon.keeps_pages = keeps;
     offer(kind);
     touch_count = 0;
     reach(PROT_NONE);
@@ -196,7 +197,7 @@ static void serve(uint32_t kind)
 /* Named, told, discarded, and only then given back. */
 static void an_inflate_is_in_order(void)
 {
-    serve(VB_INFLATE);
+    serve(VB_INFLATE, false);
     expect_touches((const struct touch[]){
         TAKEN, { BYTES, 0, READS }, { TOLD, VB_INFLATE, READS }, { DISCARD, NAMED, WRITES }, { DISCARD, NAMED + 2, WRITES },
         { DISCARD, NAMED + 4, WRITES }, { DISCARD, NAMED + 6, WRITES }, { DISCARD, NAMED + 8, WRITES }, GIVEN,
@@ -205,20 +206,31 @@ static void an_inflate_is_in_order(void)
 
 static void a_deflate_is_in_order(void)
 {
-    serve(VB_DEFLATE);
+    serve(VB_DEFLATE, false);
     expect_touches((const struct touch[]){ TAKEN, { BYTES, 0, READS }, { TOLD, VB_DEFLATE, READS }, GIVEN, { INDEX, 0, READS }, ASKED });
 }
 
 static void a_report_is_in_order(void)
 {
-    serve(VB_REPORT);
+    serve(VB_REPORT, false);
     expect_touches((const struct touch[]){ TAKEN, { TOLD, VB_REPORT, READS }, { DISCARD, NAMED, WRITES },
                                            { DISCARD, NAMED + 5, WRITES }, GIVEN, { INDEX, 0, READS }, ASKED });
 }
 
+/* Told and given back, with no discard. */
+static void pages_may_be_kept(void)
+{
+    serve(VB_INFLATE, true);
+    expect_touches((const struct touch[]){ TAKEN, { BYTES, 0, READS }, { TOLD, VB_INFLATE, READS }, GIVEN, { INDEX, 0, READS }, ASKED });
+    serve(VB_DEFLATE, true);
+    expect_touches((const struct touch[]){ TAKEN, { BYTES, 0, READS }, { TOLD, VB_DEFLATE, READS }, GIVEN, { INDEX, 0, READS }, ASKED });
+    serve(VB_REPORT, true);
+    expect_touches((const struct touch[]){ TAKEN, { TOLD, VB_REPORT, READS }, GIVEN, { INDEX, 0, READS }, ASKED });
+}
+
 static void statistics_are_in_order(void)
 {
-    serve(VB_STATISTICS);
+    serve(VB_STATISTICS, false);
     expect_touches((const struct touch[]){ TAKEN, { BYTES, 0, READS }, { FIGURES, 2, READS }, { OTHER, 0, READS } });
     touch_count = 0;
     reach(PROT_NONE);
@@ -238,6 +250,7 @@ int main(void)
     an_inflate_is_in_order();
     a_deflate_is_in_order();
     a_report_is_in_order();
+    pages_may_be_kept();
     statistics_are_in_order();
     puts("ok  each access, fence, word to the monitor and discard stands in its order, once");
     return 0;

@@ -2,7 +2,7 @@
  *
  * Each thing that the library says is explained: the plain implementation says the same of the same answers.
  * Data pages have stamps. A page that a copy names is zeros before its chain is given back, and gets its stamp again; all
- * other stamps stay, and so do the bytes before and behind guest memory.
+ * other stamps stay, and in a notice that keeps all pages each one does, and so do the bytes before and behind guest memory.
  *
  *     scribble [NOTICES]
  */
@@ -34,7 +34,7 @@ void see_pages(uint32_t kind)
         uint64_t page = (uint64_t)(it++ - is_named);
         if (!has_stamp(page))
             continue;
-        EXPECT(*stamp_of(page) == (kind == VB_DEFLATE ? page : 0));
+        EXPECT(*stamp_of(page) == (kind == VB_DEFLATE || guest.balloon.keeps_pages ? page : 0));
         *stamp_of(page) = page;
     }
 }
@@ -159,8 +159,11 @@ static uint32_t notice(uint32_t kind, uint64_t random)
     state->device.settings.skips_bad_pages = random / 16 % 4 != 0;
     if (random % 4 != 0)
         queue->next_avail = (uint16_t)(index - random / 4 % 4);
+    guest.balloon.keeps_pages = random / 64 % 4 == 0;
     struct balloon_result result = balloon_notify(&guest.balloon, kind);
-    EXPECT(result.code <= VB_BROKEN && result.kept == 0 && result.error == 0);
+    bool keeps = guest.balloon.keeps_pages && kind != VB_DEFLATE;
+    EXPECT(result.code <= VB_BROKEN && result.kept == (keeps ? result.pages : 0) && result.error == 0);
+    EXPECT(!guest.balloon.keeps_pages || result.discarded == 0);
     EXPECT(result.configuration == (result.code == VB_BROKEN));
     if (state->held && balloon_ask_statistics(&guest.balloon).code != VB_OK)
         exit(1);

@@ -89,6 +89,8 @@ class Serves(Good):
         client.post_pages(INFLATE, [REGIONS[1][0] // PAGE])
         client.told()
         self.assertEqual(client.holes(), [])
+        counters = client.backend.counters()
+        self.assertEqual([counters[it] for it in ("discarded", "in_holes", "kept")], [0, 0, 1])
 
     def test_report(self):
         client = self.started()

@@ -130,6 +130,7 @@ typedef struct {
     uint32_t pages, skipped;
     uint32_t figures;           /* VB_TELL_FIGURES */
     uint32_t cuts;              /* VB_DISCARD */
+    uint32_t kept;              /* VB_TELL_PAGES: so many of the pages are kept: given up or free, and yet not discarded */
     VbSpot id_at, length_at, index_at;          /* VB_GIVE_BACK */
     uint32_t id, used_length;
     uint16_t used_index;
@@ -141,7 +142,7 @@ typedef struct {
     uint32_t more;              /* at the end: 1 where another chain stands there, for which there was no budget, else 0 */
     uint32_t chains_left, pages_left;           /* these too */
     uint16_t head, count, taken_head;
-    uint8_t given, taken, flag, phase;
+    uint8_t given, taken, flag, phase, keeps;
 } VbNotice;
 
 /* The room that a notice needs, whatever stands in it at first; then the library's to write, but for `bytes`. One room
@@ -183,11 +184,12 @@ VB_ASSERT(sizeof(VbCut) == 32 && offsetof(VbCut, offset) == 8 && offsetof(VbCut,
 VB_ASSERT(sizeof(VbLarge) == 40 && offsetof(VbLarge, waiting) == 32);
 VB_ASSERT(sizeof(VbBalloon) == 184 && offsetof(VbBalloon, held) == 176);
 VB_ASSERT(sizeof(VbNotice) == 192 && offsetof(VbNotice, at) == 8 && offsetof(VbNotice, length) == 24
-          && offsetof(VbNotice, runs) == 32 && offsetof(VbNotice, figures) == 44 && offsetof(VbNotice, id_at) == 56
+          && offsetof(VbNotice, runs) == 32 && offsetof(VbNotice, figures) == 44 && offsetof(VbNotice, kept) == 52
+          && offsetof(VbNotice, id_at) == 56
           && offsetof(VbNotice, id) == 104 && offsetof(VbNotice, used_index) == 112
           && offsetof(VbNotice, number) == 120 && offsetof(VbNotice, in_file) == 136
           && offsetof(VbNotice, code) == 152 && offsetof(VbNotice, chains_left) == 172
-          && offsetof(VbNotice, given) == 186 && offsetof(VbNotice, phase) == 189);
+          && offsetof(VbNotice, given) == 186 && offsetof(VbNotice, phase) == 189 && offsetof(VbNotice, keeps) == 190);
 VB_ASSERT(sizeof(VbRoom) == 16992 && offsetof(VbRoom, bytes) == 4096 && offsetof(VbRoom, runs) == 5120
           && offsetof(VbRoom, figures) == 7168 && offsetof(VbRoom, cuts) == 8800);
 
@@ -247,15 +249,16 @@ VbUsed vb_use(VbDevice *device, uint32_t kind, uint32_t head);
  * of the regions that the calls get: the same from begin to end. Who obeys has no bound to test and no sum to make. The
  * guest may write to its memory meanwhile.
  *
- *     for (vb_begin(&notice, &balloon, regions, count, &room, kind, chains, pages); notice.what;
+ *     for (vb_begin(&notice, &balloon, regions, count, &room, kind, chains, pages, keeps); notice.what;
  *          vb_go_on(&notice, &balloon, regions, count, &room, answer))
  *         answer = perform(&notice, &room);
  */
 
 /* The driver kicked the queue of this kind, or may have: it is served, at most `chains` chains, and none once `pages` pages
- * were named. Nothing is done (VB_NOTHING) while the statistics buffer is held. All three answer `what`. */
+ * were named. Where `keeps` isn't 0, no page is discarded: what is named is told, and stays. Nothing is done (VB_NOTHING) while
+ * the statistics buffer is held. All three answer `what`. */
 uint32_t vb_begin(VbNotice *notice, VbBalloon *balloon, const VbRegion *regions, size_t count, VbRoom *room,
-                  uint32_t kind, uint32_t chains, uint32_t pages);
+                  uint32_t kind, uint32_t chains, uint32_t pages, uint32_t keeps);
 /* New statistics are asked for, by giving the held buffer back (5.5.6.3): VB_NOTHING where none is held. */
 uint32_t vb_ask(VbNotice *notice, VbBalloon *balloon, const VbRegion *regions, size_t count, VbRoom *room);
 /* What is to be done next, once that was done which was to be done. A notice that the calls didn't make may end as

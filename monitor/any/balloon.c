@@ -52,8 +52,9 @@ void call_notice(void)
     VbNotice *notice = list_of(1, sizeof *notice), why;
     VbRoom *room = list_of(2, sizeof *room);
     uint32_t kind = once_in(8) ? (uint32_t)any_number() : any() % 4, chains = any() % 3, pages = (uint32_t)any_number();
-    uint32_t what = vb_begin(notice, &balloon, regions, count, room, kind, chains, pages);
-    uint32_t first = reference_begin(&why, &twin, regions, count, &other, kind, chains, pages);
+    uint32_t keeps = once_in(2) ? (uint32_t)any_number() : 0;
+    uint32_t what = vb_begin(notice, &balloon, regions, count, room, kind, chains, pages, keeps);
+    uint32_t first = reference_begin(&why, &twin, regions, count, &other, kind, chains, pages, keeps);
     EXPECT(what == notice->what && (what & -what) == first && same_balloon(&balloon, &twin));
     EXPECT(what || (notice->code == why.code && notice->more == why.more && notice->configuration == why.configuration));
     answers[what ? VB_OK : notice->code]++;

@@ -131,7 +131,7 @@ static void name_pages(struct backend *backend, uint64_t address, uint64_t lengt
             audit.may_be_hole[i][page + k] = 1;
         audit.named += count;
         off_t at = (off_t)(region->offset + in), data = lseek(region->fd, at, SEEK_DATA);
-        if (data >= 0 && data < at + (off_t)length && !backend->drops_nothing)
+        if (data >= 0 && data < at + (off_t)length && !backend->balloon.keeps_pages)
             fault("page 0x%" PRIx64 " was named, and isn't discarded before its request is used", address / BALLOON_PAGE);
     }
 }

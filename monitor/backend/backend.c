@@ -62,20 +62,12 @@ static void hear_statistics(void *context, const VbStatistic *figures, uint32_t 
     statistics_keep(context, figures, count);
 }
 
-/* For a run to compare with: the host keeps all memory. */
-static int discard_nothing(void *context, const struct balloon_region *region, uint64_t at, uint64_t length)
-{
-    (void)context, (void)region, (void)at, (void)length;
-    return 0;
-}
-
 bool backend_start(struct backend *backend, const struct options *options)
 {
     /* Where memory ends is known when the client hands it over. */
     VbSettings settings = {
         .memory_end = 2 * BALLOON_PAGE, .offered = options->features, .skips_bad_pages = !options->strict};
     backend->options = options;
-    backend->drops_nothing = options->keep;
     backend->socket = backend->listener = backend->channel = -1;
     rings_clear(backend);
     if (balloon_init(&backend->balloon, backend->memory.regions, 0, settings) != VB_OK)
@@ -83,7 +75,7 @@ bool backend_start(struct backend *backend, const struct options *options)
     backend->balloon.context = backend;
     backend->balloon.on_pages = count_pages;
     backend->balloon.on_statistics = hear_statistics;
-    backend->balloon.discard = backend->drops_nothing ? discard_nothing : NULL;
+    backend->balloon.keeps_pages = options->keep;
     return true;
 }
 

@@ -34,7 +34,6 @@ struct backend {
     void (*idle)(struct backend *backend);
     /* Whether the host has room for the memory that was handed over, else says why not; or NULL: it always has. */
     bool (*admit)(struct backend *backend);
-    bool drops_nothing;
     bool gone;                  /* the client doesn't take answers any longer */
     unsigned remarks;           /* what was said of it, at most MOST_REMARKS lines */
 };

@@ -22,8 +22,8 @@ static VbRun late_runs[MOST_LATE];
 static unsigned late_count;
 static int64_t late_at;
 
-uint32_t __real_vb_begin(VbNotice *, VbBalloon *, const VbRegion *, size_t, VbRoom *, uint32_t, uint32_t, uint32_t);
-uint32_t __wrap_vb_begin(VbNotice *, VbBalloon *, const VbRegion *, size_t, VbRoom *, uint32_t, uint32_t, uint32_t);
+uint32_t __real_vb_begin(VbNotice *, VbBalloon *, const VbRegion *, size_t, VbRoom *, uint32_t, uint32_t, uint32_t, uint32_t);
+uint32_t __wrap_vb_begin(VbNotice *, VbBalloon *, const VbRegion *, size_t, VbRoom *, uint32_t, uint32_t, uint32_t, uint32_t);
 uint32_t __real_vb_ask(VbNotice *, VbBalloon *, const VbRegion *, size_t, VbRoom *);
 uint32_t __wrap_vb_ask(VbNotice *, VbBalloon *, const VbRegion *, size_t, VbRoom *);
 uint32_t __real_vb_go_on(VbNotice *, VbBalloon *, const VbRegion *, size_t, VbRoom *, uint16_t);
@@ -88,9 +88,9 @@ static uint32_t begin(VbNotice *notice, VbRoom *room)
 }
 
 uint32_t __wrap_vb_begin(VbNotice *notice, VbBalloon *balloon, const VbRegion *regions, size_t count, VbRoom *room,
-                         uint32_t kind, uint32_t chains, uint32_t pages)
+                         uint32_t kind, uint32_t chains, uint32_t pages, uint32_t keeps)
 {
-    __real_vb_begin(notice, balloon, regions, count, room, kind, chains, pages);
+    __real_vb_begin(notice, balloon, regions, count, room, kind, chains, pages, keeps);
     return begin(notice, room);
 }
 

@@ -35,6 +35,7 @@ static uint32_t any_notice(VbNotice *notice, const VbBalloon *of, const VbRegion
     notice->runs = ANY_UP_TO(VB_MAX_RUNS);              /* vb_core, Named: runs have room */
     notice->pages = any_u32();
     notice->skipped = any_u32();
+    notice->kept = any_u32();
     notice->figures = ANY_UP_TO(VB_MAX_FIGURES);        /* vb_core, AreFigures */
     notice->code = any_u32();
     notice->rule = any_u32();
@@ -48,7 +49,7 @@ static uint32_t any_notice(VbNotice *notice, const VbBalloon *of, const VbRegion
 }
 
 uint32_t vb_begin(VbNotice *notice, VbBalloon *of, const VbRegion *places, size_t count, VbRoom *room, uint32_t kind,
-                  uint32_t chains, uint32_t pages)
+                  uint32_t chains, uint32_t pages, uint32_t keeps)
 {
     return any_notice(notice, of, places, count, room);
 }
@@ -111,7 +112,6 @@ uint32_t vb_kind(const VbDevice *device, uint32_t number) { return ANY_UP_TO(VB_
 uint32_t vb_write_config(VbDevice *device, uint32_t offset, const uint8_t *bytes, size_t length) { return any_u32(); }
 void vb_read_config(const VbDevice *device, uint32_t offset, uint8_t *out, size_t length) { }
 void vb_set_target(VbDevice *device, uint32_t pages) { device->target = pages; }
-uint32_t vb_keeps_reports(const VbDevice *device) { return ANY_UP_TO(1); }
 
 uint32_t vb_may_tell(const VbDevice *device) { return ANY_UP_TO(1); }
 uint32_t vb_save(const VbDevice *device, uint32_t held, uint8_t *out, size_t room) { return any_u32(); }

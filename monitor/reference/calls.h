@@ -19,7 +19,7 @@ VbLarge reference_large_pages(const VbDevice *, const VbRegion *, uint64_t, cons
 VbMarked reference_mark(uint32_t, const VbRun *, size_t, uint64_t *, size_t);
 uint32_t reference_is_ballooned(const uint64_t *, size_t, uint32_t);
 uint64_t reference_count_ballooned(const uint64_t *, size_t);
-uint32_t reference_begin(VbNotice *, VbBalloon *, const VbRegion *, size_t, VbRoom *, uint32_t, uint32_t, uint32_t);
+uint32_t reference_begin(VbNotice *, VbBalloon *, const VbRegion *, size_t, VbRoom *, uint32_t, uint32_t, uint32_t, uint32_t);
 uint32_t reference_ask(VbNotice *, VbBalloon *, const VbRegion *, size_t, VbRoom *);
 uint32_t reference_go_on(VbNotice *, VbBalloon *, const VbRegion *, size_t, VbRoom *, uint16_t);
 uint32_t reference_new_over(VbBalloon *, VbSettings, const VbRegion *, size_t);

@@ -34,11 +34,21 @@ static bool cut_of(const Call *call, size_t number, VbRun run, VbCut *cut)
     return true;
 }
 
+/* The pages that its chains name are kept, though they were given up or are free. */
+static bool is_kept(const Call *call)
+{
+    switch (call->notice->kind) {
+    case VB_INFLATE: return call->notice->keeps;
+    case VB_REPORT: return call->notice->keeps || vb_keeps_reports(&call->balloon->device);
+    default: return false;
+    }
+}
+
 /* Asks for the next part of a run, from run `number` and region `from` on. */
 static uint32_t ask_cut(const Call *call)
 {
     VbNotice *notice = call->notice;
-    if (notice->kind == VB_DEFLATE || (notice->kind == VB_REPORT && vb_keeps_reports(&call->balloon->device)))
+    if (notice->kind == VB_DEFLATE || is_kept(call))
         return give_back(call);
     uint32_t cuts = 0;
     for (; notice->number < notice->runs && notice->number < VB_MAX_RUNS && cuts < MOST_AT_ONCE;
@@ -63,6 +73,7 @@ static uint32_t tell_pages(const Call *call, const VbNamed *named)
     notice->runs = named->runs;
     notice->pages = named->pages;
     notice->skipped = named->skipped;
+    notice->kept = is_kept(call) ? named->pages : 0;
     notice->pages_left = named->pages < notice->pages_left ? notice->pages_left - named->pages : 0;
     notice->number = 0, notice->from = 0;
     return wait_for(call, AT_TOLD, VB_TELL_PAGES);
@@ -149,13 +160,14 @@ static uint32_t grouped(const Call *call)
 }
 
 uint32_t vb_begin(VbNotice *notice, VbBalloon *balloon, const VbRegion *regions, size_t count, VbRoom *room, uint32_t kind,
-                  uint32_t chains, uint32_t pages)
+                  uint32_t chains, uint32_t pages, uint32_t keeps)
 {
     const Call call = { notice, balloon, queue_of(&balloon->device, kind), regions, count, room };
     memset(notice, 0, sizeof *notice);
     notice->kind = kind;
     notice->chains_left = chains;
     notice->pages_left = pages;
+    notice->keeps = keeps != 0;
     if (!call.queue)
         return stop(&call, VB_NO_QUEUE);
     kind == VB_STATISTICS && balloon->held ? stop(&call, VB_NOTHING) : look(&call);

@@ -3,10 +3,10 @@
 #include "../reference/calls.h"
 
 /* Calls of the library that are explained: the linker puts the second ones in the place of the first ones. */
-uint32_t __real_vb_begin(VbNotice *, VbBalloon *, const VbRegion *, size_t, VbRoom *, uint32_t, uint32_t, uint32_t);
+uint32_t __real_vb_begin(VbNotice *, VbBalloon *, const VbRegion *, size_t, VbRoom *, uint32_t, uint32_t, uint32_t, uint32_t);
 uint32_t __real_vb_ask(VbNotice *, VbBalloon *, const VbRegion *, size_t, VbRoom *);
 uint32_t __real_vb_go_on(VbNotice *, VbBalloon *, const VbRegion *, size_t, VbRoom *, uint16_t);
-uint32_t __wrap_vb_begin(VbNotice *, VbBalloon *, const VbRegion *, size_t, VbRoom *, uint32_t, uint32_t, uint32_t);
+uint32_t __wrap_vb_begin(VbNotice *, VbBalloon *, const VbRegion *, size_t, VbRoom *, uint32_t, uint32_t, uint32_t, uint32_t);
 uint32_t __wrap_vb_ask(VbNotice *, VbBalloon *, const VbRegion *, size_t, VbRoom *);
 uint32_t __wrap_vb_go_on(VbNotice *, VbBalloon *, const VbRegion *, size_t, VbRoom *, uint16_t);
 
@@ -46,6 +46,7 @@ static void expect_thing(uint32_t what, const VbNotice *notice, const VbRoom *ro
     switch (what) {
     case VB_TELL_PAGES:
         EXPECT(notice->runs == why->runs && notice->pages == why->pages && notice->skipped == why->skipped);
+        EXPECT(notice->kept == why->kept);
         EXPECT(memcmp(room->runs, twin.room.runs, notice->runs * sizeof room->runs[0]) == 0);
         mark_runs(twin.room.runs, why->runs);
         names = true;
@@ -117,11 +118,11 @@ static void begin_twin(const VbBalloon *balloon)
 }
 
 uint32_t __wrap_vb_begin(VbNotice *notice, VbBalloon *balloon, const VbRegion *regions, size_t count, VbRoom *room,
-                         uint32_t kind, uint32_t chains, uint32_t pages)
+                         uint32_t kind, uint32_t chains, uint32_t pages, uint32_t keeps)
 {
     begin_twin(balloon);
-    reference_begin(&twin.notice, &twin.balloon, regions, count, &twin.room, kind, chains, pages);
-    EXPECT(__real_vb_begin(notice, balloon, regions, count, room, kind, chains, pages) == notice->what);
+    reference_begin(&twin.notice, &twin.balloon, regions, count, &twin.room, kind, chains, pages, keeps);
+    EXPECT(__real_vb_begin(notice, balloon, regions, count, room, kind, chains, pages, keeps) == notice->what);
     return explain(notice, balloon, regions, count, room);
 }
 

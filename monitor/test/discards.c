@@ -72,9 +72,71 @@ static void pages_may_be_kept(void)
     free_memory(&guest);
 }
 
+static int never_discard(void *context, const struct balloon_region *region, uint64_t from, uint64_t length)
+{
+    (void)context, (void)region, (void)from, (void)length;
+    exit(1);
+}
+
+/* The guest's pages from this one on, so many, have their bytes. */
+static bool stay(const struct guest *guest, uint32_t first, uint32_t count)
+{
+    bool all = true;
+    for (uint32_t page = first; page < first + count; page++)
+        all &= resident(guest, page) && *at(guest, page * 4096ull + 4095) == 1;
+    return all;
+}
+
+/* A notice that keeps all pages tells them and marks them, and counts those that were given up or are free: nothing is
+ * discarded, and no list of parts is made. The next notice may keep none. */
+static void a_notice_may_keep_all_pages(void)
+{
+    static struct guest guest;
+    static struct seen seen;
+    static uint64_t words[1024 / 64];        /* 1024 pages */
+    static VbCut untouched[VB_MAX_CUTS];
+    const uint32_t pages[] = { 700, 701, 800 };
+    start(&guest, 0, REFUSES, LINUX_FEATURES, 8);
+    guest.balloon.context = &seen;
+    guest.balloon.on_pages = see_pages;
+    guest.balloon.discard = never_discard;
+    guest.balloon.ballooned = words;
+    guest.balloon.ballooned_words = sizeof words / sizeof words[0];
+    guest.balloon.keeps_pages = true;
+    memset(untouched, 0xa5, sizeof untouched);
+    memcpy(guest.balloon.room.cuts, untouched, sizeof untouched);
+    memset(at(&guest, 700 * 4096), 1, 202 * 4096);
+    name_pages(&guest, VB_INFLATE, pages, 3);
+    struct balloon_result result = balloon_notify(&guest.balloon, VB_INFLATE);
+    EXPECT(result.code == VB_OK && result.chains == 1 && result.pages == 3 && result.marked == 3 && result.error == 0);
+    EXPECT(result.kept == 3 && result.discarded == 0 && result.in_holes == 0 && stay(&guest, 700, 2) && stay(&guest, 800, 1));
+    EXPECT(seen.calls == 1 && seen.runs == 2 && seen.run[0].first == 700 && seen.run[0].count == 2 && seen.run[1].first == 800);
+    EXPECT(words[10] == 3ull << 60 && words[12] == 1ull << 32 && used_index(&guest, VB_INFLATE) == 1);
+    describe(&guest, VB_REPORT, 0, 900 * 4096, 2 * 4096, WRITE, 0);
+    publish(&guest, VB_REPORT, 0);
+    result = balloon_notify(&guest.balloon, VB_REPORT);
+    EXPECT(result.chains == 1 && result.pages == 2 && result.kept == 2 && result.discarded == 0 && stay(&guest, 900, 2));
+    EXPECT(seen.calls == 2 && seen.run[0].first == 900 && seen.run[0].count == 2 && used_index(&guest, VB_REPORT) == 1);
+    name_pages(&guest, VB_DEFLATE, pages, 2);
+    result = balloon_notify(&guest.balloon, VB_DEFLATE);
+    EXPECT(result.chains == 1 && result.pages == 2 && result.kept == 0 && result.discarded == 0 && result.marked == 2 && words[10] == 0);
+    EXPECT(memcmp(guest.balloon.room.cuts, untouched, sizeof untouched) == 0);
+    guest.balloon.keeps_pages = false;
+    guest.balloon.discard = NULL;
+    name_pages(&guest, VB_INFLATE, pages, 2);
+    result = balloon_notify(&guest.balloon, VB_INFLATE);
+    EXPECT(result.pages == 2 && result.kept == 0 && result.discarded == 2 && !resident(&guest, 700) && !resident(&guest, 701));
+    guest.balloon.keeps_pages = true;
+    name_pages(&guest, VB_INFLATE, pages, 3);
+    result = balloon_notify(&guest.balloon, VB_INFLATE);
+    EXPECT(result.pages == 3 && result.kept == 3 && result.discarded == 0 && stay(&guest, 800, 1));
+    free_memory(&guest);
+}
+
 void test_discards(void)
 {
     RUN(the_machine_is_asked_again());
     RUN(a_reason_stays());
     RUN(pages_may_be_kept());
+    RUN(a_notice_may_keep_all_pages());
 }

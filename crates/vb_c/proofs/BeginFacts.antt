@@ -113,6 +113,7 @@ handed_over = record {
   kind_is = refl;
   step = λ after outcome pieces bytes figures rest h. h;
   room = record { runs = λ e. cc; figures = λ e. cc; cuts = omega arith };
+  kept = λ e. absurd cc;
   waits_now = refl;
   fills = record { full = λ e. absurd (grind arith) };
   fits = tt;

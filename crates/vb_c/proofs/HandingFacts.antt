@@ -21,6 +21,7 @@ none_asked = record {
   named = record { runs = 0; pages = 0; skipped = 0 };
   figures = 0;
   cuts = 0;
+  kept = 0;
   used = record { spots = record { id = spot; length = spot; index = spot }; id = 0; length = 0; index = 0 };
 }
 
@@ -51,6 +52,7 @@ shown = record {
   taken = 0;
   flag = 0;
   phase = 1;
+  keeps = 0;
 }
 
 abbrev pub nothing : Asked
@@ -67,6 +69,7 @@ handed = record {
   kind_is = refl;
   step = λ after outcome pieces bytes figures rest h. h;
   room = record { runs = λ e. cc; figures = λ e. cc; cuts = omega arith };
+  kept = λ e. absurd cc;
   waits_now = refl;
   fills = record { full = λ e. absurd (grind arith) };
   fits = tt;

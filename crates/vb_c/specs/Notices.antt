@@ -26,7 +26,7 @@ use Rattle.vb_c.specs.Codes.{code_of, rule_in, why_of, kind_of_code}
 
 -- ---- which notice it is
 
--- A byte that is 0 says no.
+-- A number that is 0 says no.
 abbrev pub says_yes : ℕ → Bool
 says_yes n = not (n == 0)
 
@@ -34,6 +34,7 @@ abbrev pub tally_of : VbNotice → Tally
 tally_of c = record {
   chains = c.chains_left;
   pages = c.pages_left;
+  keeps = says_yes c.keeps;
   given = says_yes c.given;
   held = if c.taken == 0 then None else Some c.taken_head;
 }

@@ -11,11 +11,14 @@ use Rattle.vb_core.specs.declared.statistics.Statistic.{Statistic}
 use Rattle.vb_monitor.specs.declared.regions.Region.{Region}
 use Rattle.vb_monitor.specs.declared.cuts.Cut.{Cut}
 use Rattle.vb_monitor.specs.declared.orders.Asked.{Asked}
+use Rattle.vb_monitor.specs.declared.orders.Told.TheVariants.{Pages}
 use Rattle.vb_monitor.specs.declared.balloon.Balloon.{Balloon}
 use Rattle.vb_monitor.specs.declared.outcome.Budget.{Budget}
 use Rattle.vb_monitor.specs.declared.outcome.Outcome.{Outcome}
 use Rattle.vb_monitor.specs.declared.notice.Notice.{Notice}
+use Rattle.vb_core.specs.Config.{keeps_reports}
 use Rattle.vb_monitor.specs.Accesses.{Access}
+use Rattle.vb_monitor.specs.Giving.{is_kept, kept_pages}
 use Rattle.vb_monitor.specs.Balloons.{may_look, held_after}
 use Rattle.vb_monitor.specs.Notices.{Serves, AsksStatistics}
 use Rattle.vb_monitor.specs.Machine.{Fits, waits, Room, Ahead, Awaited, whole, room_of}
@@ -60,6 +63,8 @@ pub record HandsOver (n : Notice) (regions : List Region) (runs : List Run) (b1 
       (room_of pieces bytes runs figures)
       (at_once asked n.kind c.orders cuts runs figures rest)
   pub room : HasRoom asked c.orders
+  pub kept : asked.told ≡ Pages → c.orders.kept ≡
+      kept_pages (is_kept n.kind n.step.tally.keeps (keeps_reports b1.device)) c.orders.named.pages
   pub waits_now : waits notice.step.phase ≡ true
   pub fills : FillsList notice.step.phase c.orders
   pub fits : Fits notice.step.phase

@@ -83,6 +83,7 @@ pub struct VbNotice {
     pub taken: u8,
     pub flag: u8,
     pub phase: u8,
+    pub keeps: u8,
 }
 
 /// The room that a notice needs.
@@ -140,6 +141,7 @@ impl VbNotice {
         Tally {
             chains: self.chains_left,
             pages: self.pages_left,
+            keeps: self.keeps != 0,
             given: self.given != 0,
             held: if self.taken == 0 {
                 None

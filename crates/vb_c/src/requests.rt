@@ -7,7 +7,7 @@ ghost use Rattle.vb_core.specs.Devices.{queue_denial};
 ghost use Rattle.vb_core.specs.Name.{is_request};
 ghost use Rattle.vb_monitor.specs.declared.orders.TheConstants.{MAX_CUTS};
 ghost use Rattle.vb_monitor.specs.declared.room.TheConstants.{MAX_BYTES, MAX_RUNS};
-ghost use Rattle.vb_monitor.specs.Giving.{cuts_for};
+ghost use Rattle.vb_monitor.specs.Giving.{cuts_for, is_kept};
 ghost use Rattle.vb_monitor.specs.Machine.{Fits};
 ghost use Rattle.vb_monitor.specs.Served.{is_last};
 ghost use Rattle.vb_c.specs.Codes.{kind_of_code};
@@ -21,7 +21,7 @@ use crate::showing::asked_bits;
 use vb_core::{Denial, Kind, Named, Run};
 use vb_monitor::{
     Asked, Balloon, Cut, Discarding, MAX_CUTS, MAX_RUNS, Notice, Phase, Region, Step, Tally, Told,
-    end, fill_few, fill_named, give_and_look, name_copied,
+    end, fill_few, fill_named, give_and_look, kept_pages, name_copied,
 };
 
 /// Hands over a chain whose pages were named, however it is served.
@@ -69,13 +69,16 @@ fn give_named(
     requires few { named.runs ≤ MAX_RUNS }
     requires ready { queue_denial kind balloon.old.device ≡ None }
     requires room { count ≤ MAX_CUTS }
-    requires parts { cuts_for kind (keeps_reports balloon.old.device) regions.now
-        (take named.runs runs.now) ≡ take count cuts.old }
+    requires parts { cuts_for kind (is_kept kind (tally_of shown.old).keeps
+        (keeps_reports balloon.old.device)) regions.now (take named.runs runs.now) ≡
+        take count cuts.old }
     ensures hands { HandsOver (telling_pages kind (tally_of shown.old) head named) regions.now
         runs.now balloon.old balloon.new cuts.new shown.new }
     ensures what { result ≡ shown.new.what }
 {
+    let kept = kept_pages(&balloon.device, kind, shown.keeps != 0, named.pages);
     shown.orders.named = named;
+    shown.orders.kept = kept;
     shown.orders.cuts = count;
     match give_and_look(
         &mut balloon.device,
@@ -117,7 +120,16 @@ fn serve_many(
         runs.now balloon.old balloon.new cuts.new shown.new }
     ensures what { result ≡ shown.new.what }
 {
-    let filled = fill_named(&balloon.device, regions, kind, runs, named.runs, cuts);
+    let keeps = shown.keeps != 0;
+    let filled = fill_named(
+        &balloon.device,
+        regions,
+        kind,
+        keeps,
+        runs,
+        named.runs,
+        cuts,
+    );
     match filled.left {
         None => give_named(
             shown,
@@ -132,6 +144,7 @@ fn serve_many(
         ),
         Some(left) => {
             shown.orders.named = named;
+            shown.orders.kept = kept_pages(&balloon.device, kind, keeps, named.pages);
             shown.orders.cuts = filled.count;
             let asked = Asked {
                 told: Told::Pages,
@@ -169,7 +182,16 @@ fn serve_named(
         runs.now balloon.old balloon.new cuts.new shown.new }
     ensures what { result ≡ shown.new.what }
 {
-    match fill_few(&balloon.device, regions, kind, runs, named.runs, cuts) {
+    let keeps = shown.keeps != 0;
+    match fill_few(
+        &balloon.device,
+        regions,
+        kind,
+        keeps,
+        runs,
+        named.runs,
+        cuts,
+    ) {
         None => serve_many(shown, balloon, regions, runs, cuts, kind, head, named),
         Some(count) => give_named(
             shown, balloon, regions, runs, cuts, kind, head, named, count,

@@ -5,7 +5,7 @@ ghost use Rattle.vb_monitor.specs.declared.room.TheConstants.{MAX_BYTES};
 ghost use Rattle.vb_monitor.specs.Balloons.{held_head};
 ghost use Rattle.vb_monitor.specs.Machine.{Fits};
 ghost use Rattle.vb_c.specs.Codes.{kind_of_code};
-ghost use Rattle.vb_c.specs.Notices.{HasEnded, notice_of};
+ghost use Rattle.vb_c.specs.Notices.{HasEnded, notice_of, says_yes};
 ghost use Rattle.vb_monitor.specs.Notices.{Serves};
 ghost use Rattle.vb_c.specs.Serving.{HandsOver, Begins, BeginsFor, AsksFor, GoesOnBy};
 
@@ -86,10 +86,11 @@ pub extern "C" fn vb_begin(
     kind: u32,
     chains: u32,
     pages: u32,
+    keeps: u32,
 ) -> u32
     ensures begins { BeginsFor (kind_of_code kind) regions.now
-        (record { chains = chains; pages = pages }) balloon.old balloon.new room.old room.new
-        notice.new }
+        (record { chains = chains; pages = pages; keeps = says_yes keeps }) balloon.old balloon.new
+        room.old room.new notice.new }
     ensures what { result ≡ notice.new.what }
 {
     match kind_of_code(kind) {
@@ -98,7 +99,11 @@ pub extern "C" fn vb_begin(
             if !balloon.may_look(queue) {
                 return refuse(notice, NOTHING);
             }
-            let budget = Budget { chains, pages };
+            let budget = Budget {
+                chains,
+                pages,
+                keeps: keeps != 0,
+            };
             if begin_usually(notice, balloon, regions, room, kind, queue, budget) {
                 return notice.what;
             }

@@ -109,6 +109,7 @@ impl VbNotice {
     {
         self.chains_left = tally.chains;
         self.pages_left = tally.pages;
+        self.keeps = u8::from(tally.keeps);
         self.given = u8::from(tally.given);
         match tally.held {
             None => self.taken = 0,

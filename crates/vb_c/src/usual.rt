@@ -39,6 +39,7 @@ pub(crate) fn begin_usually(
             let tally = Tally {
                 chains: budget.chains,
                 pages: budget.pages,
+                keeps: budget.keeps,
                 given: false,
                 held: None,
             };

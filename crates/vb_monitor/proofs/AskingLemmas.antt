@@ -16,7 +16,7 @@ whole regions d2 outcome =
     record { regions = regions; kind = Statistics; device = d2; outcome = outcome }
 
 abbrev none_yet : Tally
-none_yet = fresh (record { chains = 0; pages = 0 })
+none_yet = fresh (record { chains = 0; pages = 0; keeps = false })
 
 abbrev then_ends : Whole → Then
 then_ends w = AfterGiven Statistics w (λ d tally rest. Stops w d tally None false false rest)

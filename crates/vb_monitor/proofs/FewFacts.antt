@@ -9,7 +9,7 @@ run first count = record { first = first; count = count }
 
 discarded : is_discarded Inflate true ∷ is_discarded Inflate false ∷ is_discarded Deflate false
     ∷ is_discarded Statistics false ∷ is_discarded Report true ∷ is_discarded Report false ∷ []
-    ≡ true ∷ true ∷ false ∷ false ∷ false ∷ true ∷ []
+    ≡ false ∷ true ∷ false ∷ false ∷ false ∷ true ∷ []
 discarded = refl
 
 -- a run with one part; one round the hole, one in it, no run, and two
@@ -19,7 +19,8 @@ few : map (few_parts Inflate false two) ((run 3 2 ∷ []) ∷ (run 30 2 ∷ []) 
 few = refl
 
 not_discarded : few_parts Deflate false two (run 20 3 ∷ []) ∷ few_parts Report true two (run 3 2 ∷ [])
-    ∷ few_parts Statistics false two [] ∷ [] ≡ Some 0 ∷ Some 0 ∷ Some 0 ∷ []
+    ∷ few_parts Inflate true two (run 20 3 ∷ []) ∷ few_parts Statistics false two [] ∷ []
+    ≡ Some 0 ∷ Some 0 ∷ Some 0 ∷ Some 0 ∷ []
 not_discarded = refl
 
 a_report : few_parts Report false two (run 3 2 ∷ []) ≡ Some 1

@@ -12,7 +12,7 @@ use Rattle.vb_monitor.{specs.declared.regions.Spot.Spot, specs.declared.cuts.Cut
 use Rattle.vb_monitor.{specs.declared.outcome.Tally.Tally, specs.Regions.{spot, cuts_of}}
 use Rattle.vb_monitor.specs.Accesses.{TellPages, TellFigures, Discard, WriteNumber, WriteWord}
 use Rattle.vb_monitor.{specs.Ends.{Whole, Ends, EndsWhere, FlagsAt}}
-use Rattle.vb_monitor.specs.Giving.{after_use, cuts_for, TellsThen, AfterName}
+use Rattle.vb_monitor.specs.Giving.{after_use, is_kept, cuts_for, TellsThen, AfterName}
 use Rattle.vb_monitor.specs.Order.{is_read, is_copied, is_told, is_named, Row, Cuts}
 
 -- What each access is where it is made, by the one before it.
@@ -113,7 +113,8 @@ gives_row w may allows next on d t head b log told h =
     gives_by w may allows next on d t head (use_denial w.kind head d) b log told h
 
 cuts_for_row : (w : Whole) (may : Option Access → Access → Type 0) (allows : Allows w may) (kind : Kind) (kept : Bool) (runs : List Run) → Cuts may (cuts_for kind kept w.regions runs)
-cuts_for_row w may allows Inflate kept runs = allows.discards runs
+cuts_for_row w may allows Inflate true runs = tt
+cuts_for_row w may allows Inflate false runs = allows.discards runs
 cuts_for_row w may allows Deflate kept runs = tt
 cuts_for_row w may allows Statistics kept runs = tt
 cuts_for_row w may allows Report true runs = tt
@@ -133,7 +134,7 @@ tells_row w may allows next on d t head runs named b log copied h =
     subst (λ (l : List Access). Row may b l) (sym h.asks) (
       allows.pages b runs named copied,
       subst (λ (l : List Access). Row may (Some (TellPages w.kind runs named)) l) (sym h.discards.asks)
-          (cuts_row may (cuts_for w.kind (keeps_reports d) w.regions runs) (Some (TellPages w.kind runs named)) h.discards.rest
+          (cuts_row may (cuts_for w.kind (is_kept w.kind t.keeps (keeps_reports d)) w.regions runs) (Some (TellPages w.kind runs named)) h.discards.rest
           (λ b2 named. gives_row w may allows next on d t head b2 h.discards.rest named
           h.discards.gives_back) refl refl (cuts_for_row w may allows w.kind _ runs)),
     )

@@ -71,12 +71,12 @@ inflates_and_reports : map of_each (Inflate ∷ Deflate ∷ Statistics ∷ Repor
     (cut_20 ∷ cut_22 ∷ cut_5 ∷ []) ∷ [] ∷ [] ∷ (cut_20 ∷ cut_22 ∷ cut_5 ∷ []) ∷ []
 inflates_and_reports = refl
 
--- where reports are kept, inflates are discarded still
+-- nothing of what is kept
 abbrev of_each_kept : Kind → List Cut
 of_each_kept kind = cuts_for kind true two (page_5 ∷ [])
 
-inflates_alone : map of_each_kept (Inflate ∷ Deflate ∷ Statistics ∷ Report ∷ []) ≡ (cut_5 ∷ []) ∷ [] ∷ [] ∷ [] ∷ []
-inflates_alone = refl
+none_kept : map of_each_kept (Inflate ∷ Deflate ∷ Statistics ∷ Report ∷ []) ≡ [] ∷ [] ∷ [] ∷ [] ∷ []
+none_kept = refl
 
 -- ---- what is done, in its order
 

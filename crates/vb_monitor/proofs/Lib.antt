@@ -46,6 +46,7 @@ pub mod LargeRows
 pub mod LargeLaws
 mod LargeFacts
 mod WholeReportFacts
+mod KeepsFacts
 mod UsualFacts
 mod ServedFacts
 pub mod RoomLemmas

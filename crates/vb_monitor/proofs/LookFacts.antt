@@ -176,7 +176,7 @@ goes_on_unpaid d o rest h = let e = h.nothing in absurd cc
 one_chain_fewer : with_chains 4 tally ≡ record tally { chains = 4 }
 one_chain_fewer = refl
 
-at_first : fresh (record { chains = 8; pages = 3 }) ≡ tally
+at_first : fresh (record { chains = 8; pages = 3; keeps = false }) ≡ tally
 at_first = refl
 
 -- after a chain was given back the queue is looked at again, but that of statistics

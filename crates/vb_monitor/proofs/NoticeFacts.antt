@@ -71,7 +71,7 @@ other_bits : wants_interrupt 0xfffe ≡ true
 other_bits = refl
 
 abbrev tally : Tally
-tally = record { chains = 8; pages = 3; given = false; held = None }
+tally = record { chains = 8; pages = 3; keeps = false; given = false; held = None }
 
 all_spent : (spent 4 tally).pages ≡ 0
 all_spent = refl

@@ -85,13 +85,12 @@ of_a_report : cuts_for Report false two (record { first = 5; count = 1 } ∷ [])
     record { region = 0; offset = 0x5000; in_file = 0x5000; length = 0x1000 } ∷ []
 of_a_report = refl
 
--- where the pages of reports are kept, an inflate is discarded still
+-- but for those that are kept
 of_a_kept_report : cuts_for Report true two (record { first = 5; count = 1 } ∷ []) ≡ []
 of_a_kept_report = refl
 
-inflated_beside : cuts_for Inflate true two (record { first = 5; count = 1 } ∷ []) ≡
-    record { region = 0; offset = 0x5000; in_file = 0x5000; length = 0x1000 } ∷ []
-inflated_beside = refl
+of_a_kept_inflate : cuts_for Inflate true two (record { first = 5; count = 1 } ∷ []) ≡ []
+of_a_kept_inflate = refl
 
 -- ---- parts of pieces
 

@@ -72,7 +72,7 @@ ready = record (new_device settings) {
 }
 
 abbrev pub tally : Tally
-tally = record { chains = 8; pages = 3; given = false; held = None }
+tally = record { chains = 8; pages = 3; keeps = false; given = false; held = None }
 
 -- ---- accesses
 
@@ -134,11 +134,11 @@ given = id ∷ used_length ∷ Release ∷ used_index ∷ index ∷ Full ∷ fla
 
 -- a notice of one chain of one page
 abbrev pub budget : Budget
-budget = record { chains = 8; pages = 256 }
+budget = record { chains = 8; pages = 256; keeps = false }
 
 abbrev pub outcome : Outcome
 outcome = record {
-  tally = record { chains = 7; pages = 255; given = true; held = None };
+  tally = record { chains = 7; pages = 255; keeps = false; given = true; held = None };
   why = None;
   interrupt = true;
   more = false;

@@ -176,59 +176,59 @@ figures_unread h = absurd h
 
 -- ---- in their turn
 
-pages_told : TellsInTurn two Inflate ready read pages
+pages_told : TellsInTurn two Inflate false ready read pages
 pages_told = (refl, named)
 
 -- with other counts than those of the bytes
-one_too_many : TellsInTurn two Inflate ready read (TellPages Inflate (page_5 ∷ []) (record one_page { pages = 2 })) → ⊥
+one_too_many : TellsInTurn two Inflate false ready read (TellPages Inflate (page_5 ∷ []) (record one_page { pages = 2 })) → ⊥
 unfolding numbers_of
 one_too_many h = let e : Same 2 1 = h.1.pages in omega arith
 
-of_another_kind : TellsInTurn two Deflate ready read pages → ⊥
+of_another_kind : TellsInTurn two Deflate false ready read pages → ⊥
 of_another_kind h = let e = h.0 in absurd cc
 
-figures_of_an_inflate : TellsInTurn two Inflate ready read figures → ⊥
+figures_of_an_inflate : TellsInTurn two Inflate false ready read figures → ⊥
 figures_of_an_inflate h = let e = h.0 in absurd cc
 
 -- the parts in their order, each once, and none of another page
 abbrev hole_told : List Access
 hole_told = TellPages Inflate (over_the_hole ∷ []) one_page ∷ read
 
-first_discarded : TellsInTurn two Inflate ready hole_told (Discard cut_20)
+first_discarded : TellsInTurn two Inflate false ready hole_told (Discard cut_20)
 first_discarded = refl
 
-second_discarded : TellsInTurn two Inflate ready (Discard cut_20 ∷ hole_told) (Discard cut_22)
+second_discarded : TellsInTurn two Inflate false ready (Discard cut_20 ∷ hole_told) (Discard cut_22)
 second_discarded = refl
 
 abbrev place_of : Cut → ℕ
 place_of c = c.offset
 
-second_first : TellsInTurn two Inflate ready hole_told (Discard cut_22) → ⊥
+second_first : TellsInTurn two Inflate false ready hole_told (Discard cut_22) → ⊥
 second_first h = let e : Same 0 0x14000 = ap place_of h in omega arith
 
-discarded_twice : TellsInTurn two Inflate ready (Discard cut_20 ∷ hole_told) (Discard cut_20) → ⊥
+discarded_twice : TellsInTurn two Inflate false ready (Discard cut_20 ∷ hole_told) (Discard cut_20) → ⊥
 discarded_twice h = let e : Same 0x14000 0 = ap place_of h in omega arith
 
-discarded_once_more : TellsInTurn two Inflate ready (discard ∷ pages ∷ read) discard → ⊥
+discarded_once_more : TellsInTurn two Inflate false ready (discard ∷ pages ∷ read) discard → ⊥
 discarded_once_more h = absurd h
 
-discarded_of_a_deflate : TellsInTurn two Deflate ready (TellPages Deflate (page_5 ∷ []) one_page ∷ read) discard → ⊥
+discarded_of_a_deflate : TellsInTurn two Deflate false ready (TellPages Deflate (page_5 ∷ []) one_page ∷ read) discard → ⊥
 discarded_of_a_deflate h = absurd h
 
-discarded_untold : TellsInTurn two Inflate ready read discard → ⊥
+discarded_untold : TellsInTurn two Inflate false ready read discard → ⊥
 discarded_untold h = absurd h
 
-another_place_in_the_file : TellsInTurn two Inflate ready (pages ∷ read) (Discard (record cut_5 { in_file = 0 })) → ⊥
+another_place_in_the_file : TellsInTurn two Inflate false ready (pages ∷ read) (Discard (record cut_5 { in_file = 0 })) → ⊥
 another_place_in_the_file h = let e : Same 0 0x5000 = ap (λ (c : Cut). c.in_file) h in omega arith
 
 -- an element is written once all are discarded
-all_discarded : TellsInTurn two Inflate ready (discard ∷ pages ∷ read) id
+all_discarded : TellsInTurn two Inflate false ready (discard ∷ pages ∷ read) id
 all_discarded = refl
 
-one_left : TellsInTurn two Inflate ready (pages ∷ read) id → ⊥
+one_left : TellsInTurn two Inflate false ready (pages ∷ read) id → ⊥
 one_left h = absurd cc
 
-none_to_discard : TellsInTurn two Deflate ready (TellPages Deflate (page_5 ∷ []) one_page ∷ read) id
+none_to_discard : TellsInTurn two Deflate false ready (TellPages Deflate (page_5 ∷ []) one_page ∷ read) id
 none_to_discard = refl
 
 -- ---- what is written

@@ -24,48 +24,48 @@ use Rattle.vb_monitor.specs.declared.regions.{Region.Region, Spot.Spot}
 
 -- ---- the walk
 
-abbrev On : Whole → Device → Device → ℕ → (ℕ → Bool → List Piece → List Access → Type 0) → Type 0
-On w d0 d head on = (n : ℕ) (writing : Bool) (ps : List Piece) (b rest : List Access) → Agrees
-    w d0 b d → known w.kind b ≡ Walks head n ps → on n writing ps rest → Each (Comes w d0) b rest
+abbrev On : Whole → Device → Device → Tally → ℕ → (ℕ → Bool → List Piece → List Access → Type 0) → Type 0
+On w d0 d t head on = (n : ℕ) (writing : Bool) (ps : List Piece) (b rest : List Access) → Agrees
+    w d0 b d → known w.kind b ≡ Walks head n ps → on n writing ps rest → Each (Comes w d0 t.keeps) b rest
 
-abbrev Last : Whole → Device → Device → ℕ → (List Piece → List Access → Type 0) → Type 0
-Last w d0 d head done = (ps : List Piece) (b rest : List Access)
-    → Agrees w d0 b d → Begun w head ps b → done ps rest → Each (Comes w d0) b rest
+abbrev Last : Whole → Device → Device → Tally → ℕ → (List Piece → List Access → Type 0) → Type 0
+Last w d0 d t head done = (ps : List Piece) (b rest : List Access)
+    → Agrees w d0 b d → Begun w head ps b → done ps rest → Each (Comes w d0 t.keeps) b rest
 
-goes_on : (w : Whole) (d0 d : Device) (head : ℕ)
+goes_on : (w : Whole) (d0 d : Device) (t : Tally) (head : ℕ)
     (on : ℕ → Bool → List Piece → List Access → Type 0) (done : List Piece → List Access → Type 0)
-    (more : On w d0 d head on) (last : Last w d0 d head done) (goes writing : Bool)
+    (more : On w d0 d t head on) (last : Last w d0 d t head done) (goes writing : Bool)
     (x : Descriptor) (pieces : List Piece) (b log : List Access) → Agrees w d0 b d →
     known w.kind b ≡ with_descriptor goes w.kind head (pieces ++ piece_of x ∷ []) x.next →
-    GoesOn goes on done writing x pieces log → Each (Comes w d0) b log
-goes_on w d0 d head on done more last true writing x pieces b log is read h =
+    GoesOn goes on done writing x pieces log → Each (Comes w d0 t.keeps) b log
+goes_on w d0 d t head on done more last true writing x pieces b log is read h =
     more x.next _ (pieces ++ piece_of x ∷ []) b log is read h
-goes_on w d0 d head on done more last false writing x pieces b log is read h =
+goes_on w d0 d t head on done more last false writing x pieces b log is read h =
     last (pieces ++ piece_of x ∷ []) b log is read h
 
 descriptor_by : (w : Whole) (d0 d : Device) (t : Tally) (head : ℕ)
     (on : ℕ → Bool → List Piece → List Access → Type 0) (done : List Piece → List Access → Type 0)
-    (more : On w d0 d head on) (last : Last w d0 d head done) (fault : Option ChainFault)
+    (more : On w d0 d t head on) (last : Last w d0 d t head done) (fault : Option ChainFault)
     (writing : Bool) (x : Descriptor) (pieces : List Piece) (b log : List Access) → Agrees w d0 b d
     → known w.kind b ≡ with_descriptor (has_next x) w.kind head (pieces ++ piece_of x ∷ []) x.next
-    → DescriptorBy fault w d t on done writing x pieces log → Each (Comes w d0) b log
+    → DescriptorBy fault w d t on done writing x pieces log → Each (Comes w d0 t.keeps) b log
 descriptor_by w d0 d t head on done more last (Some fault) writing x pieces b log is read h =
     breaks_each w d0 d t _ b log is h
 descriptor_by w d0 d t head on done more last None writing x pieces b log is read h =
-    goes_on w d0 d head on done more last (has_next x) writing x pieces b log is read h
+    goes_on w d0 d t head on done more last (has_next x) writing x pieces b log is read h
 
 descriptor_at : (w : Whole) (d0 d : Device) (t : Tally) (head number : ℕ)
     (on : ℕ → Bool → List Piece → List Access → Type 0) (done : List Piece → List Access → Type 0)
-    (more : On w d0 d head on) (last : Last w d0 d head done) (writing : Bool)
+    (more : On w d0 d t head on) (last : Last w d0 d t head done) (writing : Bool)
     (pieces : List Piece) (o : Option Spot) (b log : List Access) → Agrees w d0 b d → known w.kind b
     ≡ Walks head number pieces → spot w.regions ((ring_of w.kind d).table + 16 * number) 16 ≡ o
-    → DescriptorAt w d t on done writing pieces o log → Each (Comes w d0) b log
+    → DescriptorAt w d t on done writing pieces o log → Each (Comes w d0 t.keeps) b log
 descriptor_at w d0 d t head number on done more last writing pieces None b log is read e h =
     breaks_each w d0 d t _ b log is h
 descriptor_at w d0 d t head number on done more last writing pieces (Some at) b log is read e h =
     let there : spot w.regions ((ring_after (ring_of w.kind d0) b).table + 16 * number) 16 ≡ Some
     at = subst (λ (r : Virtqueue). spot w.regions (r.table + 16 * number) 16 ≡ Some at) is.ring e in
-    subst (λ (l : List Access). Each (Comes w d0) b l) (sym h.asks) (
+    subst (λ (l : List Access). Each (Comes w d0 t.keeps) b l) (sym h.asks) (
       (
         subst (λ (k : Known). CopiesNext w.regions (ring_after (ring_of w.kind d0) b).table k at
             h.bytes) (sym read) (record { place = there; long = h.long }),
@@ -77,10 +77,10 @@ descriptor_at w d0 d t head number on done more last writing pieces (Some at) b 
     )
 
 follows_each : (n : ℕ) (w : Whole) (d0 d : Device) (t : Tally) (head : ℕ)
-    (done : List Piece → List Access → Type 0) (last : Last w d0 d head done) (number : ℕ)
+    (done : List Piece → List Access → Type 0) (last : Last w d0 d t head done) (number : ℕ)
     (writing : Bool) (pieces : List Piece) (b log : List Access) → Agrees w d0 b d →
     known w.kind b ≡ Walks head number pieces →
-    Follows n w d t done number writing pieces log → Each (Comes w d0) b log
+    Follows n w d t done number writing pieces log → Each (Comes w d0 t.keeps) b log
 follows_each zero w d0 d t head done last number writing pieces b log is read h =
     breaks_each w d0 d t _ b log is h
 follows_each (suc n) w d0 d t head done last number writing pieces b log is read h =
@@ -91,7 +91,7 @@ follows_each (suc n) w d0 d t head done last number writing pieces b log is read
 
 head_each : (w : Whole) (d0 : Device) (next : Then) (on : After w d0 next) (d : Device) (t : Tally)
     (head : ℕ) (there : Bool) (b log : List Access) → Agrees w d0 b d → known w.kind b
-    ≡ Walks head head [] → HeadBy there w next d t head log → Each (Comes w d0) b log
+    ≡ Walks head head [] → HeadBy there w next d t head log → Each (Comes w d0 t.keeps) b log
 head_each w d0 next on d t head false b log is read h = breaks_each w d0 d t _ b log is h
 head_each w d0 next on d t head true b log is read h =
     follows_each (descriptors (ring_of w.kind d)) w d0 d t head _
@@ -100,10 +100,10 @@ head_each w d0 next on d t head true b log is read h =
 entry_each : (w : Whole) (d0 : Device) (next : Then) (on : After w d0 next) (d : Device)
     (t : Tally) (o : Option Spot) (b log : List Access) → Agrees w d0 b d →
     known w.kind b ≡ Unknown → spot w.regions ((ring_of w.kind d).avail + entry_offset (ring_of w.kind d)) 2 ≡ o →
-    EntryAt w next d t o log → Each (Comes w d0) b log
+    EntryAt w next d t o log → Each (Comes w d0 t.keeps) b log
 entry_each w d0 next on d t None b log is new e h = breaks_each w d0 d t _ b log is h
 entry_each w d0 next on d t (Some at) b log is new e h =
-    subst (λ (l : List Access). Each (Comes w d0) b l) (sym h.asks) (
+    subst (λ (l : List Access). Each (Comes w d0 t.keeps) b l) (sym h.asks) (
       ((new, is.lasts), (tt, tt)),
       (
         (
@@ -117,19 +117,19 @@ entry_each w d0 next on d t (Some at) b log is new e h =
 
 unless_spent : (w : Whole) (d0 : Device) (next : Then) (on : After w d0 next) (d : Device)
     (t : Tally) (spent : Bool) (b log : List Access) → Agrees w d0 b d →
-    known w.kind b ≡ Unknown → TakesUnlessSpent spent w next d t log → Each (Comes w d0) b log
+    known w.kind b ≡ Unknown → TakesUnlessSpent spent w next d t log → Each (Comes w d0 t.keeps) b log
 unless_spent w d0 next on d t true b log is new h =
     ends_each w d0 d t _ true b log (flags_of w d0 b d is) h
 unless_spent w d0 next on d t false b log is new h =
     entry_each w d0 next on d t _ b log is new refl h
 
-abbrev Taken : Whole → Device → Device → (List Access → Type 0) → Type 0
-Taken w d0 d takes = (b rest : List Access)
-    → Agrees w d0 b d → known w.kind b ≡ Unknown → takes rest → Each (Comes w d0) b rest
+abbrev Taken : Whole → Device → Device → Tally → (List Access → Type 0) → Type 0
+Taken w d0 d t takes = (b rest : List Access)
+    → Agrees w d0 b d → known w.kind b ≡ Unknown → takes rest → Each (Comes w d0 t.keeps) b rest
 
 index_by : (w : Whole) (d0 d : Device) (t : Tally) (takes : List Access → Type 0)
-    (on : Taken w d0 d takes) (there : Result Bool ChainFault) (b log : List Access) →
-    Agrees w d0 b d → known w.kind b ≡ Unknown → AfterIndex there w takes d t log → Each (Comes w d0) b log
+    (on : Taken w d0 d t takes) (there : Result Bool ChainFault) (b log : List Access) →
+    Agrees w d0 b d → known w.kind b ≡ Unknown → AfterIndex there w takes d t log → Each (Comes w d0 t.keeps) b log
 index_by w d0 d t takes on (Err fault) b log is new h = breaks_each w d0 d t _ b log is h
 index_by w d0 d t takes on (Ok false) b log is new h =
     ends_each w d0 d t _ false b log (flags_of w d0 b d is) h
@@ -143,12 +143,12 @@ pub record Looked (b : List Access) : Type 0 where
   pub lasts : ends_in_full b ≡ false
 
 index_at : (w : Whole) (d0 d : Device) (t : Tally) (takes : List Access → Type 0)
-    (on : Taken w d0 d takes) (o : Option Spot) (b log : List Access) → Agrees w d0 b d →
+    (on : Taken w d0 d t takes) (o : Option Spot) (b log : List Access) → Agrees w d0 b d →
     Looked b → spot w.regions ((ring_of w.kind d).avail + 2) 2 ≡ o → IndexAt w takes d t o log →
-    Each (Comes w d0) b log
+    Each (Comes w d0 t.keeps) b log
 index_at w d0 d t takes on None b log is looked e h = breaks_each w d0 d t _ b log is h
 index_at w d0 d t takes on (Some at) b log is looked e h =
-    subst (λ (l : List Access). Each (Comes w d0) b l) (sym h.asks) (
+    subst (λ (l : List Access). Each (Comes w d0 t.keeps) b l) (sym h.asks) (
       (
         looked.word w.regions (ring_after (ring_of w.kind d0) b) at
             (subst (λ (r : Virtqueue). spot w.regions (r.avail + 2) 2 ≡ Some at) is.ring e),
@@ -160,8 +160,8 @@ index_at w d0 d t takes on (Some at) b log is looked e h =
     )
 
 looks_by : (w : Whole) (d0 d : Device) (t : Tally) (takes : List Access → Type 0)
-    (on : Taken w d0 d takes) (denial : Option Denial) (b log : List Access) → Agrees w d0 b d →
-    Looked b → LooksBy denial w takes d t log → Each (Comes w d0) b log
+    (on : Taken w d0 d t takes) (denial : Option Denial) (b log : List Access) → Agrees w d0 b d →
+    Looked b → LooksBy denial w takes d t log → Each (Comes w d0 t.keeps) b log
 looks_by w d0 d t takes on (Some why) b log is looked h =
     ends_each w d0 d t _ false b log (flags_of w d0 b d is) h
 looks_by w d0 d t takes on None b log is looked h =
@@ -175,7 +175,7 @@ given_each w d0 Statistics looks on d t at n b rest is h =
     ends_each w d0 d t _ false (WriteWord at n ∷ b) rest (flags_of w d0 (WriteWord at n ∷ b) d is) h
 given_each w d0 Report looks on d t at n b rest is h = on d t at n b rest is h
 
-takes_each : (n : ℕ) (w : Whole) (d0 d : Device) (t : Tally) → Taken w d0 d (TakesNext n w d t)
+takes_each : (n : ℕ) (w : Whole) (d0 d : Device) (t : Tally) → Taken w d0 d t (TakesNext n w d t)
 takes_each zero w d0 d t b log is new h = ends_each w d0 d t _ true b log (flags_of w d0 b d is) h
 takes_each (suc n) w d0 d t b log is new h = unless_spent w d0
     (AfterGiven w.kind w (λ d2 t2 rest. LooksBy (queue_denial w.kind d2) w (TakesNext n w d2 t2) d2
@@ -188,7 +188,7 @@ takes_each (suc n) w d0 d t b log is new h = unless_spent w d0
 
 all_come : (regions : List Region) (kind : Kind) (budget : Budget) (d1 d2 : Device)
     (outcome : Outcome) (log : List Access) → Serves regions kind budget d1 d2 outcome log →
-    Each (Comes (record { regions = regions; kind = kind; device = d2; outcome = outcome }) d1) [] log
+    Each (Comes (record { regions = regions; kind = kind; device = d2; outcome = outcome }) d1 budget.keeps) [] log
 all_come regions kind budget d1 d2 outcome log h =
     let w : Whole = record { regions = regions; kind = kind; device = d2; outcome = outcome } in
     looks_by w d1 d1 (fresh budget) _ (takes_each budget.chains w d1 d1 (fresh budget)) _ [] log
@@ -209,7 +209,7 @@ reads_in_turn regions kind budget d1 d2 outcome log h =
 
 pub tells_in_turn : (regions : List Region) (kind : Kind) (budget : Budget) (d1 d2 : Device)
     (outcome : Outcome) (log : List Access) → Serves regions kind budget d1 d2 outcome log →
-    Each (TellsInTurn regions kind d1) [] log
+    Each (TellsInTurn regions kind budget.keeps d1) [] log
 tells_in_turn regions kind budget d1 d2 outcome log h =
     each_so _ _ [] log (λ b x is. is.1.0) (all_come regions kind budget d1 d2 outcome log h)
 

@@ -12,7 +12,8 @@ use Rattle.vb_core.specs.Devices.{ring_of, with_one_taken, needing_reset, queue_
 use Rattle.vb_monitor.specs.Accesses.{Access, ReadWord, Release, Full, TellPages, Discard}
 use Rattle.vb_monitor.{specs.Accesses.{WriteNumber, WriteWord}, specs.declared.outcome.Tally.Tally}
 use Rattle.vb_monitor.specs.Giving.{Then, three_spots, UsedAt, GivesBack, GivesBackBy, with_given}
-use Rattle.vb_monitor.{specs.Giving.{after_use, cuts_for, TellsThen}, specs.declared.cuts.Cut.Cut}
+use Rattle.vb_monitor.specs.Giving.{after_use, is_kept, cuts_for, TellsThen}
+use Rattle.vb_monitor.specs.declared.cuts.Cut.{Cut}
 use Rattle.vb_monitor.specs.SoFar.{Each, Known, Has, known, ring_after, left, without_first}
 use Rattle.vb_monitor.specs.Turns.{is_over, ReadsInTurn, TellsOf, TellNamed, TellsInTurn, IsNext}
 use Rattle.vb_monitor.specs.Turns.{ends_in_number, NumberFor, IndexFor, WritesUsedAlone}
@@ -20,9 +21,9 @@ use Rattle.vb_monitor.{specs.Regions.spot, specs.Ends.{Whole, Ends, EndsWhere, F
 use Rattle.vb_monitor.specs.declared.regions.Spot.{Spot}
 
 -- the access comes in its turn
-abbrev pub Comes : Whole → Device → List Access → Access → Type 0
-Comes w d0 before x = ReadsInTurn w.regions w.kind d0 before x
-    × (TellsInTurn w.regions w.kind d0 before x × WritesUsedAlone w.regions w.kind d0 before x)
+abbrev pub Comes : Whole → Device → Bool → List Access → Access → Type 0
+Comes w d0 all before x = ReadsInTurn w.regions w.kind d0 before x
+    × (TellsInTurn w.regions w.kind all d0 before x × WritesUsedAlone w.regions w.kind d0 before x)
 
 -- the device is as far in its ring as the accesses before say
 pub record Agrees (w : Whole) (d0 : Device) (before : List Access) (d : Device) : Type 0 where
@@ -103,31 +104,31 @@ broken_use w d0 b d is = (
 flags_each : (w : Whole) (d0 d : Device) (t : Tally) (why : Option Denial) (more : Bool)
     (o : Option Spot) (b : List Access) (log : List Access) → Flags w d0 b d →
     spot w.regions (ring_of w.kind d).avail 2 ≡ o → FlagsAt w d t why more o log →
-    Each (Comes w d0) b log
-flags_each w d0 d t why more None b log is e h = none_left (Comes w d0) b log h.nothing
+    Each (Comes w d0 t.keeps) b log
+flags_each w d0 d t why more None b log is e h = none_left (Comes w d0 t.keeps) b log h.nothing
 flags_each w d0 d t why more (Some at) b log is e h =
-    subst (λ (l : List Access). Each (Comes w d0) b l) (sym h.asks) (
+    subst (λ (l : List Access). Each (Comes w d0 t.keeps) b l) (sym h.asks) (
       (is.1, (tt, tt)),
       (
         (subst (λ (a : ℕ). spot w.regions a 2 ≡ Some at) is.0 e, (tt, tt)),
-        none_left (Comes w d0) (ReadWord at h.flags ∷ Full ∷ b) h.rest h.then_stops.nothing,
+        none_left (Comes w d0 t.keeps) (ReadWord at h.flags ∷ Full ∷ b) h.rest h.then_stops.nothing,
       ),
     )
 
 ends_where : (given : Bool) (w : Whole) (d0 d : Device) (t : Tally) (why : Option Denial)
     (more : Bool) (b : List Access) (log : List Access) → Flags w d0 b d →
-    EndsWhere given w d t why more log → Each (Comes w d0) b log
-ends_where false w d0 d t why more b log is h = none_left (Comes w d0) b log h.nothing
+    EndsWhere given w d t why more log → Each (Comes w d0 t.keeps) b log
+ends_where false w d0 d t why more b log is h = none_left (Comes w d0 t.keeps) b log h.nothing
 ends_where true w d0 d t why more b log is h =
     flags_each w d0 d t why more (spot w.regions (ring_of w.kind d).avail 2) b log is refl h
 
 pub ends_each : (w : Whole) (d0 d : Device) (t : Tally) (why : Option Denial) (more : Bool)
     (b : List Access) (log : List Access) → Flags w d0 b d → Ends w d t why more log →
-    Each (Comes w d0) b log
+    Each (Comes w d0 t.keeps) b log
 ends_each w d0 d t why more b log is h = ends_where t.given w d0 d t why more b log is h
 
 pub breaks_each : (w : Whole) (d0 d : Device) (t : Tally) (fault : ChainFault) (b : List Access)
-    (log : List Access) → Agrees w d0 b d → Breaks w d t fault log → Each (Comes w d0) b log
+    (log : List Access) → Agrees w d0 b d → Breaks w d t fault log → Each (Comes w d0 t.keeps) b log
 breaks_each w d0 d t fault b log is h =
     ends_each w d0 (needing_reset d) t _ false b log (broken w d0 b d is) h
 
@@ -136,7 +137,7 @@ breaks_each w d0 d t fault b log is h =
 -- what comes once a chain is given back comes in its turn, behind an index that was written
 abbrev pub After : Whole → Device → Then → Type 0
 After w d0 next = (d : Device) (t : Tally) (at : Spot) (n : ℕ) (b rest : List Access) → Agrees w d0
-    (WriteWord at n ∷ b) d → next d t rest → Each (Comes w d0) (WriteWord at n ∷ b) rest
+    (WriteWord at n ∷ b) d → next d t rest → Each (Comes w d0 t.keeps) (WriteWord at n ∷ b) rest
 
 -- a chain of which all was read
 abbrev pub Read : Whole → ℕ → List Piece → List ℕ → List Access → Type 0
@@ -161,19 +162,19 @@ index_for w d0 d head pieces bytes b at n read is h =
 
 no_used_place : (w : Whole) (d0 d : Device) (t : Tally) (fault : ChainFault) (b : List Access)
     (log : List Access) → Agrees w d0 b d → Breaks w (after_use w.kind d) t fault log →
-    Each (Comes w d0) b log
+    Each (Comes w d0 t.keeps) b log
 no_used_place w d0 d t fault b log is h =
     ends_each w d0 (needing_reset (after_use w.kind d)) t _ false b log (broken_use w d0 b d is) h
 
 used_each : (w : Whole) (d0 : Device) (next : Then) (on : After w d0 next) (d : Device)
     (t : Tally) (head : ℕ) (pieces : List Piece) (bytes : List ℕ) (id len index : Option Spot)
     (b : List Access) (log : List Access) → Agrees w d0 b d → Read w head pieces bytes b
-    → left (keeps_reports d0) w.regions b ≡ [] → ends_in_number b ≡ false
+    → left (is_kept w.kind t.keeps (keeps_reports d0)) w.regions b ≡ [] → ends_in_number b ≡ false
     → spot w.regions (used_entry (ring_of w.kind d) head).element_at 4 ≡ id
     → spot w.regions ((used_entry (ring_of w.kind d) head).element_at + 4) 4 ≡ len
     → spot w.regions (used_entry (ring_of w.kind d) head).index_at 2 ≡ index
     → UsedAt w (next (after_use w.kind d) (with_given t)) (after_use w.kind d) t
-    (used_entry (ring_of w.kind d) head) (three_spots id len index) log → Each (Comes w d0) b log
+    (used_entry (ring_of w.kind d) head) (three_spots id len index) log → Each (Comes w d0 t.keeps) b log
 used_each w d0 next on d t head pieces bytes None len index b log is read done first x y z h =
     no_used_place w d0 d t _ b log is h
 used_each w d0 next on d t head pieces bytes (Some id) None index b log is read done first x y z h =
@@ -185,7 +186,7 @@ used_each w d0 next on d t head pieces bytes
     let e = used_entry (ring_of w.kind d) head in
     let b1 = WriteNumber id e.id ∷ b in
     let b2 = WriteNumber len e.length ∷ b1 in
-    subst (λ (l : List Access). Each (Comes w d0) b l) (sym h.asks) (
+    subst (λ (l : List Access). Each (Comes w d0 t.keeps) b l) (sym h.asks) (
       (
         tt,
         (
@@ -210,8 +211,8 @@ used_each w d0 next on d t head pieces bytes
 
 gives_by : (w : Whole) (d0 : Device) (next : Then) (on : After w d0 next) (d : Device) (t : Tally)
     (head : ℕ) (pieces : List Piece) (bytes : List ℕ) (denial : Option Denial) (b : List Access)
-    (log : List Access) → Agrees w d0 b d → Read w head pieces bytes b → left (keeps_reports d0) w.regions b ≡ [] →
-    ends_in_number b ≡ false → GivesBackBy denial w next d t head log → Each (Comes w d0) b log
+    (log : List Access) → Agrees w d0 b d → Read w head pieces bytes b → left (is_kept w.kind t.keeps (keeps_reports d0)) w.regions b ≡ [] →
+    ends_in_number b ≡ false → GivesBackBy denial w next d t head log → Each (Comes w d0 t.keeps) b log
 gives_by w d0 next on d t head pieces bytes (Some why) b log is read done first h =
     ends_each w d0 d t _ false b log (flags_of w d0 b d is) h
 gives_by w d0 next on d t head pieces bytes None b log is read done first h =
@@ -219,24 +220,24 @@ gives_by w d0 next on d t head pieces bytes None b log is read done first h =
 
 pub gives_each : (w : Whole) (d0 : Device) (next : Then) (on : After w d0 next) (d : Device)
     (t : Tally) (head : ℕ) (pieces : List Piece) (bytes : List ℕ) (b : List Access)
-    (log : List Access) → Agrees w d0 b d → Read w head pieces bytes b → left (keeps_reports d0) w.regions b ≡ [] →
-    ends_in_number b ≡ false → GivesBack w next d t head log → Each (Comes w d0) b log
+    (log : List Access) → Agrees w d0 b d → Read w head pieces bytes b → left (is_kept w.kind t.keeps (keeps_reports d0)) w.regions b ≡ [] →
+    ends_in_number b ≡ false → GivesBack w next d t head log → Each (Comes w d0 t.keeps) b log
 gives_each w d0 next on d t head pieces bytes b log is read done first h = gives_by
     w d0 next on d t head pieces bytes (use_denial w.kind head d) b log is read done first h
 
 -- ---- what is discarded
 
-discards_each : (w : Whole) (d0 d : Device) (head : ℕ) (pieces : List Piece) (bytes : List ℕ)
+discards_each : (w : Whole) (d0 d : Device) (t : Tally) (head : ℕ) (pieces : List Piece) (bytes : List ℕ)
     (cuts : List Cut) (b rest : List Access)
     (then_each : (b2 : List Access) → Agrees w d0 b2 d → Read w head pieces bytes b2 →
-    left (keeps_reports d0) w.regions b2 ≡ [] → ends_in_number b2 ≡ false → Each (Comes w d0) b2 rest) →
-    Agrees w d0 b d → Read w head pieces bytes b → left (keeps_reports d0) w.regions b ≡ cuts →
-    ends_in_number b ≡ false → Each (Comes w d0) b (map Discard cuts ++ rest)
-discards_each w d0 d head pieces bytes [] b rest then_each is read left_so first =
+    left (is_kept w.kind t.keeps (keeps_reports d0)) w.regions b2 ≡ [] → ends_in_number b2 ≡ false → Each (Comes w d0 t.keeps) b2 rest) →
+    Agrees w d0 b d → Read w head pieces bytes b → left (is_kept w.kind t.keeps (keeps_reports d0)) w.regions b ≡ cuts →
+    ends_in_number b ≡ false → Each (Comes w d0 t.keeps) b (map Discard cuts ++ rest)
+discards_each w d0 d t head pieces bytes [] b rest then_each is read left_so first =
     then_each b is read left_so first
-discards_each w d0 d head pieces bytes (cut ∷ cuts) b rest then_each is read left_so first = (
+discards_each w d0 d t head pieces bytes (cut ∷ cuts) b rest then_each is read left_so first = (
   (tt, (subst (λ (l : List Cut). IsNext cut l) (sym left_so) refl, tt)),
-  discards_each w d0 d head pieces bytes cuts (Discard cut ∷ b) rest then_each
+  discards_each w d0 d t head pieces bytes cuts (Discard cut ∷ b) rest then_each
       (record { ring = is.ring; settings = is.settings; keeps = is.keeps; lasts = refl }) read
       (ap (λ (l : List Cut). without_first l) left_so) refl,
 )
@@ -246,10 +247,10 @@ pub tells_each : (w : Whole) (d0 : Device) (next : Then) (on : After w d0 next) 
     (t : Tally) (head : ℕ) (pieces : List Piece) (bytes : List ℕ) (runs : List Run)
     (named : Named) (b log : List Access) → Agrees w d0 b d → Read w head pieces bytes b →
     TellNamed w.kind d.settings pieces bytes runs named →
-    TellsThen w next (with_one_taken w.kind d) t head runs named log → Each (Comes w d0) b log
+    TellsThen w next (with_one_taken w.kind d) t head runs named log → Each (Comes w d0 t.keeps) b log
 tells_each w d0 next on d t head pieces bytes runs named b log is read right h =
     let b1 = TellPages w.kind runs named ∷ b in
-    subst (λ (l : List Access). Each (Comes w d0) b l) (sym h.asks) (
+    subst (λ (l : List Access). Each (Comes w d0 t.keeps) b l) (sym h.asks) (
       (
         tt,
         (
@@ -261,12 +262,13 @@ tells_each w d0 next on d t head pieces bytes runs named b log is read right h =
           tt,
         ),
       ),
-      subst (λ (l : List Access). Each (Comes w d0) b1 l) (sym h.discards.asks)
-          (discards_each w d0 (with_one_taken w.kind d) head pieces bytes
-          (cuts_for w.kind (keeps_reports (with_one_taken w.kind d)) w.regions runs) b1 h.discards.rest
+      subst (λ (l : List Access). Each (Comes w d0 t.keeps) b1 l) (sym h.discards.asks)
+          (discards_each w d0 (with_one_taken w.kind d) t head pieces bytes
+          (cuts_for w.kind (is_kept w.kind t.keeps (keeps_reports (with_one_taken w.kind d))) w.regions runs)
+          b1 h.discards.rest
           (λ b2 is2 read2 left2 first2. gives_each w d0 next on _ t head pieces bytes b2 _ is2 read2
           left2 first2 h.discards.gives_back)
           (one_taken w d0 b b1 d is refl refl) read
-          (ap (λ (kept : Bool). cuts_for w.kind kept w.regions runs)
+          (ap (λ (kept : Bool). cuts_for w.kind (is_kept w.kind t.keeps kept) w.regions runs)
           (sym ((moves w.kind d).taken_keeps ∙ is.keeps))) refl),
     )

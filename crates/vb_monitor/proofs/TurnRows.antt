@@ -34,7 +34,7 @@ names_each : (w : Whole) (d0 : Device) (next : Then) (on : After w d0 next) (d d
     (t : Tally) (head : ℕ) (pieces : List Piece) (bytes : List ℕ) (runs : List Run)
     (answer : Result Named Denial) (b log : List Access) → Agrees w d0 b d →
     Read w head pieces bytes b → Flags w d0 b d2 → Right w d d2 pieces bytes runs answer →
-    AfterName w next d2 t head runs answer log → Each (Comes w d0) b log
+    AfterName w next d2 t head runs answer log → Each (Comes w d0 t.keeps) b log
 names_each w d0 next on d d2 t head pieces bytes runs (Err why) b log is read flags right h =
     ends_each w d0 d2 t _ false b log flags h
 names_each w d0 next on d d2 t head pieces bytes runs (Ok named) b log is read flags right h =
@@ -48,12 +48,12 @@ names_each w d0 next on d d2 t head pieces bytes runs (Ok named) b log is read f
 figures_each : (w : Whole) (d0 d : Device) (t : Tally) (head : ℕ) (pieces : List Piece)
     (bytes : List ℕ) (denial : Option Denial) (b log : List Access) → w.kind ≡ Statistics →
     Agrees w d0 b d → Read w head pieces bytes b → FiguresBy denial w d t head bytes log →
-    Each (Comes w d0) b log
+    Each (Comes w d0 t.keeps) b log
 figures_each w d0 d t head pieces bytes (Some why) b log e is read h =
     ends_each w d0 d t _ false b log (flags_of w d0 b d is) h
 figures_each w d0 d t head pieces bytes None b log e is read h =
     let told = take (length bytes / STATISTIC_SIZE) h.figures in
-    subst (λ (l : List Access). Each (Comes w d0) b l) (sym h.tells.asks) (
+    subst (λ (l : List Access). Each (Comes w d0 t.keeps) b l) (sym h.tells.asks) (
       (
         tt,
         (
@@ -99,7 +99,7 @@ bytes_named : (w : Whole) (d0 : Device) (kind : Kind) (e : w.kind ≡ kind) (nex
     (h : NamesBytes w next d t head bytes log) →
     ((named : Named) → TellNumbers d.settings bytes (take named.runs h.runs) named →
     h.answer ≡ Ok named → TellNamed kind d.settings pieces bytes (take named.runs h.runs) named) →
-    Each (Comes w d0) b log
+    Each (Comes w d0 t.keeps) b log
 bytes_named w d0 kind e next on d t head pieces bytes b log is read h so = names_each w d0 next on
     d h.device t head pieces bytes h.runs h.answer b log is read (names_flags w d0 b d h.device is
     (names_avail w.kind bytes _ h.runs d h.device h.answer h.names))
@@ -108,7 +108,7 @@ bytes_named w d0 kind e next on d t head pieces bytes b log is read h so = names
 bytes_each : (w : Whole) (d0 : Device) (kind : Kind) (e : w.kind ≡ kind) (next : Then)
     (on : After w d0 next) (d : Device) (t : Tally) (head : ℕ) (pieces : List Piece)
     (bytes : List ℕ) (b log : List Access) → Agrees w d0 b d → Read w head pieces bytes b →
-    AfterBytes kind w next d t head bytes log → Each (Comes w d0) b log
+    AfterBytes kind w next d t head bytes log → Each (Comes w d0 t.keeps) b log
 bytes_each w d0 Inflate e next on d t head pieces bytes b log is read h =
     bytes_named w d0 Inflate e next on d t head pieces bytes b log is read h (λ named x ok. x)
 bytes_each w d0 Deflate e next on d t head pieces bytes b log is read h =
@@ -124,24 +124,25 @@ bytes_each w d0 Report e next on d t head pieces bytes b log is read h =
 
 -- ---- parts
 
-abbrev Served : Whole → Device → Device → ℕ → List Piece → (List ℕ → List Access → Type 0) → Type 0
-Served w d0 d head pieces go = (bytes : List ℕ) (b rest : List Access)
-    → Agrees w d0 b d → Read w head pieces bytes b → go bytes rest → Each (Comes w d0) b rest
+abbrev Served : Whole → Device → Device → Tally → ℕ → List Piece → (List ℕ → List Access → Type 0) →
+    Type 0
+Served w d0 d t head pieces go = (bytes : List ℕ) (b rest : List Access)
+    → Agrees w d0 b d → Read w head pieces bytes b → go bytes rest → Each (Comes w d0 t.keeps) b rest
 
-abbrev More : Whole → Device → Device → ℕ → List Piece → List Part →
+abbrev More : Whole → Device → Device → Tally → ℕ → List Piece → List Part →
     (List ℕ → List Access → Type 0) → Type 0
-More w d0 d head pieces parts go = (bytes : List ℕ) (b rest : List Access) → Agrees w d0 b d
-    → known w.kind b ≡ Has head pieces parts bytes → go bytes rest → Each (Comes w d0) b rest
+More w d0 d t head pieces parts go = (bytes : List ℕ) (b rest : List Access) → Agrees w d0 b d
+    → known w.kind b ≡ Has head pieces parts bytes → go bytes rest → Each (Comes w d0 t.keeps) b rest
 
 part_at : (w : Whole) (d0 d : Device) (t : Tally) (head : ℕ) (pieces : List Piece) (part : Part)
-    (parts : List Part) (go : List ℕ → List Access → Type 0) (on : More w d0 d head pieces parts go)
+    (parts : List Part) (go : List ℕ → List Access → Type 0) (on : More w d0 d t head pieces parts go)
     (so_far : List ℕ) (o : Option Spot) (b log : List Access) → Agrees w d0 b d → known w.kind b
     ≡ Has head pieces (part ∷ parts) so_far → spot w.regions (part.address + part.plus) part.length
-    ≡ o → PartAt w go d t part so_far o log → Each (Comes w d0) b log
+    ≡ o → PartAt w go d t part so_far o log → Each (Comes w d0 t.keeps) b log
 part_at w d0 d t head pieces part parts go on so_far None b log is read e h =
     breaks_each w d0 d t _ b log is h
 part_at w d0 d t head pieces part parts go on so_far (Some at) b log is read e h =
-    subst (λ (l : List Access). Each (Comes w d0) b l) (sym h.asks) (
+    subst (λ (l : List Access). Each (Comes w d0 t.keeps) b l) (sym h.asks) (
       (
         subst (λ (k : Known). CopiesNext w.regions (ring_after (ring_of w.kind d0) b).table k at
             h.bytes) (sym read) (record { place = e; long = h.long }),
@@ -154,19 +155,19 @@ part_at w d0 d t head pieces part parts go on so_far (Some at) b log is read e h
 
 part_by : (w : Whole) (d0 d : Device) (t : Tally) (head : ℕ) (pieces : List Piece) (part : Part)
     (parts : List Part) (go : List ℕ → List Access → Type 0)
-    (on : More w d0 d head pieces parts go) (so_far : List ℕ) (fits : Bool)
+    (on : More w d0 d t head pieces parts go) (so_far : List ℕ) (fits : Bool)
     (b log : List Access) → Agrees w d0 b d → known w.kind b ≡ Has head pieces (part ∷ parts) so_far
-    → PartBy fits w go d t part so_far log → Each (Comes w d0) b log
+    → PartBy fits w go d t part so_far log → Each (Comes w d0 t.keeps) b log
 part_by w d0 d t head pieces part parts go on so_far true b log is read h =
     part_at w d0 d t head pieces part parts go on so_far _ b log is read refl h
 part_by w d0 d t head pieces part parts go on so_far false b log is read h =
     breaks_each w d0 d t _ b log is h
 
 copies_each : (w : Whole) (d0 d : Device) (t : Tally) (head : ℕ) (pieces : List Piece)
-    (served : List ℕ → List Access → Type 0) (on : Served w d0 d head pieces served)
+    (served : List ℕ → List Access → Type 0) (on : Served w d0 d t head pieces served)
     (parts : List Part) (so_far : List ℕ) (b log : List Access) → Agrees w d0 b d →
     known w.kind b ≡ Has head pieces parts so_far → CopiesParts w served d t parts so_far log →
-    Each (Comes w d0) b log
+    Each (Comes w d0 t.keeps) b log
 copies_each w d0 d t head pieces served on [] so_far b log is read h = on so_far b log is read h
 copies_each w d0 d t head pieces served on (part ∷ parts) so_far b log is read h =
     part_by w d0 d t head pieces part parts (CopiesParts w served d t parts)
@@ -186,7 +187,7 @@ begun_of w kind head pieces b e begun =
 copies_by : (w : Whole) (d0 : Device) (next : Then) (on : After w d0 next) (d : Device)
     (t : Tally) (head : ℕ) (pieces : List Piece) (len : Result ℕ ChainFault)
     (b log : List Access) → Agrees w d0 b d → known w.kind b ≡ Has head pieces (all_parts pieces) []
-    → CopiesBy len w next d t head pieces log → Each (Comes w d0) b log
+    → CopiesBy len w next d t head pieces log → Each (Comes w d0 t.keeps) b log
 copies_by w d0 next on d t head pieces (Err fault) b log is read h =
     breaks_each w d0 d t _ b log is h
 copies_by w d0 next on d t head pieces (Ok n) b log is read h =
@@ -209,7 +210,7 @@ report_avail w d d2 e h = subst (λ (k : Kind). (ring_of k d2).avail ≡ (ring_o
 pub pieces_each : (w : Whole) (d0 : Device) (kind : Kind) (e : w.kind ≡ kind) (next : Then)
     (on : After w d0 next) (d : Device) (t : Tally) (head : ℕ) (pieces : List Piece)
     (b log : List Access) → Agrees w d0 b d → Begun w head pieces b →
-    ServesPieces kind w next d t head pieces log → Each (Comes w d0) b log
+    ServesPieces kind w next d t head pieces log → Each (Comes w d0 t.keeps) b log
 pieces_each w d0 Inflate e next on d t head pieces b log is begun h = copies_by w d0 next
     on d t head pieces (request_length pieces) b log is (begun_of w Inflate head pieces b e begun) h
 pieces_each w d0 Deflate e next on d t head pieces b log is begun h = copies_by w d0 next

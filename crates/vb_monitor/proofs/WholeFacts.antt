@@ -13,10 +13,10 @@ use Rattle.vb_monitor.proofs.TurnLaws.{reads_in_turn, tells_in_turn, writes_used
 use Rattle.vb_monitor.proofs.Samples.{used_index, flags, given, budget, outcome, one_page}
 
 -- the device once the chain was taken, and once it was given back
-abbrev taken : Device
+abbrev pub taken : Device
 taken = with_one_taken Inflate ready
 
-abbrev used : Device
+abbrev pub used : Device
 used = after_use Inflate taken
 
 -- ---- what it does
@@ -27,7 +27,7 @@ log = index ∷ Acquire ∷ entry ∷ descriptor ∷ part ∷ pages ∷ discard 
 abbrev tells_5 : Tell (page_5 ∷ []) (5 ∷ [])
 tells_5 = (5 ∷ [], ([], (record { whole = refl; grows = (5, ([], (refl, refl))) }, (tt, refl))))
 
-names_5 : NamesBy Inflate number 256 (page_5 ∷ []) ready taken (Ok one_page)
+pub names_5 : NamesBy Inflate number 256 (page_5 ∷ []) ready taken (Ok one_page)
 unfolding numbers_of lib.Count.ones
 names_5 = record {
   denied = λ why e. absurd cc;

@@ -1,6 +1,7 @@
 -- What is done for a chain whose pages or figures are known: they are told, pages that were given
 -- up are discarded, and then the chain is given back (VIRTIO 1.1, 2.6.8 and 5.5.6).
-use Rattle.std.specs.Prelude.{◌≡◌, ℕ, ◌+◌, ◌-◌, Bool, true, false, List, [], ◌∷◌, ◌++◌, map, take}
+use Rattle.std.specs.Prelude.{◌≡◌, ℕ, ◌+◌, ◌-◌, Bool, true, false, ◌||◌, List, [], ◌∷◌, ◌++◌}
+use Rattle.std.specs.Prelude.{map, take}
 use Rattle.std.specs.Prelude.{Option, Some, None, Result, Ok, Err}
 use Rattle.vb_chain.specs.declared.fault.ChainFault.TheVariants.{OutOfRam}
 use Rattle.vb_core.specs.declared.kinds.Kind.{Kind}
@@ -79,10 +80,24 @@ GivesBack w next d tally head log =
 
 -- ---- discards
 
--- What is to be discarded, of a kind's runs: what a deflate asks back isn't, nor what a report
--- names where the pages of reports are kept.
+-- The pages that a kind's chains give up are kept: by a notice that keeps all pages, or, where the
+-- device keeps the pages of reports, those of reports. A deflate gives none up.
+abbrev pub is_kept : Kind → Bool → Bool → Bool
+is_kept Inflate all reports = all
+is_kept Deflate all reports = false
+is_kept Statistics all reports = false
+is_kept Report all reports = all || reports
+
+-- Of so many pages so many are kept.
+abbrev pub kept_pages : Bool → ℕ → ℕ
+kept_pages true pages = pages
+kept_pages false pages = 0
+
+-- What is to be discarded, of a kind's runs, where these are kept or not: what a deflate asks back
+-- isn't.
 abbrev pub cuts_for : Kind → Bool → List Region → List Run → List Cut
-cuts_for Inflate kept regions runs = cuts_of regions runs
+cuts_for Inflate true regions runs = []
+cuts_for Inflate false regions runs = cuts_of regions runs
 cuts_for Deflate kept regions runs = []
 cuts_for Statistics kept regions runs = []
 cuts_for Report true regions runs = []
@@ -95,13 +110,13 @@ pub record DiscardsThen (w : Whole) (next : Then) (d : Device) (tally : Tally) (
   pub asks : log ≡ map Discard cuts ++ rest
   pub gives_back : GivesBack w next d tally head rest
 
--- The pages are told, then discarded, if they may be.
+-- The pages are told, then discarded unless they are kept.
 pub record TellsThen (w : Whole) (next : Then) (d : Device) (tally : Tally) (head : ℕ)
     (runs : List Run) (named : Named) (log : List Access) : Type 0 where
   pub rest : List Access
   pub asks : log ≡ TellPages w.kind runs named ∷ rest
   pub discards : DiscardsThen w next d tally head
-      (cuts_for w.kind (keeps_reports d) w.regions runs) rest
+      (cuts_for w.kind (is_kept w.kind tally.keeps (keeps_reports d)) w.regions runs) rest
 
 -- So many pages fewer may be named yet.
 abbrev pub spent : ℕ → Tally → Tally

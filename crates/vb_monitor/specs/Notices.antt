@@ -127,8 +127,13 @@ Looks n w d tally log = LooksBy (queue_denial w.kind d) w (TakesNext n w d tally
 
 -- Nothing was served yet, and so much may be.
 abbrev pub fresh : Budget → Tally
-fresh budget =
-    record { chains = budget.chains; pages = budget.pages; given = false; held = None }
+fresh budget = record {
+  chains = budget.chains;
+  pages = budget.pages;
+  keeps = budget.keeps;
+  given = false;
+  held = None;
+}
 
 -- The queue of a kind is served, where no buffer of statistics is held.
 abbrev pub Serves : List Region → Kind → Budget → Device → Device → Outcome → List Access → Type 0
@@ -149,4 +154,4 @@ AsksStatistics regions head d1 d2 outcome log =
       device = d2;
       outcome = outcome;
     }) d tally None false false rest)) d1
-    (fresh (record { chains = 0; pages = 0 })) head log
+    (fresh (record { chains = 0; pages = 0; keeps = false })) head log

@@ -42,9 +42,9 @@ look_place regions kind head d =
     && is_some (used_spots regions (used_entry (ring_of kind d) head))
     then spot regions ((ring_of kind d).avail + 2) 2 else None
 
--- What a kind's chains name is discarded, where its reports' pages are kept or not.
+-- What a kind's chains name is discarded, where it is kept or not.
 abbrev pub is_discarded : Kind → Bool → Bool
-is_discarded Inflate kept = true
+is_discarded Inflate kept = not kept
 is_discarded Deflate kept = false
 is_discarded Statistics kept = false
 is_discarded Report kept = not kept

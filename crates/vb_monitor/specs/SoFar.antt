@@ -109,8 +109,8 @@ abbrev pub without_first : List Cut → List Cut
 without_first [] = []
 without_first (cut ∷ cuts) = cuts
 
--- The parts of the pages that were told last that are still to be discarded, where the pages of
--- reports are kept, or not.
+-- The parts of the pages that were told last that are still to be discarded, where pages are kept,
+-- or not.
 abbrev pub left : Bool → List Region → List Access → List Cut
 left kept regions [] = []
 left kept regions (ReadWord at answer ∷ xs) = left kept regions xs

@@ -28,6 +28,7 @@ use Rattle.vb_monitor.specs.declared.cuts.Cut.{Cut}
 use Rattle.vb_monitor.specs.Accesses.{Access, ReadWord, CopyBytes, Acquire, Release, Full}
 use Rattle.vb_monitor.specs.Accesses.{TellPages, TellFigures, Discard, WriteNumber, WriteWord}
 use Rattle.vb_monitor.specs.Regions.{spot}
+use Rattle.vb_monitor.specs.Giving.{is_kept}
 use Rattle.vb_monitor.specs.Notices.{entry_offset}
 use Rattle.vb_monitor.specs.SoFar.{Known, Unknown, Walks, Has, known, ring_after, left}
 
@@ -164,23 +165,23 @@ IsNext cut [] = ⊥
 IsNext cut (next ∷ others) = cut ≡ next
 
 -- Pages and figures are told of what was copied, and of pages that were told those parts are
--- discarded that may be, in their order; all of them before an element is written. None is of a
--- report whose pages are kept.
-abbrev pub TellsInTurn : List Region → Kind → Device → List Access → Access → Type 0
-TellsInTurn regions kind d before (TellPages of runs named) =
+-- discarded that may be, in their order; all of them before an element is written. Where a notice
+-- keeps all pages none is, and none is of a report whose pages the device keeps.
+abbrev pub TellsInTurn : List Region → Kind → Bool → Device → List Access → Access → Type 0
+TellsInTurn regions kind all d before (TellPages of runs named) =
     (of ≡ kind) × TellsOf kind d.settings (known kind before) runs named
-TellsInTurn regions kind d before (TellFigures figures) =
+TellsInTurn regions kind all d before (TellFigures figures) =
     (kind ≡ Statistics) × FiguresOf (known kind before) figures
-TellsInTurn regions kind d before (Discard cut) =
-    IsNext cut (left (keeps_reports d) regions before)
-TellsInTurn regions kind d before (WriteNumber at number) =
-    left (keeps_reports d) regions before ≡ []
-TellsInTurn regions kind d before (ReadWord at answer) = Unit {0}
-TellsInTurn regions kind d before (CopyBytes at answer) = Unit {0}
-TellsInTurn regions kind d before Acquire = Unit {0}
-TellsInTurn regions kind d before Release = Unit {0}
-TellsInTurn regions kind d before Full = Unit {0}
-TellsInTurn regions kind d before (WriteWord at word) = Unit {0}
+TellsInTurn regions kind all d before (Discard cut) =
+    IsNext cut (left (is_kept kind all (keeps_reports d)) regions before)
+TellsInTurn regions kind all d before (WriteNumber at number) =
+    left (is_kept kind all (keeps_reports d)) regions before ≡ []
+TellsInTurn regions kind all d before (ReadWord at answer) = Unit {0}
+TellsInTurn regions kind all d before (CopyBytes at answer) = Unit {0}
+TellsInTurn regions kind all d before Acquire = Unit {0}
+TellsInTurn regions kind all d before Release = Unit {0}
+TellsInTurn regions kind all d before Full = Unit {0}
+TellsInTurn regions kind all d before (WriteWord at word) = Unit {0}
 
 -- ---- what is written
 

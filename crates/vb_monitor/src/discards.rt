@@ -1,6 +1,6 @@
 //! The discards of a chain's runs, part by part.
 
-ghost use Rattle.std.specs.Prelude.{◌≡◌, ◌≤◌, ℕ, List, take, drop};
+ghost use Rattle.std.specs.Prelude.{◌≡◌, ◌≤◌, ℕ, true, false, List, [], take, drop};
 ghost use Rattle.vb_core.specs.declared.next.ChainPiece.{ChainPiece};
 ghost use Rattle.vb_core.specs.declared.runs.Run.{Run};
 ghost use Rattle.vb_core.specs.declared.statistics.Statistic.{Statistic};
@@ -9,7 +9,9 @@ ghost use Rattle.vb_monitor.specs.declared.outcome.Outcome.{Outcome};
 ghost use Rattle.vb_monitor.specs.Accesses.{Access};
 ghost use Rattle.vb_monitor.specs.Regions.{cuts_of};
 ghost use Rattle.vb_core.specs.Config.{keeps_reports};
-ghost use Rattle.vb_monitor.specs.Giving.{cuts_for, DiscardsThen};
+ghost use Rattle.vb_monitor.specs.declared.regions.Region.{Region};
+ghost use Rattle.vb_monitor.specs.Giving.{cuts_for, is_kept, kept_pages, DiscardsThen};
+ghost use Rattle.vb_monitor.specs.Served.{is_discarded};
 ghost use Rattle.vb_monitor.specs.Machine.{Fits, stage, Ahead, whole, room_of, next_chain};
 ghost use Rattle.vb_monitor.specs.Machine.{cuts_behind};
 ghost use Rattle.vb_monitor.specs.Left.{left, of_chains, parts_left};
@@ -28,6 +30,47 @@ pub fn first_runs(runs: &[Run; MAX_RUNS], count: usize) -> &[Run]
     ensures { result.now ≡ take count runs.now }
 {
     &runs[..count.min(MAX_RUNS)]
+}
+
+/// Whether the pages that a kind's chains name are kept, by a notice that keeps all pages or
+/// doesn't.
+#[inline(always)]
+fn is_kept(device: &Device, kind: Kind, keeps: bool) -> bool
+    ensures { result ≡ is_kept kind keeps (keeps_reports device.now) }
+{
+    match kind {
+        Kind::Inflate => keeps,
+        Kind::Report => keeps || device.keeps_reports(),
+        Kind::Deflate | Kind::Statistics => false,
+    }
+}
+
+/// How many of so many pages that a kind's chains name are kept, by such a notice.
+#[inline(always)]
+pub fn kept_pages(device: &Device, kind: Kind, keeps: bool, pages: u32) -> u32
+    ensures { result ≡ kept_pages (is_kept kind keeps (keeps_reports device.now)) pages }
+{
+    if is_kept(device, kind, keeps) {
+        pages
+    } else {
+        0
+    }
+}
+
+/// Whether what a kind's chains name is discarded, by such a notice.
+#[inline(always)]
+pub(crate) fn discards(device: &Device, kind: Kind, keeps: bool) -> bool
+    ensures value { result ≡ is_discarded kind (is_kept kind keeps (keeps_reports device.now)) }
+    ensures yes { result ≡ true → (regions : List Region) (runs : List Run) →
+        cuts_for kind (is_kept kind keeps (keeps_reports device.now)) regions runs ≡
+        cuts_of regions runs }
+    ensures no { result ≡ false → (regions : List Region) (runs : List Run) →
+        cuts_for kind (is_kept kind keeps (keeps_reports device.now)) regions runs ≡ [] }
+{
+    match kind {
+        Kind::Inflate | Kind::Report => !is_kept(device, kind, keeps),
+        Kind::Statistics | Kind::Deflate => false,
+    }
 }
 
 /// Discards the first runs, so many, from this number on.
@@ -74,8 +117,7 @@ fn discard_on(
     }
 }
 
-/// The pages of the first runs, so many, were told. Those of a report may have to keep what is in
-/// them.
+/// The pages of the first runs, so many, were told, and are discarded unless they are kept.
 #[inline(always)]
 pub(crate) fn after_told(
     device: &mut Device,
@@ -92,21 +134,17 @@ pub(crate) fn after_told(
         (room_of pieces bytes runs.now figures) log →
         DiscardsThen (whole regions.now kind after outcome)
         (next_chain (whole regions.now kind after outcome) tally) device.old tally head
-        (cuts_for kind (keeps_reports device.old) regions.now (take count runs.now)) log }
+        (cuts_for kind (is_kept kind tally.keeps (keeps_reports device.old)) regions.now
+        (take count runs.now)) log }
     ensures fits { Fits result.phase }
     ensures stage { 1 ≤ stage result.phase }
     ensures left { left regions.now result ≤
         of_chains regions.now tally.chains + (3 + MAX_RUNS * length regions.now) }
 {
-    if kind == Kind::Report && device.keeps_reports() {
+    if !discards(device, kind, tally.keeps) {
         return give_back(device, regions, kind, tally, head);
     }
-    match kind {
-        Kind::Inflate | Kind::Report => {
-            discard_on(device, regions, kind, tally, head, count, 0, runs)
-        }
-        Kind::Deflate | Kind::Statistics => give_back(device, regions, kind, tally, head),
-    }
+    discard_on(device, regions, kind, tally, head, count, 0, runs)
 }
 
 /// A part of a run was discarded.

@@ -94,13 +94,14 @@ pub fn what_counts_is_read_once()
 /// Only pages are told that the bytes name which were copied since the chain's entry was read, or
 /// the pieces of a report. Only parts of pages that were told are discarded, each once and in
 /// order, and all of them before the chain's used element is written. None of a deflate's is, nor
-/// of a report's where the device keeps the pages of reports (VIRTIO 1.1, 5.5.6; 1.2, 5.5.4).
+/// of a report's where the device keeps the pages of reports (VIRTIO 1.1, 5.5.6; 1.2, 5.5.4), and
+/// none at all where the notice keeps all pages.
 #[tactic(auto, using(crate::proofs::TurnLaws::tells_in_turn))]
 pub fn only_named_pages_are_discarded()
     ensures { (regions : List Region) (kind : Kind) (budget : Budget) (d1 d2 : Device)
         (outcome : Outcome) (log : List Access) →
         Serves regions kind budget d1 d2 outcome log →
-        Each (TellsInTurn regions kind d1) [] log }
+        Each (TellsInTurn regions kind budget.keeps d1) [] log }
 {}
 
 /// Nothing is written but the next used element of the queue's ring, with the id that was read as

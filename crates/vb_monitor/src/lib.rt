@@ -33,7 +33,7 @@ mod walk;
 pub use balloon::{Balloon, may_tell};
 pub use copying::after_part;
 pub use cuts::{Cut, NextCut};
-pub use discards::first_runs;
+pub use discards::{first_runs, kept_pages};
 pub use ends::end;
 pub use filling::{Filled, fill};
 pub use giving::UsedSpots;

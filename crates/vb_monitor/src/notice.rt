@@ -98,6 +98,7 @@ impl Notice {
         let tally = Tally {
             chains: budget.chains,
             pages: budget.pages,
+            keeps: budget.keeps,
             given: false,
             held: None,
         };
@@ -117,6 +118,7 @@ impl Notice {
         let tally = Tally {
             chains: 0,
             pages: 0,
+            keeps: false,
             given: false,
             held: None,
         };

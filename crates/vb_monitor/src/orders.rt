@@ -5,6 +5,8 @@ ghost use Rattle.vb_monitor.specs.declared.cuts.NextCut.{NextCut};
 ghost use Rattle.vb_core.specs.declared.next.ChainPiece.{ChainPiece};
 ghost use Rattle.vb_core.specs.declared.statistics.Statistic.{Statistic};
 ghost use Rattle.vb_core.specs.declared.device.Device.{Device};
+ghost use Rattle.vb_core.specs.Config.{keeps_reports};
+ghost use Rattle.vb_monitor.specs.Giving.{is_kept, kept_pages};
 ghost use Rattle.vb_monitor.specs.declared.orders.TheConstants.{MAX_CUTS};
 ghost use Rattle.vb_monitor.specs.declared.outcome.Outcome.{Outcome};
 ghost use Rattle.vb_monitor.specs.Accesses.{Access, Discard};
@@ -15,7 +17,7 @@ ghost use Rattle.vb_monitor.specs.declared.room.TheConstants.{MAX_RUNS, MAX_FIGU
 ghost use Rattle.vb_monitor.specs.Orders.{cuts_left, telling, giving, at_once, HasRoom, FillsList};
 
 use crate::cuts::NextCut;
-use crate::discards::{after_told, first_runs};
+use crate::discards::{after_told, first_runs, kept_pages};
 use crate::ends::end;
 use crate::filling::fill;
 use crate::giving::give_back;
@@ -61,6 +63,8 @@ pub struct Orders {
     pub figures: u32,
     /// How many parts are discarded.
     pub cuts: u32,
+    /// How many of the pages are kept.
+    pub kept: u32,
     /// What is written of a used chain.
     pub used: Used,
 }
@@ -93,12 +97,16 @@ fn tell(
     ensures fits { Fits step.new.phase }
     ensures stage { 1 ≤ stage step.new.phase }
     ensures runs { result ≡ Pages → orders.new.named.runs ≤ MAX_RUNS }
+    ensures kept { result ≡ Pages → orders.new.kept ≡
+        kept_pages (is_kept kind step.old.tally.keeps (keeps_reports device.old))
+        orders.new.named.pages }
     ensures figures { result ≡ Figures → orders.new.figures ≤ MAX_FIGURES }
 {
     let tally = step.tally;
     match step.phase {
         Phase::TellsPages { head, named } => {
             orders.named = named;
+            orders.kept = kept_pages(device, kind, tally.keeps, named.pages);
             *step = after_told(device, regions, kind, tally, head, named.runs, runs);
             Told::Pages
         }
@@ -274,6 +282,9 @@ impl Notice {
             (at_once result self.old.kind orders.new cuts.new runs.now figures rest) }
         ensures fits { Fits self.new.step.phase }
         ensures room { HasRoom result orders.new }
+        ensures kept { result.told ≡ Pages → orders.new.kept ≡ kept_pages
+            (is_kept self.old.kind self.old.step.tally.keeps (keeps_reports device.old))
+            orders.new.named.pages }
         ensures full { FillsList self.new.step.phase orders.new }
         ensures waits { waits self.new.step.phase ≡ true }
     {

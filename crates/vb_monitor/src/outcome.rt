@@ -10,6 +10,8 @@ pub struct Budget {
     pub chains: u32,
     /// No further chain once so many pages were named.
     pub pages: u32,
+    /// No page is discarded: what is named is told, and stays.
+    pub keeps: bool,
 }
 
 /// What a notice may serve yet, and what it did.
@@ -19,6 +21,8 @@ pub struct Tally {
     pub chains: u32,
     /// So many pages may be named before another chain is served.
     pub pages: u32,
+    /// No page is discarded.
+    pub keeps: bool,
     /// A chain was given back.
     pub given: bool,
     /// The head of the buffer of statistics that was taken, and is held until it is asked for.

@@ -18,18 +18,18 @@ ghost use Rattle.vb_monitor.specs.declared.outcome.Tally.{Tally};
 ghost use Rattle.vb_monitor.specs.declared.outcome.Outcome.{Outcome};
 ghost use Rattle.vb_monitor.specs.declared.step.Phase.TheVariants.{AwaitsIndex};
 ghost use Rattle.vb_monitor.specs.Accesses.{Access};
-ghost use Rattle.vb_monitor.specs.Giving.{GivesBack, cuts_for, with_given};
+ghost use Rattle.vb_monitor.specs.Giving.{GivesBack, cuts_for, is_kept, with_given};
 ghost use Rattle.vb_monitor.specs.Machine.{Room, AheadAt, whole, next_chain};
 ghost use Rattle.vb_monitor.specs.Orders.{cuts_left, giving};
 ghost use Rattle.vb_monitor.specs.Pieces.{all_parts};
 ghost use Rattle.vb_core.specs.Next.{pieces_in};
 ghost use Rattle.vb_monitor.specs.Machine.{behind_part};
 ghost use Rattle.vb_monitor.specs.Served.{look_place, is_last, none_left, looks_again};
-ghost use Rattle.vb_monitor.specs.Served.{is_discarded, few_parts};
+ghost use Rattle.vb_monitor.specs.Served.{few_parts};
 
 use crate::copying::first_bytes;
 use crate::cuts::{first_cut, put_only};
-use crate::discards::first_runs;
+use crate::discards::{discards, first_runs};
 use crate::filling::{Filled, fill};
 use crate::giving::put_spots;
 use crate::orders::MAX_CUTS;
@@ -85,21 +85,6 @@ fn looks_again(kind: Kind) -> bool
     }
 }
 
-/// Whether what a kind's chains name is discarded.
-fn discards(device: &Device, kind: Kind) -> bool
-    ensures value { result ≡ is_discarded kind (keeps_reports device.now) }
-    ensures yes { result ≡ true → (regions : List Region) (runs : List Run) →
-        cuts_for kind (keeps_reports device.now) regions runs ≡ cuts_of regions runs }
-    ensures no { result ≡ false → (regions : List Region) (runs : List Run) →
-        cuts_for kind (keeps_reports device.now) regions runs ≡ [] }
-{
-    match kind {
-        Kind::Inflate => true,
-        Kind::Report => !device.keeps_reports(),
-        Kind::Deflate | Kind::Statistics => false,
-    }
-}
-
 /// Names the pages of a request, whose bytes are the first ones, so many.
 #[tactic(auto, using(crate::proofs::ServedLemmas::named_steps))]
 pub fn name_copied(
@@ -118,23 +103,25 @@ pub fn name_copied(
 }
 
 /// Puts the parts of the first runs, so many, into the list, as many as have room, where they are
-/// to be discarded.
+/// to be discarded, by a notice that keeps all pages or doesn't.
 #[inline(always)]
 pub fn fill_named(
     device: &Device,
     regions: &[Region],
     kind: Kind,
+    keeps: bool,
     runs: &[Run; MAX_RUNS],
     count: u32,
     cuts: &mut [Cut; MAX_CUTS],
 ) -> Filled
     ensures few { result.count ≤ MAX_CUTS }
     ensures full { (x : NextCut) → result.left ≡ Some x → result.count ≡ MAX_CUTS }
-    ensures parts { cuts_for kind (keeps_reports device.now) regions.now (take count runs.now) ≡
-        take result.count cuts.new ++ cuts_left regions.now (take count runs.now) result.left }
+    ensures parts { cuts_for kind (is_kept kind keeps (keeps_reports device.now)) regions.now
+        (take count runs.now) ≡ take result.count cuts.new ++ cuts_left regions.now
+        (take count runs.now) result.left }
 {
     let named = first_runs(runs, count as usize);
-    if !discards(device, kind) {
+    if !discards(device, kind, keeps) {
         return Filled {
             count: 0,
             left: None,
@@ -157,17 +144,19 @@ pub fn fill_few(
     device: &Device,
     regions: &[Region],
     kind: Kind,
+    keeps: bool,
     runs: &[Run; MAX_RUNS],
     count: u32,
     cuts: &mut [Cut; MAX_CUTS],
 ) -> Option<u32>
-    ensures value { result ≡ few_parts kind (keeps_reports device.now) regions.now
-        (take count runs.now) }
+    ensures value { result ≡ few_parts kind (is_kept kind keeps (keeps_reports device.now))
+        regions.now (take count runs.now) }
     ensures few { IfSome result (λ n. n ≤ MAX_CUTS) }
-    ensures parts { IfSome result (λ n. cuts_for kind (keeps_reports device.now) regions.now
-        (take count runs.now) ≡ take n cuts.new) }
+    ensures parts { IfSome result (λ n. cuts_for kind
+        (is_kept kind keeps (keeps_reports device.now)) regions.now (take count runs.now) ≡
+        take n cuts.new) }
 {
-    if !discards(device, kind) {
+    if !discards(device, kind, keeps) {
         return Some(0);
     }
     let named = first_runs(runs, count as usize);

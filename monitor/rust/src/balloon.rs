@@ -15,6 +15,8 @@ pub struct Balloon {
     pub most_chains: u32,
     /// A notice begins no further chain after so many pages: any number at first.
     pub most_pages: u32,
+    /// No page is discarded, as under a passed-through device: what is named is told, and stays. Not so at first.
+    pub keeps_pages: bool,
     /// The set of the pages in the balloon, where it has words: page p is bit p % 64 of word p / 64. Make it of zeros, for all
     /// pages ([`Balloon::words_of_set`]), before DRIVER_OK; a reset empties it. Save it beside the state.
     pub ballooned: Vec<u64>,
@@ -51,6 +53,7 @@ impl Balloon {
             room: Box::new(raw::Room::new()),
             most_chains: raw::MAX_QUEUE_SIZE,
             most_pages: u32::MAX,
+            keeps_pages: false,
             ballooned: Vec::new(),
         }
     }
@@ -227,7 +230,7 @@ impl Balloon {
 
     /// The driver kicked this queue: serves what stands there, at most as much as a notice may.
     pub fn notify(&mut self, memory: &dyn LiveMemory, kind: Kind, monitor: &mut dyn Monitor) -> Served {
-        let budget = (self.most_chains, self.most_pages);
+        let budget = (self.most_chains, self.most_pages, self.keeps_pages);
         memory.regions(&mut self.regions);
         raw::begin(&mut self.notice, &mut self.state.0, &self.regions, &mut self.room, kind as u32, budget);
         self.finish(memory, monitor)

@@ -164,9 +164,7 @@ impl Hands<'_> {
         let runs = &room.runs[..notice.runs as usize];
         self.served.pages += u64::from(notice.pages);
         self.served.skipped += u64::from(notice.skipped);
-        if notice.kind == Kind::Report as u32 && self.balloon.keeps_reports() {
-            self.served.kept += u64::from(notice.pages);
-        }
+        self.served.kept += u64::from(notice.kept);
         if !self.ballooned.is_empty() {
             let marked = raw::mark(notice.kind, runs, self.ballooned);
             self.served.marked += marked.pages;

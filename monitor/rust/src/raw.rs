@@ -93,6 +93,7 @@ extern "C" {
         kind: u32,
         chains: u32,
         pages: u32,
+        keeps: u32,
     ) -> u32;
     fn vb_ask(
         notice: *mut Notice,
@@ -131,17 +132,18 @@ pub fn large_pages(device: &Device, region: &Region, page_size: u64, part: &Cut,
     unsafe { vb_large_pages(device, region, page_size, part, set.as_ptr(), set.len()) }
 }
 
-/// Begins a look at a queue, for so many chains and pages at most.
+/// Begins a look at a queue, for so many chains and pages at most, and to keep all pages or not.
 pub fn begin(
     notice: &mut Notice,
     balloon: &mut Balloon,
     regions: &[Region],
     room: &mut Room,
     kind: u32,
-    budget: (u32, u32),
+    budget: (u32, u32, bool),
 ) {
+    let (chains, pages, keeps) = budget;
     // SAFETY: the pointers are of `&mut`, and of a slice with its length.
-    unsafe { vb_begin(notice, balloon, regions.as_ptr(), regions.len(), room, kind, budget.0, budget.1) };
+    unsafe { vb_begin(notice, balloon, regions.as_ptr(), regions.len(), room, kind, chains, pages, keeps.into()) };
 }
 
 /// Begins to give the held buffer of statistics back.

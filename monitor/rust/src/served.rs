@@ -29,7 +29,8 @@ pub struct Served {
     pub unmarked: u64,
     /// Pages to discard that lie in no region.
     pub in_holes: u64,
-    /// Pages that the machine failed to discard, and those of reports that keep what is in them
+    /// Pages that the machine failed to discard, those of a balloon that keeps its pages
+    /// ([`Balloon::keeps_pages`](crate::Balloon::keeps_pages)), and those of reports that keep what is in them
     /// ([`Balloon::keeps_reports`](crate::Balloon::keeps_reports)).
     pub kept: u64,
     /// Why it failed last: the system's number.

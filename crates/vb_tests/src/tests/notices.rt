@@ -114,22 +114,25 @@ const PAGE_5: Cut = Cut {
     length: 0x1000,
 };
 
-/// A notice of the request of `put_request`: what it is, how many chains it may serve, whether an
-/// interrupt is wanted and more stands there at its end, and its accesses.
+/// A notice of the request of `put_request`: what it is, how many chains it may serve, whether it
+/// keeps all pages, whether an interrupt is wanted and more stands there at its end, and its
+/// accesses.
 struct Case {
     name: &'static str,
     kind: Kind,
     chains: u32,
+    keeps: bool,
     interrupt: bool,
     more: bool,
     accesses: &'static [Row],
 }
 
-static CASES: [Case; 3] = [
+static CASES: [Case; 4] = [
     Case {
         name: "an inflate",
         kind: Kind::Inflate,
         chains: 8,
+        keeps: false,
         interrupt: true,
         more: false,
         accesses: &[
@@ -152,9 +155,33 @@ static CASES: [Case; 3] = [
         ],
     },
     Case {
+        name: "an inflate whose pages are kept",
+        kind: Kind::Inflate,
+        chains: 8,
+        keeps: true,
+        interrupt: true,
+        more: false,
+        accesses: &[
+            Row::Word(INDEX, 1),
+            Row::Acquire,
+            Row::Word(ENTRY, 0),
+            Row::Bytes(TABLE, 16),
+            Row::Bytes(REQUEST, 16),
+            Row::Pages(2, 4),
+            Row::Number(USED_ID, 0),
+            Row::Number(USED_LENGTH, 0),
+            Row::Release,
+            Row::Written(USED_INDEX, 1),
+            Row::Word(INDEX, 1),
+            Row::Full,
+            Row::Word(FLAGS, 0),
+        ],
+    },
+    Case {
         name: "a deflate, which discards nothing",
         kind: Kind::Deflate,
         chains: 8,
+        keeps: false,
         interrupt: true,
         more: false,
         accesses: &[
@@ -177,6 +204,7 @@ static CASES: [Case; 3] = [
         name: "a budget of no chain, behind which more stands there",
         kind: Kind::Inflate,
         chains: 0,
+        keeps: false,
         interrupt: false,
         more: true,
         accesses: &[Row::Word(INDEX, 1)],
@@ -198,8 +226,8 @@ fn put_request(bytes: &mut [u8]) {
     bytes[0x40c] = 5;
 }
 
-/// Serves that request on a queue of this kind.
-fn serve_request<R: Abort>(memory: &mut Scribbled<R>, kind: Kind, chains: u32) -> Outcome {
+/// Serves that request as the case has it.
+fn serve_request<R: Abort>(memory: &mut Scribbled<R>, case: &Case) -> Outcome {
     let mut device = Device::new(SETTINGS);
     device.features = SETTINGS.offered;
     device.status = 15;
@@ -210,8 +238,12 @@ fn serve_request<R: Abort>(memory: &mut Scribbled<R>, kind: Kind, chains: u32) -
         memory,
         &mut device,
         &REGIONS,
-        kind,
-        Budget { chains, pages: 256 },
+        case.kind,
+        Budget {
+            chains: case.chains,
+            pages: 256,
+            keeps: case.keeps,
+        },
         &mut [NO_PIECE; MAX_PIECES],
         &mut [0; MAX_BYTES],
         &mut [Run::NONE; MAX_RUNS],
@@ -247,7 +279,7 @@ fn expect<R: Abort>(rt: &R, alloc: Global, case: &Case) {
         turn: 0,
         trace: Vec::new(alloc),
     };
-    let outcome = serve_request(&mut memory, case.kind, case.chains);
+    let outcome = serve_request(&mut memory, case);
     let name = case.name;
     assert!(rt;
         is_end(outcome, case.interrupt, case.more),

@@ -42,6 +42,7 @@ pub struct Struct {
     places: [vb_balloon::Region; MOST_REGIONS],
     most_chains: u32,
     most_pages: u32,
+    keeps_pages: bool,
     context: *mut c_void,
     on_pages: Option<OnPages>,
     on_statistics: Option<OnStatistics>,
@@ -173,6 +174,7 @@ impl Struct {
         let mut balloon = Balloon::restore(self.state);
         balloon.most_chains = self.most_chains;
         balloon.most_pages = self.most_pages;
+        balloon.keeps_pages = self.keeps_pages;
         if !self.ballooned.is_null() {
             balloon.ballooned = std::slice::from_raw_parts(self.ballooned, self.ballooned_words).to_vec();
         }

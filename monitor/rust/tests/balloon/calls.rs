@@ -102,6 +102,29 @@ fn configuration_and_places() {
     assert!(Balloon::new(&guest.memory, Settings::default()).is_err());
 }
 
+/// What is named is told and marked, and stays, as long as the balloon keeps its pages; but what is asked back isn't kept.
+#[test]
+fn pages_are_kept() {
+    let mut guest = Guest::new();
+    let mut balloon = guest.ready(settings());
+    balloon.keeps_pages = true;
+    guest.put(700 << 12, &[7; 2 << 12]);
+    for (kind, kept, discarded) in [(Kind::Inflate, 2, 0), (Kind::Report, 2, 0), (Kind::Deflate, 0, 0), (Kind::Inflate, 0, 2)] {
+        balloon.keeps_pages = discarded == 0;
+        if kind == Kind::Report {
+            guest.describe(kind, 0, 700 << 12, 2 << 12, 2, 0);
+            guest.publish(kind, 0);
+        } else {
+            guest.name(kind, &[700, 701]);
+        }
+        let mut told = Told::default();
+        let served = balloon.notify(&guest.memory, kind, &mut told);
+        assert_eq!((served.pages, served.kept, served.discarded, served.in_holes), (2, kept, discarded, 0));
+        assert_eq!(told.runs, vec![(kind, vec![Run { first: 700, count: 2 }])]);
+        assert_eq!(guest.byte(701 << 12), if discarded == 0 { 7 } else { 0 });
+    }
+}
+
 /// What a driver that poisons its free pages reports is told and given back, and keeps its bytes.
 #[test]
 fn reports_keep_what_is_poisoned() {

@@ -10,6 +10,8 @@ use Rattle.vb_monitor.specs.{Machine.next_chain, Orders.{at_once, giving, HasRoo
 use Rattle.vb_c.proofs.{ServedLemmas.told_given, UsualLemmas.says_notice}
 use Rattle.vb_c.specs.{Codes.kind_of_code, Notices.{phase_of, tally_of, asked_bits, answer_bits}}
 use Rattle.vb_c.specs.{Served.telling_pages, Serving.HandsOver, declared.notice.VbNotice.VbNotice}
+use Rattle.vb_core.specs.Config.{keeps_reports}
+use Rattle.vb_monitor.specs.Giving.{is_kept, kept_pages}
 use Rattle.vb_c.proofs.requests.give_named.Goals as goal
 
 pub returns-in-Some-clause-hands : goal.returns-in-Some-clause-hands
@@ -53,6 +55,9 @@ returns-in-Some-clause-hands c =
         figures = λ e. absurd cc;
         cuts = c.requires.room;
       });
+      kept = λ e. ap (λ (o : Orders). o.kept) orders ∙ (c.kept_pages-kept.ensures
+          ∙ sym (ap (λ (o : Orders). kept_pages (is_kept kind t.keeps
+          (keeps_reports c.args.balloon.now.device)) o.named.pages) orders));
       waits_now = refl;
       fills = record { full = λ e. absurd (grind arith) };
       fits = tt;

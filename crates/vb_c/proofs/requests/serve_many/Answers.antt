@@ -8,6 +8,8 @@ use Rattle.vb_monitor.specs.Orders.{at_once, HasRoom, FillsList}
 use Rattle.vb_c.proofs.{ServedLemmas.{told_left}, UsualLemmas.says_notice}
 use Rattle.vb_c.specs.{Codes.kind_of_code, Notices.{tally_of, asked_bits, answer_bits}}
 use Rattle.vb_c.specs.{Served.telling_pages}
+use Rattle.vb_core.specs.Config.{keeps_reports}
+use Rattle.vb_monitor.specs.Giving.{is_kept, kept_pages}
 use Rattle.vb_c.proofs.requests.serve_many.Goals as goal
 
 pub returns-in-Some-clause-hands : goal.returns-in-Some-clause-hands
@@ -50,6 +52,9 @@ returns-in-Some-clause-hands c =
         figures = λ e. absurd cc;
         cuts = c.fill_named-filled.ensures.few;
       });
+      kept = λ e. ap (λ (o : Orders). o.kept) orders ∙ (c.kept_pages-shown.ensures
+          ∙ sym (ap (λ (o : Orders). kept_pages (is_kept kind t.keeps
+          (keeps_reports c.args.balloon.now.device)) o.named.pages) orders));
       waits_now = refl;
       fills = subst (λ (o : Orders). FillsList phase o) (sym orders)
           (record { full = λ e. c.fill_named-filled.ensures.full left some });
