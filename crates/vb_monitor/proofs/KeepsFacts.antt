@@ -1,13 +1,14 @@
 -- Notices that keep all pages, worked out: what they name is told, and nothing is discarded.
-use Rattle.std.proofs.Common.{◌≡◌, refl, ap, arith, ℕ, Bool, true, false, List, [], ◌∷◌, map, Some, Ok}
+use Rattle.std.proofs.Common.{◌≡◌, refl, ap, subst, ℕ, Bool, true, false, List, [], ◌∷◌, map, None, Ok}
 use Rattle.vb_core.specs.declared.kinds.Kind.{Kind}
 use Rattle.vb_core.specs.declared.kinds.Kind.TheVariants.{Inflate, Deflate, Statistics, Report}
 use Rattle.vb_core.{specs.declared.device.Device.Device}
 use Rattle.vb_monitor.specs.declared.{cuts.Cut.Cut, outcome.{Budget.Budget, Outcome.Outcome, Tally.Tally}}
-use Rattle.vb_monitor.specs.Accesses.{Access, Acquire, Release, Full, TellPages}
-use Rattle.vb_monitor.specs.{Ends.Whole, Notices.{Serves, fresh, with_chains}, SoFar.left}
+use Rattle.vb_core.specs.declared.runs.Run.{Run}
+use Rattle.vb_monitor.specs.Accesses.{Access, ReadWord, CopyBytes, Acquire, Release, Full, TellPages, TellFigures, Discard, WriteNumber, WriteWord}
+use Rattle.vb_monitor.specs.{Ends.Whole, Notices.{Serves, fresh, with_chains}, SoFar.{left, without_first}}
 use Rattle.vb_monitor.specs.Giving.{Then, is_kept, kept_pages, cuts_for, with_given, spent, after_use, TellsThen}
-use Rattle.vb_monitor.{specs.Turns.TellsInTurn, proofs.TurnLaws.tells_in_turn}
+use Rattle.vb_monitor.{specs.Turns.{TellsInTurn, IsNext}, proofs.TurnLaws.tells_in_turn, proofs.TouchLemmas.in_order}
 use Rattle.vb_monitor.proofs.Samples.{Same, two, at, ready, tally, page_5, cut_5, one_page, pages, discard, id, used_length, used_index}
 use Rattle.vb_monitor.proofs.Samples.{index, entry, descriptor, part, number, last_descriptor, flags, given, budget, outcome}
 use Rattle.vb_monitor.proofs.WholeFacts.{taken, used, names_5}
@@ -196,7 +197,8 @@ discarded_all_the_same (d, (o, h)) =
     absurd (tells_in_turn two Inflate keeping ready d o _ h).1.1.1.1.1.1.0
 
 not_told : IsServed keeping (index ∷ Acquire ∷ entry ∷ descriptor ∷ part ∷ given) → ⊥
-not_told (d, (o, h)) = let e = h.goes_on.goes_on.goes_on.goes_on in absurd ?
+not_told (d, (o, h)) =
+    let e : false ≡ true = (in_order two Inflate keeping ready d o _ h).1.1.1.1.1.0 in absurd cc
 
 -- a notice that doesn't keep it discards it
 kept_without_need : IsServed budget (index ∷ Acquire ∷ entry ∷ descriptor ∷ part ∷ pages ∷ given) → ⊥
@@ -228,6 +230,25 @@ not_at_once : Comes Inflate false (pages ∷ []) id → ⊥
 not_at_once h = absurd cc
 
 -- nothing is left to discard of what is kept, whatever was done
+none_of_kept : (kind : Kind) (runs : List Run) → cuts_for kind true two runs ≡ []
+none_of_kept Inflate runs = refl
+none_of_kept Deflate runs = refl
+none_of_kept Statistics runs = refl
+none_of_kept Report runs = refl
+
 none_left : (log : List Access) → left true two log ≡ []
 none_left [] = refl
-none_left (x ∷ xs) = ?
+none_left (ReadWord at answer ∷ xs) = none_left xs
+none_left (CopyBytes at answer ∷ xs) = none_left xs
+none_left (Acquire ∷ xs) = none_left xs
+none_left (Release ∷ xs) = none_left xs
+none_left (Full ∷ xs) = none_left xs
+none_left (TellPages kind runs named ∷ xs) = none_of_kept kind runs
+none_left (TellFigures figures ∷ xs) = none_left xs
+none_left (Discard cut ∷ xs) = ap (λ (cuts : List Cut). without_first cuts) (none_left xs)
+none_left (WriteNumber at number ∷ xs) = none_left xs
+none_left (WriteWord at word ∷ xs) = none_left xs
+
+-- so no discard comes of a notice of inflates that keeps all pages, whatever came before
+never_discarded : (before : List Access) (cut : Cut) → Comes Inflate true before (Discard cut) → ⊥
+never_discarded before cut h = subst (λ (cuts : List Cut). IsNext cut cuts) (none_left before) h

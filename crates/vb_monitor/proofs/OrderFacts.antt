@@ -24,6 +24,7 @@ orders = record {
   named = record { runs = 1; pages = 1; skipped = 3 };
   figures = 1;
   cuts = 2;
+  kept = 0;
   used = record {
     spots = record { id = spot 8; length = spot 12; index = spot 2 };
     id = 5;
