@@ -1,8 +1,8 @@
 -- Which notices are handed over to C, and which aren't.
-use Rattle.std.proofs.Common.{◌≡◌, ◌∙◌, refl, ap, sym, arith, ℕ, ◌+◌, true, false, [], Option, Some, None}
-use Rattle.vb_core.specs.declared.kinds.Kind.TheVariants.{Inflate}
+use Rattle.std.proofs.Common.{◌≡◌, ◌∙◌, refl, ap, sym, arith, ℕ, ◌+◌, ◌*◌, Bool, true, false, [], Option, Some, None}
+use Rattle.vb_core.specs.declared.{kinds.Kind.{Kind, TheVariants.{Inflate, Deflate}}, name.Named.Named}
 use Rattle.vb_monitor.specs.declared.{regions.Spot.Spot, orders.Orders.Orders}
-use Rattle.vb_monitor.specs.declared.orders.{Told.TheVariants.Nothing, Asked.Asked}
+use Rattle.vb_monitor.specs.declared.orders.{Told.{Told, TheVariants.{Nothing, Pages, Figures}}, Asked.Asked}
 use Rattle.vb_monitor.specs.declared.{notice.Notice.Notice, step.Phase.TheVariants.AwaitsIndex}
 use Rattle.vb_monitor.specs.declared.step.Phase.TheVariants.{AwaitsEntry, AwaitsDescriptor}
 use Rattle.vb_monitor.specs.declared.step.Phase.TheVariants.{AwaitsPart, TellsPages, TellsFigures}
@@ -10,7 +10,8 @@ use Rattle.vb_monitor.specs.declared.step.Phase.TheVariants.{Discards, GivesBack
 use Rattle.vb_monitor.specs.declared.step.Phase.{TheVariants.Ended, Phase}
 use Rattle.vb_monitor.specs.{declared.balloon.Balloon.Balloon, Machine.{stage, waits, is_ended}}
 use Rattle.vb_c.specs.declared.notice.{VbNotice.VbNotice, VbRoom.VbRoom}
-use Rattle.vb_c.specs.{Notices.{tally_of, asked_bits, what_of}, Serving.{held_then, Refuses}}
+use Rattle.vb_model.specs.Tests.{one_if}
+use Rattle.vb_c.specs.{Notices.{tally_of, told_bits, asked_bits, answer_bits, what_of}, Serving.{held_then, Refuses}, Served.telling_pages}
 use Rattle.vb_c.{specs.Serving.HandsOver, proofs.Samples.{Same, two, balloon}}
 
 abbrev pub spot : Spot
@@ -109,6 +110,54 @@ buffer_lost n h =
     let noted : Same 4 (held_then h.notice balloon) = ap (λ (o : Option Notice). held_in o balloon) h.is.read in
     let e : Same 0 4 = h.held ∙ sym noted in
     omega arith
+
+-- ---- how many of the pages that are told are kept
+
+abbrev one_page : Named
+one_page = record { runs = 1; pages = 1; skipped = 0 }
+
+abbrev telling : Kind → Bool → Notice
+telling kind keeps = telling_pages kind (record (tally_of shown) { keeps = keeps }) 3 one_page
+
+-- a page is told, its chain is given back, and the index is awaited
+abbrev told : ℕ → VbNotice
+told kept = record shown {
+  what = 73;
+  orders = record none_asked { named = one_page; kept = kept };
+  given = 1;
+}
+
+abbrev bits_in : Option Notice → ℕ
+bits_in None = 0
+bits_in (Some n) = answer_bits n.step.phase
+
+tells_pages : (t : Told) (gives : Bool) (bits : ℕ) → 64 ≡ bits →
+    73 ≡ told_bits t + 0 + 8 * one_if gives + bits → t ≡ Pages
+tells_pages Nothing true bits b e = absurd (omega (arith, b, e))
+tells_pages Nothing false bits b e = absurd (omega (arith, b, e))
+tells_pages Pages gives bits b e = refl
+tells_pages Figures true bits b e = absurd (omega (arith, b, e))
+tells_pages Figures false bits b e = absurd (omega (arith, b, e))
+
+is_told : (n : Notice) (kept : ℕ) (b1 b2 : Balloon) →
+    (h : HandsOver n two [] b1 b2 [] (told kept)) → h.asked.told ≡ Pages
+is_told n kept b1 b2 h =
+    tells_pages h.asked.told h.asked.gives _ (ap bits_in h.is.read) h.is.what
+
+-- one that is kept is counted, and no other one is
+uncounted : (b1 b2 : Balloon) → HandsOver (telling Inflate true) two [] b1 b2 [] (told 0) → ⊥
+uncounted b1 b2 h =
+    let e : Same 0 1 = h.kept (is_told (telling Inflate true) 0 b1 b2 h) in omega arith
+
+discarded_and_counted : (b1 b2 : Balloon) →
+    HandsOver (telling Inflate false) two [] b1 b2 [] (told 1) → ⊥
+discarded_and_counted b1 b2 h =
+    let e : Same 1 0 = h.kept (is_told (telling Inflate false) 1 b1 b2 h) in omega arith
+
+asked_back_and_counted : (b1 b2 : Balloon) →
+    HandsOver (telling Deflate true) two [] b1 b2 [] (told 1) → ⊥
+asked_back_and_counted b1 b2 h =
+    let e : Same 1 0 = h.kept (is_told (telling Deflate true) 1 b1 b2 h) in omega arith
 
 -- ---- what is refused changes nothing
 

@@ -88,6 +88,9 @@ one_past_it = refl
 tally_is : tally_of notice ≡ record { chains = 9; pages = 10; keeps = false; given = false; held = Some 13 }
 tally_is = refl
 
+keeping : map (λ n. (tally_of (record notice { keeps = n })).keeps) (0 ∷ 1 ∷ 7 ∷ []) ≡ false ∷ true ∷ true ∷ []
+keeping = refl
+
 none_taken : tally_of (record notice { taken = 0; given = 1 }) ≡
     record { chains = 9; pages = 10; keeps = false; given = true; held = None }
 none_taken = refl

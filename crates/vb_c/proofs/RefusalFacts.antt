@@ -1,7 +1,8 @@
 -- What calls for notices that do nothing leave, worked out.
-use Rattle.std.proofs.Common.{◌≡◌, ap, arith, ℕ, [], Some, None}
+use Rattle.std.proofs.Common.{false, ◌≡◌, ap, arith, ℕ, [], Some, None}
 use Rattle.vb_core.specs.declared.kinds.Kind.TheVariants.{Statistics}
 use Rattle.vb_monitor.specs.declared.balloon.Balloon.{Balloon}
+use Rattle.vb_monitor.specs.declared.outcome.Budget.{Budget}
 use Rattle.vb_c.{specs.declared.notice.VbNotice.VbNotice, specs.declared.notice.VbRoom.VbRoom}
 use Rattle.vb_c.{specs.Serving.{BeginsFor, AsksFor, GoesOnBy}, proofs.Samples.{Same, two, balloon}}
 
@@ -14,21 +15,24 @@ held_of b = b.held
 abbrev changed : Balloon
 changed = record balloon { held = 5 }
 
+abbrev one_page : Budget
+one_page = record { chains = 1; pages = 1; keeps = false }
+
 -- a queue that isn't there has code 5, statistics whose buffer is held 1, none to ask back 1, no
 -- notice 7; each time the balloon stays
-no_such_queue : (c : VbNotice) → BeginsFor None two (record { chains = 1; pages = 1 }) balloon balloon room room c → c.code ≡ 5
+no_such_queue : (c : VbNotice) → BeginsFor None two one_page balloon balloon room room c → c.code ≡ 5
 no_such_queue c h = h.ended.code_is
 
 changed_although_none : (c : VbNotice) →
-    BeginsFor None two (record { chains = 1; pages = 1 }) balloon changed room room c → ⊥
+    BeginsFor None two one_page balloon changed room room c → ⊥
 changed_although_none c h = let e : Same 5 4 = ap held_of h.balloon in omega arith
 
 held_already : (c : VbNotice) →
-    BeginsFor (Some Statistics) two (record { chains = 1; pages = 1 }) balloon balloon room room c → c.code ≡ 1
+    BeginsFor (Some Statistics) two one_page balloon balloon room room c → c.code ≡ 1
 held_already c h = h.ended.code_is
 
 begun_although_held : (c : VbNotice) →
-    BeginsFor (Some Statistics) two (record { chains = 1; pages = 1 }) balloon changed room room c → ⊥
+    BeginsFor (Some Statistics) two one_page balloon changed room room c → ⊥
 begun_although_held c h = let e : Same 5 4 = ap held_of h.balloon in omega arith
 
 none_to_ask_back : (c : VbNotice) → AsksFor None two balloon balloon room room c → c.code ≡ 1

@@ -93,6 +93,7 @@ hands_nothing kind q t regions runs cuts b c k e f says what none late fits over
       subst (λ (n : ℕ). AheadAt q (whole regions kind after outcome) t b.device
       (room_of pieces bytes runs figures) (map Discard (take n cuts) ++ rest)) (sym none) h;
   room = record { runs = λ x. cc; figures = λ x. cc; cuts = no_cuts c.orders.cuts none };
+  kept = λ x. absurd cc;
   waits_now = stage_waits q late;
   fills = record { full = λ x. absurd (no_part_left q late x) };
   fits = fits;

@@ -48,7 +48,7 @@ pub record Refuses (code : ℕ) (b1 b2 : Balloon) (r1 r2 : VbRoom) (c : VbNotice
 
 -- A notice is handed over, with all that is done before it waits: behind that, whatever may still
 -- come then, all that could come may come. Parts are left to discard only where the list of those
--- that are discarded now is full.
+-- that are discarded now is full. With the pages that are told it says how many of them are kept.
 pub record HandsOver (n : Notice) (regions : List Region) (runs : List Run) (b1 b2 : Balloon)
     (cuts : List Cut) (c : VbNotice) : Type 0 where
   pub asked : Asked
