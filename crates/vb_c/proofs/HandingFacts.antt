@@ -51,6 +51,7 @@ shown = record {
   taken = 0;
   flag = 0;
   phase = 1;
+  published = 0;
 }
 
 abbrev pub nothing : Asked

@@ -56,6 +56,7 @@ notice = record {
   taken = 1;
   flag = 2;
   phase = 1;
+  published = 14;
 }
 
 -- ---- what it waits for
@@ -83,11 +84,11 @@ last_that_fits = refl
 one_past_it : phase_of (record notice { phase = 4; into = 1021 }) ≡ None
 one_past_it = refl
 
-tally_is : tally_of notice ≡ record { chains = 9; pages = 10; given = false; held = Some 13 }
+tally_is : tally_of notice ≡ record { chains = 9; pages = 10; given = false; held = Some 13; published = 14 }
 tally_is = refl
 
 none_taken : tally_of (record notice { taken = 0; given = 1 }) ≡
-    record { chains = 9; pages = 10; given = true; held = None }
+    record { chains = 9; pages = 10; given = true; held = None; published = 14 }
 none_taken = refl
 
 abbrev at_index : Notice
@@ -131,7 +132,7 @@ half_a_descriptor h = let e : Same 8 16 = h.1 in omega arith
 -- ---- its end
 
 abbrev tally : Bool → Option ℕ → Tally
-tally given held = record { chains = 0; pages = 0; given = given; held = held }
+tally given held = record { chains = 0; pages = 0; given = given; held = held; published = 0 }
 
 served : end_code None (tally true None) ≡ 0
 served = refl

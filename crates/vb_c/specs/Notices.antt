@@ -36,6 +36,7 @@ tally_of c = record {
   pages = c.pages_left;
   given = says_yes c.given;
   held = if c.taken == 0 then None else Some c.taken_head;
+  published = c.published;
 }
 
 abbrev pub walk_of : VbNotice → Walk

@@ -83,6 +83,7 @@ pub struct VbNotice {
     pub taken: u8,
     pub flag: u8,
     pub phase: u8,
+    pub published: u16,
 }
 
 /// The room that a notice needs.
@@ -146,6 +147,7 @@ impl VbNotice {
             } else {
                 Some(self.taken_head)
             },
+            published: self.published,
         }
     }
 

@@ -100,6 +100,7 @@ impl Notice {
             pages: budget.pages,
             given: false,
             held: None,
+            published: 0,
         };
         let step = look(device, regions, kind, tally);
         Notice { kind, step }
@@ -119,6 +120,7 @@ impl Notice {
             pages: 0,
             given: false,
             held: None,
+            published: 0,
         };
         let step = give_back(device, regions, Kind::Statistics, tally, head);
         Notice {
