@@ -82,7 +82,7 @@ pub fn a_notice_makes_few_accesses()
         Serves regions kind budget d1 d2 outcome log → others log ≤ 3 + 775 * budget.chains }
 {}
 
-/// What counts is read once: the index once a notice, first of all; behind it, and behind each chain
+/// What counts is read once: the index once a notice, first of all; behind it, and behind a chain
 /// that is given back, the entry that is taken next; then the descriptors of its chain, each by the
 /// number that the one before named; and then each part of each piece, in order (VIRTIO 1.1, 2.6.5
 /// and 2.6.6). Nothing is asked for again, whatever the guest makes of it.

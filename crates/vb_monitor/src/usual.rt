@@ -40,12 +40,7 @@ pub enum NextWord {
 /// The word that is read next, once the index was, or once a chain was given back.
 #[tactic(auto, using(crate::proofs::UsualLemmas::word_goes))]
 #[inline(always)]
-pub fn word_after(
-    device: &Device,
-    regions: &[Region],
-    kind: Kind,
-    tally: Tally,
-) -> Option<NextWord>
+pub fn word_after(device: &Device, regions: &[Region], kind: Kind, tally: Tally) -> Option<NextWord>
     ensures place { result ≡ word_place regions.now tally (ring_of kind device.now) }
     ensures goes { IfSome result (λ word. (after : Device) (outcome : Outcome) (room : Room)
         (log : List Access) →
