@@ -8,7 +8,7 @@ use Rattle.vb_chain.specs.declared.fault.ChainFault.{ChainFault}
 use Rattle.vb_request.specs.Request.{is_request_length}
 use Rattle.vb_core.specs.declared.kinds.Kind.TheVariants.{Inflate, Deflate, Statistics, Report}
 use Rattle.vb_core.specs.declared.{kinds.Kind.Kind, device.Device.Device, device.Denial.Denial}
-use Rattle.vb_core.specs.{declared.runs.Run.Run, declared.name.Named.Named, Rings.used_entry}
+use Rattle.vb_core.specs.{declared.runs.Run.Run, declared.name.Named.Named, Rings.{used_entry, with_used}}
 use Rattle.vb_core.specs.declared.ring.UsedEntry.{UsedEntry}
 use Rattle.vb_core.specs.Devices.{ring_of, call_denial, queue_denial}
 use Rattle.vb_core.specs.{Name.{is_request, NamesBy, name_denial, after_request}, Next.told}
@@ -20,9 +20,9 @@ use Rattle.vb_monitor.specs.{Accesses.Access, Regions.spot, Ends.Whole, Pieces.C
 use Rattle.vb_monitor.specs.Giving.{Then, used_spots, used_accesses, UsedAt, GivesBack, GivesBackBy}
 use Rattle.vb_monitor.specs.{Giving.{with_given, after_use, AfterName, three_spots}, Orders.giving}
 use Rattle.vb_monitor.specs.{Chains.{NamesBytes, AfterBytes}, Machine.{next_chain, served}}
-use Rattle.vb_monitor.specs.{Machine.{AheadAt, Room}, Notices.{ServesPublished, AfterGiven}}
+use Rattle.vb_monitor.specs.{Machine.{AheadAt, Room}, Notices.{stands, ServesPublished, AfterGiven}}
 use Rattle.vb_monitor.specs.{Served.{goes_on, none_left}, declared.usual.NextWord.NextWord}
-use Rattle.vb_monitor.specs.Usual.{word_place, phase_at, tally_at}
+use Rattle.vb_monitor.specs.Usual.{word_by, word_place, phase_at, tally_at}
 use Rattle.vb_core.specs.declared.ring.Virtqueue.{Virtqueue}
 use Rattle.vb_monitor.proofs.{TurnLemmas.moves, UsualLemmas.word_goes}
 use Rattle.vb_monitor.proofs.{NextLemmas.copies_none, RoomLemmas.few_named}
@@ -55,6 +55,13 @@ may_use kind head d lt e =
     let fits : nat_lt head (ring_of kind d).size ≡ true = grind (arith, nat_tests) in
     ap (λ (b : Bool). call_denial kind true b true d) fits ∙ e
 
+-- the used index says nothing of what is read next
+same_word : (o : Result Bool ChainFault) (rs : List Region) (t : Tally) (r : Virtqueue) →
+    word_by o rs t (with_used r) ≡ word_by o rs t r
+same_word (Ok true) rs t r = refl
+same_word (Ok false) rs t r = refl
+same_word (Err f) rs t r = refl
+
 pub given_goes : (w : Whole) (d d2 : Device) (t : Tally) (head : ℕ) (u : Used) (s : UsedSpots)
     (word : NextWord) (room : Room) (log : List Access) → goes_on w.kind ≡ true
     → head < (ring_of w.kind d).size → queue_denial w.kind d ≡ None
@@ -69,7 +76,9 @@ given_goes w d d2 t head u s word room log goes lt ready spots place after write
     let next = next_chain w t in
     let comes : ServesPublished t.chains w used (with_given t) log =
     word_goes w used (with_given t) word room log
-    (ap (λ (r : Virtqueue). word_place w.regions (with_given t) r) (moves w.kind d).used_ring ∙ place)
+    (ap (λ (r : Virtqueue). word_place w.regions (with_given t) r) (moves w.kind d).used_ring
+    ∙ (same_word (stands (ring_of w.kind d) t.published) w.regions (with_given t) (ring_of w.kind d)
+    ∙ place))
     (subst (λ (x : Device). AheadAt (phase_at word) w (tally_at word (with_given t)) x room log)
     after h) in
     subst (λ (o : Option Denial). GivesBackBy o w next d t head (giving true u ++ log))

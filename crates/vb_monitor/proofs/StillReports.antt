@@ -179,7 +179,7 @@ looks_as byte rs d2 out d d3 t n room runs result (Some why) log mapped fits non
     log) (sym x.0) (y.0, y.1 ∙ sym x.1)
 looks_as byte rs d2 out d d3 t n room runs result None log mapped fits none some e stays by h =
     let w = of_reports rs d2 out in
-    let then = left_then byte w d t n in
+    let behind = left_then byte w d t n in
     let r = ring_of Report d in
     let (answer, reads, is, after) =
     by.reads (denied_alike _ _ room d fits (length-map-range_with_len byte r.avail (4 + 2 * r.size))
@@ -192,11 +192,11 @@ looks_as byte rs d2 out d d3 t n room runs result None log mapped fits none some
       mapped = mapped;
       pops = reads.pops;
     } in
-    subst (λ (o : Result (Option Reported) Denial). ReportsAs o runs w then d3 log)
+    subst (λ (o : Result (Option Reported) Denial). ReportsAs o runs w behind d3 log)
     (sym (is ∙ ap (λ (o : Result (Option Reported) ChainFault). told o) reads.answer))
-    (subst (λ (x : Device). ReportsAs (told (report_of d.settings.reserved_pages found)) runs w then
+    (subst (λ (x : Device). ReportsAs (told (report_of d.settings.reserved_pages found)) runs w behind
     x log) (sym (after ∙ ap (λ (o : Result (Option Reported) ChainFault). after_report o d)
-    reads.answer)) (reports_of byte rs d2 out d then runs found log shown_so none
+    reads.answer)) (reports_of byte rs d2 out d behind runs found log shown_so none
     (end_below d.settings open_so.settings) e
     (subst (λ (o : Result (Option Reported) ChainFault). (taken : Taken) →
     found ≡ Ok (Some taken) → IsOk o → take (length taken.chain) runs ≡ map run_of taken.chain)

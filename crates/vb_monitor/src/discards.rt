@@ -96,7 +96,7 @@ pub(crate) fn after_told(
     ensures fits { Fits result.phase }
     ensures stage { 1 ≤ stage result.phase }
     ensures left { left regions.now result ≤
-        of_chains regions.now tally.chains + (3 + MAX_RUNS * length regions.now) }
+        of_chains regions.now tally.chains + (2 + MAX_RUNS * length regions.now) }
 {
     if kind == Kind::Report && device.keeps_reports() {
         return give_back(device, regions, kind, tally, head);
