@@ -125,9 +125,10 @@ uint64_t plain_notify(uint32_t kind, void (*told)(const VbRun *runs, uint32_t co
 {
     const uint32_t size = plain.queue.size, mask = size - 1;
     const uint8_t *avail = plain.avail, *table = plain.table;
-    uint16_t next = plain.queue.next_avail, used = plain.queue.next_used, index;
+    const uint16_t index = word_at(avail + 2);
+    uint16_t next = plain.queue.next_avail, used = plain.queue.next_used;
     uint64_t pages = 0;
-    while ((index = word_at(avail + 2)) != next) {
+    while (index != next) {
         __atomic_thread_fence(__ATOMIC_ACQUIRE);
         uint16_t head = word_at(avail + 4 + 2 * (next & mask));
         int count = kind == VB_REPORT ? report(head, table, size) : request(head, table, size);

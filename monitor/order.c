@@ -177,21 +177,31 @@ static void expect_touches(const struct touch *expected)
 }
 
 enum { READS = false, WRITES = true };
-#define TAKEN { INDEX, 0, READS }, { FENCE, __ATOMIC_ACQUIRE, READS }, { ENTRY, 0, READS }, { DESCRIPTOR, 3, READS }, \
+#define NEXT_TAKEN(entry) { FENCE, __ATOMIC_ACQUIRE, READS }, { ENTRY, entry, READS }, { DESCRIPTOR, 3, READS }, \
     { DESCRIPTOR, 6, READS }
-#define GIVEN { ELEMENT, 0, WRITES }, { ELEMENT, 1, WRITES }, { FENCE, __ATOMIC_RELEASE, READS }, { USED_INDEX, 0, WRITES }
+#define TAKEN { INDEX, 0, READS }, NEXT_TAKEN(0)
+#define GIVEN_AT(number) { ELEMENT, 2 * (number), WRITES }, { ELEMENT, 2 * (number) + 1, WRITES }, \
+    { FENCE, __ATOMIC_RELEASE, READS }, { USED_INDEX, 0, WRITES }
+#define GIVEN GIVEN_AT(0)
 #define ASKED { FENCE, __ATOMIC_SEQ_CST, READS }, { FLAGS, 0, READS }, { OTHER, 0, READS }
+
+static struct balloon_result notify(uint32_t kind)
+{
+    touch_count = 0;
+    reach(PROT_NONE);
+    struct balloon_result result = balloon_notify(&balloon, kind);
+    reach(PROT_READ | PROT_WRITE);
+    EXPECT(result.code == VB_OK);
+    return result;
+}
 
 static void serve(uint32_t kind, bool keeps)
 {
     begin(kind);
     balloon.keeps_pages = keeps;
     offer(kind);
-    touch_count = 0;
-    reach(PROT_NONE);
-    struct balloon_result result = balloon_notify(&balloon, kind);
-    reach(PROT_READ | PROT_WRITE);
-    EXPECT(result.code == VB_OK && result.chains == 1 && result.interrupts == (kind == VB_STATISTICS ? 0 : 1u << kind));
+    struct balloon_result result = notify(kind);
+    EXPECT(result.chains == 1 && result.interrupts == (kind == VB_STATISTICS ? 0 : 1u << kind));
 }
 
 /* Named, told, discarded, and only then given back. */
@@ -200,32 +210,31 @@ static void an_inflate_is_in_order(void)
     serve(VB_INFLATE, false);
     expect_touches((const struct touch[]){
         TAKEN, { BYTES, 0, READS }, { TOLD, VB_INFLATE, READS }, { DISCARD, NAMED, WRITES }, { DISCARD, NAMED + 2, WRITES },
-        { DISCARD, NAMED + 4, WRITES }, { DISCARD, NAMED + 6, WRITES }, { DISCARD, NAMED + 8, WRITES }, GIVEN,
-        { INDEX, 0, READS }, ASKED });
+        { DISCARD, NAMED + 4, WRITES }, { DISCARD, NAMED + 6, WRITES }, { DISCARD, NAMED + 8, WRITES }, GIVEN, ASKED });
 }
 
 static void a_deflate_is_in_order(void)
 {
     serve(VB_DEFLATE, false);
-    expect_touches((const struct touch[]){ TAKEN, { BYTES, 0, READS }, { TOLD, VB_DEFLATE, READS }, GIVEN, { INDEX, 0, READS }, ASKED });
+    expect_touches((const struct touch[]){ TAKEN, { BYTES, 0, READS }, { TOLD, VB_DEFLATE, READS }, GIVEN, ASKED });
 }
 
 static void a_report_is_in_order(void)
 {
     serve(VB_REPORT, false);
     expect_touches((const struct touch[]){ TAKEN, { TOLD, VB_REPORT, READS }, { DISCARD, NAMED, WRITES },
-                                           { DISCARD, NAMED + 5, WRITES }, GIVEN, { INDEX, 0, READS }, ASKED });
+                                           { DISCARD, NAMED + 5, WRITES }, GIVEN, ASKED });
 }
 
 /* Told and given back, with no discard. */
 static void pages_may_be_kept(void)
 {
     serve(VB_INFLATE, true);
-    expect_touches((const struct touch[]){ TAKEN, { BYTES, 0, READS }, { TOLD, VB_INFLATE, READS }, GIVEN, { INDEX, 0, READS }, ASKED });
+    expect_touches((const struct touch[]){ TAKEN, { BYTES, 0, READS }, { TOLD, VB_INFLATE, READS }, GIVEN, ASKED });
     serve(VB_DEFLATE, true);
-    expect_touches((const struct touch[]){ TAKEN, { BYTES, 0, READS }, { TOLD, VB_DEFLATE, READS }, GIVEN, { INDEX, 0, READS }, ASKED });
+    expect_touches((const struct touch[]){ TAKEN, { BYTES, 0, READS }, { TOLD, VB_DEFLATE, READS }, GIVEN, ASKED });
     serve(VB_REPORT, true);
-    expect_touches((const struct touch[]){ TAKEN, { TOLD, VB_REPORT, READS }, GIVEN, { INDEX, 0, READS }, ASKED });
+    expect_touches((const struct touch[]){ TAKEN, { TOLD, VB_REPORT, READS }, GIVEN, ASKED });
 }
 
 static void statistics_are_in_order(void)
@@ -240,6 +249,34 @@ static void statistics_are_in_order(void)
     expect_touches((const struct touch[]){ GIVEN, ASKED });
 }
 
+/* The driver publishes a third chain while the second one is served. */
+static void publish_third(void *context, uint32_t kind, const VbRun *runs, uint32_t count)
+{
+    be_told(context, kind, runs, count);
+    if (balloon.state.device.deflate.next_avail == 2)
+        memory[AVAIL + 2] = 3;
+}
+
+/* The index is read once: two chains that stand there are served, and the third by the next kick. */
+static void the_index_is_read_once(void)
+{
+    begin(VB_DEFLATE);
+    offer(VB_DEFLATE);
+    for (uint64_t i = 1; i < 3; i++)
+        put_bytes(AVAIL + 4 + 2 * i, 3, 2);
+    put_bytes(AVAIL + 2, 2, 2);
+    balloon.on_pages = publish_third;
+    struct balloon_result result = notify(VB_DEFLATE);
+    EXPECT(result.chains == 2 && !result.more && memory[USED + 2] == 2);
+    expect_touches((const struct touch[]){
+        TAKEN, { BYTES, 0, READS }, { TOLD, VB_DEFLATE, READS }, GIVEN,
+        NEXT_TAKEN(1), { BYTES, 0, READS }, { TOLD, VB_DEFLATE, READS }, { INDEX, 0, WRITES }, GIVEN_AT(1), ASKED });
+    result = notify(VB_DEFLATE);
+    EXPECT(result.chains == 1 && !result.more && memory[USED + 2] == 3);
+    expect_touches((const struct touch[]){
+        { INDEX, 0, READS }, NEXT_TAKEN(2), { BYTES, 0, READS }, { TOLD, VB_DEFLATE, READS }, GIVEN_AT(2), ASKED });
+}
+
 int main(void)
 {
     struct sigaction fault = { .sa_sigaction = on_fault, .sa_flags = SA_SIGINFO };
@@ -252,6 +289,7 @@ int main(void)
     a_report_is_in_order();
     pages_may_be_kept();
     statistics_are_in_order();
+    the_index_is_read_once();
     puts("ok  each access, fence, word to the monitor and discard stands in its order, once");
     return 0;
 }

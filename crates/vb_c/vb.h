@@ -143,6 +143,7 @@ typedef struct {
     uint32_t chains_left, pages_left;           /* these too */
     uint16_t head, count, taken_head;
     uint8_t given, taken, flag, phase, keeps;
+    uint16_t published;
 } VbNotice;
 
 /* The room that a notice needs, whatever stands in it at first; then the library's to write, but for `bytes`. One room
@@ -183,13 +184,14 @@ VB_ASSERT(sizeof(VbCut) == 32 && offsetof(VbCut, offset) == 8 && offsetof(VbCut,
           && offsetof(VbCut, length) == 24);
 VB_ASSERT(sizeof(VbLarge) == 40 && offsetof(VbLarge, waiting) == 32);
 VB_ASSERT(sizeof(VbBalloon) == 184 && offsetof(VbBalloon, held) == 176);
-VB_ASSERT(sizeof(VbNotice) == 192 && offsetof(VbNotice, at) == 8 && offsetof(VbNotice, length) == 24
+VB_ASSERT(sizeof(VbNotice) == 200 && offsetof(VbNotice, at) == 8 && offsetof(VbNotice, length) == 24
           && offsetof(VbNotice, runs) == 32 && offsetof(VbNotice, figures) == 44 && offsetof(VbNotice, kept) == 52
           && offsetof(VbNotice, id_at) == 56
           && offsetof(VbNotice, id) == 104 && offsetof(VbNotice, used_index) == 112
           && offsetof(VbNotice, number) == 120 && offsetof(VbNotice, in_file) == 136
           && offsetof(VbNotice, code) == 152 && offsetof(VbNotice, chains_left) == 172
-          && offsetof(VbNotice, given) == 186 && offsetof(VbNotice, phase) == 189 && offsetof(VbNotice, keeps) == 190);
+          && offsetof(VbNotice, given) == 186 && offsetof(VbNotice, phase) == 189 && offsetof(VbNotice, keeps) == 190
+          && offsetof(VbNotice, published) == 192);
 VB_ASSERT(sizeof(VbRoom) == 16992 && offsetof(VbRoom, bytes) == 4096 && offsetof(VbRoom, runs) == 5120
           && offsetof(VbRoom, figures) == 7168 && offsetof(VbRoom, cuts) == 8800);
 
@@ -255,8 +257,9 @@ VbUsed vb_use(VbDevice *device, uint32_t kind, uint32_t head);
  */
 
 /* The driver kicked the queue of this kind, or may have: it is served, at most `chains` chains, and none once `pages` pages
- * were named. Where `keeps` isn't 0, no page is discarded: what is named is told, and stays. Nothing is done (VB_NOTHING) while
- * the statistics buffer is held. All three answer `what`. */
+ * were named. Where `keeps` isn't 0, no page is discarded: what is named is told, and stays. The available index is read once,
+ * first of all: what the driver publishes later waits for its next kick, which it owes, as the device never asks for none
+ * (VIRTIO 1.1, 2.6.10). Nothing is done (VB_NOTHING) while the statistics buffer is held. All three answer `what`. */
 uint32_t vb_begin(VbNotice *notice, VbBalloon *balloon, const VbRegion *regions, size_t count, VbRoom *room,
                   uint32_t kind, uint32_t chains, uint32_t pages, uint32_t keeps);
 /* New statistics are asked for, by giving the held buffer back (5.5.6.3): VB_NOTHING where none is held. */

@@ -72,10 +72,11 @@ static uint32_t look(const Call *call)
     return wait_for(call, AT_INDEX, VB_READ);
 }
 
-static uint32_t after_index(const Call *call, uint16_t index)
+/* The chain that stands next by the index that was read, or the end. */
+static uint32_t next_chain(const Call *call)
 {
     VbNotice *notice = call->notice;
-    uint16_t ahead = (uint16_t)(index - call->queue->next_avail);
+    uint16_t ahead = (uint16_t)(notice->published - call->queue->next_avail);
     if (ahead > call->queue->size)
         return fail(call, INDEX_JUMP);
     if (ahead == 0)
@@ -88,6 +89,12 @@ static uint32_t after_index(const Call *call, uint16_t index)
     if (!find_spot(call, call->queue->avail + 4 + 2 * (call->queue->next_avail % call->queue->size), 2, &notice->at))
         return fail(call, OUT_OF_MEMORY);
     return wait_for(call, AT_ENTRY, VB_ACQUIRE);
+}
+
+static uint32_t after_index(const Call *call, uint16_t index)
+{
+    call->notice->published = index;
+    return next_chain(call);
 }
 
 /* ---- a chain */

@@ -101,7 +101,7 @@ static uint32_t after_given(const Call *call)
 {
     call->notice->given = 1;
     if (call->notice->kind != VB_STATISTICS)
-        return look(call);
+        return next_chain(call);
     call->balloon->held = 0;
     return end(call, VB_NOTHING);
 }

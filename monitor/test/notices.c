@@ -23,7 +23,7 @@ static void publish_again(void *context, uint32_t kind, const VbRun *runs, uint3
     publish(context, kind, 0);
 }
 
-/* A driver that never stops gets the monitor's time in parts. */
+/* A driver that never stops gets the monitor's time in parts: what stands there when a notice begins, and no more. */
 static void a_driver_never_stops(void)
 {
     static struct guest guest;
@@ -31,10 +31,11 @@ static void a_driver_never_stops(void)
     start(&guest, 0, REFUSES, LINUX_FEATURES, 4);
     guest.balloon.context = &guest;
     guest.balloon.on_pages = publish_again;
-    name_pages(&guest, VB_DEFLATE, &page, 1);
-    for (uint16_t i = 1; i <= 3; i++) {
+    for (int i = 0; i < 2; i++)
+        name_pages(&guest, VB_DEFLATE, &page, 1);
+    for (uint16_t i = 1; i <= 300; i++) {
         struct balloon_result result = balloon_notify(&guest.balloon, VB_DEFLATE);
-        EXPECT(result.code == VB_OK && result.chains == 256 && result.more && used_index(&guest, VB_DEFLATE) == 256 * i);
+        EXPECT(result.code == VB_OK && result.chains == 2 && !result.more && used_index(&guest, VB_DEFLATE) == 2 * i);
     }
     free_memory(&guest);
 }

@@ -54,6 +54,7 @@ shown = record {
   flag = 0;
   phase = 1;
   keeps = 0;
+  published = 0;
 }
 
 abbrev pub nothing : Asked

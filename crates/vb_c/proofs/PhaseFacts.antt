@@ -58,6 +58,7 @@ notice = record {
   flag = 2;
   phase = 1;
   keeps = 0;
+  published = 14;
 }
 
 -- ---- what it waits for
@@ -85,14 +86,14 @@ last_that_fits = refl
 one_past_it : phase_of (record notice { phase = 4; into = 1021 }) ≡ None
 one_past_it = refl
 
-tally_is : tally_of notice ≡ record { chains = 9; pages = 10; keeps = false; given = false; held = Some 13 }
+tally_is : tally_of notice ≡ record { chains = 9; pages = 10; keeps = false; given = false; held = Some 13; published = 14 }
 tally_is = refl
 
 keeping : map (λ n. (tally_of (record notice { keeps = n })).keeps) (0 ∷ 1 ∷ 7 ∷ []) ≡ false ∷ true ∷ true ∷ []
 keeping = refl
 
 none_taken : tally_of (record notice { taken = 0; given = 1 }) ≡
-    record { chains = 9; pages = 10; keeps = false; given = true; held = None }
+    record { chains = 9; pages = 10; keeps = false; given = true; held = None; published = 14 }
 none_taken = refl
 
 abbrev at_index : Notice
@@ -136,7 +137,7 @@ half_a_descriptor h = let e : Same 8 16 = h.1 in omega arith
 -- ---- its end
 
 abbrev tally : Bool → Option ℕ → Tally
-tally given held = record { chains = 0; pages = 0; keeps = false; given = given; held = held }
+tally given held = record { chains = 0; pages = 0; keeps = false; given = given; held = held; published = 0 }
 
 served : end_code None (tally true None) ≡ 0
 served = refl

@@ -5,7 +5,9 @@ use Rattle.std.{specs.Prelude.{◌==◌, nat_le, if◌then◌else◌}, proofs.le
 use Rattle.vb_monitor.specs.declared.step.Phase.TheVariants.{AwaitsIndex, AwaitsEntry}
 use Rattle.vb_monitor.specs.declared.step.Phase.TheVariants.{AwaitsDescriptor, AwaitsPart, Discards}
 use Rattle.vb_monitor.specs.{declared.step.Phase.TheVariants.{AwaitsFlags, Ended}, Machine.Fits}
-use Rattle.vb_monitor.specs.Machine.{stage, AheadAt, Awaited, whole, room_of, outcome_at, Room}
+use Rattle.vb_monitor.specs.Machine.{stage, waits, AheadAt, Awaited, whole, room_of, outcome_at, Room}
+use Rattle.vb_monitor.specs.declared.usual.NextWord.{NextWord, TheVariants.{Entry, Flags}}
+use Rattle.vb_monitor.specs.Usual.{phase_at}
 use Rattle.vb_monitor.specs.declared.orders.{Told.TheVariants.Nothing, TheConstants.MAX_CUTS}
 use Rattle.vb_monitor.specs.declared.{step.Phase.Phase, room.TheConstants.MAX_BYTES}
 use Rattle.vb_monitor.specs.{Accesses.{Access, Discard}, declared.balloon.Balloon.Balloon}
@@ -23,8 +25,8 @@ use Rattle.vb_monitor.specs.{Ends.Whole, Machine.Copies, declared.regions.Spot.S
 use Rattle.vb_monitor.specs.{Chains.{AfterDescriptor, AsksDescriptor}, Pieces.AsksPart}
 
 -- the phase of this number
-abbrev phase_at : ℕ → VbNotice → Option Phase
-phase_at n c =
+abbrev numbered : ℕ → VbNotice → Option Phase
+numbered n c =
     if n == 0 then Some (Ended (why_of c.code c.rule) (says_yes c.interrupt) (says_yes c.more))
     else if n == 1 then Some (AwaitsIndex c.at) else if n == 2 then Some (AwaitsEntry c.at)
     else if n == 3 then Some (AwaitsDescriptor c.at (walk_of c)) else if n == 4 then part_of c
@@ -32,18 +34,18 @@ phase_at n c =
     else if n == 6 then Some (Discards (cut_of_notice c) (discarding_of c)) else None
 
 pub awaits_index : (c : VbNotice) → c.phase ≡ 1 → phase_of c ≡ Some (AwaitsIndex c.at)
-awaits_index c e = ap (λ (n : ℕ). phase_at n c) e
+awaits_index c e = ap (λ (n : ℕ). numbered n c) e
 
 pub awaits_entry : (c : VbNotice) → c.phase ≡ 2 → phase_of c ≡ Some (AwaitsEntry c.at)
-awaits_entry c e = ap (λ (n : ℕ). phase_at n c) e
+awaits_entry c e = ap (λ (n : ℕ). numbered n c) e
 
 pub awaits_descriptor : (c : VbNotice) → c.phase ≡ 3 →
     phase_of c ≡ Some (AwaitsDescriptor c.at (walk_of c))
-awaits_descriptor c e = ap (λ (n : ℕ). phase_at n c) e
+awaits_descriptor c e = ap (λ (n : ℕ). numbered n c) e
 
 pub awaits_flags : (c : VbNotice) → c.phase ≡ 5 → c.code ≡ 0 →
     phase_of c ≡ Some (AwaitsFlags c.at None (says_yes c.more))
-awaits_flags c e f = ap (λ (n : ℕ). phase_at n c) e
+awaits_flags c e f = ap (λ (n : ℕ). numbered n c) e
     ∙ ap (λ (n : ℕ). Some (AwaitsFlags c.at (why_of n c.rule) (says_yes c.more))) f
 
 part_fits : (c : VbNotice) → c.into + c.length ≤ MAX_BYTES →
@@ -52,7 +54,7 @@ part_fits c h = grind (arith, nat_tests)
 
 pub awaits_part : (c : VbNotice) → c.phase ≡ 4 → c.into + c.length ≤ MAX_BYTES →
     phase_of c ≡ Some (AwaitsPart c.at (place_of c))
-awaits_part c e h = ap (λ (n : ℕ). phase_at n c) e
+awaits_part c e h = ap (λ (n : ℕ). numbered n c) e
     ∙ ap (λ (b : Bool). if b then Some (AwaitsPart c.at (place_of c)) else None) (part_fits c h)
 
 pub says_notice : (kind : Kind) (p : Phase) (t : Tally) (c : VbNotice) →
@@ -71,7 +73,7 @@ nothing = record { told = Nothing; gives = false }
 no_cuts : (n : ℕ) → n ≡ 0 → n ≤ MAX_CUTS
 no_cuts n e = omega (arith, e)
 
-no_part_left : (q : Phase) → stage q ≡ 3 → stage q ≡ 1 → ⊥
+pub no_part_left : (q : Phase) → stage q ≡ 3 → stage q ≡ 1 → ⊥
 no_part_left q e f = let x : 3 ≡ 1 = sym e ∙ f in omega (arith, x)
 
 -- what hands a notice over that does nothing before it waits
@@ -141,6 +143,32 @@ begins_usual from kind q t regions b r c k e f says what none late fits over ste
   step = step;
   hands = hands_nothing kind q t regions r.runs r.cuts b c k e f says what none late fits over;
   room = refl;
+}
+
+-- ---- the word that is read next
+
+pub record Shown (word : NextWord) : Type 0 where
+  pub says : (c : VbNotice) (t : Tally) → Says c t (phase_at word)
+  pub late : stage (phase_at word) ≡ 3
+  pub fits : Fits (phase_at word)
+  pub waits_now : waits (phase_at word) ≡ true
+  pub over : (t : Tally) (kind : Kind) (b : Balloon) →
+      held_by (outcome_at (phase_at word) t) kind b ≡ b.held
+
+pub word_shown : (word : NextWord) → Shown word
+word_shown (Entry at) = record {
+  says = λ c t. tt;
+  late = refl;
+  fits = tt;
+  waits_now = refl;
+  over = λ t kind b. refl;
+}
+word_shown (Flags at) = record {
+  says = λ c t. tt;
+  late = refl;
+  fits = tt;
+  waits_now = refl;
+  over = λ t kind b. refl;
 }
 
 -- ---- what was copied

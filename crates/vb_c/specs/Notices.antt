@@ -37,6 +37,7 @@ tally_of c = record {
   keeps = says_yes c.keeps;
   given = says_yes c.given;
   held = if c.taken == 0 then None else Some c.taken_head;
+  published = c.published;
 }
 
 abbrev pub walk_of : VbNotice → Walk

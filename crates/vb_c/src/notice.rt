@@ -84,6 +84,7 @@ pub struct VbNotice {
     pub flag: u8,
     pub phase: u8,
     pub keeps: u8,
+    pub published: u16,
 }
 
 /// The room that a notice needs.
@@ -148,6 +149,7 @@ impl VbNotice {
             } else {
                 Some(self.taken_head)
             },
+            published: self.published,
         }
     }
 

@@ -15,13 +15,13 @@ ghost use Rattle.vb_c.specs.Notices.{notice_of, tally_of, place_of};
 ghost use Rattle.vb_c.specs.Served.{telling_pages, Denies};
 ghost use Rattle.vb_c.specs.Serving.{HandsOver, GoesOnBy};
 
-use crate::notice::{INDEX, READ_INDEX, VbNotice, VbRoom};
+use crate::notice::{VbNotice, VbRoom};
 use crate::serving::hand_over;
 use crate::showing::asked_bits;
 use vb_core::{Denial, Kind, Named, Run};
 use vb_monitor::{
     Asked, Balloon, Cut, Discarding, MAX_CUTS, MAX_RUNS, Notice, Phase, Region, Step, Tally, Told,
-    end, fill_few, fill_named, give_and_look, kept_pages, name_copied,
+    end, fill_few, fill_named, give_and_go, kept_pages, name_copied,
 };
 
 /// Hands over a chain whose pages were named, however it is served.
@@ -52,7 +52,7 @@ fn hand_named(
 }
 
 /// Hands over a chain whose pages were named, of a queue that is served, once all parts of its runs
-/// stand in the list: mostly it is given back, and the queue looked at again.
+/// stand in the list: mostly it is given back, and the next word is read.
 #[inline(always)]
 fn give_named(
     shown: &mut VbNotice,
@@ -80,22 +80,24 @@ fn give_named(
     shown.orders.named = named;
     shown.orders.kept = kept;
     shown.orders.cuts = count;
-    match give_and_look(
+    let tally = shown.tally();
+    match give_and_go(
         &mut balloon.device,
         regions,
         kind,
+        tally,
         head,
         &mut shown.orders.used,
     ) {
         None => hand_named(shown, balloon, regions, runs, cuts, kind, head, named),
-        Some(at) => {
+        Some(word) => {
             let asked = Asked {
                 told: Told::Pages,
                 gives: true,
             };
             let bits = asked_bits(asked, count);
             shown.given = 1;
-            shown.show_read(bits + READ_INDEX, INDEX, at);
+            shown.show_word(bits, word);
             shown.what
         }
     }

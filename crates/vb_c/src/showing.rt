@@ -5,6 +5,7 @@ ghost use Rattle.vb_monitor.specs.declared.outcome.Tally.{Tally};
 ghost use Rattle.vb_monitor.specs.declared.step.Phase.TheVariants.{AwaitsDescriptor, AwaitsPart};
 ghost use Rattle.vb_monitor.specs.declared.step.Phase.TheVariants.{Discards, AwaitsFlags, Ended};
 ghost use Rattle.vb_monitor.specs.Machine.{Fits, waits};
+ghost use Rattle.vb_monitor.specs.Usual.{phase_at, tally_at};
 ghost use Rattle.vb_c.specs.Notices.{tally_of, phase_of, Says, end_code, end_rule, breaks};
 ghost use Rattle.vb_c.specs.Notices.{why_code, asked_bits, answer_bits, SameElse, IsNotice};
 ghost use Rattle.vb_c.specs.Notices.{HasEnded};
@@ -15,7 +16,7 @@ use crate::notice::{
     VbNotice,
 };
 use vb_core::Denial;
-use vb_monitor::{Asked, Cut, Discarding, Notice, Phase, Place, Spot, Tally, Told, Walk};
+use vb_monitor::{Asked, Cut, Discarding, NextWord, Notice, Phase, Place, Spot, Tally, Told, Walk};
 
 /// Pages are told.
 const TELL_PAGES: u32 = 1;
@@ -111,6 +112,7 @@ impl VbNotice {
         self.pages_left = tally.pages;
         self.keeps = u8::from(tally.keeps);
         self.given = u8::from(tally.given);
+        self.published = tally.published;
         match tally.held {
             None => self.taken = 0,
             Some(head) => {
@@ -200,6 +202,25 @@ impl VbNotice {
         self.code = why_code(why);
         self.rule = end_rule(why);
         self.more = u32::from(more);
+    }
+
+    /// Shows the word that is read next.
+    #[inline(always)]
+    pub(crate) fn show_word(&mut self, bits: u32, word: NextWord)
+        requires { bits < 16 }
+        ensures phase { phase_of self.new ≡ Some (phase_at word) }
+        ensures tally { tally_of self.new ≡ tally_at word (tally_of self.old) }
+        ensures what { self.new.what ≡ bits + answer_bits (phase_at word) }
+        ensures kind { self.new.kind ≡ self.old.kind }
+        ensures orders { self.new.orders ≡ self.old.orders }
+    {
+        match word {
+            NextWord::Entry(at) => {
+                self.chains_left = self.chains_left.saturating_sub(1);
+                self.show_read(bits + READ_ENTRY, ENTRY, at);
+            }
+            NextWord::Flags(at) => self.show_flags(bits, at, None, false),
+        }
     }
 
     /// Shows what it came to.

@@ -9,11 +9,11 @@ ghost use Rattle.vb_c.specs.Notices.{notice_of};
 ghost use Rattle.vb_monitor.specs.Notices.{Serves};
 ghost use Rattle.vb_c.specs.Serving.{Begins, GoesOnBy};
 
-use crate::notice::{ENTRY, INDEX, READ_ENTRY, READ_INDEX, VbNotice, VbRoom};
+use crate::notice::{INDEX, READ_INDEX, VbNotice, VbRoom};
 use vb_core::Kind;
 use vb_monitor::{
-    Balloon, Budget, Region, Tally, Walk, descriptor_after, entry_after, first_of_single,
-    flags_after, index_to_look, next_descriptor,
+    Balloon, Budget, Region, Tally, Walk, descriptor_after, first_of_single, index_to_look,
+    next_descriptor, word_after,
 };
 
 /// A queue that is served is looked at, and its index is guest memory; says whether it is so. Else
@@ -42,6 +42,7 @@ pub(crate) fn begin_usually(
                 keeps: budget.keeps,
                 given: false,
                 held: None,
+                published: 0,
             };
             notice.kind = code;
             notice.orders.cuts = 0;
@@ -74,7 +75,7 @@ pub(crate) trait Usual {
         ensures stays { result ≡ false → (notice.new ≡ notice.old) × (room.new ≡ room.old) };
 }
 
-/// The index was read: another chain stands there, or none any more after one that was given back.
+/// The index was read: a chain stands there.
 pub(crate) struct Index;
 
 impl Usual for Index {
@@ -89,18 +90,16 @@ impl Usual for Index {
         kind: Kind,
         index: u16,
     ) -> bool {
-        let tally = notice.tally();
-        if let Some(at) = entry_after(&balloon.device, regions, kind, tally, index) {
-            notice.orders.cuts = 0;
-            notice.chains_left = notice.chains_left.saturating_sub(1);
-            notice.show_read(READ_ENTRY, ENTRY, at);
-            return true;
-        }
-        match flags_after(&balloon.device, regions, kind, tally, index) {
+        let tally = Tally {
+            published: index,
+            ..notice.tally()
+        };
+        match word_after(&balloon.device, regions, kind, tally) {
             None => false,
-            Some(at) => {
+            Some(word) => {
                 notice.orders.cuts = 0;
-                notice.show_flags(0, at, None, false);
+                notice.published = index;
+                notice.show_word(0, word);
                 true
             }
         }

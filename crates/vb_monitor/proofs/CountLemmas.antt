@@ -6,7 +6,7 @@ use Rattle.std.{proofs.Common.{Result, Ok, Err}, specs.Prelude.{◌==◌}}
 use Rattle.vb_chain.specs.declared.{pieces.Piece.Piece, fault.ChainFault.ChainFault}
 use Rattle.vb_chain.specs.{declared.descriptor.Descriptor.Descriptor, Rules.{has_next, piece_of}}
 use Rattle.vb_request.{specs.Request.request_length, specs.Statistics.statistics_length}
-use Rattle.vb_core.specs.{Devices.{ring_of, queue_denial}}
+use Rattle.vb_core.specs.{Devices.ring_of}
 use Rattle.vb_core.specs.{Statistics.statistics_denial, Using.use_denial}
 use Rattle.vb_core.specs.declared.{device.Denial.Denial, device.Device.Device, kinds.Kind.Kind}
 use Rattle.vb_core.specs.declared.kinds.Kind.TheVariants.{Inflate, Deflate, Statistics, Report}
@@ -20,7 +20,7 @@ use Rattle.vb_monitor.specs.Giving.{three_spots, UsedAt, GivesBack, GivesBackBy,
 use Rattle.vb_monitor.specs.{Giving.{after_use, TellsThen, AfterName}, Notices.HeadBy}
 use Rattle.vb_monitor.specs.Notices.{EntryAt, AfterIndex, IndexAt, LooksBy}
 use Rattle.vb_monitor.specs.Notices.{AfterGiven, TakesUnlessSpent, TakesNext, with_chains, Serves}
-use Rattle.vb_monitor.specs.{Notices.fresh}
+use Rattle.vb_monitor.specs.{Notices.{fresh, ServesPublished}}
 use Rattle.vb_monitor.specs.Pieces.{PartAt, PartBy, CopiesParts, all_parts}
 use Rattle.vb_monitor.specs.declared.{cuts.Cut.Cut, outcome.Budget.Budget, outcome.Outcome.Outcome}
 use Rattle.vb_monitor.specs.declared.{outcome.Tally.Tally, parts.Part.Part, regions.Region.Region}
@@ -268,52 +268,50 @@ unless_spent : (m : ℕ) (w : Whole) (next : Then) (on : After m next) (d : Devi
 unless_spent m w next on d t true log h = ends (775 + m) w d t _ true log (omega arith) h
 unless_spent m w next on d t false log h = entry_few m w next on d t _ log h
 
-abbrev Taken : ℕ → (List Access → Type 0) → Type 0
-Taken m takes = (rest : List Access) → takes rest → Few m rest
-
-index_by : (m : ℕ) (w : Whole) (takes : List Access → Type 0) (on : Taken m takes) (d : Device)
-    (t : Tally) (there : Result Bool ChainFault) (log : List Access) → 2 ≤ m →
+index_by : (m : ℕ) (w : Whole) (takes : List Access → Type 0)
+    (on : (rest : List Access) → takes rest → Few m rest) (d : Device) (t : Tally)
+    (there : Result Bool ChainFault) (log : List Access) → 2 ≤ m →
     AfterIndex there w takes d t log → Few m log
 index_by m w takes on d t (Err fault) log le h = ends m w _ t _ false log le h
 index_by m w takes on d t (Ok false) log le h = ends m w d t _ false log le h
 index_by m w takes on d t (Ok true) log le h = on log h
 
-index_at : (m : ℕ) (w : Whole) (takes : List Access → Type 0) (on : Taken m takes) (d : Device)
-    (t : Tally) (o : Option Spot) (log : List Access) → 2 ≤ m → IndexAt w takes d t o log →
-    Few (1 + m) log
-index_at m w takes on d t None log le h = ends (1 + m) w _ t _ false log (omega (arith, le)) h
-index_at m w takes on d t (Some at) log le h =
-    let few = index_by m w takes on d t _ h.rest le h.goes_on in
-    asked (1 + m) log _ h.asks (omega (arith, few))
+given : (m : ℕ) (w : Whole) (kind : Kind) (next : Then) (on : After m next) → 2 ≤ m →
+    After m (AfterGiven kind w next)
+given m w Inflate next on le d t rest h = on d t rest h
+given m w Deflate next on le d t rest h = on d t rest h
+given m w Statistics next on le d t rest h = ends m w d t _ false rest le h
+given m w Report next on le d t rest h = on d t rest h
 
-looks_by : (m : ℕ) (w : Whole) (takes : List Access → Type 0) (on : Taken m takes) (d : Device)
-    (t : Tally) (denial : Option Denial) (log : List Access) → 2 ≤ m →
-    LooksBy denial w takes d t log → Few (1 + m) log
-looks_by m w takes on d t (Some why) log le h = ends (1 + m) w d t _ false log (omega (arith, le)) h
-looks_by m w takes on d t None log le h = index_at m w takes on d t _ log le h
-
-given : (m : ℕ) (w : Whole) (kind : Kind) (looks : Then) (on : After m looks) → 2 ≤ m →
-    After m (AfterGiven kind w looks)
-given m w Inflate looks on le d t rest h = on d t rest h
-given m w Deflate looks on le d t rest h = on d t rest h
-given m w Statistics looks on le d t rest h = ends m w d t _ false rest le h
-given m w Report looks on le d t rest h = on d t rest h
-
-takes : (n : ℕ) (w : Whole) (d : Device) (t : Tally) → Taken (2 + 776 * n) (TakesNext n w d t)
-takes zero w d t log h = ends (2 + 776 * zero) w d t _ true log (omega arith) h
+takes : (n : ℕ) (w : Whole) → After (2 + 775 * n) (TakesNext n w)
+takes zero w d t log h = ends (2 + 775 * zero) w d t _ true log (omega arith) h
 takes (suc n) w d t log h =
-    let few = unless_spent (1 + (2 + 776 * n)) w
-    (AfterGiven w.kind w (λ d2 t2 rest. LooksBy (queue_denial w.kind d2) w (TakesNext n w d2 t2)
-    d2 t2 rest)) (given (1 + (2 + 776 * n)) w w.kind _ (λ d2 t2 rest.
-    looks_by (2 + 776 * n) w _ (takes n w d2 t2) d2 t2 _ rest (omega arith)) (omega arith))
+    let few = unless_spent (2 + 775 * n) w (AfterGiven w.kind w (ServesPublished n w))
+    (given (2 + 775 * n) w w.kind _ (λ d2 t2 rest.
+    index_by (2 + 775 * n) w _ (takes n w d2 t2) d2 t2 _ rest (omega arith)) (omega arith))
     d (with_chains n t) (t.pages == 0) log h in
     omega (arith, few)
 
+index_at : (m : ℕ) (w : Whole) (next : Then) (on : After m next) (d : Device) (t : Tally)
+    (o : Option Spot) (log : List Access) → 2 ≤ m → IndexAt w next d t o log → Few (1 + m) log
+index_at m w next on d t None log le h = ends (1 + m) w _ t _ false log (omega (arith, le)) h
+index_at m w next on d t (Some at) log le h =
+    let few = on d _ h.rest h.goes_on in
+    asked (1 + m) log _ h.asks (omega (arith, few))
+
+looks_by : (m : ℕ) (w : Whole) (next : Then) (on : After m next) (d : Device) (t : Tally)
+    (denial : Option Denial) (log : List Access) → 2 ≤ m → LooksBy denial w next d t log →
+    Few (1 + m) log
+looks_by m w next on d t (Some why) log le h = ends (1 + m) w d t _ false log (omega (arith, le)) h
+looks_by m w next on d t None log le h = index_at m w next on d t _ log le h
+
 pub few_others : (regions : List Region) (kind : Kind) (budget : Budget) (d1 d2 : Device)
     (outcome : Outcome) (log : List Access) → Serves regions kind budget d1 d2 outcome log →
-    others log ≤ 3 + 776 * budget.chains
+    others log ≤ 3 + 775 * budget.chains
 few_others regions kind budget d1 d2 outcome log h =
     let w : Whole = record { regions = regions; kind = kind; device = d2; outcome = outcome } in
-    let few = looks_by (2 + 776 * budget.chains) w _ (takes budget.chains w d1 (fresh budget)) d1
-    (fresh budget) _ log (omega arith) h in
+    let m = 2 + 775 * budget.chains in
+    let few = looks_by m w (ServesPublished budget.chains w) (λ d t rest.
+    index_by m w _ (takes budget.chains w d t) d t _ rest (omega arith)) d1 (fresh budget) _ log
+    (omega arith) h in
     omega (arith, few)

@@ -13,7 +13,7 @@ use Rattle.vb_monitor.{specs.declared.outcome.Tally.Tally, specs.Regions.{spot, 
 use Rattle.vb_monitor.specs.Accesses.{TellPages, TellFigures, Discard, WriteNumber, WriteWord}
 use Rattle.vb_monitor.{specs.Ends.{Whole, Ends, EndsWhere, FlagsAt}}
 use Rattle.vb_monitor.specs.Giving.{after_use, is_kept, cuts_for, TellsThen, AfterName}
-use Rattle.vb_monitor.specs.Order.{is_read, is_copied, is_told, is_named, Row, Cuts}
+use Rattle.vb_monitor.specs.Order.{is_word, is_read, is_copied, is_told, is_named, Row, Cuts}
 
 -- What each access is where it is made, by the one before it.
 pub record Allows (w : Whole) (may : Option Access → Access → Type 0) : Type 0 where
@@ -21,7 +21,7 @@ pub record Allows (w : Whole) (may : Option Access → Access → Type 0) : Type
       may b (ReadWord at answer)
   pub copy : (b : Option Access) (a len : ℕ) (at : Spot) (bytes : List ℕ) → is_read b ≡ true →
       spot w.regions a len ≡ Some at → length bytes ≡ len → may b (CopyBytes at bytes)
-  pub acquire : (at : Spot) (answer : ℕ) → may (Some (ReadWord at answer)) Acquire
+  pub acquire : (b : Option Access) → is_word b ≡ true → may b Acquire
   pub release : (at : Spot) (n : ℕ) → may (Some (WriteNumber at n)) Release
   pub full : (b : Option Access) → may b Full
   pub pages : (b : Option Access) (runs : List Run) (named : Named) → is_copied b ≡ true →
@@ -63,15 +63,19 @@ pub ends_row : (w : Whole) (may : Option Access → Access → Type 0) (allows :
     (b : Option Access) (log : List Access) → Ends w d t why more log → Row may b log
 ends_row w may allows d t why more b log h = ends_where w may allows t.given d t why more b log h
 
--- what comes once a chain is given back is so, whatever stands before it
+-- what comes behind a word is so
+abbrev pub Behind : (Option Access → Access → Type 0) → (List Access → Type 0) → Type 0
+Behind may next =
+    (b : Option Access) (rest : List Access) → is_word b ≡ true → next rest → Row may b rest
+
+-- what comes once a chain is given back
 abbrev pub After : (Option Access → Access → Type 0) → Then → Type 0
-After may next =
-    (d : Device) (t : Tally) (b : Option Access) (rest : List Access) → next d t rest → Row may b rest
+After may next = (d : Device) (t : Tally) → Behind may (next d t)
 
 -- ---- a chain that is given back
 
 used_at : (w : Whole) (may : Option Access → Access → Type 0) (allows : Allows w may) (next : List Access → Type 0)
-    (on : (b : Option Access) (rest : List Access) → next rest → Row may b rest) (d : Device)
+    (on : Behind may next) (d : Device)
     (t : Tally) (e : UsedEntry) (id length index : Option Spot) (b : Option Access)
     (log : List Access) → is_named b ≡ true → spot w.regions e.element_at 4 ≡ id →
     spot w.regions (e.element_at + 4) 4 ≡ length → spot w.regions e.index_at 2 ≡ index →
@@ -91,7 +95,7 @@ used_at w may allows next on d t e (Some id) (Some length) (Some index) b log to
           allows.release length e.length,
           (
             allows.index e.index_at index e.index z,
-            on (Some (WriteWord index e.index)) h.rest h.goes_on,
+            on (Some (WriteWord index e.index)) h.rest refl h.goes_on,
           ),
         ),
       ),

@@ -41,6 +41,7 @@ mod GivingFacts
 mod ChainFacts
 mod LookFacts
 mod WholeFacts
+mod TwoFacts
 pub mod LargeLemmas
 pub mod LargeRows
 pub mod LargeLaws

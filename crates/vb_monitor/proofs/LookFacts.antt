@@ -6,7 +6,8 @@ use Rattle.vb_core.specs.declared.kinds.Kind.TheVariants.{Inflate, Deflate, Stat
 use Rattle.vb_core.{specs.declared.device.Denial.Denial, specs.declared.device.Device.Device}
 use Rattle.vb_core.specs.declared.device.Denial.TheVariants.{Broken, NotReady, NeedsReset}
 use Rattle.vb_monitor.specs.Notices.{entry_offset, stands, AfterIndex, AfterGiven, TakesNext}
-use Rattle.vb_monitor.specs.Notices.{LooksBy, IndexAt, TakesUnlessSpent}
+use Rattle.vb_monitor.specs.Notices.{LooksBy, IndexAt, TakesUnlessSpent, ServesPublished, with_published}
+use Rattle.vb_monitor.specs.declared.outcome.Tally.{Tally}
 use Rattle.vb_monitor.{proofs.Samples.{Same, two, at, ring, ready, tally, index}, specs.Giving.Then}
 use Rattle.vb_monitor.{specs.Notices.{with_chains, fresh, HeadBy}, specs.Accesses.{Access, ReadWord, Acquire}}
 use Rattle.vb_monitor.{specs.declared.outcome.Outcome.Outcome, specs.Ends.Whole}
@@ -67,58 +68,72 @@ taken_although_jumped d o h = let e = h.nothing in absurd cc
 -- ---- the look itself
 
 -- no chain stands there
-looked : LooksBy None (whole ready (end None false)) (λ log. ⊥) ready tally (ReadWord (at 0x102) 0 ∷ [])
+looked : LooksBy None (whole ready (end None false)) (ServesPublished 8 (whole ready (end None false))) ready tally
+    (ReadWord (at 0x102) 0 ∷ [])
 looked = record { index = 0; rest = []; asks = refl; goes_on = record { nothing = refl; device = refl; outcome = refl } }
 
-not_looked : LooksBy (Some NotReady) (whole ready (end (Some NotReady) false)) (λ log. ⊥) ready tally []
+not_looked : LooksBy (Some NotReady) (whole ready (end (Some NotReady) false)) (λ d t log. ⊥) ready tally []
 not_looked = record { nothing = refl; device = refl; outcome = refl }
 
 looked_although_refused : (d : Device) (o : Outcome) →
-    LooksBy (Some NotReady) (whole d o) (λ log. Unit {0}) ready tally (index ∷ []) → ⊥
+    LooksBy (Some NotReady) (whole d o) (λ d t log. Unit {0}) ready tally (index ∷ []) → ⊥
 looked_although_refused d o h = let e = h.nothing in absurd cc
 
-for_another_reason : LooksBy (Some NotReady) (whole ready (end (Some NeedsReset) false)) (λ log. ⊥) ready tally [] → ⊥
+for_another_reason : LooksBy (Some NotReady) (whole ready (end (Some NeedsReset) false)) (λ d t log. ⊥) ready tally [] → ⊥
 for_another_reason h = let e = ap (λ (o : Outcome). o.why) h.outcome in absurd cc
 
-refused_with_more : LooksBy (Some NotReady) (whole ready (end (Some NotReady) true)) (λ log. ⊥) ready tally [] → ⊥
+refused_with_more : LooksBy (Some NotReady) (whole ready (end (Some NotReady) true)) (λ d t log. ⊥) ready tally [] → ⊥
 refused_with_more h = let e = ap (λ (o : Outcome). o.more) h.outcome in absurd cc
 
 refused_and_broken : LooksBy (Some NotReady) (whole (record ready { status = 79 }) (end (Some NotReady) false))
-    (λ log. ⊥) ready tally [] → ⊥
+    (λ d t log. ⊥) ready tally [] → ⊥
 refused_and_broken h = let e : Same 79 15 = ap (λ (d : Device). d.status) h.device in omega arith
 
 abbrev read_at : List Access → ℕ
 read_at (ReadWord at answer ∷ xs) = at.offset
 read_at xs = 0
 
+abbrev answer_of : List Access → ℕ
+answer_of (ReadWord at answer ∷ xs) = answer
+answer_of xs = 0
+
 flags_in_its_place : (d : Device) (o : Outcome) →
-    LooksBy None (whole d o) (λ log. Unit {0}) ready tally (ReadWord (at 0x100) 0 ∷ []) → ⊥
+    LooksBy None (whole d o) (λ d t log. Unit {0}) ready tally (ReadWord (at 0x100) 0 ∷ []) → ⊥
 flags_in_its_place d o h = let e : Same 0x100 0x102 = ap read_at h.asks in omega arith
 
 -- of a queue whose index lies in a hole nothing is read: the guest broke a rule
 in_the_hole : LooksBy None (whole (record ready { inflate = record ring { avail = 0x14ffe }; status = 79 })
-    (end (Some (Broken OutOfRam)) false)) (λ log. ⊥) (record ready { inflate = record ring { avail = 0x14ffe } }) tally []
+    (end (Some (Broken OutOfRam)) false)) (λ d t log. ⊥) (record ready { inflate = record ring { avail = 0x14ffe } }) tally []
 in_the_hole = record { nothing = refl; device = refl; outcome = refl }
 
-nowhere : IndexAt (whole (record ready { status = 79 }) (end (Some (Broken OutOfRam)) false)) (λ log. ⊥) ready tally
+nowhere : IndexAt (whole (record ready { status = 79 }) (end (Some (Broken OutOfRam)) false)) (λ d t log. ⊥) ready tally
     None []
 nowhere = record { nothing = refl; device = refl; outcome = refl }
 
-of_another_rule : IndexAt (whole (record ready { status = 79 }) (end (Some (Broken IndexJump)) false)) (λ log. ⊥)
+of_another_rule : IndexAt (whole (record ready { status = 79 }) (end (Some (Broken IndexJump)) false)) (λ d t log. ⊥)
     ready tally None [] → ⊥
 of_another_rule h = let e = ap (λ (o : Outcome). o.why) h.outcome in absurd cc
 
-unbroken : (o : Outcome) → IndexAt (whole ready o) (λ log. ⊥) ready tally None [] → ⊥
+unbroken : (o : Outcome) → IndexAt (whole ready o) (λ d t log. ⊥) ready tally None [] → ⊥
 unbroken o h = let e : Same 15 79 = ap (λ (d : Device). d.status) h.device in omega arith
 
-somewhere : IndexAt (whole ready (end None false)) (λ log. log ≡ []) ready tally (Some (at 6)) (ReadWord (at 6) 1 ∷ [])
-somewhere = record { index = 1; rest = []; asks = refl; goes_on = refl }
+somewhere : IndexAt (whole ready (end None false)) (λ d t log. (t ≡ record tally { published = 1 }) × (log ≡ []))
+    ready tally (Some (at 6)) (ReadWord (at 6) 1 ∷ [])
+somewhere = record { index = 1; rest = []; asks = refl; goes_on = (refl, refl) }
+
+-- what was read is remembered
+forgotten : IndexAt (whole ready (end None false)) (λ d t log. t ≡ tally) ready tally (Some (at 6))
+    (ReadWord (at 6) 1 ∷ []) → ⊥
+forgotten h =
+    let read : Same 1 h.index = ap answer_of h.asks in
+    let kept : Same h.index 0 = ap (λ (t : Tally). t.published) h.goes_on in
+    omega (arith, read, kept)
 
 elsewhere : (d : Device) (o : Outcome) →
-    IndexAt (whole d o) (λ log. Unit {0}) ready tally (Some (at 6)) (ReadWord (at 8) 1 ∷ []) → ⊥
+    IndexAt (whole d o) (λ d t log. Unit {0}) ready tally (Some (at 6)) (ReadWord (at 8) 1 ∷ []) → ⊥
 elsewhere d o h = let e : Same 8 6 = ap read_at h.asks in omega arith
 
-unread : (d : Device) (o : Outcome) → IndexAt (whole d o) (λ log. Unit {0}) ready tally (Some (at 6)) [] → ⊥
+unread : (d : Device) (o : Outcome) → IndexAt (whole d o) (λ d t log. Unit {0}) ready tally (Some (at 6)) [] → ⊥
 unread d o h = let e = h.asks in absurd cc
 
 -- ---- budgets
@@ -179,23 +194,26 @@ one_chain_fewer = refl
 at_first : fresh (record { chains = 8; pages = 3; keeps = false }) ≡ tally
 at_first = refl
 
--- after a chain was given back the queue is looked at again, but that of statistics
-abbrev looks : Then
-looks = λ d t log. log ≡ index ∷ []
+remembered : with_published 4 tally ≡ record tally { published = 4 }
+remembered = refl
 
-inflates_again : AfterGiven Inflate (whole ready (end None false)) looks ready tally (index ∷ [])
-inflates_again = refl
+-- after a chain was given back the next one comes, but of statistics
+abbrev next : Then
+next = λ d t log. log ≡ Acquire ∷ []
 
-deflates_again : AfterGiven Deflate (whole ready (end None false)) looks ready tally (index ∷ [])
-deflates_again = refl
+inflates_go_on : AfterGiven Inflate (whole ready (end None false)) next ready tally (Acquire ∷ [])
+inflates_go_on = refl
 
-reports_again : AfterGiven Report (whole ready (end None false)) looks ready tally (index ∷ [])
-reports_again = refl
+deflates_go_on : AfterGiven Deflate (whole ready (end None false)) next ready tally (Acquire ∷ [])
+deflates_go_on = refl
 
-statistics_once : AfterGiven Statistics (whole ready (end None false)) looks ready tally []
+reports_go_on : AfterGiven Report (whole ready (end None false)) next ready tally (Acquire ∷ [])
+reports_go_on = refl
+
+statistics_once : AfterGiven Statistics (whole ready (end None false)) next ready tally []
 statistics_once = record { nothing = refl; device = refl; outcome = refl }
 
-statistics_again : (d : Device) (o : Outcome) → AfterGiven Statistics (whole d o) looks ready tally (index ∷ []) → ⊥
+statistics_again : (d : Device) (o : Outcome) → AfterGiven Statistics (whole d o) next ready tally (Acquire ∷ []) → ⊥
 statistics_again d o h = let e = h.nothing in absurd cc
 
 -- ---- heads

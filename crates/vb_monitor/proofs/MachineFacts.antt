@@ -65,17 +65,17 @@ as_it_ended : outcome_at (Ended (Some NotReady) false true) (record tally { page
     Some (record { tally = record tally { pages = 2 }; why = Some NotReady; interrupt = false; more = true })
 as_it_ended = refl
 
--- what is left of a chain, over two regions: 516 once its pages are named, 1029 once it is whole, and
--- 1287 before its entry is read
+-- what is left of a chain, over two regions: 515 once its pages are named, 1028 once it is whole, and
+-- 1286 before its entry is read
 left_of_each : map (left_of two) phases ≡
-    2 ∷ 1287 ∷ 1286 ∷ 1029 ∷ 516 ∷ 2 ∷ 515 ∷ 3 ∷ 1 ∷ 0 ∷ []
+    2 ∷ 1286 ∷ 1285 ∷ 1028 ∷ 515 ∷ 2 ∷ 514 ∷ 2 ∷ 1 ∷ 0 ∷ []
 unfolding parts_left
 left_of_each = refl
 
-one_piece_later : left_of two (AwaitsPart (at 0x400) (record place { piece = 1; is_second = true })) ≡ 1026
+one_piece_later : left_of two (AwaitsPart (at 0x400) (record place { piece = 1; is_second = true })) ≡ 1025
 one_piece_later = refl
 
-one_descriptor_later : left_of two (AwaitsDescriptor (at 0x30) (record walk { count = 1 })) ≡ 1285
+one_descriptor_later : left_of two (AwaitsDescriptor (at 0x30) (record walk { count = 1 })) ≡ 1284
 one_descriptor_later = refl
 
 -- of the last of 256 runs no part is left behind both regions, and of the one before it two
@@ -88,7 +88,7 @@ unfolding parts_left
 of_the_run_before = refl
 
 -- each chain of the budget counts
-left_of_all : left two (record { tally = tally; phase = AwaitsIndex (at 0x102) }) ≡ 8 * 1287 + 2
+left_of_all : left two (record { tally = tally; phase = AwaitsIndex (at 0x102) }) ≡ 8 * 1286 + 2
 unfolding of_chains
 left_of_all = refl
 

@@ -3,8 +3,8 @@ use Rattle.std.proofs.Common.{◌≡◌, sym, subst, arith, ℕ, zero, suc, ◌+
 use Rattle.std.{proofs.Common.{true, false, List, [], ◌∷◌, None}, specs.Prelude.◌==◌}
 use Rattle.vb_chain.specs.declared.{pieces.Piece.Piece, fault.ChainFault.TheVariants.TooLong}
 use Rattle.vb_core.specs.{declared.device.Device.Device, Devices.ring_of}
-use Rattle.vb_monitor.specs.Notices.{TakesChain, TakesNext, TakesUnlessSpent, AfterGiven, Looks}
-use Rattle.vb_monitor.specs.{Notices.with_chains, declared.outcome.Tally.Tally}
+use Rattle.vb_monitor.specs.Notices.{TakesChain, TakesNext, TakesUnlessSpent, AfterGiven}
+use Rattle.vb_monitor.specs.{Notices.{with_chains, ServesPublished}, declared.outcome.Tally.Tally}
 use Rattle.vb_monitor.specs.{declared.parts.Part.Part, Accesses.Access, Regions.spot, Ends.Whole}
 use Rattle.vb_monitor.specs.{Ends.{Ends, Breaks}, Pieces.{PartBy, fits_behind, CopiesParts}}
 use Rattle.vb_monitor.specs.{Chains.{DescriptorAt, Follows}, Machine.next_chain}
@@ -13,11 +13,11 @@ use Rattle.vb_monitor.proofs.BufferLemmas.{second_in, no_second_in, behind_in}
 -- the budget, one chain less
 takes_by : (m : ℕ) (w : Whole) (d : Device) (t : Tally) (log : List Access) (spent : Bool) →
     (t.pages == 0) ≡ spent →
-    TakesUnlessSpent spent w (AfterGiven w.kind w (Looks m w)) d (with_chains m t) log →
+    TakesUnlessSpent spent w (AfterGiven w.kind w (ServesPublished m w)) d (with_chains m t) log →
     TakesNext (suc m) w d t log
 takes_by m w d t log spent e h =
-    subst (λ (b : Bool). TakesUnlessSpent b w (AfterGiven w.kind w (Looks m w)) d (with_chains m t)
-    log) (sym e) h
+    subst (λ (b : Bool). TakesUnlessSpent b w (AfterGiven w.kind w (ServesPublished m w)) d
+    (with_chains m t) log) (sym e) h
 
 pub takes_next : (n : ℕ) (w : Whole) (d : Device) (t : Tally) (log : List Access) → 0 < n →
     (t.pages == 0) ≡ false →

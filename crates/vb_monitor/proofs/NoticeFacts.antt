@@ -71,7 +71,7 @@ other_bits : wants_interrupt 0xfffe ≡ true
 other_bits = refl
 
 abbrev tally : Tally
-tally = record { chains = 8; pages = 3; keeps = false; given = false; held = None }
+tally = record { chains = 8; pages = 3; keeps = false; given = false; held = None; published = 0 }
 
 all_spent : (spent 4 tally).pages ≡ 0
 all_spent = refl
@@ -113,9 +113,8 @@ abbrev at : ℕ → Spot
 at n = record { region = 0; offset = n }
 
 -- an index that isn't read, one that is read elsewhere
-no_index : (w : Whole) (takes : List Access → Type 0) (d : Device) (t : Tally) →
-    AsksIndex w takes d t (at 258) [] → ⊥
-no_index w takes d t h = let e = h.asks in absurd cc
+no_index : (next : Then) (d : Device) (t : Tally) → AsksIndex next d t (at 258) [] → ⊥
+no_index next d t h = let e = h.asks in absurd cc
 
 -- an entry that is read without a fence
 no_acquire : (w : Whole) (next : Then) (d : Device) (t : Tally) (head : ℕ) (rest : List Access) →

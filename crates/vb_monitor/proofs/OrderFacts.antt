@@ -2,7 +2,7 @@
 use Rattle.std.proofs.Common.{◌≡◌, ◌≤◌, refl, arith, ℕ, true, false, List, [], ◌∷◌}
 use Rattle.vb_core.specs.declared.kinds.Kind.TheVariants.{Inflate, Statistics}
 use Rattle.vb_core.{specs.declared.runs.Run.Run, specs.declared.statistics.Statistic.Statistic}
-use Rattle.vb_monitor.specs.Accesses.{Access, ReadWord, TellPages, TellFigures, Discard}
+use Rattle.vb_monitor.specs.Accesses.{Access, ReadWord, Acquire, TellPages, TellFigures, Discard}
 use Rattle.vb_monitor.specs.{Accesses.{WriteNumber, WriteWord, Release}, declared.regions.Spot.Spot}
 use Rattle.vb_monitor.specs.declared.{cuts.Cut.Cut, orders.Told.TheVariants.{Nothing, Pages}}
 use Rattle.vb_monitor.specs.declared.orders.{Told.TheVariants.Figures, Asked.Asked, Orders.Orders}
@@ -42,12 +42,13 @@ cuts = cut 4096 ∷ cut 8192 ∷ cut 12288 ∷ []
 abbrev read : List Access
 read = ReadWord (spot 2) 1 ∷ []
 
--- pages are told, two parts are discarded, and a chain is given back; then the index is read
-all_of_them : at_once (record { told = Pages; gives = true }) Inflate orders cuts runs figures read ≡
+-- pages are told, two parts are discarded, and a chain is given back; then the next entry is read
+all_of_them : at_once (record { told = Pages; gives = true }) Inflate orders cuts runs figures
+    (Acquire ∷ ReadWord (spot 6) 3 ∷ []) ≡
     TellPages Inflate (record { first = 1; count = 1 } ∷ []) (record { runs = 1; pages = 1; skipped = 3 })
     ∷ Discard (cut 4096) ∷ Discard (cut 8192)
     ∷ WriteNumber (spot 8) 5 ∷ WriteNumber (spot 12) 0 ∷ Release ∷ WriteWord (spot 2) 7
-    ∷ ReadWord (spot 2) 1 ∷ []
+    ∷ Acquire ∷ ReadWord (spot 6) 3 ∷ []
 all_of_them = refl
 
 figures_alone : at_once (record { told = Figures; gives = false }) Statistics

@@ -74,7 +74,7 @@ no_page_and_a_half = refl
 
 abbrev outcome : Outcome
 outcome = record {
-  tally = record { chains = 0; pages = 0; keeps = false; given = true; held = None };
+  tally = record { chains = 0; pages = 0; keeps = false; given = true; held = None; published = 0 };
   why = None;
   interrupt = false;
   more = false;

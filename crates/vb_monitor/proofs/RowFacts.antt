@@ -12,7 +12,7 @@ abbrev each : List (Option Access)
 each = None ∷ Some index ∷ Some part ∷ Some Acquire ∷ Some Release
     ∷ Some Full ∷ Some pages ∷ Some figures ∷ Some discard ∷ Some id ∷ Some used_index ∷ []
 
-words : map is_word each ≡ false ∷ true ∷ false ∷ false ∷ false ∷ false ∷ false ∷ false ∷ false ∷ false ∷ false ∷ []
+words : map is_word each ≡ false ∷ true ∷ false ∷ false ∷ false ∷ false ∷ false ∷ false ∷ false ∷ false ∷ true ∷ []
 words = refl
 
 copies : map is_copied each ≡ false ∷ false ∷ true ∷ false ∷ false ∷ false ∷ false ∷ false ∷ false ∷ false ∷ false ∷ []
@@ -35,10 +35,14 @@ numbers = refl
 -- page 5 is inflated, and the driver asked whether it wants an interrupt
 abbrev inflated : List Access
 inflated = index ∷ Acquire ∷ entry ∷ descriptor
-    ∷ part ∷ pages ∷ discard ∷ id ∷ used_length ∷ Release ∷ used_index ∷ index ∷ Full ∷ flags ∷ []
+    ∷ part ∷ pages ∷ discard ∷ id ∷ used_length ∷ Release ∷ used_index ∷ Full ∷ flags ∷ []
 
 in_order : Row MayFollow None inflated
-in_order = (tt, (refl, (tt, (refl, (refl, (refl, (refl, (refl, (refl, (refl, (refl, (tt, (tt, (tt, tt))))))))))))))
+in_order = (tt, (refl, (tt, (refl, (refl, (refl, (refl, (refl, (refl, (refl, (refl, (tt, (tt, tt)))))))))))))
+
+-- behind a chain that was given back comes the next one's entry
+next_in_order : Row MayFollow (Some Release) (used_index ∷ Acquire ∷ entry ∷ descriptor ∷ [])
+next_in_order = (refl, (refl, (tt, (refl, tt))))
 
 -- statistics are told, and the buffer stays
 statistics_in_order : Row MayFollow None (index ∷ Acquire ∷ entry ∷ descriptor ∷ part ∷ figures ∷ [])
@@ -50,12 +54,18 @@ not_the_second row = let e : false ≡ true = row.1.0 in absurd cc
 
 -- ---- what isn't in order
 
--- an acquire fence that comes first, or behind another one
+-- an acquire fence that comes first, behind another one, behind bytes, or behind a number
 fence_first : MayFollow None Acquire → ⊥
 fence_first h = let e : false ≡ true = h in absurd cc
 
 fence_twice : MayFollow (Some Acquire) Acquire → ⊥
 fence_twice h = let e : false ≡ true = h in absurd cc
+
+fence_behind_bytes : MayFollow (Some part) Acquire → ⊥
+fence_behind_bytes h = let e : false ≡ true = h in absurd cc
+
+fence_before_the_index : MayFollow (Some used_length) Acquire → ⊥
+fence_before_the_index h = let e : false ≡ true = h in absurd cc
 
 -- bytes behind a fence, behind what was told, and behind an index
 bytes_behind_a_fence : MayFollow (Some Acquire) descriptor → ⊥

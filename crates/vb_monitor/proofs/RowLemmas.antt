@@ -5,7 +5,7 @@ use Rattle.std.specs.Prelude.{◌==◌}
 use Rattle.vb_chain.{specs.declared.pieces.Piece.Piece, specs.declared.fault.ChainFault.ChainFault}
 use Rattle.vb_chain.{specs.declared.descriptor.Descriptor.Descriptor, specs.Rules.has_next}
 use Rattle.vb_request.{specs.Request.request_length, specs.Statistics.statistics_length}
-use Rattle.vb_core.specs.{Devices.{ring_of, queue_denial}, Statistics.statistics_denial}
+use Rattle.vb_core.specs.{Devices.ring_of, Statistics.statistics_denial}
 use Rattle.vb_core.specs.declared.{device.Denial.Denial, device.Device.Device, kinds.Kind.Kind}
 use Rattle.vb_core.specs.declared.kinds.Kind.TheVariants.{Inflate, Deflate, Statistics, Report}
 use Rattle.vb_monitor.specs.Accesses.{Access, ReadWord, CopyBytes, Acquire}
@@ -13,11 +13,12 @@ use Rattle.vb_monitor.specs.Chains.{FiguresBy, AfterBytes, CopiesBy, ServesPiece
 use Rattle.vb_monitor.specs.Chains.{DescriptorBy, DescriptorAt, Follows, descriptor_of}
 use Rattle.vb_monitor.specs.Notices.{HeadBy, EntryAt, entry_offset, AfterIndex, IndexAt}
 use Rattle.vb_monitor.specs.Notices.{LooksBy, AfterGiven, TakesUnlessSpent, TakesNext, Looks}
+use Rattle.vb_monitor.specs.Notices.{ServesPublished}
 use Rattle.vb_monitor.specs.Pieces.{PartAt, PartBy, CopiesParts, all_parts}
-use Rattle.vb_monitor.{proofs.GivenLemmas.{Allows, After, ends_row, name_row}, specs.Regions.spot}
+use Rattle.vb_monitor.{proofs.GivenLemmas.{Allows, Behind, After, ends_row, name_row}, specs.Regions.spot}
 use Rattle.vb_monitor.{specs.declared.room.TheConstants.MAX_FIGURES, specs.declared.parts.Part.Part}
 use Rattle.vb_monitor.{specs.Chains.{descriptors}, specs.declared.outcome.Tally.Tally}
-use Rattle.vb_monitor.{specs.Order.{is_read, is_copied, Row}, specs.declared.regions.Spot.Spot}
+use Rattle.vb_monitor.{specs.Order.{is_word, is_read, is_copied, Row}, specs.declared.regions.Spot.Spot}
 use Rattle.vb_monitor.{specs.Notices.with_chains, specs.Giving.Then, specs.Ends.Whole}
 
 -- ---- what bytes and pieces come to
@@ -167,75 +168,63 @@ head_row w may allows next on d t head true b log was h =
     (pieces_row w may allows w.kind next on d t head) head false [] b log was h
 
 entry_row : (w : Whole) (may : Option Access → Access → Type 0) (allows : Allows w may) (a : ℕ) (next : Then) (on : After may next) (d : Device) (t : Tally)
-    (o : Option Spot) (at0 : Spot) (answer : ℕ) (log : List Access) → spot w.regions a 2 ≡ o →
-    EntryAt w next d t o log → Row may (Some (ReadWord at0 answer)) log
-entry_row w may allows a next on d t None at0 answer log e h =
-    ends_row w may allows _ t _ false _ log h
-entry_row w may allows a next on d t (Some at) at0 answer log e h =
-    subst (λ (l : List Access). Row may (Some (ReadWord at0 answer)) l) (sym h.asks) (
-      allows.acquire at0 answer,
+    (o : Option Spot) (b : Option Access) (log : List Access) → is_word b ≡ true →
+    spot w.regions a 2 ≡ o → EntryAt w next d t o log → Row may b log
+entry_row w may allows a next on d t None b log was e h = ends_row w may allows _ t _ false b log h
+entry_row w may allows a next on d t (Some at) b log was e h =
+    subst (λ (l : List Access). Row may b l) (sym h.asks) (
+      allows.acquire b was,
       (
         allows.word (Some Acquire) a at h.head e,
         head_row w may allows next on d t h.head _ (Some (ReadWord at h.head)) _ refl h.goes_on,
       ),
     )
 
--- what is taken comes behind the index
-abbrev Taken : (Option Access → Access → Type 0) → (List Access → Type 0) → Type 0
-Taken may takes = (at : Spot) (answer : ℕ) (rest : List Access)
-    → takes rest → Row may (Some (ReadWord at answer)) rest
-
-unless_spent : (w : Whole) (may : Option Access → Access → Type 0) (allows : Allows w may) (next : Then) (on : After may next) (d : Device) (t : Tally) (spent : Bool)
-    (at : Spot) (answer : ℕ) (log : List Access) → TakesUnlessSpent spent w next d t log →
-    Row may (Some (ReadWord at answer)) log
-unless_spent w may allows next on d t true at answer log h =
-    ends_row w may allows d t _ true _ log h
-unless_spent w may allows next on d t false at answer log h =
+unless_spent : (w : Whole) (may : Option Access → Access → Type 0) (allows : Allows w may) (next : Then) (on : After may next) (d : Device) (t : Tally) (spent : Bool) →
+    Behind may (TakesUnlessSpent spent w next d t)
+unless_spent w may allows next on d t true b log was h = ends_row w may allows d t _ true b log h
+unless_spent w may allows next on d t false b log was h =
     entry_row w may allows ((ring_of w.kind d).avail + entry_offset (ring_of w.kind d)) next on d t
-    _ at answer log refl h
+    _ b log was refl h
 
-index_by : (w : Whole) (may : Option Access → Access → Type 0) (allows : Allows w may) (takes : List Access → Type 0) (on : Taken may takes) (d : Device) (t : Tally)
-    (there : Result Bool ChainFault) (at : Spot) (answer : ℕ) (log : List Access) →
-    AfterIndex there w takes d t log → Row may (Some (ReadWord at answer)) log
-index_by w may allows takes on d t (Err fault) at answer log h =
-    ends_row w may allows _ t _ false _ log h
-index_by w may allows takes on d t (Ok false) at answer log h =
-    ends_row w may allows d t _ false _ log h
-index_by w may allows takes on d t (Ok true) at answer log h = on at answer log h
+index_by : (w : Whole) (may : Option Access → Access → Type 0) (allows : Allows w may) (takes : List Access → Type 0) (on : Behind may takes) (d : Device) (t : Tally)
+    (there : Result Bool ChainFault) → Behind may (AfterIndex there w takes d t)
+index_by w may allows takes on d t (Err fault) b log was h = ends_row w may allows _ t _ false b log h
+index_by w may allows takes on d t (Ok false) b log was h = ends_row w may allows d t _ false b log h
+index_by w may allows takes on d t (Ok true) b log was h = on b log was h
 
-index_at : (w : Whole) (may : Option Access → Access → Type 0) (allows : Allows w may) (a : ℕ) (takes : List Access → Type 0) (on : Taken may takes) (d : Device)
+given_row : (w : Whole) (may : Option Access → Access → Type 0) (allows : Allows w may) (kind : Kind) (next : Then) (on : After may next) →
+    After may (AfterGiven kind w next)
+given_row w may allows Inflate next on d t b rest was h = on d t b rest was h
+given_row w may allows Deflate next on d t b rest was h = on d t b rest was h
+given_row w may allows Statistics next on d t b rest was h =
+    ends_row w may allows d t _ false b rest h
+given_row w may allows Report next on d t b rest was h = on d t b rest was h
+
+takes_row : (n : ℕ) (w : Whole) (may : Option Access → Access → Type 0) (allows : Allows w may) →
+    After may (TakesNext n w)
+takes_row zero w may allows d t b log was h = ends_row w may allows d t _ true b log h
+takes_row (suc n) w may allows d t b log was h = unless_spent w may allows
+    (AfterGiven w.kind w (ServesPublished n w)) (given_row w may allows w.kind _ (λ d2 t2.
+    index_by w may allows _ (takes_row n w may allows d2 t2) d2 t2 _))
+    d (with_chains n t) (t.pages == 0) b log was h
+
+index_at : (w : Whole) (may : Option Access → Access → Type 0) (allows : Allows w may) (a : ℕ) (next : Then) (on : After may next) (d : Device)
     (t : Tally) (o : Option Spot) (b : Option Access) (log : List Access) →
-    spot w.regions a 2 ≡ o → IndexAt w takes d t o log → Row may b log
-index_at w may allows a takes on d t None b log e h = ends_row w may allows _ t _ false b log h
-index_at w may allows a takes on d t (Some at) b log e h =
-    subst (λ (l : List Access). Row may b l) (sym h.asks) (
-      allows.word b a at h.index e,
-      index_by w may allows takes on d t _ at h.index h.rest h.goes_on,
-    )
+    spot w.regions a 2 ≡ o → IndexAt w next d t o log → Row may b log
+index_at w may allows a next on d t None b log e h = ends_row w may allows _ t _ false b log h
+index_at w may allows a next on d t (Some at) b log e h =
+    subst (λ (l : List Access). Row may b l) (sym h.asks)
+    (allows.word b a at h.index e, on d _ (Some (ReadWord at h.index)) h.rest refl h.goes_on)
 
-looks_by : (w : Whole) (may : Option Access → Access → Type 0) (allows : Allows w may) (takes : List Access → Type 0) (on : Taken may takes) (d : Device) (t : Tally)
+looks_by : (w : Whole) (may : Option Access → Access → Type 0) (allows : Allows w may) (next : Then) (on : After may next) (d : Device) (t : Tally)
     (denial : Option Denial) (b : Option Access) (log : List Access) →
-    LooksBy denial w takes d t log → Row may b log
-looks_by w may allows takes on d t (Some why) b log h = ends_row w may allows d t _ false b log h
-looks_by w may allows takes on d t None b log h =
-    index_at w may allows ((ring_of w.kind d).avail + 2) takes on d t _ b log refl h
-
-given_row : (w : Whole) (may : Option Access → Access → Type 0) (allows : Allows w may) (kind : Kind) (looks : Then) (on : After may looks) →
-    After may (AfterGiven kind w looks)
-given_row w may allows Inflate looks on d t b rest h = on d t b rest h
-given_row w may allows Deflate looks on d t b rest h = on d t b rest h
-given_row w may allows Statistics looks on d t b rest h = ends_row w may allows d t _ false b rest h
-given_row w may allows Report looks on d t b rest h = on d t b rest h
-
-takes_row : (n : ℕ) (w : Whole) (may : Option Access → Access → Type 0) (allows : Allows w may) (d : Device) (t : Tally) → Taken may (TakesNext n w d t)
-takes_row zero w may allows d t at answer log h = ends_row w may allows d t _ true _ log h
-takes_row (suc n) w may allows d t at answer log h = unless_spent w may allows
-    (AfterGiven w.kind w (λ d2 t2 rest. LooksBy (queue_denial w.kind d2) w (TakesNext n w d2 t2) d2
-    t2 rest)) (given_row w may allows w.kind
-    _ (λ d2 t2. looks_by w may allows _ (takes_row n w may allows d2 t2) d2 t2 _))
-    d (with_chains n t) (t.pages == 0) at answer log h
+    LooksBy denial w next d t log → Row may b log
+looks_by w may allows next on d t (Some why) b log h = ends_row w may allows d t _ false b log h
+looks_by w may allows next on d t None b log h =
+    index_at w may allows ((ring_of w.kind d).avail + 2) next on d t _ b log refl h
 
 pub looks_row : (n : ℕ) (w : Whole) (may : Option Access → Access → Type 0) (allows : Allows w may) (d : Device) (t : Tally) (b : Option Access) (log : List Access) →
     Looks n w d t log → Row may b log
-looks_row n w may allows d t b log h =
-    looks_by w may allows (TakesNext n w d t) (takes_row n w may allows d t) d t _ b log h
+looks_row n w may allows d t b log h = looks_by w may allows (ServesPublished n w)
+    (λ d2 t2. index_by w may allows _ (takes_row n w may allows d2 t2) d2 t2 _) d t _ b log h

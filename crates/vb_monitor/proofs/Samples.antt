@@ -72,7 +72,7 @@ ready = record (new_device settings) {
 }
 
 abbrev pub tally : Tally
-tally = record { chains = 8; pages = 3; keeps = false; given = false; held = None }
+tally = record { chains = 8; pages = 3; keeps = false; given = false; held = None; published = 0 }
 
 -- ---- accesses
 
@@ -128,9 +128,9 @@ used_index = WriteWord (at 0x202) 1
 abbrev pub flags : Access
 flags = ReadWord (at 0x100) 0
 
--- a chain is given back, the queue is looked at again, and nothing stands there
+-- a chain is given back, and no other one stands there
 abbrev pub given : List Access
-given = id ∷ used_length ∷ Release ∷ used_index ∷ index ∷ Full ∷ flags ∷ []
+given = id ∷ used_length ∷ Release ∷ used_index ∷ Full ∷ flags ∷ []
 
 -- a notice of one chain of one page
 abbrev pub budget : Budget
@@ -138,7 +138,7 @@ budget = record { chains = 8; pages = 256; keeps = false }
 
 abbrev pub outcome : Outcome
 outcome = record {
-  tally = record { chains = 7; pages = 255; keeps = false; given = true; held = None };
+  tally = record { chains = 7; pages = 255; keeps = false; given = true; held = None; published = 1 };
   why = None;
   interrupt = true;
   more = false;

@@ -4,9 +4,10 @@ use Rattle.std.proofs.Common.{◌≡◌, refl, ℕ, Bool, true, false, [], ◌�
 use Rattle.vb_core.specs.declared.kinds.Kind.TheVariants.{Inflate, Deflate, Statistics, Report}
 use Rattle.vb_core.specs.declared.{next.ChainPiece.ChainPiece, ring.Virtqueue.Virtqueue}
 use Rattle.vb_core.specs.{declared.kinds.Kind.Kind, Devices.with_ring}
-use Rattle.vb_monitor.{specs.declared.regions.Spot.Spot, specs.declared.step.Place.Place}
-use Rattle.vb_monitor.{specs.Served.{is_last, looks_again, look_place, first_has}}
-use Rattle.vb_monitor.proofs.Samples.{two, at, ring, ready}
+use Rattle.vb_monitor.specs.declared.usual.NextWord.{NextWord, TheVariants.{Entry, Flags}}
+use Rattle.vb_monitor.{specs.declared.step.Place.Place}
+use Rattle.vb_monitor.{specs.Served.{is_last, goes_on, word_behind, first_has}}
+use Rattle.vb_monitor.proofs.Samples.{two, at, ring, ready, tally}
 
 -- ---- the last part of a chain's pieces
 
@@ -48,38 +49,46 @@ empty_piece_behind : is_last (part 2 0 false) (bytes 0x400 4 ∷ bytes 0x500 0 �
 unfolding pieces_in
 empty_piece_behind = refl
 
--- ---- where the queue is looked at again
+-- ---- which word is read behind a chain
 
-all_but_statistics : map looks_again (Inflate ∷ Deflate ∷ Statistics ∷ Report ∷ []) ≡
+all_but_statistics : map goes_on (Inflate ∷ Deflate ∷ Statistics ∷ Report ∷ []) ≡
     true ∷ true ∷ false ∷ true ∷ []
 all_but_statistics = refl
 
-abbrev place : Kind → ℕ → Virtqueue → Option Spot
-place kind head r = look_place two kind head (with_ring kind r ready)
+-- by an index that publishes so many chains, of which the first one was taken
+abbrev word : ℕ → Kind → ℕ → Virtqueue → Option NextWord
+word index kind head r = word_behind two kind (record tally { published = index }) head
+    (with_ring kind (record r { next_avail = 1 }) ready)
 
-index_there : place Inflate 7 ring ≡ Some (at 0x102)
-index_there = refl
+flags_there : word 1 Inflate 7 ring ≡ Some (Flags (at 0x100))
+flags_there = refl
 
-reports_too : place Report 7 ring ≡ Some (at 0x102)
+entry_there : word 2 Inflate 7 ring ≡ Some (Entry (at 0x106))
+entry_there = refl
+
+reports_too : word 2 Report 7 ring ≡ Some (Entry (at 0x106))
 reports_too = refl
 
-no_descriptor : place Inflate 8 ring ≡ None
+no_descriptor : word 1 Inflate 8 ring ≡ None
 no_descriptor = refl
 
-a_held_buffer : place Statistics 7 ring ≡ None
+a_held_buffer : word 1 Statistics 7 ring ≡ None
 a_held_buffer = refl
 
-index_in_the_hole : place Inflate 7 (record ring { avail = 0x15000 }) ≡ None
-index_in_the_hole = refl
+jumped : word 0 Inflate 7 ring ≡ None
+jumped = refl
 
-used_ring_in_the_hole : place Inflate 7 (record ring { used = 0x15000 }) ≡ None
+flags_in_the_hole : word 1 Inflate 7 (record ring { avail = 0x15000 }) ≡ None
+flags_in_the_hole = refl
+
+used_ring_in_the_hole : word 1 Inflate 7 (record ring { used = 0x15000 }) ≡ None
 used_ring_in_the_hole = refl
 
 -- the id is the last word of the region, and the length stands in the hole
-half_an_element : place Inflate 7 (record ring { used = 0x14ff8 }) ≡ None
+half_an_element : word 1 Inflate 7 (record ring { used = 0x14ff8 }) ≡ None
 half_an_element = refl
 
-whole_element : place Inflate 7 (record ring { used = 0x14ff4 }) ≡ Some (at 0x102)
+whole_element : word 1 Inflate 7 (record ring { used = 0x14ff4 }) ≡ Some (Flags (at 0x100))
 whole_element = refl
 
 -- ---- whether the first region has all that is written for a chain: 8 bytes of an element, and the index

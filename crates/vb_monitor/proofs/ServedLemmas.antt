@@ -8,7 +8,7 @@ use Rattle.vb_chain.specs.declared.fault.ChainFault.{ChainFault}
 use Rattle.vb_request.specs.Request.{is_request_length}
 use Rattle.vb_core.specs.declared.kinds.Kind.TheVariants.{Inflate, Deflate, Statistics, Report}
 use Rattle.vb_core.specs.declared.{kinds.Kind.Kind, device.Device.Device, device.Denial.Denial}
-use Rattle.vb_core.specs.{declared.runs.Run.Run, declared.name.Named.Named, Rings.used_entry}
+use Rattle.vb_core.specs.{declared.runs.Run.Run, declared.name.Named.Named, Rings.{used_entry, with_used}}
 use Rattle.vb_core.specs.declared.ring.UsedEntry.{UsedEntry}
 use Rattle.vb_core.specs.Devices.{ring_of, call_denial, queue_denial}
 use Rattle.vb_core.specs.{Name.{is_request, NamesBy, name_denial, after_request}, Next.told}
@@ -20,10 +20,11 @@ use Rattle.vb_monitor.specs.{Accesses.Access, Regions.spot, Ends.Whole, Pieces.C
 use Rattle.vb_monitor.specs.Giving.{Then, used_spots, used_accesses, UsedAt, GivesBack, GivesBackBy}
 use Rattle.vb_monitor.specs.{Giving.{with_given, after_use, AfterName, three_spots}, Orders.giving}
 use Rattle.vb_monitor.specs.{Chains.{NamesBytes, AfterBytes}, Machine.{next_chain, served}}
-use Rattle.vb_monitor.specs.Notices.{TakesNext, AsksIndex, IndexAt, Looks, LooksBy, AfterGiven}
-use Rattle.vb_monitor.specs.Served.{looks_again, none_left}
+use Rattle.vb_monitor.specs.{Machine.{AheadAt, Room}, Notices.{stands, ServesPublished, AfterGiven}}
+use Rattle.vb_monitor.specs.{Served.{goes_on, none_left}, declared.usual.NextWord.NextWord}
+use Rattle.vb_monitor.specs.Usual.{word_by, word_place, phase_at, tally_at}
 use Rattle.vb_core.specs.declared.ring.Virtqueue.{Virtqueue}
-use Rattle.vb_monitor.proofs.TurnLemmas.{moves}
+use Rattle.vb_monitor.proofs.{TurnLemmas.moves, UsualLemmas.word_goes}
 use Rattle.vb_monitor.proofs.{NextLemmas.copies_none, RoomLemmas.few_named}
 
 -- ---- a queue that is served stays so
@@ -34,21 +35,19 @@ opened kind true true d e = e
 opened kind false fits d e = absurd cc
 opened kind true false d e = absurd cc
 
--- ---- a chain is given back, and the queue looked at again
+pub used_open : (kind : Kind) (head : ℕ) (d : Device) → use_denial kind head d ≡ None →
+    queue_denial kind (after_use kind d) ≡ None
+used_open kind head d e =
+    (moves kind d).used_denial ∙ opened kind true (nat_lt head (ring_of kind d).size) d e
 
-again : (kind : Kind) (w : Whole) (looks : Then) (d : Device) (t : Tally) (log : List Access) →
-    looks_again kind ≡ true → looks d t log → AfterGiven kind w looks d t log
-again Inflate w looks d t log e h = h
-again Deflate w looks d t log e h = h
-again Statistics w looks d t log e h = absurd (grind arith)
-again Report w looks d t log e h = h
+-- ---- a chain is given back, and the next one comes
 
-looked : (w : Whole) (d : Device) (t : Tally) (at : Spot) (log : List Access) →
-    queue_denial w.kind d ≡ None → spot w.regions ((ring_of w.kind d).avail + 2) 2 ≡ Some at →
-    AsksIndex w (TakesNext t.chains w d t) d t at log → Looks t.chains w d t log
-looked w d t at log ready place h =
-    subst (λ (o : Option Denial). LooksBy o w (TakesNext t.chains w d t) d t log) (sym ready)
-    (subst (λ (o : Option Spot). IndexAt w (TakesNext t.chains w d t) d t o log) (sym place) h)
+again : (kind : Kind) (w : Whole) (next : Then) (d : Device) (t : Tally) (log : List Access) →
+    goes_on kind ≡ true → next d t log → AfterGiven kind w next d t log
+again Inflate w next d t log e h = h
+again Deflate w next d t log e h = h
+again Statistics w next d t log e h = absurd (grind arith)
+again Report w next d t log e h = h
 
 may_use : (kind : Kind) (head : ℕ) (d : Device) → head < (ring_of kind d).size →
     queue_denial kind d ≡ None → use_denial kind head d ≡ None
@@ -56,29 +55,39 @@ may_use kind head d lt e =
     let fits : nat_lt head (ring_of kind d).size ≡ true = grind (arith, nat_tests) in
     ap (λ (b : Bool). call_denial kind true b true d) fits ∙ e
 
+-- the used index says nothing of what is read next
+same_word : (o : Result Bool ChainFault) (rs : List Region) (t : Tally) (r : Virtqueue) →
+    word_by o rs t (with_used r) ≡ word_by o rs t r
+same_word (Ok true) rs t r = refl
+same_word (Ok false) rs t r = refl
+same_word (Err f) rs t r = refl
+
 pub given_goes : (w : Whole) (d d2 : Device) (t : Tally) (head : ℕ) (u : Used) (s : UsedSpots)
-    (at : Spot) (log : List Access) → looks_again w.kind ≡ true → head < (ring_of w.kind d).size
-    → queue_denial w.kind d ≡ None → used_spots w.regions (used_entry (ring_of w.kind d) head)
-    ≡ Some s → spot w.regions ((ring_of w.kind d).avail + 2) 2 ≡ Some at
+    (word : NextWord) (room : Room) (log : List Access) → goes_on w.kind ≡ true
+    → head < (ring_of w.kind d).size → queue_denial w.kind d ≡ None
+    → used_spots w.regions (used_entry (ring_of w.kind d) head) ≡ Some s
+    → word_place w.regions (with_given t) (ring_of w.kind d) ≡ Some word
     → d2 ≡ after_use w.kind d → giving true u ≡ used_accesses s (used_entry (ring_of w.kind d) head)
-    → AsksIndex w (TakesNext t.chains w d2 (with_given t)) d2 (with_given t) at log
+    → AheadAt (phase_at word) w (tally_at word (with_given t)) d2 room log
     → GivesBack w (next_chain w t) d t head (giving true u ++ log)
-given_goes w d d2 t head u s at log looks lt ready spots place after writes h =
+given_goes w d d2 t head u s word room log goes lt ready spots place after writes h =
     let e = used_entry (ring_of w.kind d) head in
     let used = after_use w.kind d in
     let next = next_chain w t in
-    let looked_at : Looks t.chains w used (with_given t) log =
-    looked w used (with_given t) at log ((moves w.kind d).used_denial ∙ ready)
-    (ap (λ (r : Virtqueue). spot w.regions (r.avail + 2) 2) (moves w.kind d).used_ring ∙ place)
-    (subst (λ (x : Device). AsksIndex w (TakesNext t.chains w x (with_given t)) x (with_given t) at
-    log) after h) in
+    let comes : ServesPublished t.chains w used (with_given t) log =
+    word_goes w used (with_given t) word room log
+    (ap (λ (r : Virtqueue). word_place w.regions (with_given t) r) (moves w.kind d).used_ring
+    ∙ (same_word (stands (ring_of w.kind d) t.published) w.regions (with_given t) (ring_of w.kind d)
+    ∙ place))
+    (subst (λ (x : Device). AheadAt (phase_at word) w (tally_at word (with_given t)) x room log)
+    after h) in
     subst (λ (o : Option Denial). GivesBackBy o w next d t head (giving true u ++ log))
     (sym (may_use w.kind head d lt ready))
     (subst (λ (o : Option UsedSpots). UsedAt w (next used (with_given t)) used t e o
     (giving true u ++ log)) (sym spots) (record {
       rest = log;
       asks = ap (λ (l : List Access). l ++ log) writes;
-      goes_on = again w.kind w (Looks t.chains w) used (with_given t) log looks looked_at;
+      goes_on = again w.kind w (ServesPublished t.chains w) used (with_given t) log goes comes;
     }))
 
 -- ---- a used element that lies in the first region

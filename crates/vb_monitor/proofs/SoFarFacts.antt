@@ -121,7 +121,7 @@ one_used : map used_behind (index ∷ part ∷ Acquire ∷ Release ∷ Full
     ∷ pages ∷ figures ∷ discard ∷ id ∷ used_index ∷ []) ≡ 0 ∷ 0 ∷ 0 ∷ 0 ∷ 0 ∷ 0 ∷ 0 ∷ 0 ∷ 0 ∷ 1 ∷ []
 one_used = refl
 
-twice : ring_after ring (used_index ∷ pages ∷ index ∷ used_index ∷ pages ∷ index ∷ []) ≡
+twice : ring_after ring (used_index ∷ pages ∷ entry ∷ used_index ∷ pages ∷ index ∷ []) ≡
     record ring { next_avail = 2; next_used = 2 }
 twice = refl
 

@@ -27,8 +27,10 @@ use Rattle.vb_monitor.specs.{Chains.{descriptors, memory_end, Follows}}
 use Rattle.vb_monitor.specs.{Notices.{entry_offset, stands}}
 use Rattle.vb_monitor.specs.Notices.{HeadBy, EntryAt, TakesChain, AfterIndex, IndexAt, LooksBy}
 use Rattle.vb_monitor.specs.Notices.{TakesUnlessSpent, TakesNext, with_chains, fresh, Serves}
+use Rattle.vb_monitor.specs.Notices.{with_published, ServesPublished}
 use Rattle.vb_monitor.specs.{Machine.{whole, next_chain, serves}}
-use Rattle.vb_monitor.specs.Still.{Stays, IsMapped, avail_copy, table_copy, DoesAs}
+use Rattle.vb_monitor.specs.Still.{Stays, IsMapped, avail_copy, table_copy, DoesAs, index_in}
+use Rattle.vb_monitor.specs.Still.{as_read}
 use Rattle.vb_monitor.proofs.{StillBytes.{shown, word_shown, descriptor_shown}, StillWalk.in_memory}
 use Rattle.vb_monitor.proofs.StillWalk.{Walk, walks}
 use Rattle.vb_monitor.proofs.StillFound.{ByFound, one_more, ends_so, found_by, tests_alike, offset_so, offset_fits, chain_found}
@@ -170,65 +172,75 @@ next_is byte w d found index is e =
     ∙ tests_alike (ahead index r.next_avail == 0) (nat_le (ahead index r.next_avail) r.size)
     (field 2 mem 1 (entry_offset r)))
 
-by_index : (byte : ℕ → ℕ) (w : Whole) (d : Device) (t0 t : Tally)
-    (takes : List Access → Type 0) (found : Result (Option Taken) ChainFault)
-    (o : Result Bool ChainFault) (log : List Access) → IsShown byte w d found → t0.given ≡ false
-    → t.given ≡ false → ((l : List Access) → takes l → TakesChain w (next_chain w t) d t l)
-    → Next byte w d ≡ found_by o (field 2 (memory byte w d) 1 (entry_offset (ring_of w.kind d)))
-    → Stays byte w.regions log → AfterIndex o w takes d t0 log → ByFound found w d t log
-by_index byte w d t0 t takes found (Err f) log is none0 none into e stays h = subst
-    (λ (x : Result (Option Taken) ChainFault). ByFound x w d t log) (sym (is.pops.jump f refl e))
-    (ends_so t0.given w (needing_reset d) t0 (Some (Broken f)) false log none0 h)
-by_index byte w d t0 t takes found (Ok false) log is none0 none into e stays h =
-    subst (λ (x : Result (Option Taken) ChainFault). ByFound x w d t log)
-    (sym (is.pops.none refl e)) (ends_so t0.given w d t0 None false log none0 h)
-by_index byte w d t0 t takes found (Ok true) log is none0 none into e stays h =
-    let r = ring_of w.kind d in
-    by_entry byte w d t found (spot w.regions (r.avail + entry_offset r) 2) log is none
-    (λ head same. e ∙ ap (λ (n : ℕ). Ok (Some n)) (sym same)) refl is.mapped.entry stays (into log h)
+-- the budget has room for the chain that stands there
+unspent : (w : Whole) (d : Device) (t : Tally) (n : ℕ) (log : List Access) →
+    (t.pages == 0) ≡ false → TakesNext (suc n) w d t log →
+    TakesChain w (next_chain w (with_chains n t)) d (with_chains n t) log
+unspent w d t n log e h = subst (λ (b : Bool). TakesUnlessSpent b w
+    (next_chain w (with_chains n t)) d (with_chains n t) log) e h
 
-pub by_place : (byte : ℕ → ℕ) (w : Whole) (d : Device) (t0 t : Tally)
-    (takes : List Access → Type 0) (found : Result (Option Taken) ChainFault) (o : Option Spot)
-    (log : List Access) → IsShown byte w d found → t0.given ≡ false → t.given ≡ false →
-    ((l : List Access) → takes l → TakesChain w (next_chain w t) d t l) →
+by_index : (byte : ℕ → ℕ) (w : Whole) (d : Device) (t : Tally) (n : ℕ)
+    (found : Result (Option Taken) ChainFault) (o : Result Bool ChainFault) (log : List Access)
+    → IsShown byte w d found → t.given ≡ false → (t.pages == 0) ≡ false
+    → Next byte w d ≡ found_by o (field 2 (memory byte w d) 1 (entry_offset (ring_of w.kind d)))
+    → Stays byte w.regions log → AfterIndex o w (TakesNext (suc n) w d t) d t log
+    → ByFound found w d (with_chains n t) log
+by_index byte w d t n found (Err f) log is none some e stays h =
+    subst (λ (x : Result (Option Taken) ChainFault). ByFound x w d (with_chains n t) log)
+    (sym (is.pops.jump f refl e))
+    (ends_so t.given w (needing_reset d) t (Some (Broken f)) false log none h)
+by_index byte w d t n found (Ok false) log is none some e stays h =
+    subst (λ (x : Result (Option Taken) ChainFault). ByFound x w d (with_chains n t) log)
+    (sym (is.pops.none refl e)) (ends_so t.given w d t None false log none h)
+by_index byte w d t n found (Ok true) log is none some e stays h =
+    let r = ring_of w.kind d in
+    by_entry byte w d (with_chains n t) found (spot w.regions (r.avail + entry_offset r) 2) log is
+    none (λ head same. e ∙ ap (λ (n : ℕ). Ok (Some n)) (sym same)) refl is.mapped.entry stays
+    (unspent w d t n log some h)
+
+-- what may be served behind the first chain, and the index that memory has
+abbrev pub left_then : (ℕ → ℕ) → Whole → Device → Tally → ℕ → Tally
+left_then byte w d t n = with_chains n (with_published (index_in byte (ring_of w.kind d)) t)
+
+pub by_place : (byte : ℕ → ℕ) (w : Whole) (d : Device) (t : Tally) (n : ℕ)
+    (found : Result (Option Taken) ChainFault) (o : Option Spot) (log : List Access) →
+    IsShown byte w d found → t.given ≡ false → (t.pages == 0) ≡ false →
     spot w.regions ((ring_of w.kind d).avail + 2) 2 ≡ o → o ≢ None → Stays byte w.regions log →
-    IndexAt w takes d t0 o log → ByFound found w d t log
-by_place byte w d t0 t takes found None log is none0 none into e mapped stays h =
-    absurd (mapped refl)
-by_place byte w d t0 t takes found (Some at) log is none0 none into e mapped stays h =
+    IndexAt w (ServesPublished (suc n) w) d t o log → ByFound found w d (left_then byte w d t n) log
+by_place byte w d t n found None log is none some e mapped stays h = absurd (mapped refl)
+by_place byte w d t n found (Some at) log is none some e mapped stays h =
     let r = ring_of w.kind d in
     let all : Stays byte w.regions (ReadWord at h.index ∷ h.rest) =
     subst (λ (l : List Access). Stays byte w.regions l) h.asks stays in
-    let index : h.index ≡ field 2 (memory byte w d) 1 2 = all.0 (r.avail + 2) e
+    let read : h.index ≡ index_in byte r = all.0 (r.avail + 2) e in
+    let index : h.index ≡ field 2 (memory byte w d) 1 2 = read
     ∙ sym (word_shown byte r (memory_pages d.settings) 2 is.two is.size.most (omega arith)) in
-    one_more found w d t (ReadWord at h.index) h.rest log h.asks
-    (by_index byte w d t0 t takes found (stands r h.index) h.rest is none0 none into
-    (next_is byte w d found h.index is index) all.1 h.goes_on)
+    subst (λ (i : ℕ). ByFound found w d (with_chains n (with_published i t)) log) read
+    (one_more found w d (with_chains n (with_published h.index t)) (ReadWord at h.index) h.rest log
+    h.asks (by_index byte w d (with_published h.index t) n found (stands r h.index) h.rest is none
+    some (next_is byte w d found h.index is index) all.1 h.goes_on))
 
 -- ---- the whole
 
-looks_as : (byte : ℕ → ℕ) (w : Whole) (d d3 : Device) (t0 t : Tally) (room : ℕ)
-    (takes : List Access → Type 0) (buffers : List ChainPiece)
-    (result : Result (Option NextChain) Denial) (o : Option Denial) (log : List Access) →
-    is_read w.kind ≡ true → IsMapped w.regions (ring_of w.kind d) →
-    (ring_of w.kind d).size ≤ room → t0.given ≡ false → t.given ≡ false →
-    ((l : List Access) → takes l → TakesChain w (next_chain w t) d t l) →
+looks_as : (byte : ℕ → ℕ) (w : Whole) (d d3 : Device) (t : Tally) (n room : ℕ)
+    (buffers : List ChainPiece) (result : Result (Option NextChain) Denial) (o : Option Denial)
+    (log : List Access) → is_read w.kind ≡ true → IsMapped w.regions (ring_of w.kind d) →
+    (ring_of w.kind d).size ≤ room → t.given ≡ false → (t.pages == 0) ≡ false →
     queue_denial w.kind d ≡ o → Stays byte w.regions log →
     NextBy w.kind (avail_copy byte (ring_of w.kind d)) (table_copy byte (ring_of w.kind d)) room
-    buffers d d3 result → LooksBy o w takes d t0 log → DoesAs result buffers w t d3 log
-looks_as byte w d d3 t0 t room takes buffers result (Some why) log read mapped fits none0 none into
-    e stays n h =
+    buffers d d3 result → LooksBy o w (ServesPublished (suc n) w) d t log →
+    DoesAs result buffers w (left_then byte w d t n) d3 log
+looks_as byte w d d3 t n room buffers result (Some why) log read mapped fits none some e stays next h =
     let r = ring_of w.kind d in
-    let x = n.denied why (refused_alike w.kind _ _ room d read fits
+    let x = next.denied why (refused_alike w.kind _ _ room d read fits
     (length-map-range_with_len byte r.avail (4 + 2 * r.size))
     (length-map-range_with_len byte r.table (16 * r.size)) ∙ e) in
-    let y = ends_so t0.given w d t0 (Some why) false log none0 h in
-    subst (λ (o : Result (Option NextChain) Denial). DoesAs o buffers w t d3 log) (sym x.0)
-    (y.0, y.1 ∙ sym x.1)
-looks_as byte w d d3 t0 t room takes buffers result None log read mapped fits none0 none into e stays
-    n h =
+    let y = ends_so t.given w d t (Some why) false log none h in
+    subst (λ (o : Result (Option NextChain) Denial). DoesAs o buffers w (left_then byte w d t n) d3
+    log) (sym x.0) (y.0, y.1 ∙ sym x.1)
+looks_as byte w d d3 t n room buffers result None log read mapped fits none some e stays next h =
     let r = ring_of w.kind d in
-    let (answer, reads, is, after) = n.reads (refused_alike w.kind _ _ room d read fits
+    let (answer, reads, is, after) = next.reads (refused_alike w.kind _ _ room d read fits
     (length-map-range_with_len byte r.avail (4 + 2 * r.size))
     (length-map-range_with_len byte r.table (16 * r.size)) ∙ e) in
     let open_so = open_call w.kind true true true d e in
@@ -238,17 +250,10 @@ looks_as byte w d d3 t0 t room takes buffers result None log read mapped fits no
       mapped = mapped;
       pops = reads.pops;
     } in
-    as_answered w d d3 t reads.found answer result buffers log read none reads.answer
-    reads.pieces_are is after
-    (by_place byte w d t0 t takes reads.found (spot w.regions (r.avail + 2) 2) log shown_so none0
-    none into refl mapped.index stays h)
-
-pub unspent : (w : Whole) (d : Device) (budget : Budget) (n : ℕ) (log : List Access) → budget.chains
-    ≡ suc n → (budget.pages == 0) ≡ false → TakesNext budget.chains w d (fresh budget) log →
-    TakesChain w (next_chain w (with_chains n (fresh budget))) d (with_chains n (fresh budget)) log
-unspent w d budget n log e f h = subst (λ (b : Bool). TakesUnlessSpent b w
-    (next_chain w (with_chains n (fresh budget))) d (with_chains n (fresh budget)) log) f
-    (subst (λ (m : ℕ). TakesNext m w d (fresh budget) log) e h)
+    as_answered w d d3 (left_then byte w d t n) reads.found answer result buffers log read none
+    reads.answer reads.pieces_are is after
+    (by_place byte w d t n reads.found (spot w.regions (r.avail + 2) 2) log shown_so none some refl
+    mapped.index stays h)
 
 pub serves_as : (byte : ℕ → ℕ) (regions : List Region) (kind : Kind) (budget : Budget) (n room : ℕ)
     (d1 d2 d3 : Device) (outcome : Outcome) (log : List Access) (buffers : List ChainPiece)
@@ -257,10 +262,12 @@ pub serves_as : (byte : ℕ → ℕ) (regions : List Region) (kind : Kind) (budg
     (ring_of kind d1).size ≤ room → Stays byte regions log →
     NextBy kind (avail_copy byte (ring_of kind d1)) (table_copy byte (ring_of kind d1)) room buffers
     d1 d3 answer → Serves regions kind budget d1 d2 outcome log →
-    DoesAs answer buffers (whole regions kind d2 outcome) (with_chains n (fresh budget)) d3 log
-serves_as byte regions kind budget n room d1 d2 d3 outcome log buffers answer read some some_pages
+    DoesAs answer buffers (whole regions kind d2 outcome)
+    (as_read n budget (index_in byte (ring_of kind d1))) d3 log
+serves_as byte regions kind budget n room d1 d2 d3 outcome log buffers answer read chains some
     mapped fits stays next h =
     let w = whole regions kind d2 outcome in
-    looks_as byte w d1 d3 (fresh budget) (with_chains n (fresh budget)) room
-    (TakesNext budget.chains w d1 (fresh budget)) buffers answer (queue_denial kind d1) log read
-    mapped fits refl refl (λ l x. unspent w d1 budget n l some some_pages x) refl stays next h
+    looks_as byte w d1 d3 (fresh budget) n room buffers answer (queue_denial kind d1) log read
+    mapped fits refl some refl stays next
+    (subst (λ (m : ℕ). LooksBy (queue_denial kind d1) w (ServesPublished m w) d1 (fresh budget)
+    log) chains h)

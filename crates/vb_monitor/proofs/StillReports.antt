@@ -24,12 +24,13 @@ use Rattle.vb_monitor.{specs.declared.regions.Region.Region, specs.declared.outc
 use Rattle.vb_monitor.{specs.declared.outcome.Budget.Budget, specs.declared.outcome.Outcome.Outcome}
 use Rattle.vb_monitor.{specs.Accesses.Access, specs.Ends.Whole, specs.Regions.spot}
 use Rattle.vb_monitor.specs.{Chains.NamesReport, Giving.{Then, AfterName, TellsThen, spent}}
-use Rattle.vb_monitor.specs.Notices.{LooksBy, TakesNext, TakesChain, with_chains, fresh, Serves}
+use Rattle.vb_monitor.specs.Notices.{LooksBy, ServesPublished, fresh, Serves}
 use Rattle.vb_monitor.specs.Machine.{whole, next_chain}
 use Rattle.vb_monitor.specs.Still.{Stays, IsMapped, avail_copy, table_copy, Behind, ReportsAs}
+use Rattle.vb_monitor.specs.Still.{index_in, as_read}
 use Rattle.vb_monitor.proofs.StillFound.{ByFound, ends_so}
 use Rattle.vb_monitor.proofs.StillAnswers.{le_so, copies_so, two_pages, first_of}
-use Rattle.vb_monitor.proofs.StillLaws.{IsShown, memory, same_end, by_place, unspent}
+use Rattle.vb_monitor.proofs.StillLaws.{IsShown, memory, same_end, by_place, left_then}
 use Rattle.vb_ram.specs.Pages.{end_of}
 
 -- ---- pieces of a chain lie in memory
@@ -159,31 +160,29 @@ denied_alike a t room d fits e f =
     (le_so MAX_REPORT_PIECES room fits)
     ∙ ap (λ (b : Bool). call_denial Report true true b d) (copies_so size a t e f)
 
-looks_as : (byte : ℕ → ℕ) (rs : List Region) (d2 : Device) (out : Outcome) (d d3 : Device) (t0 t : Tally) (room : ℕ)
-    (takes : List Access → Type 0) (runs : List Run) (result : Result (Option Reported) Denial)
-    (o : Option Denial) (log : List Access) →
-    IsMapped rs (ring_of Report d) → MAX_REPORT_PIECES ≤ room → t0.given ≡ false →
-    t.given ≡ false → ((l : List Access) → takes l →
-    TakesChain (of_reports rs d2 out) (next_chain (of_reports rs d2 out) t) d t l) →
-    queue_denial Report d ≡ o → Stays byte rs log →
+looks_as : (byte : ℕ → ℕ) (rs : List Region) (d2 : Device) (out : Outcome) (d d3 : Device) (t : Tally) (n room : ℕ)
+    (runs : List Run) (result : Result (Option Reported) Denial) (o : Option Denial)
+    (log : List Access) → IsMapped rs (ring_of Report d) → MAX_REPORT_PIECES ≤ room →
+    t.given ≡ false → (t.pages == 0) ≡ false → queue_denial Report d ≡ o → Stays byte rs log →
     ReportsBy (avail_copy byte (ring_of Report d)) (table_copy byte (ring_of Report d)) room runs d
-    d3 result → LooksBy o (of_reports rs d2 out) takes d t0 log → ReportsAs result runs (of_reports rs d2 out) t d3 log
-looks_as byte rs d2 out d d3 t0 t room takes runs result (Some why) log mapped fits none0 none into e
-    stays n h =
+    d3 result → LooksBy o (of_reports rs d2 out) (ServesPublished (suc n) (of_reports rs d2 out)) d
+    t log → ReportsAs result runs (of_reports rs d2 out)
+    (left_then byte (of_reports rs d2 out) d t n) d3 log
+looks_as byte rs d2 out d d3 t n room runs result (Some why) log mapped fits none some e stays by h =
     let w = of_reports rs d2 out in
     let r = ring_of Report d in
-    let x = n.denied why (denied_alike _ _ room d fits
+    let x = by.denied why (denied_alike _ _ room d fits
     (length-map-range_with_len byte r.avail (4 + 2 * r.size))
     (length-map-range_with_len byte r.table (16 * r.size)) ∙ e) in
-    let y = ends_so t0.given w d t0 (Some why) false log none0 h in
-    subst (λ (o : Result (Option Reported) Denial). ReportsAs o runs w t d3 log) (sym x.0)
-    (y.0, y.1 ∙ sym x.1)
-looks_as byte
-    rs d2 out d d3 t0 t room takes runs result None log mapped fits none0 none into e stays n h =
+    let y = ends_so t.given w d t (Some why) false log none h in
+    subst (λ (o : Result (Option Reported) Denial). ReportsAs o runs w (left_then byte w d t n) d3
+    log) (sym x.0) (y.0, y.1 ∙ sym x.1)
+looks_as byte rs d2 out d d3 t n room runs result None log mapped fits none some e stays by h =
     let w = of_reports rs d2 out in
+    let behind = left_then byte w d t n in
     let r = ring_of Report d in
     let (answer, reads, is, after) =
-    n.reads (denied_alike _ _ room d fits (length-map-range_with_len byte r.avail (4 + 2 * r.size))
+    by.reads (denied_alike _ _ room d fits (length-map-range_with_len byte r.avail (4 + 2 * r.size))
     (length-map-range_with_len byte r.table (16 * r.size)) ∙ e) in
     let open_so = open_call Report true true true d e in
     let found = reads.found in
@@ -193,29 +192,30 @@ looks_as byte
       mapped = mapped;
       pops = reads.pops;
     } in
-    subst (λ (o : Result (Option Reported) Denial). ReportsAs o runs w t d3 log)
+    subst (λ (o : Result (Option Reported) Denial). ReportsAs o runs w behind d3 log)
     (sym (is ∙ ap (λ (o : Result (Option Reported) ChainFault). told o) reads.answer))
-    (subst (λ (x : Device). ReportsAs (told (report_of d.settings.reserved_pages found)) runs w t x
-    log) (sym (after ∙ ap (λ (o : Result (Option Reported) ChainFault). after_report o d)
-    reads.answer)) (reports_of byte rs d2 out d t runs found log shown_so none
+    (subst (λ (x : Device). ReportsAs (told (report_of d.settings.reserved_pages found)) runs w behind
+    x log) (sym (after ∙ ap (λ (o : Result (Option Reported) ChainFault). after_report o d)
+    reads.answer)) (reports_of byte rs d2 out d behind runs found log shown_so none
     (end_below d.settings open_so.settings) e
     (subst (λ (o : Result (Option Reported) ChainFault). (taken : Taken) →
     found ≡ Ok (Some taken) → IsOk o → take (length taken.chain) runs ≡ map run_of taken.chain)
     reads.answer reads.runs_are)
-    (by_place byte w d t0 t takes found (spot rs (r.avail + 2) 2) log shown_so none0 none
-    into refl mapped.index stays h)))
+    (by_place byte w d t n found (spot rs (r.avail + 2) 2) log shown_so none some refl mapped.index
+    stays h)))
 
 pub reports_as : (byte : ℕ → ℕ) (regions : List Region) (budget : Budget) (n room : ℕ)
     (d1 d2 d3 : Device) (outcome : Outcome) (log : List Access) (runs : List Run)
     (answer : Result (Option Reported) Denial) → budget.chains ≡ suc n → (budget.pages == 0) ≡ false
     → IsMapped regions (ring_of Report d1) → MAX_REPORT_PIECES ≤ room → Stays byte regions log →
     ReportsBy (avail_copy byte (ring_of Report d1)) (table_copy byte (ring_of Report d1)) room runs
-    d1 d3 answer → Serves regions Report budget d1 d2 outcome log
-    → ReportsAs answer runs (whole regions Report d2 outcome) (with_chains n (fresh budget)) d3 log
-reports_as byte regions budget n room d1 d2 d3 outcome log runs answer some some_pages mapped fits
+    d1 d3 answer → Serves regions Report budget d1 d2 outcome log →
+    ReportsAs answer runs (whole regions Report d2 outcome)
+    (as_read n budget (index_in byte (ring_of Report d1))) d3 log
+reports_as byte regions budget n room d1 d2 d3 outcome log runs answer chains some mapped fits
     stays reports h =
-    looks_as byte regions d2 outcome d1 d3 (fresh budget) (with_chains n (fresh budget))
-    room (TakesNext budget.chains (whole regions Report d2 outcome) d1 (fresh budget)) runs answer
-    (queue_denial Report d1) log mapped fits refl refl
-    (λ l x. unspent (whole regions Report d2 outcome) d1 budget n l some some_pages x) refl stays
-    reports h
+    let w = of_reports regions d2 outcome in
+    looks_as byte regions d2 outcome d1 d3 (fresh budget) n room runs answer
+    (queue_denial Report d1) log mapped fits refl some refl stays reports
+    (subst (λ (m : ℕ). LooksBy (queue_denial Report d1) w (ServesPublished m w) d1 (fresh budget)
+    log) chains h)

@@ -104,7 +104,7 @@ allowed w = record {
   word = λ b a at answer e. within w.regions a 2 at e;
   copy = λ b a len at bytes was e long. subst (λ (n : ℕ). IsWithin w.regions at.region at.offset n)
       (sym long) (within w.regions a len at e);
-  acquire = λ at answer. tt;
+  acquire = λ b was. tt;
   release = λ at n. tt;
   full = λ b. tt;
   pages = λ b runs named copied. tt;
@@ -129,7 +129,7 @@ ordered : (w : Whole) → Allows w MayFollow
 ordered w = record {
   word = λ b a at answer e. tt;
   copy = λ b a len at bytes was e long. was;
-  acquire = λ at answer. refl;
+  acquire = λ b was. was;
   release = λ at n. refl;
   full = λ b. tt;
   pages = λ b runs named copied. copied;

@@ -12,14 +12,18 @@ offset_in (Some s) = s.offset
 
 -- ---- words
 
--- first of all, and once a chain was given back, the index
+-- first of all the index
 index_first : ReadsWord two ring [] (at 0x102)
 index_first = refl
 
-index_again : ReadsWord two ring (used_index ∷ []) (at 0x102)
-index_again = refl
+-- and never again, also not once a chain was given back
+index_again : ReadsWord two ring (used_index ∷ []) (at 0x102) → ⊥
+index_again h = absurd h
 
--- behind an acquire fence the entry that is taken next
+-- behind an acquire fence the entry that is taken next, behind the index or a chain
+entry_behind_a_chain : ReadsWord two (record ring { next_avail = 9 }) (Acquire ∷ used_index ∷ []) (at 0x106)
+entry_behind_a_chain = refl
+
 entry_next : ReadsWord two (record ring { next_avail = 9 }) (Acquire ∷ index ∷ []) (at 0x106)
 entry_next = refl
 
@@ -41,7 +45,7 @@ index_for_the_flags : ReadsWord two ring (Full ∷ index ∷ []) (at 0x102) → 
 index_for_the_flags h = let e : Same 0x100 0x102 = ap offset_in h in omega arith
 
 flags_once_used : ReadsWord two ring (used_index ∷ []) (at 0x100) → ⊥
-flags_once_used h = let e : Same 0x102 0x100 = ap offset_in h in omega arith
+flags_once_used h = absurd h
 
 -- none behind another word, bytes, another fence, what was told or discarded, and a number
 index_twice : ReadsWord two ring (index ∷ []) (at 0x102) → ⊥
@@ -161,15 +165,22 @@ fence_before_the_flags = refl
 flags_twice : ReadsInTurn two Inflate ready (flags ∷ Full ∷ index ∷ []) Full → ⊥
 flags_twice h = let e : true ≡ false = h in absurd cc
 
--- the second index is read once the queue has gone on by the first chain, and the entry behind the first
+-- the entry of the second chain is read once the first one was given back, and the index isn't
 abbrev served : List Access
 served = used_index ∷ Release ∷ used_length ∷ id ∷ discard ∷ pages ∷ part ∷ chained
 
-second_index : ReadsInTurn two Inflate ready served index
-second_index = refl
+fence_behind_a_chain : ReadsInTurn two Inflate ready served Acquire
+fence_behind_a_chain = (refl, refl)
 
-entry_of_the_second : ReadsInTurn two Inflate ready (Acquire ∷ index ∷ served) (ReadWord (at 0x106) 3)
+second_index : ReadsInTurn two Inflate ready served index → ⊥
+second_index h = absurd h
+
+entry_of_the_second : ReadsInTurn two Inflate ready (Acquire ∷ served) (ReadWord (at 0x106) 3)
 entry_of_the_second = refl
 
-first_entry_again : ReadsInTurn two Inflate ready (Acquire ∷ index ∷ served) entry → ⊥
+first_entry_again : ReadsInTurn two Inflate ready (Acquire ∷ served) entry → ⊥
 first_entry_again h = let e : Same 0x106 0x104 = ap offset_in h in omega arith
+
+-- nor with an acquire fence before it
+index_behind_its_fence : ReadsInTurn two Inflate ready (Acquire ∷ served) index → ⊥
+index_behind_its_fence h = let e : Same 0x106 0x102 = ap offset_in h in omega arith

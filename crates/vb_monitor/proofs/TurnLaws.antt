@@ -7,7 +7,7 @@ use Rattle.vb_chain.specs.{declared.descriptor.Descriptor.Descriptor, Rules.{has
 use Rattle.vb_core.{specs.declared.kinds.Kind.Kind, specs.declared.ring.Virtqueue.Virtqueue}
 use Rattle.vb_core.specs.declared.kinds.Kind.TheVariants.{Inflate, Deflate, Statistics, Report}
 use Rattle.vb_core.{specs.declared.device.Denial.Denial, specs.declared.device.Device.Device}
-use Rattle.vb_core.specs.Devices.{ring_of, queue_denial}
+use Rattle.vb_core.specs.Devices.{ring_of}
 use Rattle.vb_monitor.proofs.TurnLemmas.{Comes, Agrees, flags_of, ends_each, breaks_each, After}
 use Rattle.vb_monitor.{proofs.TurnRows.{Begun, pieces_each}, specs.Accesses.{Access, ReadWord}}
 use Rattle.vb_monitor.specs.{Accesses.{CopyBytes, Acquire, WriteWord}}
@@ -16,9 +16,10 @@ use Rattle.vb_monitor.specs.{Chains.{descriptors}, Ends.Whole}
 use Rattle.vb_monitor.specs.{Giving.Then, Notices.{HeadBy, EntryAt, entry_offset}}
 use Rattle.vb_monitor.specs.Notices.{AfterIndex, IndexAt, LooksBy, AfterGiven, TakesUnlessSpent}
 use Rattle.vb_monitor.specs.{Notices.{TakesNext, with_chains, Serves, fresh}, Regions.spot}
-use Rattle.vb_monitor.specs.SoFar.{Each, Known, Unknown, Walks, known, ring_after, is_fenced}
-use Rattle.vb_monitor.specs.{SoFar.{with_word, with_descriptor, with_copied}, Turns.ends_in_full}
-use Rattle.vb_monitor.specs.Turns.{ReadsWord, CopiesNext, ReadsInTurn, TellsInTurn, WritesUsedAlone}
+use Rattle.vb_monitor.specs.Notices.{ServesPublished}
+use Rattle.vb_monitor.specs.SoFar.{Each, Known, Unknown, Walks, known, ring_after}
+use Rattle.vb_monitor.specs.SoFar.{with_descriptor, with_copied}
+use Rattle.vb_monitor.specs.Turns.{CopiesNext, ReadsInTurn, TellsInTurn, WritesUsedAlone}
 use Rattle.vb_monitor.specs.declared.outcome.{Budget.Budget, Outcome.Outcome, Tally.Tally}
 use Rattle.vb_monitor.specs.declared.regions.{Region.Region, Spot.Spot}
 
@@ -123,66 +124,65 @@ unless_spent w d0 next on d t true b log is new h =
 unless_spent w d0 next on d t false b log is new h =
     entry_each w d0 next on d t _ b log is new refl h
 
+-- behind these accesses another chain's entry may be read
+pub record Between (w : Whole) (d0 d : Device) (b : List Access) : Type 0 where
+  pub agrees : Agrees w d0 b d
+  pub unknown : known w.kind b ≡ Unknown
+
 abbrev Taken : Whole → Device → Device → Tally → (List Access → Type 0) → Type 0
-Taken w d0 d t takes = (b rest : List Access)
-    → Agrees w d0 b d → known w.kind b ≡ Unknown → takes rest → Each (Comes w d0 t.keeps) b rest
+Taken w d0 d t takes =
+    (b rest : List Access) → Between w d0 d b → takes rest → Each (Comes w d0 t.keeps) b rest
 
 index_by : (w : Whole) (d0 d : Device) (t : Tally) (takes : List Access → Type 0)
-    (on : Taken w d0 d t takes) (there : Result Bool ChainFault) (b log : List Access) →
-    Agrees w d0 b d → known w.kind b ≡ Unknown → AfterIndex there w takes d t log → Each (Comes w d0 t.keeps) b log
-index_by w d0 d t takes on (Err fault) b log is new h = breaks_each w d0 d t _ b log is h
-index_by w d0 d t takes on (Ok false) b log is new h =
-    ends_each w d0 d t _ false b log (flags_of w d0 b d is) h
-index_by w d0 d t takes on (Ok true) b log is new h = on b log is new h
+    (on : Taken w d0 d t takes) (there : Result Bool ChainFault) →
+    Taken w d0 d t (AfterIndex there w takes d t)
+index_by w d0 d t takes on (Err fault) b log is h = breaks_each w d0 d t _ b log is.agrees h
+index_by w d0 d t takes on (Ok false) b log is h =
+    ends_each w d0 d t _ false b log (flags_of w d0 b d is.agrees) h
+index_by w d0 d t takes on (Ok true) b log is h = on b log is h
 
--- behind these accesses the index is read
-pub record Looked (b : List Access) : Type 0 where
-  pub word : (regions : List Region) (r : Virtqueue) (at : Spot) →
-      spot regions (r.avail + 2) 2 ≡ Some at → ReadsWord regions r b at
-  pub unfenced : is_fenced b ≡ false
-  pub lasts : ends_in_full b ≡ false
+abbrev Next : Whole → Device → Then → Type 0
+Next w d0 next = (d : Device) (t : Tally) → Taken w d0 d t (next d t)
 
-index_at : (w : Whole) (d0 d : Device) (t : Tally) (takes : List Access → Type 0)
-    (on : Taken w d0 d t takes) (o : Option Spot) (b log : List Access) → Agrees w d0 b d →
-    Looked b → spot w.regions ((ring_of w.kind d).avail + 2) 2 ≡ o → IndexAt w takes d t o log →
-    Each (Comes w d0 t.keeps) b log
-index_at w d0 d t takes on None b log is looked e h = breaks_each w d0 d t _ b log is h
-index_at w d0 d t takes on (Some at) b log is looked e h =
-    subst (λ (l : List Access). Each (Comes w d0 t.keeps) b l) (sym h.asks) (
-      (
-        looked.word w.regions (ring_after (ring_of w.kind d0) b) at
-            (subst (λ (r : Virtqueue). spot w.regions (r.avail + 2) 2 ≡ Some at) is.ring e),
-        (tt, tt),
-      ),
-      index_by w d0 d t takes on _ (ReadWord at h.index ∷ b)
-          h.rest (record { ring = is.ring; settings = is.settings; keeps = is.keeps; lasts = looked.lasts })
-          (ap (λ (fenced : Bool). with_word fenced h.index) looked.unfenced) h.goes_on,
+given_each : (w : Whole) (d0 : Device) (kind : Kind) (next : Then) (on : Next w d0 next) →
+    After w d0 (AfterGiven kind w next)
+given_each w d0 Inflate next on d t at n b rest is h =
+    on d t (WriteWord at n ∷ b) rest (record { agrees = is; unknown = refl }) h
+given_each w d0 Deflate next on d t at n b rest is h =
+    on d t (WriteWord at n ∷ b) rest (record { agrees = is; unknown = refl }) h
+given_each w d0 Statistics next on d t at n b rest is h =
+    ends_each w d0 d t _ false (WriteWord at n ∷ b) rest (flags_of w d0 (WriteWord at n ∷ b) d is) h
+given_each w d0 Report next on d t at n b rest is h =
+    on d t (WriteWord at n ∷ b) rest (record { agrees = is; unknown = refl }) h
+
+takes_each : (n : ℕ) (w : Whole) (d0 : Device) → Next w d0 (TakesNext n w)
+takes_each zero w d0 d t b log is h =
+    ends_each w d0 d t _ true b log (flags_of w d0 b d is.agrees) h
+takes_each (suc n) w d0 d t b log is h = unless_spent w d0
+    (AfterGiven w.kind w (ServesPublished n w)) (given_each w d0 w.kind _ (λ d2 t2.
+    index_by w d0 d2 t2 _ (takes_each n w d0 d2 t2) _))
+    d (with_chains n t) (t.pages == 0) b log is.agrees is.unknown h
+
+index_at : (w : Whole) (d : Device) (next : Then) (on : Next w d next) (t : Tally)
+    (o : Option Spot) (log : List Access) → Agrees w d [] d →
+    spot w.regions ((ring_of w.kind d).avail + 2) 2 ≡ o → IndexAt w next d t o log →
+    Each (Comes w d t.keeps) [] log
+index_at w d next on t None log is e h = breaks_each w d d t _ [] log is h
+index_at w d next on t (Some at) log is e h =
+    subst (λ (l : List Access). Each (Comes w d t.keeps) [] l) (sym h.asks) (
+      (e, (tt, tt)),
+      on d _ (ReadWord at h.index ∷ []) h.rest (record {
+        agrees = record { ring = refl; settings = refl; keeps = refl; lasts = refl };
+        unknown = refl;
+      }) h.goes_on,
     )
 
-looks_by : (w : Whole) (d0 d : Device) (t : Tally) (takes : List Access → Type 0)
-    (on : Taken w d0 d t takes) (denial : Option Denial) (b log : List Access) → Agrees w d0 b d →
-    Looked b → LooksBy denial w takes d t log → Each (Comes w d0 t.keeps) b log
-looks_by w d0 d t takes on (Some why) b log is looked h =
-    ends_each w d0 d t _ false b log (flags_of w d0 b d is) h
-looks_by w d0 d t takes on None b log is looked h =
-    index_at w d0 d t takes on _ b log is looked refl h
-
-given_each : (w : Whole) (d0 : Device) (kind : Kind) (looks : Then) (on : After w d0 looks) →
-    After w d0 (AfterGiven kind w looks)
-given_each w d0 Inflate looks on d t at n b rest is h = on d t at n b rest is h
-given_each w d0 Deflate looks on d t at n b rest is h = on d t at n b rest is h
-given_each w d0 Statistics looks on d t at n b rest is h =
-    ends_each w d0 d t _ false (WriteWord at n ∷ b) rest (flags_of w d0 (WriteWord at n ∷ b) d is) h
-given_each w d0 Report looks on d t at n b rest is h = on d t at n b rest is h
-
-takes_each : (n : ℕ) (w : Whole) (d0 d : Device) (t : Tally) → Taken w d0 d t (TakesNext n w d t)
-takes_each zero w d0 d t b log is new h = ends_each w d0 d t _ true b log (flags_of w d0 b d is) h
-takes_each (suc n) w d0 d t b log is new h = unless_spent w d0
-    (AfterGiven w.kind w (λ d2 t2 rest. LooksBy (queue_denial w.kind d2) w (TakesNext n w d2 t2) d2
-    t2 rest)) (given_each w d0 w.kind _ (λ d2 t2 at n2 b2 rest is2 more.
-    looks_by w d0 d2 t2 _ (takes_each n w d0 d2 t2) _ (WriteWord at n2 ∷ b2) rest is2
-    (record { word = λ rs r at3 e. e; unfenced = refl; lasts = refl }) more))
-    d (with_chains n t) (t.pages == 0) b log is new h
+looks_by : (w : Whole) (d : Device) (next : Then) (on : Next w d next) (t : Tally)
+    (denial : Option Denial) (log : List Access) → Agrees w d [] d →
+    LooksBy denial w next d t log → Each (Comes w d t.keeps) [] log
+looks_by w d next on t (Some why) log is h =
+    ends_each w d d t _ false [] log (flags_of w d [] d is) h
+looks_by w d next on t None log is h = index_at w d next on t _ log is refl h
 
 -- ---- the laws
 
@@ -191,9 +191,9 @@ all_come : (regions : List Region) (kind : Kind) (budget : Budget) (d1 d2 : Devi
     Each (Comes (record { regions = regions; kind = kind; device = d2; outcome = outcome }) d1 budget.keeps) [] log
 all_come regions kind budget d1 d2 outcome log h =
     let w : Whole = record { regions = regions; kind = kind; device = d2; outcome = outcome } in
-    looks_by w d1 d1 (fresh budget) _ (takes_each budget.chains w d1 d1 (fresh budget)) _ [] log
-    (record { ring = refl; settings = refl; keeps = refl; lasts = refl })
-    (record { word = λ rs r at e. e; unfenced = refl; lasts = refl }) h
+    looks_by w d1 (ServesPublished budget.chains w)
+    (λ d t. index_by w d1 d t _ (takes_each budget.chains w d1 d t) _) (fresh budget) _ log
+    (record { ring = refl; settings = refl; keeps = refl; lasts = refl }) h
 
 each_so : (may so : List Access → Access → Type 0) (b log : List Access) →
     ((before : List Access) (x : Access) → may before x → so before x) → Each may b log →

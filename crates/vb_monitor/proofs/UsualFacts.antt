@@ -3,46 +3,74 @@ use Rattle.std.proofs.Common.{◌≡◌, refl, ℕ, false, true, Option, Some, N
 use Rattle.vb_chain.specs.declared.descriptor.Descriptor.{Descriptor}
 use Rattle.vb_monitor.{specs.declared.outcome.Tally.Tally, specs.declared.step.Walk.Walk}
 use Rattle.vb_monitor.specs.declared.usual.NextDescriptor.{NextDescriptor}
-use Rattle.vb_monitor.specs.Usual.{entry_place, flags_place, descriptor_place, next_place, next_of}
+use Rattle.vb_monitor.specs.declared.usual.NextWord.{NextWord, TheVariants.{Entry, Flags}}
+use Rattle.vb_monitor.specs.declared.step.Phase.TheVariants.{AwaitsEntry, AwaitsFlags}
+use Rattle.vb_core.specs.declared.ring.Virtqueue.{Virtqueue}
+use Rattle.vb_monitor.specs.Usual.{word_place, phase_at, tally_at, descriptor_place, next_place}
+use Rattle.vb_monitor.specs.Usual.{next_of}
 use Rattle.vb_monitor.specs.Chains.{descriptor_of}
 use Rattle.vb_monitor.proofs.Samples.{two, at, ring, tally, first_descriptor, last_descriptor}
 
--- ---- the entry: a chain stands there, and the budget has room for one
+-- ---- the entry: a chain stands there by the index that was read, and the budget has room for one
 
-entry_there : entry_place two tally 1 ring ≡ Some (at 0x104)
+abbrev word : ℕ → Tally → Virtqueue → Option NextWord
+word index t r = word_place two (record t { published = index }) r
+
+entry_there : word 1 tally ring ≡ Some (Entry (at 0x104))
 entry_there = refl
 
-none_there : entry_place two tally 0 ring ≡ None
+none_there : word 0 tally ring ≡ None
 none_there = refl
 
-jumped : entry_place two tally 9 ring ≡ None
+jumped : word 9 tally ring ≡ None
 jumped = refl
 
-no_chain_left : entry_place two (record tally { chains = 0 }) 1 ring ≡ None
+no_chain_left : word 1 (record tally { chains = 0 }) ring ≡ None
 no_chain_left = refl
 
-no_page_left : entry_place two (record tally { pages = 0 }) 1 ring ≡ None
+no_page_left : word 1 (record tally { pages = 0 }) ring ≡ None
 no_page_left = refl
 
-entry_in_the_hole : entry_place two tally 1 (record ring { avail = 0x15000 }) ≡ None
+entry_in_the_hole : word 1 tally (record ring { avail = 0x15000 }) ≡ None
 entry_in_the_hole = refl
 
--- ---- the flags: none stands there, and one was given back
-
+-- behind the first of two chains the second one's
 abbrev given : Tally
 given = record tally { given = true }
 
-flags_there : flags_place two given 0 ring ≡ Some (at 0x100)
+second_entry : word 2 given (record ring { next_avail = 1 }) ≡ Some (Entry (at 0x106))
+second_entry = refl
+
+-- ---- the flags: none stands there, and one was given back
+
+flags_there : word 0 given ring ≡ Some (Flags (at 0x100))
 flags_there = refl
 
-nothing_given : flags_place two tally 0 ring ≡ None
-nothing_given = refl
+behind_the_last : word 2 given (record ring { next_avail = 2 }) ≡ Some (Flags (at 0x100))
+behind_the_last = refl
 
-another_stands : flags_place two given 1 ring ≡ None
-another_stands = refl
-
-jumped_then : flags_place two given 9 ring ≡ None
+jumped_then : word 9 given ring ≡ None
 jumped_then = refl
+
+nothing_left : word 1 (record given { chains = 0 }) ring ≡ None
+nothing_left = refl
+
+flags_in_the_hole : word 0 given (record ring { avail = 0x15000 }) ≡ None
+flags_in_the_hole = refl
+
+-- ---- what a notice waits for then
+
+for_an_entry : phase_at (Entry (at 6)) ≡ AwaitsEntry (at 6)
+for_an_entry = refl
+
+for_the_flags : phase_at (Flags (at 6)) ≡ AwaitsFlags (at 6) None false
+for_the_flags = refl
+
+one_chain_fewer : tally_at (Entry (at 6)) tally ≡ record tally { chains = 7 }
+one_chain_fewer = refl
+
+no_chain_fewer : tally_at (Flags (at 6)) tally ≡ tally
+no_chain_fewer = refl
 
 -- ---- the first descriptor
 

@@ -74,18 +74,13 @@ serves = record {
               rest = given;
               asks = refl;
               gives_back = record {
-                rest = index ∷ Full ∷ flags ∷ [];
+                rest = Full ∷ flags ∷ [];
                 asks = refl;
                 goes_on = record {
-                  index = 1;
-                  rest = Full ∷ flags ∷ [];
+                  flags = 0;
+                  rest = [];
                   asks = refl;
-                  goes_on = record {
-                    flags = 0;
-                    rest = [];
-                    asks = refl;
-                    then_stops = record { nothing = refl; device = refl; outcome = refl };
-                  };
+                  then_stops = record { nothing = refl; device = refl; outcome = refl };
                 };
               };
             };
@@ -132,7 +127,7 @@ untold (d, (o, h)) = let e : false ≡ true = (in_order two Inflate budget ready
 
 -- discarded behind its used element, twice, before it is told, or not at all
 discarded_behind : IsServed (index ∷ Acquire ∷ entry ∷ descriptor ∷ part ∷ pages ∷ id
-    ∷ used_length ∷ Release ∷ used_index ∷ discard ∷ index ∷ Full ∷ flags ∷ []) → ⊥
+    ∷ used_length ∷ Release ∷ used_index ∷ discard ∷ Full ∷ flags ∷ []) → ⊥
 discarded_behind (d, (o, h)) = let e = (tells_in_turn two Inflate budget ready d o _ h).1.1.1.1.1.1.0 in absurd cc
 
 discarded_twice : IsServed (index ∷ Acquire ∷ entry ∷ descriptor ∷ part ∷ pages ∷ discard
@@ -148,27 +143,27 @@ not_discarded (d, (o, h)) = let e = (tells_in_turn two Inflate budget ready d o 
 
 -- the used index before its element, or with no fence between
 index_first : IsServed (index ∷ Acquire ∷ entry ∷ descriptor ∷ part ∷ pages ∷ discard
-    ∷ used_index ∷ id ∷ used_length ∷ Release ∷ index ∷ Full ∷ flags ∷ []) → ⊥
+    ∷ used_index ∷ id ∷ used_length ∷ Release ∷ Full ∷ flags ∷ []) → ⊥
 index_first (d, (o, h)) = let e = (in_order two Inflate budget ready d o _ h).1.1.1.1.1.1.1.0 in absurd cc
 
 no_release : IsServed (index ∷ Acquire ∷ entry ∷ descriptor ∷ part ∷ pages ∷ discard ∷ id
-    ∷ used_length ∷ used_index ∷ index ∷ Full ∷ flags ∷ []) → ⊥
+    ∷ used_length ∷ used_index ∷ Full ∷ flags ∷ []) → ⊥
 no_release (d, (o, h)) = let e = (in_order two Inflate budget ready d o _ h).1.1.1.1.1.1.1.1.1.0 in absurd cc
 
 -- the length first, the length twice
 length_first : IsServed (index ∷ Acquire ∷ entry ∷ descriptor ∷ part ∷ pages ∷ discard
-    ∷ used_length ∷ id ∷ Release ∷ used_index ∷ index ∷ Full ∷ flags ∷ []) → ⊥
+    ∷ used_length ∷ id ∷ Release ∷ used_index ∷ Full ∷ flags ∷ []) → ⊥
 length_first (d, (o, h)) =
     let e : Same 0 3 = (writes_used two Inflate budget ready d o _ h).1.1.1.1.1.1.1.0.1 in omega arith
 
 -- the flags with no full fence, and read twice
 no_full_fence : IsServed (index ∷ Acquire ∷ entry ∷ descriptor ∷ part ∷ pages ∷ discard ∷ id
-    ∷ used_length ∷ Release ∷ used_index ∷ index ∷ flags ∷ []) → ⊥
-no_full_fence (d, (o, h)) = absurd (reads_in_turn two Inflate budget ready d o _ h).1.1.1.1.1.1.1.1.1.1.1.1.0
+    ∷ used_length ∷ Release ∷ used_index ∷ flags ∷ []) → ⊥
+no_full_fence (d, (o, h)) = absurd (reads_in_turn two Inflate budget ready d o _ h).1.1.1.1.1.1.1.1.1.1.1.0
 
 flags_twice : IsServed (index ∷ Acquire ∷ entry ∷ descriptor ∷ part ∷ pages ∷ discard ∷ id
-    ∷ used_length ∷ Release ∷ used_index ∷ index ∷ Full ∷ flags ∷ flags ∷ []) → ⊥
-flags_twice (d, (o, h)) = absurd (reads_in_turn two Inflate budget ready d o _ h).1.1.1.1.1.1.1.1.1.1.1.1.1.1.0
+    ∷ used_length ∷ Release ∷ used_index ∷ Full ∷ flags ∷ flags ∷ []) → ⊥
+flags_twice (d, (o, h)) = absurd (reads_in_turn two Inflate budget ready d o _ h).1.1.1.1.1.1.1.1.1.1.1.1.1.0
 
 -- another page, another outcome
 another_outcome : Serves two Inflate budget ready used (record outcome { why = Some NotReady }) [] → ⊥

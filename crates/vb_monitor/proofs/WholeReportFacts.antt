@@ -67,18 +67,13 @@ reported = record {
             rest = given;
             asks = refl;
             gives_back = record {
-              rest = index ∷ Full ∷ flags ∷ [];
+              rest = Full ∷ flags ∷ [];
               asks = refl;
               goes_on = record {
-                index = 1;
-                rest = Full ∷ flags ∷ [];
+                flags = 0;
+                rest = [];
                 asks = refl;
-                goes_on = record {
-                  flags = 0;
-                  rest = [];
-                  asks = refl;
-                  then_stops = record { nothing = refl; device = refl; outcome = refl };
-                };
+                then_stops = record { nothing = refl; device = refl; outcome = refl };
               };
             };
           };
@@ -132,18 +127,13 @@ kept = record {
             rest = given;
             asks = refl;
             gives_back = record {
-              rest = index ∷ Full ∷ flags ∷ [];
+              rest = Full ∷ flags ∷ [];
               asks = refl;
               goes_on = record {
-                index = 1;
-                rest = Full ∷ flags ∷ [];
+                flags = 0;
+                rest = [];
                 asks = refl;
-                goes_on = record {
-                  flags = 0;
-                  rest = [];
-                  asks = refl;
-                  then_stops = record { nothing = refl; device = refl; outcome = refl };
-                };
+                then_stops = record { nothing = refl; device = refl; outcome = refl };
               };
             };
           };

@@ -18,9 +18,9 @@ unfoldable pub parts_left : ℕ → ℕ → ℕ → ℕ
 parts_left regions run from = (regions - from) + (MAX_RUNS - (run + 1)) * regions
 
 -- Once the pages of a chain are named, they are told, and their parts are discarded; then the chain
--- is given back, the index is read, and the flags are.
+-- is given back, and the flags are read.
 abbrev pub once_named : List Region → ℕ
-once_named regions = 4 + MAX_RUNS * length regions
+once_named regions = 3 + MAX_RUNS * length regions
 
 -- Before that two parts of each piece are copied.
 abbrev pub once_whole : List Region → ℕ
@@ -44,8 +44,8 @@ left_of regions (Ended why interrupt more) = 0
 left_of regions (AwaitsFlags at why more) = 1
 left_of regions (AwaitsIndex at) = 2
 left_of regions (TellsFigures head count) = 2
-left_of regions (GivesBack spots entry) = 3
-left_of regions (Discards cut x) = 4 + parts_left (length regions) x.run x.from
+left_of regions (GivesBack spots entry) = 2
+left_of regions (Discards cut x) = 3 + parts_left (length regions) x.run x.from
 left_of regions (TellsPages head named) = once_named regions
 left_of regions (AwaitsPart at place) =
     once_named regions + 1 + (2 * MAX_QUEUE_SIZE - (2 * place.piece + one_if place.is_second))

@@ -35,7 +35,7 @@ use Rattle.vb_core.specs.Next.{pieces_in}
 use Rattle.vb_monitor.specs.Pieces.{CopiesParts}
 use Rattle.vb_monitor.specs.Chains.{descriptors, AsksDescriptor, Follows, ServesPieces, AfterBytes}
 use Rattle.vb_monitor.specs.Chains.{TellsThenEnds}
-use Rattle.vb_monitor.specs.Notices.{AsksIndex, AsksEntry, TakesNext, Looks, AfterGiven}
+use Rattle.vb_monitor.specs.Notices.{AsksIndex, AsksEntry, ServesPublished, AfterGiven}
 
 -- What stands in the room that a notice has.
 pub record Room : Type 0 where
@@ -145,7 +145,7 @@ waits (GivesBack spots entry) = false
 
 -- What comes once the chain that is being served was given back.
 abbrev pub next_chain : Whole → Tally → Then
-next_chain w tally = AfterGiven w.kind w (Looks tally.chains w)
+next_chain w tally = AfterGiven w.kind w (ServesPublished tally.chains w)
 
 abbrev pub serves : Whole → Tally → Device → ℕ → List Piece → List Access → Type 0
 serves w tally d head pieces log =
@@ -157,7 +157,7 @@ served w tally d head bytes log = AfterBytes w.kind w (next_chain w tally) d tal
 -- These accesses may come, where this is to be done next.
 abbrev pub AheadAt : Phase → Whole → Tally → Device → Room → List Access → Type 0
 AheadAt (AwaitsIndex at) w tally d room log =
-    AsksIndex w (TakesNext tally.chains w d tally) d tally at log
+    AsksIndex (ServesPublished tally.chains w) d tally at log
 AheadAt (AwaitsEntry at) w tally d room log = AsksEntry w (next_chain w tally) d tally at log
 AheadAt (AwaitsDescriptor at walk) w tally d room log =
     AsksDescriptor w d tally

@@ -73,34 +73,35 @@ AfterIndex (Err fault) w takes d tally log = Breaks w d tally fault log
 AfterIndex (Ok false) w takes d tally log = Ends w d tally None false log
 AfterIndex (Ok true) w takes d tally log = takes log
 
--- The index is read, by one access.
-pub record AsksIndex (w : Whole) (takes : List Access → Type 0) (d : Device) (tally : Tally)
-    (at : Spot) (log : List Access) : Type 0 where
+abbrev pub with_published : ℕ → Tally → Tally
+with_published index tally = record tally { published = index }
+
+-- The index is read, by one access, and what it publishes comes next.
+pub record AsksIndex (next : Then) (d : Device) (tally : Tally) (at : Spot) (log : List Access) :
+    Type 0 where
   pub index : ℕ
   pub rest : List Access
   pub asks : log ≡ ReadWord at index ∷ rest
-  pub goes_on : AfterIndex (stands (ring_of w.kind d) index) w takes d tally rest
+  pub goes_on : next d (with_published index tally) rest
 
-abbrev pub IndexAt : Whole → (List Access → Type 0) → Device → Tally → Option Spot →
-    List Access → Type 0
-IndexAt w takes d tally None log = Breaks w d tally OutOfRam log
-IndexAt w takes d tally (Some at) log = AsksIndex w takes d tally at log
+abbrev pub IndexAt : Whole → Then → Device → Tally → Option Spot → List Access → Type 0
+IndexAt w next d tally None log = Breaks w d tally OutOfRam log
+IndexAt w next d tally (Some at) log = AsksIndex next d tally at log
 
-abbrev pub LooksBy : Option Denial → Whole → (List Access → Type 0) → Device → Tally →
-    List Access → Type 0
-LooksBy (Some why) w takes d tally log = Ends w d tally (Some why) false log
-LooksBy None w takes d tally log =
-    IndexAt w takes d tally (spot w.regions ((ring_of w.kind d).avail + 2) 2) log
+abbrev pub LooksBy : Option Denial → Whole → Then → Device → Tally → List Access → Type 0
+LooksBy (Some why) w next d tally log = Ends w d tally (Some why) false log
+LooksBy None w next d tally log =
+    IndexAt w next d tally (spot w.regions ((ring_of w.kind d).avail + 2) 2) log
 
 -- ---- chain after chain
 
--- After a chain that was given back the queue is looked at again; not so that of statistics, whose
--- buffer was asked for.
+-- After a chain that was given back the next one comes; not so of statistics, whose buffer was
+-- asked for.
 abbrev pub AfterGiven : Kind → Whole → Then → Device → Tally → List Access → Type 0
-AfterGiven Inflate w looks d tally log = looks d tally log
-AfterGiven Deflate w looks d tally log = looks d tally log
-AfterGiven Statistics w looks d tally log = Ends w d tally None false log
-AfterGiven Report w looks d tally log = looks d tally log
+AfterGiven Inflate w next d tally log = next d tally log
+AfterGiven Deflate w next d tally log = next d tally log
+AfterGiven Statistics w next d tally log = Ends w d tally None false log
+AfterGiven Report w next d tally log = next d tally log
 
 abbrev pub with_chains : ℕ → Tally → Tally
 with_chains n tally = record tally { chains = n }
@@ -110,22 +111,28 @@ abbrev pub TakesUnlessSpent : Bool → Whole → Then → Device → Tally → L
 TakesUnlessSpent true w next d tally log = Ends w d tally None true log
 TakesUnlessSpent false w next d tally log = TakesChain w next d tally log
 
--- What is served of a chain that stands there, where so many may be yet.
+-- What is served of a chain that stands there, where so many may be yet. Behind it comes the next
+-- one, if the index that was read publishes one more: it isn't read again.
 abbrev pub TakesNext : ℕ → Whole → Device → Tally → List Access → Type 0
 TakesNext zero w d tally log = Ends w d tally None true log
 TakesNext (suc n) w d tally log =
     TakesUnlessSpent (tally.pages == 0) w
     (AfterGiven w.kind w (λ d2 t2 rest.
-    LooksBy (queue_denial w.kind d2) w (TakesNext n w d2 t2) d2 t2 rest)) d
+    AfterIndex (stands (ring_of w.kind d2) t2.published) w (TakesNext n w d2 t2) d2 t2 rest)) d
     (with_chains n tally) log
+
+-- What comes by the index that was read, where so many chains may be served yet.
+abbrev pub ServesPublished : ℕ → Whole → Device → Tally → List Access → Type 0
+ServesPublished n w d tally log =
+    AfterIndex (stands (ring_of w.kind d) tally.published) w (TakesNext n w d tally) d tally log
 
 -- The queue is looked at, where so many chains may be served yet.
 abbrev pub Looks : ℕ → Whole → Device → Tally → List Access → Type 0
-Looks n w d tally log = LooksBy (queue_denial w.kind d) w (TakesNext n w d tally) d tally log
+Looks n w d tally log = LooksBy (queue_denial w.kind d) w (ServesPublished n w) d tally log
 
 -- ---- the whole
 
--- Nothing was served yet, and so much may be.
+-- Nothing was served or read yet, and so much may be served.
 abbrev pub fresh : Budget → Tally
 fresh budget = record {
   chains = budget.chains;
@@ -133,6 +140,7 @@ fresh budget = record {
   keeps = budget.keeps;
   given = false;
   held = None;
+  published = 0;
 }
 
 -- The queue of a kind is served, where no buffer of statistics is held.

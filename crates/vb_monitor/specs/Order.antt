@@ -25,9 +25,10 @@ is_copied (Some (Discard cut)) = false
 is_copied (Some (WriteNumber at number)) = false
 is_copied (Some (WriteWord at word)) = false
 
--- A word was read.
+-- A word was read or written.
 abbrev pub is_word : Option Access → Bool
 is_word (Some (ReadWord at answer)) = true
+is_word (Some (WriteWord at word)) = true
 is_word None = false
 is_word (Some (CopyBytes at answer)) = false
 is_word (Some Acquire) = false
@@ -37,7 +38,6 @@ is_word (Some (TellPages kind runs named)) = false
 is_word (Some (TellFigures figures)) = false
 is_word (Some (Discard cut)) = false
 is_word (Some (WriteNumber at number)) = false
-is_word (Some (WriteWord at word)) = false
 
 -- A word or bytes were read.
 abbrev pub is_read : Option Access → Bool
@@ -106,7 +106,8 @@ Cuts may (cut ∷ cuts) =
 -- Bytes are copied directly behind what was read, pages and figures are told directly behind bytes
 -- that were copied, pages are discarded directly behind pages that were told or discarded, and an
 -- element's numbers are written directly behind these; behind them a release fence, and directly
--- behind that the index. An acquire fence stands directly behind a word that was read.
+-- behind that the index. An acquire fence stands directly behind a word that was read, or behind an
+-- index that was written.
 abbrev pub MayFollow : Option Access → Access → Type 0
 MayFollow before (ReadWord at answer) = Unit {0}
 MayFollow before (CopyBytes at answer) = is_read before ≡ true

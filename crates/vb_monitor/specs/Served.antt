@@ -10,11 +10,13 @@ use Rattle.vb_core.specs.declared.runs.Run.{Run}
 use Rattle.vb_core.specs.Rings.{used_entry}
 use Rattle.vb_core.specs.Devices.{ring_of}
 use Rattle.vb_monitor.specs.declared.regions.Region.{Region}
-use Rattle.vb_monitor.specs.declared.regions.Spot.{Spot}
+use Rattle.vb_monitor.specs.declared.outcome.Tally.{Tally}
+use Rattle.vb_monitor.specs.declared.usual.NextWord.{NextWord}
 use Rattle.vb_monitor.specs.declared.step.Place.{Place}
 use Rattle.vb_monitor.specs.declared.parts.Part.{Part}
-use Rattle.vb_monitor.specs.Regions.{holds, spot, cuts_of}
-use Rattle.vb_monitor.specs.Giving.{used_spots}
+use Rattle.vb_monitor.specs.Regions.{holds, cuts_of}
+use Rattle.vb_monitor.specs.Giving.{used_spots, with_given}
+use Rattle.vb_monitor.specs.Usual.{word_place}
 use Rattle.vb_core.specs.Next.{pieces_in}
 use Rattle.vb_monitor.specs.Machine.{behind_part}
 
@@ -27,20 +29,20 @@ abbrev pub is_last : Place → List ChainPiece → Bool
 is_last place pieces =
     none_left (behind_part place.is_second place.piece (pieces_in (take place.count pieces)))
 
--- The queue of this kind is looked at again once a chain was given back.
-abbrev pub looks_again : Kind → Bool
-looks_again Inflate = true
-looks_again Deflate = true
-looks_again Statistics = false
-looks_again Report = true
+-- A queue of this kind goes on with its next chain once one was given back.
+abbrev pub goes_on : Kind → Bool
+goes_on Inflate = true
+goes_on Deflate = true
+goes_on Statistics = false
+goes_on Report = true
 
--- Where the index is read once the chain of this head was given back, where that is a descriptor's
+-- The word that is read once the chain of this head was given back, where that is a descriptor's
 -- number, and all that is written for it is guest memory.
-abbrev pub look_place : List Region → Kind → ℕ → Device → Option Spot
-look_place regions kind head d =
-    if looks_again kind && nat_lt head (ring_of kind d).size
+abbrev pub word_behind : List Region → Kind → Tally → ℕ → Device → Option NextWord
+word_behind regions kind tally head d =
+    if goes_on kind && nat_lt head (ring_of kind d).size
     && is_some (used_spots regions (used_entry (ring_of kind d) head))
-    then spot regions ((ring_of kind d).avail + 2) 2 else None
+    then word_place regions (with_given tally) (ring_of kind d) else None
 
 -- What a kind's chains name is discarded, where it is kept or not.
 abbrev pub is_discarded : Kind → Bool → Bool

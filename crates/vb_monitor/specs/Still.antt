@@ -13,12 +13,12 @@ use Rattle.vb_core.specs.declared.device.Denial.{Denial}
 use Rattle.vb_core.specs.declared.device.Device.{Device}
 use Rattle.vb_monitor.specs.declared.regions.Region.{Region}
 use Rattle.vb_monitor.specs.declared.parts.Part.{Part}
-use Rattle.vb_monitor.specs.declared.outcome.Tally.{Tally}
+use Rattle.vb_monitor.specs.declared.outcome.{Budget.Budget, Tally.Tally}
 use Rattle.vb_monitor.specs.Accesses.{Access, ReadWord, CopyBytes, Acquire, Release, Full}
 use Rattle.vb_monitor.specs.Accesses.{TellPages, TellFigures, Discard, WriteNumber, WriteWord}
 use Rattle.vb_monitor.specs.Regions.{spot}
 use Rattle.vb_monitor.specs.Ends.{Whole}
-use Rattle.vb_monitor.specs.Notices.{entry_offset}
+use Rattle.vb_monitor.specs.Notices.{entry_offset, fresh, with_chains, with_published}
 use Rattle.vb_core.specs.Next.{pieces_in}
 use Rattle.vb_monitor.specs.Machine.{next_chain, serves}
 use Rattle.vb_monitor.specs.Giving.{TellsThen, spent}
@@ -60,6 +60,14 @@ avail_copy byte r = bytes_from byte r.avail (4 + 2 * r.size)
 
 abbrev pub table_copy : (ℕ → ℕ) → Virtqueue → List ℕ
 table_copy byte r = bytes_from byte r.table (16 * r.size)
+
+-- The available index of memory.
+abbrev pub index_in : (ℕ → ℕ) → Virtqueue → ℕ
+index_in byte r = from_le_bytes w16 (bytes_from byte (r.avail + 2) 2)
+
+-- What a notice of this budget may serve behind the chain that it takes first, and this index.
+abbrev pub as_read : ℕ → Budget → ℕ → Tally
+as_read n budget index = with_chains n (with_published index (fresh budget))
 
 -- Behind accesses that were made, of the others this holds.
 pub record Behind (does : List Access → Type 0) (log : List Access) : Type 0 where

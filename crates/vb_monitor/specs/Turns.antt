@@ -34,12 +34,11 @@ use Rattle.vb_monitor.specs.SoFar.{Known, Unknown, Walks, Has, known, ring_after
 
 -- ---- what is read
 
--- The word that is read next: first of all, and once a chain was given back, the available index;
--- behind an acquire fence the entry that is taken next, and behind a full fence the driver's flags
--- (VIRTIO 1.1, 2.6.6 and 2.6.7). Elsewhere none is.
+-- The word that is read next: first of all, and only then, the available index; behind an acquire
+-- fence the entry that is taken next, and behind a full fence the driver's flags (VIRTIO 1.1, 2.6.6
+-- and 2.6.7). Elsewhere none is.
 abbrev pub ReadsWord : List Region → Virtqueue → List Access → Spot → Type 0
 ReadsWord regions r [] at = spot regions (r.avail + 2) 2 ≡ Some at
-ReadsWord regions r (WriteWord before word ∷ xs) at = spot regions (r.avail + 2) 2 ≡ Some at
 ReadsWord regions r (Acquire ∷ xs) at = spot regions (r.avail + entry_offset r) 2 ≡ Some at
 ReadsWord regions r (Full ∷ xs) at = spot regions r.avail 2 ≡ Some at
 ReadsWord regions r (ReadWord before answer ∷ xs) at = ⊥
@@ -49,6 +48,7 @@ ReadsWord regions r (TellPages kind runs named ∷ xs) at = ⊥
 ReadsWord regions r (TellFigures figures ∷ xs) at = ⊥
 ReadsWord regions r (Discard cut ∷ xs) at = ⊥
 ReadsWord regions r (WriteNumber before number ∷ xs) at = ⊥
+ReadsWord regions r (WriteWord before word ∷ xs) at = ⊥
 
 -- A full fence stands last.
 abbrev pub ends_in_full : List Access → Bool

@@ -1,5 +1,5 @@
 -- How a notice goes on mostly: the next place, where it goes on so.
-use Rattle.std.specs.Prelude.{ℕ, ◌+◌, ◌*◌, Bool, false, not, ◌==◌, ◌&&◌, ◌||◌, nat_lt, List}
+use Rattle.std.specs.Prelude.{ℕ, ◌+◌, ◌-◌, ◌*◌, Bool, true, false, ◌==◌, ◌&&◌, ◌||◌, nat_lt, List}
 use Rattle.std.specs.Prelude.{if◌then◌else◌, Option, None, is_none, option_map}
 use Rattle.std.specs.Prelude.{Result, Ok, Err}
 use Rattle.vb_chain.specs.declared.descriptor.Descriptor.{Descriptor}
@@ -10,30 +10,37 @@ use Rattle.vb_monitor.specs.declared.regions.Region.{Region}
 use Rattle.vb_monitor.specs.declared.regions.Spot.{Spot}
 use Rattle.vb_monitor.specs.declared.outcome.Tally.{Tally}
 use Rattle.vb_monitor.specs.declared.step.Walk.{Walk}
+use Rattle.vb_monitor.specs.declared.step.Phase.{Phase}
+use Rattle.vb_monitor.specs.declared.step.Phase.TheVariants.{AwaitsEntry, AwaitsFlags}
+use Rattle.vb_monitor.specs.declared.usual.NextWord.{NextWord}
+use Rattle.vb_monitor.specs.declared.usual.NextWord.TheVariants.{Entry, Flags}
 use Rattle.vb_monitor.specs.declared.usual.NextDescriptor.{NextDescriptor}
 use Rattle.vb_monitor.specs.Regions.{spot}
 use Rattle.vb_monitor.specs.Chains.{descriptors, table_fault}
-use Rattle.vb_monitor.specs.Notices.{entry_offset, stands}
+use Rattle.vb_monitor.specs.Notices.{entry_offset, stands, with_chains}
 
--- By the index another chain stands there, and by it none does.
-abbrev pub another : Result Bool ChainFault → Bool
-another (Ok there) = there
-another (Err fault) = false
+-- The word that is read next: the entry of another chain that stands there, if the budget has room
+-- for it; or the flags, if none does and one was given back.
+abbrev pub word_by : Result Bool ChainFault → List Region → Tally → Virtqueue → Option NextWord
+word_by (Ok true) regions tally r =
+    if (tally.chains == 0) || (tally.pages == 0) then None
+    else option_map Entry (spot regions (r.avail + entry_offset r) 2)
+word_by (Ok false) regions tally r =
+    if tally.given then option_map Flags (spot regions r.avail 2) else None
+word_by (Err fault) regions tally r = None
 
-abbrev pub no_other : Result Bool ChainFault → Bool
-no_other (Ok there) = not there
-no_other (Err fault) = false
+-- The same by the index that was read.
+abbrev pub word_place : List Region → Tally → Virtqueue → Option NextWord
+word_place regions tally r = word_by (stands r tally.published) regions tally r
 
--- Where the entry stands, if another chain is there and the budget has room for it.
-abbrev pub entry_place : List Region → Tally → ℕ → Virtqueue → Option Spot
-entry_place regions tally index r =
-    if another (stands r index) && not ((tally.chains == 0) || (tally.pages == 0))
-    then spot regions (r.avail + entry_offset r) 2 else None
+-- What a notice waits for then, and what it may serve yet.
+abbrev pub phase_at : NextWord → Phase
+phase_at (Entry at) = AwaitsEntry at
+phase_at (Flags at) = AwaitsFlags at None false
 
--- Where the flags stand, if no other chain is there and one was given back.
-abbrev pub flags_place : List Region → Tally → ℕ → Virtqueue → Option Spot
-flags_place regions tally index r =
-    if no_other (stands r index) && tally.given then spot regions r.avail 2 else None
+abbrev pub tally_at : NextWord → Tally → Tally
+tally_at (Entry at) tally = with_chains (tally.chains - 1) tally
+tally_at (Flags at) tally = tally
 
 -- Where a descriptor stands, if the queue has one of this number.
 abbrev pub descriptor_place : List Region → ℕ → Virtqueue → Option Spot

@@ -95,7 +95,7 @@ fn discard_on(
     ensures fits { Fits result.phase }
     ensures stage { 1 ≤ stage result.phase }
     ensures left { left regions.now result ≤
-        of_chains regions.now tally.chains + (3 + (MAX_RUNS - from) * length regions.now) }
+        of_chains regions.now tally.chains + (2 + (MAX_RUNS - from) * length regions.now) }
 {
     match first_cut(regions, first_runs(runs, count as usize), from) {
         None => give_back(device, regions, kind, tally, head),
@@ -139,7 +139,7 @@ pub(crate) fn after_told(
     ensures fits { Fits result.phase }
     ensures stage { 1 ≤ stage result.phase }
     ensures left { left regions.now result ≤
-        of_chains regions.now tally.chains + (3 + MAX_RUNS * length regions.now) }
+        of_chains regions.now tally.chains + (2 + MAX_RUNS * length regions.now) }
 {
     if !discards(device, kind, tally.keeps) {
         return give_back(device, regions, kind, tally, head);
@@ -167,7 +167,7 @@ pub(crate) fn after_discard(
     ensures fits { Fits result.phase }
     ensures left { left regions.now result ≤
         of_chains regions.now tally.chains
-        + (3 + parts_left (length regions.now) discarding.run discarding.from) }
+        + (2 + parts_left (length regions.now) discarding.run discarding.from) }
 {
     let Discarding {
         head,

@@ -119,7 +119,7 @@ pub(crate) fn give_back(
         (next_chain (whole regions.now kind after outcome) tally) device.old tally head log }
     ensures fits { Fits result.phase }
     ensures stage { 2 ≤ stage result.phase }
-    ensures left { left regions.now result ≤ of_chains regions.now tally.chains + 3 }
+    ensures left { left regions.now result ≤ of_chains regions.now tally.chains + 2 }
 {
     match device.use_chain(kind, u32::from(head)) {
         Err(why) => end(device, regions, kind, tally, Some(why), false),

@@ -30,17 +30,19 @@ ghost use Rattle.vb_monitor.specs.Turns.{ReadsInTurn, TellsInTurn, WritesUsedAlo
 ghost use Rattle.vb_core.specs.declared.next.ChainPiece.{ChainPiece};
 ghost use Rattle.vb_core.specs.declared.next.NextChain.{NextChain};
 ghost use Rattle.vb_core.specs.declared.device.Denial.{Denial};
-ghost use Rattle.vb_core.specs.Devices.{ring_of};
+ghost use Rattle.vb_core.specs.Devices.{ring_of, queue_denial};
 ghost use Rattle.vb_core.specs.Next.{NextBy, is_read, length_of};
 ghost use Rattle.vb_chain.specs.declared.pieces.Piece.{Piece};
 ghost use Rattle.vb_monitor.specs.declared.outcome.Tally.{Tally};
 ghost use Rattle.vb_monitor.specs.declared.room.TheConstants.{MAX_BYTES};
 ghost use Rattle.vb_monitor.specs.Ends.{Whole};
 ghost use Rattle.vb_monitor.specs.Pieces.{all_parts};
-ghost use Rattle.vb_monitor.specs.Notices.{fresh, with_chains};
 ghost use Rattle.vb_monitor.specs.Machine.{whole, serves, served};
 ghost use Rattle.vb_monitor.specs.Still.{Stays, IsMapped, avail_copy, table_copy, DoesAs};
-ghost use Rattle.vb_monitor.specs.Still.{Behind, ReportsAs, bytes_of, ArePartsMapped};
+ghost use Rattle.vb_monitor.specs.Still.{Behind, ReportsAs, bytes_of, ArePartsMapped, index_in};
+ghost use Rattle.vb_monitor.specs.Still.{as_read};
+ghost use Rattle.vb_monitor.specs.Giving.{after_use};
+ghost use Rattle.vb_core.specs.Using.{use_denial};
 
 /// A notice touches no byte outside its regions: each word and each copy that it reads, each number
 /// that it writes, and all that it discards lies within one of them.
@@ -70,19 +72,20 @@ pub fn a_run_has_few_parts()
         length (cuts_of regions runs) ≤ length runs * length regions }
 {}
 
-/// A notice makes few accesses beside its discards: 3, and at most 776 for each chain that it may
-/// serve, which are 2 for its entry, 256 descriptors, two parts for each piece, what is told, 4 for
-/// the used element, and the next index.
+/// A notice makes few accesses beside its discards: 3, which are the index, and the flags behind
+/// their fence; and at most 775 for each chain that it may serve, which are 2 for its entry, 256
+/// descriptors, two parts for each piece, what is told, and 4 for the used element.
 #[tactic(auto, using(crate::proofs::CountLemmas::few_others))]
 pub fn a_notice_makes_few_accesses()
     ensures { (regions : List Region) (kind : Kind) (budget : Budget) (d1 d2 : Device)
         (outcome : Outcome) (log : List Access) →
-        Serves regions kind budget d1 d2 outcome log → others log ≤ 3 + 776 * budget.chains }
+        Serves regions kind budget d1 d2 outcome log → others log ≤ 3 + 775 * budget.chains }
 {}
 
-/// What counts is read once: behind the index the entry that is taken next, then the descriptors of
-/// its chain, each by the number that the one before named, and then each part of each piece, in
-/// order (VIRTIO 1.1, 2.6.5 and 2.6.6). Nothing is asked for again, whatever the guest makes of it.
+/// What counts is read once: the index once a notice, first of all; behind it, and behind a chain
+/// that is given back, the entry that is taken next; then the descriptors of its chain, each by the
+/// number that the one before named; and then each part of each piece, in order (VIRTIO 1.1, 2.6.5
+/// and 2.6.6). Nothing is asked for again, whatever the guest makes of it.
 #[tactic(auto, using(crate::proofs::TurnLaws::reads_in_turn))]
 pub fn what_counts_is_read_once()
     ensures { (regions : List Region) (kind : Kind) (budget : Budget) (d1 d2 : Device)
@@ -154,6 +157,14 @@ pub fn large_pages_go_once_they_are_given_up()
         is_of r answer.cut p ≡ true }
 {}
 
+/// A queue of which a chain may be given back is refused nothing once it was: so it is tested where
+/// it is looked at, and not behind each chain.
+#[tactic(auto, using(crate::proofs::ServedLemmas::used_open))]
+pub fn a_chain_that_is_given_back_leaves_its_queue_open()
+    ensures { (kind : Kind) (head : ℕ) (d : Device) → use_denial kind head d ≡ None →
+        queue_denial kind (after_use kind d) ≡ None }
+{}
+
 /// Where memory stays as it is, a notice does what `vb_core`'s `next` answers to private copies of
 /// its queue: it refuses what that refuses, ends where nothing stands there, and breaks the rule
 /// that the copies break; or it serves the chain of that head, by just those pieces. So what may be
@@ -167,8 +178,8 @@ pub fn a_notice_does_what_is_answered_to_copies()
         Stays byte regions log →
         NextBy kind (avail_copy byte (ring_of kind d1)) (table_copy byte (ring_of kind d1)) room
         buffers d1 d3 answer → Serves regions kind budget d1 d2 outcome log →
-        DoesAs answer buffers (whole regions kind d2 outcome) (with_chains n (fresh budget)) d3
-        log }
+        DoesAs answer buffers (whole regions kind d2 outcome) (as_read n budget
+        (index_in byte (ring_of kind d1))) d3 log }
 {}
 
 /// Where memory stays as it is, a notice of reports does what `vb_core`'s `report` answers to
@@ -183,8 +194,8 @@ pub fn a_notice_reports_what_is_answered_to_copies()
         MAX_REPORT_PIECES ≤ room → Stays byte regions log →
         ReportsBy (avail_copy byte (ring_of Report d1)) (table_copy byte (ring_of Report d1)) room
         runs d1 d3 answer → Serves regions Report budget d1 d2 outcome log →
-        ReportsAs answer runs (whole regions Report d2 outcome) (with_chains n (fresh budget)) d3
-        log }
+        ReportsAs answer runs (whole regions Report d2 outcome) (as_read n budget
+        (index_in byte (ring_of Report d1))) d3 log }
 {}
 
 /// Where memory stays as it is, a chain of pieces that lie in it is served by the bytes that they

@@ -39,10 +39,11 @@ pub use filling::{Filled, fill};
 pub use giving::UsedSpots;
 pub use large::{LARGEST_PAGE, Large, large_pages};
 pub use laws::{
-    a_chain_is_served_by_its_bytes, a_notice_does_what_is_answered_to_copies,
-    a_notice_makes_few_accesses, a_notice_reports_what_is_answered_to_copies,
-    a_part_is_whole_pages_of_its_run, a_run_has_few_parts, accesses_come_in_their_order,
-    asking_gives_the_buffer_back, asking_makes_few_accesses, large_pages_go_once_they_are_given_up,
+    a_chain_is_served_by_its_bytes, a_chain_that_is_given_back_leaves_its_queue_open,
+    a_notice_does_what_is_answered_to_copies, a_notice_makes_few_accesses,
+    a_notice_reports_what_is_answered_to_copies, a_part_is_whole_pages_of_its_run,
+    a_run_has_few_parts, accesses_come_in_their_order, asking_gives_the_buffer_back,
+    asking_makes_few_accesses, large_pages_go_once_they_are_given_up,
     nothing_outside_the_regions_is_touched, only_named_pages_are_discarded,
     only_used_elements_are_written, what_counts_is_read_once,
 };
@@ -54,9 +55,9 @@ pub use parts::Part;
 pub use placing::{RestoreDenial, are_memory, memory_end_of};
 pub use regions::{FILE_LIMIT, Region, Spot, find};
 pub use room::{MAX_BYTES, MAX_FIGURES, MAX_PIECES, MAX_RUNS};
-pub use served::{fill_few, fill_named, give_and_look, is_last, name_copied};
+pub use served::{fill_few, fill_named, give_and_go, is_last, name_copied};
 pub use serving::serve;
 pub use single::{FirstPart, first_of_single, index_to_look};
 pub use step::{Discarding, Phase, Place, Step, Walk};
-pub use usual::{NextDescriptor, descriptor_after, entry_after, flags_after, next_descriptor};
+pub use usual::{NextDescriptor, NextWord, descriptor_after, next_descriptor, word_after};
 pub use walk::after_descriptor;

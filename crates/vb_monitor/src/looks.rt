@@ -2,11 +2,10 @@
 
 ghost use Rattle.std.specs.Prelude.{◌≡◌, ◌+◌, ◌<◌, List};
 ghost use Rattle.vb_core.specs.declared.device.Device.{Device};
-ghost use Rattle.vb_core.specs.Devices.{ring_of};
 ghost use Rattle.vb_monitor.specs.declared.outcome.Outcome.{Outcome};
 ghost use Rattle.vb_monitor.specs.Accesses.{Access};
-ghost use Rattle.vb_monitor.specs.Notices.{entry_offset, stands, AfterEntry, AfterIndex, Looks};
-ghost use Rattle.vb_monitor.specs.Notices.{TakesChain, TakesNext, AfterGiven};
+ghost use Rattle.vb_monitor.specs.Notices.{entry_offset, stands, AfterEntry, Looks, TakesChain};
+ghost use Rattle.vb_monitor.specs.Notices.{TakesNext, ServesPublished, AfterGiven, with_published};
 ghost use Rattle.vb_monitor.specs.Machine.{Fits, stage, Room, Ahead, whole, next_chain};
 ghost use Rattle.vb_monitor.specs.Left.{left, of_chains, of_chain, once_copied};
 ghost use Rattle.std.specs.Prelude.{◌≤◌};
@@ -71,6 +70,7 @@ fn ask_entry(device: &mut Device, regions: &[Region], kind: Kind, tally: Tally) 
         TakesChain (whole regions.now kind after outcome)
         (next_chain (whole regions.now kind after outcome) tally) device.old tally log }
     ensures fits { Fits result.phase }
+    ensures stage { stage result.phase ≡ 3 }
     ensures left { left regions.now result ≤
         of_chains regions.now tally.chains + of_chain regions.now }
 {
@@ -91,6 +91,7 @@ fn take(device: &mut Device, regions: &[Region], kind: Kind, tally: Tally) -> St
         Ahead (whole regions.now kind after outcome) result device.new room log →
         TakesNext tally.chains (whole regions.now kind after outcome) device.old tally log }
     ensures fits { Fits result.phase }
+    ensures stage { stage result.phase ≡ 3 }
     ensures left { left regions.now result ≤ of_chains regions.now tally.chains + 1 }
 {
     if tally.chains == 0 {
@@ -106,6 +107,28 @@ fn take(device: &mut Device, regions: &[Region], kind: Kind, tally: Tally) -> St
     ask_entry(device, regions, kind, tally)
 }
 
+/// Serves what the index that was read publishes, as far as it isn't served yet.
+#[inline(never)]
+fn serve_published(device: &mut Device, regions: &[Region], kind: Kind, tally: Tally) -> Step
+    ensures step { (after : Device) (outcome : Outcome) (room : Room) (log : List Access) →
+        Ahead (whole regions.now kind after outcome) result device.new room log →
+        ServesPublished tally.chains (whole regions.now kind after outcome) device.old tally log }
+    ensures fits { Fits result.phase }
+    ensures stage { stage result.phase ≡ 3 }
+    ensures left { left regions.now result ≤ of_chains regions.now tally.chains + 1 }
+{
+    match stands(&device.ring(kind), tally.published) {
+        Err(fault) => fail(device, regions, kind, tally, fault),
+        Ok(there) => {
+            if there {
+                take(device, regions, kind, tally)
+            } else {
+                end(device, regions, kind, tally, None, false)
+            }
+        }
+    }
+}
+
 /// The index was read.
 pub(crate) fn after_index(
     device: &mut Device,
@@ -116,22 +139,16 @@ pub(crate) fn after_index(
 ) -> Step
     ensures step { (after : Device) (outcome : Outcome) (room : Room) (log : List Access) →
         Ahead (whole regions.now kind after outcome) result device.new room log →
-        AfterIndex (stands (ring_of kind device.old) index) (whole regions.now kind after outcome)
-        (TakesNext tally.chains (whole regions.now kind after outcome) device.old tally)
-        device.old tally log }
+        ServesPublished tally.chains (whole regions.now kind after outcome) device.old
+        (with_published index tally) log }
     ensures fits { Fits result.phase }
     ensures left { left regions.now result ≤ of_chains regions.now tally.chains + 1 }
 {
-    match stands(&device.ring(kind), index) {
-        Err(fault) => fail(device, regions, kind, tally, fault),
-        Ok(there) => {
-            if there {
-                take(device, regions, kind, tally)
-            } else {
-                end(device, regions, kind, tally, None, false)
-            }
-        }
-    }
+    let tally = Tally {
+        published: index,
+        ..tally
+    };
+    serve_published(device, regions, kind, tally)
 }
 
 /// The entry was read.
@@ -162,18 +179,20 @@ pub(crate) fn after_entry(
     follow(device, regions, kind, tally, walk, head)
 }
 
-/// A chain was given back: the queue is looked at again, but that of statistics.
+/// A chain was given back: the next one comes, but of statistics.
 pub(crate) fn after_given(device: &mut Device, regions: &[Region], kind: Kind, tally: Tally) -> Step
     ensures step { (after : Device) (outcome : Outcome) (room : Room) (log : List Access) →
         Ahead (whole regions.now kind after outcome) result device.new room log →
         AfterGiven kind (whole regions.now kind after outcome)
-        (Looks tally.chains (whole regions.now kind after outcome)) device.old tally log }
+        (ServesPublished tally.chains (whole regions.now kind after outcome)) device.old tally log }
     ensures fits { Fits result.phase }
     ensures stage { stage result.phase ≡ 3 }
-    ensures left { left regions.now result ≤ of_chains regions.now tally.chains + 2 }
+    ensures left { left regions.now result ≤ of_chains regions.now tally.chains + 1 }
 {
     match kind {
         Kind::Statistics => end(device, regions, kind, tally, None, false),
-        Kind::Inflate | Kind::Deflate | Kind::Report => look(device, regions, kind, tally),
+        Kind::Inflate | Kind::Deflate | Kind::Report => {
+            serve_published(device, regions, kind, tally)
+        }
     }
 }

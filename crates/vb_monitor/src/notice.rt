@@ -101,6 +101,7 @@ impl Notice {
             keeps: budget.keeps,
             given: false,
             held: None,
+            published: 0,
         };
         let step = look(device, regions, kind, tally);
         Notice { kind, step }
@@ -121,6 +122,7 @@ impl Notice {
             keeps: false,
             given: false,
             held: None,
+            published: 0,
         };
         let step = give_back(device, regions, Kind::Statistics, tally, head);
         Notice {

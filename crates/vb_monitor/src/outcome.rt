@@ -27,6 +27,8 @@ pub struct Tally {
     pub given: bool,
     /// The head of the buffer of statistics that was taken, and is held until it is asked for.
     pub held: Option<u16>,
+    /// The available index, once it was read: the chains before it may be taken. 0 until then.
+    pub published: u16,
 }
 
 /// What a notice came to.

@@ -1,5 +1,5 @@
 //! What is done at once of a chain whose pages were named: parts are discarded, it is given back,
-//! and the queue is looked at again.
+//! and the next word is read.
 
 ghost use Rattle.std.specs.Prelude.{◌≡◌, ◌+◌, ◌<◌, ◌≤◌, ◌++◌, true, false, List, [], None};
 ghost use Rattle.std.specs.Prelude.{Some, IfSome, IfOk, length, take, drop};
@@ -14,9 +14,7 @@ ghost use Rattle.vb_core.specs.Config.{keeps_reports};
 ghost use Rattle.vb_core.specs.Devices.{queue_denial};
 ghost use Rattle.vb_monitor.specs.declared.cuts.NextCut.{NextCut};
 ghost use Rattle.vb_monitor.specs.declared.orders.TheConstants.{MAX_CUTS};
-ghost use Rattle.vb_monitor.specs.declared.outcome.Tally.{Tally};
 ghost use Rattle.vb_monitor.specs.declared.outcome.Outcome.{Outcome};
-ghost use Rattle.vb_monitor.specs.declared.step.Phase.TheVariants.{AwaitsIndex};
 ghost use Rattle.vb_monitor.specs.Accesses.{Access};
 ghost use Rattle.vb_monitor.specs.Giving.{GivesBack, cuts_for, is_kept, with_given};
 ghost use Rattle.vb_monitor.specs.Machine.{Room, AheadAt, whole, next_chain};
@@ -24,8 +22,9 @@ ghost use Rattle.vb_monitor.specs.Orders.{cuts_left, giving};
 ghost use Rattle.vb_monitor.specs.Pieces.{all_parts};
 ghost use Rattle.vb_core.specs.Next.{pieces_in};
 ghost use Rattle.vb_monitor.specs.Machine.{behind_part};
-ghost use Rattle.vb_monitor.specs.Served.{look_place, is_last, none_left, looks_again};
+ghost use Rattle.vb_monitor.specs.Served.{word_behind, is_last, none_left, goes_on};
 ghost use Rattle.vb_monitor.specs.Served.{few_parts};
+ghost use Rattle.vb_monitor.specs.Usual.{phase_at, tally_at};
 
 use crate::copying::first_bytes;
 use crate::cuts::{first_cut, put_only};
@@ -35,9 +34,9 @@ use crate::giving::put_spots;
 use crate::orders::MAX_CUTS;
 use crate::parts::{next_part, second_part};
 use crate::pieces::first_pieces;
-use crate::regions::find_first;
 use crate::room::{MAX_BYTES, MAX_PIECES, MAX_RUNS};
-use crate::{Cut, Place, Region, Spot, Used};
+use crate::usual::word_after;
+use crate::{Cut, NextWord, Place, Region, Tally, Used};
 use vb_core::{ChainPiece, Denial, Device, Kind, Named, Run};
 
 /// Whether the pieces from this number on have no byte.
@@ -75,9 +74,9 @@ pub fn is_last(place: &Place, pieces: &[ChainPiece; MAX_PIECES]) -> bool
     none_behind(chain, place.piece, place.is_second)
 }
 
-/// Whether the queue of this kind is looked at again once a chain was given back.
-fn looks_again(kind: Kind) -> bool
-    ensures { result ≡ looks_again kind }
+/// Whether a queue of this kind goes on with its next chain once one was given back.
+fn goes_on(kind: Kind) -> bool
+    ensures { result ≡ goes_on kind }
 {
     match kind {
         Kind::Inflate | Kind::Deflate | Kind::Report => true,
@@ -166,46 +165,50 @@ pub fn fill_few(
     Some(1)
 }
 
-/// Gives the chain of this head back, of a queue that is served, and says where its index is read
-/// next; nothing is changed where a part of it is no guest memory.
+/// Gives the chain of this head back, of a queue that is served, and says which word is read next;
+/// nothing is changed where none is, or a part of it is no guest memory.
 #[inline(always)]
-pub fn give_and_look(
+pub fn give_and_go(
     device: &mut Device,
     regions: &[Region],
     kind: Kind,
+    tally: Tally,
     head: u16,
     used: &mut Used,
-) -> Option<Spot>
+) -> Option<NextWord>
     requires { queue_denial kind device.old ≡ None }
-    ensures place { result ≡ look_place regions.now kind head device.old }
-    ensures goes { IfSome result (λ at. (tally : Tally) (after : Device) (outcome : Outcome)
-        (room : Room) (rest : List Access) →
-        AheadAt (AwaitsIndex at) (whole regions.now kind after outcome) (with_given tally)
-        device.new room rest →
+    ensures word { result ≡ word_behind regions.now kind tally head device.old }
+    ensures goes { IfSome result (λ word. (after : Device) (outcome : Outcome) (room : Room)
+        (rest : List Access) →
+        AheadAt (phase_at word) (whole regions.now kind after outcome)
+        (tally_at word (with_given tally)) device.new room rest →
         GivesBack (whole regions.now kind after outcome)
         (next_chain (whole regions.now kind after outcome) tally) device.old tally head
         (giving true used.new ++ rest)) }
     ensures stays { result ≡ None → device.new ≡ device.old }
 {
-    if !looks_again(kind) {
+    if !goes_on(kind) {
         return None;
     }
-    let ring = device.ring(kind);
-    if head >= ring.size {
+    if head >= device.ring(kind).size {
         return None;
     }
     let entry = device.used_entry(kind, u32::from(head));
     if !put_spots(regions, &entry, &mut used.spots) {
         return None;
     }
-    match find_first(regions, ring.avail, 2, 2) {
+    let tally = Tally {
+        given: true,
+        ..tally
+    };
+    match word_after(device, regions, kind, tally) {
         None => None,
-        Some(at) => {
+        Some(word) => {
             device.count_used(kind);
             used.id = entry.id;
             used.length = entry.length;
             used.index = entry.index;
-            Some(at)
+            Some(word)
         }
     }
 }

@@ -8,85 +8,67 @@ ghost use Rattle.vb_core.specs.declared.statistics.Statistic.{Statistic};
 ghost use Rattle.vb_core.specs.Devices.{ring_of};
 ghost use Rattle.vb_monitor.specs.declared.outcome.Tally.{Tally};
 ghost use Rattle.vb_monitor.specs.declared.outcome.Outcome.{Outcome};
-ghost use Rattle.vb_monitor.specs.declared.step.Phase.TheVariants.{AwaitsEntry, AwaitsDescriptor};
-ghost use Rattle.vb_monitor.specs.declared.step.Phase.TheVariants.{AwaitsFlags};
+ghost use Rattle.vb_monitor.specs.declared.step.Phase.TheVariants.{AwaitsDescriptor};
 ghost use Rattle.vb_monitor.specs.Accesses.{Access};
 ghost use Rattle.vb_monitor.specs.Chains.{AfterDescriptor, Follows, descriptors, descriptor_of};
 ghost use Rattle.vb_monitor.specs.Chains.{memory_end};
-ghost use Rattle.vb_monitor.specs.Notices.{stands, AfterEntry, AfterIndex, TakesNext, with_chains};
+ghost use Rattle.vb_monitor.specs.Notices.{AfterEntry, ServesPublished};
 ghost use Rattle.vb_core.specs.Next.{pieces_in};
-ghost use Rattle.vb_monitor.specs.Usual.{entry_place, flags_place, descriptor_place, next_of};
-ghost use Rattle.vb_monitor.specs.Usual.{next_place};
+ghost use Rattle.vb_monitor.specs.Usual.{word_place, phase_at, tally_at, descriptor_place};
+ghost use Rattle.vb_monitor.specs.Usual.{next_of, next_place};
 ghost use Rattle.vb_monitor.specs.Machine.{Room, AheadAt, whole, room_of, next_chain, serves};
 
 use crate::copying::first_bytes;
 use crate::looks::{entry_offset, stands};
 use crate::pieces::{first_pieces, push_piece};
-use crate::regions::{find, find_from};
+use crate::regions::{find, find_first, find_from};
 use crate::room::{MAX_BYTES, MAX_PIECES};
 use crate::walk::{descriptor_of, descriptors, memory_end, ring_fault};
 use crate::{Region, Spot, Tally, Walk};
 use vb_chain::DESCRIPTOR_SIZE;
 use vb_core::{ChainPiece, Device, Kind};
 
-/// Where the entry is read, once the index was: another chain stands there, and the budget has room
-/// for it.
-#[tactic(auto, using(crate::proofs::NextLemmas::takes_next))]
-pub fn entry_after(
-    device: &Device,
-    regions: &[Region],
-    kind: Kind,
-    tally: Tally,
-    index: u16,
-) -> Option<Spot>
-    ensures place { result ≡ entry_place regions.now tally index (ring_of kind device.now) }
-    ensures goes { IfSome result (λ at. (after : Device) (outcome : Outcome) (room : Room)
+/// A word that is read next, and where.
+#[derive(Clone, Copy, Debug)]
+pub enum NextWord {
+    /// The entry of another chain, for which the budget has room.
+    Entry(Spot),
+    /// The driver's flags: no other chain stands there, and one was given back.
+    Flags(Spot),
+}
+
+/// The word that is read next, once the index was, or once a chain was given back.
+#[tactic(auto, using(crate::proofs::UsualLemmas::word_goes))]
+#[inline(always)]
+pub fn word_after(device: &Device, regions: &[Region], kind: Kind, tally: Tally) -> Option<NextWord>
+    ensures place { result ≡ word_place regions.now tally (ring_of kind device.now) }
+    ensures goes { IfSome result (λ word. (after : Device) (outcome : Outcome) (room : Room)
         (log : List Access) →
-        AheadAt (AwaitsEntry at) (whole regions.now kind after outcome)
-        (with_chains (tally.chains - 1) tally) device.now room log →
-        AfterIndex (stands (ring_of kind device.now) index) (whole regions.now kind after outcome)
-        (TakesNext tally.chains (whole regions.now kind after outcome) device.now tally)
-        device.now tally log) }
+        AheadAt (phase_at word) (whole regions.now kind after outcome) (tally_at word tally)
+        device.now room log →
+        ServesPublished tally.chains (whole regions.now kind after outcome) device.now tally log) }
 {
     let ring = device.ring(kind);
-    match stands(&ring, index) {
+    match stands(&ring, tally.published) {
         Ok(true) => {
             if tally.chains == 0 || tally.pages == 0 {
                 return None;
             }
-            find_from(regions, ring.avail, entry_offset(&ring), 2)
+            match find_first(regions, ring.avail, entry_offset(&ring), 2) {
+                None => None,
+                Some(at) => Some(NextWord::Entry(at)),
+            }
         }
-        Ok(false) | Err(_) => None,
-    }
-}
-
-/// Where the driver's flags are read, once the index was: nothing stands there, and a chain was
-/// given back.
-pub fn flags_after(
-    device: &Device,
-    regions: &[Region],
-    kind: Kind,
-    tally: Tally,
-    index: u16,
-) -> Option<Spot>
-    ensures place { result ≡ flags_place regions.now tally index (ring_of kind device.now) }
-    ensures goes { IfSome result (λ at. (after : Device) (outcome : Outcome) (room : Room)
-        (log : List Access) →
-        AheadAt (AwaitsFlags at None false) (whole regions.now kind after outcome) tally device.now
-        room log →
-        AfterIndex (stands (ring_of kind device.now) index) (whole regions.now kind after outcome)
-        (TakesNext tally.chains (whole regions.now kind after outcome) device.now tally)
-        device.now tally log) }
-{
-    let ring = device.ring(kind);
-    match stands(&ring, index) {
         Ok(false) => {
             if !tally.given {
                 return None;
             }
-            find(regions, ring.avail, 2)
+            match find(regions, ring.avail, 2) {
+                None => None,
+                Some(at) => Some(NextWord::Flags(at)),
+            }
         }
-        Ok(true) | Err(_) => None,
+        Err(_) => None,
     }
 }
 

@@ -1,13 +1,15 @@
-use Rattle.std.proofs.Common.{rules, ◌≡◌, ◌∙◌, ap, sym, subst, refl, arith, ℕ, ◌+◌, ◌++◌, take}
+use Rattle.std.proofs.Common.{rules, ◌≡◌, ◌∙◌, ap, sym, subst, refl, arith, ℕ, ◌+◌, ◌++◌, take, List}
 use Rattle.std.proofs.Common.{None, true}
 use Rattle.std.proofs.lemmas.List.{append-nil}
-use Rattle.vb_monitor.specs.declared.step.Phase.TheVariants.{AwaitsIndex}
+use Rattle.vb_monitor.specs.Usual.{phase_at, tally_at}
 use Rattle.vb_monitor.specs.declared.orders.Told.TheVariants.{Pages}
 use Rattle.vb_monitor.specs.declared.{orders.{Orders.Orders, Asked.Asked}}
 use Rattle.vb_core.specs.{declared.device.Device.Device}
-use Rattle.vb_monitor.{specs.Giving.{with_given}, specs.Machine.{Ahead, whole, room_of}}
+use Rattle.vb_monitor.{specs.Giving.{with_given, GivesBack}, specs.Machine.{Ahead, whole, room_of}}
+use Rattle.vb_monitor.specs.{Machine.{AheadAt, Room}, Accesses.Access}
+use Rattle.vb_monitor.specs.declared.outcome.{Tally.Tally, Outcome.Outcome}
 use Rattle.vb_monitor.specs.{Machine.next_chain, Orders.{at_once, giving, HasRoom}}
-use Rattle.vb_c.proofs.{ServedLemmas.told_given, UsualLemmas.says_notice}
+use Rattle.vb_c.proofs.{ServedLemmas.told_given, UsualLemmas.{says_notice, word_shown, no_part_left}}
 use Rattle.vb_c.specs.{Codes.kind_of_code, Notices.{phase_of, tally_of, asked_bits, answer_bits}}
 use Rattle.vb_c.specs.{Served.telling_pages, Serving.HandsOver, declared.notice.VbNotice.VbNotice}
 use Rattle.vb_core.specs.Config.{keeps_reports}
@@ -23,21 +25,30 @@ returns-in-Some-clause-hands c =
     let runs = c.args.runs.now in
     let count = c.args.count in
     let cuts = c.args.cuts.now in
-    let used = c.give_and_look.new.used in
-    let phase = AwaitsIndex c.in-Some.at in
-    let is = c.show_read.ensures in
-    let orders = ap (λ (x : VbNotice). x.orders) is in
+    let used = c.give_and_go.new.used in
+    let word = c.in-Some.word in
+    let phase = phase_at word in
+    let shown = c.show_word.ensures in
+    let orders = shown.orders in
+    let x = word_shown word in
     let asked : Asked = record { told = Pages; gives = true } in
+    let goes = subst (λ (s : Tally). (after : Device) (outcome : Outcome) (room : Room)
+    (rest : List Access) → AheadAt phase (whole c.args.regions.now kind after outcome)
+    (tally_at word (with_given s)) c.give_and_go.new.device room rest →
+    GivesBack (whole c.args.regions.now kind after outcome)
+    (next_chain (whole c.args.regions.now kind after outcome) s) c.args.balloon.now.device s
+    c.args.head (giving true used ++ rest)) c.tally-tally.ensures c.in-Some.ensures.goes in
     record {
       asked = asked;
-      notice = record { kind = kind; step = record { tally = with_given t; phase = phase } };
+      notice = record {
+        kind = kind;
+        step = record { tally = tally_at word (with_given t); phase = phase };
+      };
       is = record {
-        read = says_notice kind phase (with_given t) c.show_read.new.self
-            (ap (λ (x : VbNotice). kind_of_code x.kind) is ∙ c.requires.kind)
-            (ap (λ (x : VbNotice). phase_of x) is) (ap (λ (x : VbNotice). tally_of x) is);
-        says = tt;
-        what = ap (λ (x : VbNotice). x.what) is
-            ∙ (ap (λ (n : ℕ). n + answer_bits phase) c.asked_bits-bits.ensures.bits
+        read = says_notice kind phase (tally_at word (with_given t)) c.show_word.new.self
+            (ap (λ (k : ℕ). kind_of_code k) shown.kind ∙ c.requires.kind) shown.phase shown.tally;
+        says = x.says _ _;
+        what = shown.what ∙ (ap (λ (n : ℕ). n + answer_bits phase) c.asked_bits-bits.ensures.bits
             ∙ sym (ap (λ (o : Orders). asked_bits asked o.cuts + answer_bits phase) orders));
       };
       kind_is = refl;
@@ -48,8 +59,7 @@ returns-in-Some-clause-hands c =
           (at_once asked kind o cuts runs figures rest)) (sym orders)
           (told_given w (next_chain w t) c.args.balloon.now.device t c.args.head named runs
           count cuts None (giving true used ++ rest) (c.requires.parts ∙ sym (append-nil (take count cuts))) refl
-          (c.in-Some.ensures.goes t after outcome
-          (room_of pieces bytes runs figures) rest h));
+          (goes after outcome (room_of pieces bytes runs figures) rest h));
       room = subst (λ (o : Orders). HasRoom asked o) (sym orders) (record {
         runs = λ e. c.requires.few;
         figures = λ e. absurd cc;
@@ -58,15 +68,15 @@ returns-in-Some-clause-hands c =
       kept = λ e. ap (λ (o : Orders). o.kept) orders ∙ (c.kept_pages-kept.ensures
           ∙ sym (ap (λ (o : Orders). kept_pages (is_kept kind t.keeps
           (keeps_reports c.args.balloon.now.device)) o.named.pages) orders));
-      waits_now = refl;
-      fills = record { full = λ e. absurd (grind arith) };
-      fits = tt;
-      held = refl;
+      waits_now = x.waits_now;
+      fills = record { full = λ e. absurd (no_part_left phase x.late e) };
+      fits = x.fits;
+      held = sym (x.over _ _ _);
     }
 
 pub returns-in-None-clause-hands : goal.returns-in-None-clause-hands
 returns-in-None-clause-hands c =
-    let same : c.give_and_look.new.device ≡ c.args.balloon.now.device = search rules in
+    let same : c.give_and_go.new.device ≡ c.args.balloon.now.device = search rules in
     subst (λ (d : Device). HandsOver
     (telling_pages c.args.kind (tally_of c.args.shown.now) c.args.head c.args.named)
     c.args.regions.now c.args.runs.now (record c.args.balloon.now { device = d })

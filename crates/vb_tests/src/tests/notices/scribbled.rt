@@ -79,8 +79,7 @@ impl Entry {
     }
 }
 
-/// Memory that scribbles over each byte as soon as it was read, but the available ring's flags and
-/// index: a second read answers another one.
+/// Memory that scribbles over each byte as soon as it was read: a second read answers another one.
 #[derive(Drop)]
 pub(super) struct Scribbled<'r, R: Abort> {
     pub(super) rt: &'r R,
@@ -100,10 +99,8 @@ impl<R: Abort> Scribbled<'_, R> {
         }
         let place = at as usize;
         let byte = self.bytes[place];
-        if at < 0x100 || at >= 0x104 {
-            self.turn = self.turn.wrapping_add(1);
-            self.bytes[place] = byte.wrapping_add(self.turn);
-        }
+        self.turn = self.turn.wrapping_add(1);
+        self.bytes[place] = byte.wrapping_add(self.turn);
         byte
     }
 

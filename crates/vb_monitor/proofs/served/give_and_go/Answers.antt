@@ -1,23 +1,24 @@
 use Rattle.std.proofs.Common.{rules, ◌≡◌, ◌∙◌, ap, ℕ, ◌+◌, ◌<◌, true, Some}
 use Rattle.vb_core.{specs.Devices.ring_of, specs.Rings.used_entry}
 use Rattle.vb_core.{proofs.DenialLemmas.open_call, specs.declared.ring.UsedEntry.UsedEntry}
-use Rattle.vb_monitor.{specs.Regions.spot, specs.Served.looks_again, proofs.ServedLemmas.given_goes}
-use Rattle.vb_monitor.{specs.Giving.used_spots, specs.Machine.whole, specs.Orders.giving}
-use Rattle.vb_monitor.proofs.served.give_and_look.Goals as goal
+use Rattle.vb_monitor.{specs.Served.goes_on, proofs.ServedLemmas.given_goes}
+use Rattle.vb_monitor.specs.Usual.{word_place}
+use Rattle.vb_monitor.{specs.Giving.{used_spots, with_given}, specs.Machine.whole, specs.Orders.giving}
+use Rattle.vb_monitor.proofs.served.give_and_go.Goals as goal
 
 pub used_entry-entry-requires : goal.used_entry-entry-requires
 used_entry-entry-requires c =
     (open_call c.args.kind true true true c.args.device.now c.requires).place
 
 pub returns-in-Some-clause-goes : goal.returns-in-Some-clause-goes
-returns-in-Some-clause-goes c tally after outcome room rest h =
+returns-in-Some-clause-goes c after outcome room rest h =
     let d = c.args.device.now in
     let ring = ring_of c.args.kind d in
-    let looks : looks_again c.args.kind ≡ true = search rules in
+    let goes : goes_on c.args.kind ≡ true = search rules in
     let lt : c.args.head < ring.size = search rules in
     let spots : used_spots c.args.regions.now (used_entry ring c.args.head) ≡ Some c.put_spots.new.spots =
     search rules in
-    let place : spot c.args.regions.now (ring.avail + 2) 2 ≡ Some c.in-Some.at =
+    let place : word_place c.args.regions.now (with_given c.args.tally) ring ≡ Some c.in-Some.word =
     search rules in
     let writes =
     ap (λ (e : UsedEntry). giving true (record {
@@ -26,6 +27,6 @@ returns-in-Some-clause-goes c tally after outcome room rest h =
       length = e.length;
       index = e.index;
     })) (c.used_entry-entry.ensures ∙ ap (λ (n : ℕ). used_entry ring n) c.from.ensures) in
-    given_goes (whole c.args.regions.now c.args.kind after outcome) d c.count_used.new.self tally
-    c.args.head _ c.put_spots.new.spots c.in-Some.at rest looks lt c.requires spots place
-    c.count_used.ensures writes h
+    given_goes (whole c.args.regions.now c.args.kind after outcome) d c.count_used.new.self
+    c.args.tally c.args.head _ c.put_spots.new.spots c.in-Some.word room rest goes lt c.requires
+    spots place c.count_used.ensures writes h
