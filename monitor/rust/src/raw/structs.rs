@@ -142,6 +142,7 @@ pub struct Notice {
     numbers: [u32; 2],
     words: [u16; 3],
     flags: [u8; 5],
+    published: u16,
 }
 
 /// The room that a notice needs.
@@ -202,11 +203,11 @@ layout!(Spot, 16, region at 0, offset at 8);
 layout!(Cut, 32, region at 0, offset at 8, in_file at 16, length at 24);
 layout!(Large, 40, cut.region at 0, cut.length at 24, waiting at 32);
 layout!(Balloon, 184, device.status at 172, held at 176);
-layout!(Notice, 192, what at 0, kind at 4, at.region at 8, length at 24, into at 28, runs at 32, pages at 36);
-layout!(Notice, 192, skipped at 40, figures at 44, cuts at 48, kept at 52, id_at.region at 56);
-layout!(Notice, 192, length_at.region at 72, index_at.region at 88);
-layout!(Notice, 192, id at 104, used_length at 108, used_index at 112, code at 152, rule at 156);
-layout!(Notice, 192, interrupt at 160, configuration at 164, more at 168);
+layout!(Notice, 200, what at 0, kind at 4, at.region at 8, length at 24, into at 28, runs at 32, pages at 36);
+layout!(Notice, 200, skipped at 40, figures at 44, cuts at 48, kept at 52, id_at.region at 56);
+layout!(Notice, 200, length_at.region at 72, index_at.region at 88);
+layout!(Notice, 200, id at 104, used_length at 108, used_index at 112, code at 152, rule at 156);
+layout!(Notice, 200, interrupt at 160, configuration at 164, more at 168);
 
 /// Where the parts of a room begin, in bytes.
 const _: () = {
