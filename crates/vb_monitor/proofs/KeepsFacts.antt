@@ -58,7 +58,7 @@ keeps = record tally { keeps = true }
 
 -- whatever is counted
 carried : with_given (spent 2 (with_chains 5 keeps)) ≡
-    record { chains = 5; pages = 1; keeps = true; given = true; held = tally.held }
+    record keeps { chains = 5; pages = 1; given = true }
 carried = refl
 
 -- ---- the end of a chain
@@ -166,18 +166,13 @@ stays = record {
               rest = given;
               asks = refl;
               gives_back = record {
-                rest = index ∷ Full ∷ flags ∷ [];
+                rest = Full ∷ flags ∷ [];
                 asks = refl;
                 goes_on = record {
-                  index = 1;
-                  rest = Full ∷ flags ∷ [];
+                  flags = 0;
+                  rest = [];
                   asks = refl;
-                  goes_on = record {
-                    flags = 0;
-                    rest = [];
-                    asks = refl;
-                    then_stops = record { nothing = refl; device = refl; outcome = refl };
-                  };
+                  then_stops = record { nothing = refl; device = refl; outcome = refl };
                 };
               };
             };

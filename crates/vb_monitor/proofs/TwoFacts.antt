@@ -77,7 +77,7 @@ of_the_second = Acquire ∷ second_entry ∷ CopyBytes (at 0x40) last_descriptor
 
 abbrev served_both : Outcome
 served_both = record outcome {
-  tally = record { chains = 6; pages = 254; given = true; held = None; published = 2 };
+  tally = record { chains = 6; pages = 254; keeps = false; given = true; held = None; published = 2 };
 }
 
 abbrev whole : Device → Outcome → Whole
@@ -85,7 +85,7 @@ whole d o = record { regions = two; kind = Inflate; device = d; outcome = o }
 
 -- behind the first chain
 abbrev one_given : Tally
-one_given = record { chains = 7; pages = 255; given = true; held = None; published = 2 }
+one_given = record { chains = 7; pages = 255; keeps = false; given = true; held = None; published = 2 }
 
 serves_second : ServesPublished 7 (whole (used (used ready)) served_both) (used ready) one_given of_the_second
 unfolding lib.Count.ones
