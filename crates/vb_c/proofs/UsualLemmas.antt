@@ -64,7 +64,7 @@ says_notice kind p t c k e f = ap (λ (x : Option Kind). notice_by x (phase_of c
     ∙ (ap (λ (x : Option Phase). notice_by (Some kind) x (tally_of c)) e
     ∙ ap (λ (x : Tally). notice_by (Some kind) (Some p) x) f)
 
-no_bits : (n : ℕ) → n ≡ 0 + n
+pub no_bits : (n : ℕ) → n ≡ 0 + n
 no_bits n = omega arith
 
 abbrev nothing : Asked
