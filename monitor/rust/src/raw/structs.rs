@@ -141,6 +141,7 @@ pub struct Notice {
     numbers: [u32; 2],
     words: [u16; 3],
     flags: [u8; 4],
+    published: u16,
 }
 
 /// The room that a notice needs.
@@ -204,7 +205,7 @@ layout!(Balloon, 184, device.status at 172, held at 176);
 layout!(Notice, 192, what at 0, kind at 4, at.region at 8, length at 24, into at 28, runs at 32, pages at 36);
 layout!(Notice, 192, skipped at 40, figures at 44, cuts at 48, id_at.region at 56, length_at.region at 72);
 layout!(Notice, 192, index_at.region at 88, id at 104, used_length at 108, used_index at 112, code at 152, rule at 156);
-layout!(Notice, 192, interrupt at 160, configuration at 164, more at 168);
+layout!(Notice, 192, interrupt at 160, configuration at 164, more at 168, published at 190);
 
 /// Where the parts of a room begin, in bytes.
 const _: () = {
