@@ -252,8 +252,9 @@ static void statistics_are_in_order(void)
 /* The driver publishes a third chain while the second one is served. */
 static void publish_third(void *context, uint32_t kind, const VbRun *runs, uint32_t count)
 {
+    static int chains;
     be_told(context, kind, runs, count);
-    if (balloon.state.device.deflate.next_avail == 2)
+    if (++chains == 2)
         memory[AVAIL + 2] = 3;
 }
 

@@ -207,7 +207,7 @@ layout!(Notice, 200, what at 0, kind at 4, at.region at 8, length at 24, into at
 layout!(Notice, 200, skipped at 40, figures at 44, cuts at 48, kept at 52, id_at.region at 56);
 layout!(Notice, 200, length_at.region at 72, index_at.region at 88);
 layout!(Notice, 200, id at 104, used_length at 108, used_index at 112, code at 152, rule at 156);
-layout!(Notice, 200, interrupt at 160, configuration at 164, more at 168);
+layout!(Notice, 200, interrupt at 160, configuration at 164, more at 168, published at 192);
 
 /// Where the parts of a room begin, in bytes.
 const _: () = {
