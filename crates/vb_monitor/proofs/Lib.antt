@@ -10,6 +10,7 @@ pub mod LeftLemmas
 pub mod OrderLemmas
 pub mod GivenLemmas
 pub mod RowLemmas
+pub mod TableRowLemmas
 pub mod TouchLemmas
 pub mod PartCounts
 pub mod CountLemmas

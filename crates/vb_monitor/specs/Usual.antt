@@ -40,22 +40,6 @@ abbrev pub descriptor_place : List Region → ℕ → Virtqueue → Option Spot
 descriptor_place regions number r =
     if nat_lt number (descriptors r) then spot regions (r.table + 16 * number) 16 else None
 
--- The walk behind one more descriptor.
-abbrev pub walk_on : Walk → Descriptor → Walk
-walk_on walk x = record {
-  head = walk.head;
-  count = walk.count + 1;
-  writing = walk.writing || is_writable x;
-}
-
--- Where the descriptor stands that another names, which was copied after so many pieces, if that
--- one breaks no rule and the table has room for one more.
-abbrev pub next_place : List Region → Walk → ℕ → Descriptor → ℕ → Virtqueue → Option Spot
-next_place regions walk visited x end r =
-    if has_next x && is_none (table_fault (descriptors r) end walk.writing visited x)
-    && nat_lt (walk.count + 1) (descriptors r)
-    then spot regions (r.table + 16 * x.next) 16 else None
-
--- That place, and the walk up to it.
-abbrev pub next_of : Walk → Descriptor → Option Spot → Option NextDescriptor
-next_of walk x place = option_map (λ at. record { at = at; walk = walk_on walk x }) place
+-- The walk that waits for a chain's first descriptor.
+abbrev pub first_walk : ℕ → Walk
+first_walk head = record { head = head; count = 0; writing = false; first = head; behind = 0 }
