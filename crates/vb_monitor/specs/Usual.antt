@@ -10,7 +10,6 @@ use Rattle.vb_monitor.specs.declared.regions.Region.{Region}
 use Rattle.vb_monitor.specs.declared.regions.Spot.{Spot}
 use Rattle.vb_monitor.specs.declared.outcome.Tally.{Tally}
 use Rattle.vb_monitor.specs.declared.step.Walk.{Walk}
-use Rattle.vb_monitor.specs.declared.usual.NextDescriptor.{NextDescriptor}
 use Rattle.vb_monitor.specs.Regions.{spot}
 use Rattle.vb_monitor.specs.Chains.{descriptors, table_fault}
 use Rattle.vb_monitor.specs.Notices.{entry_offset, stands}
