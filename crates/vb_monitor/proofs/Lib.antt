@@ -40,6 +40,7 @@ mod PartsOfRunsFacts
 mod MachineFacts
 mod GivingFacts
 mod ChainFacts
+mod TableRowFacts
 mod LookFacts
 mod WholeFacts
 pub mod LargeLemmas

@@ -172,7 +172,8 @@ row_by w may allows d t on done more last row number writing pieces None b log w
     row_at w may allows ((ring_of w.kind d).table + 16 * number) d t on done more last number _
     writing pieces _ b log was refl h
 row_by w may allows d t on done more last row number writing pieces (Some bytes) b log was h =
-    descriptor_by w may allows d t (on row) done (more row) last _ writing _ pieces b log was h
+    descriptor_by w may allows d t (on row) done (more row) last _ writing (descriptor_of bytes) pieces b
+    log was h
 
 follows_row : (n : ℕ) (w : Whole) (may : Option Access → Access → Type 0) (allows : Allows w may) (d : Device) (t : Tally) (done : List Piece → List Access → Type 0)
     (last : Last may done) (row : TableRow) (number : ℕ) (writing : Bool) (pieces : List Piece)

@@ -247,13 +247,16 @@ row_at byte w d t whole follows q head path i index behind writing pieces log on
     (shows.alike index (take 16 h.bytes) (first_in_row index h.bytes behind h.long)) walked both.1
     h.goes_on)
 
+is_some : (at : Spot) → Some at ≡ None → ⊥
+is_some at e = absurd cc
+
 -- it lies in guest memory where its first descriptor does
 row_mapped : (regions : List Region) (a many : ℕ) (o : Option Spot) →
     spot regions a (16 * (many + 1)) ≡ o → spot regions a 16 ≢ None →
     spot regions a (16 * (unless_apart o many + 1)) ≢ None
 row_mapped regions a many None e mapped = mapped
 row_mapped regions a many (Some at) e mapped =
-    λ f. let no : Some at ≡ None {A = Spot} = sym e ∙ f in absurd cc
+    λ f. absurd (is_some at (sym e ∙ f))
 
 row_by : (byte : ℕ → ℕ) (w : Whole) (d : Device) (t : Tally)
     (whole : List Piece → List Access → Type 0)

@@ -1,16 +1,16 @@
 -- Steps of a walk: rows that are asked for, and descriptors of a row, one after the other.
-use Rattle.std.proofs.Common.{◌≡◌, ◌≢◌, ◌∙◌, ap, sym, subst, refl, arith, ℕ, suc, ◌+◌, ◌-◌, ◌*◌, ◌<◌, ◌≤◌}
+use Rattle.std.proofs.Common.{◌≡◌, ◌∙◌, ap, sym, subst, refl, arith, ℕ, suc, ◌+◌, ◌-◌, ◌*◌, ◌<◌, ◌≤◌}
 use Rattle.std.proofs.Common.{Bool, true, false, List, [], ◌∷◌, ◌++◌, length, take, drop}
 use Rattle.std.proofs.Common.{Option, Some, None, length-take, length-append}
 use Rattle.std.specs.Prelude.{◌||◌, nat_lt, min, if◌then◌else◌}
 use Rattle.std.proofs.lemmas.{Bool.Decides.nat_tests, List.take-take}
-use Rattle.vb_chain.specs.{Rules.{has_next, is_writable, piece_of, first_fault}}
+use Rattle.vb_chain.specs.{Rules.{has_next, is_writable, piece_of}}
 use Rattle.vb_chain.specs.declared.{pieces.Piece.Piece, fault.ChainFault.ChainFault}
 use Rattle.vb_chain.specs.declared.descriptor.Descriptor.{Descriptor}
 use Rattle.vb_core.{specs.Next.pieces_in, specs.Devices.ring_of, proofs.PieceLemmas.{none_in, length_in}}
 use Rattle.vb_core.specs.declared.next.ChainPiece.{ChainPiece}
-use Rattle.vb_core.specs.declared.{device.Device.Device, ring.Virtqueue.Virtqueue}
-use Rattle.vb_monitor.specs.declared.{regions.Region.Region, regions.Spot.Spot, outcome.Tally.Tally}
+use Rattle.vb_core.specs.declared.{device.Device.Device}
+use Rattle.vb_monitor.specs.declared.{regions.Spot.Spot, outcome.Tally.Tally}
 use Rattle.vb_monitor.specs.{Accesses.Access, Ends.{Whole, Breaks}, Regions.spot}
 use Rattle.vb_monitor.specs.{Notices.{HeadBy, AfterEntry}, Machine.{next_chain, serves, row_bytes}}
 use Rattle.vb_monitor.specs.declared.step.Walk.{Walk}

@@ -31,7 +31,6 @@ use Rattle.vb_monitor.specs.declared.regions.{Region.Region, Spot.Spot}
 -- what is known of a row, descriptor by descriptor
 walked_out : (n : ℕ) (kind : Kind) (head : ℕ) (row : TableRow) (number : ℕ) (pieces : List Piece) →
     in_row row number ≡ None → walked_in n kind head row number pieces ≡ Walks head number pieces
-unfolding walked_in
 walked_out zero kind head row number pieces e = refl
 walked_out (suc n) kind head row number pieces e =
     ap (λ (o : Option (List ℕ)). walked_by o (walked_in n kind head row) kind head number pieces) e
@@ -45,7 +44,6 @@ walked_on : (n : ℕ) (kind : Kind) (head : ℕ) (row : TableRow) (number : ℕ)
     (bytes : List ℕ) → in_row row number ≡ Some bytes →
     walked_in (suc n) kind head row number pieces ≡
     Known_behind n kind head row pieces (descriptor_of bytes)
-unfolding walked_in
 walked_on n kind head row number pieces bytes e =
     ap (λ (o : Option (List ℕ)). walked_by o (walked_in n kind head row) kind head number pieces) e
 

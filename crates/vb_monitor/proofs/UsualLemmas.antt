@@ -1,8 +1,8 @@
 -- A chain's first descriptor.
 use Rattle.vb_core.{proofs.PieceLemmas.none_in, specs.Next.pieces_in, specs.Devices.ring_of}
 use Rattle.vb_core.specs.declared.device.Device.{Device}
-use Rattle.std.proofs.Common.{◌≡◌, sym, subst, ap, ℕ, ◌+◌, ◌-◌, ◌<◌, ◌*◌, false, List, []}
-use Rattle.std.proofs.Common.{Option, Some}
+use Rattle.std.proofs.Common.{◌≡◌, ℕ, ◌+◌, ◌-◌, ◌<◌, ◌*◌, false, List, []}
+use Rattle.std.proofs.Common.{Some}
 use Rattle.vb_monitor.{specs.declared.regions.Spot.Spot, specs.Machine.{next_chain, serves}}
 use Rattle.vb_monitor.{specs.declared.outcome.Tally.Tally, specs.Notices.AfterEntry}
 use Rattle.vb_monitor.{specs.Accesses.Access, specs.Regions.spot, specs.Ends.Whole}

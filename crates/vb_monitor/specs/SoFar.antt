@@ -54,7 +54,7 @@ walked_by (Some bytes) on kind head number pieces =
 
 -- The descriptors of a row are known for as long as each names one that the row has, so many at
 -- most.
-unfoldable pub walked_in : ℕ → Kind → ℕ → TableRow → ℕ → List Piece → Known
+abbrev pub walked_in : ℕ → Kind → ℕ → TableRow → ℕ → List Piece → Known
 walked_in zero kind head row number pieces = Walks head number pieces
 walked_in (suc n) kind head row number pieces =
     walked_by (in_row row number) (walked_in n kind head row) kind head number pieces

@@ -1,17 +1,15 @@
 -- How a notice goes on mostly: the next place, where it goes on so.
 use Rattle.std.specs.Prelude.{ℕ, ◌+◌, ◌*◌, Bool, false, not, ◌==◌, ◌&&◌, ◌||◌, nat_lt, List}
-use Rattle.std.specs.Prelude.{if◌then◌else◌, Option, None, is_none, option_map}
+use Rattle.std.specs.Prelude.{if◌then◌else◌, Option, None}
 use Rattle.std.specs.Prelude.{Result, Ok, Err}
-use Rattle.vb_chain.specs.declared.descriptor.Descriptor.{Descriptor}
 use Rattle.vb_chain.specs.declared.fault.ChainFault.{ChainFault}
-use Rattle.vb_chain.specs.Rules.{has_next, is_writable}
 use Rattle.vb_core.specs.declared.ring.Virtqueue.{Virtqueue}
 use Rattle.vb_monitor.specs.declared.regions.Region.{Region}
 use Rattle.vb_monitor.specs.declared.regions.Spot.{Spot}
 use Rattle.vb_monitor.specs.declared.outcome.Tally.{Tally}
 use Rattle.vb_monitor.specs.declared.step.Walk.{Walk}
 use Rattle.vb_monitor.specs.Regions.{spot}
-use Rattle.vb_monitor.specs.Chains.{descriptors, table_fault}
+use Rattle.vb_monitor.specs.Chains.{descriptors}
 use Rattle.vb_monitor.specs.Notices.{entry_offset, stands}
 
 -- By the index another chain stands there, and by it none does.

@@ -1,10 +1,10 @@
-use Rattle.std.proofs.Common.{rules, ◌≡◌, ◌∙◌, ◌+◌, ◌-◌, ap, sym, subst, ℕ, List, take}
+use Rattle.std.proofs.Common.{◌≡◌, ◌∙◌, ◌+◌, ◌-◌, ap, sym, subst, ℕ, List, take}
 use Rattle.vb_core.specs.declared.{device.Device.Device, ring.Virtqueue.Virtqueue}
 use Rattle.vb_core.specs.{Devices.ring_of, Next.pieces_in}
 use Rattle.vb_monitor.specs.declared.{outcome.Outcome.Outcome, rows.RowEnd.RowEnd}
 use Rattle.vb_monitor.specs.{Accesses.Access, Rows.EndsRow}
 use Rattle.vb_monitor.specs.Machine.{whole, serves, room_of, row_in, row_bytes}
-use Rattle.vb_monitor.specs.Chains.{descriptors, memory_end, row_of, Follows}
+use Rattle.vb_monitor.specs.Chains.{descriptors, row_of, Follows}
 use Rattle.vb_monitor.proofs.TableRowLemmas.{At}
 use Rattle.vb_monitor.proofs.walk.after_descriptor.Goals.{After-walk_row-walked}
 use Rattle.vb_monitor.proofs.walk.after_descriptor.Goals as goal

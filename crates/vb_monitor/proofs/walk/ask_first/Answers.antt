@@ -1,4 +1,4 @@
-use Rattle.std.proofs.Common.{rules, ◌≡◌, take}
+use Rattle.std.proofs.Common.{take}
 use Rattle.vb_core.{specs.Next.pieces_in, proofs.PieceLemmas.none_in}
 use Rattle.vb_monitor.specs.Machine.{whole}
 use Rattle.vb_monitor.proofs.TableRowLemmas.{first_goes}
