@@ -12,8 +12,8 @@ use Rattle.vb_monitor.specs.Ends.{Whole, wants_interrupt, Ends, Breaks}
 use Rattle.vb_monitor.specs.Pieces.{parts_of, all_parts, CopiesParts, PartBy, fits_behind}
 use Rattle.vb_core.specs.Next.{pieces_in}
 use Rattle.vb_monitor.specs.Giving.{Then}
-use Rattle.vb_monitor.specs.Chains.{descriptor_of, memory_end, descriptors, table_fault, GoesOn, Follows, ServesPieces, with_held}
-use Rattle.vb_monitor.proofs.Samples.{Same, two, at, ring, ready, tally, piece, first_descriptor, last_descriptor, number, descriptor, part, discard, flags}
+use Rattle.vb_monitor.specs.Chains.{descriptor_of, memory_end, descriptors, table_fault, GoesOn, no_row, Follows, ServesPieces, with_held}
+use Rattle.vb_monitor.proofs.Samples.{Same, two, at, ring, ready, tally, piece, first_descriptor, last_descriptor, with_two, number, descriptor, part, discard, flags}
 
 -- ---- how a notice ends
 
@@ -150,29 +150,35 @@ another_number h = let e : Same 6 5 = h.0 in omega arith
 abbrev Ended : List Piece → List Access → Type 0
 Ended pieces log = (pieces ≡ piece ∷ []) × (log ≡ [])
 
-followed : Follows 8 (whole ready (ends_so false false)) ready tally Ended 3 false [] (descriptor ∷ [])
+followed : Follows 8 (whole ready (ends_so false false)) ready tally Ended no_row 3 false [] (descriptor ∷ [])
 followed = record { bytes = last_descriptor; rest = []; asks = refl; long = refl; goes_on = (refl, refl) }
 
-both_followed : Follows 8 (whole ready (ends_so false false)) ready tally (λ pieces log. pieces ≡ piece ∷ piece ∷ []) 3 false []
-    (CopyBytes (at 0x30) first_descriptor ∷ CopyBytes (at 0x50) last_descriptor ∷ [])
+both_followed : Follows 8 (whole ready (ends_so false false)) ready tally (λ pieces log. pieces ≡ piece ∷ piece ∷ []) no_row 3 false []
+    (CopyBytes (at 0x30) first_descriptor ∷ CopyBytes (at 0x50) (with_two last_descriptor) ∷ [])
 both_followed = record {
   bytes = first_descriptor;
-  rest = CopyBytes (at 0x50) last_descriptor ∷ [];
+  rest = CopyBytes (at 0x50) (with_two last_descriptor) ∷ [];
   asks = refl;
   long = refl;
-  goes_on = record { bytes = last_descriptor; rest = []; asks = refl; long = refl; goes_on = refl };
+  goes_on = record {
+    bytes = with_two last_descriptor;
+    rest = [];
+    asks = refl;
+    long = refl;
+    goes_on = refl;
+  };
 }
 
 abbrev copied_at : List Access → ℕ
 copied_at (CopyBytes at answer ∷ xs) = at.offset
 copied_at xs = 0
 
-another_descriptor : Follows 8 (whole ready (ends_so false false)) ready tally Ended 3 false []
+another_descriptor : Follows 8 (whole ready (ends_so false false)) ready tally Ended no_row 3 false []
     (CopyBytes (at 0x40) last_descriptor ∷ []) → ⊥
 another_descriptor h = let e : Same 0x40 0x30 = ap copied_at h.asks in omega arith
 
 -- no more of them than the table has
-too_many : Follows 0 (whole ready (ends_so false false)) ready tally Ended 3 false [] (descriptor ∷ []) → ⊥
+too_many : Follows 0 (whole ready (ends_so false false)) ready tally Ended no_row 3 false [] (descriptor ∷ []) → ⊥
 too_many h = let e = h.nothing in absurd cc
 
 -- ---- parts of pieces

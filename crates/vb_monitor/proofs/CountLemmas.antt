@@ -1,7 +1,7 @@
 -- How many accesses a notice makes beside its discards.
 use Rattle.vb_monitor.proofs.PartCounts.{two_at_most}
 use Rattle.std.proofs.Common.{◌≡◌, ap, sym, subst, refl, arith, ℕ, zero, suc, ◌+◌, ◌*◌, ◌≤◌, Bool}
-use Rattle.std.proofs.Common.{true, false, List, [], ◌∷◌, ◌++◌, length, map, Option, Some, None}
+use Rattle.std.proofs.Common.{true, false, List, [], ◌∷◌, ◌++◌, length, map, take, Option, Some, None}
 use Rattle.std.{proofs.Common.{Result, Ok, Err}, specs.Prelude.{◌==◌}}
 use Rattle.vb_chain.specs.declared.{pieces.Piece.Piece, fault.ChainFault.ChainFault}
 use Rattle.vb_chain.specs.{declared.descriptor.Descriptor.Descriptor, Rules.{has_next, piece_of}}
@@ -13,8 +13,9 @@ use Rattle.vb_core.specs.declared.kinds.Kind.TheVariants.{Inflate, Deflate, Stat
 use Rattle.vb_core.specs.declared.{name.Named.Named, ring.UsedEntry.UsedEntry}
 use Rattle.vb_core.specs.declared.{ring.Virtqueue.Virtqueue, runs.Run.Run}
 use Rattle.vb_monitor.specs.{Accesses.{Access, Discard}, Chains.{FiguresBy, AfterBytes, CopiesBy}}
-use Rattle.vb_monitor.specs.Chains.{ServesPieces, GoesOn, DescriptorBy, DescriptorAt, Follows}
-use Rattle.vb_monitor.specs.Chains.{table_fault, descriptor_of, descriptors, memory_end}
+use Rattle.vb_monitor.specs.Chains.{ServesPieces, GoesOn, DescriptorBy, TableRow, row_of, no_row}
+use Rattle.vb_monitor.specs.Chains.{RowAt, FollowsBy, Follows, AfterDescriptor, table_fault}
+use Rattle.vb_monitor.specs.Chains.{descriptor_of, descriptors, memory_end}
 use Rattle.vb_monitor.specs.{Counts.others, Ends.{Whole, Ends, EndsWhere, FlagsAt}, Giving.Then}
 use Rattle.vb_monitor.specs.Giving.{three_spots, UsedAt, GivesBack, GivesBackBy, with_given}
 use Rattle.vb_monitor.specs.{Giving.{after_use, TellsThen, AfterName}, Notices.HeadBy}
@@ -220,31 +221,56 @@ descriptor_by n m w d t on done more last (Some fault) writing x pieces log h =
 descriptor_by n m w d t on done more last None writing x pieces log h =
     goes_on n m on done more last (has_next x) writing x pieces log h
 
-descriptor_at : (n m : ℕ) (w : Whole) (d : Device) (t : Tally)
+after_few : (n m : ℕ) (w : Whole) (d : Device) (t : Tally)
     (on : ℕ → Bool → List Piece → List Access → Type 0) (done : List Piece → List Access → Type 0)
     (more : More n m on) (last : Last m done) (writing : Bool) (pieces : List Piece)
-    (o : Option Spot) (log : List Access) → DescriptorAt w d t on done writing pieces o log →
+    (bytes : List ℕ) (log : List Access) → AfterDescriptor w d t on done writing pieces bytes log →
+    Few (walk_room n (suc (length pieces)) m) log
+after_few n m w d t on done more last writing pieces bytes log h = descriptor_by n m w d t on done
+    more last (table_fault (descriptors (ring_of w.kind d)) (memory_end d) writing (length pieces)
+    (descriptor_of bytes)) writing (descriptor_of bytes) pieces log h
+
+abbrev Rows : ℕ → ℕ → (TableRow → ℕ → Bool → List Piece → List Access → Type 0) → Type 0
+Rows n m on = (row : TableRow) → More n m (on row)
+
+row_at : (n m : ℕ) (w : Whole) (d : Device) (t : Tally)
+    (on : TableRow → ℕ → Bool → List Piece → List Access → Type 0)
+    (done : List Piece → List Access → Type 0) (more : Rows n m on) (last : Last m done)
+    (number behind : ℕ) (writing : Bool) (pieces : List Piece) (o : Option Spot)
+    (log : List Access) → RowAt w d t on done number behind writing pieces o log →
     Few (walk_room (suc n) (length pieces) m) log
-descriptor_at n m w d t on done more last writing pieces None log h =
+row_at n m w d t on done more last number behind writing pieces None log h =
     ends (walk_room (suc n) (length pieces) m) w _ t _ false log (omega arith) h
-descriptor_at n m w d t on done more last writing pieces (Some at) log h =
-    let few = descriptor_by n m w d t on done more last
-    (table_fault (descriptors (ring_of w.kind d)) (memory_end d) writing (length pieces)
-    (descriptor_of h.bytes)) writing (descriptor_of h.bytes) pieces h.rest h.goes_on in
+row_at n m w d t on done more last number behind writing pieces (Some at) log h =
+    let few = after_few n m w d t (on (row_of number h.bytes)) done
+    (more (row_of number h.bytes)) last writing pieces (take 16 h.bytes) h.rest h.goes_on in
     asked (walk_room (suc n) (length pieces) m) log _ h.asks (omega (arith, few))
 
+row_by : (n m : ℕ) (w : Whole) (d : Device) (t : Tally)
+    (on : TableRow → ℕ → Bool → List Piece → List Access → Type 0)
+    (done : List Piece → List Access → Type 0) (more : Rows n m on) (last : Last m done)
+    (row : TableRow) (number : ℕ) (writing : Bool) (pieces : List Piece) (o : Option (List ℕ))
+    (log : List Access) → FollowsBy o w d t on done row number writing pieces log →
+    Few (walk_room (suc n) (length pieces) m) log
+row_by n m w d t on done more last row number writing pieces None log h =
+    row_at n m w d t on done more last number _ writing pieces _ log h
+row_by n m w d t on done more last row number writing pieces (Some bytes) log h =
+    let few = after_few n m w d t (on row) done (more row) last writing pieces bytes log h in
+    omega (arith, few)
+
 follows : (n m : ℕ) (w : Whole) (d : Device) (t : Tally) (done : List Piece → List Access → Type 0)
-    (last : Last m done) (number : ℕ) (writing : Bool) (pieces : List Piece) (log : List Access) →
-    Follows n w d t done number writing pieces log → Few (walk_room n (length pieces) m) log
-follows zero m w d t done last number writing pieces log h =
+    (last : Last m done) (row : TableRow) (number : ℕ) (writing : Bool) (pieces : List Piece)
+    (log : List Access) → Follows n w d t done row number writing pieces log →
+    Few (walk_room n (length pieces) m) log
+follows zero m w d t done last row number writing pieces log h =
     ends (walk_room zero (length pieces) m) w _ t _ false log (omega arith) h
-follows (suc n) m w d t done last number writing pieces log h = descriptor_at n m w d t
-    (Follows n w d t done) done (follows n m w d t done last) last writing pieces _ log h
+follows (suc n) m w d t done last row number writing pieces log h = row_by n m w d t
+    (Follows n w d t done) done (follows n m w d t done last) last row number writing pieces _ log h
 
 -- ---- a look
 
 -- all that a chain takes behind its entry
-a_table : (r : Virtqueue) → descriptors r ≤ 256
+pub a_table : (r : Virtqueue) → descriptors r ≤ 256
 a_table r = grind arith
 
 head_few : (m : ℕ) (w : Whole) (next : Then) (on : After m next) (d : Device) (t : Tally)
@@ -252,7 +278,7 @@ head_few : (m : ℕ) (w : Whole) (next : Then) (on : After m next) (d : Device) 
 head_few m w next on d t head false log h = ends (773 + m) w _ t _ false log (omega arith) h
 head_few m w next on d t head true log h =
     let few = follows (descriptors (ring_of w.kind d)) m w d t _
-    (pieces_few m w w.kind next on d t head) head false [] log h in
+    (pieces_few m w w.kind next on d t head) no_row head false [] log h in
     let table = a_table (ring_of w.kind d) in
     omega (arith, few, table)
 

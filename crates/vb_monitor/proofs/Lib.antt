@@ -10,6 +10,7 @@ pub mod LeftLemmas
 pub mod OrderLemmas
 pub mod GivenLemmas
 pub mod RowLemmas
+pub mod TableRowLemmas
 pub mod TouchLemmas
 pub mod PartCounts
 pub mod CountLemmas
@@ -39,6 +40,7 @@ mod PartsOfRunsFacts
 mod MachineFacts
 mod GivingFacts
 mod ChainFacts
+mod TableRowFacts
 mod LookFacts
 mod WholeFacts
 mod TwoFacts

@@ -21,7 +21,7 @@ use Rattle.vb_monitor.proofs.Samples.{Same, two, at, tally, ring, page_5, one_pa
 -- ---- the phases
 
 abbrev walk : Walk
-walk = record { head = 3; count = 0; writing = false }
+walk = record { head = 3; count = 0; writing = false; first = 3; behind = 0 }
 
 abbrev place : Place
 place = record { head = 3; count = 1; piece = 0; is_second = false; into = 0; length = 4 }

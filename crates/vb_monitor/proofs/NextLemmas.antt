@@ -1,13 +1,11 @@
 -- What is still to come, where a number counts down or a list gets shorter.
-use Rattle.std.proofs.Common.{◌≡◌, sym, subst, arith, ℕ, zero, suc, ◌+◌, ◌-◌, ◌<◌, ◌≤◌, ◌*◌, Bool}
-use Rattle.std.{proofs.Common.{true, false, List, [], ◌∷◌, None}, specs.Prelude.◌==◌}
-use Rattle.vb_chain.specs.declared.{pieces.Piece.Piece, fault.ChainFault.TheVariants.TooLong}
-use Rattle.vb_core.specs.{declared.device.Device.Device, Devices.ring_of}
+use Rattle.std.proofs.Common.{◌≡◌, sym, subst, arith, ℕ, suc, ◌-◌, ◌<◌, Bool, true, false, List}
+use Rattle.std.{proofs.Common.{[], ◌∷◌, None}, specs.Prelude.◌==◌}
+use Rattle.vb_core.specs.declared.device.Device.{Device}
 use Rattle.vb_monitor.specs.Notices.{TakesChain, TakesNext, TakesUnlessSpent, AfterGiven}
 use Rattle.vb_monitor.specs.{Notices.{with_chains, ServesPublished}, declared.outcome.Tally.Tally}
-use Rattle.vb_monitor.specs.{declared.parts.Part.Part, Accesses.Access, Regions.spot, Ends.Whole}
-use Rattle.vb_monitor.specs.{Ends.{Ends, Breaks}, Pieces.{PartBy, fits_behind, CopiesParts}}
-use Rattle.vb_monitor.specs.{Chains.{DescriptorAt, Follows}, Machine.next_chain}
+use Rattle.vb_monitor.specs.{declared.parts.Part.Part, Accesses.Access, Machine.next_chain}
+use Rattle.vb_monitor.specs.{Ends.{Whole, Ends}, Pieces.{PartBy, fits_behind, CopiesParts}}
 use Rattle.vb_monitor.proofs.BufferLemmas.{second_in, no_second_in, behind_in}
 
 -- the budget, one chain less
@@ -33,25 +31,6 @@ takes_spent n w d t log some e h =
     let is : suc (n - 1) ≡ n = omega (arith, some) in
     subst (λ (k : ℕ). TakesNext k w d t log) is (takes_by (n - 1) w d t log true e h)
 
--- a table's descriptors, one less
-pub follows_next : (q k : ℕ) (w : Whole) (d : Device) (t : Tally)
-    (whole : List Piece → List Access → Type 0) (number : ℕ) (writing : Bool) (pieces : List Piece)
-    (log : List Access) → k < q →
-    DescriptorAt w d t (Follows (q - (k + 1)) w d t whole) whole writing pieces
-    (spot w.regions ((ring_of w.kind d).table + 16 * number) 16) log →
-    Follows (q - k) w d t whole number writing pieces log
-follows_next q k w d t whole number writing pieces log lt h =
-    let is : suc (q - (k + 1)) ≡ q - k = omega (arith, lt) in
-    subst (λ (n : ℕ). Follows n w d t whole number writing pieces log) is h
-
-pub follows_none : (q k : ℕ) (w : Whole) (d : Device) (t : Tally)
-    (whole : List Piece → List Access → Type 0) (number : ℕ) (writing : Bool) (pieces : List Piece)
-    (log : List Access) → q ≤ k → Breaks w d t TooLong log →
-    Follows (q - k) w d t whole number writing pieces log
-follows_none q k w d t whole number writing pieces log le h =
-    let is : zero ≡ q - k = omega (arith, le) in
-    subst (λ (n : ℕ). Follows n w d t whole number writing pieces log) is h
-
 -- parts, one less
 pub copies_none : (w : Whole) (served : List ℕ → List Access → Type 0) (d : Device) (t : Tally)
     (parts : List Part) (so_far : List ℕ) (log : List Access) → parts ≡ [] → served so_far log →
@@ -69,8 +48,6 @@ copies_more w served d t parts rest part so_far log e h =
 -- ---- for the functions that go on by them
 
 pub ruleset take_steps = (takes_next, takes_spent)
-
-pub ruleset follow_steps = (follows_next, follows_none)
 
 pub ruleset copy_steps = (copies_none, copies_more)
 

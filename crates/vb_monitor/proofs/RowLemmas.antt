@@ -1,6 +1,6 @@
 -- What comes behind what in a notice.
 use Rattle.std.proofs.Common.{◌≡◌, sym, subst, refl, ℕ, zero, suc, ◌+◌, ◌*◌, Bool, true, false}
-use Rattle.std.proofs.Common.{List, [], ◌∷◌, ◌++◌, length, Option, Some, None, Result, Ok, Err}
+use Rattle.std.proofs.Common.{List, [], ◌∷◌, ◌++◌, length, take, Option, Some, None, Result, Ok, Err}
 use Rattle.std.specs.Prelude.{◌==◌}
 use Rattle.vb_chain.{specs.declared.pieces.Piece.Piece, specs.declared.fault.ChainFault.ChainFault}
 use Rattle.vb_chain.{specs.declared.descriptor.Descriptor.Descriptor, specs.Rules.has_next}
@@ -10,7 +10,8 @@ use Rattle.vb_core.specs.declared.{device.Denial.Denial, device.Device.Device, k
 use Rattle.vb_core.specs.declared.kinds.Kind.TheVariants.{Inflate, Deflate, Statistics, Report}
 use Rattle.vb_monitor.specs.Accesses.{Access, ReadWord, CopyBytes, Acquire}
 use Rattle.vb_monitor.specs.Chains.{FiguresBy, AfterBytes, CopiesBy, ServesPieces, GoesOn}
-use Rattle.vb_monitor.specs.Chains.{DescriptorBy, DescriptorAt, Follows, descriptor_of}
+use Rattle.vb_monitor.specs.Chains.{DescriptorBy, TableRow, row_of, no_row, in_row, RowAt}
+use Rattle.vb_monitor.{specs.Chains.{FollowsBy, Follows, descriptor_of}, proofs.TableRowLemmas.none_of_none}
 use Rattle.vb_monitor.specs.Notices.{HeadBy, EntryAt, entry_offset, AfterIndex, IndexAt}
 use Rattle.vb_monitor.specs.Notices.{LooksBy, AfterGiven, TakesUnlessSpent, TakesNext, Looks}
 use Rattle.vb_monitor.specs.Notices.{ServesPublished}
@@ -132,30 +133,59 @@ descriptor_by w may allows d t on done more last (Some fault) writing x pieces b
 descriptor_by w may allows d t on done more last None writing x pieces b log copied h =
     goes_on w may allows on done more last (has_next x) writing x pieces b log copied h
 
-descriptor_at : (w : Whole) (may : Option Access → Access → Type 0) (allows : Allows w may) (a : ℕ) (d : Device) (t : Tally)
-    (on : ℕ → Bool → List Piece → List Access → Type 0) (done : List Piece → List Access → Type 0)
-    (more : More may on) (last : Last may done) (writing : Bool) (pieces : List Piece)
-    (o : Option Spot) (b : Option Access) (log : List Access) → is_read b ≡ true →
-    spot w.regions a 16 ≡ o → DescriptorAt w d t on done writing pieces o log → Row may b log
-descriptor_at w may allows a d t on done more last writing pieces None b log was e h =
+abbrev Rows : (Option Access → Access → Type 0) →
+    (TableRow → ℕ → Bool → List Piece → List Access → Type 0) → Type 0
+Rows may on = (row : TableRow) → More may (on row)
+
+row_at : (w : Whole) (may : Option Access → Access → Type 0) (allows : Allows w may) (a : ℕ) (d : Device) (t : Tally)
+    (on : TableRow → ℕ → Bool → List Piece → List Access → Type 0)
+    (done : List Piece → List Access → Type 0) (more : Rows may on) (last : Last may done)
+    (number behind : ℕ) (writing : Bool) (pieces : List Piece) (o : Option Spot)
+    (b : Option Access) (log : List Access) → is_read b ≡ true →
+    spot w.regions a (16 * (behind + 1)) ≡ o →
+    RowAt w d t on done number behind writing pieces o log → Row may b log
+row_at w may allows a d t on done more last number behind writing pieces None b log was e h =
     ends_row w may allows _ t _ false b log h
-descriptor_at w may allows a d t on done more last writing pieces (Some at) b log was e h =
+row_at w may allows a d t on done more last number behind writing pieces (Some at) b log was e h =
     subst (λ (l : List Access). Row may b l) (sym h.asks) (
-      allows.copy b a 16 at h.bytes was e h.long,
-      descriptor_by w may allows d t on done more last _ writing (descriptor_of h.bytes) pieces
+      allows.copy b a (16 * (behind + 1)) at h.bytes was e h.long,
+      descriptor_by w may allows d t (on (row_of number h.bytes)) done
+          (more (row_of number h.bytes)) last _ writing (descriptor_of (take 16 h.bytes)) pieces
           (Some (CopyBytes at h.bytes)) h.rest (refl, refl) h.goes_on,
     )
 
+-- a row that has the descriptor was copied
+abbrev Kept : Option (List ℕ) → Option Access → Type 0
+Kept None b = is_read b ≡ true
+Kept (Some bytes) b = Bytes b
+
+kept : (o : Option (List ℕ)) (b : Option Access) → Bytes b → Kept o b
+kept None b copied = copied.1
+kept (Some bytes) b copied = copied
+
+row_by : (w : Whole) (may : Option Access → Access → Type 0) (allows : Allows w may) (d : Device) (t : Tally)
+    (on : TableRow → ℕ → Bool → List Piece → List Access → Type 0)
+    (done : List Piece → List Access → Type 0) (more : Rows may on) (last : Last may done)
+    (row : TableRow) (number : ℕ) (writing : Bool) (pieces : List Piece) (o : Option (List ℕ))
+    (b : Option Access) (log : List Access) → Kept o b →
+    FollowsBy o w d t on done row number writing pieces log → Row may b log
+row_by w may allows d t on done more last row number writing pieces None b log was h =
+    row_at w may allows ((ring_of w.kind d).table + 16 * number) d t on done more last number _
+    writing pieces _ b log was refl h
+row_by w may allows d t on done more last row number writing pieces (Some bytes) b log was h =
+    descriptor_by w may allows d t (on row) done (more row) last _ writing (descriptor_of bytes) pieces b
+    log was h
+
 follows_row : (n : ℕ) (w : Whole) (may : Option Access → Access → Type 0) (allows : Allows w may) (d : Device) (t : Tally) (done : List Piece → List Access → Type 0)
-    (last : Last may done) (number : ℕ) (writing : Bool) (pieces : List Piece) (b : Option Access)
-    (log : List Access) → is_read b ≡ true → Follows n w d t done number writing pieces log →
-    Row may b log
-follows_row zero w may allows d t done last number writing pieces b log was h =
+    (last : Last may done) (row : TableRow) (number : ℕ) (writing : Bool) (pieces : List Piece)
+    (b : Option Access) (log : List Access) → Kept (in_row row number) b →
+    Follows n w d t done row number writing pieces log → Row may b log
+follows_row zero w may allows d t done last row number writing pieces b log was h =
     ends_row w may allows _ t _ false b log h
-follows_row (suc n) w may allows d t done last number writing pieces b log was h =
-    descriptor_at w may allows ((ring_of w.kind d).table + 16 * number) d t (Follows n w d t done)
-    done (λ m wr ps b2 rest is. follows_row n w may allows d t done last m wr ps b2 rest is.1)
-    last writing pieces _ b log was refl h
+follows_row (suc n) w may allows d t done last row number writing pieces b log was h =
+    row_by w may allows d t (Follows n w d t done) done (λ row2 m wr ps b2 rest is.
+    follows_row n w may allows d t done last row2 m wr ps b2 rest (kept (in_row row2 m) b2 is))
+    last row number writing pieces _ b log was h
 
 -- ---- a look
 
@@ -165,7 +195,8 @@ head_row : (w : Whole) (may : Option Access → Access → Type 0) (allows : All
 head_row w may allows next on d t head false b log was h = ends_row w may allows _ t _ false b log h
 head_row w may allows next on d t head true b log was h =
     follows_row (descriptors (ring_of w.kind d)) w may allows d t _
-    (pieces_row w may allows w.kind next on d t head) head false [] b log was h
+    (pieces_row w may allows w.kind next on d t head) no_row head false [] b log
+    (subst (λ (o : Option (List ℕ)). Kept o b) (sym (none_of_none head)) was) h
 
 entry_row : (w : Whole) (may : Option Access → Access → Type 0) (allows : Allows w may) (a : ℕ) (next : Then) (on : After may next) (d : Device) (t : Tally)
     (o : Option Spot) (b : Option Access) (log : List Access) → is_word b ≡ true →

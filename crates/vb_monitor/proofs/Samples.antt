@@ -1,5 +1,6 @@
 -- Regions, a ring, a device and the accesses of a notice, which the facts share.
-use Rattle.std.proofs.Common.{◌≡◌, ℕ, false, true, List, [], ◌∷◌, None}
+use Rattle.std.proofs.Common.{◌≡◌, ℕ, false, true, List, [], ◌∷◌, ◌++◌, None}
+use Rattle.std.specs.Prelude.{replicate}
 use Rattle.vb_chain.specs.declared.pieces.Piece.{Piece}
 use Rattle.vb_core.{specs.declared.kinds.Kind.TheVariants.Inflate, specs.declared.runs.Run.Run}
 use Rattle.vb_core.{specs.declared.ring.Virtqueue.Virtqueue, specs.declared.name.Named.Named}
@@ -86,9 +87,19 @@ entry = ReadWord (at 0x104) 3
 abbrev pub last_descriptor : List ℕ
 last_descriptor = 0 ∷ 4 ∷ 0 ∷ 0 ∷ 0 ∷ 0 ∷ 0 ∷ 0 ∷ 4 ∷ 0 ∷ 0 ∷ 0 ∷ 0 ∷ 0 ∷ 0 ∷ 0 ∷ []
 
--- 4 bytes at 0x400, and then descriptor 5
+-- 4 bytes at 0x400, and then the descriptor of this number; and so descriptor 5
+abbrev pub naming : ℕ → List ℕ
+naming next = 0 ∷ 4 ∷ 0 ∷ 0 ∷ 0 ∷ 0 ∷ 0 ∷ 0 ∷ 4 ∷ 0 ∷ 0 ∷ 0 ∷ 1 ∷ 0 ∷ next ∷ 0 ∷ []
+
 abbrev pub first_descriptor : List ℕ
-first_descriptor = 0 ∷ 4 ∷ 0 ∷ 0 ∷ 0 ∷ 0 ∷ 0 ∷ 0 ∷ 4 ∷ 0 ∷ 0 ∷ 0 ∷ 1 ∷ 0 ∷ 5 ∷ 0 ∷ []
+first_descriptor = naming 5
+
+-- two descriptors of zeros stand behind this one
+abbrev pub zeros : List ℕ
+zeros = replicate 16 0
+
+abbrev pub with_two : List ℕ → List ℕ
+with_two bytes = bytes ++ zeros ++ zeros
 
 abbrev pub piece : Piece
 piece = record { addr = 0x400; len = 4; writable = false }

@@ -50,7 +50,7 @@ of_no_byte = refl
 -- ---- where its bytes are, up to the end of a page
 
 abbrev walk : Walk
-walk = record { head = 3; count = 0; writing = false }
+walk = record { head = 3; count = 0; writing = false; first = 3; behind = 0 }
 
 abbrev after : Kind → Walk → Descriptor → Option FirstPart
 after kind w x = single_of w x (single_place two kind w x 0x20000 ring)

@@ -23,7 +23,7 @@ use Rattle.vb_core.proofs.{DenialLemmas.{open_call}, RingLemmas.placed_size}
 use Rattle.vb_monitor.specs.declared.{regions.Region.Region, regions.Spot.Spot, outcome.Tally.Tally}
 use Rattle.vb_monitor.specs.declared.outcome.{Budget.Budget, Outcome.Outcome}
 use Rattle.vb_monitor.specs.{Regions.spot, Accesses.{Access, ReadWord, Acquire}, Ends.Whole}
-use Rattle.vb_monitor.specs.{Chains.{descriptors, memory_end, Follows}}
+use Rattle.vb_monitor.specs.{Chains.{descriptors, memory_end, no_row, Follows}}
 use Rattle.vb_monitor.specs.{Notices.{entry_offset, stands}}
 use Rattle.vb_monitor.specs.Notices.{HeadBy, EntryAt, TakesChain, AfterIndex, IndexAt, LooksBy}
 use Rattle.vb_monitor.specs.Notices.{TakesUnlessSpent, TakesNext, with_chains, fresh, Serves}
@@ -32,7 +32,7 @@ use Rattle.vb_monitor.specs.{Machine.{whole, next_chain, serves}}
 use Rattle.vb_monitor.specs.Still.{Stays, IsMapped, avail_copy, table_copy, DoesAs, index_in}
 use Rattle.vb_monitor.specs.Still.{as_read}
 use Rattle.vb_monitor.proofs.{StillBytes.{shown, word_shown, descriptor_shown}, StillWalk.in_memory}
-use Rattle.vb_monitor.proofs.StillWalk.{Walk, walks}
+use Rattle.vb_monitor.proofs.StillWalk.{Walk, walks, none_shows}
 use Rattle.vb_monitor.proofs.StillFound.{ByFound, one_more, ends_so, found_by, tests_alike, offset_so, offset_fits, chain_found}
 use Rattle.vb_monitor.proofs.StillAnswers.{as_answered, refused_alike, two_pages}
 
@@ -129,10 +129,11 @@ by_head byte w d t found head true log is none e f stays h =
     let near : head < descriptors r = lt_true head _ f in omega (arith, near, same) in
     let some : 0 < r.size = omega (arith, below) in
     walked byte w d t found head log is none e
-    (walks r.size byte w d t (serves w t d head) r.size head (head ∷ []) 0 head false [] log same
-    is.mapped.descriptors (omega arith) some below
+    (walks r.size byte w d t (serves w t d head) r.size head (head ∷ []) 0 head no_row false [] log
+    (none_shows byte r.table) same is.mapped.descriptors (omega arith) some below
     (walked_init (in_memory byte r.table) r.size (memory_end d) head below) stays
-    (subst (λ (n : ℕ). Follows n w d t (serves w t d head) head false [] log) (sym same) h))
+    (subst (λ (n : ℕ). Follows n w d t (serves w t d head) no_row head false [] log)
+    (sym same) h))
 
 -- ---- the entry and the index
 

@@ -1,8 +1,9 @@
 -- The walk along a chain, where memory stays as it is.
 use Rattle.std.proofs.Common.{◌≡◌, ◌≢◌, ◌⊎◌, ◌∙◌, ap, sym, subst, refl, arith, inl, inr, ℕ, zero}
-use Rattle.std.proofs.Common.{suc, ◌+◌, ◌*◌, ◌<◌, Bool, true, false, List, [], ◌∷◌, ◌++◌, length}
-use Rattle.std.{proofs.Common.{take, Option, Some, None}, specs.Prelude.{◌||◌, ◌&&◌}}
+use Rattle.std.proofs.Common.{suc, ◌+◌, ◌-◌, ◌*◌, ◌<◌, ◌≤◌, Bool, true, false, List, [], ◌∷◌, ◌++◌}
+use Rattle.std.{proofs.Common.{length, take, drop, Option, Some, None}, specs.Prelude.{◌||◌, ◌&&◌}}
 use Rattle.std.proofs.lemmas.{Bool.Decides.nat_tests, List.{length-map, length-take-le}}
+use Rattle.std.proofs.lemmas.List.FromFn.{take-map-range_with_len, length-map-range_with_len}
 use Rattle.vb_chain.proofs.Walking.{Walked, walked_fault, walked_more, walked_chain}
 use Rattle.vb_chain.specs.{Chain.{ChainGives, FaultGives}, Rules.{has_next, is_writable, piece_of}}
 use Rattle.vb_chain.specs.{Rules.first_fault, declared.descriptor.Descriptor.Descriptor}
@@ -11,8 +12,10 @@ use Rattle.vb_core.{specs.declared.device.Device.Device, specs.Devices.ring_of}
 use Rattle.vb_monitor.specs.declared.{regions.Region.Region, regions.Spot.Spot, outcome.Tally.Tally}
 use Rattle.vb_monitor.specs.{Accesses.{Access, CopyBytes}, Ends.{Whole, Breaks}, Regions.spot}
 use Rattle.vb_monitor.specs.Chains.{descriptor_of, descriptors, memory_end, table_fault, Follows}
-use Rattle.vb_monitor.specs.{Chains.{DescriptorBy, DescriptorAt, GoesOn}, Still.{bytes_from, Holds}}
-use Rattle.vb_monitor.specs.Still.{Stays}
+use Rattle.vb_monitor.specs.Chains.{TableRow, row_of, no_row, in_row, unless_apart, so_many_behind}
+use Rattle.vb_monitor.specs.Chains.{DescriptorBy, GoesOn, AfterDescriptor, RowAt, FollowsBy}
+use Rattle.vb_monitor.{proofs.TableRowLemmas.{first_in_row, in_row_is, none_in_none}}
+use Rattle.vb_monitor.specs.Still.{bytes_from, Holds, Stays}
 
 -- the descriptors that memory has from an address on
 abbrev pub in_memory : (ℕ → ℕ) → ℕ → ℕ → Descriptor
@@ -82,6 +85,48 @@ pub copied_as : (byte : ℕ → ℕ) (regions : List Region) (a len : ℕ) (at :
 copied_as byte regions a len at bytes holds e long =
     holds a (ap (λ (n : ℕ). spot regions a n) long ∙ e) ∙ ap (λ (n : ℕ). bytes_from byte a n) long
 
+-- ---- rows
+
+from_on : (byte : ℕ → ℕ) (a i n : ℕ) → drop i (bytes_from byte a (i + n)) ≡ bytes_from byte (a + i) n
+from_on byte a zero n =
+    let none : zero + n ≡ n = omega arith in
+    let same : a ≡ a + zero = omega arith in
+    ap (λ (k : ℕ). bytes_from byte a k) none ∙ ap (λ (b : ℕ). bytes_from byte b n) same
+from_on byte a (suc i) n =
+    let more : suc i + n ≡ suc (i + n) = omega arith in
+    let next : a + 1 + i ≡ a + suc i = omega arith in
+    ap (λ (k : ℕ). drop (suc i) (bytes_from byte a k)) more
+    ∙ (from_on byte (a + 1) i n ∙ ap (λ (b : ℕ). bytes_from byte b n) next)
+
+part_of : (byte : ℕ → ℕ) (a i m n : ℕ) → i + m ≤ n →
+    take m (drop i (bytes_from byte a n)) ≡ bytes_from byte (a + i) m
+part_of byte a i m n le =
+    let whole : n ≡ i + (n - i) = omega (arith, le) in
+    ap (λ (k : ℕ). take m (drop i (bytes_from byte a k))) whole
+    ∙ (ap (λ (l : List ℕ). take m l) (from_on byte a i (n - i))
+    ∙ take-map-range_with_len byte (a + i) (n - i) m (omega (arith, le)))
+
+-- each descriptor of a row is the one that memory has
+pub record Shows (byte : ℕ → ℕ) (table : ℕ) (row : TableRow) : Type 0 where
+  pub alike : (k : ℕ) (bytes : List ℕ) → in_row row k ≡ Some bytes →
+      descriptor_of bytes ≡ in_memory byte table k
+
+pub none_shows : (byte : ℕ → ℕ) (table : ℕ) → Shows byte table no_row
+none_shows byte table = record { alike = λ k bytes e. absurd (none_in_none k bytes e) }
+
+pub row_shows : (byte : ℕ → ℕ) (table number behind : ℕ) (bytes : List ℕ) →
+    bytes ≡ bytes_from byte (table + 16 * number) (16 * (behind + 1)) →
+    Shows byte table (row_of number bytes)
+row_shows byte table number behind bytes e = record { alike = λ k found is.
+    let (le, fits, same) = in_row_is (row_of number bytes) k found is in
+    let long : length bytes ≡ 16 * (behind + 1) = ap (λ (l : List ℕ). length l) e
+    ∙ length-map-range_with_len byte (table + 16 * number) (16 * (behind + 1)) in
+    let place : table + 16 * number + 16 * (k - number) ≡ table + 16 * k = omega (arith, le) in
+    ap descriptor_of (same ∙ (ap (λ (l : List ℕ). take 16 (drop (16 * (k - number)) l)) e
+    ∙ (part_of byte (table + 16 * number) (16 * (k - number)) 16 (16 * (behind + 1))
+    (omega (arith, fits, long)) ∙ ap (λ (a : ℕ). bytes_from byte a 16) place)));
+}
+
 -- ---- the walk
 
 -- what a walk that goes on comes to: `follows` from the next descriptor on, once i were visited
@@ -135,56 +180,120 @@ by_fault byte w d t whole follows ds q end head path i index writing pieces log 
     stays h = goes byte w d t whole follows ds q end head path i index writing pieces log on
     (has_next (ds index)) lt walked e refl stays h
 
--- a descriptor is copied, which is the one that memory has
-descriptor : (byte : ℕ → ℕ) (w : Whole) (d : Device) (t : Tally)
+-- what a descriptor says that is the one that memory has
+after : (byte : ℕ → ℕ) (w : Whole) (d : Device) (t : Tally)
     (whole : List Piece → List Access → Type 0)
     (follows : ℕ → Bool → List Piece → List Access → Type 0) (q head : ℕ) (path : List ℕ)
-    (i index : ℕ) (writing : Bool) (pieces : List Piece) (log : List Access)
+    (i index : ℕ) (writing : Bool) (pieces : List Piece) (bytes : List ℕ) (log : List Access)
     (on : Onward byte w d t whole follows (in_memory byte (ring_of w.kind d).table) q
-    (memory_end d) head (i + 1)) (o : Option Spot) → q ≡ descriptors (ring_of w.kind d) →
-    spot w.regions ((ring_of w.kind d).table + 16 * index) 16 ≡ o → o ≢ None → i < q →
+    (memory_end d) head (i + 1)) → q ≡ descriptors (ring_of w.kind d) → i < q →
+    descriptor_of bytes ≡ in_memory byte (ring_of w.kind d).table index →
     Walked (in_memory byte (ring_of w.kind d).table) q (memory_end d) head path i index writing
-    pieces → Stays byte w.regions log → DescriptorAt w d t follows whole writing pieces o log →
+    pieces → Stays byte w.regions log →
+    AfterDescriptor w d t follows whole writing pieces bytes log →
     Walk w d t whole (in_memory byte (ring_of w.kind d).table) q (memory_end d) head log
-descriptor byte w d t whole follows q head path i index writing pieces log on None is e mapped lt
-    walked stays h = absurd (mapped refl)
-descriptor byte w d t whole follows q head path i index writing pieces log on
-    (Some at) is e mapped lt walked stays h =
-    let table = (ring_of w.kind d).table in
-    let ds = in_memory byte table in
+after byte w d t whole follows q head path i index writing pieces bytes log on is lt same walked
+    stays h =
+    let ds = in_memory byte (ring_of w.kind d).table in
     let end = memory_end d in
-    let both : Holds byte w.regions (CopyBytes at h.bytes) × Stays byte w.regions h.rest =
-    subst (λ (l : List Access). Stays byte w.regions l) h.asks stays in
-    let same : descriptor_of h.bytes ≡ ds index = ap descriptor_of
-    (copied_as byte w.regions (table + 16 * index) 16 at h.bytes both.0 e h.long) in
     let k : length pieces ≡ i = visited ds q end head path i index writing pieces walked in
     let fault : table_fault (descriptors (ring_of w.kind d)) end writing (length pieces)
-    (descriptor_of h.bytes) ≡ first_fault q end writing i (ds index) =
-    ap (λ (n : ℕ). table_fault n end writing (length pieces) (descriptor_of h.bytes)) (sym is)
-    ∙ (ap (λ (n : ℕ). table_fault q end writing n (descriptor_of h.bytes)) k
+    (descriptor_of bytes) ≡ first_fault q end writing i (ds index) =
+    ap (λ (n : ℕ). table_fault n end writing (length pieces) (descriptor_of bytes)) (sym is)
+    ∙ (ap (λ (n : ℕ). table_fault q end writing n (descriptor_of bytes)) k
     ∙ (ap (λ (x : Descriptor). table_fault q end writing i x) same
     ∙ first_alone q end writing i (ds index) lt)) in
-    further w d t whole ds q end head (CopyBytes at h.bytes) h.rest log h.asks
-    (by_fault byte w d t whole follows ds q end head path i index writing pieces h.rest on
-    _ lt walked refl both.1
+    by_fault byte w d t whole follows ds q end head path i index writing pieces log on
+    _ lt walked refl stays
     (subst (λ (x : Descriptor). DescriptorBy (first_fault q end writing i (ds index)) w d t follows
-    whole writing x pieces h.rest) same
+    whole writing x pieces log) same
     (subst (λ (o : Option ChainFault). DescriptorBy o w d t follows whole writing
-    (descriptor_of h.bytes) pieces h.rest) fault h.goes_on)))
+    (descriptor_of bytes) pieces log) fault h))
+
+-- a row is copied, which is what memory has there
+abbrev Rows : (ℕ → ℕ) → Whole → Device → Tally → (List Piece → List Access → Type 0) →
+    (TableRow → ℕ → Bool → List Piece → List Access → Type 0) → ℕ → ℕ → ℕ → Type 0
+Rows byte w d t whole follows q head i =
+    (row : TableRow) → Shows byte (ring_of w.kind d).table row →
+    Onward byte w d t whole (follows row) (in_memory byte (ring_of w.kind d).table) q
+    (memory_end d) head i
+
+row_at : (byte : ℕ → ℕ) (w : Whole) (d : Device) (t : Tally)
+    (whole : List Piece → List Access → Type 0)
+    (follows : TableRow → ℕ → Bool → List Piece → List Access → Type 0) (q head : ℕ)
+    (path : List ℕ) (i index behind : ℕ) (writing : Bool) (pieces : List Piece)
+    (log : List Access) (on : Rows byte w d t whole follows q head (i + 1)) (o : Option Spot) →
+    q ≡ descriptors (ring_of w.kind d) →
+    spot w.regions ((ring_of w.kind d).table + 16 * index) (16 * (behind + 1)) ≡ o → o ≢ None →
+    i < q →
+    Walked (in_memory byte (ring_of w.kind d).table) q (memory_end d) head path i index writing
+    pieces → Stays byte w.regions log →
+    RowAt w d t follows whole index behind writing pieces o log →
+    Walk w d t whole (in_memory byte (ring_of w.kind d).table) q (memory_end d) head log
+row_at byte w d t whole follows q head path i index behind writing pieces log on None is e mapped
+    lt walked stays h = absurd (mapped refl)
+row_at byte w d t whole follows q head path i index behind writing pieces log on
+    (Some at) is e mapped lt walked stays h =
+    let table = (ring_of w.kind d).table in
+    let row = row_of index h.bytes in
+    let both : Holds byte w.regions (CopyBytes at h.bytes) × Stays byte w.regions h.rest =
+    subst (λ (l : List Access). Stays byte w.regions l) h.asks stays in
+    let shows : Shows byte table row = row_shows byte table index behind h.bytes
+    (copied_as byte w.regions (table + 16 * index) (16 * (behind + 1)) at h.bytes both.0 e h.long) in
+    further w d t whole (in_memory byte table) q (memory_end d) head (CopyBytes at h.bytes) h.rest
+    log h.asks
+    (after byte w d t whole (follows row) q head path i index writing pieces (take 16 h.bytes)
+    h.rest (on row shows) is lt
+    (shows.alike index (take 16 h.bytes) (first_in_row index h.bytes behind h.long)) walked both.1
+    h.goes_on)
+
+is_some : (at : Spot) → Some at ≡ None → ⊥
+is_some at e = absurd cc
+
+-- it lies in guest memory where its first descriptor does
+row_mapped : (regions : List Region) (a many : ℕ) (o : Option Spot) →
+    spot regions a (16 * (many + 1)) ≡ o → spot regions a 16 ≢ None →
+    spot regions a (16 * (unless_apart o many + 1)) ≢ None
+row_mapped regions a many None e mapped = mapped
+row_mapped regions a many (Some at) e mapped =
+    λ f. absurd (is_some at (sym e ∙ f))
+
+row_by : (byte : ℕ → ℕ) (w : Whole) (d : Device) (t : Tally)
+    (whole : List Piece → List Access → Type 0)
+    (follows : TableRow → ℕ → Bool → List Piece → List Access → Type 0) (q head : ℕ)
+    (path : List ℕ) (i index : ℕ) (row : TableRow) (writing : Bool) (pieces : List Piece)
+    (log : List Access) (on : Rows byte w d t whole follows q head (i + 1))
+    (o : Option (List ℕ)) → in_row row index ≡ o → Shows byte (ring_of w.kind d).table row →
+    q ≡ descriptors (ring_of w.kind d) →
+    spot w.regions ((ring_of w.kind d).table + 16 * index) 16 ≢ None → i < q →
+    Walked (in_memory byte (ring_of w.kind d).table) q (memory_end d) head path i index writing
+    pieces → Stays byte w.regions log →
+    FollowsBy o w d t follows whole row index writing pieces log →
+    Walk w d t whole (in_memory byte (ring_of w.kind d).table) q (memory_end d) head log
+row_by byte w d t whole follows q head path i index row writing pieces log on None e shows is
+    mapped lt walked stays h =
+    row_at byte w d t whole follows q head path i index _ writing pieces log on _ is refl
+    (row_mapped w.regions _ (so_many_behind (descriptors (ring_of w.kind d)) index pieces) _ refl
+    mapped) lt walked stays h
+row_by byte w d t whole follows q head path i index row writing pieces log on (Some bytes) e shows
+    is mapped lt walked stays h =
+    after byte w d t whole (follows row) q head path i index writing pieces bytes log
+    (on row shows) is lt (shows.alike index bytes e) walked stays h
 
 -- where so many more descriptors fit the table, i were visited, and this one is next
 pub walks : (n : ℕ) (byte : ℕ → ℕ) (w : Whole) (d : Device) (t : Tally)
     (whole : List Piece → List Access → Type 0) (q head : ℕ) (path : List ℕ) (i index : ℕ)
-    (writing : Bool) (pieces : List Piece) (log : List Access) → q ≡ descriptors (ring_of w.kind d)
+    (row : TableRow) (writing : Bool) (pieces : List Piece) (log : List Access) →
+    Shows byte (ring_of w.kind d).table row → q ≡ descriptors (ring_of w.kind d)
     → ((k : ℕ) → k < q → spot w.regions ((ring_of w.kind d).table + 16 * k) 16 ≢ None)
     → n + i ≡ q → i < q → index < q
     → Walked (in_memory byte (ring_of w.kind d).table) q (memory_end d) head path i index writing
-    pieces → Stays byte w.regions log → Follows n w d t whole index writing pieces log
+    pieces → Stays byte w.regions log → Follows n w d t whole row index writing pieces log
     → Walk w d t whole (in_memory byte (ring_of w.kind d).table) q (memory_end d) head log
-walks zero byte w d t whole q head path i index writing pieces log is mapped sum lt below walked
-    stays h = absurd (omega (arith, sum, lt))
-walks (suc n) byte w d t whole q head path i index writing pieces log is mapped sum lt below walked
-    stays h = descriptor byte w d t whole (Follows n w d t whole) q head path i index writing pieces
-    log (λ path2 index2 writing2 pieces2 log2. walks n byte w d t whole q head path2 (i + 1) index2
-    writing2 pieces2 log2 is mapped (omega (arith, sum))) _ is refl (mapped index below) lt walked
-    stays h
+walks zero byte w d t whole q head path i index row writing pieces log shows is mapped sum lt below
+    walked stays h = absurd (omega (arith, sum, lt))
+walks (suc n) byte w d t whole q head path i index row writing pieces log shows is mapped sum lt
+    below walked stays h = row_by byte w d t whole (Follows n w d t whole) q head path i index row
+    writing pieces log (λ row2 shows2 path2 index2 writing2 pieces2 log2.
+    walks n byte w d t whole q head path2 (i + 1) index2 row2 writing2 pieces2 log2 shows2 is mapped
+    (omega (arith, sum))) _ refl shows is (mapped index below) lt walked stays h

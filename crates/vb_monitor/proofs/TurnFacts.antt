@@ -1,10 +1,10 @@
 -- Which reads come in their turn, worked out. Of a list the last access stands first.
-use Rattle.std.proofs.Common.{◌≡◌, refl, ap, arith, ℕ, Bool, true, false, List, [], ◌∷◌, map, Option, Some, None}
+use Rattle.std.proofs.Common.{◌≡◌, refl, ap, arith, ℕ, Bool, true, false, List, [], ◌∷◌, ◌++◌, map, Option, Some, None}
 use Rattle.vb_core.specs.declared.kinds.Kind.TheVariants.{Inflate, Report}
 use Rattle.vb_monitor.specs.declared.regions.Spot.{Spot}
 use Rattle.vb_monitor.specs.Accesses.{Access, ReadWord, CopyBytes, Acquire, Release, Full}
 use Rattle.vb_monitor.specs.Turns.{ReadsWord, is_over, ReadsInTurn}
-use Rattle.vb_monitor.proofs.Samples.{Same, two, at, ring, ready, first_descriptor, last_descriptor, number, index, entry, descriptor, part, pages, figures, discard, id, used_length, used_index, flags}
+use Rattle.vb_monitor.proofs.Samples.{Same, two, at, ring, ready, naming, first_descriptor, last_descriptor, zeros, with_two, number, index, entry, descriptor, part, pages, figures, discard, id, used_length, used_index, flags}
 
 abbrev offset_in : Option Spot → ℕ
 offset_in None = 0
@@ -114,8 +114,39 @@ half_a_descriptor h = let e : Same 8 16 = h.long in omega arith
 abbrev walked : List Access
 walked = CopyBytes (at 0x30) first_descriptor ∷ taken
 
-of_the_next : ReadsInTurn two Inflate ready walked (CopyBytes (at 0x50) last_descriptor)
+of_the_next : ReadsInTurn two Inflate ready walked (CopyBytes (at 0x50) (with_two last_descriptor))
 of_the_next = record { place = refl; long = refl }
+
+-- those behind it in the table are copied with it, and none behind the table's end
+next_alone : ReadsInTurn two Inflate ready walked (CopyBytes (at 0x50) last_descriptor) → ⊥
+next_alone h = let e : Same 16 48 = h.long in omega arith
+
+past_the_table : ReadsInTurn two Inflate ready walked (CopyBytes (at 0x50) (with_two last_descriptor ++ last_descriptor)) → ⊥
+past_the_table h = let e : Same 64 48 = h.long in omega arith
+
+-- a chain's first one is copied alone
+first_with_others : ReadsInTurn two Inflate ready taken (CopyBytes (at 0x30) (with_two last_descriptor)) → ⊥
+first_with_others h = let e : Same 48 16 = h.long in omega arith
+
+-- of a row that was copied no descriptor is copied again: here the pieces come
+abbrev in_a_row : List Access
+in_a_row = CopyBytes (at 0x50) (naming 6 ++ last_descriptor ++ zeros) ∷ walked
+
+of_the_pieces : ReadsInTurn two Inflate ready in_a_row part
+of_the_pieces = record { place = refl; long = refl }
+
+of_the_row_again : ReadsInTurn two Inflate ready in_a_row (CopyBytes (at 0x60) (last_descriptor ++ zeros)) → ⊥
+of_the_row_again h = let e : Same 0x400 0x60 = ap offset_in h.place in omega arith
+
+-- one that it hasn't is, with those behind it
+abbrev left_the_row : List Access
+left_the_row = CopyBytes (at 0x50) (naming 6 ++ naming 2 ++ zeros) ∷ walked
+
+of_another_row : ReadsInTurn two Inflate ready left_the_row (CopyBytes (at 0x20) (with_two zeros ++ with_two zeros))
+of_another_row = record { place = refl; long = refl }
+
+of_the_old_row : ReadsInTurn two Inflate ready left_the_row part → ⊥
+of_the_old_row h = let e : Same 0x20 0x400 = ap offset_in h.place in omega arith
 
 descriptor_again : ReadsInTurn two Inflate ready walked descriptor → ⊥
 descriptor_again h = let e : Same 0x50 0x30 = ap offset_in h.place in omega arith

@@ -144,8 +144,8 @@ part_at w d0 d t head pieces part parts go on so_far None b log is read e h =
 part_at w d0 d t head pieces part parts go on so_far (Some at) b log is read e h =
     subst (λ (l : List Access). Each (Comes w d0 t.keeps) b l) (sym h.asks) (
       (
-        subst (λ (k : Known). CopiesNext w.regions (ring_after (ring_of w.kind d0) b).table k at
-            h.bytes) (sym read) (record { place = e; long = h.long }),
+        subst (λ (k : Known). CopiesNext w.regions (ring_after (ring_of w.kind d0) b) k at h.bytes)
+            (sym read) (record { place = e; long = h.long }),
         (tt, tt),
       ),
       on (so_far ++ h.bytes) (CopyBytes at h.bytes ∷ b) h.rest

@@ -1,15 +1,11 @@
 -- Worked facts of how a notice mostly goes on.
 use Rattle.std.proofs.Common.{◌≡◌, refl, ℕ, false, true, Option, Some, None}
-use Rattle.vb_chain.specs.declared.descriptor.Descriptor.{Descriptor}
-use Rattle.vb_monitor.{specs.declared.outcome.Tally.Tally, specs.declared.step.Walk.Walk}
-use Rattle.vb_monitor.specs.declared.usual.NextDescriptor.{NextDescriptor}
+use Rattle.vb_monitor.specs.declared.outcome.Tally.{Tally}
 use Rattle.vb_monitor.specs.declared.usual.NextWord.{NextWord, TheVariants.{Entry, Flags}}
 use Rattle.vb_monitor.specs.declared.step.Phase.TheVariants.{AwaitsEntry, AwaitsFlags}
 use Rattle.vb_core.specs.declared.ring.Virtqueue.{Virtqueue}
-use Rattle.vb_monitor.specs.Usual.{word_place, phase_at, tally_at, descriptor_place, next_place}
-use Rattle.vb_monitor.specs.Usual.{next_of}
-use Rattle.vb_monitor.specs.Chains.{descriptor_of}
-use Rattle.vb_monitor.proofs.Samples.{two, at, ring, tally, first_descriptor, last_descriptor}
+use Rattle.vb_monitor.specs.Usual.{word_place, phase_at, tally_at, descriptor_place, first_walk}
+use Rattle.vb_monitor.proofs.Samples.{two, at, ring, tally}
 
 -- ---- the entry: a chain stands there by the index that was read, and the budget has room for one
 
@@ -80,32 +76,6 @@ seventh = refl
 past_the_table : descriptor_place two 8 ring ≡ None
 past_the_table = refl
 
--- ---- the next one
-
-abbrev walk : Walk
-walk = record { head = 3; count = 0; writing = false }
-
-abbrev after : Walk → ℕ → Descriptor → Option NextDescriptor
-after w visited x = next_of w x (next_place two w visited x 0x20000 ring)
-
-fifth : after walk 0 (descriptor_of first_descriptor) ≡ Some (record
-    { at = at 0x50; walk = record { head = 3; count = 1; writing = false } })
-fifth = refl
-
-no_next : after walk 0 (descriptor_of last_descriptor) ≡ None
-no_next = refl
-
-table_is_full : after (record walk { count = 7 }) 7 (descriptor_of first_descriptor) ≡ None
-table_is_full = refl
-
-still_room : after (record walk { count = 6 }) 6 (descriptor_of first_descriptor) ≡ Some (record
-    { at = at 0x50; walk = record { head = 3; count = 7; writing = false } })
-still_room = refl
-
--- a piece to read behind one to write breaks a rule
-read_behind_written : after (record walk { writing = true }) 1 (descriptor_of first_descriptor) ≡ None
-read_behind_written = refl
-
-still_writing : after walk 0 (record (descriptor_of first_descriptor) { flags = 3 }) ≡ Some (record
-    { at = at 0x50; walk = record { head = 3; count = 1; writing = true } })
-still_writing = refl
+-- it waits for this one alone
+alone : first_walk 3 ≡ record { head = 3; count = 0; writing = false; first = 3; behind = 0 }
+alone = refl

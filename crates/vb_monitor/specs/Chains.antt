@@ -1,7 +1,7 @@
 -- The walk along a chain, one descriptor after the other (VIRTIO 1.1, 2.6.5), and what its pieces
 -- come to.
-use Rattle.std.specs.Prelude.{◌≡◌, ℕ, zero, suc, ◌+◌, ◌*◌, ◌/◌, Bool, true, false, ◌||◌, nat_lt}
-use Rattle.std.specs.Prelude.{min}
+use Rattle.std.specs.Prelude.{◌≡◌, ℕ, zero, suc, ◌+◌, ◌-◌, ◌*◌, ◌/◌, Bool, true, false, ◌||◌, ◌&&◌}
+use Rattle.std.specs.Prelude.{min, nat_le, nat_lt}
 use Rattle.std.specs.Prelude.{List, [], ◌∷◌, ◌++◌, length, take, drop, Option, Some, None}
 use Rattle.std.specs.Prelude.{if◌then◌else◌, Result, Ok, Err}
 use Rattle.std.specs.Int.{w16, w32, w64, from_le_bytes}
@@ -28,7 +28,8 @@ use Rattle.vb_core.specs.Devices.{ring_of, with_one_taken}
 use Rattle.vb_core.specs.Name.{NamesBy}
 use Rattle.vb_core.specs.Report.{NamesPiecesBy}
 use Rattle.vb_core.specs.Statistics.{AreFigures, statistics_denial}
-use Rattle.vb_monitor.specs.declared.room.TheConstants.{MAX_FIGURES}
+use Rattle.vb_monitor.specs.declared.room.TheConstants.{MAX_FIGURES, ROW_DESCRIPTORS}
+use Rattle.vb_monitor.specs.declared.regions.Region.{Region}
 use Rattle.vb_monitor.specs.declared.regions.Spot.{Spot}
 use Rattle.vb_monitor.specs.declared.outcome.Tally.{Tally}
 use Rattle.vb_monitor.specs.Accesses.{Access, CopyBytes, TellFigures}
@@ -126,6 +127,53 @@ descriptors r = min r.size MAX_QUEUE_SIZE
 abbrev pub memory_end : Device → ℕ
 memory_end d = page_size * memory_pages d.settings
 
+-- ---- rows of descriptors
+
+-- Descriptors that stand one behind the other in a table: the number of the first, and the bytes
+-- that were copied of them together, 16 of each.
+pub record TableRow : Type 0 where
+  pub first : ℕ
+  pub bytes : List ℕ
+
+abbrev pub row_of : ℕ → List ℕ → TableRow
+row_of first bytes = record { first = first; bytes = bytes }
+
+-- Nothing was copied yet.
+abbrev pub no_row : TableRow
+no_row = row_of 0 []
+
+-- The row has all bytes of the descriptor of this number.
+abbrev pub has_descriptor : TableRow → ℕ → Bool
+has_descriptor row number =
+    nat_le row.first number && nat_le (16 * (number - row.first) + 16) (length row.bytes)
+
+-- The bytes of that descriptor, where the row has it.
+abbrev pub in_row : TableRow → ℕ → Option (List ℕ)
+in_row row number =
+    if has_descriptor row number then Some (take 16 (drop (16 * (number - row.first)) row.bytes))
+    else None
+
+-- How many descriptors are copied together with one, behind which they stand in the table, once
+-- these pieces are known: none with a chain's first, and with others as many as a row may have, up
+-- to the end of the table.
+abbrev pub so_many_behind : ℕ → ℕ → List Piece → ℕ
+so_many_behind q number [] = 0
+so_many_behind q number (p ∷ ps) = min (ROW_DESCRIPTORS - 1) (q - (number + 1))
+
+-- All of them where they lie in one region with it, and else none.
+abbrev pub unless_apart : Option Spot → ℕ → ℕ
+unless_apart (Some at) behind = behind
+unless_apart None behind = 0
+
+abbrev pub behind_in_row : List Region → Virtqueue → ℕ → List Piece → ℕ
+behind_in_row regions r number pieces =
+    unless_apart
+    (spot regions (r.table + 16 * number)
+    (16 * (so_many_behind (descriptors r) number pieces + 1)))
+    (so_many_behind (descriptors r) number pieces)
+
+-- ---- from one descriptor to the next
+
 -- The chain goes on with another descriptor, or is whole.
 abbrev pub GoesOn : Bool → (ℕ → Bool → List Piece → List Access → Type 0) →
     (List Piece → List Access → Type 0) → Bool → Descriptor → List Piece → List Access → Type 0
@@ -156,27 +204,49 @@ AfterDescriptor w d tally on whole writing pieces bytes log =
     (length pieces) (descriptor_of bytes)) w d tally on whole writing (descriptor_of bytes) pieces
     log
 
--- The 16 bytes of a descriptor are copied, once.
-pub record AsksDescriptor (w : Whole) (d : Device) (tally : Tally)
-    (on : ℕ → Bool → List Piece → List Access → Type 0) (whole : List Piece → List Access → Type 0)
-    (writing : Bool) (pieces : List Piece) (at : Spot) (log : List Access) : Type 0 where
+-- The bytes of a descriptor are copied, once, and of so many that stand behind it in the table. The
+-- walk goes on in this copy.
+pub record AsksRow (w : Whole) (d : Device) (tally : Tally)
+    (on : TableRow → ℕ → Bool → List Piece → List Access → Type 0)
+    (whole : List Piece → List Access → Type 0) (number behind : ℕ) (writing : Bool)
+    (pieces : List Piece) (at : Spot) (log : List Access) : Type 0 where
   pub bytes : List ℕ
   pub rest : List Access
   pub asks : log ≡ CopyBytes at bytes ∷ rest
-  pub long : length bytes ≡ 16
-  pub goes_on : AfterDescriptor w d tally on whole writing pieces bytes rest
+  pub long : length bytes ≡ 16 * (behind + 1)
+  pub goes_on : AfterDescriptor w d tally (on (row_of number bytes)) whole writing pieces
+      (take 16 bytes) rest
 
-abbrev pub DescriptorAt : Whole → Device → Tally →
-    (ℕ → Bool → List Piece → List Access → Type 0) → (List Piece → List Access → Type 0) →
-    Bool → List Piece → Option Spot → List Access → Type 0
-DescriptorAt w d tally on whole writing pieces None log = Breaks w d tally OutOfRam log
-DescriptorAt w d tally on whole writing pieces (Some at) log =
-    AsksDescriptor w d tally on whole writing pieces at log
+abbrev pub RowAt : Whole → Device → Tally →
+    (TableRow → ℕ → Bool → List Piece → List Access → Type 0) → (List Piece → List Access → Type 0) →
+    ℕ → ℕ → Bool → List Piece → Option Spot → List Access → Type 0
+RowAt w d tally on whole number behind writing pieces None log = Breaks w d tally OutOfRam log
+RowAt w d tally on whole number behind writing pieces (Some at) log =
+    AsksRow w d tally on whole number behind writing pieces at log
 
--- From a descriptor of this number on the chain is followed, where so many more fit its table.
-abbrev pub Follows : ℕ → Whole → Device → Tally → (List Piece → List Access → Type 0) → ℕ → Bool →
-    List Piece → List Access → Type 0
-Follows zero w d tally whole number writing pieces log = Breaks w d tally TooLong log
-Follows (suc n) w d tally whole number writing pieces log =
-    DescriptorAt w d tally (Follows n w d tally whole) whole writing pieces
-    (spot w.regions ((ring_of w.kind d).table + 16 * number) 16) log
+-- A row is asked for that begins with this descriptor, and has so many behind it.
+abbrev pub TakesRow : Whole → Device → Tally →
+    (TableRow → ℕ → Bool → List Piece → List Access → Type 0) → (List Piece → List Access → Type 0) →
+    ℕ → ℕ → Bool → List Piece → List Access → Type 0
+TakesRow w d tally on whole number behind writing pieces log =
+    RowAt w d tally on whole number behind writing pieces
+    (spot w.regions ((ring_of w.kind d).table + 16 * number) (16 * (behind + 1))) log
+
+-- Where the row that was copied last has the descriptor, nothing is asked.
+abbrev pub FollowsBy : Option (List ℕ) → Whole → Device → Tally →
+    (TableRow → ℕ → Bool → List Piece → List Access → Type 0) → (List Piece → List Access → Type 0) →
+    TableRow → ℕ → Bool → List Piece → List Access → Type 0
+FollowsBy (Some bytes) w d tally on whole row number writing pieces log =
+    AfterDescriptor w d tally (on row) whole writing pieces bytes log
+FollowsBy None w d tally on whole row number writing pieces log =
+    TakesRow w d tally on whole number
+    (behind_in_row w.regions (ring_of w.kind d) number pieces) writing pieces log
+
+-- From a descriptor of this number on the chain is followed, where so many more fit its table, and
+-- this row was copied last.
+abbrev pub Follows : ℕ → Whole → Device → Tally → (List Piece → List Access → Type 0) → TableRow → ℕ →
+    Bool → List Piece → List Access → Type 0
+Follows zero w d tally whole row number writing pieces log = Breaks w d tally TooLong log
+Follows (suc n) w d tally whole row number writing pieces log =
+    FollowsBy (in_row row number) w d tally (Follows n w d tally whole) whole row number writing
+    pieces log

@@ -4,6 +4,7 @@ pub mod Ends
 pub mod Giving
 pub mod Pieces
 pub mod Chains
+pub mod Rows
 pub mod Notices
 pub mod Machine
 pub mod Left

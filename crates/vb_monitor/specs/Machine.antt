@@ -1,5 +1,5 @@
 -- A notice step by step: which accesses may still come.
-use Rattle.std.specs.Prelude.{◌≡◌, ℕ, ◌+◌, ◌-◌, ◌≤◌, Bool, true, false, List, [], ◌∷◌, ◌++◌}
+use Rattle.std.specs.Prelude.{◌≡◌, ℕ, ◌+◌, ◌-◌, ◌*◌, ◌≤◌, Bool, true, false, List, [], ◌∷◌, ◌++◌}
 use Rattle.std.specs.Prelude.{length, take}
 use Rattle.std.specs.Prelude.{drop, if◌then◌else◌, Option, Some, None}
 use Rattle.vb_chain.specs.declared.descriptor.TheConstants.{DESCRIPTOR_SIZE}
@@ -17,6 +17,7 @@ use Rattle.vb_monitor.specs.declared.parts.Part.{Part}
 use Rattle.vb_monitor.specs.declared.outcome.Tally.{Tally}
 use Rattle.vb_monitor.specs.declared.outcome.Outcome.{Outcome}
 use Rattle.vb_monitor.specs.declared.regions.Spot.{Spot}
+use Rattle.vb_monitor.specs.declared.step.Walk.{Walk}
 use Rattle.vb_monitor.specs.declared.step.Step.{Step}
 use Rattle.vb_monitor.specs.declared.step.Phase.{Phase}
 use Rattle.vb_monitor.specs.declared.step.Phase.TheVariants.{AwaitsIndex, AwaitsEntry}
@@ -33,8 +34,8 @@ use Rattle.vb_monitor.specs.Giving.{TellsThen}
 use Rattle.vb_monitor.specs.Pieces.{second_part, unless_empty, all_parts, AsksPart}
 use Rattle.vb_core.specs.Next.{pieces_in}
 use Rattle.vb_monitor.specs.Pieces.{CopiesParts}
-use Rattle.vb_monitor.specs.Chains.{descriptors, AsksDescriptor, Follows, ServesPieces, AfterBytes}
-use Rattle.vb_monitor.specs.Chains.{TellsThenEnds}
+use Rattle.vb_monitor.specs.Chains.{descriptors, TableRow, row_of, AsksRow, Follows, ServesPieces}
+use Rattle.vb_monitor.specs.Chains.{AfterBytes, TellsThenEnds}
 use Rattle.vb_monitor.specs.Notices.{AsksIndex, AsksEntry, ServesPublished, AfterGiven}
 
 -- What stands in the room that a notice has.
@@ -51,6 +52,14 @@ whole regions kind after outcome =
 abbrev pub room_of : List ChainPiece → List ℕ → List Run → List Statistic → Room
 room_of pieces bytes runs figures =
     record { pieces = pieces; bytes = bytes; runs = runs; figures = figures }
+
+-- How many bytes are copied of the row that a walk waits for, 16 for each descriptor.
+abbrev pub row_bytes : Walk → ℕ
+row_bytes walk = DESCRIPTOR_SIZE * (walk.behind + 1)
+
+-- The row in which a walk goes on, once these bytes stand in the room.
+abbrev pub row_in : Walk → List ℕ → TableRow
+row_in walk bytes = row_of walk.first (take (row_bytes walk) bytes)
 
 -- ---- what is left
 
@@ -106,7 +115,7 @@ abbrev pub Fits : Phase → Type 0
 Fits (AwaitsPart at place) = place.into + place.length ≤ MAX_BYTES
 Fits (AwaitsIndex at) = Unit {0}
 Fits (AwaitsEntry at) = Unit {0}
-Fits (AwaitsDescriptor at walk) = Unit {0}
+Fits (AwaitsDescriptor at walk) = row_bytes walk ≤ MAX_BYTES
 Fits (TellsPages head named) = named.runs ≤ MAX_RUNS
 Fits (TellsFigures head count) = count ≤ MAX_FIGURES
 Fits (Discards cut x) = Unit {0}
@@ -160,9 +169,9 @@ AheadAt (AwaitsIndex at) w tally d room log =
     AsksIndex (ServesPublished tally.chains w) d tally at log
 AheadAt (AwaitsEntry at) w tally d room log = AsksEntry w (next_chain w tally) d tally at log
 AheadAt (AwaitsDescriptor at walk) w tally d room log =
-    AsksDescriptor w d tally
+    AsksRow w d tally
     (Follows (descriptors (ring_of w.kind d) - (walk.count + 1)) w d tally
-    (serves w tally d walk.head)) (serves w tally d walk.head) walk.writing
+    (serves w tally d walk.head)) (serves w tally d walk.head) walk.first walk.behind walk.writing
     (pieces_in (take walk.count room.pieces)) at log
 AheadAt (AwaitsPart at place) w tally d room log =
     AsksPart (CopiesParts w (served w tally d place.head) d tally
@@ -199,7 +208,7 @@ abbrev pub Does : Phase → Kind → ℕ → List ℕ → Room → List Access �
 Does (AwaitsIndex at) kind answer before room done = done ≡ ReadWord at answer ∷ []
 Does (AwaitsEntry at) kind answer before room done = done ≡ Acquire ∷ ReadWord at answer ∷ []
 Does (AwaitsDescriptor at walk) kind answer before room done =
-    Copies at 0 DESCRIPTOR_SIZE before room.bytes done
+    Copies at 0 (row_bytes walk) before room.bytes done
 Does (AwaitsPart at place) kind answer before room done =
     Copies at place.into place.length before room.bytes done
 Does (TellsPages head named) kind answer before room done =

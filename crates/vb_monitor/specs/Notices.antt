@@ -21,7 +21,7 @@ use Rattle.vb_monitor.specs.Accesses.{Access, ReadWord, Acquire}
 use Rattle.vb_monitor.specs.Regions.{spot}
 use Rattle.vb_monitor.specs.Ends.{Whole, Stops, Ends, Breaks}
 use Rattle.vb_monitor.specs.Giving.{Then, GivesBack}
-use Rattle.vb_monitor.specs.Chains.{descriptors, Follows, ServesPieces}
+use Rattle.vb_monitor.specs.Chains.{descriptors, no_row, Follows, ServesPieces}
 
 -- ---- the chain that stands next
 
@@ -33,7 +33,7 @@ entry_offset r = if r.size == 0 then 4 else 4 + 2 * (r.next_avail % r.size)
 abbrev pub HeadBy : Bool → Whole → Then → Device → Tally → ℕ → List Access → Type 0
 HeadBy true w next d tally head log =
     Follows (descriptors (ring_of w.kind d)) w d tally
-    (λ pieces rest. ServesPieces w.kind w next d tally head pieces rest) head false [] log
+    (λ pieces rest. ServesPieces w.kind w next d tally head pieces rest) no_row head false [] log
 HeadBy false w next d tally head log = Breaks w d tally BadHead log
 
 abbrev pub AfterEntry : Whole → Then → Device → Tally → ℕ → List Access → Type 0

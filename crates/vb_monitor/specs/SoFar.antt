@@ -1,6 +1,8 @@
 -- What the accesses of a notice say so far: of the chain that is served, of its queue, and of what
 -- is left to discard.
-use Rattle.std.specs.Prelude.{ℕ, Bool, true, false, List, [], ◌∷◌, ◌++◌}
+use Rattle.std.specs.Prelude.{ℕ, zero, suc, Bool, true, false, List, [], ◌∷◌, ◌++◌, Option, Some}
+use Rattle.std.specs.Prelude.{None}
+use Rattle.vb_model.specs.declared.limits.TheConstants.{MAX_QUEUE_SIZE}
 use Rattle.vb_chain.specs.declared.pieces.Piece.{Piece}
 use Rattle.vb_chain.specs.Rules.{has_next, piece_of}
 use Rattle.vb_core.specs.declared.kinds.Kind.{Kind}
@@ -14,7 +16,7 @@ use Rattle.vb_monitor.specs.Accesses.{Access, ReadWord, CopyBytes, Acquire, Rele
 use Rattle.vb_monitor.specs.Accesses.{TellPages, TellFigures, Discard, WriteNumber, WriteWord}
 use Rattle.vb_monitor.specs.Giving.{cuts_for}
 use Rattle.vb_monitor.specs.Pieces.{all_parts}
-use Rattle.vb_monitor.specs.Chains.{descriptor_of}
+use Rattle.vb_monitor.specs.Chains.{TableRow, row_of, in_row, descriptor_of}
 
 -- Each access of a list may come behind all those before it, of which the last one stands first.
 abbrev pub Each : (List Access → Access → Type 0) → List Access → List Access → Type 0
@@ -39,16 +41,29 @@ parts_read Statistics pieces = all_parts pieces
 parts_read Report pieces = []
 
 -- A descriptor goes on with the one that it names, or it is the chain's last.
-abbrev pub with_descriptor : Bool → Kind → ℕ → List Piece → ℕ → Known
-with_descriptor true kind head pieces next = Walks head next pieces
-with_descriptor false kind head pieces next = Has head pieces (parts_read kind pieces) []
+abbrev pub with_descriptor : Bool → (ℕ → List Piece → Known) → Kind → ℕ → List Piece → ℕ → Known
+with_descriptor true on kind head pieces next = on next pieces
+with_descriptor false on kind head pieces next = Has head pieces (parts_read kind pieces) []
 
--- What is known once these bytes were copied.
+abbrev pub walked_by : Option (List ℕ) → (ℕ → List Piece → Known) → Kind → ℕ → ℕ → List Piece →
+    Known
+walked_by None on kind head number pieces = Walks head number pieces
+walked_by (Some bytes) on kind head number pieces =
+    with_descriptor (has_next (descriptor_of bytes)) on kind head
+    (pieces ++ piece_of (descriptor_of bytes) ∷ []) (descriptor_of bytes).next
+
+-- The descriptors of a row are known for as long as each names one that the row has, so many at
+-- most.
+abbrev pub walked_in : ℕ → Kind → ℕ → TableRow → ℕ → List Piece → Known
+walked_in zero kind head row number pieces = Walks head number pieces
+walked_in (suc n) kind head row number pieces =
+    walked_by (in_row row number) (walked_in n kind head row) kind head number pieces
+
+-- What is known once these bytes were copied: of no chain more descriptors are than a queue has.
 abbrev pub with_copied : Kind → List ℕ → Known → Known
 with_copied kind bytes Unknown = Unknown
 with_copied kind bytes (Walks head number pieces) =
-    with_descriptor (has_next (descriptor_of bytes)) kind head
-    (pieces ++ piece_of (descriptor_of bytes) ∷ []) (descriptor_of bytes).next
+    walked_in MAX_QUEUE_SIZE kind head (row_of number bytes) number pieces
 with_copied kind bytes (Has head pieces [] so_far) = Has head pieces [] so_far
 with_copied kind bytes (Has head pieces (part ∷ parts) so_far) =
     Has head pieces parts (so_far ++ bytes)

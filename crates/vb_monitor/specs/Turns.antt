@@ -28,6 +28,7 @@ use Rattle.vb_monitor.specs.declared.cuts.Cut.{Cut}
 use Rattle.vb_monitor.specs.Accesses.{Access, ReadWord, CopyBytes, Acquire, Release, Full}
 use Rattle.vb_monitor.specs.Accesses.{TellPages, TellFigures, Discard, WriteNumber, WriteWord}
 use Rattle.vb_monitor.specs.Regions.{spot}
+use Rattle.vb_monitor.specs.Chains.{behind_in_row}
 use Rattle.vb_monitor.specs.Giving.{is_kept}
 use Rattle.vb_monitor.specs.Notices.{entry_offset}
 use Rattle.vb_monitor.specs.SoFar.{Known, Unknown, Walks, Has, known, ring_after, left}
@@ -84,23 +85,24 @@ pub record CopiesFrom (regions : List Region) (a len : ℕ) (at : Spot) (bytes :
     pub place : spot regions a len ≡ Some at
     pub long : length bytes ≡ len
 
--- Of a chain the descriptor is copied that the one before names, 16 bytes; once it is whole, the
--- next part of its pieces.
-abbrev pub CopiesNext : List Region → ℕ → Known → Spot → List ℕ → Type 0
-CopiesNext regions table Unknown at bytes = ⊥
-CopiesNext regions table (Walks head number pieces) at bytes =
-    CopiesFrom regions (table + 16 * number) 16 at bytes
-CopiesNext regions table (Has head pieces [] so_far) at bytes = ⊥
-CopiesNext regions table (Has head pieces (part ∷ parts) so_far) at bytes =
+-- Of a chain the descriptor is copied that the one before names, and those of its row behind it, 16
+-- bytes each; once it is whole, the next part of its pieces.
+abbrev pub CopiesNext : List Region → Virtqueue → Known → Spot → List ℕ → Type 0
+CopiesNext regions r Unknown at bytes = ⊥
+CopiesNext regions r (Walks head number pieces) at bytes =
+    CopiesFrom regions (r.table + 16 * number)
+    (16 * (behind_in_row regions r number pieces + 1)) at bytes
+CopiesNext regions r (Has head pieces [] so_far) at bytes = ⊥
+CopiesNext regions r (Has head pieces (part ∷ parts) so_far) at bytes =
     CopiesFrom regions (part.address + part.plus) part.length at bytes
 
--- What is read comes in its turn: each entry, each descriptor and each part of a piece has one. No
+-- What is read comes in its turn: each entry, each row of descriptors and each part of a piece has one. No
 -- entry is read while another one's chain is served, and nothing behind the flags.
 abbrev pub ReadsInTurn : List Region → Kind → Device → List Access → Access → Type 0
 ReadsInTurn regions kind d before (ReadWord at answer) =
     ReadsWord regions (ring_after (ring_of kind d) before) before at
 ReadsInTurn regions kind d before (CopyBytes at answer) =
-    CopiesNext regions (ring_after (ring_of kind d) before).table (known kind before) at answer
+    CopiesNext regions (ring_after (ring_of kind d) before) (known kind before) at answer
 ReadsInTurn regions kind d before Acquire =
     (known kind before ≡ Unknown) × (is_over before ≡ false)
 ReadsInTurn regions kind d before Release = Unit {0}

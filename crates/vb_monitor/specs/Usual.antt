@@ -1,10 +1,8 @@
 -- How a notice goes on mostly: the next place, where it goes on so.
-use Rattle.std.specs.Prelude.{ℕ, ◌+◌, ◌-◌, ◌*◌, Bool, true, false, ◌==◌, ◌&&◌, ◌||◌, nat_lt, List}
-use Rattle.std.specs.Prelude.{if◌then◌else◌, Option, None, is_none, option_map}
+use Rattle.std.specs.Prelude.{ℕ, ◌+◌, ◌-◌, ◌*◌, Bool, true, false, ◌==◌, ◌||◌, nat_lt, List}
+use Rattle.std.specs.Prelude.{if◌then◌else◌, Option, None, option_map}
 use Rattle.std.specs.Prelude.{Result, Ok, Err}
-use Rattle.vb_chain.specs.declared.descriptor.Descriptor.{Descriptor}
 use Rattle.vb_chain.specs.declared.fault.ChainFault.{ChainFault}
-use Rattle.vb_chain.specs.Rules.{has_next, is_writable}
 use Rattle.vb_core.specs.declared.ring.Virtqueue.{Virtqueue}
 use Rattle.vb_monitor.specs.declared.regions.Region.{Region}
 use Rattle.vb_monitor.specs.declared.regions.Spot.{Spot}
@@ -14,9 +12,8 @@ use Rattle.vb_monitor.specs.declared.step.Phase.{Phase}
 use Rattle.vb_monitor.specs.declared.step.Phase.TheVariants.{AwaitsEntry, AwaitsFlags}
 use Rattle.vb_monitor.specs.declared.usual.NextWord.{NextWord}
 use Rattle.vb_monitor.specs.declared.usual.NextWord.TheVariants.{Entry, Flags}
-use Rattle.vb_monitor.specs.declared.usual.NextDescriptor.{NextDescriptor}
 use Rattle.vb_monitor.specs.Regions.{spot}
-use Rattle.vb_monitor.specs.Chains.{descriptors, table_fault}
+use Rattle.vb_monitor.specs.Chains.{descriptors}
 use Rattle.vb_monitor.specs.Notices.{entry_offset, stands, with_chains}
 
 -- The word that is read next: the entry of another chain that stands there, if the budget has room
@@ -47,22 +44,6 @@ abbrev pub descriptor_place : List Region → ℕ → Virtqueue → Option Spot
 descriptor_place regions number r =
     if nat_lt number (descriptors r) then spot regions (r.table + 16 * number) 16 else None
 
--- The walk behind one more descriptor.
-abbrev pub walk_on : Walk → Descriptor → Walk
-walk_on walk x = record {
-  head = walk.head;
-  count = walk.count + 1;
-  writing = walk.writing || is_writable x;
-}
-
--- Where the descriptor stands that another names, which was copied after so many pieces, if that
--- one breaks no rule and the table has room for one more.
-abbrev pub next_place : List Region → Walk → ℕ → Descriptor → ℕ → Virtqueue → Option Spot
-next_place regions walk visited x end r =
-    if has_next x && is_none (table_fault (descriptors r) end walk.writing visited x)
-    && nat_lt (walk.count + 1) (descriptors r)
-    then spot regions (r.table + 16 * x.next) 16 else None
-
--- That place, and the walk up to it.
-abbrev pub next_of : Walk → Descriptor → Option Spot → Option NextDescriptor
-next_of walk x place = option_map (λ at. record { at = at; walk = walk_on walk x }) place
+-- The walk that waits for a chain's first descriptor.
+abbrev pub first_walk : ℕ → Walk
+first_walk head = record { head = head; count = 0; writing = false; first = head; behind = 0 }

@@ -12,8 +12,8 @@ ghost use Rattle.std.specs.Prelude.{◌≤◌};
 
 use crate::ends::{end, fail};
 use crate::regions::find_from;
-use crate::walk::{descriptors, follow};
-use crate::{Phase, Region, Step, Tally, Walk};
+use crate::walk::{ask_first, descriptors};
+use crate::{Phase, Region, Step, Tally};
 use vb_chain::ChainFault;
 use vb_core::{Device, Kind, Virtqueue, place_in_ring};
 
@@ -152,7 +152,6 @@ pub(crate) fn after_index(
 }
 
 /// The entry was read.
-#[tactic(auto, using(crate::proofs::BufferLemmas::none_in))]
 pub(crate) fn after_entry(
     device: &mut Device,
     regions: &[Region],
@@ -171,12 +170,7 @@ pub(crate) fn after_entry(
     if head >= descriptors(&device.ring(kind)) {
         return fail(device, regions, kind, tally, ChainFault::BadHead);
     }
-    let walk = Walk {
-        head,
-        count: 0,
-        writing: false,
-    };
-    follow(device, regions, kind, tally, walk, head)
+    ask_first(device, regions, kind, tally, head)
 }
 
 /// A chain was given back: the next one comes, but of statistics.

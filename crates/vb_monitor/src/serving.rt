@@ -13,8 +13,8 @@ ghost use Rattle.std.specs.Prelude.{◌<◌, false};
 
 use crate::discards::first_runs;
 use crate::room::{MAX_BYTES, MAX_FIGURES, MAX_PIECES, MAX_RUNS};
+use crate::rows::row_bytes;
 use crate::{Budget, LiveMemory, Notice, Outcome, Phase, Region, Spot, UsedSpots};
-use vb_chain::DESCRIPTOR_SIZE;
 use vb_core::{ChainPiece, Device, Kind, Run, Statistic, UsedEntry};
 
 /// Copies so many bytes behind the first ones, so many.
@@ -61,8 +61,8 @@ pub(crate) fn perform<M: LiveMemory>(
             memory.acquire();
             memory.word(at)
         }
-        Phase::AwaitsDescriptor { at, .. } => {
-            copy_bytes(memory, at, 0, DESCRIPTOR_SIZE, bytes);
+        Phase::AwaitsDescriptor { at, walk } => {
+            copy_bytes(memory, at, 0, row_bytes(&walk), bytes);
             0
         }
         Phase::AwaitsPart { at, place } => {

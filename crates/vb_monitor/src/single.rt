@@ -16,14 +16,16 @@ ghost use Rattle.vb_monitor.specs.Chains.{memory_end};
 ghost use Rattle.vb_monitor.specs.Notices.{Looks};
 ghost use Rattle.vb_core.specs.Next.{pieces_in};
 ghost use Rattle.vb_monitor.specs.Single.{index_place, is_single, single_place, single_of};
-ghost use Rattle.vb_monitor.specs.Machine.{Room, Fits, AheadAt, whole, room_of, serves};
+ghost use Rattle.vb_monitor.specs.Machine.{Room, Fits, AheadAt, whole, room_of, serves, row_in};
+ghost use Rattle.vb_monitor.specs.Machine.{row_bytes};
 
 use crate::copying::first_bytes;
 use crate::parts::first_part;
 use crate::pieces::{buffer_of, first_pieces, push_piece};
 use crate::regions::find_from;
 use crate::room::{MAX_BYTES, MAX_PIECES};
-use crate::walk::{descriptor_of, table_fault};
+use crate::rows::descriptor_of;
+use crate::walk::table_fault;
 use crate::{Place, Region, Spot, Walk};
 use vb_chain::{DESCRIPTOR_SIZE, Descriptor};
 use vb_core::{ChainPiece, Device, Kind};
@@ -83,9 +85,11 @@ pub fn first_of_single(
         AfterDescriptor (whole regions.now kind after outcome) device.now tally
         (Follows (descriptors (ring_of kind device.now) - (walk.count + 1))
         (whole regions.now kind after outcome) device.now tally
-        (serves (whole regions.now kind after outcome) tally device.now walk.head))
+        (serves (whole regions.now kind after outcome) tally device.now walk.head)
+        (row_in walk bytes.now))
         (serves (whole regions.now kind after outcome) tally device.now walk.head) walk.writing
-        (pieces_in (take walk.count pieces.old)) (take DESCRIPTOR_SIZE bytes.now) log) }
+        (pieces_in (take walk.count pieces.old))
+        (take DESCRIPTOR_SIZE (take (row_bytes walk) bytes.now)) log) }
     ensures fits { IfSome result (λ x. Fits (AwaitsPart x.at x.place)) }
     ensures stays { result ≡ None → pieces.new ≡ pieces.old }
 {

@@ -12,6 +12,10 @@ pub struct Walk {
     pub count: u16,
     /// One of them is the device's to write.
     pub writing: bool,
+    /// The number of the first descriptor of the row that is copied.
+    pub first: u16,
+    /// How many descriptors are copied behind it.
+    pub behind: u16,
 }
 
 /// Which part of a chain's pieces is copied.
@@ -55,7 +59,8 @@ pub enum Phase {
     AwaitsEntry {
         at: Spot,
     },
-    /// 16 bytes are to be copied from there to the front of the bytes: a descriptor.
+    /// The bytes of a row of descriptors are to be copied from there to the front of the bytes, 16
+    /// of each.
     AwaitsDescriptor {
         at: Spot,
         walk: Walk,

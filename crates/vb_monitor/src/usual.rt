@@ -1,32 +1,22 @@
 //! Where a notice goes on as it mostly does: the next place alone, which is all that is new.
 
-ghost use Rattle.std.specs.Prelude.{◌≡◌, ◌+◌, ◌-◌, false, List, None, IfSome, take, length};
-ghost use Rattle.vb_chain.specs.declared.descriptor.TheConstants.{DESCRIPTOR_SIZE};
+ghost use Rattle.std.specs.Prelude.{◌≡◌, ◌-◌, false, List, None, IfSome};
 ghost use Rattle.vb_core.specs.declared.device.Device.{Device};
-ghost use Rattle.vb_core.specs.declared.runs.Run.{Run};
-ghost use Rattle.vb_core.specs.declared.statistics.Statistic.{Statistic};
 ghost use Rattle.vb_core.specs.Devices.{ring_of};
 ghost use Rattle.vb_monitor.specs.declared.outcome.Tally.{Tally};
 ghost use Rattle.vb_monitor.specs.declared.outcome.Outcome.{Outcome};
 ghost use Rattle.vb_monitor.specs.declared.step.Phase.TheVariants.{AwaitsDescriptor};
 ghost use Rattle.vb_monitor.specs.Accesses.{Access};
-ghost use Rattle.vb_monitor.specs.Chains.{AfterDescriptor, Follows, descriptors, descriptor_of};
-ghost use Rattle.vb_monitor.specs.Chains.{memory_end};
 ghost use Rattle.vb_monitor.specs.Notices.{AfterEntry, ServesPublished};
-ghost use Rattle.vb_core.specs.Next.{pieces_in};
 ghost use Rattle.vb_monitor.specs.Usual.{word_place, phase_at, tally_at, descriptor_place};
-ghost use Rattle.vb_monitor.specs.Usual.{next_of, next_place};
-ghost use Rattle.vb_monitor.specs.Machine.{Room, AheadAt, whole, room_of, next_chain, serves};
+ghost use Rattle.vb_monitor.specs.Usual.{first_walk};
+ghost use Rattle.vb_monitor.specs.Machine.{Room, AheadAt, whole, next_chain};
 
-use crate::copying::first_bytes;
 use crate::looks::{entry_offset, stands};
-use crate::pieces::{first_pieces, push_piece};
 use crate::regions::{find, find_first, find_from};
-use crate::room::{MAX_BYTES, MAX_PIECES};
-use crate::walk::{descriptor_of, descriptors, memory_end, ring_fault};
-use crate::{Region, Spot, Tally, Walk};
-use vb_chain::DESCRIPTOR_SIZE;
-use vb_core::{ChainPiece, Device, Kind};
+use crate::walk::descriptors;
+use crate::{Region, Spot, Tally};
+use vb_core::{Device, Kind};
 
 /// A word that is read next, and where.
 #[derive(Clone, Copy, Debug)]
@@ -77,7 +67,7 @@ pub fn descriptor_after(device: &Device, regions: &[Region], kind: Kind, head: u
     ensures place { result ≡ descriptor_place regions.now head (ring_of kind device.now) }
     ensures goes { IfSome result (λ at. (tally : Tally) (after : Device) (outcome : Outcome)
         (room : Room) (log : List Access) →
-        AheadAt (AwaitsDescriptor at (record { head = head; count = 0; writing = false }))
+        AheadAt (AwaitsDescriptor at (first_walk head))
         (whole regions.now kind after outcome) tally device.now room log →
         AfterEntry (whole regions.now kind after outcome)
         (next_chain (whole regions.now kind after outcome) tally) device.now tally head log) }
@@ -89,72 +79,5 @@ pub fn descriptor_after(device: &Device, regions: &[Region], kind: Kind, head: u
     match find_from(regions, ring.table, 16 * u64::from(head), 16) {
         None => None,
         Some(at) => Some(at),
-    }
-}
-
-/// The next descriptor of a chain.
-#[derive(Clone, Copy, Debug)]
-pub struct NextDescriptor {
-    pub at: Spot,
-    pub walk: Walk,
-}
-
-/// Where the next descriptor of a chain is copied from, once one was that breaks no rule and names
-/// another; that one's piece joins the others. Else they stay.
-#[tactic(auto, using(crate::proofs::UsualLemmas::next_steps))]
-pub fn next_descriptor(
-    device: &Device,
-    regions: &[Region],
-    kind: Kind,
-    walk: Walk,
-    pieces: &mut [ChainPiece; MAX_PIECES],
-    bytes: &[u8; MAX_BYTES],
-) -> Option<NextDescriptor>
-    ensures place { result ≡ next_of walk (descriptor_of (take DESCRIPTOR_SIZE bytes.now))
-        (next_place regions.now walk (length (take walk.count pieces.old))
-        (descriptor_of (take DESCRIPTOR_SIZE bytes.now)) (memory_end device.now)
-        (ring_of kind device.now)) }
-    ensures goes { IfSome result (λ x. (tally : Tally) (after : Device) (outcome : Outcome)
-        (runs : List Run) (figures : List Statistic) (log : List Access) →
-        AheadAt (AwaitsDescriptor x.at x.walk) (whole regions.now kind after outcome) tally
-        device.now (room_of pieces.new bytes.now runs figures) log →
-        AfterDescriptor (whole regions.now kind after outcome) device.now tally
-        (Follows (descriptors (ring_of kind device.now) - (walk.count + 1))
-        (whole regions.now kind after outcome) device.now tally
-        (serves (whole regions.now kind after outcome) tally device.now walk.head))
-        (serves (whole regions.now kind after outcome) tally device.now walk.head) walk.writing
-        (pieces_in (take walk.count pieces.old)) (take DESCRIPTOR_SIZE bytes.now) log) }
-    ensures stays { result ≡ None → pieces.new ≡ pieces.old }
-{
-    let descriptor = descriptor_of(first_bytes(bytes, DESCRIPTOR_SIZE));
-    let count = walk.count;
-    let visited = first_pieces(pieces, count).len() as u16;
-    if !descriptor.has_next() {
-        return None;
-    }
-    let ring = device.ring(kind);
-    if let Some(_) = ring_fault(
-        &ring,
-        memory_end(device),
-        walk.writing,
-        visited,
-        &descriptor,
-    ) {
-        return None;
-    }
-    if count + 1 >= descriptors(&ring) {
-        return None;
-    }
-    match find_from(regions, ring.table, 16 * u64::from(descriptor.next), 16) {
-        None => None,
-        Some(at) => {
-            push_piece(pieces, count, &descriptor);
-            let walk = Walk {
-                head: walk.head,
-                count: count + 1,
-                writing: walk.writing || descriptor.is_writable(),
-            };
-            Some(NextDescriptor { at, walk })
-        }
     }
 }

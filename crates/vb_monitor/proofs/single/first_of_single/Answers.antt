@@ -5,7 +5,8 @@ use Rattle.std.proofs.Common.{length, false, Option, None}
 use Rattle.vb_chain.{specs.declared.descriptor.TheConstants.DESCRIPTOR_SIZE, specs.Rules.piece_of}
 use Rattle.vb_chain.specs.declared.pieces.Piece.{Piece}
 use Rattle.vb_monitor.{specs.Pieces.first_part, specs.declared.single.FirstPart.FirstPart}
-use Rattle.vb_monitor.{specs.Regions.spot, specs.Machine.whole}
+use Rattle.vb_monitor.{specs.Regions.spot, specs.Machine.{whole, row_bytes}}
+use Rattle.vb_monitor.proofs.TableRowLemmas.{front_of_row}
 use Rattle.vb_monitor.specs.Chains.{descriptor_of, descriptors, memory_end, table_fault}
 use Rattle.vb_monitor.{proofs.SingleLemmas.{single_goes, single_by}, specs.declared.parts.Part.Part}
 use Rattle.std.specs.Prelude.{is_none, if◌then◌else◌}
@@ -32,10 +33,11 @@ returns-in-Some-find_from-clause-goes c tally after outcome runs figures log h =
     Some c.in-Some-find_from.at = search rules in
     single_goes (whole c.args.regions.now c.args.kind after outcome) d tally _ c.args.walk.head
     c.args.walk.writing ps (pieces_in (take (count + 1) c.push_piece.new.pieces))
-    (take DESCRIPTOR_SIZE c.args.bytes.now) x part
+    (take DESCRIPTOR_SIZE (take (row_bytes c.args.walk) c.args.bytes.now)) x part
     c.in-Some-find_from.at log part_is (none_taken c.args.pieces.now count zero) c.push_piece.ensures
     (sym (c.descriptor_of-descriptor.ensures
-    ∙ ap (λ (bs : List ℕ). descriptor_of bs) c.first_bytes.ensures))
+    ∙ ap (λ (bs : List ℕ). descriptor_of bs)
+    (c.first_bytes.ensures ∙ sym (front_of_row c.args.walk c.args.bytes.now))))
     (grind (arith, length_in, c.table_fault.ensures.fault, c.in_default.not-Some))
     (sym c.is_single.ensures ∙ search rules) place h
 

@@ -1,0 +1,249 @@
+-- Steps of a walk: rows that are asked for, and descriptors of a row, one after the other.
+use Rattle.std.proofs.Common.{◌≡◌, ◌∙◌, ap, sym, subst, refl, arith, ℕ, suc, ◌+◌, ◌-◌, ◌*◌, ◌<◌, ◌≤◌}
+use Rattle.std.proofs.Common.{Bool, true, false, List, [], ◌∷◌, ◌++◌, length, take, drop}
+use Rattle.std.proofs.Common.{Option, Some, None, length-take, length-append}
+use Rattle.std.specs.Prelude.{◌||◌, nat_lt, min, if◌then◌else◌}
+use Rattle.std.proofs.lemmas.{Bool.Decides.nat_tests, List.take-take}
+use Rattle.vb_chain.specs.{Rules.{has_next, is_writable, piece_of}}
+use Rattle.vb_chain.specs.declared.{pieces.Piece.Piece, fault.ChainFault.ChainFault}
+use Rattle.vb_chain.specs.declared.descriptor.Descriptor.{Descriptor}
+use Rattle.vb_core.{specs.Next.pieces_in, specs.Devices.ring_of, proofs.PieceLemmas.{none_in, length_in}}
+use Rattle.vb_core.specs.declared.next.ChainPiece.{ChainPiece}
+use Rattle.vb_core.specs.declared.{device.Device.Device}
+use Rattle.vb_monitor.specs.declared.{regions.Spot.Spot, outcome.Tally.Tally}
+use Rattle.vb_monitor.specs.{Accesses.Access, Ends.{Whole, Breaks}, Regions.spot}
+use Rattle.vb_monitor.specs.{Notices.{HeadBy, AfterEntry}, Machine.{next_chain, serves, row_bytes}}
+use Rattle.vb_monitor.specs.declared.step.Walk.{Walk}
+use Rattle.vb_monitor.specs.Chains.{TableRow, row_of, no_row, has_descriptor, in_row, so_many_behind}
+use Rattle.vb_monitor.specs.Chains.{unless_apart, behind_in_row, descriptor_of, descriptors, memory_end}
+use Rattle.vb_monitor.specs.Chains.{table_fault, DescriptorBy, GoesOn, AfterDescriptor, AsksRow}
+use Rattle.vb_monitor.specs.Chains.{RowAt, TakesRow, FollowsBy, Follows}
+
+-- what goes on in a row
+abbrev pub Onward : Type 1
+Onward = TableRow → ℕ → Bool → List Piece → List Access → Type 0
+
+abbrev pub Served : Type 1
+Served = List Piece → List Access → Type 0
+
+-- ---- a row is asked for
+
+-- all of it, where it lies in one region
+pub takes_all : (w : Whole) (d : Device) (t : Tally) (on : Onward) (whole : Served)
+    (first behind : ℕ) (writing : Bool) (pieces : List Piece) (at : Spot) (log : List Access) →
+    spot w.regions ((ring_of w.kind d).table + 16 * first) (16 * (behind + 1)) ≡ Some at →
+    AsksRow w d t on whole first behind writing pieces at log →
+    TakesRow w d t on whole first (unless_apart
+    (spot w.regions ((ring_of w.kind d).table + 16 * first) (16 * (behind + 1))) behind) writing
+    pieces log
+takes_all w d t on whole first behind writing pieces at log e h =
+    subst (λ (n : ℕ). TakesRow w d t on whole first n writing pieces log)
+    (sym (ap (λ (o : Option Spot). unless_apart o behind) e))
+    (subst (λ (o : Option Spot). RowAt w d t on whole first behind writing pieces o log) (sym e) h)
+
+-- else its first descriptor alone
+takes_by : (w : Whole) (d : Device) (t : Tally) (on : Onward) (whole : Served)
+    (first behind : ℕ) (writing : Bool) (pieces : List Piece) (o : Option Spot)
+    (log : List Access) →
+    spot w.regions ((ring_of w.kind d).table + 16 * first) (16 * (behind + 1)) ≡ None →
+    spot w.regions ((ring_of w.kind d).table + 16 * first) 16 ≡ o →
+    RowAt w d t on whole first 0 writing pieces o log →
+    TakesRow w d t on whole first (unless_apart
+    (spot w.regions ((ring_of w.kind d).table + 16 * first) (16 * (behind + 1))) behind) writing
+    pieces log
+takes_by w d t on whole first behind writing pieces o log e f h =
+    subst (λ (n : ℕ). TakesRow w d t on whole first n writing pieces log)
+    (sym (ap (λ (o : Option Spot). unless_apart o behind) e))
+    (subst (λ (o : Option Spot). RowAt w d t on whole first 0 writing pieces o log) (sym f) h)
+
+pub takes_one : (w : Whole) (d : Device) (t : Tally) (on : Onward) (whole : Served)
+    (first behind : ℕ) (writing : Bool) (pieces : List Piece) (at : Spot) (log : List Access) →
+    spot w.regions ((ring_of w.kind d).table + 16 * first) (16 * (behind + 1)) ≡ None →
+    spot w.regions ((ring_of w.kind d).table + 16 * first) 16 ≡ Some at →
+    AsksRow w d t on whole first 0 writing pieces at log →
+    TakesRow w d t on whole first (unless_apart
+    (spot w.regions ((ring_of w.kind d).table + 16 * first) (16 * (behind + 1))) behind) writing
+    pieces log
+takes_one w d t on whole first behind writing pieces at log e f h =
+    takes_by w d t on whole first behind writing pieces (Some at) log e f h
+
+-- a chain's first one is
+pub none_of_none : (n : ℕ) → in_row no_row n ≡ None
+none_of_none n = grind (arith, nat_tests)
+
+pub none_in_none : (n : ℕ) (bytes : List ℕ) → in_row no_row n ≡ Some bytes → ⊥
+none_in_none n bytes e = let none = none_of_none n in absurd cc
+
+is_less : (n m : ℕ) → n < m → nat_lt n m ≡ true
+is_less n m lt = grind (arith, nat_tests)
+
+pub first_goes : (w : Whole) (d : Device) (t : Tally) (head : ℕ) (pieces : List Piece)
+    (log : List Access) → head < descriptors (ring_of w.kind d) → pieces ≡ [] →
+    TakesRow w d t (Follows (descriptors (ring_of w.kind d) - 1) w d t (serves w t d head))
+    (serves w t d head) head (unless_apart
+    (spot w.regions ((ring_of w.kind d).table + 16 * head) 16) 0) false pieces log →
+    AfterEntry w (next_chain w t) d t head log
+first_goes w d t head pieces log lt none h =
+    let q = descriptors (ring_of w.kind d) in
+    let is : suc (q - 1) ≡ q = omega (arith, lt) in
+    subst (λ (b : Bool). HeadBy b w (next_chain w t) d t head log) (sym (is_less head q lt))
+    (subst (λ (n : ℕ). Follows n w d t (serves w t d head) no_row head false [] log) is
+    (subst (λ (o : Option (List ℕ)). FollowsBy o w d t (Follows (q - 1) w d t (serves w t d head))
+    (serves w t d head) no_row head false [] log) (sym (none_of_none head))
+    (subst (λ (ps : List Piece). TakesRow w d t (Follows (q - 1) w d t (serves w t d head))
+    (serves w t d head) head (unless_apart
+    (spot w.regions ((ring_of w.kind d).table + 16 * head) 16) 0) false ps log) none h)))
+
+-- another one, with those behind it
+behind_some : (q number : ℕ) (pieces : List Piece) → 0 < length pieces →
+    so_many_behind q number pieces ≡ min 31 (q - (number + 1))
+behind_some q number [] lt = absurd (omega (arith, lt))
+behind_some q number (p ∷ ps) lt = refl
+
+pub next_goes : (w : Whole) (d : Device) (t : Tally) (on : Onward) (whole : Served)
+    (number behind : ℕ) (writing : Bool) (pieces : List Piece) (log : List Access) →
+    0 < length pieces → behind ≡ min 31 (descriptors (ring_of w.kind d) - (number + 1)) →
+    TakesRow w d t on whole number (unless_apart
+    (spot w.regions ((ring_of w.kind d).table + 16 * number) (16 * (behind + 1))) behind) writing
+    pieces log →
+    TakesRow w d t on whole number (behind_in_row w.regions (ring_of w.kind d) number pieces)
+    writing pieces log
+next_goes w d t on whole number behind writing pieces log some is =
+    subst (λ (n : ℕ). TakesRow w d t on whole number (unless_apart
+    (spot w.regions ((ring_of w.kind d).table + 16 * number) (16 * (n + 1))) n) writing
+    pieces log → TakesRow w d t on whole number
+    (behind_in_row w.regions (ring_of w.kind d) number pieces) writing pieces log)
+    (behind_some (descriptors (ring_of w.kind d)) number pieces some ∙ sym is) (λ h. h)
+
+-- ---- a row is walked along
+
+-- a row that was copied has its first one
+has_first : (number n : ℕ) (bytes : List ℕ) → length bytes ≡ 16 * (n + 1) →
+    has_descriptor (row_of number bytes) number ≡ true
+has_first number n bytes e = grind (arith, nat_tests)
+
+zero_less : (n : ℕ) → 16 * (n - n) ≡ 0
+zero_less n = omega arith
+
+pub first_in_row : (number : ℕ) (bytes : List ℕ) (n : ℕ) → length bytes ≡ 16 * (n + 1) →
+    in_row (row_of number bytes) number ≡ Some (take 16 bytes)
+first_in_row number bytes n e =
+    ap (λ (b : Bool). if b then Some (take 16 (drop (16 * (number - number)) bytes)) else None)
+    (has_first number n bytes e)
+    ∙ ap (λ (k : ℕ). Some (take 16 (drop k bytes))) (zero_less number)
+
+-- what a row has
+in_row_by : (row : TableRow) (number : ℕ) (bytes : List ℕ) (has : Bool) →
+    has_descriptor row number ≡ has →
+    (if has then Some (take 16 (drop (16 * (number - row.first)) row.bytes)) else None) ≡ Some bytes
+    → (row.first ≤ number) × (16 * (number - row.first) + 16 ≤ length row.bytes) ×
+    (bytes ≡ take 16 (drop (16 * (number - row.first)) row.bytes))
+in_row_by row number bytes true e f = (grind (arith, nat_tests), grind (arith, nat_tests), cc)
+in_row_by row number bytes false e f = absurd cc
+
+pub in_row_is : (row : TableRow) (number : ℕ) (bytes : List ℕ) → in_row row number ≡ Some bytes →
+    (row.first ≤ number) × (16 * (number - row.first) + 16 ≤ length row.bytes) ×
+    (bytes ≡ take 16 (drop (16 * (number - row.first)) row.bytes))
+in_row_is row number bytes e = in_row_by row number bytes (has_descriptor row number) refl e
+
+pub front_of_row : (walk : Walk) (bytes : List ℕ) →
+    take 16 (take (row_bytes walk) bytes) ≡ take 16 bytes
+front_of_row walk bytes = take-take 16 (row_bytes walk) bytes (omega arith)
+
+-- what comes where a descriptor of these bytes is the next one, and so many were before it
+abbrev pub At : Whole → Device → Tally → ℕ → ℕ → TableRow → ℕ → Bool → List Piece → List ℕ →
+    List Access → Type 0
+At w d t head q row k writing pieces bytes log =
+    AfterDescriptor w d t (Follows (q - (k + 1)) w d t (serves w t d head) row) (serves w t d head)
+    writing pieces bytes log
+
+-- a descriptor was read of its bytes, and tested behind the first of these pieces
+pub record Tested (q end : ℕ) (writing : Bool) (k : ℕ) (ps : List ChainPiece) (bytes : List ℕ)
+    (x : Descriptor) (fault : Option ChainFault) : Type 0 where
+  pub says : x ≡ descriptor_of bytes
+  pub is : table_fault q end writing (length (take k ps)) x ≡ fault
+
+-- what it comes to
+by_fault : (q end : ℕ) (w : Whole) (d : Device) (t : Tally)
+    (on : ℕ → Bool → List Piece → List Access → Type 0) (whole : Served) (writing : Bool) (k : ℕ)
+    (ps : List ChainPiece) (bytes : List ℕ) (x : Descriptor) (o : Option ChainFault)
+    (log : List Access) → Tested q end writing k ps bytes x o →
+    descriptors (ring_of w.kind d) ≡ q → memory_end d ≡ end →
+    DescriptorBy o w d t on whole writing x (pieces_in (take k ps)) log →
+    AfterDescriptor w d t on whole writing (pieces_in (take k ps)) bytes log
+by_fault q end w d t on whole writing k ps bytes x o log tested e f h =
+    let seen = λ (n : ℕ). table_fault q end writing n x in
+    subst (λ (y : Descriptor). DescriptorBy (table_fault (descriptors (ring_of w.kind d))
+    (memory_end d) writing (length (pieces_in (take k ps))) y) w d t on whole writing y
+    (pieces_in (take k ps)) log) tested.says
+    (subst (λ (o : Option ChainFault). DescriptorBy o w d t on whole writing x
+    (pieces_in (take k ps)) log) (sym (ap (λ (n : ℕ). table_fault n (memory_end d) writing
+    (length (pieces_in (take k ps))) x) e ∙ (ap (λ (n : ℕ). table_fault q n writing
+    (length (pieces_in (take k ps))) x) f ∙ (ap seen (length_in (take k ps)) ∙ tested.is)))) h)
+
+-- it breaks a rule; it is the chain's last one; or it names another
+pub breaks_in_row : (q end : ℕ) (w : Whole) (d : Device) (t : Tally) (head : ℕ) (row : TableRow)
+    (writing : Bool) (k : ℕ) (ps : List ChainPiece) (bytes : List ℕ) (x : Descriptor)
+    (fault : ChainFault) (log : List Access) → Tested q end writing k ps bytes x (Some fault) →
+    descriptors (ring_of w.kind d) ≡ q → memory_end d ≡ end → Breaks w d t fault log →
+    At w d t head q row k writing (pieces_in (take k ps)) bytes log
+breaks_in_row q end w d t head row writing k ps bytes x fault log tested e f h =
+    by_fault q end w d t (Follows (q - (k + 1)) w d t (serves w t d head) row) (serves w t d head)
+    writing k ps bytes x (Some fault) log tested e f h
+
+pub ends_in_row : (q end : ℕ) (w : Whole) (d : Device) (t : Tally) (head : ℕ) (row : TableRow)
+    (writing : Bool) (k : ℕ) (ps : List ChainPiece) (more : List Piece) (bytes : List ℕ)
+    (x : Descriptor) (log : List Access) → Tested q end writing k ps bytes x None →
+    has_next x ≡ false → more ≡ pieces_in (take k ps) ++ piece_of x ∷ [] →
+    descriptors (ring_of w.kind d) ≡ q → memory_end d ≡ end → serves w t d head more log →
+    At w d t head q row k writing (pieces_in (take k ps)) bytes log
+ends_in_row q end w d t head row writing k ps more bytes x log tested last is e f h =
+    let on = Follows (q - (k + 1)) w d t (serves w t d head) row in
+    by_fault q end w d t on (serves w t d head) writing k ps bytes x None log tested e f
+    (subst (λ (b : Bool). GoesOn b on (serves w t d head) writing x (pieces_in (take k ps)) log)
+    (sym last) (subst (λ (ps : List Piece). serves w t d head ps log) is h))
+
+-- one that breaks no rule and names another leaves room for it
+room_behind : (q end : ℕ) (writing : Bool) (k : ℕ) (x : Descriptor) →
+    table_fault q end writing k x ≡ None → has_next x ≡ true → k + 1 < q
+room_behind q end writing k x e more = grind (arith, nat_tests)
+
+pub goes_in_row : (q end : ℕ) (w : Whole) (d : Device) (t : Tally) (head : ℕ) (row : TableRow)
+    (writing now : Bool) (k : ℕ) (ps : List ChainPiece) (more : List Piece) (bytes : List ℕ)
+    (x : Descriptor) (o : Option (List ℕ)) (log : List Access) →
+    Tested q end writing k ps bytes x None → has_next x ≡ true →
+    k ≡ length (take k ps) → now ≡ (writing || is_writable x) →
+    more ≡ pieces_in (take k ps) ++ piece_of x ∷ [] →
+    in_row row x.next ≡ o → descriptors (ring_of w.kind d) ≡ q → memory_end d ≡ end →
+    FollowsBy o w d t (Follows (q - (k + 1 + 1)) w d t (serves w t d head)) (serves w t d head) row
+    x.next now more log → At w d t head q row k writing (pieces_in (take k ps)) bytes log
+goes_in_row q end w d t head row writing now k ps more bytes x o log tested next all wr is has e f
+    h =
+    let on = Follows (q - (k + 1)) w d t (serves w t d head) row in
+    let room : length (take k ps) + 1 < q =
+    room_behind q end writing (length (take k ps)) x tested.is next in
+    let one : suc (q - (k + 1 + 1)) ≡ q - (k + 1) = omega (arith, room, all) in
+    by_fault q end w d t on (serves w t d head) writing k ps bytes x None log tested e f
+    (subst (λ (b : Bool). GoesOn b on (serves w t d head) writing x (pieces_in (take k ps)) log)
+    (sym next) (subst (λ (ps : List Piece). on x.next (writing || is_writable x) ps log) is
+    (subst (λ (b : Bool). on x.next b more log) wr
+    (subst (λ (n : ℕ). Follows n w d t (serves w t d head) row x.next now more log) one
+    (subst (λ (o : Option (List ℕ)). FollowsBy o w d t
+    (Follows (q - (k + 1 + 1)) w d t (serves w t d head)) (serves w t d head) row x.next now more
+    log) (sym has) h)))))
+
+-- all pieces were seen, and one more has room
+pub all_seen : (k q : ℕ) (ps : List ChainPiece) → length ps ≡ 256 → length (take k ps) < q →
+    q ≤ 256 → k ≡ length (take k ps)
+all_seen k q ps long lt le = omega (arith, length-take k ps, long, lt, le)
+
+pub one_there : (ps : List Piece) (p : Piece) → 0 < length (ps ++ p ∷ [])
+one_there ps p = let long = length-append ps (p ∷ []) in omega (arith, long)
+
+-- ---- for the functions that go on by them
+
+pub ruleset row_steps = (takes_all, takes_one)
+
+pub ruleset first_steps = (first_goes, none_in)
+
+pub ruleset next_steps = (next_goes)

@@ -1,0 +1,72 @@
+use Rattle.std.proofs.Common.{◌≡◌, ◌∙◌, ◌+◌, ◌-◌, ap, sym, subst, ℕ, List, take}
+use Rattle.vb_core.specs.declared.{device.Device.Device, ring.Virtqueue.Virtqueue}
+use Rattle.vb_core.specs.{Devices.ring_of, Next.pieces_in}
+use Rattle.vb_monitor.specs.declared.{outcome.Outcome.Outcome, rows.RowEnd.RowEnd}
+use Rattle.vb_monitor.specs.{Accesses.Access, Rows.EndsRow}
+use Rattle.vb_monitor.specs.Machine.{whole, serves, room_of, row_in, row_bytes}
+use Rattle.vb_monitor.specs.Chains.{descriptors, row_of, Follows}
+use Rattle.vb_monitor.proofs.TableRowLemmas.{At}
+use Rattle.vb_monitor.proofs.walk.after_descriptor.Goals.{After-walk_row-walked}
+use Rattle.vb_monitor.proofs.walk.after_descriptor.Goals as goal
+
+-- what the walk within the row ends in
+goes : (c : After-walk_row-walked) (after : Device) (outcome : Outcome) (log : List Access) (end : RowEnd)
+    → c.walk_row-walked.result.end ≡ end →
+    EndsRow end (whole c.args.regions.now c.args.kind after outcome) c.args.device.now
+    c.args.tally (Follows (descriptors (ring_of c.args.kind c.args.device.now)
+    - (c.walk_row-walked.result.count + 1)) (whole c.args.regions.now c.args.kind after outcome)
+    c.args.device.now c.args.tally
+    (serves (whole c.args.regions.now c.args.kind after outcome) c.args.tally c.args.device.now
+    c.args.walk.head)) (serves (whole c.args.regions.now c.args.kind after outcome) c.args.tally
+    c.args.device.now c.args.walk.head) c.walk_row-walked.result.writing
+    (pieces_in (take c.walk_row-walked.result.count c.walk_row-walked.new.pieces)) log →
+    At (whole c.args.regions.now c.args.kind after outcome) c.args.device.now c.args.tally
+    c.args.walk.head (descriptors (ring_of c.args.kind c.args.device.now))
+    (row_in c.args.walk c.args.bytes.now) c.args.walk.count c.args.walk.writing
+    (pieces_in (take c.args.walk.count c.args.pieces.now))
+    (take 16 (take (row_bytes c.args.walk) c.args.bytes.now)) log
+goes c after outcome log end is =
+    let w = whole c.args.regions.now c.args.kind after outcome in
+    let d = c.args.device.now in
+    let t = c.args.tally in
+    let walk = c.args.walk in
+    let walked = c.walk_row-walked.result in
+    let ps = pieces_in (take walk.count c.args.pieces.now) in
+    let qs = pieces_in (take walked.count c.walk_row-walked.new.pieces) in
+    let size : c.descriptors-size.result ≡ descriptors (ring_of c.args.kind d) =
+    c.descriptors-size.ensures ∙ ap (λ (r : Virtqueue). descriptors r) c.ring.ensures in
+    let copied : c.first_bytes-row.result.now ≡ take (row_bytes walk) c.args.bytes.now =
+    c.first_bytes-row.ensures ∙ ap (λ (n : ℕ). take n c.args.bytes.now) c.row_bytes.ensures in
+    subst (λ (end : RowEnd). EndsRow end w d t (Follows (descriptors (ring_of c.args.kind d)
+    - (walked.count + 1)) w d t (serves w t d walk.head)) (serves w t d walk.head) walked.writing
+    qs log → At w d t walk.head (descriptors (ring_of c.args.kind d))
+    (row_in walk c.args.bytes.now) walk.count walk.writing ps
+    (take 16 (take (row_bytes walk) c.args.bytes.now)) log) is
+    (subst (λ (n : ℕ). EndsRow walked.end w d t (Follows (n - (walked.count + 1)) w d t
+    (serves w t d walk.head)) (serves w t d walk.head) walked.writing qs log →
+    At w d t walk.head n (row_in walk c.args.bytes.now) walk.count walk.writing ps
+    (take 16 (take (row_bytes walk) c.args.bytes.now)) log) size
+    (subst (λ (row : List ℕ). EndsRow walked.end w d t
+    (Follows (c.descriptors-size.result - (walked.count + 1)) w d t (serves w t d walk.head))
+    (serves w t d walk.head) walked.writing qs log →
+    At w d t walk.head c.descriptors-size.result (row_of walk.first row) walk.count walk.writing ps
+    (take 16 row) log) copied
+    (c.walk_row-walked.ensures.goes w d t log (sym size) (sym c.memory_end-end.ensures))))
+
+pub returns-in-Broken-clause-step : goal.returns-in-Broken-clause-step
+returns-in-Broken-clause-step c after outcome log h =
+    goes (goal.at.returns-in-Broken-clause-step c).After-walk_row-walked after outcome log _ c.in-Broken.is
+    (c.fail.ensures.step after outcome
+    (room_of c.walk_row-walked.new.pieces c.args.bytes.now c.args.runs.now c.args.figures.now) log h)
+
+pub returns-in-Last-clause-step : goal.returns-in-Last-clause-step
+returns-in-Last-clause-step c after outcome log h =
+    goes (goal.at.returns-in-Last-clause-step c).After-walk_row-walked after outcome log _ c.in-Last.is
+    (c.serve_pieces.ensures.step after outcome log h)
+
+pub returns-in-Leaves-clause-step : goal.returns-in-Leaves-clause-step
+returns-in-Leaves-clause-step c after outcome log h =
+    goes (goal.at.returns-in-Leaves-clause-step c).After-walk_row-walked after outcome log _ c.in-Leaves.is
+    (λ some. c.ask_next.ensures.step after outcome
+    (room_of c.walk_row-walked.new.pieces c.args.bytes.now c.args.runs.now c.args.figures.now) log
+    some h)

@@ -1,0 +1,11 @@
+use Rattle.std.proofs.Common.{take}
+use Rattle.vb_core.{specs.Next.pieces_in, proofs.PieceLemmas.none_in}
+use Rattle.vb_monitor.specs.Machine.{whole}
+use Rattle.vb_monitor.proofs.TableRowLemmas.{first_goes}
+use Rattle.vb_monitor.proofs.walk.ask_first.Goals as goal
+
+pub returns-clause-step : goal.returns-clause-step
+returns-clause-step c after outcome room log h =
+    first_goes (whole c.args.regions.now c.args.kind after outcome) c.args.device.now c.args.tally
+    c.args.head (pieces_in (take 0 room.pieces)) log c.requires none_in
+    (c.ask_row.ensures.step after outcome room log h)
