@@ -18,7 +18,7 @@ invariant-loop-fault l = record {
       At w d t l.walk.head l.size (row_of l.walk.first l.row) l.count l.writing
       (pieces_in (take l.count l.pieces)) (take 16 (drop l.into l.row)) log →
       At w d t l.walk.head l.size (row_of l.walk.first l.row) l.walk.count l.walk.writing
-      (pieces_in (take l.walk.count l.initial.pieces)) (take 16 l.row) log
+      (pieces_in (take l.walk.count l.initial.pieces)) (take 16 l.row) log;
 }
 
 abbrev pub decreases-loop-fault : goal.decreases-loop-fault
