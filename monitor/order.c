@@ -15,7 +15,8 @@ static void note_fence(int order);
 enum { SIZE = 8, PAGES = 32, MOST_TOUCHES = 4096, TRAP_FLAG = 0x100, WRITE_FAULT = 2 };
 
 /* The parts lie so that ring indices stand on other pages than the entries. */
-static const uint64_t AVAIL = 0x1ffc, TABLE = 0x4000, USED = 0x6ffc, BUFFER = 0x8ffd, NAMED = 16;
+static const uint64_t AVAIL = 0x1ffc, USED = 0x6ffc, BUFFER = 0x8ffd, NAMED = 16, BORDER = 0x5000;
+static uint64_t table = 0x4000;
 
 enum what { INDEX, ENTRY, DESCRIPTOR, BYTES, TOLD, FIGURES, DISCARD, ELEMENT, USED_INDEX, FLAGS, FENCE, OTHER };
 static const char *const WORDS[] = { "index", "entry", "descriptor", "bytes", "told", "figures", "discard", "element", "used index",
@@ -37,8 +38,8 @@ static struct touch part_of(uint64_t address, bool write)
         return (struct touch){ FLAGS, 0, write };
     if (address >= AVAIL + 4 && address < AVAIL + 4 + 2 * SIZE)
         return (struct touch){ ENTRY, (address - AVAIL - 4) / 2, write };
-    if (address >= TABLE && address < TABLE + 16 * SIZE)
-        return (struct touch){ DESCRIPTOR, (address - TABLE) / 16, write };
+    if (address >= table && address < table + 16 * SIZE)
+        return (struct touch){ DESCRIPTOR, (address - table) / 16, write };
     if (address >= BUFFER && address < BUFFER + VB_MAX_BYTES)
         return (struct touch){ BYTES, 0, write };
     if (address >= USED + 4 && address < USED + 4 + 8 * SIZE)
@@ -120,21 +121,30 @@ static void put_bytes(uint64_t address, uint64_t value, size_t bytes)
     memcpy(memory + address, &value, bytes);
 }
 
-/* A ready device of these kinds, each with its queue at the one place. */
-static void begin(uint32_t kind)
+/* A ready device of these kinds, each with its queue at the one place, in one region or two. */
+static void begin(uint32_t kind, uint32_t count)
 {
-    static struct balloon_region region;
+    static struct balloon_region regions[2];
     struct balloon_result result;
     memset(memory, 0, PAGES * 4096);
-    region = (struct balloon_region){ 0, PAGES * 4096, memory, BALLOON_PRIVATE, 0, 0 };
-    EXPECT(balloon_init(&balloon, &region, 1, (VbSettings){ .offered = LINUX_FEATURES }) == VB_OK);
+    regions[0] = (struct balloon_region){ 0, count == 1 ? PAGES * 4096 : BORDER, memory, BALLOON_PRIVATE, 0, 0 };
+    regions[1] = (struct balloon_region){ BORDER, PAGES * 4096 - BORDER, memory + BORDER, BALLOON_PRIVATE, 0, 0 };
+    EXPECT(balloon_init(&balloon, regions, count, (VbSettings){ .offered = LINUX_FEATURES }) == VB_OK);
     balloon.discard = discard;
     balloon.on_pages = be_told;
     balloon.on_statistics = hear;
     EXPECT(balloon_write_status(&balloon, 1, &result) == 0 && balloon_write_status(&balloon, 3, &result) == 0);
     EXPECT(balloon_negotiate(&balloon, LINUX_FEATURES) == 0 && balloon_write_status(&balloon, 11, &result) == 0);
-    EXPECT(balloon_place(&balloon, kind, TABLE, AVAIL, USED, SIZE) == VB_OK);
+    EXPECT(balloon_place(&balloon, kind, table, AVAIL, USED, SIZE) == VB_OK);
     EXPECT(balloon_write_status(&balloon, 15, &result) == 0);
+}
+
+static void put_descriptor(uint64_t number, uint64_t address, uint64_t length, uint64_t flags, uint64_t next)
+{
+    put_bytes(table + 16 * number, address, 8);
+    put_bytes(table + 16 * number + 8, length, 4);
+    put_bytes(table + 16 * number + 12, flags, 2);
+    put_bytes(table + 16 * number + 14, next, 2);
 }
 
 /* A chain of two pieces, one behind the other; 20 bytes, or a page and a page. */
@@ -143,14 +153,18 @@ static void offer(uint32_t kind)
     const bool report = kind == VB_REPORT;
     for (uint32_t i = 0; i < 5; i++)
         put_bytes(BUFFER + 4 * i, NAMED + 2 * i, 4);
-    put_bytes(TABLE + 16 * 3, report ? NAMED * 4096 : BUFFER, 8);
-    put_bytes(TABLE + 16 * 3 + 8, report ? 4096 : 13, 4);
-    put_bytes(TABLE + 16 * 3 + 12, report ? NEXT | WRITE : NEXT, 2);
-    put_bytes(TABLE + 16 * 3 + 14, 6, 2);
-    put_bytes(TABLE + 16 * 6, report ? (NAMED + 5) * 4096 : BUFFER + 13, 8);
-    put_bytes(TABLE + 16 * 6 + 8, report ? 4096 : 7, 4);
-    put_bytes(TABLE + 16 * 6 + 12, report ? WRITE : 0, 2);
+    put_descriptor(3, report ? NAMED * 4096 : BUFFER, report ? 4096 : 13, report ? NEXT | WRITE : NEXT, 6);
+    put_descriptor(6, report ? (NAMED + 5) * 4096 : BUFFER + 13, report ? 4096 : 7, report ? WRITE : 0, 0);
     put_bytes(AVAIL + 4, 3, 2);
+    put_bytes(AVAIL + 2, 1, 2);
+}
+
+/* A report of the pages from NAMED on, by the descriptors of these numbers, each of which names the next one. */
+static void offer_chain(const uint16_t *numbers, uint32_t count)
+{
+    for (uint32_t i = 0; i < count; i++)
+        put_descriptor(numbers[i], (NAMED + i) * 4096, 4096, WRITE | (i + 1 < count ? NEXT : 0), i + 1 < count ? numbers[i + 1] : 0);
+    put_bytes(AVAIL + 4, numbers[0], 2);
     put_bytes(AVAIL + 2, 1, 2);
 }
 
@@ -177,8 +191,11 @@ static void expect_touches(const struct touch *expected)
 }
 
 enum { READS = false, WRITES = true };
-#define NEXT_TAKEN(entry) { FENCE, __ATOMIC_ACQUIRE, READS }, { ENTRY, entry, READS }, { DESCRIPTOR, 3, READS }, \
-    { DESCRIPTOR, 6, READS }
+#define ENTERED_AT(entry) { FENCE, __ATOMIC_ACQUIRE, READS }, { ENTRY, entry, READS }
+#define ENTERED { INDEX, 0, READS }, ENTERED_AT(0)
+#define COPIED(number) { DESCRIPTOR, number, READS }
+/* The first descriptor alone, then the one that it names with all behind it. */
+#define NEXT_TAKEN(entry) ENTERED_AT(entry), COPIED(3), COPIED(6), COPIED(7)
 #define TAKEN { INDEX, 0, READS }, NEXT_TAKEN(0)
 #define GIVEN_AT(number) { ELEMENT, 2 * (number), WRITES }, { ELEMENT, 2 * (number) + 1, WRITES }, \
     { FENCE, __ATOMIC_RELEASE, READS }, { USED_INDEX, 0, WRITES }
@@ -197,7 +214,7 @@ static struct balloon_result notify(uint32_t kind)
 
 static void serve(uint32_t kind, bool keeps)
 {
-    begin(kind);
+    begin(kind, 1);
     balloon.keeps_pages = keeps;
     offer(kind);
     struct balloon_result result = notify(kind);
@@ -261,7 +278,7 @@ static void publish_third(void *context, uint32_t kind, const VbRun *runs, uint3
 /* The index is read once: two chains that stand there are served, and the third by the next kick. */
 static void the_index_is_read_once(void)
 {
-    begin(VB_DEFLATE);
+    begin(VB_DEFLATE, 1);
     offer(VB_DEFLATE);
     for (uint64_t i = 1; i < 3; i++)
         put_bytes(AVAIL + 4 + 2 * i, 3, 2);
@@ -278,6 +295,45 @@ static void the_index_is_read_once(void)
         { INDEX, 0, READS }, NEXT_TAKEN(2), { BYTES, 0, READS }, { TOLD, VB_DEFLATE, READS }, GIVEN_AT(2), ASKED });
 }
 
+/* Descriptors in a row: the first alone, then the others at once, with what stands behind them in the table. */
+static void a_chain_in_a_row_is_copied_at_once(void)
+{
+    begin(VB_REPORT, 1);
+    offer_chain((const uint16_t[]){ 3, 4, 5 }, 3);
+    notify(VB_REPORT);
+    expect_touches((const struct touch[]){
+        ENTERED, COPIED(3), COPIED(4), COPIED(5), COPIED(6), COPIED(7), { TOLD, VB_REPORT, READS }, { DISCARD, NAMED, WRITES },
+        { DISCARD, NAMED + 1, WRITES }, { DISCARD, NAMED + 2, WRITES }, GIVEN, ASKED });
+}
+
+/* 6 is in the row from 2 on, and 1 isn't: it is copied, with all behind it once more. */
+static void a_jump_out_of_a_row_is_copied_again(void)
+{
+    begin(VB_REPORT, 1);
+    offer_chain((const uint16_t[]){ 5, 2, 6, 3, 1 }, 5);
+    notify(VB_REPORT);
+    expect_touches((const struct touch[]){
+        ENTERED, COPIED(5), COPIED(2), COPIED(3), COPIED(4), COPIED(5), COPIED(6), COPIED(7), COPIED(1), COPIED(2), COPIED(3),
+        COPIED(4), COPIED(5), COPIED(6), COPIED(7), { TOLD, VB_REPORT, READS }, { DISCARD, NAMED, WRITES },
+        { DISCARD, NAMED + 1, WRITES }, { DISCARD, NAMED + 2, WRITES }, { DISCARD, NAMED + 3, WRITES },
+        { DISCARD, NAMED + 4, WRITES }, GIVEN, ASKED });
+}
+
+/* Descriptors 0 to 3 lie in one region, the others in the next one. Discards are told by their place in the second region. */
+static void a_row_over_two_regions_is_copied_one_by_one(void)
+{
+    const uint64_t kept = table, first = NAMED - BORDER / 4096;
+    table = BORDER - 4 * 16;
+    begin(VB_REPORT, 2);
+    offer_chain((const uint16_t[]){ 0, 1, 2, 5, 6 }, 5);
+    notify(VB_REPORT);
+    expect_touches((const struct touch[]){
+        ENTERED, COPIED(0), COPIED(1), COPIED(2), COPIED(5), COPIED(6), COPIED(7), { TOLD, VB_REPORT, READS },
+        { DISCARD, first, WRITES }, { DISCARD, first + 1, WRITES }, { DISCARD, first + 2, WRITES }, { DISCARD, first + 3, WRITES },
+        { DISCARD, first + 4, WRITES }, GIVEN, ASKED });
+    table = kept;
+}
+
 int main(void)
 {
     struct sigaction fault = { .sa_sigaction = on_fault, .sa_flags = SA_SIGINFO };
@@ -291,6 +347,9 @@ int main(void)
     pages_may_be_kept();
     statistics_are_in_order();
     the_index_is_read_once();
+    a_chain_in_a_row_is_copied_at_once();
+    a_jump_out_of_a_row_is_copied_again();
+    a_row_over_two_regions_is_copied_one_by_one();
     puts("ok  each access, fence, word to the monitor and discard stands in its order, once");
     return 0;
 }

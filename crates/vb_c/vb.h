@@ -114,7 +114,8 @@ enum {                          /* what is to be done: `what` of a notice, in th
     VB_ACQUIRE = 16,            /* an acquire fence */
     VB_FULL_FENCE = 32,         /* a full fence */
     VB_READ = 64,               /* read the word of 16 bits that stands `at`, by one access: that is the answer */
-    VB_COPY = 128,              /* copy `length` bytes that stand `at` to bytes + into of the room, each read once */
+    VB_COPY = 128,              /* copy `length` bytes that stand `at` to bytes + into of the room, each read once: one or up
+                                   to 32 descriptors of a queue's table (16 bytes each), or bytes of a chain's piece */
 };
 enum { VB_LOOK = 1, VB_EMPTY = 2 };     /* what a write of the status asks for */
 

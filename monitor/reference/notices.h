@@ -1,7 +1,7 @@
 /* Notices of vb.h in plain C, a part of reference.c: a look at a queue, and a chain. As much at once as the order of the bits
  * allows, as the library has it; and one thing at a time where it explains what the library says (REFERENCE_NAMES). */
 
-enum { SIXTEEN = 16 };
+enum { SIXTEEN = 16, MOST_IN_ROW = 32 };
 #ifdef REFERENCE_NAMES
 enum { GROUPS = false, MOST_AT_ONCE = 1 };
 #else
@@ -99,13 +99,22 @@ static uint32_t after_index(const Call *call, uint16_t index)
 
 /* ---- a chain */
 
-static uint32_t ask_descriptor(const Call *call, uint16_t number)
+/* Asks for the descriptor of this number: a chain's first alone, and another one with those that stand behind it in the table, as
+ * many as a row has, where one region has them all. `number` is the first of the copy, `from` how many it has. */
+static uint32_t ask_row(const Call *call, uint16_t number)
 {
     VbNotice *notice = call->notice;
-    if (!find_spot(call, call->queue->table + SIXTEEN * (uint64_t)number, SIXTEEN, &notice->at))
-        return fail(call, OUT_OF_MEMORY);
-    notice->length = SIXTEEN;
+    const uint64_t address = call->queue->table + SIXTEEN * (uint64_t)number;
+    uint32_t left = (uint32_t)call->queue->size - number, many = notice->count == 0 ? 1 : left < MOST_IN_ROW ? left : MOST_IN_ROW;
+    if (!find_spot(call, address, SIXTEEN * (uint64_t)many, &notice->at)) {
+        many = 1;
+        if (!find_spot(call, address, SIXTEEN, &notice->at))
+            return fail(call, OUT_OF_MEMORY);
+    }
+    notice->length = SIXTEEN * many;
     notice->into = 0;
+    notice->number = number;
+    notice->from = many;
     return wait_for(call, AT_DESCRIPTOR, VB_COPY);
 }
 
@@ -116,7 +125,7 @@ static uint32_t after_entry(const Call *call, uint16_t head)
     call->notice->head = head;
     call->notice->count = 0;
     call->notice->flag = 0;
-    return ask_descriptor(call, head);
+    return ask_row(call, head);
 }
 
 static uint32_t serve_bytes(const Call *call);
@@ -186,17 +195,24 @@ static uint32_t serve_chain(const Call *call)
     return ask_part(call);
 }
 
-static uint32_t after_descriptor(const Call *call)
+/* The walk goes on in the copy for as long as it has the next descriptor. */
+static uint32_t after_row(const Call *call)
 {
     VbNotice *notice = call->notice;
-    Descriptor it = descriptor_at(call->room->bytes, 0);
-    uint32_t rule = notice->count >= call->queue->size ? (uint32_t)TOO_LONG
-        : broken_rule(&call->balloon->device, call->queue->size, &it, notice->count, notice->flag);
-    if (rule)
-        return fail(call, rule);
-    notice->flag = (it.flags & 2) != 0;
-    call->room->pieces[notice->count++] = (VbPiece){ it.address, it.length, notice->flag };
-    if (!(it.flags & 1))
-        return serve_chain(call);
-    return notice->count >= call->queue->size ? fail(call, TOO_LONG) : ask_descriptor(call, it.next);
+    for (size_t place = 0;;) {
+        Descriptor it = descriptor_at(call->room->bytes, (uint32_t)place);
+        uint32_t rule = notice->count >= call->queue->size ? (uint32_t)TOO_LONG
+            : broken_rule(&call->balloon->device, call->queue->size, &it, notice->count, notice->flag);
+        if (rule)
+            return fail(call, rule);
+        notice->flag = (it.flags & 2) != 0;
+        call->room->pieces[notice->count++] = (VbPiece){ it.address, it.length, notice->flag };
+        if (!(it.flags & 1))
+            return serve_chain(call);
+        if (notice->count >= call->queue->size)
+            return fail(call, TOO_LONG);
+        if (it.next < notice->number || it.next - notice->number >= notice->from)
+            return ask_row(call, it.next);
+        place = it.next - notice->number;
+    }
 }

@@ -126,7 +126,7 @@ static uint32_t step(const Call *call, uint16_t answer)
     case AT_INDEX: return after_index(call, answer);
     case AT_ENTRY: return wait_for(call, AT_WORD, VB_READ);
     case AT_WORD: return after_entry(call, answer);
-    case AT_DESCRIPTOR: return notice->count < VB_MAX_PIECES ? after_descriptor(call) : stop(call, VB_BAD_ARGUMENT);
+    case AT_DESCRIPTOR: return notice->from <= VB_MAX_BYTES / SIXTEEN ? after_row(call) : stop(call, VB_BAD_ARGUMENT);
     case AT_PART: return after_part(call);
     case AT_TOLD: case AT_CUT: return ask_cut(call);
     case AT_FIGURES: return end(call, VB_NOTHING);

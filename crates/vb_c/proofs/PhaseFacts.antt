@@ -6,12 +6,12 @@ use Rattle.vb_core.specs.declared.device.Denial.TheVariants.{NoQueue, BadArgumen
 use Rattle.vb_monitor.specs.declared.{regions.Spot.Spot, outcome.Tally.Tally}
 use Rattle.vb_monitor.specs.declared.{outcome.Outcome.Outcome, orders.Orders.Orders}
 use Rattle.vb_monitor.specs.declared.orders.Told.TheVariants.{Nothing, Pages}
-use Rattle.vb_monitor.specs.declared.{notice.Notice.Notice, step.Phase.Phase}
+use Rattle.vb_monitor.specs.declared.{notice.Notice.Notice, step.{Phase.Phase, Walk.Walk}}
 use Rattle.vb_monitor.specs.declared.step.Phase.TheVariants.{AwaitsIndex, AwaitsEntry}
 use Rattle.vb_monitor.specs.declared.step.Phase.TheVariants.{AwaitsDescriptor, AwaitsPart, Discards}
 use Rattle.vb_monitor.specs.declared.step.Phase.TheVariants.{AwaitsFlags, Ended}
 use Rattle.vb_c.specs.{declared.notice.VbNotice.VbNotice, Codes.code_of_kind, Notices.tally_of}
-use Rattle.vb_c.specs.Notices.{phase_of, notice_of, end_code, end_rule, breaks, SaysEnd, Says}
+use Rattle.vb_c.specs.Notices.{walk_of, phase_of, notice_of, end_code, end_rule, breaks, SaysEnd, Says}
 use Rattle.vb_c.specs.{Notices.{IsNotice, HasEnded}, Serving.{held_by, held_then}}
 use Rattle.vb_c.proofs.Samples.{Same, balloon}
 
@@ -70,7 +70,7 @@ each_phase : map waits_at (0 ∷ 1 ∷ 2 ∷ 3 ∷ 4 ∷ 5 ∷ 6 ∷ 7 ∷ []) �
     Some (Ended (Some (Broken TooLong)) true false)
     ∷ Some (AwaitsIndex spot)
     ∷ Some (AwaitsEntry spot)
-    ∷ Some (AwaitsDescriptor spot (record { head = 11; count = 12; writing = true }))
+    ∷ Some (AwaitsDescriptor spot (record { head = 11; count = 12; writing = true; first = 5; behind = 6 }))
     ∷ Some (AwaitsPart spot (record { head = 11; count = 12; piece = 5; is_second = true; into = 3; length = 4 }))
     ∷ Some (AwaitsFlags spot (Some (Broken TooLong)) false)
     ∷ Some (Discards (record { region = 1; offset = 0x102; in_file = 7; length = 8 })
@@ -125,14 +125,31 @@ tells_nothing h = let e : Same 64 65 = h.what in omega arith
 of_another_kind : IsNotice notice (record { told = Nothing; gives = false }) (record at_index { kind = Statistics }) → ⊥
 of_another_kind h = let e : Same 0 2 = ap kind_in h.read in omega arith
 
--- 16 bytes of a descriptor, in front
-descriptor_elsewhere : Says (record notice { length = 16 }) (tally_of notice)
-    (AwaitsDescriptor spot (record { head = 11; count = 12; writing = true })) → ⊥
+-- 16 bytes of each descriptor, in front
+abbrev walk : ℕ → Walk
+walk behind = record { head = 11; count = 12; writing = true; first = 5; behind = behind }
+
+seven_descriptors : Says (record notice { length = 112; into = 0 }) (tally_of notice) (AwaitsDescriptor spot (walk 6))
+seven_descriptors = (refl, refl)
+
+descriptor_elsewhere : Says (record notice { length = 16 }) (tally_of notice) (AwaitsDescriptor spot (walk 0)) → ⊥
 descriptor_elsewhere h = let e : Same 3 0 = h.0 in omega arith
 
-half_a_descriptor : Says (record notice { length = 8; into = 0 }) (tally_of notice)
-    (AwaitsDescriptor spot (record { head = 11; count = 12; writing = true })) → ⊥
+half_a_descriptor : Says (record notice { length = 8; into = 0 }) (tally_of notice) (AwaitsDescriptor spot (walk 0)) → ⊥
 half_a_descriptor h = let e : Same 8 16 = h.1 in omega arith
+
+one_too_few : Says (record notice { length = 96; into = 0 }) (tally_of notice) (AwaitsDescriptor spot (walk 6)) → ⊥
+one_too_few h = let e : Same 96 112 = h.1 in omega arith
+
+-- a row that has no room is read as one that just has, and its first number has 16 bits
+as_many_as_fit : walk_of (record notice { from = 64 }) ≡ walk 63
+as_many_as_fit = refl
+
+just_as_many : walk_of (record notice { from = 63 }) ≡ walk 63
+just_as_many = refl
+
+of_sixteen_bits : (walk_of (record notice { number = 0x10000 })).first ≡ 0xffff
+of_sixteen_bits = refl
 
 -- ---- its end
 

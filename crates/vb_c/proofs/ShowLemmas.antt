@@ -1,6 +1,8 @@
 -- What is shown of a denial is read back.
-use Rattle.std.proofs.Common.{◌≡◌, refl, ℕ, Bool, true, false, Option, Some, None}
-use Rattle.std.specs.Prelude.{if◌then◌else◌}
+use Rattle.std.proofs.Common.{◌≡◌, ◌∙◌, ap, refl, arith, ℕ, ◌<◌, ◌≤◌, Bool, true, false, Option, Some}
+use Rattle.std.{proofs.Common.None, specs.Prelude.{min, if◌then◌else◌}}
+use Rattle.vb_monitor.specs.{declared.step.Walk.Walk, Machine.row_bytes}
+use Rattle.vb_monitor.specs.declared.room.TheConstants.{MAX_BYTES}
 use Rattle.vb_chain.specs.declared.fault.ChainFault.TheVariants.{BadHead, BadNext, TooLong}
 use Rattle.vb_chain.specs.declared.fault.ChainFault.TheVariants.{Indirect, WrongDirection, OutOfRam}
 use Rattle.vb_chain.specs.declared.fault.ChainFault.TheVariants.{IndexJump, BadLength, BadPage}
@@ -45,3 +47,15 @@ end_back (Some why) tally = some_back why
 end_back None tally = none_back tally.given tally.held
 
 pub ruleset show_steps = (why_back, end_back)
+
+-- a row that has room
+min_same : (a n : ℕ) → a ≤ n → min a n ≡ a
+min_same a n le = omega (arith, le)
+
+pub row_back : (walk : Walk) → walk.first < 65536 → row_bytes walk ≤ MAX_BYTES →
+    (record walk { first = min walk.first 0xffff; behind = min walk.behind 63 }) ≡ walk
+row_back walk lt fits =
+    let first = min_same walk.first 0xffff (omega (arith, lt)) in
+    let behind = min_same walk.behind 63 (omega (arith, fits)) in
+    ap (λ (n : ℕ). record walk { first = n; behind = min walk.behind 63 }) first
+    ∙ ap (λ (n : ℕ). record walk { behind = n }) behind

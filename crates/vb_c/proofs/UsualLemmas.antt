@@ -1,7 +1,7 @@
 -- Notices that go on as they mostly do.
 use Rattle.std.proofs.Common.{◌≡◌, ◌∙◌, ap, sym, subst, refl, arith, ℕ, ◌+◌, ◌≤◌, Bool, true, false}
 use Rattle.std.proofs.Common.{List, ◌++◌, map, take, Option, Some, None}
-use Rattle.std.{specs.Prelude.{◌==◌, nat_le, if◌then◌else◌}, proofs.lemmas.Bool.Decides.nat_tests}
+use Rattle.std.{specs.Prelude.{◌==◌, nat_le, if◌then◌else◌, IfSome}, proofs.lemmas.Bool.Decides.nat_tests}
 use Rattle.vb_monitor.specs.declared.step.Phase.TheVariants.{AwaitsIndex, AwaitsEntry}
 use Rattle.vb_monitor.specs.declared.step.Phase.TheVariants.{AwaitsDescriptor, AwaitsPart, Discards}
 use Rattle.vb_monitor.specs.{declared.step.Phase.TheVariants.{AwaitsFlags, Ended}, Machine.Fits}
@@ -21,8 +21,9 @@ use Rattle.vb_c.{specs.declared.notice.VbNotice.VbNotice, specs.declared.notice.
 use Rattle.vb_c.{specs.Codes.{kind_of_code, why_of}, specs.Notices.what_of}
 use Rattle.vb_c.specs.Serving.{held_by, room_in, HandsOver, Begins, GoesOnBy}
 use Rattle.vb_chain.specs.declared.{descriptor.TheConstants.DESCRIPTOR_SIZE, pieces.Piece.Piece}
-use Rattle.vb_monitor.specs.{Ends.Whole, Machine.Copies, declared.regions.Spot.Spot}
-use Rattle.vb_monitor.specs.{Chains.{AfterDescriptor, AsksDescriptor}, Pieces.AsksPart}
+use Rattle.vb_monitor.specs.{Ends.Whole, Machine.{Copies, row_bytes, row_in}, Pieces.AsksPart}
+use Rattle.vb_monitor.specs.Chains.{TableRow, row_of, AfterDescriptor, AsksRow}
+use Rattle.vb_monitor.specs.declared.{regions.Spot.Spot, step.Walk.Walk}
 
 -- the phase of this number
 abbrev numbered : ℕ → VbNotice → Option Phase
@@ -171,23 +172,69 @@ word_shown (Flags at) = record {
   over = λ t kind b. refl;
 }
 
+-- ---- what is read has room
+
+row_fits : (c : VbNotice) → row_bytes (walk_of c) ≤ MAX_BYTES
+row_fits c = omega arith
+
+has_room : (c : VbNotice) → nat_le (c.into + c.length) MAX_BYTES ≡ true →
+    c.into + c.length ≤ MAX_BYTES
+has_room c e = grind (arith, nat_tests)
+
+part_has : (c : VbNotice) (b : Bool) → nat_le (c.into + c.length) MAX_BYTES ≡ b →
+    IfSome (if b then Some (AwaitsPart c.at (place_of c)) else None) Fits
+part_has c true e = has_room c e
+part_has c false e = tt
+
+phase_by : (c : VbNotice) (is0 is1 is2 is3 is4 is5 is6 : Bool) → IfSome
+    (if is0 then Some (Ended (why_of c.code c.rule) (says_yes c.interrupt) (says_yes c.more))
+    else if is1 then Some (AwaitsIndex c.at) else if is2 then Some (AwaitsEntry c.at)
+    else if is3 then Some (AwaitsDescriptor c.at (walk_of c)) else if is4 then part_of c
+    else if is5 then Some (AwaitsFlags c.at (why_of c.code c.rule) (says_yes c.more))
+    else if is6 then Some (Discards (cut_of_notice c) (discarding_of c)) else None) Fits
+phase_by c true is1 is2 is3 is4 is5 is6 = tt
+phase_by c false true is2 is3 is4 is5 is6 = tt
+phase_by c false false true is3 is4 is5 is6 = tt
+phase_by c false false false true is4 is5 is6 = row_fits c
+phase_by c false false false false true is5 is6 = part_has c _ refl
+phase_by c false false false false false true is6 = tt
+phase_by c false false false false false false true = tt
+phase_by c false false false false false false false = tt
+
+by_phase : (k : Option Kind) (o : Option Phase) (t : Tally) (n : Notice) → IfSome o Fits →
+    notice_by k o t ≡ Some n → Fits n.step.phase
+by_phase None o t n h e = absurd cc
+by_phase (Some kind) None t n h e = absurd cc
+by_phase (Some kind) (Some p) t n h e =
+    let same : (record { kind = kind; step = record { tally = t; phase = p } }) ≡ n = cc in
+    subst (λ (m : Notice). Fits m.step.phase) same h
+
+pub read_fits : (c : VbNotice) (n : Notice) → notice_of c ≡ Some n → Fits n.step.phase
+read_fits c n e = by_phase (kind_of_code c.kind) (phase_of c) (tally_of c) n (phase_by c
+    (c.phase == 0) (c.phase == 1) (c.phase == 2) (c.phase == 3) (c.phase == 4) (c.phase == 5)
+    (c.phase == 6)) e
+
 -- ---- what was copied
 
--- the descriptor was, and what it says comes next
-pub copied_descriptor : (w : Whole) (d : Device) (t : Tally)
-    (on : ℕ → Bool → List Piece → List Access → Type 0) (done_with : List Piece → List Access → Type 0)
-    (writing : Bool) (pieces : List Piece) (at : Spot) (before now : List ℕ)
-    (done rest : List Access) → Copies at 0 DESCRIPTOR_SIZE before now done →
-    AfterDescriptor w d t on done_with writing pieces (take DESCRIPTOR_SIZE now) rest →
-    AsksDescriptor w d t on done_with writing pieces at (done ++ rest)
-copied_descriptor w d t on done_with writing pieces at before now done rest does h = record {
-  bytes = does.bytes;
-  rest = rest;
-  asks = ap (λ (l : List Access). l ++ rest) does.asks;
-  long = does.long;
-  goes_on = subst (λ (bytes : List ℕ).
-      AfterDescriptor w d t on done_with writing pieces bytes rest) does.behind h;
-}
+-- a row of descriptors was, and what its first one says comes next
+pub copied_row : (w : Whole) (d : Device) (t : Tally)
+    (on : TableRow → ℕ → Bool → List Piece → List Access → Type 0)
+    (done_with : List Piece → List Access → Type 0) (walk : Walk) (pieces : List Piece) (at : Spot)
+    (before now : List ℕ) (done rest : List Access) → Copies at 0 (row_bytes walk) before now done →
+    AfterDescriptor w d t (on (row_in walk now)) done_with walk.writing pieces
+    (take DESCRIPTOR_SIZE (take (row_bytes walk) now)) rest →
+    AsksRow w d t on done_with walk.first walk.behind walk.writing pieces at (done ++ rest)
+copied_row w d t on done_with walk pieces at before now done rest does h =
+    let all : row_bytes walk ≡ 0 + row_bytes walk = omega arith in
+    record {
+      bytes = does.bytes;
+      rest = rest;
+      asks = ap (λ (l : List Access). l ++ rest) does.asks;
+      long = does.long;
+      goes_on = subst (λ (bytes : List ℕ). AfterDescriptor w d t (on (row_of walk.first bytes))
+          done_with walk.writing pieces (take 16 bytes) rest)
+          (ap (λ (n : ℕ). take n now) all ∙ does.behind) h;
+    }
 
 -- the part of a piece was, and all that is copied comes next
 pub copied_part : (on : List ℕ → List Access → Type 0) (at : Spot) (from len : ℕ)

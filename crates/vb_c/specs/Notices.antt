@@ -1,7 +1,8 @@
 -- A notice as C keeps it: which notice it is, and what else it says.
-use Rattle.std.specs.Prelude.{◌≡◌, ℕ, ◌+◌, ◌*◌, Bool, true, false, not, ◌==◌, nat_le}
+use Rattle.std.specs.Prelude.{◌≡◌, ℕ, ◌+◌, ◌-◌, ◌*◌, ◌/◌, min, Bool, true, false, not, ◌==◌, nat_le}
 use Rattle.std.specs.Prelude.{if◌then◌else◌, Option, Some, None}
 use Rattle.vb_model.specs.Tests.{one_if}
+use Rattle.vb_chain.specs.declared.descriptor.TheConstants.{DESCRIPTOR_SIZE}
 use Rattle.vb_core.specs.declared.kinds.Kind.{Kind}
 use Rattle.vb_core.specs.declared.device.Denial.{Denial}
 use Rattle.vb_core.specs.declared.device.Denial.TheVariants.{NoQueue, BadArgument, NotReady}
@@ -21,6 +22,7 @@ use Rattle.vb_monitor.specs.declared.step.Phase.TheVariants.{AwaitsDescriptor, A
 use Rattle.vb_monitor.specs.declared.step.Phase.TheVariants.{TellsPages, TellsFigures, Discards}
 use Rattle.vb_monitor.specs.declared.step.Phase.TheVariants.{GivesBack, AwaitsFlags, Ended}
 use Rattle.vb_monitor.specs.declared.notice.Notice.{Notice}
+use Rattle.vb_monitor.specs.Machine.{row_bytes}
 use Rattle.vb_c.specs.declared.notice.VbNotice.{VbNotice}
 use Rattle.vb_c.specs.Codes.{code_of, rule_in, why_of, kind_of_code}
 
@@ -40,8 +42,15 @@ tally_of c = record {
   published = c.published;
 }
 
+-- The row that is copied begins with a descriptor's number, which has 16 bits, and has room.
 abbrev pub walk_of : VbNotice → Walk
-walk_of c = record { head = c.head; count = c.count; writing = says_yes c.flag }
+walk_of c = record {
+  head = c.head;
+  count = c.count;
+  writing = says_yes c.flag;
+  first = min c.number 0xffff;
+  behind = min c.from (MAX_BYTES / DESCRIPTOR_SIZE - 1);
+}
 
 abbrev pub place_of : VbNotice → Place
 place_of c = record {
@@ -133,7 +142,7 @@ pub record SaysEnd (c : VbNotice) (tally : Tally) (why : Option Denial) (interru
 abbrev pub Says : VbNotice → Tally → Phase → Type 0
 Says c tally (AwaitsIndex at) = Unit {0}
 Says c tally (AwaitsEntry at) = Unit {0}
-Says c tally (AwaitsDescriptor at walk) = (c.into ≡ 0) × (c.length ≡ 16)
+Says c tally (AwaitsDescriptor at walk) = (c.into ≡ 0) × (c.length ≡ row_bytes walk)
 Says c tally (AwaitsPart at place) = Unit {0}
 Says c tally (TellsPages head named) = Unit {0}
 Says c tally (TellsFigures head count) = Unit {0}

@@ -7,7 +7,7 @@ ghost use Rattle.vb_c.specs.Notices.{tally_of, walk_of, place_of, discarding_of,
 ghost use Rattle.vb_c.specs.Notices.{part_of, phase_of, notice_of};
 
 use crate::answers::kind_of_code;
-use vb_chain::ChainFault;
+use vb_chain::{ChainFault, DESCRIPTOR_SIZE};
 use vb_core::{ChainPiece, Denial, Run, Statistic};
 use vb_monitor::{
     Cut, Discarding, MAX_BYTES, MAX_CUTS, MAX_FIGURES, MAX_PIECES, MAX_RUNS, Notice, Orders, Phase,
@@ -35,7 +35,7 @@ pub(crate) const INDEX: u8 = 1;
 /// The entry that stands next.
 pub(crate) const ENTRY: u8 = 2;
 
-/// A descriptor.
+/// A row of descriptors.
 pub(crate) const DESCRIPTOR: u8 = 3;
 
 /// A part of a piece.
@@ -161,6 +161,8 @@ impl VbNotice {
             head: self.head,
             count: self.count,
             writing: self.flag != 0,
+            first: self.number.min(usize::from(u16::MAX)) as u16,
+            behind: self.from.min(MAX_BYTES / DESCRIPTOR_SIZE - 1) as u16,
         }
     }
 

@@ -10,7 +10,7 @@ use crate::answers::kind_of_code;
 use crate::notice::{DESCRIPTOR, ENTRY, FLAGS, INDEX, PART, VbNotice, VbRoom};
 use crate::requests::go_request;
 use crate::serving::{go_anyhow, go_chain, go_part};
-use crate::usual::{Copied, Entry, Flags, Index, Usual};
+use crate::usual::{Entry, Flags, Index, Single, Usual};
 use vb_core::Kind;
 use vb_monitor::{Balloon, MAX_BYTES, Region, is_last};
 
@@ -40,7 +40,7 @@ fn go_copied(
     go_part(notice, balloon, regions, room, kind, answer)
 }
 
-/// A descriptor was copied, which joins the others or breaks a rule; or a notice goes on anyhow.
+/// A row of descriptors was copied, which join the others; or a notice goes on anyhow.
 #[inline(never)]
 fn go_on_chain(
     notice: &mut VbNotice,
@@ -128,7 +128,7 @@ pub extern "C" fn vb_go_on(
     match notice.phase {
         INDEX => go_usually::<Index>(notice, balloon, regions, room, answer),
         ENTRY => go_usually::<Entry>(notice, balloon, regions, room, answer),
-        DESCRIPTOR => go_usually::<Copied>(notice, balloon, regions, room, answer),
+        DESCRIPTOR => go_usually::<Single>(notice, balloon, regions, room, answer),
         PART => at_part(notice, balloon, regions, room, answer),
         FLAGS => go_usually::<Flags>(notice, balloon, regions, room, answer),
         _ => go_anyhow(notice, balloon, regions, room, answer),

@@ -177,7 +177,7 @@ pub(crate) fn go_anyhow(
     }
 }
 
-/// A descriptor was copied, which joins the others or breaks a rule.
+/// A row of descriptors was copied, which join the others up to one that breaks a rule.
 pub(crate) fn go_chain(
     notice: &mut VbNotice,
     balloon: &mut Balloon,

@@ -15,6 +15,7 @@ use crate::notice::{
     COPY, CUTS, DESCRIPTOR, ENDED, ENTRY, FLAGS, INDEX, PART, READ_ENTRY, READ_FLAGS, READ_INDEX,
     VbNotice,
 };
+use vb_chain::DESCRIPTOR_SIZE;
 use vb_core::Denial;
 use vb_monitor::{Asked, Cut, Discarding, NextWord, Notice, Phase, Place, Spot, Tally, Told, Walk};
 
@@ -131,9 +132,11 @@ impl VbNotice {
         self.at = at;
     }
 
-    /// Shows a descriptor that is to be copied.
+    /// Shows a row of descriptors that is to be copied.
+    #[tactic(auto, using(crate::proofs::ShowLemmas::row_back))]
     pub(crate) fn show_descriptor(&mut self, bits: u32, at: Spot, walk: Walk)
-        requires { bits < 16 }
+        requires bits { bits < 16 }
+        requires fits { Fits (AwaitsDescriptor at walk) }
         ensures phase { phase_of self.new ≡ Some (AwaitsDescriptor at walk) }
         ensures says { (tally : Tally) → Says self.new tally (AwaitsDescriptor at walk) }
         ensures what { self.new.what ≡ bits + answer_bits (AwaitsDescriptor at walk) }
@@ -142,8 +145,10 @@ impl VbNotice {
         self.what = bits + COPY;
         self.phase = DESCRIPTOR;
         self.at = at;
-        self.length = 16;
+        self.length = DESCRIPTOR_SIZE as u32 * (u32::from(walk.behind) + 1);
         self.into = 0;
+        self.number = usize::from(walk.first);
+        self.from = usize::from(walk.behind);
         self.head = walk.head;
         self.count = walk.count;
         self.flag = u8::from(walk.writing);

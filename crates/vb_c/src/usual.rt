@@ -12,8 +12,7 @@ ghost use Rattle.vb_c.specs.Serving.{Begins, GoesOnBy};
 use crate::notice::{INDEX, READ_INDEX, VbNotice, VbRoom};
 use vb_core::Kind;
 use vb_monitor::{
-    Balloon, Budget, Region, Tally, Walk, descriptor_after, first_of_single, index_to_look,
-    next_descriptor, word_after,
+    Balloon, Budget, Region, Tally, Walk, descriptor_after, first_of_single, index_to_look, word_after,
 };
 
 /// A queue that is served is looked at, and its index is guest memory; says whether it is so. Else
@@ -128,42 +127,11 @@ impl Usual for Entry {
                     head,
                     count: 0,
                     writing: false,
+                    first: head,
+                    behind: 0,
                 };
                 notice.orders.cuts = 0;
                 notice.show_descriptor(0, at, walk);
-                true
-            }
-        }
-    }
-}
-
-/// A descriptor was copied that names another one.
-pub(crate) struct Next;
-
-impl Usual for Next {
-    ghost PHASE = { 3 };
-
-    #[inline(always)]
-    fn go(
-        notice: &mut VbNotice,
-        balloon: &Balloon,
-        regions: &[Region],
-        room: &mut VbRoom,
-        kind: Kind,
-        _answer: u16,
-    ) -> bool {
-        match next_descriptor(
-            &balloon.device,
-            regions,
-            kind,
-            notice.walk(),
-            &mut room.pieces,
-            &room.bytes,
-        ) {
-            None => false,
-            Some(next) => {
-                notice.orders.cuts = 0;
-                notice.show_descriptor(0, next.at, next.walk);
                 true
             }
         }
@@ -200,28 +168,6 @@ impl Usual for Single {
                 true
             }
         }
-    }
-}
-
-/// A descriptor was copied that names another one, or is a whole request by itself.
-pub(crate) struct Copied;
-
-impl Usual for Copied {
-    ghost PHASE = { 3 };
-
-    #[inline(always)]
-    fn go(
-        notice: &mut VbNotice,
-        balloon: &Balloon,
-        regions: &[Region],
-        room: &mut VbRoom,
-        kind: Kind,
-        answer: u16,
-    ) -> bool {
-        if Next::go(notice, balloon, regions, room, kind, answer) {
-            return true;
-        }
-        Single::go(notice, balloon, regions, room, kind, answer)
     }
 }
 

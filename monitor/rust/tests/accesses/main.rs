@@ -81,11 +81,15 @@ impl Guest {
     }
 }
 
-/// The index, behind a fence the entry, and each descriptor of a chain, in this order.
+/// The index, behind a fence the entry, and the descriptors of a chain, in this order: the first alone, and where it names another,
+/// all from that one on to the table's end.
 fn taken(kind: Kind, descriptors: u64) -> Vec<Access> {
     let at = |part| place(kind, part);
     let mut accesses = vec![Access::Load(at(AVAIL) + 2), Access::Fence(Ordering::Acquire), Access::Load(at(AVAIL) + 4)];
-    accesses.extend((0..descriptors).map(|number| Access::Read(at(TABLE) + 16 * number, 16)));
+    accesses.push(Access::Read(at(TABLE), 16));
+    if descriptors > 1 {
+        accesses.push(Access::Read(at(TABLE) + 16, 16 * (SIZE as usize - 1)));
+    }
     accesses
 }
 

@@ -2,7 +2,7 @@ use Rattle.std.proofs.Common.{◌∙◌, ap, sym, subst, refl, Option, Some}
 use Rattle.vb_monitor.{specs.declared.notice.Notice.Notice, specs.declared.step.Walk.Walk}
 use Rattle.vb_monitor.{specs.declared.step.Phase.TheVariants.AwaitsDescriptor, specs.Machine.whole}
 use Rattle.vb_c.{specs.declared.notice.VbRoom.VbRoom, specs.Serving.GoesOnBy}
-use Rattle.vb_c.proofs.UsualLemmas.{awaits_descriptor, says_notice, copied_descriptor}
+use Rattle.vb_c.proofs.UsualLemmas.{awaits_descriptor, says_notice, copied_row}
 use Rattle.vb_c.proofs.serving.go_chain.Goals as goal
 
 pub returns-clause-goes : goal.returns-clause-goes
@@ -28,8 +28,8 @@ returns-clause-goes c =
       next = record { kind = c.args.kind; step = c.after_descriptor-step.result };
       device = c.after_descriptor-step.new.device;
       kind_is = refl;
-      step = λ after outcome before done rest does h. copied_descriptor
-          (whole c.args.regions.now c.args.kind after outcome) d s _ _ x.writing _ old.at before _ done
+      step = λ after outcome before done rest does h. copied_row
+          (whole c.args.regions.now c.args.kind after outcome) d s _ _ x _ old.at before _ done
           rest does (c.after_descriptor-step.ensures.step after outcome rest h);
       hands = c.hand_step.ensures.hands;
     })

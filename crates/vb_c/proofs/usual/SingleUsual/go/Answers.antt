@@ -3,7 +3,7 @@ use Rattle.vb_monitor.{specs.declared.orders.Orders.Orders, specs.declared.step.
 use Rattle.vb_monitor.specs.declared.step.Phase.TheVariants.{AwaitsDescriptor, AwaitsPart}
 use Rattle.vb_monitor.{specs.Machine.{whole}}
 use Rattle.vb_c.{specs.declared.notice.VbRoom.VbRoom, specs.Codes.kind_of_code}
-use Rattle.vb_c.{specs.Notices.tally_of, proofs.UsualLemmas.{awaits_descriptor, goes_usual, copied_descriptor}}
+use Rattle.vb_c.{specs.Notices.tally_of, proofs.UsualLemmas.{awaits_descriptor, goes_usual, copied_row}}
 use Rattle.vb_c.proofs.usual.SingleUsual.go.Goals as goal
 
 pub returns-in-Some-clause-went : goal.returns-in-Some-clause-went
@@ -23,6 +23,6 @@ returns-in-Some-clause-went c e =
     ∙ ap (λ (w : Walk). Some (AwaitsDescriptor old.at w)) (sym c.walk.ensures)) refl
     (ap (λ (k : ℕ). kind_of_code k) kind ∙ c.requires.kind) shown.phase tally tt
     shown.what (ap (λ (o : Orders). o.cuts) orders) refl c.in-Some.ensures.fits refl
-    (λ after outcome before done rest does h. copied_descriptor
-    (whole c.args.regions.now c.args.kind after outcome) d s _ _ x.writing _ old.at before _ done rest
+    (λ after outcome before done rest does h. copied_row
+    (whole c.args.regions.now c.args.kind after outcome) d s _ _ x _ old.at before _ done rest
     does (c.in-Some.ensures.goes s after outcome r1.runs r1.figures rest h))
