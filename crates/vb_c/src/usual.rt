@@ -12,7 +12,8 @@ ghost use Rattle.vb_c.specs.Serving.{Begins, GoesOnBy};
 use crate::notice::{INDEX, READ_INDEX, VbNotice, VbRoom};
 use vb_core::Kind;
 use vb_monitor::{
-    Balloon, Budget, Region, Tally, Walk, descriptor_after, first_of_single, index_to_look, word_after,
+    Balloon, Budget, Region, Tally, Walk, descriptor_after, first_of_single, index_to_look,
+    word_after,
 };
 
 /// A queue that is served is looked at, and its index is guest memory; says whether it is so. Else
