@@ -15,3 +15,5 @@ mod CallFacts
 mod StepFacts
 mod TakeFacts
 mod OwnFacts
+mod QueueFacts
+mod BaseFacts

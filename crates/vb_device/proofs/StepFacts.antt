@@ -12,7 +12,7 @@ use Rattle.vb_device.specs.{declared.worked.Worked.Worked, Calls.{DetachesBy, Wo
 abbrev pub told : Part
 told = record busy { features = 3; statistics = queue 3 (asked 2 [] 0 ∷ []) }
 
-abbrev bare : List ℕ → Pages
+abbrev pub bare : List ℕ → Pages
 bare pages = marked pages None mem
 
 -- A call on that memory answers so, leaves this part, and memory as it was.

@@ -47,7 +47,7 @@ broken part = record part { status = 79 }
 
 -- ---- of memory that reads as zeros: the index is 0, and descriptor 0 a chain of no bytes
 
-abbrev zeros : Pages
+abbrev pub zeros : Pages
 zeros = None ∷ None ∷ None ∷ None ∷ []
 
 no_more : Takes 0 zeros (at 0) (Ok None) (at 0)

@@ -28,3 +28,4 @@ pub mod Restarting
 mod DriverFacts
 mod StepFacts
 mod PostFacts
+mod KeptFacts

@@ -22,6 +22,7 @@ use Rattle.vb_driver.{specs.State.{fresh_statistics, IsDriver}, specs.Coding.Are
 use Rattle.vb_driver.specs.Calls.{AllocatesBy, FreesBy, InflatesBy, DeflatesBy, ReportsBy, ReapsBy}
 use Rattle.vb_driver.specs.Calls.{Reports, PostsReport, Unchanged, PostsBuffer, emptied, IsNewRing}
 use Rattle.vb_driver.specs.Calls.{FillsBy, InitsBy, ResetsBy, DeflatesOnOomBy, Posts, AsksBack}
+use Rattle.vb_driver.specs.Calls.{NegotiatesBy}
 use Rattle.vb_driver.{specs.Calls.{FirstBuffer, with_nothing_out}, proofs.DriverFacts.busy}
 
 abbrev up : Part
@@ -222,3 +223,20 @@ gives_up_on_a_ring : (m1 m2 : Pages) (p2 : Part) (d2 : DriverState)
     → (m2 ≡ m1) × (p2 ≡ record up { status = 143 }) × (d2 ≡ busy))
 gives_up_on_a_ring m1 m2 p2 d2 =
     (λ by. (by.refused, by.failed), λ by. (by.refused.mem, by.refused.part, by.refused.driver))
+
+-- ---- features alone: the device is reset, and asked for them
+
+negotiates : (m1 m2 : Pages) (p2 : Part) (d2 : DriverState)
+    → NegotiatesBy m1 m2 (record up { target = 9; actual = 3 }) p2 (record busy { actual = 3 }) d2 7
+    (Ok true)
+    → (m2 ≡ m1) × (p2 ≡ record no_part { status = 11; features = 7; target = 9 })
+    × (d2 ≡ record (with_nothing_out busy) { features = 7 })
+negotiates m1 m2 p2 d2 by = (by.agrees.mem, by.agrees.part, by.agrees.driver)
+
+negotiates_none : (m1 m2 : Pages) (p1 p2 : Part) (d2 : DriverState) (r : Result Bool Refusal)
+    → (NegotiatesBy m1 m2 p1 p2 busy d2 1 r → refusal_in r ≡ Some VersionMissing)
+    × (NegotiatesBy {T = Bool} m1 m2 up p2 busy d2 1 (Err VersionMissing)
+    → (m2 ≡ m1) × (p2 ≡ record no_part { status = 131; features = 1 })
+    × (d2 ≡ record (with_nothing_out busy) { features = 1 }))
+negotiates_none m1 m2 p1 p2 d2 r =
+    (λ by. by.refusal, λ by. (by.refused.mem, by.refused.part, by.refused.driver))

@@ -83,7 +83,7 @@ nexts = refl
 abbrev owners : List (Option ℕ)
 owners = Some 0 ∷ None ∷ Some 0 ∷ Some 3 ∷ None ∷ None ∷ None ∷ None ∷ []
 
-abbrev busy : DriverEnd
+abbrev pub busy : DriverEnd
 busy = record (fresh_end (layout_of 3 8) 8) { published = 65535; seen = 65533; owner = owners }
 
 heads : map (is_head owners) (0 ∷ 1 ∷ 2 ∷ 3 ∷ 8 ∷ []) ≡ true ∷ false ∷ false ∷ true ∷ false ∷ []
@@ -138,7 +138,7 @@ nothing_taken_back = refl
 
 -- ---- a device's end
 
-abbrev device : DeviceEnd
+abbrev pub device : DeviceEnd
 device =
     record { layout = layout_of 3 8; size = 8; ready = true; next_avail = 65535; next_used = 4 }
 
