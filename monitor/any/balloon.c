@@ -56,6 +56,7 @@ void call_notice(void)
     uint32_t what = vb_begin(notice, &balloon, regions, count, room, kind, chains, pages, keeps);
     uint32_t first = reference_begin(&why, &twin, regions, count, &other, kind, chains, pages, keeps);
     EXPECT(what == notice->what && (what & -what) == first && same_balloon(&balloon, &twin));
+    EXPECT(!what || (notice->keeps != 0) == (keeps != 0));
     EXPECT(what || (notice->code == why.code && notice->more == why.more && notice->configuration == why.configuration));
     answers[what ? VB_OK : notice->code]++;
     for (int i = 0; i < 4; i++) {
