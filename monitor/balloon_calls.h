@@ -42,7 +42,8 @@ static inline struct balloon_result balloon_finish(struct balloon *balloon)
     return result;
 }
 
-/* The driver kicked the queue of this kind: serves what stands there, at most as much as a notice may. */
+/* The driver kicked the queue of this kind: serves what stands there, at most as much as a notice may. Take the kick before: what
+ * the driver publishes meanwhile waits for its next one. */
 static inline struct balloon_result balloon_notify(struct balloon *balloon, uint32_t kind)
 {
     vb_begin(&balloon->notice, &balloon->state, balloon->places, balloon->region_count, &balloon->room, kind,

@@ -159,12 +159,12 @@ class Client:
         self.accepted(SET_BACKEND_REQ_FD, files=[self.theirs.fileno()])
         self.accepted(SET_FEATURES, struct.pack("<Q", features | HAS_PROTOCOL))
 
-    def start(self, features=FEATURES, queues=4):
+    def start(self, features=FEATURES, queues=4, size=SIZE):
         """Does what virtio_uml and its driver do until the device is ready."""
         self.negotiate(features)
         self.hand_over_memory()
         for number in range(queues):
-            self.place(number)
+            self.place(number, size)
         for number in range(queues):
             if self.enable(number) != bytes(8):
                 raise AssertionError(self.why())

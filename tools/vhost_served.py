@@ -67,14 +67,30 @@ class Served(Client):
         """Returns how many files the backend has open."""
         return len(os.listdir(f"/proc/{self.backend.process.pid}/fd"))
 
+    def describe_all(self, number, size):
+        """Writes descriptors that stand by themselves, and entries of which each names the one of its place. No interrupt is
+        wanted."""
+        for head in range(size):
+            self.describe(number, head, BUFFERS, 4)
+        self.write(self.table(number) + PAGE + 4, struct.pack(f"<{size}H", *range(size)))
+        self.write(self.table(number) + PAGE, struct.pack("<H", 1))
+
+    def are_served(self, number, count):
+        """Makes a whole queue of so many chains available, and kicks it once: whether all are served, in time."""
+        end = time.monotonic() + LIMIT
+        self.describe_all(number, count)
+        self.write(self.table(number) + PAGE + 2, struct.pack("<H", count))
+        self.kick(number)
+        while self.read(self.table(number) + 2 * PAGE + 2, 2) != struct.pack("<H", count):
+            if time.monotonic() > end:
+                return False
+            time.sleep(0.01)
+        return True
+
     def served_by_a_kick(self, number, seconds):
         """Kicks a queue once while another process makes each chain available again as soon as it is used, without a kick;
-        returns how many chains are served. Each descriptor stands by itself, and each entry names the one of its place. No
-        interrupt is wanted."""
-        for head in range(SIZE):
-            self.describe(number, head, BUFFERS, 4)
-        self.write(self.table(number) + PAGE + 4, struct.pack(f"<{SIZE}H", *range(SIZE)))
-        self.write(self.table(number) + PAGE, struct.pack("<H", 1))
+        returns how many chains are served."""
+        self.describe_all(number, SIZE)
         at = self.table(number) - REGIONS[self.region][0]
         used, available = (at + 2 * PAGE + 2) // 2, (at + PAGE + 2) // 2
         with mmap.mmap(self.files[self.region], PAGES_OF_REGION * PAGE) as memory, memoryview(memory).cast("H") as words:

@@ -9,11 +9,11 @@ import unittest
 import linux_kit
 from vhost_client import (
     BUFFERS, DEFLATE, FEATURES, GET_CONFIG, GET_FEATURES, GET_PROTOCOL_FEATURES, GET_QUEUE_NUM, HAS_PROTOCOL, INFLATE, LIMIT,
-    NEXT, OFFERED, PAGE, PAGES_OF_REGION, REGIONS, REPORT, SET_CONFIG, SET_FEATURES, STATISTICS, WRITE,
+    NEXT, OFFERED, PAGE, PAGES_OF_REGION, REGIONS, REPORT, SET_CONFIG, SET_FEATURES, SIZE, STATISTICS, WRITE,
 )
 from vhost_served import Served
 
-# Chains that a notice serves at most, however fast its queue is filled.
+# Chains of the largest queue, more than a notice serves.
 MOST_CHAINS = 256
 
 
@@ -149,9 +149,15 @@ class Serves(Good):
         self.assertIsNone(client.told())
 
     def test_what_is_left_after_a_long_service_is_served(self):
+        client = self.client()
+        client.start(size=MOST_CHAINS)
+        self.assertTrue(client.are_served(DEFLATE, MOST_CHAINS), "a notice left chains, and no other one came")
+
+    def test_what_is_published_meanwhile_waits_for_its_kick(self):
         client = self.started()
-        kicks = (client.served_by_a_kick(DEFLATE, 0.05) for _ in range(200))
-        self.assertTrue(any(it > MOST_CHAINS for it in kicks), "no kick served more than one notice may")
+        for _ in range(20):
+            served = client.served_by_a_kick(DEFLATE, 0.05)
+            self.assertTrue(0 < served <= SIZE, f"a kick served {served} chains of a queue of {SIZE}")
 
     def test_statistics_before_the_driver_is_ready(self):
         client = self.client()

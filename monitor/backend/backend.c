@@ -72,6 +72,7 @@ bool backend_start(struct backend *backend, const struct options *options)
     rings_clear(backend);
     if (balloon_init(&backend->balloon, backend->memory.regions, 0, settings) != VB_OK)
         return refuse("the device can't offer the features 0x%llx", (unsigned long long)options->features);
+    backend->balloon.most_chains = MOST_CHAINS;
     backend->balloon.context = backend;
     backend->balloon.on_pages = count_pages;
     backend->balloon.on_statistics = hear_statistics;

@@ -5,7 +5,8 @@
 #include "counters.h"
 #include "rings.h"
 
-enum { MOST_TAGS = 16, MOST_REMARKS = 100 };
+/* A notice serves so many chains at most: then the other queues and the client have their turn. */
+enum { MOST_TAGS = 16, MOST_REMARKS = 100, MOST_CHAINS = 64 };
 
 struct options {
     const char *client;         /* the client's socket: a name, or a number */

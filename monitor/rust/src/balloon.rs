@@ -228,7 +228,8 @@ impl Balloon {
         self.state.0.keeps_reports()
     }
 
-    /// The driver kicked this queue: serves what stands there, at most as much as a notice may.
+    /// The driver kicked this queue: serves what stands there, at most as much as a notice may. Take the kick before: what
+    /// the driver publishes meanwhile waits for its next one.
     pub fn notify(&mut self, memory: &dyn LiveMemory, kind: Kind, monitor: &mut dyn Monitor) -> Served {
         let budget = (self.most_chains, self.most_pages, self.keeps_pages);
         memory.regions(&mut self.regions);
