@@ -117,14 +117,15 @@ none_shows byte table = record { alike = λ k bytes e. absurd (none_in_none k by
 pub row_shows : (byte : ℕ → ℕ) (table number behind : ℕ) (bytes : List ℕ) →
     bytes ≡ bytes_from byte (table + 16 * number) (16 * (behind + 1)) →
     Shows byte table (row_of number bytes)
-row_shows byte table number behind bytes e = record { alike = λ k found is.
-    let (le, fits, same) = in_row_is (row_of number bytes) k found is in
-    let long : length bytes ≡ 16 * (behind + 1) = ap (λ (l : List ℕ). length l) e
-    ∙ length-map-range_with_len byte (table + 16 * number) (16 * (behind + 1)) in
-    let place : table + 16 * number + 16 * (k - number) ≡ table + 16 * k = omega (arith, le) in
-    ap descriptor_of (same ∙ (ap (λ (l : List ℕ). take 16 (drop (16 * (k - number)) l)) e
-    ∙ (part_of byte (table + 16 * number) (16 * (k - number)) 16 (16 * (behind + 1))
-    (omega (arith, fits, long)) ∙ ap (λ (a : ℕ). bytes_from byte a 16) place)));
+row_shows byte table number behind bytes e = record {
+  alike = λ k found is.
+      let (le, fits, same) = in_row_is (row_of number bytes) k found is in
+      let long : length bytes ≡ 16 * (behind + 1) = ap (λ (l : List ℕ). length l) e
+      ∙ length-map-range_with_len byte (table + 16 * number) (16 * (behind + 1)) in
+      let place : table + 16 * number + 16 * (k - number) ≡ table + 16 * k = omega (arith, le) in
+      ap descriptor_of (same ∙ (ap (λ (l : List ℕ). take 16 (drop (16 * (k - number)) l)) e
+      ∙ (part_of byte (table + 16 * number) (16 * (k - number)) 16 (16 * (behind + 1))
+      (omega (arith, fits, long)) ∙ ap (λ (a : ℕ). bytes_from byte a 16) place)));
 }
 
 -- ---- the walk

@@ -198,7 +198,11 @@ pub fn after_descriptor(
     let end = memory_end(device);
     let row = first_bytes(bytes, row_bytes(&walk));
     let walked = walk_row(size, end, walk, row, pieces);
-    let RowWalk { count, writing, end } = walked;
+    let RowWalk {
+        count,
+        writing,
+        end,
+    } = walked;
     match end {
         RowEnd::Broken(fault) => fail(device, regions, kind, tally, fault),
         RowEnd::Last => serve_pieces(

@@ -15,8 +15,14 @@ returns-clause-step c after outcome room log some h =
     let size : c.descriptors-size.result ≡ q = c.descriptors-size.ensures
     ∙ ap (λ (r : Virtqueue). descriptors r) c.ring.ensures in
     let most : c.min-behind.result ≡ min 31 (q - (c.args.number + 1)) =
-    omega (arith, size, c.from.ensures, c.from-2.ensures, c.saturating_sub-left.ensures,
-    c.min-behind.ensures) in
+    omega (
+      arith,
+      size,
+      c.from.ensures,
+      c.from-2.ensures,
+      c.saturating_sub-left.ensures,
+      c.min-behind.ensures,
+    ) in
     next_goes w d t (Follows (q - (walk.count + 1)) w d t (serves w t d walk.head))
     (serves w t d walk.head) c.args.number c.min-behind.result walk.writing
     (pieces_in (take walk.count room.pieces)) log some most
