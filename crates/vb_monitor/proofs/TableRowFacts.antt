@@ -21,19 +21,19 @@ use Rattle.vb_monitor.proofs.Samples.{last_descriptor, zeros, with_two, discard}
 -- ---- which descriptors a row has
 
 -- descriptors 5, 6 and 7
-abbrev row : TableRow
-row = row_of 5 (naming 6 ++ naming 7 ++ last_descriptor)
+abbrev three : TableRow
+three = row_of 5 (naming 6 ++ naming 7 ++ last_descriptor)
 
-first_of_it : in_row row 5 ≡ Some (naming 6)
+first_of_it : in_row three 5 ≡ Some (naming 6)
 first_of_it = refl
 
-last_of_it : in_row row 7 ≡ Some last_descriptor
+last_of_it : in_row three 7 ≡ Some last_descriptor
 last_of_it = refl
 
-one_before : in_row row 4 ≡ None
+one_before : in_row three 4 ≡ None
 one_before = refl
 
-one_behind : in_row row 8 ≡ None
+one_behind : in_row three 8 ≡ None
 one_behind = refl
 
 part_of_one : in_row (row_of 5 (naming 6 ++ 0 ∷ 4 ∷ 0 ∷ [])) 6 ≡ None
@@ -187,7 +187,7 @@ in_the_hole = record { nothing = refl; device = refl; outcome = refl }
 
 -- ---- what is known
 
-known_in_a_row : walked_in 8 Report 3 row 5 [] ≡ Has 3 (piece ∷ piece ∷ piece ∷ []) [] []
+known_in_a_row : walked_in 8 Report 3 three 5 [] ≡ Has 3 (piece ∷ piece ∷ piece ∷ []) [] []
 known_in_a_row = refl
 
 known_behind_it : walked_in 8 Report 3 (row_of 5 (naming 6 ++ naming 2)) 5 (piece ∷ []) ≡
@@ -206,7 +206,7 @@ walk = record { head = 3; count = 1; writing = false; first = 5; behind = 2 }
 so_many_bytes : row_bytes walk ≡ 48
 so_many_bytes = refl
 
-its_row : row_in walk (naming 6 ++ naming 7 ++ last_descriptor ++ zeros) ≡ row
+its_row : row_in walk (naming 6 ++ naming 7 ++ last_descriptor ++ zeros) ≡ three
 its_row = refl
 
 all_of_the_room : Fits (AwaitsDescriptor (at 0x50) (record walk { behind = 63 }))
@@ -218,7 +218,7 @@ one_past_the_room h = omega (arith, h)
 -- ---- how the walk within a row ends
 
 abbrev On : TableRow → ℕ → Bool → List Piece → List Access → Type 0
-On r number writing pieces log = (r ≡ row) × ((number ≡ 5) × (log ≡ []))
+On r number writing pieces log = (r ≡ three) × ((number ≡ 5) × (log ≡ []))
 
 breaks : EndsRow (Faulty Indirect) (broken_by Indirect) ready tally On (Ended 1) false (piece ∷ []) []
 breaks = record { nothing = refl; device = refl; outcome = refl }

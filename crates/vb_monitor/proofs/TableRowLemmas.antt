@@ -4,8 +4,8 @@ use Rattle.std.proofs.Common.{Bool, true, false, List, [], ◌∷◌, ◌++◌, 
 use Rattle.std.proofs.Common.{Option, Some, None, length-take, length-append}
 use Rattle.std.specs.Prelude.{◌||◌, nat_lt, min, if◌then◌else◌}
 use Rattle.std.proofs.lemmas.{Bool.Decides.nat_tests, List.take-take}
-use Rattle.vb_chain.specs.{Rules.{has_next, is_writable, piece_of}}
-use Rattle.vb_chain.specs.declared.{pieces.Piece.Piece, fault.ChainFault.ChainFault}
+use Rattle.vb_chain.specs.Rules.{has_next, is_writable, piece_of, first_fault}
+use Rattle.vb_chain.specs.declared.{pieces.Piece.Piece, fault.ChainFault.{ChainFault, TheVariants.TooLong}}
 use Rattle.vb_chain.specs.declared.descriptor.Descriptor.{Descriptor}
 use Rattle.vb_core.{specs.Next.pieces_in, specs.Devices.ring_of, proofs.PieceLemmas.{none_in, length_in}}
 use Rattle.vb_core.specs.declared.next.ChainPiece.{ChainPiece}
@@ -163,6 +163,18 @@ pub record Tested (q end : ℕ) (writing : Bool) (k : ℕ) (ps : List ChainPiece
   pub says : x ≡ descriptor_of bytes
   pub is : table_fault q end writing (length (take k ps)) x ≡ fault
 
+pub tested_within : (q end : ℕ) (writing : Bool) (k : ℕ) (ps : List ChainPiece) (bytes : List ℕ)
+    (x : Descriptor) (o : Option ChainFault) → x ≡ descriptor_of bytes → length ps ≡ 256 → k < q →
+    q ≤ 256 → first_fault q end writing k x ≡ o → Tested q end writing k ps bytes x o
+tested_within q end writing k ps bytes x o says long lt le e =
+    let all : length (take k ps) ≡ k = omega (arith, length-take k ps, long, lt, le) in
+    let here : nat_lt k q ≡ true = is_less k q lt in
+    record {
+      says = says;
+      is = ap (λ (n : ℕ). table_fault q end writing n x) all
+          ∙ (ap (λ (b : Bool). if b then first_fault q end writing k x else Some TooLong) here ∙ e);
+    }
+
 -- what it comes to
 by_fault : (q end : ℕ) (w : Whole) (d : Device) (t : Tally)
     (on : ℕ → Bool → List Piece → List Access → Type 0) (whole : Served) (writing : Bool) (k : ℕ)
@@ -191,6 +203,20 @@ breaks_in_row q end w d t head row writing k ps bytes x fault log tested e f h =
     by_fault q end w d t (Follows (q - (k + 1)) w d t (serves w t d head) row) (serves w t d head)
     writing k ps bytes x (Some fault) log tested e f h
 
+-- all descriptors of the table were there before
+pub none_left : (q end : ℕ) (w : Whole) (d : Device) (t : Tally) (head : ℕ) (row : TableRow)
+    (writing : Bool) (k : ℕ) (ps : List ChainPiece) (bytes : List ℕ) (log : List Access) →
+    q ≤ length (take k ps) → descriptors (ring_of w.kind d) ≡ q → memory_end d ≡ end →
+    Breaks w d t TooLong log → At w d t head q row k writing (pieces_in (take k ps)) bytes log
+none_left q end w d t head row writing k ps bytes log le e f h =
+    let past : nat_lt (length (take k ps)) q ≡ false = grind (arith, nat_tests) in
+    breaks_in_row q end w d t head row writing k ps bytes (descriptor_of bytes) TooLong log
+    (record {
+      says = refl;
+      is = ap (λ (b : Bool). if b then first_fault q end writing (length (take k ps))
+          (descriptor_of bytes) else Some TooLong) past;
+    }) e f h
+
 pub ends_in_row : (q end : ℕ) (w : Whole) (d : Device) (t : Tally) (head : ℕ) (row : TableRow)
     (writing : Bool) (k : ℕ) (ps : List ChainPiece) (more : List Piece) (bytes : List ℕ)
     (x : Descriptor) (log : List Access) → Tested q end writing k ps bytes x None →
@@ -204,6 +230,10 @@ ends_in_row q end w d t head row writing k ps more bytes x log tested last is e 
     (sym last) (subst (λ (ps : List Piece). serves w t d head ps log) is h))
 
 -- one that breaks no rule and names another leaves room for it
+pub room_for : (q end : ℕ) (writing : Bool) (k : ℕ) (x : Descriptor) →
+    first_fault q end writing k x ≡ None → has_next x ≡ true → k + 1 < q
+room_for q end writing k x e more = grind (arith, nat_tests)
+
 room_behind : (q end : ℕ) (writing : Bool) (k : ℕ) (x : Descriptor) →
     table_fault q end writing k x ≡ None → has_next x ≡ true → k + 1 < q
 room_behind q end writing k x e more = grind (arith, nat_tests)
@@ -231,11 +261,6 @@ goes_in_row q end w d t head row writing now k ps more bytes x o log tested next
     (subst (λ (o : Option (List ℕ)). FollowsBy o w d t
     (Follows (q - (k + 1 + 1)) w d t (serves w t d head)) (serves w t d head) row x.next now more
     log) (sym has) h)))))
-
--- all pieces were seen, and one more has room
-pub all_seen : (k q : ℕ) (ps : List ChainPiece) → length ps ≡ 256 → length (take k ps) < q →
-    q ≤ 256 → k ≡ length (take k ps)
-all_seen k q ps long lt le = omega (arith, length-take k ps, long, lt, le)
 
 pub one_there : (ps : List Piece) (p : Piece) → 0 < length (ps ++ p ∷ [])
 one_there ps p = let long = length-append ps (p ∷ []) in omega (arith, long)

@@ -218,24 +218,25 @@ pub record AsksRow (w : Whole) (d : Device) (tally : Tally)
       (take 16 bytes) rest
 
 abbrev pub RowAt : Whole → Device → Tally →
-    (TableRow → ℕ → Bool → List Piece → List Access → Type 0) → (List Piece → List Access → Type 0) →
-    ℕ → ℕ → Bool → List Piece → Option Spot → List Access → Type 0
+    (TableRow → ℕ → Bool → List Piece → List Access → Type 0) →
+    (List Piece → List Access → Type 0) → ℕ → ℕ → Bool → List Piece → Option Spot → List Access →
+    Type 0
 RowAt w d tally on whole number behind writing pieces None log = Breaks w d tally OutOfRam log
 RowAt w d tally on whole number behind writing pieces (Some at) log =
     AsksRow w d tally on whole number behind writing pieces at log
 
 -- A row is asked for that begins with this descriptor, and has so many behind it.
 abbrev pub TakesRow : Whole → Device → Tally →
-    (TableRow → ℕ → Bool → List Piece → List Access → Type 0) → (List Piece → List Access → Type 0) →
-    ℕ → ℕ → Bool → List Piece → List Access → Type 0
+    (TableRow → ℕ → Bool → List Piece → List Access → Type 0) →
+    (List Piece → List Access → Type 0) → ℕ → ℕ → Bool → List Piece → List Access → Type 0
 TakesRow w d tally on whole number behind writing pieces log =
     RowAt w d tally on whole number behind writing pieces
     (spot w.regions ((ring_of w.kind d).table + 16 * number) (16 * (behind + 1))) log
 
 -- Where the row that was copied last has the descriptor, nothing is asked.
 abbrev pub FollowsBy : Option (List ℕ) → Whole → Device → Tally →
-    (TableRow → ℕ → Bool → List Piece → List Access → Type 0) → (List Piece → List Access → Type 0) →
-    TableRow → ℕ → Bool → List Piece → List Access → Type 0
+    (TableRow → ℕ → Bool → List Piece → List Access → Type 0) →
+    (List Piece → List Access → Type 0) → TableRow → ℕ → Bool → List Piece → List Access → Type 0
 FollowsBy (Some bytes) w d tally on whole row number writing pieces log =
     AfterDescriptor w d tally (on row) whole writing pieces bytes log
 FollowsBy None w d tally on whole row number writing pieces log =
@@ -244,8 +245,8 @@ FollowsBy None w d tally on whole row number writing pieces log =
 
 -- From a descriptor of this number on the chain is followed, where so many more fit its table, and
 -- this row was copied last.
-abbrev pub Follows : ℕ → Whole → Device → Tally → (List Piece → List Access → Type 0) → TableRow → ℕ →
-    Bool → List Piece → List Access → Type 0
+abbrev pub Follows : ℕ → Whole → Device → Tally → (List Piece → List Access → Type 0) → TableRow →
+    ℕ → Bool → List Piece → List Access → Type 0
 Follows zero w d tally whole row number writing pieces log = Breaks w d tally TooLong log
 Follows (suc n) w d tally whole row number writing pieces log =
     FollowsBy (in_row row number) w d tally (Follows n w d tally whole) whole row number writing

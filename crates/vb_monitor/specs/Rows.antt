@@ -13,8 +13,8 @@ use Rattle.vb_monitor.specs.Chains.{TableRow, behind_in_row, TakesRow}
 -- A rule is broken; or the chain is whole; or another row is asked for, which isn't the chain's
 -- first.
 abbrev pub EndsRow : RowEnd → Whole → Device → Tally →
-    (TableRow → ℕ → Bool → List Piece → List Access → Type 0) → (List Piece → List Access → Type 0) →
-    Bool → List Piece → List Access → Type 0
+    (TableRow → ℕ → Bool → List Piece → List Access → Type 0) →
+    (List Piece → List Access → Type 0) → Bool → List Piece → List Access → Type 0
 EndsRow (Broken fault) w d tally on whole writing pieces log = Breaks w d tally fault log
 EndsRow Last w d tally on whole writing pieces log = whole pieces log
 EndsRow (Leaves number) w d tally on whole writing pieces log = 0 < length pieces →

@@ -96,8 +96,8 @@ CopiesNext regions r (Has head pieces [] so_far) at bytes = ⊥
 CopiesNext regions r (Has head pieces (part ∷ parts) so_far) at bytes =
     CopiesFrom regions (part.address + part.plus) part.length at bytes
 
--- What is read comes in its turn: each entry, each row of descriptors and each part of a piece has one. No
--- entry is read while another one's chain is served, and nothing behind the flags.
+-- What is read comes in its turn: each entry, each row of descriptors and each part of a piece has
+-- one. No entry is read while another one's chain is served, and nothing behind the flags.
 abbrev pub ReadsInTurn : List Region → Kind → Device → List Access → Access → Type 0
 ReadsInTurn regions kind d before (ReadWord at answer) =
     ReadsWord regions (ring_after (ring_of kind d) before) before at

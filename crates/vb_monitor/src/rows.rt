@@ -118,6 +118,7 @@ pub(crate) struct RowWalk {
 
 /// Walks along a chain, from a row's first descriptor on, for as long as the row has the next one;
 /// the pieces join the others.
+#[inline(never)]
 pub(crate) fn walk_row(
     size: u16,
     end: u64,
@@ -139,13 +140,20 @@ pub(crate) fn walk_row(
     ensures further { (number : ℕ) → result.end ≡ Leaves number →
         (MAX_QUEUE_SIZE - result.count) + 1 ≤ MAX_QUEUE_SIZE - walk.count }
 {
+    let visited = first_pieces(pieces, walk.count).len();
+    if visited >= usize::from(size) {
+        return RowWalk {
+            count: walk.count,
+            writing: walk.writing,
+            end: RowEnd::Broken(ChainFault::TooLong),
+        };
+    }
     let mut count = walk.count;
     let mut writing = walk.writing;
     let mut into = 0;
     loop {
         let descriptor = descriptor_at(row, into);
-        let visited = first_pieces(pieces, count).len() as u16;
-        if let Some(fault) = ring_fault(size, end, writing, visited, &descriptor) {
+        if let Some(fault) = descriptor_fault(size, end, writing, count, &descriptor) {
             return RowWalk {
                 count,
                 writing,

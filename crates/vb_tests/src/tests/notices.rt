@@ -51,7 +51,8 @@ const NO_PIECE: ChainPiece = ChainPiece {
 
 const NO_FIGURE: Statistic = Statistic { tag: 0, value: 0 };
 
-/// Places in the first region: the ring's words, the table, the request, and the used element.
+/// Places in the first region: the ring's words, the table and its descriptor 3, the request's two
+/// pieces, and the used element.
 const FLAGS: Spot = Spot {
     region: 0,
     offset: 0x100,
@@ -72,9 +73,19 @@ const TABLE: Spot = Spot {
     offset: 0,
 };
 
+const THIRD: Spot = Spot {
+    region: 0,
+    offset: 0x30,
+};
+
 const REQUEST: Spot = Spot {
     region: 0,
     offset: 0x400,
+};
+
+const ITS_REST: Spot = Spot {
+    region: 0,
+    offset: 0x408,
 };
 
 const USED_INDEX: Spot = Spot {
@@ -140,7 +151,9 @@ static CASES: [Case; 4] = [
             Row::Acquire,
             Row::Word(ENTRY, 0),
             Row::Bytes(TABLE, 16),
-            Row::Bytes(REQUEST, 16),
+            Row::Bytes(THIRD, 80),
+            Row::Bytes(REQUEST, 8),
+            Row::Bytes(ITS_REST, 8),
             Row::Pages(2, 4),
             Row::Discarded(PAGE_20),
             Row::Discarded(PAGES_21_AND_22),
@@ -165,7 +178,9 @@ static CASES: [Case; 4] = [
             Row::Acquire,
             Row::Word(ENTRY, 0),
             Row::Bytes(TABLE, 16),
-            Row::Bytes(REQUEST, 16),
+            Row::Bytes(THIRD, 80),
+            Row::Bytes(REQUEST, 8),
+            Row::Bytes(ITS_REST, 8),
             Row::Pages(2, 4),
             Row::Number(USED_ID, 0),
             Row::Number(USED_LENGTH, 0),
@@ -209,14 +224,19 @@ static CASES: [Case; 4] = [
     },
 ];
 
-/// One descriptor of 16 bytes at 0x400, one available entry, and a request of the pages 20, 21, 22
-/// and 5.
+/// One available entry, a chain of two descriptors with 8 bytes each, from 0x400 on, and a request
+/// of the pages 20, 21, 22 and 5.
 fn put_request(bytes: &mut [u8]) {
     if bytes.len() < MEMORY {
         return;
     }
     bytes[1] = 4;
-    bytes[8] = 16;
+    bytes[8] = 8;
+    bytes[12] = 1;
+    bytes[14] = 3;
+    bytes[0x30] = 8;
+    bytes[0x31] = 4;
+    bytes[0x38] = 8;
     bytes[0x102] = 1;
     bytes[0x400] = 20;
     bytes[0x404] = 21;

@@ -1,41 +1,34 @@
 use Rattle.std.proofs.Common.{rules, ◌≡◌, ◌∙◌, ◌+◌, ◌-◌, ◌<◌, ap, sym, subst, arith, ℕ}
-use Rattle.std.proofs.Common.{List, Option, Some, None, length, take, drop}
+use Rattle.std.proofs.Common.{List, Option, Some, None, length, take, drop, length-take, ◌≤◌}
 use Rattle.vb_chain.specs.declared.{fault.ChainFault.ChainFault, pieces.Piece.Piece}
 use Rattle.vb_core.specs.{Next.pieces_in, declared.next.ChainPiece.ChainPiece, Devices.ring_of}
 use Rattle.vb_core.specs.declared.device.Device.{Device}
 use Rattle.vb_monitor.specs.{Accesses.Access, Ends.Whole, declared.outcome.Tally.Tally}
-use Rattle.vb_monitor.specs.Chains.{row_of, in_row, table_fault, FollowsBy, Follows, descriptors}
+use Rattle.vb_monitor.specs.Chains.{row_of, in_row, FollowsBy, Follows, descriptors}
 use Rattle.vb_monitor.specs.{Chains.memory_end, Machine.serves}
 use Rattle.vb_monitor.proofs.TableRowLemmas.{Tested, breaks_in_row, ends_in_row, goes_in_row}
-use Rattle.vb_monitor.proofs.TableRowLemmas.{At, all_seen, one_there}
-use Rattle.vb_monitor.proofs.rows.walk_row.Goals.{After-ring_fault, In_default, After-place_in_row}
+use Rattle.vb_monitor.proofs.TableRowLemmas.{At, tested_within, none_left, room_for, one_there}
+use Rattle.vb_monitor.proofs.rows.walk_row.Goals.{After-descriptor_fault, After-place_in_row}
 use Rattle.vb_monitor.proofs.rows.walk_row.Goals as goal
 
 -- the descriptor that is next was tested
-tested : (c : After-ring_fault) (o : Option ChainFault) → c.ring_fault.result ≡ o →
+tested : (c : After-descriptor_fault) (o : Option ChainFault) → c.descriptor_fault.result ≡ o →
     Tested c.args.size c.args.end c.loop-fault.writing c.loop-fault.count c.loop-fault.pieces
     (take 16 (drop c.loop-fault.into c.args.row.now)) c.descriptor_at-descriptor.result o
-tested c o e = record {
-  says = c.descriptor_at-descriptor.ensures;
-  is = ap (λ (l : List ChainPiece). table_fault c.args.size c.args.end c.loop-fault.writing
-      (length l) c.descriptor_at-descriptor.result) (sym c.first_pieces.ensures)
-      ∙ (sym c.ring_fault.ensures.fault ∙ e);
-}
+tested c o e = tested_within c.args.size c.args.end c.loop-fault.writing c.loop-fault.count
+    c.loop-fault.pieces (take 16 (drop c.loop-fault.into c.args.row.now))
+    c.descriptor_at-descriptor.result o c.descriptor_at-descriptor.ensures
+    c.loop-fault.invariant.room c.loop-fault.invariant.below c.requires.size
+    (sym c.descriptor_fault.ensures ∙ e)
 
--- all pieces were seen before it, and there is room
-seen : (c : In_default) → c.loop-fault.count ≡ length (take c.loop-fault.count c.loop-fault.pieces)
+-- all pieces were seen before it
+seen : (c : After-descriptor_fault) →
+    c.loop-fault.count ≡ length (take c.loop-fault.count c.loop-fault.pieces)
 seen c =
-    let less = c.ring_fault.ensures.within c.in_default.is in
-    let same = ap (λ (l : List ChainPiece). length l) c.first_pieces.ensures in
-    all_seen c.loop-fault.count c.args.size c.loop-fault.pieces c.loop-fault.invariant.room
-    (omega (arith, less, same)) c.requires.size
-
-below : (c : In_default) → c.loop-fault.count < 256
-below c =
-    let less = c.ring_fault.ensures.within c.in_default.is in
     let most = c.requires.size in
-    let same = ap (λ (l : List ChainPiece). length l) c.first_pieces.ensures in
-    omega (arith, less, same, most, seen c)
+    let below = c.loop-fault.invariant.below in
+    let room = c.loop-fault.invariant.room in
+    omega (arith, most, below, room, length-take c.loop-fault.count c.loop-fault.pieces)
 
 -- it names another, which the row has or hasn't
 onward : (c : After-place_in_row) (w : Whole) (d : Device) (t : Tally) (o : Option (List ℕ))
@@ -63,6 +56,19 @@ onward c w d t o log sound all has e f h =
     sound (sym c.has_next.ensures ∙ c.if-not-has_next.false) all
     c.is_writing-writing.ensures c.push_piece.ensures has e f h)
 
+pub returns-then-visited-from-clause-goes : goal.returns-then-visited-from-clause-goes
+returns-then-visited-from-clause-goes c w d t log e f h =
+    let most : c.args.size ≤ length (take c.args.walk.count c.args.pieces.now) =
+    omega (
+      arith,
+      c.if-visited-from.true,
+      c.from.ensures,
+      ap (λ (l : List ChainPiece). length l) c.first_pieces-visited.ensures,
+    ) in
+    none_left c.args.size c.args.end w d t c.args.walk.head
+    (row_of c.args.walk.first c.args.row.now) c.args.walk.writing c.args.walk.count
+    c.args.pieces.now (take 16 c.args.row.now) log most e f h
+
 pub returns-in-Some-clause-goes : goal.returns-in-Some-clause-goes
 returns-in-Some-clause-goes c w d t log e f h =
     c.loop-fault.invariant.goes w d t log e f
@@ -70,14 +76,7 @@ returns-in-Some-clause-goes c w d t log e f h =
     (row_of c.args.walk.first c.args.row.now) c.loop-fault.writing c.loop-fault.count
     c.loop-fault.pieces (take 16 (drop c.loop-fault.into c.args.row.now))
     c.descriptor_at-descriptor.result c.in-Some.fault log
-    (tested (goal.at.returns-in-Some-clause-goes c).After-ring_fault _ c.in-Some.is) e f h)
-
-pub push_piece-requires : goal.push_piece-requires
-push_piece-requires c = below (goal.at.push_piece-requires c).In_default
-
-pub overflow_add-count : goal.overflow_add-count
-overflow_add-count c =
-    let less = below (goal.at.overflow_add-count c).In_default in search (rules, arith)
+    (tested (goal.at.returns-in-Some-clause-goes c).After-descriptor_fault _ c.in-Some.is) e f h)
 
 pub returns-then-not-has_next-clause-goes : goal.returns-then-not-has_next-clause-goes
 returns-then-not-has_next-clause-goes c w d t log e f h =
@@ -86,37 +85,26 @@ returns-then-not-has_next-clause-goes c w d t log e f h =
     (row_of c.args.walk.first c.args.row.now) c.loop-fault.writing c.loop-fault.count
     c.loop-fault.pieces (pieces_in (take (c.loop-fault.count + 1) c.push_piece.new.pieces))
     (take 16 (drop c.loop-fault.into c.args.row.now)) c.descriptor_at-descriptor.result log
-    (tested (goal.at.returns-then-not-has_next-clause-goes c).After-ring_fault None
+    (tested (goal.at.returns-then-not-has_next-clause-goes c).After-descriptor_fault None
     c.in_default.is) (sym c.has_next.ensures ∙ c.if-not-has_next.true) c.push_piece.ensures e f h)
 
 pub returns-in-None-clause-goes : goal.returns-in-None-clause-goes
 returns-in-None-clause-goes c w d t log e f h =
     let at = goal.at.returns-in-None-clause-goes c in
-    onward at.After-place_in_row w d t None log (tested at.After-ring_fault None c.in_default.is)
-    (seen at.In_default) (search rules) e f
+    onward at.After-place_in_row w d t None log (tested at.After-descriptor_fault None c.in_default.is)
+    (seen at.After-descriptor_fault) (search rules) e f
     (h (subst (λ (ps : List Piece). 0 < length ps) (sym c.push_piece.ensures) (one_there _ _)))
-
-pub returns-in-None-clause-further : goal.returns-in-None-clause-further
-returns-in-None-clause-further c number is =
-    let less = below (goal.at.returns-in-None-clause-further c).In_default in
-    let since = c.loop-fault.invariant.since in
-    omega (arith, less, since)
-
-pub loop-fault-smaller : goal.loop-fault-smaller
-loop-fault-smaller c =
-    let at = goal.at.loop-fault-smaller c in
-    let less = c.ring_fault.ensures.within c.in_default.is in
-    let same = ap (λ (l : List ChainPiece). length l) c.first_pieces.ensures in
-    let all = seen at.In_default in
-    omega (arith, less, same, all)
 
 pub loop-fault-preserved : goal.loop-fault-preserved
 loop-fault-preserved c = record {
   within = c.place_in_row.ensures.within c.in-Some-place_in_row.place c.in-Some-place_in_row.is;
   room = c.push_piece.array_long;
   since = omega (arith, c.loop-fault.invariant.since);
+  below = room_for c.args.size c.args.end c.loop-fault.writing c.loop-fault.count
+      c.descriptor_at-descriptor.result (sym c.descriptor_fault.ensures ∙ c.in_default.is)
+      (sym c.has_next.ensures ∙ c.if-not-has_next.false);
   goes = λ w d t log e f h. onward (goal.at.loop-fault-preserved c).After-place_in_row w d t
       (Some (take 16 (drop c.in-Some-place_in_row.place c.args.row.now))) log
-      (tested (goal.at.loop-fault-preserved c).After-ring_fault None c.in_default.is)
-      (seen (goal.at.loop-fault-preserved c).In_default) (search rules) e f h;
+      (tested (goal.at.loop-fault-preserved c).After-descriptor_fault None c.in_default.is)
+      (seen (goal.at.loop-fault-preserved c).After-descriptor_fault) (search rules) e f h;
 }

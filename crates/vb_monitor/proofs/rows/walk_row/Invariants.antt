@@ -1,4 +1,4 @@
-use Rattle.std.proofs.Common.{◌≡◌, ◌+◌, ◌-◌, ◌≤◌, List, length, take, drop}
+use Rattle.std.proofs.Common.{◌≡◌, ◌+◌, ◌-◌, ◌≤◌, ◌<◌, List, length, take, drop}
 use Rattle.vb_chain.specs.declared.descriptor.TheConstants.{DESCRIPTOR_SIZE}
 use Rattle.vb_core.specs.declared.device.Device.{Device}
 use Rattle.vb_core.specs.{Devices.ring_of, Next.pieces_in}
@@ -13,6 +13,7 @@ invariant-loop-fault l = record {
   within : l.into + DESCRIPTOR_SIZE ≤ length l.row;
   room : length l.pieces ≡ 256;
   since : l.walk.count ≤ l.count;
+  below : l.count < l.size;
   goes : (w : Whole) (d : Device) (t : Tally) (log : List Access) →
       descriptors (ring_of w.kind d) ≡ l.size → memory_end d ≡ l.end →
       At w d t l.walk.head l.size (row_of l.walk.first l.row) l.count l.writing
