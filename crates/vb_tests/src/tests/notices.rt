@@ -186,7 +186,6 @@ static CASES: [Case; 4] = [
             Row::Number(USED_LENGTH, 0),
             Row::Release,
             Row::Written(USED_INDEX, 1),
-            Row::Word(INDEX, 1),
             Row::Full,
             Row::Word(FLAGS, 0),
         ],
