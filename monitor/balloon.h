@@ -83,9 +83,17 @@ static inline uint8_t *balloon_at(const struct balloon *balloon, VbSpot spot)
 /* Copies bytes that others may write meanwhile: each is read once. */
 static inline void balloon_read_once(uint8_t *to, const uint8_t *from, size_t length)
 {
-    for (; length >= 32; length -= 32, from += 32, to += 32)     /* two descriptors */
-        for (int i = 0; i < 4; i++)
-            ((balloon_word64 *)to)[i] = ((const volatile balloon_word64 *)from)[i];
+    if (length == 16) {         /* a descriptor */
+        ((balloon_word64 *)to)[0] = ((const volatile balloon_word64 *)from)[0];
+        ((balloon_word64 *)to)[1] = ((const volatile balloon_word64 *)from)[1];
+        return;
+    }
+    for (; length >= 32; length -= 32, from += 32, to += 32) {  /* two of a row of descriptors */
+        ((balloon_word64 *)to)[0] = ((const volatile balloon_word64 *)from)[0];
+        ((balloon_word64 *)to)[1] = ((const volatile balloon_word64 *)from)[1];
+        ((balloon_word64 *)to)[2] = ((const volatile balloon_word64 *)from)[2];
+        ((balloon_word64 *)to)[3] = ((const volatile balloon_word64 *)from)[3];
+    }
     for (; length >= 8; length -= 8, from += 8, to += 8)
         *(balloon_word64 *)to = *(const volatile balloon_word64 *)from;
     for (; length >= 4; length -= 4, from += 4, to += 4)
