@@ -1,15 +1,14 @@
 -- What devices of both paces keep, and what the parts of their calls do.
-use Rattle.std.proofs.Common.{◌≡◌, ◌↔◌, ℕ, ◌+◌, ◌<◌, ◌≤◌, true, false, List, [], ◌∷◌, ◌++◌, map, refl}
+use Rattle.std.proofs.Common.{◌≡◌, ◌↔◌, ℕ, ◌+◌, ◌<◌, ◌≤◌, true, false, List, [], ◌∷◌, map, refl}
 use Rattle.std.proofs.Common.{arith}
-use Rattle.std.specs.Prelude.{Option, Some, None, Result, Ok, Err, Bool, IsSome, length, is_some}
-use Rattle.vb_model.specs.{Requests.Request, Guest.no_statistics, Status.{contains, driver_ok}}
-use Rattle.vb_model.specs.declared.replies.{Refusal.Refusal, LastStatistics.LastStatistics}
+use Rattle.std.specs.Prelude.{Some, None, Result, Ok, Err, IsSome, length, is_some}
+use Rattle.vb_model.specs.declared.replies.{Refusal.Refusal}
 use Rattle.vb_model.specs.declared.replies.Refusal.TheVariants.{NoQueue, NotReady, NeedsReset}
 use Rattle.vb_model.specs.declared.replies.Refusal.TheVariants.{NotTaken, NotWorked}
 use Rattle.vb_model.specs.Tables.{has_chains}
-use Rattle.vb_ram.specs.{Pages.{Pages, frame_at}, Part.{Part, no_part, no_queue}}
-use Rattle.vb_ring.specs.{Layout.{layout_of, IsBacked, IsSize}, Calls.AddsUsedBy}
-use Rattle.vb_device.specs.{QueueState.{QueueState, new_queue, no_ring}, State.DeviceState}
+use Rattle.vb_ram.specs.{Pages.{Pages, frame_at}, Part.{Part, no_part}}
+use Rattle.vb_ring.specs.{Layout.{layout_of, IsBacked}, Calls.AddsUsedBy}
+use Rattle.vb_device.specs.{QueueState.{QueueState, new_queue}}
 use Rattle.vb_device.specs.Base.{numbers_of_frames, index_of, new_queues, queue_at, base_part}
 use Rattle.vb_device.specs.Base.{IsDeviceQueue, IsBase, fresh_device, IsPlain}
 use Rattle.vb_device.specs.BaseCalls.{queue_refusal, with_visit, VisitsNext, with_lost, taken_out}
@@ -109,7 +108,7 @@ base m status capacity e is = (is.each, omega (arith, is.room))
 no_base : (m : Pages) (capacity : ℕ) (queues : List QueueState)
     → (IsBase m 0 8 (counted 0 1 ∷ four) capacity → ⊥) × (IsBase m 0 8 [] capacity → ⊥)
     × (IsBase m 0 12 queues capacity → ⊥) × (length m ≡ 63 → IsBase m 0 8 queues capacity → ⊥)
-    × (length m ≡ 33 → IsBase m 0 8 queues 32 → ⊥)
+    × (length m ≡ 65 → IsBase m 0 8 queues 64 → ⊥)
 no_base m capacity queues = (
   λ is. omega (arith, is.four),
   λ is. omega (arith, is.four),

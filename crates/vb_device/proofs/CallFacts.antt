@@ -1,5 +1,5 @@
 -- What calls leave of a device, worked out.
-use Rattle.std.proofs.Common.{◌≡◌, ℕ, true, false, List, [], ◌∷◌, map, refl, arith, ap}
+use Rattle.std.proofs.Common.{◌≡◌, ◌↔◌, ℕ, true, false, List, [], ◌∷◌, map, refl, arith, ap}
 use Rattle.std.specs.Prelude.{Some, None, length}
 use Rattle.vb_model.specs.Requests.{Request}
 use Rattle.vb_ram.{specs.Pages.{Page, Pages}, specs.Part.{Part, QueuePart, no_part, no_queue}}
@@ -8,7 +8,11 @@ use Rattle.vb_device.specs.Calls.{taking, settled, using, without_frames, lost_f
 use Rattle.vb_device.specs.Calls.{attached, Claims, PutsBack, PopsLoose, HandsBack}
 use Rattle.vb_device.specs.BaseCalls.{visited_queue, page_to_visit, flags_after}
 use Rattle.vb_device.{specs.Discards.{discarded, frames_behind}, specs.Faults.needing_reset}
-use Rattle.vb_device.specs.Own.{has, without}
+use Rattle.vb_device.specs.{Own.{has, without}, Calls.{HasChain, HasFault}}
+use Rattle.vb_device.specs.Queues.{queue_end, next_available}
+use Rattle.vb_ring.specs.{Entries.next_entry, Layout.layout_of}
+use Rattle.vb_chain.specs.{Chain.{ChainGives, FaultGives}, Table.descriptor_at}
+use Rattle.vb_chain.specs.declared.{fault.ChainFault.ChainFault, pieces.Piece.Piece}
 
 abbrev pub asked : ℕ → List ℕ → ℕ → Request
 asked head pages visited = record { head = head; pages = pages; visited = visited }
@@ -105,6 +109,32 @@ uses : using 0 0 busy ≡ record busy {
 }
 uses = refl
 
+uses_the_second : using 0 1 busy
+    ≡ record busy { inflate = record { next_avail = 65535; next_used = 0; taken = asked 1 (1 ∷ []) 1 ∷ [] } }
+uses_the_second = refl
+
+-- the two counts of an end are apart, and what stands next goes by the first
+abbrev counted : Part
+counted = record busy { report = record { next_avail = 5; next_used = 6; taken = [] }; queue_size = 8 }
+
+an_end : queue_end 4 counted ≡ record {
+  layout = layout_of 3 8;
+  size = 8;
+  ready = true;
+  next_avail = 5;
+  next_used = 6;
+}
+an_end = refl
+
+next_of_it : (m : Pages) → next_available 4 m counted ≡ next_entry m (layout_of 3 8) 8 5
+next_of_it m = refl
+
+-- chains and faults are those of the queue's own table
+chains : (m : Pages) (h : ℕ) (pieces : List Piece) (fault : ChainFault)
+    → (HasChain 4 mem counted h pieces ↔ ChainGives (descriptor_at mem 3) 8 16384 h pieces)
+    × (HasFault 4 mem counted h fault ↔ FaultGives (descriptor_at mem 3) 8 16384 h fault)
+chains m h pieces fault = ((λ is. is, λ is. is), (λ is. is, λ is. is))
+
 settles : map (λ q. (settled q (1 ∷ 3 ∷ []) busy).ballooned) (0 ∷ 1 ∷ 4 ∷ [])
     ≡ (false ∷ true ∷ false ∷ true ∷ []) ∷ (false ∷ false ∷ false ∷ false ∷ [])
     ∷ (false ∷ true ∷ false ∷ false ∷ []) ∷ []
@@ -131,6 +161,12 @@ needs_reset = refl
 a_guest : attached (record { pages = 3; queue_size = 8; processors = 1 }) busy
     ≡ record no_part { ballooned = false ∷ false ∷ false ∷ []; queue_size = 8; paced = true }
 a_guest = refl
+
+-- nothing is left of the guest before
+another_guest : attached (record { pages = 1; queue_size = 8; processors = 1 })
+    (record busy { target = 5; actual = 3; features = 1; queue_size = 2 })
+    ≡ record no_part { ballooned = false ∷ []; queue_size = 8; paced = true }
+another_guest = refl
 
 own : map (has (4 ∷ 6 ∷ [])) (4 ∷ 5 ∷ 6 ∷ []) ≡ true ∷ false ∷ true ∷ []
 own = refl

@@ -1,7 +1,7 @@
 -- What the records of frames say: loose ones, and those of a device's own. What isn't so would make
 -- two things alike that aren't.
-use Rattle.std.proofs.Common.{◌≡◌, ℕ, ◌==◌, true, false, List, [], ◌∷◌, refl, arith}
-use Rattle.std.specs.Prelude.{Bool, Some, None}
+use Rattle.std.proofs.Common.{◌≡◌, ℕ, ◌+◌, ◌≤◌, ◌==◌, true, false, List, [], ◌∷◌, refl, arith}
+use Rattle.std.specs.Prelude.{Bool, Some, None, length}
 use Rattle.vb_ram.{specs.Pages.Page, specs.Part.{Part, no_part}}
 use Rattle.vb_model.{specs.declared.calls.Claim.Claim, specs.Guest.zero_page}
 use Rattle.vb_model.specs.declared.calls.Claim.TheVariants.{Gave as GaveNumber}
@@ -16,14 +16,16 @@ not_the_same : (SameFrames (7 ∷ 9 ∷ []) (7 ∷ []) → ⊥) × (SameFrames (
 not_the_same = (λ same. omega (arith, same 9), λ same. omega (arith, same 9))
 
 pops : (p2 : Part) → (PopsLoose (keeper (9 ∷ []) (4 ∷ [])) p2 (Some (frame 9))
-    → SameFrames (9 ∷ []) (9 ∷ p2.loose) × (p2 ≡ keeper p2.loose (4 ∷ [])))
+    → SameFrames (9 ∷ []) (9 ∷ p2.loose) × (1 ≡ length p2.loose + 1)
+    × (p2 ≡ keeper p2.loose (4 ∷ [])))
     × (PopsLoose (keeper [] (4 ∷ [])) p2 None → p2 ≡ keeper [] (4 ∷ []))
-pops p2 = (λ by. (by.0, by.2), λ by. by.1)
+pops p2 = (λ by. (by.0, by.1, by.2), λ by. by.1)
 
 hands_back : (p2 : Part)
-    → (HandsBack (keeper (7 ∷ []) (4 ∷ [])) p2 (Some (frame 7)) → p2 ≡ keeper p2.loose p2.own)
+    → (HandsBack (keeper (7 ∷ []) (4 ∷ [])) p2 (Some (frame 7))
+    → (p2 ≡ keeper p2.loose p2.own) × (length p2.loose + 1 ≤ 1))
     × (HandsBack (keeper (9 ∷ []) (9 ∷ [])) p2 None → p2.loose ≡ [])
-hands_back p2 = (λ back. back.0.part, λ back. back.1)
+hands_back p2 = (λ back. (back.0.part, back.0.fewer), λ back. back.1)
 
 -- ---- a claim
 

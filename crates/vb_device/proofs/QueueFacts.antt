@@ -1,16 +1,16 @@
 -- What one queue of a device is, and what its take says of one state.
-use Rattle.std.proofs.Common.{◌≡◌, ◌↔◌, ℕ, ◌<◌, ◌≤◌, true, false, List, [], ◌∷◌, map, refl, arith}
-use Rattle.std.specs.Prelude.{Option, Some, None, Result, Ok, Err, Bool, All, length, replicate}
+use Rattle.std.proofs.Common.{◌≡◌, ◌↔◌, ℕ, ◌≤◌, true, false, List, [], ◌∷◌, map, refl, arith}
+use Rattle.std.specs.Prelude.{Option, Some, None, Result, Ok, Err, Bool, All, replicate}
 use Rattle.std.proofs.lemmas.List.Elements.{All-cons, All-nil}
 use Rattle.vb_model.specs.declared.replies.{Refusal.Refusal, LastStatistics.LastStatistics}
 use Rattle.vb_model.specs.declared.replies.Refusal.TheVariants.{Broken, Busy, NotTaken, NotWorked}
 use Rattle.vb_model.specs.declared.replies.Refusal.TheVariants.{NotReady}
-use Rattle.vb_model.specs.{Requests.Request, Guest.no_statistics}
+use Rattle.vb_model.specs.{Requests.Request}
 use Rattle.vb_chain.specs.{Chain.{ChainGives, FaultGives}, Table.descriptor_at}
 use Rattle.vb_chain.specs.declared.{fault.ChainFault.ChainFault, pieces.Piece.Piece}
 use Rattle.vb_chain.specs.declared.fault.ChainFault.TheVariants.{IndexJump, BadLength, Indirect}
 use Rattle.vb_request.specs.Asked.{request_of, noted}
-use Rattle.vb_ram.specs.{Pages.{Pages, byte_at, field}, Part.QueuePart}
+use Rattle.vb_ram.specs.{Pages.{Pages, byte_at, field}}
 use Rattle.vb_ring.specs.Layout.{layout_of}
 use Rattle.vb_device.{proofs.CallFacts.{asked, mem}, specs.QueueState.{QueueState, part_of}}
 use Rattle.vb_device.specs.QueueState.{new_queue, IsTaken, restarted, with_request, next_of}
@@ -103,6 +103,14 @@ chains : (h : ℕ) (pieces : List Piece) (fault : ChainFault)
     → (IsChainOf mem going h pieces ↔ ChainGives (descriptor_at mem 1) 8 16384 h pieces)
     × (IsFaultOf mem going h fault ↔ FaultGives (descriptor_at mem 1) 8 16384 h fault)
 chains h pieces fault = ((λ is. is, λ is. is), (λ is. is, λ is. is))
+
+-- a large queue's table is in a page of its own
+chains_of_a_large_queue : (h : ℕ) (pieces : List Piece) (fault : ChainFault)
+    → (IsChainOf mem (new_queue 4 256) h pieces
+    ↔ ChainGives (descriptor_at mem 22) 256 16384 h pieces)
+    × (IsFaultOf mem (new_queue 4 256) h fault
+    ↔ FaultGives (descriptor_at mem 22) 256 16384 h fault)
+chains_of_a_large_queue h pieces fault = ((λ is. is, λ is. is), (λ is. is, λ is. is))
 
 -- ---- a request that isn't finished, and a queue with no room: 16 of one of requests, 1 of queue 2
 

@@ -5,7 +5,7 @@ use Rattle.{std.specs.Prelude.{Option, Some, Result, Err, Bool}, vb_model.specs.
 use Rattle.vb_model.specs.declared.replies.Refusal.{Refusal, TheVariants.{NoFeature, NotReady}}
 use Rattle.vb_model.specs.declared.replies.Refusal.TheVariants.{NotBallooned, NotTaken, NotWorked}
 use Rattle.vb_ram.specs.{Pages.{Pages, field}, Part.{Part, no_part, no_queue}}
-use Rattle.{vb_ring.specs.Frame.SameOutside, vb_device.proofs.CallFacts.{asked, queue, mem, busy}}
+use Rattle.{vb_ring.specs.Frame.SameOutside, vb_device.proofs.CallFacts.{asked, queue, frame, mem, busy}}
 use Rattle.vb_device.specs.{declared.worked.Worked.Worked, Calls.{DetachesBy, WorksBy, AsksBy}}
 
 -- MUST_TELL_HOST and STATS_VQ were accepted, and the driver's buffer of statistics is taken.
@@ -139,3 +139,8 @@ detaches : (m2 : Pages) (p2 : Part) → DetachesBy mem m2 (record busy { target 
     })
     × SameFrames p2.loose (7 ∷ 9 ∷ [])
 detaches m2 p2 by = (by.memory, by.part, by.loose)
+
+-- the first page's frame is among them
+detaches_the_first : (m2 : Pages) (p2 : Part) → DetachesBy (Some (frame 4) ∷ mem) m2 busy p2
+    → SameFrames p2.loose (4 ∷ 7 ∷ 9 ∷ [])
+detaches_the_first m2 p2 by = by.loose

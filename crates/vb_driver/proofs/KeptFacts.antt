@@ -1,24 +1,20 @@
 -- What holds of each driver, of its queues, of its tables and of its page areas, and what doesn't.
-use Rattle.std.proofs.Common.{◌≡◌, ◌↔◌, ℕ, zero, suc, ◌+◌, ◌*◌, ◌<◌, ◌≤◌, true, false, List, []}
+use Rattle.std.proofs.Common.{◌≡◌, ℕ, ◌+◌, true, false, List, []}
 use Rattle.std.proofs.Common.{◌∷◌, ◌++◌, map, refl, ap, arith}
-use Rattle.std.specs.Prelude.{Option, Some, None, Result, Ok, Err, Bool, IsTrue, length, replicate}
+use Rattle.std.specs.Prelude.{Option, Some, None, Bool, length, replicate}
 use Rattle.std.specs.Prelude.{slice_index_or, count_by, slice_set}
 use Rattle.vb_model.specs.declared.places.Place.{Place}
 use Rattle.vb_model.specs.declared.places.Place.TheVariants.{Reserved, Free, Used, Giving, Lent}
 use Rattle.vb_model.specs.declared.places.Place.TheVariants.{Taking, Stranded, Reporting}
-use Rattle.vb_model.specs.declared.replies.Refusal.TheVariants.{BadOrder, BadCpu, NoPages, NotHeld}
-use Rattle.vb_model.specs.Pages.{Block, block_at, is_lent, is_stranded, is_free}
+use Rattle.vb_model.specs.Pages.{Block, block_at}
 use Rattle.vb_ring.specs.{Ends.DriverEnd, declared.layout.Layout.Layout}
-use Rattle.vb_pages.specs.{FreePages.FreePages, PageState.{PageState, AllocatesBlock}}
-use Rattle.vb_pages.specs.Areas.{unreserved, with_pages, without_pages}
-use Rattle.vb_pages.specs.declared.fault.PageFault.TheVariants.{NoPages as NoFreeBlock}
+use Rattle.vb_pages.specs.Areas.{unreserved}
 use Rattle.vb_driver.specs.State.{DriverState, RequestSide, ReportSide, fresh_driver, fresh_side}
 use Rattle.vb_driver.specs.State.{fresh_ring, fresh_report, IsDriver, AreRequests, IsQueue, naming}
 use Rattle.vb_driver.specs.State.{IsStatisticsQueue, IsAreaBlock, IsReportQueue, giving_count}
-use Rattle.vb_driver.specs.State.{lent_count, stranded_count, free_count, tells_host, sent_by}
+use Rattle.vb_driver.specs.State.{lent_count, stranded_count, free_count, tells_host}
 use Rattle.vb_driver.specs.Places.{number_of, is_at, IsTable, AreLentBits}
-use Rattle.vb_driver.specs.Areas.{flags_of, is_free_at, has_block, AreFor, Becomes, Allots, all_given}
-use Rattle.vb_driver.specs.Areas.{areas_with, areas_without, AreApart}
+use Rattle.vb_driver.specs.Areas.{flags_of}
 use Rattle.vb_driver.proofs.{DriverFacts.busy, Resetting.fresh_kept}
 
 -- ---- a driver of 64 pages as it is made, which is one
@@ -65,7 +61,7 @@ no_requests = (
   λ are. omega (arith, ap (λ (l : List ℕ). length l) (are.unsent 3 refl)),
 )
 
-too_long : (pages : List ℕ) → length pages ≡ 257 → AreRequests (sending (pages ∷ [])) → ⊥
+too_long : (pages : List ℕ) → length pages ≡ 257 → AreRequests (sending (pages ∷ replicate 15 [])) → ⊥
 too_long pages e are = omega (arith, are.short 0)
 
 -- the queue's own number and size
@@ -130,18 +126,18 @@ no_report = (
 
 -- ---- a driver: its sizes and its queues
 
-no_driver : (IsDriver (record made { pages = 63 }) → ⊥) × (IsDriver (record made { pages = 65 }) → ⊥)
-    × (IsDriver (record made { pages = 65537 }) → ⊥)
-    × (IsDriver (record made { queue_size = 12 }) → ⊥)
+no_driver : (places : List Place)
+    → (length places ≡ 63 → IsDriver (record made { pages = 63; places = places }) → ⊥)
+    × (length places ≡ 65537 → IsDriver (record made { pages = 65537; places = places }) → ⊥)
+    × (IsDriver (fresh_driver 64 12 1) → ⊥)
     × (IsDriver (record made { inflate = made.deflate }) → ⊥)
     × (IsDriver (record made { deflate = made.inflate }) → ⊥)
     × (IsDriver (record made { inflate = fresh_side 0 16 }) → ⊥)
     × (IsDriver (record made { statistics = fresh_ring 2 16 }) → ⊥)
     × (IsDriver (record made { report = fresh_report 16 }) → ⊥)
-no_driver = (
-  λ is. omega (arith, is.least),
-  λ is. omega (arith, is.table),
-  λ is. omega (arith, is.most),
+no_driver places = (
+  λ e is. omega (arith, is.least),
+  λ e is. omega (arith, is.most),
   λ is. omega (arith, is.size.divides),
   λ is. omega (arith, is.inflate.number),
   λ is. omega (arith, is.deflate.number),
@@ -160,7 +156,7 @@ abbrev with_places : List Place → DriverState
 with_places more = record made { places = replicate 16 Reserved ++ more }
 
 abbrev named_by : List ℕ → RequestSide → RequestSide
-named_by pages side = record side { sent = pages ∷ [] }
+named_by pages side = record side { sent = pages ∷ replicate 15 [] }
 
 -- a page that an inflate names is giving, and named once; one that a deflate names is taking, where
 -- the host is told first
@@ -258,75 +254,3 @@ lent_bits words are = are.fewest
 no_lent_bits : (AreLentBits (replicate 65 Free ++ Lent ∷ []) (0 ∷ 0 ∷ []) → false ≡ true)
     × (AreLentBits (replicate 65 Free ++ Lent ∷ []) (2 ∷ 2 ∷ []) → true ≡ false)
 no_lent_bits = (λ are. are.tells 1 1 (omega arith), λ are. are.tells 0 1 (omega arith))
-
--- ---- page areas: page 2 is in the areas and page 3 in a list, and both are free
-
-abbrev areas : FreePages
-areas = record {
-  areas = false ∷ false ∷ true ∷ false ∷ [];
-  lists = (3 ∷ []) ∷ [] ∷ [];
-  reserved = 1;
-}
-
-abbrev state : PageState
-state = record { free = areas; held = block_at 1 0 ∷ [] }
-
-free : flags_of areas ≡ false ∷ false ∷ true ∷ true ∷ []
-unfolding flags_of
-free = refl
-
-free_at : map (is_free_at (false ∷ true ∷ [])) (0 ∷ 1 ∷ 2 ∷ []) ≡ false ∷ true ∷ false ∷ []
-free_at = refl
-
--- two free pages are a block of two, and the first page of the areas counts
-blocks : map (has_block state) (0 ∷ 1 ∷ 2 ∷ []) ∷ map (has_block (record state {
-  free = record areas { areas = true ∷ true ∷ false ∷ false ∷ [] };
-})) (0 ∷ 1 ∷ 2 ∷ []) ∷ [] ≡ (true ∷ true ∷ false ∷ []) ∷ (true ∷ true ∷ false ∷ []) ∷ []
-unfolding flags_of
-blocks = refl
-
-only_the_first : has_block (record state {
-  free = record { areas = true ∷ true ∷ false ∷ []; lists = []; reserved = 0 };
-}) 1 ≡ true
-unfolding flags_of
-only_the_first = refl
-
-for_the_same_guest : (new : FreePages)
-    → AreFor areas new ↔ ((length new.lists ≡ 2) × (new.reserved ≡ 1))
-for_the_same_guest new = (
-  λ are. (are.processors, are.reserved),
-  λ all. record { processors = all.0; reserved = all.1 },
-)
-
-becomes : (new : PageState) (flags : List Bool) (held : List Block) → Becomes state new flags held
-    ↔ ((flags_of new.free ≡ flags) × (new.held ≡ held) × AreFor areas new.free)
-becomes new flags held = (
-  λ is. (is.free, is.held, is.same),
-  λ all. record { free = all.0; held = all.1; same = all.2 },
-)
-
--- an allocation that is refused for its words leaves all as it is; one with no block drains the lists
-allots : (new : PageState) (start : ℕ)
-    → (Allots state 0 1 (Ok start) new ↔ AllocatesBlock state 0 1 (Ok start) new)
-    × (Allots state 0 1 (Err NoPages) new ↔ AllocatesBlock state 0 1 (Err NoFreeBlock) new)
-    × (Allots state 0 10 (Err BadOrder) new ↔ (new ≡ state))
-    × (Allots state 2 1 (Err BadCpu) new ↔ (new ≡ state))
-allots new start =
-    ((λ is. is, λ is. is), (λ is. is, λ is. is), (λ is. is, λ is. is), (λ is. is, λ is. is))
-
--- pages that come back one by one, all at once, and pages that leave once the lists are drained
-given : all_given (0 ∷ 1 ∷ []) state ≡ record state {
-  free = record areas { areas = true ∷ true ∷ true ∷ false ∷ [] };
-}
-unfolding with_pages
-given = refl
-
-come_and_leave : areas_with (0 ∷ 3 ∷ []) areas ∷ areas_without (2 ∷ []) areas ∷ []
-    ≡ record areas { areas = true ∷ false ∷ true ∷ true ∷ [] }
-    ∷ record areas { areas = false ∷ false ∷ false ∷ true ∷ []; lists = [] ∷ [] ∷ [] } ∷ []
-unfolding with_pages without_pages
-come_and_leave = refl
-
-not_apart : AreApart (record state { held = block_at 3 0 ∷ [] }) → true ≡ false
-unfolding flags_of
-not_apart are = are.apart 3 refl

@@ -29,3 +29,4 @@ mod DriverFacts
 mod StepFacts
 mod PostFacts
 mod KeptFacts
+mod AreaFacts

@@ -132,6 +132,22 @@ taken_back : after_take busy (Ok (Some 0)) ≡ record busy {
 }
 taken_back = refl
 
+-- the number that were seen goes round, and a new end has seen none and owns none
+seen_goes_round : after_take (record busy { seen = 65535 }) (Ok (Some 3)) ≡ record busy {
+  seen = 0;
+  owner = Some 0 ∷ None ∷ Some 0 ∷ None ∷ None ∷ None ∷ None ∷ None ∷ [];
+}
+seen_goes_round = refl
+
+begins : fresh_end (layout_of 3 2) 2 ≡ record {
+  layout = layout_of 3 2;
+  size = 2;
+  published = 0;
+  seen = 0;
+  owner = None ∷ None ∷ [];
+}
+begins = refl
+
 nothing_taken_back : map (after_take busy) (Ok None ∷ Err IndexAhead ∷ Err NotOutstanding ∷ [])
     ≡ busy ∷ busy ∷ busy ∷ []
 nothing_taken_back = refl

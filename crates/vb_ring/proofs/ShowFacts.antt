@@ -1,7 +1,7 @@
 -- What the records of a ring say: where its parts have room, what stays as it was, which lists its
 -- bytes show, and what its two ends remember.
-use Rattle.std.proofs.Common.{◌≡◌, ◌≢◌, ◌↔◌, ℕ, zero, suc, ◌+◌, ◌*◌, ◌%◌, ◌<◌, ◌≤◌, true, false, List}
-use Rattle.std.proofs.Common.{[], ◌∷◌, ◌++◌, refl, arith, ap, ◌∙◌}
+use Rattle.std.proofs.Common.{◌≡◌, ◌↔◌, ℕ, zero, suc, ◌+◌, ◌*◌, ◌%◌, ◌<◌, ◌≤◌, true, false, List}
+use Rattle.std.proofs.Common.{[], ◌∷◌, refl, arith, ap, ◌∙◌}
 use Rattle.std.specs.Prelude.{Option, Some, None, IsSome, length, replicate, slice_index_or}
 use Rattle.vb_model.specs.Tests.{one_if}
 use Rattle.vb_ram.specs.Pages.{Pages, field, byte_at, page_at, frame_at, contents_at}
@@ -209,13 +209,21 @@ not_free = (
   λ chain. chain.lowest 2 refl (omega arith),
 )
 
--- ---- what the bytes of a ring of 2 at page 3 show of three: all their number, and the last two
+-- ---- what the bytes of a ring of 2 show of three: all their number, and the last two
+
+-- its parts are in pages of their own
+abbrev pub spread : Layout
+spread = record {
+  table = 3;
+  avail = record { page = 4; offset = 32 };
+  used = record { page = 5; offset = 44 };
+}
 
 abbrev elem : ℕ → ℕ → UsedElem
 elem id len = record { id = id; len = len }
 
-shows_heads : (m : Pages) → ShowsAvail m (layout_of 3 2) 2 (7 ∷ 8 ∷ 9 ∷ [])
-    ↔ ((field 2 m 3 34 ≡ 3) × (field 2 m 3 38 ≡ 8) × (field 2 m 3 36 ≡ 9))
+shows_heads : (m : Pages) → ShowsAvail m spread 2 (7 ∷ 8 ∷ 9 ∷ [])
+    ↔ ((field 2 m 4 34 ≡ 3) × (field 2 m 4 38 ≡ 8) × (field 2 m 4 36 ≡ 9))
 shows_heads m = (
   λ shows. (
     shows.index,
@@ -224,17 +232,17 @@ shows_heads m = (
   ),
   λ all. record { index = all.0; entries = entries all.1 all.2 },
 ) where
-  entries : field 2 m 3 38 ≡ 8 → field 2 m 3 36 ≡ 9 → (k : ℕ) → k < 3 → 3 ≤ k + 2
-      → field 2 m 3 (36 + 2 * (k % 2)) ≡ slice_index_or (7 ∷ 8 ∷ 9 ∷ []) k 0
+  entries : field 2 m 4 38 ≡ 8 → field 2 m 4 36 ≡ 9 → (k : ℕ) → k < 3 → 3 ≤ k + 2
+      → field 2 m 4 (36 + 2 * (k % 2)) ≡ slice_index_or (7 ∷ 8 ∷ 9 ∷ []) k 0
   entries one two zero lt few = absurd (omega (arith, few))
   entries one two (suc zero) lt few = one
   entries one two (suc (suc zero)) lt few = two
   entries one two (suc (suc (suc k))) lt few = absurd (omega (arith, lt))
 
 shows_elements : (m : Pages)
-    → ShowsUsed m (layout_of 3 2) 2 (elem 7 1 ∷ elem 8 2 ∷ elem 9 3 ∷ [])
-    → (field 2 m 3 46 ≡ 3) × (field 4 m 3 56 ≡ 8) × (field 4 m 3 60 ≡ 2) × (field 4 m 3 48 ≡ 9)
-    × (field 4 m 3 52 ≡ 3)
+    → ShowsUsed m spread 2 (elem 7 1 ∷ elem 8 2 ∷ elem 9 3 ∷ [])
+    → (field 2 m 5 46 ≡ 3) × (field 4 m 5 56 ≡ 8) × (field 4 m 5 60 ≡ 2) × (field 4 m 5 48 ≡ 9)
+    × (field 4 m 5 52 ≡ 3)
 shows_elements m shows = (
   shows.index,
   shows.ids 1 (omega arith) (omega arith),
@@ -246,8 +254,8 @@ shows_elements m shows = (
 -- the numbers go round, and so do those of an end
 goes_round : (m : Pages) (r : DriverEnd) (heads : List ℕ) (elems : List UsedElem)
     → length heads ≡ 65537 → length elems ≡ 65538
-    → (ShowsAvail m (layout_of 3 2) 2 heads → field 2 m 3 34 ≡ 1)
-    × (ShowsUsed m (layout_of 3 2) 2 elems → field 2 m 3 46 ≡ 2)
+    → (ShowsAvail m spread 2 heads → field 2 m 4 34 ≡ 1)
+    × (ShowsUsed m spread 2 elems → field 2 m 5 46 ≡ 2)
     × (Tracks m r heads elems 65538 → (1 ≡ r.published) × (2 ≡ r.seen))
 goes_round m r heads elems one two = (
   λ shows. shows.index ∙ ap (λ (n : ℕ). n % 65536) one,
@@ -256,8 +264,8 @@ goes_round m r heads elems one two = (
 )
 
 shows_both : (m : Pages) (heads : List ℕ) (elems : List UsedElem)
-    → ShowsEntries m (layout_of 3 2) 2 heads elems
-    ↔ (ShowsAvail m (layout_of 3 2) 2 heads × ShowsUsed m (layout_of 3 2) 2 elems)
+    → ShowsEntries m spread 2 heads elems
+    ↔ (ShowsAvail m spread 2 heads × ShowsUsed m spread 2 elems)
 shows_both m heads elems =
     (λ shows. (shows.avail, shows.used), λ all. record { avail = all.0; used = all.1 })
 
@@ -271,10 +279,10 @@ path_past_the_table d path = omega (arith, path.inside 1 (omega arith))
 
 -- no element was used that wasn't published, no more are out than descriptors, and no head twice;
 -- nor do two chains that are out share a descriptor
-shows_no : (m : Pages) → (Shows m (layout_of 3 8) 8 [] (elem 7 0 ∷ []) → ⊥)
-    × (Shows m (layout_of 3 2) 2 (0 ∷ 1 ∷ 2 ∷ []) [] → ⊥)
-    × (Shows m (layout_of 3 8) 8 (7 ∷ 7 ∷ []) [] → ⊥)
-    × (Shows m (layout_of 3 8) 8 (0 ∷ 1 ∷ []) []
+shows_no : (m : Pages) → (Shows m spread 8 [] (elem 7 0 ∷ []) → ⊥)
+    × (Shows m spread 2 (0 ∷ 1 ∷ 2 ∷ []) [] → ⊥)
+    × (Shows m spread 8 (7 ∷ 7 ∷ []) [] → ⊥)
+    × (Shows m spread 8 (0 ∷ 1 ∷ []) []
     → IsTablePath (descriptor_at m 3) 8 0 (0 ∷ 4 ∷ [])
     → IsTablePath (descriptor_at m 3) 8 1 (1 ∷ 2 ∷ 4 ∷ []) → ⊥)
 shows_no m = (
@@ -286,7 +294,7 @@ shows_no m = (
 )
 
 shows : (m : Pages) (heads : List ℕ) (elems : List UsedElem)
-    → Shows m (layout_of 3 2) 2 heads elems → ShowsEntries m (layout_of 3 2) 2 heads elems
+    → Shows m spread 2 heads elems → ShowsEntries m spread 2 heads elems
 shows m heads elems is = is.entries
 
 -- of heads 7 and 8 a driver that has seen 7 as used has 8 out alone, with all of its chain
