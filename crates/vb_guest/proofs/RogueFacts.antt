@@ -70,6 +70,10 @@ rogue_up m part = (
   λ all. record { backed = all.0; inflates = all.1; reports = all.2 },
 )
 
+rogue_up_larger : (m : Pages) (part : Part) → IsRogueUp 256 m part
+    → (page : ℕ) → is_start_page 256 page ≡ true → IsSome (frame_at m page)
+rogue_up_larger m part is = is.backed
+
 abbrev wild : Guest
 wild = record guest { rogue = true }
 

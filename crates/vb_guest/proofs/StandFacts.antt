@@ -261,6 +261,12 @@ running_at : (m : Pages) (part : Part) (d : DriverState) (status : ℕ)
     → IsRunning m part d (record guest { status = status }) → status ≡ 15
 running_at m part d status is = is.state
 
+-- with two pages a ring other pages need frames
+running_larger : (m : Pages) (part : Part) (d : DriverState)
+    → IsRunning m part d (record guest { config = record small { queue_size = 256 } })
+    → (page : ℕ) → is_start_page 256 page ≡ true → IsSome (frame_at m page)
+running_larger m part d is = is.backed
+
 ties : (m : Pages) (part : Part) (d : DriverState) (g : Guest) → Ties m part d g
     ↔ (HasParts (beside_queues part) (beside_sides d) (beside_requests g)
     × HasPages m g.config.queue_size g.config.pages g.frames g.contents
