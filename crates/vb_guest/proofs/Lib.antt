@@ -75,3 +75,7 @@ pub mod Filling
 pub mod Quiet
 mod SupplyFacts
 mod ExactFacts
+mod StandFacts
+mod RogueFacts
+mod LineFacts
+mod LifeFacts
