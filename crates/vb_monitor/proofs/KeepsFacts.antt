@@ -1,5 +1,5 @@
 -- Notices that keep all pages, worked out: what they name is told, and nothing is discarded.
-use Rattle.std.proofs.Common.{◌≡◌, refl, ap, subst, ℕ, Bool, true, false, List, [], ◌∷◌, map, None, Ok}
+use Rattle.std.proofs.Common.{◌≡◌, refl, ap, subst, Bool, true, false, List, [], ◌∷◌, map, None, Ok}
 use Rattle.vb_core.specs.declared.kinds.Kind.{Kind}
 use Rattle.vb_core.specs.declared.kinds.Kind.TheVariants.{Inflate, Deflate, Statistics, Report}
 use Rattle.vb_core.{specs.declared.device.Device.Device}
@@ -8,8 +8,8 @@ use Rattle.vb_core.specs.declared.runs.Run.{Run}
 use Rattle.vb_monitor.specs.Accesses.{Access, ReadWord, CopyBytes, Acquire, Release, Full, TellPages, TellFigures, Discard, WriteNumber, WriteWord}
 use Rattle.vb_monitor.specs.{Ends.Whole, Notices.{Serves, fresh, with_chains}, SoFar.{left, without_first}}
 use Rattle.vb_monitor.specs.Giving.{Then, is_kept, kept_pages, cuts_for, with_given, spent, after_use, TellsThen}
-use Rattle.vb_monitor.{specs.Turns.{TellsInTurn, IsNext}, proofs.TurnLaws.tells_in_turn, proofs.TouchLemmas.in_order}
-use Rattle.vb_monitor.proofs.Samples.{Same, two, at, ready, tally, page_5, cut_5, one_page, pages, discard, id, used_length, used_index}
+use Rattle.vb_monitor.{specs.Turns.{TellsInTurn, IsNext}, proofs.TurnLaws.tells_in_turn, proofs.TurnLaws.in_order}
+use Rattle.vb_monitor.proofs.Samples.{two, at, ready, tally, page_5, one_page, pages, discard, id, used_length, used_index}
 use Rattle.vb_monitor.proofs.Samples.{index, entry, descriptor, part, number, last_descriptor, flags, given, budget, outcome}
 use Rattle.vb_monitor.proofs.WholeFacts.{taken, used, names_5}
 

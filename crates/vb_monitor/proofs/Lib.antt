@@ -8,12 +8,9 @@ pub mod UsualLemmas
 pub mod GoesLemmas
 pub mod LeftLemmas
 pub mod OrderLemmas
-pub mod GivenLemmas
-pub mod RowLemmas
 pub mod TableRowLemmas
 pub mod TouchLemmas
 pub mod PartCounts
-pub mod CountLemmas
 mod RegionFacts
 mod SoleFacts
 mod FewFacts
@@ -23,9 +20,11 @@ mod OrderFacts
 pub mod PlaceLemmas
 mod PlaceFacts
 mod RestoreFacts
+pub mod TurnEnds
 pub mod TurnLemmas
 pub mod NamedLemmas
 pub mod TurnRows
+pub mod TurnWalks
 pub mod TurnLaws
 pub mod AskingLemmas
 pub mod PartsOfRunLemmas

@@ -11,7 +11,7 @@ use Rattle.vb_core.specs.declared.device.{Denial.TheVariants.NoQueue, Device.Dev
 use Rattle.vb_core.specs.declared.{kinds.Kind.Kind, kinds.Kind.TheVariants.Report, name.Named.Named}
 use Rattle.vb_core.specs.declared.{ring.Virtqueue.Virtqueue, runs.Run.Run}
 use Rattle.vb_monitor.specs.Turns.{TellNumbers, TellPieces}
-use Rattle.vb_monitor.proofs.TurnLemmas.{moves}
+use Rattle.vb_monitor.proofs.TurnEnds.{moves}
 
 -- ---- where the flags lie is no other
 

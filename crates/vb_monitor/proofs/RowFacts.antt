@@ -1,8 +1,8 @@
 -- What may come directly behind what, worked out: of each access what it may follow, and what not.
 use Rattle.std.proofs.Common.{◌≡◌, refl, true, false, List, [], ◌∷◌, map, Option, Some, None}
 use Rattle.vb_monitor.specs.Accesses.{Access, Acquire, Release, Full}
-use Rattle.vb_monitor.specs.Order.{Row, Cuts, MayFollow, is_copied, is_word, is_read, is_told, is_named, is_number}
-use Rattle.vb_monitor.proofs.Samples.{cut_5, cut_20, index, entry, descriptor, part, pages, figures, discard, id, used_length, used_index, flags}
+use Rattle.vb_monitor.specs.Order.{Row, MayFollow, is_copied, is_word, is_read, is_told, is_named, is_number}
+use Rattle.vb_monitor.proofs.Samples.{index, entry, descriptor, part, pages, figures, discard, id, used_length, used_index, flags}
 
 -- ---- what stands before
 
@@ -124,11 +124,3 @@ index_behind_a_full_fence h = absurd cc
 
 index_first : MayFollow None used_index → ⊥
 index_first h = absurd cc
-
--- ---- parts that may be discarded one behind the other
-
-abbrev may_all : Cuts MayFollow (cut_5 ∷ cut_20 ∷ [])
-may_all = ((λ before told. told), ((λ before told. told), tt))
-
-none_behind_bytes : Cuts (λ before x. MayFollow (Some part) x) (cut_5 ∷ []) → ⊥
-none_behind_bytes may = let e : false ≡ true = may.0 (Some pages) refl in absurd cc

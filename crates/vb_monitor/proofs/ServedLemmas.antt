@@ -24,7 +24,7 @@ use Rattle.vb_monitor.specs.{Machine.{AheadAt, Room}, Notices.{stands, ServesPub
 use Rattle.vb_monitor.specs.{Served.{goes_on, none_left}, declared.usual.NextWord.NextWord}
 use Rattle.vb_monitor.specs.Usual.{word_by, word_place, phase_at, tally_at}
 use Rattle.vb_core.specs.declared.ring.Virtqueue.{Virtqueue}
-use Rattle.vb_monitor.proofs.{TurnLemmas.moves, UsualLemmas.word_goes}
+use Rattle.vb_monitor.proofs.{TurnEnds.moves, UsualLemmas.word_goes}
 use Rattle.vb_monitor.proofs.{NextLemmas.copies_none, RoomLemmas.few_named}
 
 -- ---- a queue that is served stays so

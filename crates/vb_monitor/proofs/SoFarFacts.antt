@@ -1,10 +1,10 @@
 -- What accesses say so far, worked out. Of a list the last access stands first.
-use Rattle.std.proofs.Common.{◌≡◌, refl, ℕ, Bool, true, false, List, [], ◌∷◌, map}
+use Rattle.std.proofs.Common.{◌≡◌, refl, ℕ, Bool, true, false, List, [], ◌∷◌, map, Option, Some, None}
 use Rattle.vb_core.specs.declared.kinds.Kind.TheVariants.{Inflate, Deflate, Statistics, Report}
 use Rattle.vb_monitor.specs.declared.cuts.Cut.{Cut}
 use Rattle.vb_monitor.specs.declared.parts.Part.{Part}
 use Rattle.vb_monitor.specs.Accesses.{Access, CopyBytes, Acquire, Release, Full, TellPages}
-use Rattle.vb_monitor.specs.SoFar.{Each, Known, Unknown, Walks, Has, parts_read, with_copied, is_fenced, known, ring_after, left}
+use Rattle.vb_monitor.specs.SoFar.{Each, Known, Unknown, Walks, Has, parts_read, with_copied, is_fenced, known, ring_after, index_read, left}
 use Rattle.vb_monitor.proofs.Samples.{two, ring, page_5, one_page, over_the_hole, cut_5, cut_20, cut_22, piece, first_descriptor, last_descriptor, number, index, entry, descriptor, part, pages, figures, discard, id, used_length, used_index, flags}
 
 -- ---- what is known of a chain
@@ -124,6 +124,23 @@ one_used = refl
 twice : ring_after ring (used_index ∷ pages ∷ entry ∷ used_index ∷ pages ∷ index ∷ []) ≡
     record ring { next_avail = 2; next_used = 2 }
 twice = refl
+
+-- ---- the index that was read
+
+-- the word that was read first, and no later one
+first_word : index_read (flags ∷ Full ∷ used_index ∷ entry ∷ Acquire ∷ index ∷ []) ≡ Some 1
+first_word = refl
+
+none_was_read : index_read [] ≡ None
+none_was_read = refl
+
+-- no other access reads one
+abbrev read_by : Access → Option ℕ
+read_by x = index_read (x ∷ [])
+
+one_reads : map read_by (index ∷ part ∷ Acquire ∷ Release ∷ Full ∷ pages ∷ figures ∷ discard ∷ id ∷ used_index ∷ []) ≡
+    Some 1 ∷ None ∷ None ∷ None ∷ None ∷ None ∷ None ∷ None ∷ None ∷ None ∷ []
+one_reads = refl
 
 -- ---- what is left to discard
 

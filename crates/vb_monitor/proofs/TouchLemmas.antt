@@ -1,14 +1,12 @@
 -- What is found lies within a region.
-use Rattle.std.proofs.Common.{◌≡◌, sym, subst, refl, arith, ℕ, suc, ◌+◌, ◌-◌, ◌≤◌}
-use Rattle.std.proofs.Common.{Bool, true, false, List, [], ◌∷◌, ◌++◌, Option, Some, None}
+use Rattle.std.proofs.Common.{◌≡◌, subst, refl, arith, ℕ, suc, ◌+◌, ◌-◌, ◌≤◌}
+use Rattle.std.proofs.Common.{Bool, true, false, List, [], ◌∷◌, ◌++◌, Some}
 use Rattle.std.{specs.Prelude.{slice_get, if◌then◌else◌}, proofs.lemmas.Bool.Decides.nat_tests}
-use Rattle.vb_core.specs.declared.{kinds.Kind.Kind, runs.Run.Run, device.Device.Device}
-use Rattle.vb_monitor.{proofs.GivenLemmas.Allows, proofs.RowLemmas.looks_row, specs.Accesses.Access}
-use Rattle.vb_monitor.specs.{Ends.Whole, Notices.{Serves, fresh}, Order.{Row, Cuts, MayFollow}}
+use Rattle.vb_core.specs.declared.{kinds.Kind.Kind, runs.Run.Run}
+use Rattle.vb_core.specs.declared.kinds.Kind.TheVariants.{Inflate, Deflate, Statistics, Report}
 use Rattle.vb_monitor.specs.Regions.{is_region, holds, spot_from, spot, meets, cut_of, cuts_from}
-use Rattle.vb_monitor.specs.{Regions.cuts_of, Touched.{IsWithin, Touches}, declared.cuts.Cut.Cut}
-use Rattle.vb_monitor.specs.declared.outcome.{Budget.Budget, Outcome.Outcome}
-use Rattle.vb_monitor.specs.declared.regions.{Region.Region, Spot.Spot}
+use Rattle.vb_monitor.specs.{Regions.cuts_of, Giving.cuts_for, Touched.IsWithin}
+use Rattle.vb_monitor.specs.declared.{cuts.Cut.Cut, regions.Region.Region, regions.Spot.Spot}
 
 -- the bytes lie in the region that is so many behind the first one
 pub record IsIn (rs : List Region) (k offset len : ℕ) : Type 0 where
@@ -60,88 +58,50 @@ is_cut : (r : Region) (run : Run) (n : ℕ) → meets r run ≡ true →
     (is_region r ≡ true) × ((cut_of n r run).offset + (cut_of n r run).length ≤ r.length)
 is_cut r run n h = (grind (arith, nat_tests), grind (arith, nat_tests))
 
--- whatever stands before, the access touches guest memory alone
-abbrev Any : List Region → Option Access → Access → Type 0
-Any regions before x = Touches regions x
+-- each part lies within its region
+abbrev pub AllWithin : List Region → List Cut → Type 0
+AllWithin regions [] = Unit {0}
+AllWithin regions (cut ∷ cuts) =
+    IsWithin regions cut.region cut.offset cut.length × AllWithin regions cuts
 
 cuts_by : (all : List Region) (r : Region) (rs : List Region) (n : ℕ) (run : Run) (b : Bool) →
-    meets r run ≡ b → slice_get all n ≡ Some r → Cuts (Any all) (cuts_from (n + 1) rs run) →
-    Cuts (Any all)
+    meets r run ≡ b → slice_get all n ≡ Some r → AllWithin all (cuts_from (n + 1) rs run) →
+    AllWithin all
     (if b then cut_of n r run ∷ cuts_from (n + 1) rs run else cuts_from (n + 1) rs run)
 cuts_by all r rs n run true e there rest =
     let is = is_cut r run n e in
-    ((λ before told. record { region = r; there = there; possible = is.0; inside = is.1 }), rest)
+    (record { region = r; there = there; possible = is.0; inside = is.1 }, rest)
 cuts_by all r rs n run false e there rest = rest
 
-cuts_within : (all rs : List Region) (n : ℕ) (run : Run) →
+run_within : (all rs : List Region) (n : ℕ) (run : Run) →
     ((k : ℕ) (r : Region) → slice_get rs k ≡ Some r → slice_get all (n + k) ≡ Some r) →
-    Cuts (Any all) (cuts_from n rs run)
-cuts_within all [] n run inside = tt
-cuts_within all (r ∷ rs) n run inside =
+    AllWithin all (cuts_from n rs run)
+run_within all [] n run inside = tt
+run_within all (r ∷ rs) n run inside =
     let zero_on : n + 0 ≡ n = omega arith in
     cuts_by all r rs n run (meets r run) refl
     (subst (λ (k : ℕ). slice_get all k ≡ Some r) zero_on (inside 0 r refl))
-    (cuts_within all rs (n + 1) run (λ k s e.
+    (run_within all rs (n + 1) run (λ k s e.
     let on : n + suc k ≡ n + 1 + k = omega arith in
     subst (λ (j : ℕ). slice_get all j ≡ Some s) on (inside (suc k) s e)))
 
-append_cuts : (may : Option Access → Access → Type 0) (xs ys : List Cut) → Cuts may xs →
-    Cuts may ys → Cuts may (xs ++ ys)
-append_cuts may [] ys a b = b
-append_cuts may (x ∷ xs) ys a b = (a.0, append_cuts may xs ys a.1 b)
+both_within : (all : List Region) (xs ys : List Cut) → AllWithin all xs → AllWithin all ys →
+    AllWithin all (xs ++ ys)
+both_within all [] ys a b = b
+both_within all (x ∷ xs) ys a b = (a.0, both_within all xs ys a.1 b)
 
-runs_within : (all : List Region) (runs : List Run) → Cuts (Any all) (cuts_of all runs)
+runs_within : (all : List Region) (runs : List Run) → AllWithin all (cuts_of all runs)
 runs_within all [] = tt
-runs_within all (run ∷ runs) = append_cuts (Any all) (cuts_from 0 all run) (cuts_of all runs)
-    (cuts_within all all 0 run (λ k r e.
+runs_within all (run ∷ runs) = both_within all (cuts_from 0 all run) (cuts_of all runs)
+    (run_within all all 0 run (λ k r e.
     let on : k ≡ 0 + k = omega arith in subst (λ (j : ℕ). slice_get all j ≡ Some r) on e))
     (runs_within all runs)
 
--- ---- the laws
-
-allowed : (w : Whole) → Allows w (Any w.regions)
-allowed w = record {
-  word = λ b a at answer e. within w.regions a 2 at e;
-  copy = λ b a len at bytes was e long. subst (λ (n : ℕ). IsWithin w.regions at.region at.offset n)
-      (sym long) (within w.regions a len at e);
-  acquire = λ b was. tt;
-  release = λ at n. tt;
-  full = λ b. tt;
-  pages = λ b runs named copied. tt;
-  figures = λ b figures copied. tt;
-  discards = λ runs. runs_within w.regions runs;
-  number = λ b a at n told e. within w.regions a 4 at e;
-  index = λ a at n e. within w.regions a 2 at e;
-}
-
-pub touched : (regions : List Region) (kind : Kind) (budget : Budget) (d1 d2 : Device)
-    (outcome : Outcome) (log : List Access) → Serves regions kind budget d1 d2 outcome log →
-    Row (λ before x. Touches regions x) None log
-touched regions kind budget d1 d2 outcome log h =
-    let w : Whole = record { regions = regions; kind = kind; device = d2; outcome = outcome } in
-    looks_row budget.chains w (Any regions) (allowed w) d1 (fresh budget) None log h
-
-all_cuts : (cuts : List Cut) → Cuts MayFollow cuts
-all_cuts [] = tt
-all_cuts (cut ∷ cuts) = ((λ before told. told), all_cuts cuts)
-
-ordered : (w : Whole) → Allows w MayFollow
-ordered w = record {
-  word = λ b a at answer e. tt;
-  copy = λ b a len at bytes was e long. was;
-  acquire = λ b was. was;
-  release = λ at n. refl;
-  full = λ b. tt;
-  pages = λ b runs named copied. copied;
-  figures = λ b figures copied. copied;
-  discards = λ runs. all_cuts (cuts_of w.regions runs);
-  number = λ b a at n told e. told;
-  index = λ a at n e. refl;
-}
-
-pub in_order : (regions : List Region) (kind : Kind) (budget : Budget) (d1 d2 : Device)
-    (outcome : Outcome) (log : List Access) → Serves regions kind budget d1 d2 outcome log →
-    Row MayFollow None log
-in_order regions kind budget d1 d2 outcome log h =
-    let w : Whole = record { regions = regions; kind = kind; device = d2; outcome = outcome } in
-    looks_row budget.chains w MayFollow (ordered w) d1 (fresh budget) None log h
+pub cuts_within : (all : List Region) (kind : Kind) (kept : Bool) (runs : List Run) →
+    AllWithin all (cuts_for kind kept all runs)
+cuts_within all Inflate true runs = tt
+cuts_within all Inflate false runs = runs_within all runs
+cuts_within all Deflate kept runs = tt
+cuts_within all Statistics kept runs = tt
+cuts_within all Report true runs = tt
+cuts_within all Report false runs = runs_within all runs

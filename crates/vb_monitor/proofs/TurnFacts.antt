@@ -1,10 +1,16 @@
 -- Which reads come in their turn, worked out. Of a list the last access stands first.
-use Rattle.std.proofs.Common.{◌≡◌, refl, ap, arith, ℕ, Bool, true, false, List, [], ◌∷◌, ◌++◌, map, Option, Some, None}
+use Rattle.std.proofs.Common.{◌≡◌, refl, ap, arith, ℕ, Bool, true, false, List, [], ◌∷◌, ◌++◌, map, Option, Some, None, Result, Ok, Err}
+use Rattle.vb_chain.specs.declared.fault.ChainFault.{ChainFault}
 use Rattle.vb_core.specs.declared.kinds.Kind.TheVariants.{Inflate, Report}
+use Rattle.vb_core.specs.declared.device.Device.{Device}
 use Rattle.vb_monitor.specs.declared.regions.Spot.{Spot}
 use Rattle.vb_monitor.specs.Accesses.{Access, ReadWord, CopyBytes, Acquire, Release, Full}
 use Rattle.vb_monitor.specs.Turns.{ReadsWord, is_over, ReadsInTurn}
 use Rattle.vb_monitor.proofs.Samples.{Same, two, at, ring, ready, naming, first_descriptor, last_descriptor, zeros, with_two, number, index, entry, descriptor, part, pages, figures, discard, id, used_length, used_index, flags}
+
+abbrev is_there : Result Bool ChainFault → Bool
+is_there (Ok there) = there
+is_there (Err fault) = false
 
 abbrev offset_in : Option Spot → ℕ
 offset_in None = 0
@@ -181,7 +187,33 @@ once_used h = absurd h
 -- ---- fences, and the rest
 
 fence_behind_the_index : ReadsInTurn two Inflate ready (index ∷ []) Acquire
-fence_behind_the_index = (refl, refl)
+fence_behind_the_index = (refl, refl, refl)
+
+-- none before the index was read, nor where it publishes none, or more than the queue has
+fence_first : ReadsInTurn two Inflate ready [] Acquire → ⊥
+fence_first h = absurd h.2
+
+abbrev Fenced : Device → ℕ → Type 0
+Fenced d n = ReadsInTurn two Inflate d (ReadWord (at 0x102) n ∷ []) Acquire
+
+all_published : Fenced ready 8
+all_published = (refl, refl, refl)
+
+none_published : Fenced ready 0 → ⊥
+none_published h = let e : false ≡ true = ap is_there h.2 in absurd cc
+
+more_than_the_queue : Fenced ready 9 → ⊥
+more_than_the_queue h = let e : false ≡ true = ap is_there h.2 in absurd cc
+
+-- indices begin anew behind 65535
+abbrev far : Device
+far = record ready { inflate = record ring { next_avail = 65535 } }
+
+published_anew : Fenced far 0
+published_anew = (refl, refl, refl)
+
+not_anew : Fenced far 65535 → ⊥
+not_anew h = let e : false ≡ true = ap is_there h.2 in absurd cc
 
 -- none while a chain is served, nor behind the flags
 second_entry : ReadsInTurn two Inflate ready chained Acquire → ⊥
@@ -197,11 +229,19 @@ flags_twice : ReadsInTurn two Inflate ready (flags ∷ Full ∷ index ∷ []) Fu
 flags_twice h = let e : true ≡ false = h in absurd cc
 
 -- the entry of the second chain is read once the first one was given back, and the index isn't
+abbrev served_of : ℕ → List Access
+served_of n = used_index ∷ Release ∷ used_length ∷ id ∷ discard ∷ pages ∷ part ∷ descriptor ∷ entry
+    ∷ Acquire ∷ ReadWord (at 0x102) n ∷ []
+
 abbrev served : List Access
-served = used_index ∷ Release ∷ used_length ∷ id ∷ discard ∷ pages ∷ part ∷ chained
+served = served_of 2
 
 fence_behind_a_chain : ReadsInTurn two Inflate ready served Acquire
-fence_behind_a_chain = (refl, refl)
+fence_behind_a_chain = (refl, refl, refl)
+
+-- where it publishes that one
+all_were_taken : ReadsInTurn two Inflate ready (served_of 1) Acquire → ⊥
+all_were_taken h = let e : false ≡ true = ap is_there h.2 in absurd cc
 
 second_index : ReadsInTurn two Inflate ready served index → ⊥
 second_index h = absurd h

@@ -1,5 +1,5 @@
 -- A notice of two chains, worked out: page 5 is inflated, by heads 3 and 4. The index is read once.
-use Rattle.std.proofs.Common.{◌≡◌, refl, ap, arith, ℕ, Bool, true, false, List, [], ◌∷◌, ◌++◌, Some, None, Ok}
+use Rattle.std.proofs.Common.{refl, ap, arith, ℕ, Bool, true, false, List, [], ◌∷◌, Some, None, Ok}
 use Rattle.vb_request.specs.Request.{numbers_of}
 use Rattle.vb_chain.specs.declared.fault.ChainFault.TheVariants.{IndexJump}
 use Rattle.vb_core.specs.declared.device.Denial.TheVariants.{Broken}
@@ -11,8 +11,8 @@ use Rattle.vb_monitor.proofs.Samples.{flags, budget, outcome, one_page}
 use Rattle.vb_monitor.specs.Accesses.{Access, ReadWord, CopyBytes, Acquire, Release, Full}
 use Rattle.vb_monitor.specs.Accesses.{WriteNumber, WriteWord}
 use Rattle.vb_monitor.specs.{declared.outcome.{Outcome.Outcome, Tally.Tally}, Giving.after_use}
-use Rattle.vb_monitor.specs.{Ends.Whole, Notices.{Serves, ServesPublished, TakesNext}}
-use Rattle.vb_monitor.proofs.{TouchLemmas.in_order, TurnLaws.reads_in_turn}
+use Rattle.vb_monitor.specs.{Ends.Whole, Notices.{Serves, ServesPublished}}
+use Rattle.vb_monitor.proofs.TurnLaws.{reads_in_turn}
 
 -- ---- the device, behind each chain
 

@@ -8,7 +8,7 @@ use Rattle.vb_monitor.proofs.Samples.{Same, two, ready, page_5, last_descriptor,
 use Rattle.vb_monitor.proofs.Samples.{entry, descriptor, part, pages, discard, id, used_length}
 use Rattle.vb_monitor.{specs.declared.outcome.Outcome.Outcome}
 use Rattle.vb_monitor.{specs.Accesses.{Access, Acquire, Release, Full}, specs.Giving.after_use}
-use Rattle.vb_monitor.{specs.Notices.Serves, proofs.TouchLemmas.in_order}
+use Rattle.vb_monitor.{specs.Notices.Serves, proofs.TurnLaws.in_order}
 use Rattle.vb_monitor.proofs.TurnLaws.{reads_in_turn, tells_in_turn, writes_used}
 use Rattle.vb_monitor.proofs.Samples.{used_index, flags, given, budget, outcome, one_page}
 

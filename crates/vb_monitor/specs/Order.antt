@@ -1,6 +1,5 @@
 -- What comes directly behind what in a list of accesses.
 use Rattle.std.specs.Prelude.{◌≡◌, Bool, true, false, List, [], ◌∷◌, Option, Some, None}
-use Rattle.vb_monitor.specs.declared.cuts.Cut.{Cut}
 use Rattle.vb_monitor.specs.Accesses.{Access, ReadWord, CopyBytes, Acquire, Release, Full}
 use Rattle.vb_monitor.specs.Accesses.{TellPages, TellFigures, Discard, WriteNumber, WriteWord}
 
@@ -94,12 +93,6 @@ is_number (Some (TellPages kind runs named)) = false
 is_number (Some (TellFigures figures)) = false
 is_number (Some (Discard cut)) = false
 is_number (Some (WriteWord at word)) = false
-
--- Each part may be discarded behind pages that were told.
-abbrev pub Cuts : (Option Access → Access → Type 0) → List Cut → Type 0
-Cuts may [] = Unit {0}
-Cuts may (cut ∷ cuts) =
-    ((before : Option Access) → is_told before ≡ true → may before (Discard cut)) × Cuts may cuts
 
 -- ---- the order
 

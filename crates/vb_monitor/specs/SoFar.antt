@@ -118,6 +118,25 @@ ring_after r (Discard cut ∷ xs) = ring_after r xs
 ring_after r (WriteNumber at number ∷ xs) = ring_after r xs
 ring_after r (WriteWord at word ∷ xs) = with_used (ring_after r xs)
 
+-- The index that was read, or else the word that this access reads.
+abbrev pub earlier : Option ℕ → Access → Option ℕ
+earlier (Some index) x = Some index
+earlier None (ReadWord at answer) = Some answer
+earlier None (CopyBytes at answer) = None
+earlier None Acquire = None
+earlier None Release = None
+earlier None Full = None
+earlier None (TellPages kind runs named) = None
+earlier None (TellFigures figures) = None
+earlier None (Discard cut) = None
+earlier None (WriteNumber at number) = None
+earlier None (WriteWord at word) = None
+
+-- The available index: the word that was read first.
+abbrev pub index_read : List Access → Option ℕ
+index_read [] = None
+index_read (x ∷ xs) = earlier (index_read xs) x
+
 -- ---- what is left to discard
 
 abbrev pub without_first : List Cut → List Cut

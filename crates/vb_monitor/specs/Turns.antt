@@ -1,6 +1,6 @@
 -- Which access may come, by what those before it say: what is read, told, discarded and written.
 use Rattle.std.specs.Prelude.{◌≡◌, ℕ, ◌+◌, ◌*◌, ◌/◌, Bool, true, false, List, [], ◌∷◌, length}
-use Rattle.std.specs.Prelude.{map, take, Some, None, Ok}
+use Rattle.std.specs.Prelude.{map, take, Option, Some, None, Ok}
 use Rattle.vb_model.specs.declared.layout.TheConstants.{STATISTIC_SIZE}
 use Rattle.vb_chain.specs.declared.pieces.Piece.{Piece}
 use Rattle.vb_request.specs.Request.{numbers_of}
@@ -30,8 +30,8 @@ use Rattle.vb_monitor.specs.Accesses.{TellPages, TellFigures, Discard, WriteNumb
 use Rattle.vb_monitor.specs.Regions.{spot}
 use Rattle.vb_monitor.specs.Chains.{behind_in_row}
 use Rattle.vb_monitor.specs.Giving.{is_kept}
-use Rattle.vb_monitor.specs.Notices.{entry_offset}
-use Rattle.vb_monitor.specs.SoFar.{Known, Unknown, Walks, Has, known, ring_after, left}
+use Rattle.vb_monitor.specs.Notices.{entry_offset, stands}
+use Rattle.vb_monitor.specs.SoFar.{Known, Unknown, Walks, Has, known, ring_after, index_read, left}
 
 -- ---- what is read
 
@@ -96,15 +96,22 @@ CopiesNext regions r (Has head pieces [] so_far) at bytes = ⊥
 CopiesNext regions r (Has head pieces (part ∷ parts) so_far) at bytes =
     CopiesFrom regions (part.address + part.plus) part.length at bytes
 
+-- The index that was read publishes an entry that wasn't taken yet, and no more than the queue has.
+abbrev pub IsPublished : Option ℕ → Virtqueue → Type 0
+IsPublished None r = ⊥
+IsPublished (Some index) r = stands r index ≡ Ok true
+
 -- What is read comes in its turn: each entry, each row of descriptors and each part of a piece has
--- one. No entry is read while another one's chain is served, and nothing behind the flags.
+-- one. No entry is read that wasn't published, nor while another one's chain is served, and nothing
+-- behind the flags.
 abbrev pub ReadsInTurn : List Region → Kind → Device → List Access → Access → Type 0
 ReadsInTurn regions kind d before (ReadWord at answer) =
     ReadsWord regions (ring_after (ring_of kind d) before) before at
 ReadsInTurn regions kind d before (CopyBytes at answer) =
     CopiesNext regions (ring_after (ring_of kind d) before) (known kind before) at answer
 ReadsInTurn regions kind d before Acquire =
-    (known kind before ≡ Unknown) × (is_over before ≡ false)
+    (known kind before ≡ Unknown)
+    × (is_over before ≡ false) × IsPublished (index_read before) (ring_after (ring_of kind d) before)
 ReadsInTurn regions kind d before Release = Unit {0}
 ReadsInTurn regions kind d before Full = is_over before ≡ false
 ReadsInTurn regions kind d before (TellPages of runs named) = Unit {0}

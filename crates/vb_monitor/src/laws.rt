@@ -46,7 +46,7 @@ ghost use Rattle.vb_core.specs.Using.{use_denial};
 
 /// A notice touches no byte outside its regions: each word and each copy that it reads, each number
 /// that it writes, and all that it discards lies within one of them.
-#[tactic(auto, using(crate::proofs::TouchLemmas::touched))]
+#[tactic(auto, using(crate::proofs::TurnLaws::touched))]
 pub fn nothing_outside_the_regions_is_touched()
     ensures { (regions : List Region) (kind : Kind) (budget : Budget) (d1 d2 : Device)
         (outcome : Outcome) (log : List Access) →
@@ -58,7 +58,7 @@ pub fn nothing_outside_the_regions_is_touched()
 /// are told directly behind bytes that were copied, discards directly behind these pages or other
 /// discards, a used element's numbers directly behind those, a release fence directly behind the
 /// numbers, and the index directly behind that fence (VIRTIO 1.1, 2.6.8).
-#[tactic(auto, using(crate::proofs::TouchLemmas::in_order))]
+#[tactic(auto, using(crate::proofs::TurnLaws::in_order))]
 pub fn accesses_come_in_their_order()
     ensures { (regions : List Region) (kind : Kind) (budget : Budget) (d1 d2 : Device)
         (outcome : Outcome) (log : List Access) →
@@ -75,7 +75,7 @@ pub fn a_run_has_few_parts()
 /// A notice makes few accesses beside its discards: 3, which are the index, and the flags behind
 /// their fence; and at most 775 for each chain that it may serve, which are 2 for its entry, 256
 /// descriptors, two parts for each piece, what is told, and 4 for the used element.
-#[tactic(auto, using(crate::proofs::CountLemmas::few_others))]
+#[tactic(auto, using(crate::proofs::TurnLaws::few_others))]
 pub fn a_notice_makes_few_accesses()
     ensures { (regions : List Region) (kind : Kind) (budget : Budget) (d1 d2 : Device)
         (outcome : Outcome) (log : List Access) →
@@ -83,9 +83,9 @@ pub fn a_notice_makes_few_accesses()
 {}
 
 /// What counts is read once: the index once a notice, first of all; behind it, and behind a chain
-/// that is given back, the entry that is taken next; then rows of its chain's descriptors, each
-/// from the number on that the one before named; and then each part of each piece, in order
-/// (VIRTIO 1.1, 2.6.5 and 2.6.6). A descriptor counts as it stands in the row that was copied last,
+/// that is given back, the entry that is taken next, if that index publishes it; then rows of its
+/// chain's descriptors, each from the number on that the one before named; and then each part of
+/// each piece, in order (VIRTIO 1.1, 2.6.5 and 2.6.6). A descriptor counts as it stands in the row that was copied last,
 /// so nothing is asked for again that this row has, whatever the guest makes of it.
 #[tactic(auto, using(crate::proofs::TurnLaws::reads_in_turn))]
 pub fn what_counts_is_read_once()

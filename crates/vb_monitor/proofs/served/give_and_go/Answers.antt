@@ -1,4 +1,4 @@
-use Rattle.std.proofs.Common.{rules, ◌≡◌, ◌∙◌, ap, ℕ, ◌+◌, ◌<◌, true, Some}
+use Rattle.std.proofs.Common.{rules, ◌≡◌, ◌∙◌, ap, ℕ, ◌<◌, true, Some}
 use Rattle.vb_core.{specs.Devices.ring_of, specs.Rings.used_entry}
 use Rattle.vb_core.{proofs.DenialLemmas.open_call, specs.declared.ring.UsedEntry.UsedEntry}
 use Rattle.vb_monitor.{specs.Served.goes_on, proofs.ServedLemmas.given_goes}

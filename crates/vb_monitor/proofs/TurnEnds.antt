@@ -1,0 +1,193 @@
+-- What each access of a notice is, by those before it, and how many there are: one more, and the end.
+use Rattle.std.proofs.Common.{◌≡◌, ◌∙◌, ap, sym, subst, refl, arith, ℕ, suc, ◌≤◌, Bool, true}
+use Rattle.std.proofs.Common.{false, List, [], ◌∷◌, length, Option, Some, None, rules}
+use Rattle.vb_chain.{specs.declared.fault.ChainFault.ChainFault}
+use Rattle.vb_core.{specs.declared.kinds.Kind.Kind, specs.Rings.{with_taken, with_used}}
+use Rattle.vb_core.{specs.declared.runs.Run.Run, specs.declared.name.Named.Named}
+use Rattle.vb_core.specs.declared.kinds.Kind.TheVariants.{Inflate, Deflate, Statistics, Report}
+use Rattle.vb_core.{specs.declared.ring.Virtqueue.Virtqueue, specs.declared.device.Device.Device}
+use Rattle.vb_core.{specs.declared.device.Denial.Denial}
+use Rattle.vb_core.{specs.Config.keeps_reports}
+use Rattle.vb_core.specs.Devices.{ring_of, with_one_taken, needing_reset, queue_denial}
+use Rattle.vb_monitor.specs.Accesses.{Access, ReadWord, CopyBytes, Acquire, Release, Full}
+use Rattle.vb_monitor.specs.Accesses.{TellPages, TellFigures, Discard, WriteNumber, WriteWord}
+use Rattle.vb_monitor.{proofs.TouchLemmas.{within}, specs.Counts.{no_discard, others}}
+use Rattle.vb_monitor.specs.Giving.{after_use}
+use Rattle.vb_monitor.specs.{declared.outcome.Tally.Tally}
+use Rattle.vb_monitor.specs.Order.{MayFollow, is_read}
+use Rattle.vb_monitor.specs.SoFar.{Each, known, ring_after}
+use Rattle.vb_monitor.specs.SoFar.{index_read, earlier}
+use Rattle.vb_monitor.specs.Turns.{is_over, CopiesNext, ReadsInTurn, TellsInTurn}
+use Rattle.vb_monitor.specs.Turns.{WritesUsedAlone}
+use Rattle.vb_monitor.specs.Touched.{IsWithin, Touches}
+use Rattle.vb_monitor.{specs.Regions.spot, specs.Ends.{Whole, Ends, EndsWhere, FlagsAt, Breaks}}
+use Rattle.vb_monitor.specs.declared.regions.{Spot.Spot}
+
+-- the access that was made last
+abbrev pub newest : List Access → Option Access
+newest [] = None
+newest (x ∷ xs) = Some x
+
+-- the access comes in its turn, stands where it may, and touches memory alone
+pub record Comes (w : Whole) (d0 : Device) (all : Bool) (before : List Access) (x : Access) : Type 0
+  where
+    pub reads : ReadsInTurn w.regions w.kind d0 before x
+    pub tells : TellsInTurn w.regions w.kind all d0 before x
+    pub writes : WritesUsedAlone w.regions w.kind d0 before x
+    pub follows : MayFollow (newest before) x
+    pub touches : Touches w.regions x
+
+-- each of these does, behind those, and beside discards there are so many at most
+pub record Goes (w : Whole) (d0 : Device) (all : Bool) (most : ℕ) (before log : List Access) :
+    Type 0 where
+  pub come : Each (Comes w d0 all) before log
+  pub few : others log ≤ most
+
+-- ---- one access, and those behind it
+
+at_most_one : (x : Access) → no_discard x ≤ 1
+at_most_one (ReadWord at answer) = omega arith
+at_most_one (CopyBytes at answer) = omega arith
+at_most_one Acquire = omega arith
+at_most_one Release = omega arith
+at_most_one Full = omega arith
+at_most_one (TellPages kind runs named) = omega arith
+at_most_one (TellFigures figures) = omega arith
+at_most_one (Discard cut) = omega arith
+at_most_one (WriteNumber at number) = omega arith
+at_most_one (WriteWord at word) = omega arith
+
+pub one_more : (w : Whole) (d0 : Device) (all : Bool) (m k : ℕ) (x : Access)
+    (b rest : List Access) → suc m ≤ k → Comes w d0 all b x → Goes w d0 all m (x ∷ b) rest →
+    Goes w d0 all k b (x ∷ rest)
+one_more w d0 all m k x b rest le is h = record {
+  come = (is, h.come);
+  few = let one = at_most_one x in let few = h.few in omega (arith, le, one, few);
+}
+
+pub asked : (w : Whole) (d0 : Device) (all : Bool) (m : ℕ) (b log start : List Access) →
+    log ≡ start → Goes w d0 all m b start → Goes w d0 all m b log
+asked w d0 all m b log start e h = subst (λ (l : List Access). Goes w d0 all m b l) (sym e) h
+
+nothing : (w : Whole) (d0 : Device) (all : Bool) (m : ℕ) (b log : List Access) → log ≡ [] →
+    Goes w d0 all m b log
+nothing w d0 all m b log e =
+    asked w d0 all m b log [] e (record { come = tt; few = omega arith })
+
+pub more_room : (w : Whole) (d0 : Device) (all : Bool) (m k : ℕ) (b log : List Access) → m ≤ k →
+    Goes w d0 all m b log → Goes w d0 all k b log
+more_room w d0 all m k b log le h =
+    record { come = h.come; few = let few = h.few in omega (arith, le, few) }
+
+-- bytes that are copied in their turn
+pub copy_comes : (w : Whole) (d0 : Device) (all : Bool) (a len : ℕ) (at : Spot) (bytes : List ℕ)
+    (b : List Access) →
+    CopiesNext w.regions (ring_after (ring_of w.kind d0) b) (known w.kind b) at bytes →
+    is_read (newest b) ≡ true → spot w.regions a len ≡ Some at → length bytes ≡ len →
+    Comes w d0 all b (CopyBytes at bytes)
+copy_comes w d0 all a len at bytes b next read e long = record {
+  reads = next;
+  tells = tt;
+  writes = tt;
+  follows = read;
+  touches = subst (λ (n : ℕ). IsWithin w.regions at.region at.offset n) (sym long)
+      (within w.regions a len at e);
+}
+
+-- ---- rings of devices
+
+-- the device is as far in its ring as the accesses before say, and this index was read
+pub record Agrees (w : Whole) (d0 : Device) (published : ℕ) (before : List Access) (d : Device) :
+    Type 0 where
+  pub ring : ring_of w.kind d ≡ ring_after (ring_of w.kind d0) before
+  pub settings : d.settings ≡ d0.settings
+  pub keeps : keeps_reports d ≡ keeps_reports d0
+  pub lasts : is_over before ≡ false
+  pub index : index_read before ≡ Some published
+
+-- what a flaw, a chain that is taken and one that is given back leave of a device, and what moves
+pub record Moves (kind : Kind) (d : Device) : Type 0 where
+  pub same_ring : ring_of kind (needing_reset d) ≡ ring_of kind d
+  pub taken_ring : ring_of kind (with_one_taken kind d) ≡ with_taken (ring_of kind d)
+  pub taken_settings : (with_one_taken kind d).settings ≡ d.settings
+  pub taken_keeps : keeps_reports (with_one_taken kind d) ≡ keeps_reports d
+  pub taken_denial : queue_denial kind (with_one_taken kind d) ≡ queue_denial kind d
+  pub figures_avail : (ring_of kind (with_one_taken Statistics d)).avail ≡ (ring_of kind d).avail
+  pub used_ring : ring_of kind (after_use kind d) ≡ with_used (ring_of kind d)
+  pub used_settings : (after_use kind d).settings ≡ d.settings
+  pub used_keeps : keeps_reports (after_use kind d) ≡ keeps_reports d
+  pub used_denial : queue_denial kind (after_use kind d) ≡ queue_denial kind d
+
+pub moves : (kind : Kind) (d : Device) → Moves kind d
+moves Inflate d = search rules
+moves Deflate d = search rules
+moves Statistics d = search rules
+moves Report d = search rules
+
+-- behind one more access that moves nothing in the ring, and isn't the flags
+pub one_on : (w : Whole) (d0 : Device) (n : ℕ) (x : Access) (b : List Access) (d : Device) →
+    Agrees w d0 n b d → ring_after (ring_of w.kind d0) (x ∷ b) ≡ ring_after (ring_of w.kind d0) b →
+    is_over (x ∷ b) ≡ false → Agrees w d0 n (x ∷ b) d
+one_on w d0 n x b d is e lasts = record {
+  ring = is.ring ∙ sym e;
+  settings = is.settings;
+  keeps = is.keeps;
+  lasts = lasts;
+  index = ap (λ (o : Option ℕ). earlier o x) is.index;
+}
+
+pub one_taken : (w : Whole) (d0 : Device) (n : ℕ) (runs : List Run) (named : Named) (b : List Access)
+    (d : Device) → Agrees w d0 n b d →
+    Agrees w d0 n (TellPages w.kind runs named ∷ b) (with_one_taken w.kind d)
+one_taken w d0 n runs named b d is = record {
+  ring = (moves w.kind d).taken_ring ∙ ap (λ (r : Virtqueue). with_taken r) is.ring;
+  settings = (moves w.kind d).taken_settings ∙ is.settings;
+  keeps = (moves w.kind d).taken_keeps ∙ is.keeps;
+  lasts = refl;
+  index = ap (λ (o : Option ℕ). earlier o (TellPages w.kind runs named)) is.index;
+}
+
+-- ---- the end
+
+-- the flags lie where the queue's are, and weren't read yet
+abbrev pub Flags : Whole → Device → List Access → Device → Type 0
+Flags w d0 b d =
+    ((ring_of w.kind d).avail ≡ (ring_after (ring_of w.kind d0) b).avail) × (is_over b ≡ false)
+
+pub flags_of : (w : Whole) (d0 : Device) (n : ℕ) (b : List Access) (d : Device) →
+    Agrees w d0 n b d → Flags w d0 b d
+flags_of w d0 n b d is = (ap (λ (r : Virtqueue). r.avail) is.ring, is.lasts)
+
+flags_at : (w : Whole) (d0 d : Device) (t : Tally) (why : Option Denial) (more : Bool) (m : ℕ)
+    (o : Option Spot) (b log : List Access) → 2 ≤ m → Flags w d0 b d →
+    spot w.regions (ring_of w.kind d).avail 2 ≡ o → FlagsAt w d t why more o log →
+    Goes w d0 t.keeps m b log
+flags_at w d0 d t why more m None b log le is e h = nothing w d0 t.keeps m b log h.nothing
+flags_at w d0 d t why more m (Some at) b log le is e h = asked w d0 t.keeps m b log _ h.asks
+    (one_more w d0 t.keeps 1 m Full b _ le
+    (record { reads = is.1; tells = tt; writes = tt; follows = tt; touches = tt })
+    (one_more w d0 t.keeps 0 1 (ReadWord at h.flags) (Full ∷ b) _ (omega arith) (record {
+      reads = subst (λ (a : ℕ). spot w.regions a 2 ≡ Some at) is.0 e;
+      tells = tt;
+      writes = tt;
+      follows = tt;
+      touches = within w.regions (ring_of w.kind d).avail 2 at e;
+    }) (nothing w d0 t.keeps 0 (ReadWord at h.flags ∷ Full ∷ b) h.rest h.then_stops.nothing)))
+
+ends_where : (given : Bool) (w : Whole) (d0 d : Device) (t : Tally) (why : Option Denial)
+    (more : Bool) (m : ℕ) (b log : List Access) → 2 ≤ m → Flags w d0 b d →
+    EndsWhere given w d t why more log → Goes w d0 t.keeps m b log
+ends_where false w d0 d t why more m b log le is h = nothing w d0 t.keeps m b log h.nothing
+ends_where true w d0 d t why more m b log le is h =
+    flags_at w d0 d t why more m (spot w.regions (ring_of w.kind d).avail 2) b log le is refl h
+
+pub ends_go : (w : Whole) (d0 d : Device) (t : Tally) (why : Option Denial) (more : Bool) (m : ℕ)
+    (b log : List Access) → 2 ≤ m → Flags w d0 b d → Ends w d t why more log →
+    Goes w d0 t.keeps m b log
+ends_go w d0 d t why more m b log le is h = ends_where t.given w d0 d t why more m b log le is h
+
+pub breaks_go : (w : Whole) (d0 d : Device) (t : Tally) (fault : ChainFault) (m : ℕ)
+    (b log : List Access) → 2 ≤ m → Flags w d0 b d → Breaks w d t fault log →
+    Goes w d0 t.keeps m b log
+breaks_go w d0 d t fault m b log le is h = ends_go w d0 (needing_reset d) t _ false m b log le
+    (ap (λ (r : Virtqueue). r.avail) ((moves w.kind d).same_ring) ∙ is.0, is.1) h
