@@ -1,5 +1,5 @@
 -- What holds of each driver, of its queues, of its tables and of its page areas, and what doesn't.
-use Rattle.std.proofs.Common.{◌≡◌, ℕ, ◌+◌, true, false, List, []}
+use Rattle.std.proofs.Common.{◌≡◌, ℕ, true, false, List, []}
 use Rattle.std.proofs.Common.{◌∷◌, ◌++◌, map, refl, ap, arith}
 use Rattle.std.specs.Prelude.{Option, Some, None, Bool, length, replicate}
 use Rattle.std.specs.Prelude.{slice_index_or, count_by, slice_set}

@@ -30,3 +30,4 @@ mod StepFacts
 mod PostFacts
 mod KeptFacts
 mod AreaFacts
+mod CauseFacts

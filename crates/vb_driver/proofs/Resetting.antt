@@ -1,5 +1,5 @@
 -- What a reset leaves, queues that begin anew, and a driver as it is made.
-use Rattle.std.proofs.Common.{◌≡◌, ◌∙◌, sym, ap, arith, refl, ℕ, zero, suc, replicate, ◌+◌, ◌-◌}
+use Rattle.std.proofs.Common.{◌≡◌, ◌∙◌, sym, ap, arith, refl, ℕ, zero, suc, replicate, ◌+◌}
 use Rattle.std.proofs.Common.{◌<◌, ◌≤◌, Bool, true, false, cond, eqb, ◌||◌, List, [], ◌∷◌, length}
 use Rattle.{std.proofs.Common.{get_or, map, is_none, slice_index_or}, vb_ring.specs.Ends.DriverEnd}
 use Rattle.std.proofs.lemmas.List.{length-replicate, length-map, get_or-map, get_or_past}

@@ -1,5 +1,5 @@
 -- What the records of a driver's calls say of one state: the answer, and what is left.
-use Rattle.std.proofs.Common.{◌≡◌, false, [], ◌∷◌, arith, ap, ◌+◌, ◌<◌, List, ℕ, true, refl}
+use Rattle.std.proofs.Common.{◌≡◌, false, [], ◌∷◌, ap, ◌+◌, ◌<◌, List, ℕ, true}
 use Rattle.std.specs.Prelude.{Option, Some, None, Result, Ok, Err, Bool, IsTrue, length}
 use Rattle.std.specs.List.{list_all}
 use Rattle.vb_pages.specs.PageState.{AllocatesBlock, TakesFree}
@@ -17,7 +17,7 @@ use Rattle.vb_ring.{specs.Calls.TakesUsedBy, specs.Numbers.numbers, specs.Layout
 use Rattle.vb_ram.{specs.Pages.Pages, specs.Part.{Part, no_part}}
 use Rattle.vb_driver.{specs.declared.answers.Posted.Posted, specs.Areas.{areas_with, areas_without}}
 use Rattle.vb_driver.specs.declared.answers.Reaped.{Reaped}
-use Rattle.vb_driver.specs.State.{page_state, figures_of, DriverState, fresh_report, fresh_side}
+use Rattle.vb_driver.specs.State.{page_state, figures_of, DriverState}
 use Rattle.vb_driver.{specs.State.{fresh_statistics, IsDriver}, specs.Coding.AreZeroed}
 use Rattle.vb_driver.specs.Calls.{AllocatesBy, FreesBy, InflatesBy, DeflatesBy, ReportsBy, ReapsBy}
 use Rattle.vb_driver.specs.Calls.{Reports, PostsReport, Unchanged, PostsBuffer, emptied, IsNewRing}
