@@ -79,3 +79,4 @@ mod StandFacts
 mod RogueFacts
 mod LineFacts
 mod LifeFacts
+mod PromiseFacts
