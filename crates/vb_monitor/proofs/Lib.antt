@@ -11,6 +11,7 @@ pub mod OrderLemmas
 pub mod TableRowLemmas
 pub mod TouchLemmas
 pub mod PartCounts
+mod RoomFacts
 mod RegionFacts
 mod SoleFacts
 mod FewFacts
