@@ -1,5 +1,7 @@
 -- Worked facts of a guest of 80 pages whose queues have 256 descriptors, and so rings of two pages.
 use Rattle.std.proofs.Common.{◌≡◌, ℕ, true, false, List, [], ◌∷◌, ◌++◌, map, replicate, refl, arith}
+use Rattle.std.proofs.Common.{ap, length}
+use Rattle.vb_model.{proofs.Samples.{differ}, specs.Sizes.{HasSmallShape}}
 use Rattle.std.{specs.Prelude.{Option, Some, None, ◌+◌}, specs.List.range_with_len}
 use Rattle.vb_model.specs.declared.calls.{Call.TheVariants.Init, Claim.Claim}
 use Rattle.vb_model.specs.{declared.calls.Claim.TheVariants.{Gave, GaveNoFrame}, Life.lacking}
@@ -100,3 +102,15 @@ rogue_with_page_31 : IsRogueAfter down
     (record down { ballooned = replicate 31 false ++ (true ∷ replicate 48 false); rogue = true })
     → ⊥
 rogue_with_page_31 s = let e : true ≡ false = s.unreserved 31 (omega arith) in cc
+
+-- ---- what queues of up to 128 have, and those of 256 don't: 16 reserved pages, each ring in a page
+-- of its own, all of them in pages 0 to 3, and a start that needs pages 0 to 12
+
+no_small_shape : (HasSmallShape 256 → ⊥) × (HasSmallShape 256 → ⊥) × (HasSmallShape 256 → ⊥)
+    × (HasSmallShape 256 → ⊥)
+no_small_shape = (
+  λ s. differ 32 16 refl s.reserved,
+  λ s. differ 22 3 refl (s.rings 4),
+  λ s. (let e : false ≡ true = s.pages 3 in cc),
+  λ s. differ 17 13 refl (ap (λ (pages : List ℕ). length pages) s.start),
+)
