@@ -1,10 +1,13 @@
 -- What posts a request and what doesn't: another head than the least that none of its kind has, a
 -- page twice, another number; and what an allocation hands out.
-use Rattle.std.proofs.Common.{[], arith, false, refl, true, ℕ, ◌∷◌, ◌≡◌}
-use Rattle.vb_model.{proofs.Samples.{differ, request}}
-use Rattle.vb_model.specs.{Driver.{AllDistinct}}
-use Rattle.vb_model.specs.Requests.{IsLeastHead}
-use Rattle.vb_model.specs.{Requests.{Requests, no_requests}}
+use Rattle.std.proofs.Common.{List, [], ap, arith, false, refl, replicate, subst, true, ℕ, ◌++◌}
+use Rattle.std.proofs.Common.{◌∷◌, ◌≡◌}
+use Rattle.vb_model.{proofs.Samples.{differ, ready, request}, specs.Guest.{Guest}}
+use Rattle.vb_model.specs.Driver.{AllDistinct, Allocates, Inflates, Posts}
+use Rattle.vb_model.specs.Requests.{Deflating, Inflating, IsLeastHead, Reporting_free, Requests}
+use Rattle.vb_model.specs.Requests.{no_requests}
+use Rattle.vb_model.specs.declared.places.Place.TheVariants.{Free, Lent, Reserved, Stranded}
+use Rattle.vb_model.specs.declared.replies.Reply.{Reply, TheVariants.{Page, Posted}}
 
 -- ---- heads: posted, taken and used ones are gone, and the least other one is next
 
@@ -38,3 +41,62 @@ one_page_twice = (
 
 each_page_once : AllDistinct (22 ∷ 19 ∷ 23 ∷ [])
 each_page_once = (refl, (refl, (refl, tt)))
+
+-- ---- a post is answered with its head and how many pages it names, and is the last posted one
+
+abbrev head_of : Reply → ℕ
+head_of (Posted head count) = head
+head_of reply = 0
+
+abbrev count_of : Reply → ℕ
+count_of (Posted head count) = count
+count_of reply = 0
+
+another_head : (new : Guest) → (Posts Inflating (16 ∷ []) 1 ready (Posted 1 1) new → ⊥)
+    × (Posts Deflating (16 ∷ []) 1 ready (Posted 1 1) new → ⊥)
+    × (Posts Reporting_free (16 ∷ []) 1 ready (Posted 1 1) new → ⊥)
+another_head new = (
+  λ p. omega (arith, p.1.least 0 (omega (arith, ap head_of p.2))),
+  λ p. omega (arith, p.1.least 0 (omega (arith, ap head_of p.2))),
+  λ p. omega (arith, p.1.least 0 (omega (arith, ap head_of p.2))),
+)
+
+another_count : (new : Guest) → Posts Inflating (16 ∷ []) 1 ready (Posted 0 2) new → ⊥
+another_count new p = differ 2 1 refl (ap count_of p.2)
+
+-- ---- pages 20 and 21 are stranded, and two free pages come behind them
+
+abbrev two_stranded : Guest
+two_stranded = record ready {
+  places = replicate 16 Reserved ++ (Free ∷ Lent ∷ Free ∷ Free ∷ Stranded ∷ Stranded
+      ∷ replicate 42 Free);
+  target = 5;
+  inflate = heads 0 2 1;
+}
+
+abbrev offers : List ℕ → Requests
+offers pages = record (heads 0 2 1) { posted = request 0 [] 0 ∷ request 3 pages 0 ∷ [] }
+
+others_are : (others : List ℕ) (new : Guest) (s : Inflates 4 two_stranded (Posted 3 4) new)
+    → new.inflate ≡ offers (20 ∷ 21 ∷ others) → s.0 ≡ others
+others_are others new s e = grind arith
+
+-- not the same one twice, nor a stranded one once more
+page_19_twice : (new : Guest) → Inflates 4 two_stranded (Posted 3 4) new
+    → new.inflate ≡ offers (20 ∷ 21 ∷ 19 ∷ 19 ∷ []) → ⊥
+page_19_twice new s e = let d : AllDistinct (19 ∷ 19 ∷ []) =
+    subst AllDistinct (others_are (19 ∷ 19 ∷ []) new s e) s.2 in
+    let t : false ≡ true = d.0 in cc
+
+page_20_twice : (new : Guest) → Inflates 4 two_stranded (Posted 3 4) new
+    → new.inflate ≡ offers (20 ∷ 21 ∷ 19 ∷ 20 ∷ []) → ⊥
+page_20_twice new s e = grind (arith, others_are)
+
+-- ---- a block that is handed out starts at a multiple of its size, and is free to its end
+
+abbrev HandsOut : ℕ → ℕ → Type 0
+HandsOut start order = (new : Guest) → Allocates order two_stranded (Page start) new → ⊥
+
+not_handed_out : HandsOut 19 1 × HandsOut 16 1 × HandsOut 16 2 × HandsOut 20 0 × HandsOut 64 0
+    × HandsOut 15 0
+not_handed_out = grind arith
