@@ -3,7 +3,7 @@
 use Rattle.std.proofs.Common.{List, [], ap, arith, false, refl, replicate, subst, true, ℕ, ◌++◌}
 use Rattle.std.proofs.Common.{◌∷◌, ◌≡◌}
 use Rattle.vb_model.{proofs.Samples.{differ, ready, request}, specs.Guest.{Guest}}
-use Rattle.vb_model.specs.Driver.{AllDistinct, Allocates, Inflates, Posts}
+use Rattle.vb_model.specs.Driver.{AllDistinct, Allocates, Inflates, Posts, Reports}
 use Rattle.vb_model.specs.Requests.{Deflating, Inflating, IsLeastHead, Reporting_free, Requests}
 use Rattle.vb_model.specs.Requests.{no_requests}
 use Rattle.vb_model.specs.declared.places.Place.TheVariants.{Free, Lent, Reserved, Stranded}
@@ -44,11 +44,11 @@ each_page_once = (refl, (refl, (refl, tt)))
 
 -- ---- a post is answered with its head and how many pages it names, and is the last posted one
 
-abbrev head_of : Reply → ℕ
+abbrev pub head_of : Reply → ℕ
 head_of (Posted head count) = head
 head_of reply = 0
 
-abbrev count_of : Reply → ℕ
+abbrev pub count_of : Reply → ℕ
 count_of (Posted head count) = count
 count_of reply = 0
 
@@ -63,6 +63,15 @@ another_head new = (
 
 another_count : (new : Guest) → Posts Inflating (16 ∷ []) 1 ready (Posted 0 2) new → ⊥
 another_count new p = differ 2 1 refl (ap count_of p.2)
+
+-- a report of all 48 free pages, which stand in two blocks
+not_reported_so : (new : Guest) → (Reports 0 ready (Posted 1 48) new → ⊥)
+    × (Reports 0 ready (Posted 0 47) new → ⊥) × (Reports 17 ready (Posted 0 48) new → ⊥)
+not_reported_so new = (
+  λ p. omega (arith, p.1.least 0 (omega (arith, ap head_of p.2))),
+  λ p. differ 47 48 refl (ap count_of p.2),
+  λ p. differ 48 32 refl (ap count_of p.2),
+)
 
 -- ---- pages 20 and 21 are stranded, and two free pages come behind them
 
