@@ -2,7 +2,7 @@
 use Rattle.std.proofs.Common.{List, [], arith, false, inl, inr, refl, replicate, true, ℕ, ◌++◌, ◌<◌}
 use Rattle.std.{proofs.Common.{◌∷◌, ◌≡◌, ◌⊎◌}, specs.Prelude.{None, Option, Some}}
 use Rattle.vb_model.{proofs.Samples.{down, plug, ready}, specs.Guest.{Config, Guest, fresh}}
-use Rattle.vb_model.specs.{HostEvents.{WorldStep, with_targets}, HostFrames.Gives, World.World}
+use Rattle.vb_model.specs.{HostEvents.{Plugs, WorldStep, with_targets}, HostFrames.Gives, World.World}
 use Rattle.vb_model.specs.{World.made, declared.calls.{Call.TheVariants.SetTarget, Event.Event}}
 use Rattle.vb_model.specs.declared.calls.Claim.TheVariants.{Gave, GaveNoFrame, GaveNoMemory}
 use Rattle.vb_model.specs.declared.calls.Event.TheVariants.{Frames as CountFrames, Guest as OnGuest}
@@ -10,7 +10,7 @@ use Rattle.vb_model.specs.declared.calls.Event.TheVariants.{Query as OnQuery, Re
 use Rattle.vb_model.specs.declared.{calls.Query.TheVariants.Places, replies.Refusal.Refusal}
 use Rattle.vb_model.specs.declared.replies.Refusal.TheVariants.{BadConfig, NoDevice, NoGuest}
 use Rattle.vb_model.specs.declared.replies.Refusal.TheVariants.{NoMemory, TooMany}
-use Rattle.vb_model.specs.declared.replies.Reply.TheVariants.{Done, Frames, Plugged, Refused}
+use Rattle.vb_model.specs.declared.replies.Reply.{Reply, TheVariants.{Done, Frames, Plugged, Refused}}
 
 abbrev world : List (Option Guest) → World
 world guests = record
@@ -58,6 +58,19 @@ no_number_twice v h1 = grind arith
 -- want of memory leaves the spare, and the number given up
 no_memory_for_a_plug : WorldStep gap (plug 128 2 4) (Refused NoMemory) gap
 no_memory_for_a_plug = inl (refl, refl)
+
+-- the number given up is not another's, a number isn't used twice, and the answer is the number
+abbrev NoPlug : World → Reply → Type 0
+NoPlug w reply = (v : World) → Plugs wide (true ∷ true ∷ []) w reply v → ⊥
+
+no_such_plug : NoPlug gap (Plugged 3) × NoPlug gap (Plugged 0) × NoPlug gap Done
+    × NoPlug (world (Some ready ∷ [])) (Plugged 0)
+no_such_plug = grind arith
+
+just_so_plugged : (v : World) → Plugs wide (true ∷ []) gap (Plugged 1) v
+    → v ≡ record (world (Some ready ∷ Some (fresh wide 0) ∷ Some ready ∷ None ∷ []))
+    { spares = true ∷ []; vacated = None }
+just_so_plugged v p = grind arith
 
 -- ---- refusals of a plug: the configuration, then the number of guests, then the spares
 
