@@ -1,6 +1,7 @@
 -- Worked facts of reads and writes.
 use Rattle.std.proofs.Common.{List, [], inl, inr, map, refl, replicate, ℕ, ◌++◌, ◌∷◌, ◌≡◌}
 use Rattle.std.specs.Prelude.{None, Option, Some, drop}
+use Rattle.vb_model.proofs.Samples.{StepsJustSo}
 use Rattle.vb_model.{proofs.Samples.{config, down, ready}, specs.{Driver.pages_needed, Guest.Guest}}
 use Rattle.vb_model.specs.{Guest.zero_page, Refusals.refusal_of, Step.HonestStep}
 use Rattle.vb_model.specs.declared.calls.Call.{Call, TheVariants.{Alloc, Free, Read, Write}}
@@ -42,23 +43,23 @@ read_no_memory = (refl, (inr refl, refl))
 
 -- ---- write: these bytes from the offset on, all else as it was
 
-written_two : HonestStep before (Write 17 1 (8 ∷ 9 ∷ [])) [] Done
+written_two : StepsJustSo before (Write 17 1 (8 ∷ 9 ∷ [])) [] Done
     (holding (1 ∷ 8 ∷ 9 ∷ 4 ∷ 5 ∷ []) None zero_page)
-written_two = (refl, (refl, refl))
+written_two = ((refl, (refl, refl)), λ reply new s. s.1)
 
 -- a page without a frame gets one first, and is zero but for these bytes
-written_to_a_bare_page : HonestStep before (Write 18 0 (8 ∷ 9 ∷ [])) (Gave 33 ∷ []) Done
+written_to_a_bare_page : StepsJustSo before (Write 18 0 (8 ∷ 9 ∷ [])) (Gave 33 ∷ []) Done
     (holding five_bytes (Some 33) (8 ∷ 9 ∷ drop 2 zero_page))
-written_to_a_bare_page = (refl, (refl, refl))
+written_to_a_bare_page = ((refl, (refl, refl)), λ reply new s. s.1)
 
 -- or nothing is changed
-no_frame_for_a_write : HonestStep before (Write 18 0 (8 ∷ [])) (GaveNoFrame ∷ []) (Refused NoFrame)
+no_frame_for_a_write : StepsJustSo before (Write 18 0 (8 ∷ [])) (GaveNoFrame ∷ []) (Refused NoFrame)
     before
-no_frame_for_a_write = (refl, (refl, refl))
+no_frame_for_a_write = ((refl, (refl, refl)), λ reply new s. s.1)
 
-no_memory_for_a_write : HonestStep before (Write 18 0 (8 ∷ [])) (GaveNoMemory ∷ [])
+no_memory_for_a_write : StepsJustSo before (Write 18 0 (8 ∷ [])) (GaveNoMemory ∷ [])
     (Refused NoMemory) before
-no_memory_for_a_write = (refl, (refl, refl))
+no_memory_for_a_write = ((refl, (refl, refl)), λ reply new s. s.1)
 
 -- a write of nothing needs no frame
 frames_needed : pages_needed 18 [] before ∷ pages_needed 18 (0 ∷ 0 ∷ []) before

@@ -1,6 +1,7 @@
 -- Worked facts of the answers to queries.
 use Rattle.std.proofs.Common.{[], false, inl, inr, refl, replicate, true, ℕ, ◌++◌, ◌∷◌, ◌≡◌, ◌⊎◌}
 use Rattle.std.specs.Prelude.{None, Option, Some}
+use Rattle.vb_model.proofs.Samples.{HappensJustSo}
 use Rattle.vb_model.specs.declared.places.Place.TheVariants.{Free, Giving, Lent, Reporting, Taking}
 use Rattle.vb_model.specs.declared.places.Place.TheVariants.{Reserved, Stranded, Used}
 use Rattle.vb_model.specs.declared.calls.Query.TheVariants.{Backing as QueryBacking}
@@ -10,7 +11,7 @@ use Rattle.vb_model.specs.declared.calls.Query.TheVariants.{Places as QueryPlace
 use Rattle.vb_model.specs.declared.replies.Reply.TheVariants.{Backing, Balloon, Pages, Places}
 use Rattle.vb_model.specs.{Queries.runs, declared.replies.Reply.TheVariants.{Refused, Statistics}}
 use Rattle.vb_model.{proofs.Samples.{mixed, ready}, specs.{Guest.Guest, Queries.Answers}}
-use Rattle.vb_model.specs.{HostEvents.WorldStep, World.World, declared.calls.Query.Query}
+use Rattle.vb_model.specs.{World.World, declared.calls.Query.Query}
 use Rattle.vb_model.specs.declared.{calls.Event.TheVariants.Query as OnQuery, replies.Reply.Reply}
 use Rattle.vb_model.specs.declared.{places.PageRun.PageRun, replies.Refusal.TheVariants.NoMemory}
 
@@ -122,5 +123,5 @@ world = record {
   vacated = Some 7;
 }
 
-asked_in_the_world : WorldStep world (OnQuery 1 (QueryBacking 16)) (Backing (Some 13)) world
-asked_in_the_world = (refl, refl)
+asked_in_the_world : HappensJustSo world (OnQuery 1 (QueryBacking 16)) (Backing (Some 13)) world
+asked_in_the_world = ((refl, refl), λ reply v s. s)

@@ -1,6 +1,7 @@
 -- Worked facts of the device's calls on requests: take, work, finish and sweep.
 use Rattle.std.proofs.Common.{List, [], false, map, refl, replicate, true, ℕ, ◌++◌, ◌+◌, ◌∷◌, ◌≡◌}
 use Rattle.std.specs.{List.range_with_len, Prelude.{Bool, None, Option, Some, drop}}
+use Rattle.vb_model.proofs.Samples.{PerformsJustSo, StepsJustSo}
 use Rattle.vb_model.proofs.Samples.{config, down, ready, request, without_reporting}
 use Rattle.vb_model.specs.{Guest.{Guest, zero_page}, Refusals.{causes, first_refusal, refusal_of}}
 use Rattle.vb_model.specs.{Requests.{Request, Requests}, Step.{HonestStep, Performs}}
@@ -91,8 +92,8 @@ after_19 = record busy {
       ∷ (15 ∷ []) ∷ (16 ∷ []) ∷ []);
 }
 
-inflate_before_report : HonestStep busy Work [] (Worked 19 true) after_19
-inflate_before_report = (refl, (refl, refl))
+inflate_before_report : StepsJustSo busy Work [] (Worked 19 true) after_19
+inflate_before_report = ((refl, (refl, refl)), λ reply new s. s.1)
 
 -- then a report, page by page; a page without a frame is bare
 abbrev after_20 : Guest
@@ -103,17 +104,17 @@ after_20 = record after_19 {
       ∷ (15 ∷ []) ∷ (16 ∷ []) ∷ []);
 }
 
-then_the_report : HonestStep after_19 Work [] (Worked 20 true) after_20
-then_the_report = (refl, (refl, refl))
+then_the_report : StepsJustSo after_19 Work [] (Worked 20 true) after_20
+then_the_report = ((refl, (refl, refl)), λ reply new s. s.1)
 
-the_last_page_is_bare : HonestStep after_20 Work [] (Worked 21 false)
+the_last_page_is_bare : StepsJustSo after_20 Work [] (Worked 21 false)
     (record after_20 { report = reports 2 })
-the_last_page_is_bare = (refl, (refl, refl))
+the_last_page_is_bare = ((refl, (refl, refl)), λ reply new s. s.1)
 
 -- once all are visited there is nothing to do; a deflate is never visited
-all_visited : HonestStep (record after_20 { report = reports 2 }) Work [] Idle
+all_visited : StepsJustSo (record after_20 { report = reports 2 }) Work [] Idle
     (record after_20 { report = reports 2 })
-all_visited = (refl, (refl, refl))
+all_visited = ((refl, (refl, refl)), λ reply new s. s.1)
 
 -- of two inflates the oldest goes on, and the other one waits
 abbrev two_waiting : ℕ → Guest
@@ -125,8 +126,8 @@ two_waiting visited = record ready {
   };
 }
 
-the_oldest_goes_on : HonestStep (two_waiting 1) Work [] (Worked 17 false) (two_waiting 2)
-the_oldest_goes_on = (refl, (refl, refl))
+the_oldest_goes_on : StepsJustSo (two_waiting 1) Work [] (Worked 17 false) (two_waiting 2)
+the_oldest_goes_on = ((refl, (refl, refl)), λ reply new s. s.1)
 
 -- posted and used requests aren't visited
 abbrev none_taken : Guest
@@ -136,12 +137,12 @@ none_taken = record ready {
   report = record { posted = request 0 (18 ∷ []) 0 ∷ []; taken = []; done = [] };
 }
 
-only_taken_ones : HonestStep none_taken Work [] Idle none_taken
-only_taken_ones = (refl, (refl, refl))
+only_taken_ones : StepsJustSo none_taken Work [] Idle none_taken
+only_taken_ones = ((refl, (refl, refl)), λ reply new s. s.1)
 
 -- an immediate device finds nothing to do
-immediate_is_idle : HonestStep (at_once busy) Work [] Idle (at_once busy)
-immediate_is_idle = (refl, (refl, refl))
+immediate_is_idle : StepsJustSo (at_once busy) Work [] Idle (at_once busy)
+immediate_is_idle = ((refl, (refl, refl)), λ reply new s. s.1)
 
 work_not_ready : refusal_of down Work ≡ Some NotReady
 work_not_ready = refl
@@ -231,30 +232,30 @@ one_posted = record {
   done = request 1 (19 ∷ []) 1 ∷ [];
 }
 
-taken_inflate : HonestStep (record ready { inflate = two_posted }) (Take 0) [] (Taken 4)
+taken_inflate : StepsJustSo (record ready { inflate = two_posted }) (Take 0) [] (Taken 4)
     (record ready { inflate = one_posted })
-taken_inflate = (refl, (refl, refl))
+taken_inflate = ((refl, (refl, refl)), λ reply new s. s.1)
 
-taken_deflate : HonestStep (record ready { deflate = two_posted }) (Take 1) [] (Taken 4)
+taken_deflate : StepsJustSo (record ready { deflate = two_posted }) (Take 1) [] (Taken 4)
     (record ready { deflate = one_posted })
-taken_deflate = (refl, (refl, refl))
+taken_deflate = ((refl, (refl, refl)), λ reply new s. s.1)
 
-taken_report : Performs (Take 4) (record ready { report = two_posted }) [] (Taken 4)
+taken_report : PerformsJustSo (Take 4) (record ready { report = two_posted }) [] (Taken 4)
     (record ready { report = one_posted })
-taken_report = (refl, (refl, refl))
+taken_report = ((refl, (refl, refl)), λ reply new s. s.1)
 
 -- each queue has requests of its own kind
-none_posted : HonestStep (record ready { deflate = two_posted; report = two_posted }) (Take 0) []
+none_posted : StepsJustSo (record ready { deflate = two_posted; report = two_posted }) (Take 0) []
     Empty (record ready { deflate = two_posted; report = two_posted })
-none_posted = (refl, (refl, refl))
+none_posted = ((refl, (refl, refl)), λ reply new s. s.1)
 
-no_deflate_posted : HonestStep (record ready { inflate = two_posted; report = two_posted }) (Take 1)
+no_deflate_posted : StepsJustSo (record ready { inflate = two_posted; report = two_posted }) (Take 1)
     [] Empty (record ready { inflate = two_posted; report = two_posted })
-no_deflate_posted = (refl, (refl, refl))
+no_deflate_posted = ((refl, (refl, refl)), λ reply new s. s.1)
 
-no_report_posted : Performs (Take 4) (record ready { inflate = two_posted; deflate = two_posted })
+no_report_posted : PerformsJustSo (Take 4) (record ready { inflate = two_posted; deflate = two_posted })
     [] Empty (record ready { inflate = two_posted; deflate = two_posted })
-no_report_posted = (refl, (refl, refl))
+no_report_posted = ((refl, (refl, refl)), λ reply new s. s.1)
 
 -- at most 16 taken ones of each queue; posted and used ones don't count
 abbrev many : ℕ → Requests
@@ -279,15 +280,15 @@ take_without_reporting = refl
 -- ---- sweep
 
 -- a ballooned page loses its frame and stays ballooned
-swept_freed : HonestStep busy (Sweep 23) [] (Swept true) (record busy {
+swept_freed : StepsJustSo busy (Sweep 23) [] (Swept true) (record busy {
   frames = frames (Some 17 ∷ None ∷ None ∷ Some 13 ∷ Some 14 ∷ None ∷ Some 15 ∷ None ∷ []);
   contents = contents ((17 ∷ []) ∷ zero_page ∷ zero_page ∷ (13 ∷ []) ∷ (14 ∷ []) ∷ zero_page
       ∷ (15 ∷ []) ∷ zero_page ∷ []);
 })
-swept_freed = (refl, (refl, refl))
+swept_freed = ((refl, (refl, refl)), λ reply new s. s.1)
 
-swept_bare : HonestStep busy (Sweep 24) [] (Swept false) busy
-swept_bare = (refl, (refl, refl))
+swept_bare : StepsJustSo busy (Sweep 24) [] (Swept false) busy
+swept_bare = ((refl, (refl, refl)), λ reply new s. s.1)
 
 not_swept : refusal_of (record busy { status = 0 }) (Sweep 19)
     ∷ map (refusal_of busy) (Sweep 19 ∷ Sweep 64 ∷ []) ≡ Some NotReady

@@ -1,6 +1,7 @@
 -- Worked facts of the host: plugging guests in, numbers, spare devices, and which frames are given.
 use Rattle.std.proofs.Common.{List, [], arith, false, inl, inr, refl, replicate, true, ℕ, ◌++◌, ◌<◌}
 use Rattle.std.{proofs.Common.{◌∷◌, ◌≡◌, ◌⊎◌}, specs.Prelude.{None, Option, Some}}
+use Rattle.vb_model.proofs.Samples.{HappensJustSo}
 use Rattle.vb_model.{proofs.Samples.{down, plug, ready}, specs.Guest.{Config, Guest, fresh}}
 use Rattle.vb_model.specs.{HostEvents.{Plugs, WorldStep, with_targets}, HostFrames.Gives, World.World}
 use Rattle.vb_model.specs.{World.made, declared.calls.{Call.TheVariants.SetTarget, Event.Event}}
@@ -127,11 +128,11 @@ targets_past_gaps = refl
 abbrev with_frames : List (Option ℕ) → Option Guest
 with_frames frames = Some (record ready { frames = frames })
 
-frames_in_use : WorldStep
+frames_in_use : HappensJustSo
     (world (with_frames (Some 3 ∷ None ∷ Some 199 ∷ []) ∷ None ∷ with_frames (Some 0 ∷ []) ∷ []))
     CountFrames (Frames 3 197)
     (world (with_frames (Some 3 ∷ None ∷ Some 199 ∷ []) ∷ None ∷ with_frames (Some 0 ∷ []) ∷ []))
-frames_in_use = (refl, refl)
+frames_in_use = ((refl, refl), λ reply v s. s)
 
 -- ---- which frames are given: of five frames 0, 1 and 3 are out
 
