@@ -1,6 +1,8 @@
 -- Worked facts of the driver's inflates, deflates and reaps.
 use Rattle.std.proofs.Common.{List, [], ap, arith, false, length, map, refl, replicate, subst, true}
 use Rattle.std.{proofs.Common.{ℕ, ◌++◌, ◌+◌, ◌∷◌, ◌≡◌}, specs.Prelude.{None, Option, Some}}
+use Rattle.vb_model.proofs.PostingFacts.{just_posted}
+use Rattle.vb_model.specs.Requests.{Deflating}
 use Rattle.vb_model.proofs.Samples.{StepsJustSo}
 use Rattle.vb_model.proofs.Samples.{config, down, ready, request, without_oom}
 use Rattle.vb_model.specs.{Driver.AllFreePages, Guest.Guest, Refusals.deflate_count}
@@ -146,24 +148,35 @@ abbrev four_lent : Guest
 four_lent = record (at_places (Taking ∷ Lent ∷ Lent ∷ Giving ∷ Free ∷ Lent ∷ Lent ∷ Free ∷ []))
     { deflate = heads 3 0 2; target = 2 }
 
-asked_back : HonestStep four_lent (Deflate 3) [] (Posted 1 3)
+asked_back : StepsJustSo four_lent (Deflate 3) [] (Posted 1 3)
     (record (at_places (Taking ∷ Taking ∷ Taking ∷ Giving ∷ Free ∷ Taking ∷ Lent ∷ Free ∷ []))
     { deflate = with_last (heads 3 0 2) (request 1 (17 ∷ 18 ∷ 21 ∷ []) 0); target = 2 })
-asked_back = (refl, (1, head_between, refl, refl))
+asked_back = (
+  (refl, (1, head_between, refl, refl)),
+  λ reply new s. just_posted Deflating (17 ∷ 18 ∷ 21 ∷ []) 3 four_lent 1 head_between reply new s.1,
+)
 
 -- as far as the target allows
-asked_back_to_the_target : HonestStep (record four_lent { target = 3 }) (Deflate 300) []
+asked_back_to_the_target : StepsJustSo (record four_lent { target = 3 }) (Deflate 300) []
     (Posted 1 2) (record (at_places
     (Taking ∷ Taking ∷ Taking ∷ Giving ∷ Free ∷ Lent ∷ Lent ∷ Free ∷ []))
     { deflate = with_last (heads 3 0 2) (request 1 (17 ∷ 18 ∷ []) 0); target = 3 })
-asked_back_to_the_target = (refl, (1, head_between, refl, refl))
+asked_back_to_the_target = (
+  (refl, (1, head_between, refl, refl)),
+  λ reply new s. just_posted Deflating (17 ∷ 18 ∷ []) 2 (record four_lent { target = 3 }) 1 head_between reply
+      new s.1,
+)
 
 -- and for want of memory beyond it
-asked_back_for_want_of_memory : HonestStep (record four_lent { target = 40 }) (Oom 1) []
+asked_back_for_want_of_memory : StepsJustSo (record four_lent { target = 40 }) (Oom 1) []
     (Posted 1 1) (record (at_places
     (Taking ∷ Taking ∷ Lent ∷ Giving ∷ Free ∷ Lent ∷ Lent ∷ Free ∷ []))
     { deflate = with_last (heads 3 0 2) (request 1 (17 ∷ []) 0); target = 40 })
-asked_back_for_want_of_memory = (refl, (1, head_between, refl, refl))
+asked_back_for_want_of_memory = (
+  (refl, (1, head_between, refl, refl)),
+  λ reply new s. just_posted Deflating (17 ∷ []) 1 (record four_lent { target = 40 }) 1 head_between reply new
+      s.1,
+)
 
 -- ---- refusals, in order
 

@@ -2,7 +2,10 @@
 -- page twice, another number; and what an allocation hands out.
 use Rattle.std.proofs.Common.{List, [], ap, arith, false, refl, replicate, subst, true, ℕ, ◌++◌}
 use Rattle.std.proofs.Common.{◌∷◌, ◌≡◌}
-use Rattle.vb_model.{proofs.Samples.{differ, ready, request}, specs.Guest.{Guest}}
+use Rattle.vb_model.specs.Driver.{after_posting}
+use Rattle.vb_model.specs.Requests.{Kind}
+use Rattle.vb_model.{proofs.Agreeing.{least_same}, specs.Guest.{Guest, requests}}
+use Rattle.vb_model.proofs.Samples.{differ, ready, request}
 use Rattle.vb_model.specs.Driver.{AllDistinct, Allocates, Inflates, Posts, Reports}
 use Rattle.vb_model.specs.Requests.{Deflating, Inflating, IsLeastHead, Reporting_free, Requests}
 use Rattle.vb_model.specs.Requests.{no_requests}
@@ -72,6 +75,17 @@ not_reported_so new = (
   λ p. differ 47 48 refl (ap count_of p.2),
   λ p. differ 48 32 refl (ap count_of p.2),
 )
+
+-- where a head is the least, the answer and what is left are one
+pub just_posted : (kind : Kind) (pages : List ℕ) (count : ℕ) (g : Guest) (head : ℕ)
+    → IsLeastHead (requests kind g) head → (reply : Reply) (new : Guest)
+    → Posts kind pages count g reply new
+    → (reply ≡ Posted head count) × (new ≡ after_posting kind head pages g)
+just_posted kind pages count g head least reply new p =
+    let e : p.0 ≡ head = least_same (requests kind g) p.0 head p.1 least in (
+      subst (λ (h : ℕ). reply ≡ Posted h count) e p.2,
+      subst (λ (h : ℕ). new ≡ after_posting kind h pages g) e p.3,
+    )
 
 -- ---- pages 20 and 21 are stranded, and two free pages come behind them
 

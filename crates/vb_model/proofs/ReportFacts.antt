@@ -2,6 +2,8 @@
 use Rattle.std.proofs.Common.{Bool, List, [], arith, false, map, refl, replicate, true, ℕ, ◌++◌}
 use Rattle.std.{proofs.Common.{◌∷◌, ◌≡◌}, specs.Prelude.{None, Option, Some, drop, ◌*◌}}
 use Rattle.std.specs.List.{flat_map, range_with_len}
+use Rattle.vb_model.proofs.PostingFacts.{just_posted}
+use Rattle.vb_model.specs.Requests.{Reporting_free}
 use Rattle.vb_model.proofs.Samples.{PerformsJustSo, StepsJustSo}
 use Rattle.vb_model.specs.Pages.{Block, all_free, blocks_at, is_free, is_maximal, is_wholly_free}
 use Rattle.vb_model.specs.Pages.{maximal_free_blocks, place_of}
@@ -141,19 +143,29 @@ two_out = record { posted = request 1 [] 0 ∷ []; taken = request 0 [] 0 ∷ []
 no_head_out : IsLeastHead no_requests 0
 no_head_out = record { new = refl; least = λ h l. absurd (omega arith) }
 
-reported : HonestStep ready (Report 0) [] (Posted 0 48) reporting
-reported = (refl, (0, no_head_out, refl, refl))
+reported : StepsJustSo ready (Report 0) [] (Posted 0 48) reporting
+reported = (
+  (refl, (0, no_head_out, refl, refl)),
+  λ reply new s. just_posted Reporting_free (range_with_len 16 48) 48 ready 0 no_head_out reply new s.1,
+)
 
-reported_from_17 : HonestStep ready (Report 17) [] (Posted 0 32) (record ready {
+reported_from_17 : StepsJustSo ready (Report 17) [] (Posted 0 32) (record ready {
   places = replicate 16 Reserved ++ (replicate 16 FreePlace ++ replicate 32 Reporting);
   report = record { posted = request 0 (range_with_len 32 32) 0 ∷ []; taken = []; done = [] };
 })
-reported_from_17 = (refl, (0, no_head_out, refl, refl))
+reported_from_17 = (
+  (refl, (0, no_head_out, refl, refl)),
+  λ reply new s. just_posted Reporting_free (range_with_len 32 32) 32 ready 0 no_head_out reply new s.1,
+)
 
 -- heads of other kinds are no matter
-least_head_of_reports : HonestStep (record ready { inflate = two_out; deflate = two_out })
+least_head_of_reports : StepsJustSo (record ready { inflate = two_out; deflate = two_out })
     (Report 0) [] (Posted 0 48) (record reporting { inflate = two_out; deflate = two_out })
-least_head_of_reports = (refl, (0, no_head_out, refl, refl))
+least_head_of_reports = (
+  (refl, (0, no_head_out, refl, refl)),
+  λ reply new s. just_posted Reporting_free (range_with_len 16 48) 48
+      (record ready { inflate = two_out; deflate = two_out }) 0 no_head_out reply new s.1,
+)
 
 -- not ready before no feature before queue full before nothing; one report at a time, in whatever
 -- stage it is, and requests of other kinds don't count

@@ -3,6 +3,8 @@ use Rattle.std.proofs.Common.{List, [], ap, arith, false, map, refl, replicate, 
 use Rattle.{std.proofs.Common.{◌∙◌, ◌∷◌, ◌≡◌}, vb_model.specs.Life.{after_reset, feature_refusal}}
 use Rattle.{std.specs.List.range_with_len, vb_model.specs.{Driver.contents_of, Refusals.refusal_of}}
 use Rattle.{std.specs.Prelude.{Bool, None, Some, drop}, vb_model.specs.GuestRun.{Called, Leads}}
+use Rattle.vb_model.proofs.{PostingFacts.{just_posted}, WorkFacts.{just_finished}}
+use Rattle.vb_model.specs.Requests.{Deflating}
 use Rattle.vb_model.proofs.Samples.{PerformsJustSo, StepsJustSo}
 use Rattle.vb_model.proofs.Samples.{down, mixed_places, ready, request, untold}
 use Rattle.vb_model.specs.Guest.{Guest, frame_of, is_ballooned, is_ready, tells_host, zero_page}
@@ -87,22 +89,38 @@ pub no_head_out : IsLeastHead no_requests 0
 no_head_out = record { new = refl; least = λ h l. absurd (omega arith) }
 
 -- they are free at once; flags and `actual` stay
-free_at_once : HonestStep (three_lent untold) (Deflate 2) [] (Posted 0 2) (asked FreePlace untold)
-free_at_once = (refl, (0, no_head_out, refl, refl))
+free_at_once : StepsJustSo (three_lent untold) (Deflate 2) [] (Posted 0 2) (asked FreePlace untold)
+free_at_once = (
+  (refl, (0, no_head_out, refl, refl)),
+  λ reply new s. just_posted Deflating (16 ∷ 17 ∷ []) 2 (three_lent untold) 0 no_head_out reply
+      new s.1,
+)
 
 -- a guest that tells the host waits
-taking_where_it_tells : HonestStep (three_lent ready) (Deflate 2) [] (Posted 0 2)
+taking_where_it_tells : StepsJustSo (three_lent ready) (Deflate 2) [] (Posted 0 2)
     (asked Taking ready)
-taking_where_it_tells = (refl, (0, no_head_out, refl, refl))
+taking_where_it_tells = (
+  (refl, (0, no_head_out, refl, refl)),
+  λ reply new s. just_posted Deflating (16 ∷ 17 ∷ []) 2 (three_lent ready) 0 no_head_out reply
+      new s.1,
+)
 
 -- for want of memory alike, whatever the target is
-free_at_once_when_short : HonestStep (record (three_lent untold) { target = 40 }) (Oom 2) []
+free_at_once_when_short : StepsJustSo (record (three_lent untold) { target = 40 }) (Oom 2) []
     (Posted 0 2) (record (asked FreePlace untold) { target = 40 })
-free_at_once_when_short = (refl, (0, no_head_out, refl, refl))
+free_at_once_when_short = (
+  (refl, (0, no_head_out, refl, refl)),
+  λ reply new s. just_posted Deflating (16 ∷ 17 ∷ []) 2 (record (three_lent untold) { target = 40 }) 0 no_head_out reply
+      new s.1,
+)
 
-taking_when_short : HonestStep (record (three_lent ready) { target = 40 }) (Oom 2) [] (Posted 0 2)
+taking_when_short : StepsJustSo (record (three_lent ready) { target = 40 }) (Oom 2) [] (Posted 0 2)
     (record (asked Taking ready) { target = 40 })
-taking_when_short = (refl, (0, no_head_out, refl, refl))
+taking_when_short = (
+  (refl, (0, no_head_out, refl, refl)),
+  λ reply new s. just_posted Deflating (16 ∷ 17 ∷ []) 2 (record (three_lent ready) { target = 40 }) 0 no_head_out reply
+      new s.1,
+)
 
 -- they are at no other place after either call, and not free where the guest tells the host
 abbrev NotAt : Guest → Place → Call → Type 0
@@ -242,9 +260,12 @@ taken_first : StepsJustSo (framed true (posted both)) (Take 1) [] (Taken 0)
     (framed true (taken both))
 taken_first = ((refl, (refl, refl)), λ reply new s. s.1)
 
-finished : HonestStep (framed true (taken both)) (Finish 1 0) [] (Finished 0)
+finished : StepsJustSo (framed true (taken both)) (Finish 1 0) [] (Finished 0)
     (framed false (done both))
-finished = (refl, (both, refl, refl, refl))
+finished = (
+  (refl, (both, refl, refl, refl)),
+  λ reply new s. just_finished Deflating 0 (framed true (taken both)) both refl reply new s.1,
+)
 
 abbrev FinishedSo : Guest → Type 0
 FinishedSo new = HonestStep (framed true (taken both)) (Finish 1 0) [] (Finished 0) new
@@ -262,7 +283,7 @@ all_the_way : Leads (three_lent untold) (Some (Called (Processor 0 0) (Deflate 2
     (asked FreePlace untold ∷ in_use true (posted both) ∷ in_use true (taken both)
     ∷ in_use false (done both) ∷ record (in_use false no_requests) { actual = 1 } ∷ [])
 all_the_way = (
-  (refl, free_at_once),
+  (refl, free_at_once.0),
   (
     (refl, handed_out),
     (

@@ -1,10 +1,16 @@
 -- Worked facts of the device's calls on requests: take, work, finish and sweep.
 use Rattle.std.proofs.Common.{List, [], false, map, refl, replicate, true, ℕ, ◌++◌, ◌+◌, ◌∷◌, ◌≡◌}
 use Rattle.std.specs.{List.range_with_len, Prelude.{Bool, None, Option, Some, drop}}
+use Rattle.std.proofs.Common.{subst, sym, ◌∙◌}
+use Rattle.std.specs.Prelude.{slice_get}
+use Rattle.vb_model.specs.Device.{Finishes, settled, used}
+use Rattle.vb_model.specs.Guest.{requests}
+use Rattle.vb_model.specs.Requests.{Deflating, Inflating, Kind, Reporting_free}
+use Rattle.vb_model.specs.declared.replies.Reply.{Reply}
 use Rattle.vb_model.proofs.Samples.{PerformsJustSo, StepsJustSo}
 use Rattle.vb_model.proofs.Samples.{config, down, ready, request, without_reporting}
 use Rattle.vb_model.specs.{Guest.{Guest, zero_page}, Refusals.{causes, first_refusal, refusal_of}}
-use Rattle.vb_model.specs.{Requests.{Request, Requests}, Step.{HonestStep, Performs}}
+use Rattle.vb_model.specs.{Requests.{Request, Requests}}
 use Rattle.vb_model.specs.declared.calls.Call.{Call, TheVariants.{Finish, Sweep, Take, Work}}
 use Rattle.vb_model.specs.declared.replies.Refusal.{Refusal, TheVariants.{Busy, NoQueue}}
 use Rattle.vb_model.specs.declared.replies.Refusal.TheVariants.{NotBallooned, NotReady, NotTaken}
@@ -149,9 +155,23 @@ work_not_ready = refl
 
 -- ---- finish
 
+same_request : (a b : Request) → Some a ≡ Some b → a ≡ b
+same_request a b e = cc
+
+-- the taken request is the one of this number, and so the answer and what is left are one
+pub just_finished : (kind : Kind) (i : ℕ) (g : Guest) (r : Request)
+    → slice_get (requests kind g).taken i ≡ Some r → (reply : Reply) (new : Guest)
+    → Finishes kind i g reply new
+    → (reply ≡ Finished r.head) × (new ≡ settled kind r.pages (used kind i r g))
+just_finished kind i g r there reply new f =
+    let e : f.0 ≡ r = same_request f.0 r (sym f.1 ∙ there) in (
+      subst (λ (x : Request). reply ≡ Finished x.head) e f.2,
+      subst (λ (x : Request). new ≡ settled kind x.pages (used kind i x g)) e f.3,
+    )
+
 -- an inflate: its pages lose the frames that they still have and are ballooned; it is the last used
 -- one
-finished_inflate : HonestStep busy (Finish 0 0) [] (Finished 1) (record busy {
+finished_inflate : StepsJustSo busy (Finish 0 0) [] (Finished 1) (record busy {
   inflate = record {
     posted = request 2 (25 ∷ []) 0 ∷ [];
     taken = second_inflate 1 ∷ [];
@@ -163,27 +183,36 @@ finished_inflate : HonestStep busy (Finish 0 0) [] (Finished 1) (record busy {
   ballooned = flags (true ∷ true ∷ false ∷ false ∷ false ∷ false ∷ true ∷ true ∷ true ∷ false
       ∷ false ∷ []);
 })
-finished_inflate = (refl, (first_inflate, refl, refl, refl))
+finished_inflate = (
+  (refl, (first_inflate, refl, refl, refl)),
+  λ reply new s. just_finished Inflating 0 busy first_inflate refl reply new s.1,
+)
 
 -- a deflate: its pages are ballooned no more and keep their frames
-finished_deflate : HonestStep busy (Finish 1 0) [] (Finished 5) (record busy {
+finished_deflate : StepsJustSo busy (Finish 1 0) [] (Finished 5) (record busy {
   deflate = record { posted = []; taken = []; done = request 6 (26 ∷ []) 0 ∷ deflate ∷ [] };
   ballooned = flags (false ∷ false ∷ false ∷ false ∷ false ∷ false ∷ false ∷ false ∷ true ∷ false
       ∷ false ∷ []);
 })
-finished_deflate = (refl, (deflate, refl, refl, refl))
+finished_deflate = (
+  (refl, (deflate, refl, refl, refl)),
+  λ reply new s. just_finished Deflating 0 busy deflate refl reply new s.1,
+)
 
 -- a report: its pages lose their frames and aren't ballooned
-finished_report : Performs (Finish 4 0) (at_once busy) [] (Finished 0) (record (at_once busy) {
+finished_report : PerformsJustSo (Finish 4 0) (at_once busy) [] (Finished 0) (record (at_once busy) {
   report = record { posted = []; taken = []; done = report 0 ∷ [] };
   frames = frames (Some 17 ∷ None ∷ None ∷ Some 13 ∷ None ∷ None ∷ Some 15 ∷ Some 16 ∷ []);
   contents = contents ((17 ∷ []) ∷ zero_page ∷ zero_page ∷ (13 ∷ []) ∷ zero_page ∷ zero_page
       ∷ (15 ∷ []) ∷ (16 ∷ []) ∷ []);
 })
-finished_report = (refl, (report 0, refl, refl, refl))
+finished_report = (
+  (refl, (report 0, refl, refl, refl)),
+  λ reply new s. just_finished Reporting_free 0 (at_once busy) (report 0) refl reply new s.1,
+)
 
 -- the number is that among the taken ones of the queue, the oldest first
-second_by_its_number : HonestStep (at_once busy) (Finish 0 1) [] (Finished 3)
+second_by_its_number : StepsJustSo (at_once busy) (Finish 0 1) [] (Finished 3)
     (record (at_once busy) {
       inflate = record {
         posted = request 2 (25 ∷ []) 0 ∷ [];
@@ -196,7 +225,10 @@ second_by_its_number : HonestStep (at_once busy) (Finish 0 1) [] (Finished 3)
       ballooned = flags (false ∷ false ∷ true ∷ true ∷ false ∷ false ∷ true ∷ true ∷ true ∷ false
           ∷ false ∷ []);
     })
-second_by_its_number = (refl, (second_inflate 1, refl, refl, refl))
+second_by_its_number = (
+  (refl, (second_inflate 1, refl, refl, refl)),
+  λ reply new s. just_finished Inflating 1 (at_once busy) (second_inflate 1) refl reply new s.1,
+)
 
 abbrev behind_no_queue : Guest → Call → Option Refusal
 behind_no_queue g call = first_refusal (drop 1 (causes g call))
