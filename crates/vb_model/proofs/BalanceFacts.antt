@@ -6,7 +6,7 @@ use Rattle.vb_model.specs.Balance.{GivesBefore}
 use Rattle.vb_model.specs.{Balance.{missing, shortage, spare}, Guest.Guest, HostEvents.WorldStep}
 use Rattle.vb_model.specs.{HostEvents.needs, World.World, declared.calls.Event.TheVariants.Balance}
 use Rattle.vb_model.specs.declared.replies.{Refusal.TheVariants.Short, Reply.TheVariants.Refused}
-use Rattle.vb_model.specs.declared.replies.Reply.TheVariants.{Targets}
+use Rattle.vb_model.specs.declared.replies.Reply.{Reply, TheVariants.{Done, Targets}}
 
 -- ---- what a guest of 64 pages can spare: min(48, ballooned + (free - floor))
 
@@ -161,3 +161,22 @@ balanced = ((28 ∷ 0 ∷ [], first_alone 32 32 100 28 (omega arith) (omega arit
 short : WorldStep (world (Some (aiming 3)) (Some (aiming 5))) (Balance 40) (Refused (Short 12))
     (world (Some (aiming 3)) (Some (aiming 5)))
 short = (refl, refl)
+
+-- no other answer, and no other targets than those of the answer
+just_short : (reply : Reply) (v : World)
+    → WorldStep (world (Some (aiming 3)) (Some (aiming 5))) (Balance 40) reply v
+    → (reply ≡ Refused (Short 12)) × (v ≡ world (Some (aiming 3)) (Some (aiming 5)))
+just_short reply v s = grind arith
+
+just_as_answered : (v : World)
+    → WorldStep (world (Some (aiming 3)) (Some (aiming 5))) (Balance 16) (Targets (28 ∷ 0 ∷ [])) v
+    → v ≡ world (Some (aiming 28)) (Some (aiming 0))
+just_as_answered v s = s.1
+
+abbrev NeverAnswered : Reply → Type 0
+NeverAnswered reply = (v : World)
+    → WorldStep (world (Some (aiming 3)) (Some (aiming 5))) (Balance 16) reply v → ⊥
+
+other_answers : NeverAnswered (Refused (Short 0)) × NeverAnswered (Targets (0 ∷ 28 ∷ []))
+    × NeverAnswered (Targets (28 ∷ [])) × NeverAnswered (Targets (29 ∷ 0 ∷ [])) × NeverAnswered Done
+other_answers = grind arith
