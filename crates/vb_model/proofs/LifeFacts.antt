@@ -8,7 +8,7 @@ use Rattle.vb_model.specs.{HostFrames.used_frames, Life.after_reset}
 use Rattle.vb_model.specs.{Life.{after_restart, lacking}, Refusals.refusal_of}
 use Rattle.vb_model.specs.Requests.{BufferPosted, BufferTaken, NoBuffer, Requests, no_requests}
 use Rattle.vb_model.specs.{Step.HonestStep, World.World, declared.calls.Call.TheVariants.Init}
-use Rattle.vb_model.specs.declared.calls.{Call.TheVariants.Reset, Claim.{Claim, TheVariants.Gave}}
+use Rattle.vb_model.specs.declared.calls.{Call.TheVariants.{Reset, SetTarget}, Claim.{Claim, TheVariants.Gave}}
 use Rattle.vb_model.specs.declared.calls.Claim.TheVariants.{GaveNoFrame, GaveNoMemory}
 use Rattle.vb_model.specs.declared.calls.Event.TheVariants.{Restart, Unplug}
 use Rattle.vb_model.specs.declared.places.Place.TheVariants.{Free as FreePlace, Reserved, Stranded}
@@ -94,6 +94,9 @@ reset = ((refl, (refl, refl)), λ reply new s. s.1)
 reset_of_a_failed_guest : refusal_of (record full { status = 131 }) Reset ∷ refusal_of down Reset
     ∷ [] ≡ None ∷ None ∷ []
 reset_of_a_failed_guest = refl
+
+target_is_set : StepsJustSo full (SetTarget 5) [] Done (record full { target = 5 })
+target_is_set = ((refl, (refl, refl)), λ reply new s. s.1)
 
 -- ---- restart
 

@@ -1,5 +1,5 @@
 -- Worked facts of reads and writes.
-use Rattle.std.proofs.Common.{List, [], inl, inr, map, refl, replicate, ℕ, ◌++◌, ◌∷◌, ◌≡◌}
+use Rattle.std.proofs.Common.{List, [], inl, inr, map, refl, replicate, ℕ, ◌++◌, ◌∷◌, ◌≡◌, ◌⊎◌}
 use Rattle.std.specs.Prelude.{None, Option, Some, drop}
 use Rattle.vb_model.proofs.Samples.{StepsJustSo}
 use Rattle.vb_model.{proofs.Samples.{config, down, ready}, specs.{Driver.pages_needed, Guest.Guest}}
@@ -10,7 +10,7 @@ use Rattle.vb_model.specs.declared.places.Place.TheVariants.{Free as FreePlace, 
 use Rattle.vb_model.specs.declared.{places.Place.TheVariants.Used, replies.Refusal.Refusal}
 use Rattle.vb_model.specs.declared.replies.Refusal.TheVariants.{BadCpu, BadOrder, NoFrame, NoMemory}
 use Rattle.vb_model.specs.declared.replies.Refusal.TheVariants.{NotHeld, OutOfRam}
-use Rattle.vb_model.specs.declared.replies.Reply.TheVariants.{Done, ReadBytes, Refused}
+use Rattle.vb_model.specs.declared.replies.Reply.{Reply, TheVariants.{Done, ReadBytes, Refused}}
 
 -- pages 16 to 18 are used; pages 16 and 17 have frames. A short list stands for the bytes of a page
 abbrev frames : Option ℕ → List (Option ℕ)
@@ -40,6 +40,10 @@ read_three = (refl, (inl refl, refl))
 
 read_no_memory : HonestStep before (Read 17 1 3) [] (Refused NoMemory) before
 read_no_memory = (refl, (inr refl, refl))
+
+just_read : (reply : Reply) (new : Guest) → HonestStep before (Read 17 1 3) [] reply new
+    → ((reply ≡ ReadBytes (2 ∷ 3 ∷ 4 ∷ [])) ⊎ (reply ≡ Refused NoMemory)) × (new ≡ before)
+just_read reply new s = (s.1.0, s.1.1)
 
 -- ---- write: these bytes from the offset on, all else as it was
 

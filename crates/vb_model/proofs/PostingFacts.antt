@@ -2,6 +2,9 @@
 -- page twice, another number; and what an allocation hands out.
 use Rattle.std.proofs.Common.{List, [], ap, arith, false, refl, replicate, subst, true, ℕ, ◌++◌}
 use Rattle.std.proofs.Common.{◌∷◌, ◌≡◌}
+use Rattle.vb_model.specs.{Driver.{with_block}, Pages.{block_at, pages_of}, Tests.{marked}}
+use Rattle.std.proofs.Common.{sym}
+use Rattle.vb_model.specs.declared.places.Place.TheVariants.{Used}
 use Rattle.vb_model.specs.Driver.{after_posting}
 use Rattle.vb_model.specs.Requests.{Kind}
 use Rattle.vb_model.{proofs.Agreeing.{least_same}, specs.Guest.{Guest, requests}}
@@ -54,6 +57,10 @@ head_of reply = 0
 abbrev pub count_of : Reply → ℕ
 count_of (Posted head count) = count
 count_of reply = 0
+
+abbrev page_of : Reply → ℕ
+page_of (Page start) = start
+page_of reply = 0
 
 another_head : (new : Guest) → (Posts Inflating (16 ∷ []) 1 ready (Posted 1 1) new → ⊥)
     × (Posts Deflating (16 ∷ []) 1 ready (Posted 1 1) new → ⊥)
@@ -114,6 +121,24 @@ page_19_twice new s e = let d : AllDistinct (19 ∷ 19 ∷ []) =
 page_20_twice : (new : Guest) → Inflates 4 two_stranded (Posted 3 4) new
     → new.inflate ≡ offers (20 ∷ 21 ∷ 19 ∷ 20 ∷ []) → ⊥
 page_20_twice new s e = grind (arith, others_are)
+
+-- the block that is answered is the one that is held from then on, and nothing else is changed
+just_allocated : (g new : Guest) (order start : ℕ) → Allocates order g (Page start) new
+    → new ≡ record g {
+      places = marked (pages_of (block_at start order)) Used g.places;
+      held = with_block (block_at start order) g.held;
+    }
+just_allocated g new order start (other, free, answer, same) =
+    let e : other ≡ start = sym (ap page_of answer) in
+    subst (λ (s : ℕ). new ≡ record g {
+      places = marked (pages_of (block_at s order)) Used g.places;
+      held = with_block (block_at s order) g.held;
+    }) e same
+
+-- where two blocks are held, by rising start
+by_start : with_block (block_at 20 1) (block_at 16 2 ∷ block_at 32 0 ∷ [])
+    ≡ block_at 16 2 ∷ block_at 20 1 ∷ block_at 32 0 ∷ []
+by_start = refl
 
 -- ---- a block that is handed out starts at a multiple of its size, and is free to its end
 
