@@ -3,8 +3,7 @@ use Rattle.std.proofs.Common.{List, [], ap, arith, false, length, map, refl, rep
 use Rattle.std.{proofs.Common.{ℕ, ◌++◌, ◌+◌, ◌∷◌, ◌≡◌}, specs.Prelude.{None, Option, Some}}
 use Rattle.vb_model.proofs.PostingFacts.{just_posted}
 use Rattle.vb_model.specs.Requests.{Deflating}
-use Rattle.vb_model.proofs.Samples.{StepsJustSo}
-use Rattle.vb_model.proofs.Samples.{config, down, ready, request, without_oom}
+use Rattle.vb_model.proofs.Samples.{StepsJustSo, config, down, ready, request, without_oom}
 use Rattle.vb_model.specs.{Driver.AllFreePages, Guest.Guest, Refusals.deflate_count}
 use Rattle.vb_model.specs.Refusals.{inflate_count, oom_count, refusal_of, room}
 use Rattle.vb_model.specs.{Requests.{IsLeastHead, Request, Requests, no_requests}, Step.HonestStep}

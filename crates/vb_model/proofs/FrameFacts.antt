@@ -1,7 +1,6 @@
 -- Worked facts of frames: which page has which, which are out, and that no run that is promised to
 -- be safe has one behind two pages, in whatever state, of whatever guests. Who is honest.
-use Rattle.std.proofs.Common.{List, [], arith, refl, suc, true, zero, ℕ}
-use Rattle.std.proofs.Common.{◌∷◌, ◌≡◌}
+use Rattle.std.proofs.Common.{List, [], arith, refl, suc, true, zero, ℕ, ◌∷◌, ◌≡◌}
 use Rattle.std.specs.Prelude.{None, Option, Some}
 use Rattle.vb_model.{proofs.Samples.{down, ready}, specs.{Guest.{Guest, frame_of}, Run.History}}
 use Rattle.vb_model.specs.{HostFrames.{Backs, IsOut}, Safe.{IsHonest, IsSafeRun, Safe}, World.World}

@@ -1,13 +1,13 @@
 -- Worked facts of a guest's lives: initialisation, reset, restart and unplugging.
 use Rattle.std.proofs.Common.{List, [], false, map, refl, replicate, true, ℕ, ◌++◌, ◌+◌, ◌∷◌, ◌≡◌}
 use Rattle.std.specs.{List.range_with_len, Prelude.{None, Option, Some}}
-use Rattle.vb_model.proofs.Samples.{HappensJustSo, StepsJustSo}
-use Rattle.vb_model.proofs.Samples.{config, down, mixed_places, ready, request}
+use Rattle.vb_model.proofs.Samples.{HappensJustSo, StepsJustSo, config, down, mixed_places, ready}
+use Rattle.vb_model.proofs.Samples.{request}
 use Rattle.vb_model.specs.{Driver.AreClaimsFor, Guest.{Guest, no_statistics, zero_page}}
-use Rattle.vb_model.specs.{HostFrames.used_frames, Life.after_reset}
+use Rattle.vb_model.specs.{HostFrames.used_frames, Life.after_reset, Step.HonestStep, World.World}
 use Rattle.vb_model.specs.{Life.{after_restart, lacking}, Refusals.refusal_of}
 use Rattle.vb_model.specs.Requests.{BufferPosted, BufferTaken, NoBuffer, Requests, no_requests}
-use Rattle.vb_model.specs.{Step.HonestStep, World.World, declared.calls.Call.TheVariants.Init}
+use Rattle.vb_model.specs.{declared.calls.Call.TheVariants.Init}
 use Rattle.vb_model.specs.declared.calls.{Call.TheVariants.{Reset, SetTarget}, Claim.{Claim, TheVariants.Gave}}
 use Rattle.vb_model.specs.declared.calls.Claim.TheVariants.{GaveNoFrame, GaveNoMemory}
 use Rattle.vb_model.specs.declared.calls.Event.TheVariants.{Restart, Unplug}

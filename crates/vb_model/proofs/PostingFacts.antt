@@ -1,18 +1,14 @@
 -- What posts a request and what doesn't: another head than the least that none of its kind has, a
 -- page twice, another number; and what an allocation hands out.
-use Rattle.std.proofs.Common.{List, [], ap, arith, false, refl, replicate, subst, true, ℕ, ◌++◌}
-use Rattle.std.proofs.Common.{◌∷◌, ◌≡◌}
+use Rattle.std.proofs.Common.{List, [], ap, arith, false, refl, replicate, subst, sym, true, ℕ}
+use Rattle.std.proofs.Common.{◌++◌, ◌∷◌, ◌≡◌}
 use Rattle.vb_model.specs.{Driver.{with_block}, Pages.{block_at, pages_of}, Tests.{marked}}
-use Rattle.std.proofs.Common.{sym}
-use Rattle.vb_model.specs.declared.places.Place.TheVariants.{Used}
-use Rattle.vb_model.specs.Driver.{after_posting}
-use Rattle.vb_model.specs.Requests.{Kind}
+use Rattle.vb_model.specs.declared.places.Place.TheVariants.{Free, Lent, Reserved, Stranded, Used}
+use Rattle.vb_model.specs.Driver.{AllDistinct, Allocates, Inflates, Posts, Reports, after_posting}
+use Rattle.vb_model.specs.Requests.{Deflating, Inflating, IsLeastHead, Kind, Reporting_free}
 use Rattle.vb_model.{proofs.Agreeing.{least_same}, specs.Guest.{Guest, requests}}
 use Rattle.vb_model.proofs.Samples.{differ, ready, request}
-use Rattle.vb_model.specs.Driver.{AllDistinct, Allocates, Inflates, Posts, Reports}
-use Rattle.vb_model.specs.Requests.{Deflating, Inflating, IsLeastHead, Reporting_free, Requests}
-use Rattle.vb_model.specs.Requests.{no_requests}
-use Rattle.vb_model.specs.declared.places.Place.TheVariants.{Free, Lent, Reserved, Stranded}
+use Rattle.vb_model.specs.Requests.{Requests, no_requests}
 use Rattle.vb_model.specs.declared.replies.Reply.{Reply, TheVariants.{Page, Posted}}
 
 -- ---- heads: posted, taken and used ones are gone, and the least other one is next

@@ -4,14 +4,14 @@ use Rattle.std.{proofs.Common.{◌∷◌, ◌≡◌}, specs.Prelude.{None, Optio
 use Rattle.std.specs.List.{flat_map, range_with_len}
 use Rattle.vb_model.proofs.PostingFacts.{just_posted}
 use Rattle.vb_model.specs.Requests.{Reporting_free}
-use Rattle.vb_model.proofs.Samples.{PerformsJustSo, StepsJustSo}
+use Rattle.vb_model.proofs.Samples.{PerformsJustSo, StepsJustSo, config, down, ready, request}
 use Rattle.vb_model.specs.Pages.{Block, all_free, blocks_at, is_free, is_maximal, is_wholly_free}
 use Rattle.vb_model.specs.Pages.{maximal_free_blocks, place_of}
 use Rattle.vb_model.specs.declared.places.Place.TheVariants.{Free as FreePlace, Giving, Lent, Used}
 use Rattle.vb_model.specs.declared.places.Place.TheVariants.{Reporting, Reserved, Stranded, Taking}
 use Rattle.vb_model.specs.declared.replies.Refusal.TheVariants.{NoFeature, NoPages, NotHeld}
 use Rattle.vb_model.specs.declared.replies.Refusal.TheVariants.{NotReady, Nothing, QueueFull}
-use Rattle.vb_model.proofs.Samples.{config, down, ready, request, without_reporting}
+use Rattle.vb_model.proofs.Samples.{without_reporting}
 use Rattle.vb_model.specs.declared.calls.Call.TheVariants.{Alloc, Free, Reap, Report, Reset}
 use Rattle.vb_model.specs.declared.replies.Reply.TheVariants.{Done, NotUsed, Page, Posted, Reaped}
 use Rattle.vb_model.specs.Refusals.{causes, first_refusal, refusal_of, reported_blocks}

@@ -12,8 +12,8 @@ use Rattle.vb_model.specs.World.{World, guest_at, put_guest}
 use Rattle.vb_model.specs.declared.calls.{Actor.{Actor, TheVariants.{Balancer}}, Claim.{Claim}}
 use Rattle.vb_model.specs.declared.calls.Call.{Call, TheVariants.{SetTarget}}
 use Rattle.vb_model.specs.declared.calls.Event.{Event, TheVariants.{Balance, Plug, Restart, Unplug}}
-use Rattle.vb_model.specs.declared.calls.Event.TheVariants.{Frames as CountFrames}
-use Rattle.vb_model.specs.declared.calls.Event.TheVariants.{Guest as OnGuest, Query as OnQuery}
+use Rattle.vb_model.specs.declared.calls.Event.TheVariants.{Frames as CountFrames, Guest as OnGuest}
+use Rattle.vb_model.specs.declared.calls.Event.TheVariants.{Query as OnQuery}
 use Rattle.vb_model.specs.declared.calls.{GuestSize.{GuestSize}, Query.{Query}}
 use Rattle.vb_model.specs.declared.replies.Refusal.{Refusal}
 use Rattle.vb_model.specs.declared.replies.Reply.{Reply, TheVariants.{Done, Refused, Targets}}

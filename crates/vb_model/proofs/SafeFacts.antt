@@ -1,7 +1,7 @@
 -- Courses of a guest that are not safe, one for each thing that safety promises: of its features,
 -- its frames, what its pages hold and what reads give, and of faults.
-use Rattle.std.proofs.Common.{◌≡◌, ℕ, zero, suc, true, false, List, [], ◌∷◌, ◌++◌, replicate, refl}
-use Rattle.std.proofs.Common.{inl, inr, arith}
+use Rattle.std.proofs.Common.{List, [], arith, false, inl, inr, refl, replicate, suc, true, zero, ℕ}
+use Rattle.std.proofs.Common.{◌++◌, ◌∷◌, ◌≡◌}
 use Rattle.{std.specs.Prelude.{Option, Some, None}, vb_model.specs.Histories.IsSafeCourse}
 use Rattle.vb_model.{proofs.Samples.{ready, down, page_16_at, request}, specs.Guest.{Guest, fresh}}
 use Rattle.vb_model.specs.Courses.{Course, StaysHeld, StaysOrLoses, ReadsGiveLastWrites}

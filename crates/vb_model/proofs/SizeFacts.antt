@@ -1,6 +1,6 @@
 -- Worked facts of a guest of 80 pages whose queues have 256 descriptors, and so rings of two pages.
-use Rattle.std.proofs.Common.{◌≡◌, ℕ, true, false, List, [], ◌∷◌, ◌++◌, map, replicate, refl, arith}
-use Rattle.std.proofs.Common.{ap, length}
+use Rattle.std.proofs.Common.{List, [], ap, arith, false, length, map, refl, replicate, true, ℕ}
+use Rattle.std.proofs.Common.{◌++◌, ◌∷◌, ◌≡◌}
 use Rattle.vb_model.proofs.Samples.{StepsJustSo}
 use Rattle.vb_model.{proofs.Samples.{differ}, specs.Sizes.{HasSmallShape}}
 use Rattle.std.{specs.Prelude.{Option, Some, None, ◌+◌}, specs.List.range_with_len}

@@ -9,8 +9,8 @@ use Rattle.vb_model.specs.declared.calls.Call.TheVariants.{Ask, Finish, Reap, Re
 use Rattle.vb_model.specs.declared.replies.Refusal.TheVariants.{Busy, NoFeature, NoQueue, NotReady}
 use Rattle.vb_model.{proofs.Samples.down, specs.declared.replies.Refusal.TheVariants.NotTaken}
 use Rattle.vb_model.{proofs.Samples.{mixed, ready, without_stats_vq}}
-use Rattle.vb_model.specs.{Driver.figures, Guest.Guest, Life.Negotiates}
-use Rattle.vb_model.specs.{Refusals.refusal_of, declared.replies.LastStatistics.LastStatistics}
+use Rattle.vb_model.specs.{Driver.figures, Guest.Guest, Life.Negotiates, Refusals.refusal_of}
+use Rattle.vb_model.specs.{declared.replies.LastStatistics.LastStatistics}
 
 -- ---- figures, in bytes: the free pages, and all pages, the reserved ones among them
 

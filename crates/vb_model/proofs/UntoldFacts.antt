@@ -4,12 +4,12 @@ use Rattle.{std.proofs.Common.{◌∙◌, ◌∷◌, ◌≡◌}, vb_model.specs.
 use Rattle.{std.specs.List.range_with_len, vb_model.specs.{Driver.contents_of, Refusals.refusal_of}}
 use Rattle.{std.specs.Prelude.{Bool, None, Some, drop}, vb_model.specs.GuestRun.{Called, Leads}}
 use Rattle.vb_model.proofs.{PostingFacts.{just_posted}, WorkFacts.{just_finished}}
-use Rattle.vb_model.specs.Requests.{Deflating}
-use Rattle.vb_model.proofs.Samples.{PerformsJustSo, StepsJustSo}
-use Rattle.vb_model.proofs.Samples.{down, mixed_places, ready, request, untold}
+use Rattle.vb_model.specs.Requests.{BufferPosted, Deflating, IsLeastHead, Request, Requests}
+use Rattle.vb_model.proofs.Samples.{PerformsJustSo, StepsJustSo, down, mixed_places, ready, request}
+use Rattle.vb_model.proofs.Samples.{untold}
 use Rattle.vb_model.specs.Guest.{Guest, frame_of, is_ballooned, is_ready, tells_host, zero_page}
 use Rattle.vb_model.specs.{Pages.{block_at, place_of}, Requests.no_requests, Status.status_refusal}
-use Rattle.vb_model.specs.Requests.{BufferPosted, IsLeastHead, Request, Requests, given_away}
+use Rattle.vb_model.specs.Requests.{given_away}
 use Rattle.vb_model.specs.{Step.{HonestStep}, declared.calls.Claim.TheVariants.Gave}
 use Rattle.vb_model.specs.declared.calls.Call.{Call, TheVariants.{Oom, Reap, Reset, Take, Write}}
 use Rattle.vb_model.specs.declared.{calls.Actor.TheVariants.{Processor, Worker}, places.Place.Place}

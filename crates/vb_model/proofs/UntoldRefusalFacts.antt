@@ -2,8 +2,7 @@
 -- and a sweep.
 use Rattle.std.proofs.Common.{List, [], false, map, refl, replicate, true, ◌++◌, ◌∷◌, ◌≡◌}
 use Rattle.{std.specs.Prelude.{Bool, None, Some}, vb_model.proofs.UntoldFacts.{each_stage, framed}}
-use Rattle.vb_model.proofs.Samples.{StepsJustSo}
-use Rattle.vb_model.proofs.Samples.{at, config, new_request, ready, request, untold}
+use Rattle.vb_model.proofs.Samples.{StepsJustSo, at, config, new_request, ready, request, untold}
 use Rattle.vb_model.specs.{FirstRefusal.{Cause, ◌⇒◌}, Requests.{Request, Requests, no_requests}}
 use Rattle.vb_model.specs.{Guest.Guest, declared.calls.Call.TheVariants.{Report, Sweep, Take, Work}}
 use Rattle.vb_model.specs.{Refusals.refusal_of, declared.replies.Refusal.TheVariants.QueueFull}

@@ -1,14 +1,14 @@
 -- Worked facts of the device's calls on requests: take, work, finish and sweep.
-use Rattle.std.proofs.Common.{List, [], false, map, refl, replicate, true, ℕ, ◌++◌, ◌+◌, ◌∷◌, ◌≡◌}
+use Rattle.std.proofs.Common.{List, [], false, map, refl, replicate, subst, sym, true, ℕ, ◌++◌, ◌+◌}
 use Rattle.std.specs.{List.range_with_len, Prelude.{Bool, None, Option, Some, drop}}
-use Rattle.std.proofs.Common.{subst, sym, ◌∙◌}
+use Rattle.std.proofs.Common.{◌∙◌, ◌∷◌, ◌≡◌}
 use Rattle.std.specs.Prelude.{slice_get}
 use Rattle.vb_model.specs.Device.{Finishes, settled, used}
 use Rattle.vb_model.specs.Guest.{requests}
 use Rattle.vb_model.specs.Requests.{Deflating, Inflating, Kind, Reporting_free}
 use Rattle.vb_model.specs.declared.replies.Reply.{Reply}
-use Rattle.vb_model.proofs.Samples.{PerformsJustSo, StepsJustSo}
-use Rattle.vb_model.proofs.Samples.{config, down, ready, request, without_reporting}
+use Rattle.vb_model.proofs.Samples.{PerformsJustSo, StepsJustSo, config, down, ready, request}
+use Rattle.vb_model.proofs.Samples.{without_reporting}
 use Rattle.vb_model.specs.{Guest.{Guest, zero_page}, Refusals.{causes, first_refusal, refusal_of}}
 use Rattle.vb_model.specs.{Requests.{Request, Requests}}
 use Rattle.vb_model.specs.declared.calls.Call.{Call, TheVariants.{Finish, Sweep, Take, Work}}
