@@ -6,6 +6,7 @@ use Rattle.vb_model.proofs.{Performed.performed, Samples.{page_16_at, ready, req
 use Rattle.vb_model.specs.{Guest.{Guest, unbacked}, GuestRun.{Alone, AreOwn, Entry, InOneLife}}
 use Rattle.vb_model.specs.{GuestRun.{IsOwnEntry, Leads, OwnStep}, Histories.IsSafeCourse, Safe.Safe}
 use Rattle.vb_model.specs.{HostEvents.WorldStep, Run.{History, Steps, last_world}, Safe.{IsSafeOf, IsSafeRun, part}}
+use Rattle.vb_model.specs.Courses.{ReadsGiveLastWrites}
 use Rattle.vb_model.specs.{Safe.NoFrameTwice, SafeLaws.LivesAreAlone, World.{World, guest_at, made}}
 use Rattle.vb_model.specs.declared.calls.Call.TheVariants.{Alloc, Inflate, Init, Reset, Sweep, Work}
 use Rattle.vb_model.specs.declared.calls.Event.{Event, TheVariants.{Frames as CountFrames, Restart}}
@@ -291,6 +292,22 @@ one_event_of_a_life : (n : ℕ) (w v x : World) (first second : Event) (answer r
     × IsSafeCourse (record { first = g; entries = entries; after = guests })
 one_event_of_a_life n w v x first second answer reply g new s there then_there honest on still =
     s.lives n 1 1 v x g new refl there refl then_there honest (on, still, tt)
+
+-- the law says of such an event that it leads the guest by itself, too, and that reads give the last
+-- writes
+one_event_alone : (n : ℕ) (w v x : World) (first second : Event) (answer reply : Reply)
+    (g new : Guest) → LivesAreAlone (record {
+      first = w;
+      events = first ∷ second ∷ [];
+      replies = answer ∷ reply ∷ [];
+      after = v ∷ x ∷ [];
+    }) → guest_at v.guests n ≡ Some g → guest_at x.guests n ≡ Some new → new.rogue ≡ false
+    → second ≢ Restart n → second ≢ Unplug n
+    → (own : Alone n v (second ∷ []) (reply ∷ []) (x ∷ []) g)
+    × IsSafeCourse (record { first = g; entries = own.entries; after = own.guests })
+    × ReadsGiveLastWrites (record { first = g; entries = own.entries; after = own.guests })
+one_event_alone n w v x first second answer reply g new law there then_there honest on still =
+    law n 1 1 v g new refl there (then_there, honest) (on, still, tt)
 
 -- so many entries of a list, from one on
 part_of_five : part {A = ℕ} 1 3 (5 ∷ 6 ∷ 7 ∷ 8 ∷ 9 ∷ []) ∷ part {A = ℕ} 3 4 (5 ∷ 6 ∷ 7 ∷ 8 ∷ 9 ∷ [])
