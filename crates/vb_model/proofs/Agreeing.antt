@@ -44,7 +44,7 @@ same_case (Some x) P P' Q Q' R s t none some = some x s t
 
 -- ---- heads and pages of a new request
 
-least_same : (rs : Requests) (a b : ℕ) → IsLeastHead rs a → IsLeastHead rs b → a ≡ b
+pub least_same : (rs : Requests) (a b : ℕ) → IsLeastHead rs a → IsLeastHead rs b → a ≡ b
 least_same rs a b p q = elim (cases_lt a b) [
   | inl l ↦ let some : 0 < headed a (all_requests rs) = q.least a l in absurd (omega arith)
   | inr ge ↦ elim (cases_lt b a) [

@@ -2,10 +2,11 @@
 use Rattle.std.proofs.Common.{List, [], arith, inl, map, refl, replicate, true, ℕ, ◌∷◌, ◌≡◌, ◌≤◌}
 use Rattle.std.specs.Prelude.{None, Option, Some, sum}
 use Rattle.vb_model.{proofs.Samples.{config, differ, ready}, specs.Balance.{AreTargets, Need, need}}
+use Rattle.vb_model.specs.Balance.{GivesBefore}
 use Rattle.vb_model.specs.{Balance.{missing, shortage, spare}, Guest.Guest, HostEvents.WorldStep}
 use Rattle.vb_model.specs.{HostEvents.needs, World.World, declared.calls.Event.TheVariants.Balance}
 use Rattle.vb_model.specs.declared.replies.{Refusal.TheVariants.Short, Reply.TheVariants.Refused}
-use Rattle.vb_model.specs.declared.replies.Reply.TheVariants.{Targets}
+use Rattle.vb_model.specs.declared.replies.Reply.{Reply, TheVariants.{Done, Targets}}
 
 -- ---- what a guest of 64 pages can spare: min(48, ballooned + (free - floor))
 
@@ -108,6 +109,27 @@ lower_number_gives = first_alone 30 30 100 28 (omega arith) (omega arith) refl
 not_the_higher_number : TargetsAre (needs_of 30 30) 100 0 28 → ⊥
 not_the_higher_number t = grind arith
 
+-- more spare before less, and of as much the lower number; none before itself
+who_gives_first : GivesBefore (needs_of 30 40) 1 0 × GivesBefore (needs_of 40 30) 0 1
+    × GivesBefore (needs_of 30 30) 0 1 × (GivesBefore (needs_of 30 40) 0 1 → ⊥)
+    × (GivesBefore (needs_of 40 30) 1 0 → ⊥) × (GivesBefore (needs_of 30 30) 1 0 → ⊥)
+    × (GivesBefore (needs_of 30 30) 0 0 → ⊥)
+who_gives_first = grind arith
+
+-- of three guests the first gives only once the third, which can spare most, gives all
+abbrev three : List Need
+three = record { pages = 64; spare = 30 } ∷ record { pages = 64; spare = 20 }
+    ∷ record { pages = 64; spare = 40 } ∷ []
+
+not_the_first_of_three : (AreTargets three 142 (20 ∷ 0 ∷ 30 ∷ []) → ⊥)
+    × (AreTargets three 142 (0 ∷ 10 ∷ 40 ∷ []) → ⊥)
+not_the_first_of_three = (
+  λ t. differ 30 40 refl
+      (t.in_order 0 2 (omega arith) (omega arith) (omega arith) (inl (omega arith))),
+  λ t. differ 0 30 refl
+      (t.in_order 1 0 (omega arith) (omega arith) (omega arith) (inl (omega arith))),
+)
+
 -- ---- a balance of two guests of 64 pages, of which each has 48 free, with 100 frames
 
 abbrev world : Option Guest → Option Guest → World
@@ -139,3 +161,22 @@ balanced = ((28 ∷ 0 ∷ [], first_alone 32 32 100 28 (omega arith) (omega arit
 short : WorldStep (world (Some (aiming 3)) (Some (aiming 5))) (Balance 40) (Refused (Short 12))
     (world (Some (aiming 3)) (Some (aiming 5)))
 short = (refl, refl)
+
+-- no other answer, and no other targets than those of the answer
+just_short : (reply : Reply) (v : World)
+    → WorldStep (world (Some (aiming 3)) (Some (aiming 5))) (Balance 40) reply v
+    → (reply ≡ Refused (Short 12)) × (v ≡ world (Some (aiming 3)) (Some (aiming 5)))
+just_short reply v s = grind arith
+
+just_as_answered : (v : World)
+    → WorldStep (world (Some (aiming 3)) (Some (aiming 5))) (Balance 16) (Targets (28 ∷ 0 ∷ [])) v
+    → v ≡ world (Some (aiming 28)) (Some (aiming 0))
+just_as_answered v s = s.1
+
+abbrev NeverAnswered : Reply → Type 0
+NeverAnswered reply = (v : World)
+    → WorldStep (world (Some (aiming 3)) (Some (aiming 5))) (Balance 16) reply v → ⊥
+
+other_answers : NeverAnswered (Refused (Short 0)) × NeverAnswered (Targets (0 ∷ 28 ∷ []))
+    × NeverAnswered (Targets (28 ∷ [])) × NeverAnswered (Targets (29 ∷ 0 ∷ [])) × NeverAnswered Done
+other_answers = grind arith

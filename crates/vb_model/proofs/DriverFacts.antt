@@ -1,7 +1,9 @@
 -- Worked facts of the driver's inflates, deflates and reaps.
 use Rattle.std.proofs.Common.{List, [], ap, arith, false, length, map, refl, replicate, subst, true}
 use Rattle.std.{proofs.Common.{ℕ, ◌++◌, ◌+◌, ◌∷◌, ◌≡◌}, specs.Prelude.{None, Option, Some}}
-use Rattle.vb_model.proofs.Samples.{config, down, ready, request, without_oom}
+use Rattle.vb_model.proofs.PostingFacts.{just_posted}
+use Rattle.vb_model.specs.Requests.{Deflating}
+use Rattle.vb_model.proofs.Samples.{StepsJustSo, config, down, ready, request, without_oom}
 use Rattle.vb_model.specs.{Driver.AllFreePages, Guest.Guest, Refusals.deflate_count}
 use Rattle.vb_model.specs.Refusals.{inflate_count, oom_count, refusal_of, room}
 use Rattle.vb_model.specs.{Requests.{IsLeastHead, Request, Requests, no_requests}, Step.HonestStep}
@@ -145,24 +147,35 @@ abbrev four_lent : Guest
 four_lent = record (at_places (Taking ∷ Lent ∷ Lent ∷ Giving ∷ Free ∷ Lent ∷ Lent ∷ Free ∷ []))
     { deflate = heads 3 0 2; target = 2 }
 
-asked_back : HonestStep four_lent (Deflate 3) [] (Posted 1 3)
+asked_back : StepsJustSo four_lent (Deflate 3) [] (Posted 1 3)
     (record (at_places (Taking ∷ Taking ∷ Taking ∷ Giving ∷ Free ∷ Taking ∷ Lent ∷ Free ∷ []))
     { deflate = with_last (heads 3 0 2) (request 1 (17 ∷ 18 ∷ 21 ∷ []) 0); target = 2 })
-asked_back = (refl, (1, head_between, refl, refl))
+asked_back = (
+  (refl, (1, head_between, refl, refl)),
+  λ reply new s. just_posted Deflating (17 ∷ 18 ∷ 21 ∷ []) 3 four_lent 1 head_between reply new s.1,
+)
 
 -- as far as the target allows
-asked_back_to_the_target : HonestStep (record four_lent { target = 3 }) (Deflate 300) []
+asked_back_to_the_target : StepsJustSo (record four_lent { target = 3 }) (Deflate 300) []
     (Posted 1 2) (record (at_places
     (Taking ∷ Taking ∷ Taking ∷ Giving ∷ Free ∷ Lent ∷ Lent ∷ Free ∷ []))
     { deflate = with_last (heads 3 0 2) (request 1 (17 ∷ 18 ∷ []) 0); target = 3 })
-asked_back_to_the_target = (refl, (1, head_between, refl, refl))
+asked_back_to_the_target = (
+  (refl, (1, head_between, refl, refl)),
+  λ reply new s. just_posted Deflating (17 ∷ 18 ∷ []) 2 (record four_lent { target = 3 }) 1 head_between reply
+      new s.1,
+)
 
 -- and for want of memory beyond it
-asked_back_for_want_of_memory : HonestStep (record four_lent { target = 40 }) (Oom 1) []
+asked_back_for_want_of_memory : StepsJustSo (record four_lent { target = 40 }) (Oom 1) []
     (Posted 1 1) (record (at_places
     (Taking ∷ Taking ∷ Lent ∷ Giving ∷ Free ∷ Lent ∷ Lent ∷ Free ∷ []))
     { deflate = with_last (heads 3 0 2) (request 1 (17 ∷ []) 0); target = 40 })
-asked_back_for_want_of_memory = (refl, (1, head_between, refl, refl))
+asked_back_for_want_of_memory = (
+  (refl, (1, head_between, refl, refl)),
+  λ reply new s. just_posted Deflating (17 ∷ []) 1 (record four_lent { target = 40 }) 1 head_between reply new
+      s.1,
+)
 
 -- ---- refusals, in order
 
@@ -234,25 +247,25 @@ abbrev deflates : Requests
 deflates =
     record { posted = []; taken = request 1 (21 ∷ []) 0 ∷ []; done = request 0 (20 ∷ []) 0 ∷ [] }
 
-reaped_inflate : HonestStep
+reaped_inflate : StepsJustSo
     (record (reaping (Giving ∷ Giving ∷ Giving ∷ Lent ∷ Taking ∷ Taking ∷ Free ∷ Stranded ∷ [])
     Giving 3) { inflate = two_used (16 ∷ 18 ∷ []) (17 ∷ []); deflate = deflates }) (Reap 0) []
     (Reaped 2 2)
     (record (reaping (Lent ∷ Giving ∷ Lent ∷ Lent ∷ Taking ∷ Taking ∷ Free ∷ Stranded ∷ [])
     Giving 5) { inflate = one_used (17 ∷ []); deflate = deflates })
-reaped_inflate = (refl, (refl, refl))
+reaped_inflate = ((refl, (refl, refl)), λ reply new s. s.1)
 
 -- inflates name pages 16 to 18, which are giving
 abbrev inflates : Requests
 inflates = record { posted = request 0 (16 ∷ 17 ∷ 18 ∷ []) 0 ∷ []; taken = []; done = [] }
 
-reaped_deflate : HonestStep
+reaped_deflate : StepsJustSo
     (record (reaping (Giving ∷ Giving ∷ Giving ∷ Lent ∷ Taking ∷ Taking ∷ Free ∷ Stranded ∷ [])
     Taking 5) { inflate = inflates; deflate = two_used (20 ∷ []) (21 ∷ []) }) (Reap 1) []
     (Reaped 2 1)
     (record (reaping (Giving ∷ Giving ∷ Giving ∷ Lent ∷ Free ∷ Taking ∷ Free ∷ Stranded ∷ [])
     Taking 4) { inflate = inflates; deflate = one_used (21 ∷ []) })
-reaped_deflate = (refl, (refl, refl))
+reaped_deflate = ((refl, (refl, refl)), λ reply new s. s.1)
 
 -- nothing is used: nothing changes
 abbrev none_used : Guest
@@ -262,8 +275,8 @@ none_used = record (reaping (Taking ∷ Taking ∷ Lent ∷ replicate 5 Free) Fr
       record { posted = request 0 (16 ∷ []) 0 ∷ []; taken = request 1 (17 ∷ []) 0 ∷ []; done = [] };
 }
 
-not_used : HonestStep none_used (Reap 1) [] NotUsed none_used
-not_used = (refl, (refl, refl))
+not_used : StepsJustSo none_used (Reap 1) [] NotUsed none_used
+not_used = ((refl, (refl, refl)), λ reply new s. s.1)
 
 reap_refusals : map (λ queue. refusal_of down (Reap queue)) (0 ∷ 1 ∷ 2 ∷ 3 ∷ 5 ∷ [])
     ≡ replicate 2 (Some NotReady) ++ replicate 3 (Some NoQueue)

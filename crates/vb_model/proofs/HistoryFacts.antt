@@ -8,7 +8,7 @@ use Rattle.vb_model.{specs.declared.calls.Call.Call, specs.declared.replies.Repl
 use Rattle.vb_model.specs.declared.calls.Call.TheVariants.{SetTarget, Work}
 use Rattle.vb_model.{specs.declared.replies.Refusal.TheVariants.NotReady, specs.GuestRun.IsHistory}
 use Rattle.vb_model.specs.declared.replies.Reply.TheVariants.{Done, Idle, Refused}
-use Rattle.vb_model.{specs.Guest.{Guest, fresh}, specs.Histories.{IsSafeCourse, IsSafeHistory}}
+use Rattle.vb_model.{specs.Guest.{Config, Guest, fresh}, specs.Histories.{IsSafeCourse, IsSafeHistory}}
 use Rattle.vb_model.{proofs.Histories.history_is_safe, proofs.Samples.{config, ready, down}}
 
 abbrev Same : ℕ → ℕ → Type 0
@@ -83,3 +83,12 @@ its_own_course : (entries : List Entry) (last : Guest) (h : IsSafeHistory config
     → IsSafeCourse
     (record { first = fresh config 0; entries = all_entries entries; after = h.after })
 its_own_course entries last h = h.safe
+
+-- and of any sizes and target it leads from the guest as plugged in to the last one
+of_any_guest : (sizes : Config) (target : ℕ) (entries : List Entry) (last : Guest)
+    (h : IsSafeHistory sizes target entries last)
+    → Leads (fresh sizes target) (all_entries entries) h.after
+    × (last_guest (fresh sizes target) h.after ≡ last)
+    × IsSafeCourse
+    (record { first = fresh sizes target; entries = all_entries entries; after = h.after })
+of_any_guest sizes target entries last h = (h.leads, h.ends, h.safe)

@@ -1,13 +1,14 @@
 -- Worked facts of a guest's lives: initialisation, reset, restart and unplugging.
 use Rattle.std.proofs.Common.{List, [], false, map, refl, replicate, true, ℕ, ◌++◌, ◌+◌, ◌∷◌, ◌≡◌}
 use Rattle.std.specs.{List.range_with_len, Prelude.{None, Option, Some}}
-use Rattle.vb_model.proofs.Samples.{config, down, mixed_places, ready, request}
+use Rattle.vb_model.proofs.Samples.{HappensJustSo, StepsJustSo, config, down, mixed_places, ready}
+use Rattle.vb_model.proofs.Samples.{request}
 use Rattle.vb_model.specs.{Driver.AreClaimsFor, Guest.{Guest, no_statistics, zero_page}}
-use Rattle.vb_model.specs.{HostEvents.WorldStep, HostFrames.used_frames, Life.after_reset}
+use Rattle.vb_model.specs.{HostFrames.used_frames, Life.after_reset, Step.HonestStep, World.World}
 use Rattle.vb_model.specs.{Life.{after_restart, lacking}, Refusals.refusal_of}
 use Rattle.vb_model.specs.Requests.{BufferPosted, BufferTaken, NoBuffer, Requests, no_requests}
-use Rattle.vb_model.specs.{Step.HonestStep, World.World, declared.calls.Call.TheVariants.Init}
-use Rattle.vb_model.specs.declared.calls.{Call.TheVariants.Reset, Claim.{Claim, TheVariants.Gave}}
+use Rattle.vb_model.specs.{declared.calls.Call.TheVariants.Init}
+use Rattle.vb_model.specs.declared.calls.{Call.TheVariants.{Reset, SetTarget}, Claim.{Claim, TheVariants.Gave}}
 use Rattle.vb_model.specs.declared.calls.Claim.TheVariants.{GaveNoFrame, GaveNoMemory}
 use Rattle.vb_model.specs.declared.calls.Event.TheVariants.{Restart, Unplug}
 use Rattle.vb_model.specs.declared.places.Place.TheVariants.{Free as FreePlace, Reserved, Stranded}
@@ -80,19 +81,22 @@ renewed = record {
 -- giving, lent and taking pages are stranded, reporting ones free; requests, buffer, statistics,
 -- features and the ballooned set are gone; configuration, held blocks, target, frames and contents
 -- stay
-reset : HonestStep full Reset [] Done (record renewed {
+reset : StepsJustSo full Reset [] Done (record renewed {
   places = replicate 16 Reserved ++ (replicate 21 FreePlace
       ++ (replicate 2 Used ++ (replicate 18 Stranded ++ replicate 7 FreePlace)));
   held = record { start = 37; order = 0 } ∷ record { start = 38; order = 0 } ∷ [];
   frames = full_frames;
   contents = full_contents;
 })
-reset = (refl, (refl, refl))
+reset = ((refl, (refl, refl)), λ reply new s. s.1)
 
 -- it may come at any status
 reset_of_a_failed_guest : refusal_of (record full { status = 131 }) Reset ∷ refusal_of down Reset
     ∷ [] ≡ None ∷ None ∷ []
 reset_of_a_failed_guest = refl
+
+target_is_set : StepsJustSo full (SetTarget 5) [] Done (record full { target = 5 })
+target_is_set = ((refl, (refl, refl)), λ reply new s. s.1)
 
 -- ---- restart
 
@@ -105,13 +109,13 @@ three_guests middle = record {
 }
 
 -- of three guests just the one is renewed; the host stays as it was
-restart : WorldStep (three_guests (Some full)) (Restart 1) Done (three_guests (Some renewed))
-restart = (refl, refl)
+restart : HappensJustSo (three_guests (Some full)) (Restart 1) Done (three_guests (Some renewed))
+restart = ((refl, refl), λ reply v s. s)
 
 -- a rogue guest is honest again
-restart_of_a_rogue : WorldStep (three_guests (Some (record full { rogue = true }))) (Restart 1) Done
+restart_of_a_rogue : HappensJustSo (three_guests (Some (record full { rogue = true }))) (Restart 1) Done
     (three_guests (Some renewed))
-restart_of_a_rogue = (refl, refl)
+restart_of_a_rogue = ((refl, refl), λ reply v s. s)
 
 frames_go_back : used_frames (three_guests (Some full)) ∷ used_frames (three_guests (Some renewed))
     ∷ [] ≡ 40 ∷ 0 ∷ []
@@ -121,9 +125,9 @@ frames_go_back = refl
 
 -- the guest is gone, its frames with it, and its number is the one last given up; its device isn't
 -- a spare again
-unplug : WorldStep (three_guests (Some full)) (Unplug 1) Done
+unplug : HappensJustSo (three_guests (Some full)) (Unplug 1) Done
     (record (three_guests None) { vacated = Some 1 })
-unplug = (refl, refl)
+unplug = ((refl, refl), λ reply v s. s)
 
 frames_are_gone : used_frames (three_guests None) ≡ 0
 frames_are_gone = refl
@@ -150,22 +154,22 @@ abbrev thirteen_frames : List (Option ℕ)
 thirteen_frames = map (λ k. Some (k + 20)) (range_with_len 0 13) ++ replicate 51 None
 
 -- without STATS_VQ there is no statistics buffer
-initialised : HonestStep down (Init 0x100000025) thirteen Ready
+initialised : StepsJustSo down (Init 0x100000025) thirteen Ready
     (record down { status = 15; features = 0x100000025; frames = thirteen_frames })
-initialised = (refl, (refl, refl))
+initialised = ((refl, (refl, refl)), λ reply new s. s.1)
 
 -- a guest needn't agree to tell the host
-initialised_untold : HonestStep down (Init 0x100000026) thirteen Ready (record down {
+initialised_untold : StepsJustSo down (Init 0x100000026) thirteen Ready (record down {
   status = 15;
   features = 0x100000026;
   buffer = BufferPosted (record { free = 196608; total = 262144 });
   frames = thirteen_frames;
 })
-initialised_untold = (refl, (refl, refl))
+initialised_untold = ((refl, (refl, refl)), λ reply new s. s.1)
 
-with_version_alone : HonestStep down (Init 0x100000000) thirteen Ready
+with_version_alone : StepsJustSo down (Init 0x100000000) thirteen Ready
     (record down { status = 15; features = 0x100000000; frames = thirteen_frames })
-with_version_alone = (refl, (refl, refl))
+with_version_alone = ((refl, (refl, refl)), λ reply new s. s.1)
 
 untold_but_refused : (new : Guest)
     → HonestStep down (Init 0x100000026) thirteen (Refused VersionMissing) new → ⊥
@@ -185,32 +189,32 @@ none_after_no_memory : AreClaimsFor (0 ∷ 1 ∷ []) (GaveNoMemory ∷ Gave 5 �
 none_after_no_memory a = let e : Gave 5 ∷ [] ≡ [] = a in cc
 
 -- the first claim that is refused is the answer, and no frame stays
-no_frame_left : HonestStep down (Init 0x100000027) (Gave 20 ∷ Gave 21 ∷ GaveNoFrame ∷ [])
+no_frame_left : StepsJustSo down (Init 0x100000027) (Gave 20 ∷ Gave 21 ∷ GaveNoFrame ∷ [])
     (Refused NoFrame) down
-no_frame_left = (refl, (refl, refl))
+no_frame_left = ((refl, (refl, refl)), λ reply new s. s.1)
 
-no_memory_left : HonestStep down (Init 0x100000027) (Gave 20 ∷ GaveNoMemory ∷ []) (Refused NoMemory)
+no_memory_left : StepsJustSo down (Init 0x100000027) (Gave 20 ∷ GaveNoMemory ∷ []) (Refused NoMemory)
     down
-no_memory_left = (refl, (refl, refl))
+no_memory_left = ((refl, (refl, refl)), λ reply new s. s.1)
 
 -- features that are refused leave the status at 131 and what was accepted in the negotiation; the
 -- frames stay
-version_missing : HonestStep down (Init 0x27) thirteen (Refused VersionMissing)
+version_missing : StepsJustSo down (Init 0x27) thirteen (Refused VersionMissing)
     (record down { status = 131; features = 0x27; frames = thirteen_frames })
-version_missing = (refl, (refl, refl))
+version_missing = ((refl, (refl, refl)), λ reply new s. s.1)
 
-no_features : HonestStep down (Init 0) thirteen (Refused VersionMissing)
+no_features : StepsJustSo down (Init 0) thirteen (Refused VersionMissing)
     (record down { status = 131; features = 0; frames = thirteen_frames })
-no_features = (refl, (refl, refl))
+no_features = ((refl, (refl, refl)), λ reply new s. s.1)
 
 -- none were accepted that aren't offered
-not_offered : HonestStep down (Init 0x100000067) thirteen (Refused FeatureNotOffered)
+not_offered : StepsJustSo down (Init 0x100000067) thirteen (Refused FeatureNotOffered)
     (record down { status = 131; features = 0; frames = thirteen_frames })
-not_offered = (refl, (refl, refl))
+not_offered = ((refl, (refl, refl)), λ reply new s. s.1)
 
 -- the features come after the frames
-frames_before_features : HonestStep down (Init 0x26) (GaveNoFrame ∷ []) (Refused NoFrame) down
-frames_before_features = (refl, (refl, refl))
+frames_before_features : StepsJustSo down (Init 0x26) (GaveNoFrame ∷ []) (Refused NoFrame) down
+frames_before_features = ((refl, (refl, refl)), λ reply new s. s.1)
 
 -- a guest that is up, or has given up, has to be reset first
 up_already : refusal_of ready (Init 0)

@@ -1,6 +1,7 @@
 -- Worked facts of reads and writes.
-use Rattle.std.proofs.Common.{List, [], inl, inr, map, refl, replicate, ℕ, ◌++◌, ◌∷◌, ◌≡◌}
+use Rattle.std.proofs.Common.{List, [], inl, inr, map, refl, replicate, ℕ, ◌++◌, ◌∷◌, ◌≡◌, ◌⊎◌}
 use Rattle.std.specs.Prelude.{None, Option, Some, drop}
+use Rattle.vb_model.proofs.Samples.{StepsJustSo}
 use Rattle.vb_model.{proofs.Samples.{config, down, ready}, specs.{Driver.pages_needed, Guest.Guest}}
 use Rattle.vb_model.specs.{Guest.zero_page, Refusals.refusal_of, Step.HonestStep}
 use Rattle.vb_model.specs.declared.calls.Call.{Call, TheVariants.{Alloc, Free, Read, Write}}
@@ -9,7 +10,7 @@ use Rattle.vb_model.specs.declared.places.Place.TheVariants.{Free as FreePlace, 
 use Rattle.vb_model.specs.declared.{places.Place.TheVariants.Used, replies.Refusal.Refusal}
 use Rattle.vb_model.specs.declared.replies.Refusal.TheVariants.{BadCpu, BadOrder, NoFrame, NoMemory}
 use Rattle.vb_model.specs.declared.replies.Refusal.TheVariants.{NotHeld, OutOfRam}
-use Rattle.vb_model.specs.declared.replies.Reply.TheVariants.{Done, ReadBytes, Refused}
+use Rattle.vb_model.specs.declared.replies.Reply.{Reply, TheVariants.{Done, ReadBytes, Refused}}
 
 -- pages 16 to 18 are used; pages 16 and 17 have frames. A short list stands for the bytes of a page
 abbrev frames : Option ℕ → List (Option ℕ)
@@ -40,25 +41,29 @@ read_three = (refl, (inl refl, refl))
 read_no_memory : HonestStep before (Read 17 1 3) [] (Refused NoMemory) before
 read_no_memory = (refl, (inr refl, refl))
 
+just_read : (reply : Reply) (new : Guest) → HonestStep before (Read 17 1 3) [] reply new
+    → ((reply ≡ ReadBytes (2 ∷ 3 ∷ 4 ∷ [])) ⊎ (reply ≡ Refused NoMemory)) × (new ≡ before)
+just_read reply new s = (s.1.0, s.1.1)
+
 -- ---- write: these bytes from the offset on, all else as it was
 
-written_two : HonestStep before (Write 17 1 (8 ∷ 9 ∷ [])) [] Done
+written_two : StepsJustSo before (Write 17 1 (8 ∷ 9 ∷ [])) [] Done
     (holding (1 ∷ 8 ∷ 9 ∷ 4 ∷ 5 ∷ []) None zero_page)
-written_two = (refl, (refl, refl))
+written_two = ((refl, (refl, refl)), λ reply new s. s.1)
 
 -- a page without a frame gets one first, and is zero but for these bytes
-written_to_a_bare_page : HonestStep before (Write 18 0 (8 ∷ 9 ∷ [])) (Gave 33 ∷ []) Done
+written_to_a_bare_page : StepsJustSo before (Write 18 0 (8 ∷ 9 ∷ [])) (Gave 33 ∷ []) Done
     (holding five_bytes (Some 33) (8 ∷ 9 ∷ drop 2 zero_page))
-written_to_a_bare_page = (refl, (refl, refl))
+written_to_a_bare_page = ((refl, (refl, refl)), λ reply new s. s.1)
 
 -- or nothing is changed
-no_frame_for_a_write : HonestStep before (Write 18 0 (8 ∷ [])) (GaveNoFrame ∷ []) (Refused NoFrame)
+no_frame_for_a_write : StepsJustSo before (Write 18 0 (8 ∷ [])) (GaveNoFrame ∷ []) (Refused NoFrame)
     before
-no_frame_for_a_write = (refl, (refl, refl))
+no_frame_for_a_write = ((refl, (refl, refl)), λ reply new s. s.1)
 
-no_memory_for_a_write : HonestStep before (Write 18 0 (8 ∷ [])) (GaveNoMemory ∷ [])
+no_memory_for_a_write : StepsJustSo before (Write 18 0 (8 ∷ [])) (GaveNoMemory ∷ [])
     (Refused NoMemory) before
-no_memory_for_a_write = (refl, (refl, refl))
+no_memory_for_a_write = ((refl, (refl, refl)), λ reply new s. s.1)
 
 -- a write of nothing needs no frame
 frames_needed : pages_needed 18 [] before ∷ pages_needed 18 (0 ∷ 0 ∷ []) before

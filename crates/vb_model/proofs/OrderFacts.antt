@@ -156,3 +156,13 @@ blocks_askew = (
   λ o. omega (arith, o.blocks.0.order),
   λ o. omega (arith, o.blocks.0.inside),
 )
+
+-- each of them, and not the first alone
+second_block_askew : Disorderly (record ready { held = block_at 16 0 ∷ block_at 17 1 ∷ [] })
+    × Disorderly (record ready { held = block_at 16 1 ∷ block_at 0 10 ∷ [] })
+    × Disorderly (record ready { held = block_at 16 2 ∷ block_at 32 0 ∷ block_at 64 0 ∷ [] })
+second_block_askew = (
+  λ o. (let e : false ≡ true = o.blocks.1.0.aligned in cc),
+  λ o. omega (arith, o.blocks.1.0.order),
+  λ o. omega (arith, o.blocks.1.1.0.inside),
+)

@@ -1,16 +1,17 @@
 -- Worked facts of the answers to queries.
 use Rattle.std.proofs.Common.{[], false, inl, inr, refl, replicate, true, ℕ, ◌++◌, ◌∷◌, ◌≡◌, ◌⊎◌}
 use Rattle.std.specs.Prelude.{None, Option, Some}
-use Rattle.vb_model.specs.declared.places.Place.TheVariants.{Free, Giving, Lent, Reporting, Taking}
-use Rattle.vb_model.specs.declared.places.Place.TheVariants.{Reserved, Stranded, Used}
+use Rattle.vb_model.proofs.Samples.{HappensJustSo}
+use Rattle.vb_model.specs.declared.places.Place.TheVariants.{Free, Giving, Lent, Reporting}
+use Rattle.vb_model.specs.declared.places.Place.TheVariants.{Reserved, Stranded, Taking, Used}
 use Rattle.vb_model.specs.declared.calls.Query.TheVariants.{Backing as QueryBacking}
-use Rattle.vb_model.specs.declared.calls.Query.TheVariants.{Balloon as QueryBalloon, PagesAt}
-use Rattle.vb_model.specs.declared.calls.Query.TheVariants.{Memory as QueryMemory, PagesBallooned}
-use Rattle.vb_model.specs.declared.calls.Query.TheVariants.{Places as QueryPlaces}
+use Rattle.vb_model.specs.declared.calls.Query.TheVariants.{Balloon as QueryBalloon}
+use Rattle.vb_model.specs.declared.calls.Query.TheVariants.{Memory as QueryMemory, PagesAt}
+use Rattle.vb_model.specs.declared.calls.Query.TheVariants.{PagesBallooned, Places as QueryPlaces}
 use Rattle.vb_model.specs.declared.replies.Reply.TheVariants.{Backing, Balloon, Pages, Places}
 use Rattle.vb_model.specs.{Queries.runs, declared.replies.Reply.TheVariants.{Refused, Statistics}}
 use Rattle.vb_model.{proofs.Samples.{mixed, ready}, specs.{Guest.Guest, Queries.Answers}}
-use Rattle.vb_model.specs.{HostEvents.WorldStep, World.World, declared.calls.Query.Query}
+use Rattle.vb_model.specs.{World.World, declared.calls.Query.Query}
 use Rattle.vb_model.specs.declared.{calls.Event.TheVariants.Query as OnQuery, replies.Reply.Reply}
 use Rattle.vb_model.specs.declared.{places.PageRun.PageRun, replies.Refusal.TheVariants.NoMemory}
 
@@ -122,5 +123,5 @@ world = record {
   vacated = Some 7;
 }
 
-asked_in_the_world : WorldStep world (OnQuery 1 (QueryBacking 16)) (Backing (Some 13)) world
-asked_in_the_world = (refl, refl)
+asked_in_the_world : HappensJustSo world (OnQuery 1 (QueryBacking 16)) (Backing (Some 13)) world
+asked_in_the_world = ((refl, refl), λ reply v s. s)

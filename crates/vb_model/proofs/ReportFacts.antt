@@ -2,18 +2,21 @@
 use Rattle.std.proofs.Common.{Bool, List, [], arith, false, map, refl, replicate, true, ℕ, ◌++◌}
 use Rattle.std.{proofs.Common.{◌∷◌, ◌≡◌}, specs.Prelude.{None, Option, Some, drop, ◌*◌}}
 use Rattle.std.specs.List.{flat_map, range_with_len}
+use Rattle.vb_model.proofs.PostingFacts.{just_posted}
+use Rattle.vb_model.specs.Requests.{Reporting_free}
+use Rattle.vb_model.proofs.Samples.{PerformsJustSo, StepsJustSo, config, down, ready, request}
 use Rattle.vb_model.specs.Pages.{Block, all_free, blocks_at, is_free, is_maximal, is_wholly_free}
 use Rattle.vb_model.specs.Pages.{maximal_free_blocks, place_of}
 use Rattle.vb_model.specs.declared.places.Place.TheVariants.{Free as FreePlace, Giving, Lent, Used}
 use Rattle.vb_model.specs.declared.places.Place.TheVariants.{Reporting, Reserved, Stranded, Taking}
 use Rattle.vb_model.specs.declared.replies.Refusal.TheVariants.{NoFeature, NoPages, NotHeld}
 use Rattle.vb_model.specs.declared.replies.Refusal.TheVariants.{NotReady, Nothing, QueueFull}
-use Rattle.vb_model.proofs.Samples.{config, down, ready, request, without_reporting}
+use Rattle.vb_model.proofs.Samples.{without_reporting}
 use Rattle.vb_model.specs.declared.calls.Call.TheVariants.{Alloc, Free, Reap, Report, Reset}
 use Rattle.vb_model.specs.declared.replies.Reply.TheVariants.{Done, NotUsed, Page, Posted, Reaped}
 use Rattle.vb_model.specs.Refusals.{causes, first_refusal, refusal_of, reported_blocks}
 use Rattle.vb_model.specs.{Guest.Guest, Requests.{IsLeastHead, Request, Requests, no_requests}}
-use Rattle.vb_model.specs.{Guest.fresh, Step.{HonestStep, Performs}, declared.calls.Call.Call}
+use Rattle.vb_model.specs.{Guest.fresh, Step.{HonestStep}, declared.calls.Call.Call}
 use Rattle.vb_model.specs.declared.{places.Place.Place, replies.Refusal.Refusal}
 
 abbrev block : ℕ → ℕ → Block
@@ -72,11 +75,11 @@ allocated : HonestStep
 allocated = (refl, (18, refl, refl, refl))
 
 -- a block that goes back is free, and the others are held still
-freed : HonestStep (holding (block 16 0 ∷ block 18 1 ∷ block 22 1 ∷ [])
+freed : StepsJustSo (holding (block 16 0 ∷ block 18 1 ∷ block 22 1 ∷ [])
     (Used ∷ FreePlace ∷ Used ∷ Used ∷ FreePlace ∷ FreePlace ∷ Used ∷ Used ∷ [])) (Free 0 18 1) []
     Done (holding (block 16 0 ∷ block 22 1 ∷ [])
     (Used ∷ replicate 5 FreePlace ++ (Used ∷ Used ∷ [])))
-freed = (refl, (refl, refl))
+freed = ((refl, (refl, refl)), λ reply new s. s.1)
 
 -- a block has to be free as a whole, at a multiple of its size; the last page is one too
 allocations : refusal_of (record ready { places = replicate 63 Used ++ (FreePlace ∷ []) })
@@ -140,19 +143,29 @@ two_out = record { posted = request 1 [] 0 ∷ []; taken = request 0 [] 0 ∷ []
 no_head_out : IsLeastHead no_requests 0
 no_head_out = record { new = refl; least = λ h l. absurd (omega arith) }
 
-reported : HonestStep ready (Report 0) [] (Posted 0 48) reporting
-reported = (refl, (0, no_head_out, refl, refl))
+reported : StepsJustSo ready (Report 0) [] (Posted 0 48) reporting
+reported = (
+  (refl, (0, no_head_out, refl, refl)),
+  λ reply new s. just_posted Reporting_free (range_with_len 16 48) 48 ready 0 no_head_out reply new s.1,
+)
 
-reported_from_17 : HonestStep ready (Report 17) [] (Posted 0 32) (record ready {
+reported_from_17 : StepsJustSo ready (Report 17) [] (Posted 0 32) (record ready {
   places = replicate 16 Reserved ++ (replicate 16 FreePlace ++ replicate 32 Reporting);
   report = record { posted = request 0 (range_with_len 32 32) 0 ∷ []; taken = []; done = [] };
 })
-reported_from_17 = (refl, (0, no_head_out, refl, refl))
+reported_from_17 = (
+  (refl, (0, no_head_out, refl, refl)),
+  λ reply new s. just_posted Reporting_free (range_with_len 32 32) 32 ready 0 no_head_out reply new s.1,
+)
 
 -- heads of other kinds are no matter
-least_head_of_reports : HonestStep (record ready { inflate = two_out; deflate = two_out })
+least_head_of_reports : StepsJustSo (record ready { inflate = two_out; deflate = two_out })
     (Report 0) [] (Posted 0 48) (record reporting { inflate = two_out; deflate = two_out })
-least_head_of_reports = (refl, (0, no_head_out, refl, refl))
+least_head_of_reports = (
+  (refl, (0, no_head_out, refl, refl)),
+  λ reply new s. just_posted Reporting_free (range_with_len 16 48) 48
+      (record ready { inflate = two_out; deflate = two_out }) 0 no_head_out reply new s.1,
+)
 
 -- not ready before no feature before queue full before nothing; one report at a time, in whatever
 -- stage it is, and requests of other kinds don't count
@@ -168,16 +181,16 @@ reports_in_order : map (λ (g, from). refusal_of g (Report from))
 reports_in_order = refl
 
 -- a reaped report's pages are free again, and so are those of a report that is reset
-reaped_report : Performs (Reap 4)
+reaped_report : PerformsJustSo (Reap 4)
     (record reporting { report = record { posted = []; taken = []; done = forty_eight ∷ [] } }) []
     (Reaped 0 48) ready
-reaped_report = (refl, (refl, refl))
+reaped_report = ((refl, (refl, refl)), λ reply new s. s.1)
 
-reset_report : HonestStep reporting Reset [] Done down
-reset_report = (refl, (refl, refl))
+reset_report : StepsJustSo reporting Reset [] Done down
+reset_report = ((refl, (refl, refl)), λ reply new s. s.1)
 
-not_used_report : Performs (Reap 4) reporting [] NotUsed reporting
-not_used_report = (refl, (refl, refl))
+not_used_report : PerformsJustSo (Reap 4) reporting [] NotUsed reporting
+not_used_report = ((refl, (refl, refl)), λ reply new s. s.1)
 
 abbrev behind_no_queue : Guest → Call → Option Refusal
 behind_no_queue g call = first_refusal (drop 1 (causes g call))

@@ -2,6 +2,7 @@
 use Rattle.std.proofs.Common.{List, [], ap, arith, false, map, refl, replicate, true, ℕ, ◌++◌, ◌<◌}
 use Rattle.std.{proofs.{Common.{◌∷◌, ◌≡◌}, lemmas.List.get_or-replicate}, specs.List.range_with_len}
 use Rattle.std.specs.Prelude.{None, Option, Some, unwrap_or}
+use Rattle.vb_model.proofs.Samples.{StepsJustSo}
 use Rattle.vb_model.{proofs.Samples.{config, differ, down, ready}, specs.Guest.{Config, Guest}}
 use Rattle.vb_model.specs.{Guest.is_ballooned, Refusals.refusal_of, Rogue.{HasAllPages, RogueStep}}
 use Rattle.vb_model.specs.{Rogue.{IsRogueAfter, LosesFrames, pages_to_back}, Step.HonestStep}
@@ -23,8 +24,8 @@ bytes_in_a_page : map (refusal_of ready) (Scribble 0 0 (1 ∷ []) ∷ Scribble 6
     ≡ replicate 3 None ++ (replicate 4 (Some OutOfRam) ++ (None ∷ []))
 bytes_in_a_page = refl
 
-refused_scribble : HonestStep ready (Scribble 64 0 (1 ∷ [])) [] (Refused OutOfRam) ready
-refused_scribble = (refl, refl, refl)
+refused_scribble : StepsJustSo ready (Scribble 64 0 (1 ∷ [])) [] (Refused OutOfRam) ready
+refused_scribble = ((refl, refl, refl), λ reply new s. (s.1, s.2))
 
 -- ---- a scribble on a page without a frame claims one; else, or of nothing, none
 
@@ -59,13 +60,13 @@ any_bytes : (bytes : List ℕ) → HonestStep before (Scribble 17 0 (1 ∷ [])) 
 any_bytes bytes = search (arith, no_flag)
 
 -- a claim that is refused is the answer, and the guest stays honest
-no_frame_for_a_scribble : HonestStep before (Scribble 17 0 (1 ∷ [])) (GaveNoFrame ∷ [])
+no_frame_for_a_scribble : StepsJustSo before (Scribble 17 0 (1 ∷ [])) (GaveNoFrame ∷ [])
     (Refused NoFrame) before
-no_frame_for_a_scribble = (refl, (refl, refl))
+no_frame_for_a_scribble = ((refl, (refl, refl)), λ reply new s. s.1)
 
-no_memory_for_a_scribble : HonestStep before (Scribble 17 0 (1 ∷ [])) (GaveNoMemory ∷ [])
+no_memory_for_a_scribble : StepsJustSo before (Scribble 17 0 (1 ∷ [])) (GaveNoMemory ∷ [])
     (Refused NoMemory) before
-no_memory_for_a_scribble = (refl, (refl, refl))
+no_memory_for_a_scribble = ((refl, (refl, refl)), λ reply new s. s.1)
 
 -- ---- what a rogue guest claims frames for: the same pages as an honest one
 

@@ -2,6 +2,7 @@
 -- their targets are as any guest's.
 use Rattle.std.proofs.Common.{◌≡◌, true, false, List, [], ◌∷◌, ◌++◌, replicate, refl}
 use Rattle.std.specs.Prelude.{Option, Some, None}
+use Rattle.vb_model.proofs.Samples.{HappensJustSo}
 use Rattle.vb_model.specs.declared.replies.Reply.TheVariants.{Balloon, Done, Frames, Refused}
 use Rattle.vb_model.{specs.declared.replies.Refusal.TheVariants.TooMany, specs.Guest.{Guest, fresh}}
 use Rattle.vb_model.{specs.HostEvents.{WorldStep, needs, with_targets}, specs.Queries.Answers}
@@ -31,8 +32,8 @@ both = world (Some ready ∷ Some rogue ∷ [])
 its_frames_are_used : used_frames both ≡ 2
 its_frames_are_used = refl
 
-its_frames_are_counted : WorldStep both CountFrames (Frames 2 62) both
-its_frames_are_counted = (refl, refl)
+its_frames_are_counted : HappensJustSo both CountFrames (Frames 2 62) both
+its_frames_are_counted = ((refl, refl), λ reply v s. s)
 
 its_frames_are_out : IsOut both 9
 its_frames_are_out = (1, 17, record { guest = rogue; is_there = refl; has = refl })
@@ -40,9 +41,9 @@ its_frames_are_out = (1, 17, record { guest = rogue; is_there = refl; has = refl
 it_is_counted : plugged_count both ≡ 2
 it_is_counted = refl
 
-eight_of_them : WorldStep (world (replicate 8 (Some rogue))) (plug 64 8 1) (Refused TooMany)
+eight_of_them : HappensJustSo (world (replicate 8 (Some rogue))) (plug 64 8 1) (Refused TooMany)
     (world (replicate 8 (Some rogue)))
-eight_of_them = (refl, refl)
+eight_of_them = ((refl, refl), λ reply v s. s)
 
 -- its ballooned page, and what is free above the floor
 it_has_a_need : needs 1 both

@@ -1,7 +1,7 @@
 -- Courses of a guest that are not safe, one for each thing that safety promises: of its features,
 -- its frames, what its pages hold and what reads give, and of faults.
-use Rattle.std.proofs.Common.{◌≡◌, ℕ, zero, suc, true, false, List, [], ◌∷◌, ◌++◌, replicate, refl}
-use Rattle.std.proofs.Common.{inl, inr, arith}
+use Rattle.std.proofs.Common.{List, [], arith, false, inl, inr, refl, replicate, suc, true, zero, ℕ}
+use Rattle.std.proofs.Common.{◌++◌, ◌∷◌, ◌≡◌}
 use Rattle.{std.specs.Prelude.{Option, Some, None}, vb_model.specs.Histories.IsSafeCourse}
 use Rattle.vb_model.{proofs.Samples.{ready, down, page_16_at, request}, specs.Guest.{Guest, fresh}}
 use Rattle.vb_model.specs.Courses.{Course, StaysHeld, StaysOrLoses, ReadsGiveLastWrites}
@@ -288,6 +288,24 @@ write_without_effect s =
 written_elsewhere : IsSafeCourse (written_as (1 ∷ 7 ∷ [])) → ⊥
 written_elsewhere s =
     let e : SameBytes (1 ∷ 7 ∷ []) (7 ∷ 2 ∷ []) = writes_first_byte (1 ∷ 7 ∷ []) s in cc
+
+-- or it lies past the end of the page, by one byte, of another's event before it too
+past_the_end : (new : Guest)
+    → (IsSafeCourse (goes (used_with (Some 5) (1 ∷ 2 ∷ []) down) (Write 16 2 (7 ∷ [])) Done new) → ⊥)
+    × (IsSafeCourse (later (used_with (Some 5) (1 ∷ []) ready) (Write 16 0 (7 ∷ 8 ∷ [])) Done new)
+    → ⊥)
+past_the_end new = (
+  λ s. omega (
+    arith,
+    (s.writes 0 16 2 (7 ∷ []) (used_with (Some 5) (1 ∷ 2 ∷ []) down) new refl refl
+        (Processor 0 0, [], refl)).0,
+  ),
+  λ s. omega (
+    arith,
+    (s.writes 1 16 0 (7 ∷ 8 ∷ []) (used_with (Some 5) (1 ∷ []) ready) new refl refl
+        (Processor 0 0, [], refl)).0,
+  ),
+)
 
 -- ---- an honest guest meets a broken chain, or a broken ring
 

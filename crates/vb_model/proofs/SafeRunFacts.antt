@@ -5,7 +5,8 @@ use Rattle.vb_model.proofs.{AskedFacts.{back, giving, handed_out}, Changes.same_
 use Rattle.vb_model.proofs.{Performed.performed, Samples.{page_16_at, ready, request, untold}}
 use Rattle.vb_model.specs.{Guest.{Guest, unbacked}, GuestRun.{Alone, AreOwn, Entry, InOneLife}}
 use Rattle.vb_model.specs.{GuestRun.{IsOwnEntry, Leads, OwnStep}, Histories.IsSafeCourse, Safe.Safe}
-use Rattle.vb_model.specs.{HostEvents.WorldStep, Run.History, Safe.{IsSafeOf, IsSafeRun, part}}
+use Rattle.vb_model.specs.{HostEvents.WorldStep, Run.{History, Steps, last_world}, Safe.{IsSafeOf, IsSafeRun, part}}
+use Rattle.vb_model.specs.Courses.{ReadsGiveLastWrites}
 use Rattle.vb_model.specs.{Safe.NoFrameTwice, SafeLaws.LivesAreAlone, World.{World, guest_at, made}}
 use Rattle.vb_model.specs.declared.calls.Call.TheVariants.{Alloc, Inflate, Init, Reset, Sweep, Work}
 use Rattle.vb_model.specs.declared.calls.Event.{Event, TheVariants.{Frames as CountFrames, Restart}}
@@ -261,6 +262,52 @@ handed_out_at_once s = by own.0 own.1 own.2 own.3 where
       (back untold, giving untold, sym are.1, sym are.2.1, (λ e. cc), refl)
       (giving untold, handed_out untold, sym are.2.1, sym are.2.2.1, (λ e. cc), refl) in
       omega (arith, a.since, a.later, a.before)
+
+-- ---- two events of any kind in any world: each is a step, the second goes on where the first one
+-- ended, and the run ends after it
+
+abbrev TwoSteps : World → Event → Reply → Event → Reply → World → Type 0
+TwoSteps w first answer second reply x = (v : World) × WorldStep w first answer v
+    × WorldStep v second reply x
+
+two_steps : (w : World) (first : Event) (answer : Reply) (second : Event) (reply : Reply)
+    (x : World) → IsSafeRun w (first ∷ second ∷ []) (answer ∷ reply ∷ []) x
+    → TwoSteps w first answer second reply x
+two_steps w first answer second reply x s = by s.after s.steps s.ends where
+  by : (after : List World) → Steps w (first ∷ second ∷ []) (answer ∷ reply ∷ []) after
+      → last_world w after ≡ x → TwoSteps w first answer second reply x
+  by [] steps ends = absurd steps
+  by (v ∷ []) steps ends = absurd steps.1
+  by (v ∷ y ∷ []) steps ends =
+      (v, steps.0, subst (λ (z : World). WorldStep v second reply z) ends steps.1.0)
+  by (v ∷ y ∷ z ∷ after) steps ends = absurd steps.1.1
+
+-- and what the second one was to a guest whose life it is in is a safe course, whoever the guest is
+one_event_of_a_life : (n : ℕ) (w v x : World) (first second : Event) (answer reply : Reply)
+    (g new : Guest) → Safe w (first ∷ second ∷ []) (answer ∷ reply ∷ []) (v ∷ x ∷ [])
+    → guest_at v.guests n ≡ Some g → guest_at x.guests n ≡ Some new → new.rogue ≡ false
+    → second ≢ Restart n → second ≢ Unplug n
+    → (entries : List (Option Entry)) × (guests : List Guest)
+    × AreOwn n v (second ∷ []) (reply ∷ []) (x ∷ []) entries guests
+    × IsSafeCourse (record { first = g; entries = entries; after = guests })
+one_event_of_a_life n w v x first second answer reply g new s there then_there honest on still =
+    s.lives n 1 1 v x g new refl there refl then_there honest (on, still, tt)
+
+-- the law says of such an event that it leads the guest by itself, too, and that reads give the last
+-- writes
+one_event_alone : (n : ℕ) (w v x : World) (first second : Event) (answer reply : Reply)
+    (g new : Guest) → LivesAreAlone (record {
+      first = w;
+      events = first ∷ second ∷ [];
+      replies = answer ∷ reply ∷ [];
+      after = v ∷ x ∷ [];
+    }) → guest_at v.guests n ≡ Some g → guest_at x.guests n ≡ Some new → new.rogue ≡ false
+    → second ≢ Restart n → second ≢ Unplug n
+    → (own : Alone n v (second ∷ []) (reply ∷ []) (x ∷ []) g)
+    × IsSafeCourse (record { first = g; entries = own.entries; after = own.guests })
+    × ReadsGiveLastWrites (record { first = g; entries = own.entries; after = own.guests })
+one_event_alone n w v x first second answer reply g new law there then_there honest on still =
+    law n 1 1 v g new refl there (then_there, honest) (on, still, tt)
 
 -- so many entries of a list, from one on
 part_of_five : part {A = ℕ} 1 3 (5 ∷ 6 ∷ 7 ∷ 8 ∷ 9 ∷ []) ∷ part {A = ℕ} 3 4 (5 ∷ 6 ∷ 7 ∷ 8 ∷ 9 ∷ [])

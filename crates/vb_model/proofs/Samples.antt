@@ -2,6 +2,8 @@
 use Rattle.std.proofs.{Common.{[], false, ◌≡◌}, lemmas.Bool.{and_parts, eq-eqb}}
 use Rattle.std.specs.{List.list_all, Prelude.{Bool, List, replicate, true, ℕ, ◌++◌, ◌==◌, ◌∷◌}}
 use Rattle.vb_model.specs.{Guest.{Config, Guest, fresh}, Requests.Request, Tables.Negotiated}
+use Rattle.vb_model.specs.{HostEvents.{WorldStep}, Step.{HonestStep, Performs}, World.{World}}
+use Rattle.vb_model.specs.declared.{calls.Call.{Call}, calls.Claim.{Claim}, replies.Reply.{Reply}}
 use Rattle.vb_model.specs.{Tables.NewRequest, declared.calls.Event.{Event, TheVariants.Plug}}
 use Rattle.vb_model.specs.declared.places.Place.{Place, TheVariants.{Free, Giving, Lent, Reporting}}
 use Rattle.vb_model.specs.declared.places.Place.TheVariants.{Reserved, Stranded, Taking, Used}
@@ -63,6 +65,24 @@ at status features = record { status = status; features = features }
 abbrev pub new_request : (outstanding most count : ℕ) → NewRequest
 new_request outstanding most count =
     record { outstanding = outstanding; most = most; count = count }
+
+-- ---- a step with this answer, which leaves this state; and there is no other answer, and no other
+-- state
+
+abbrev pub StepsJustSo : Guest → Call → List Claim → Reply → Guest → Type 0
+StepsJustSo g call claims answer after = HonestStep g call claims answer after
+    × ((reply : Reply) (new : Guest) → HonestStep g call claims reply new
+    → (reply ≡ answer) × (new ≡ after))
+
+-- a call that isn't refused
+abbrev pub PerformsJustSo : Call → Guest → List Claim → Reply → Guest → Type 0
+PerformsJustSo call g claims answer after = Performs call g claims answer after
+    × ((reply : Reply) (new : Guest) → Performs call g claims reply new
+    → (reply ≡ answer) × (new ≡ after))
+
+abbrev pub HappensJustSo : World → Event → Reply → World → Type 0
+HappensJustSo w event answer after = WorldStep w event answer after
+    × ((reply : Reply) (v : World) → WorldStep w event reply v → (reply ≡ answer) × (v ≡ after))
 
 -- ---- what isn't so
 

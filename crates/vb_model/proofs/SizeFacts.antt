@@ -1,12 +1,15 @@
 -- Worked facts of a guest of 80 pages whose queues have 256 descriptors, and so rings of two pages.
-use Rattle.std.proofs.Common.{◌≡◌, ℕ, true, false, List, [], ◌∷◌, ◌++◌, map, replicate, refl, arith}
+use Rattle.std.proofs.Common.{List, [], ap, arith, false, length, map, refl, replicate, true, ℕ}
+use Rattle.std.proofs.Common.{◌++◌, ◌∷◌, ◌≡◌}
+use Rattle.vb_model.proofs.Samples.{StepsJustSo}
+use Rattle.vb_model.{proofs.Samples.{differ}, specs.Sizes.{HasSmallShape}}
 use Rattle.std.{specs.Prelude.{Option, Some, None, ◌+◌}, specs.List.range_with_len}
 use Rattle.vb_model.specs.declared.calls.{Call.TheVariants.Init, Claim.Claim}
 use Rattle.vb_model.specs.{declared.calls.Claim.TheVariants.{Gave, GaveNoFrame}, Life.lacking}
 use Rattle.vb_model.specs.{declared.replies.Refusal.TheVariants.NoFrame, Driver.AreClaimsFor}
 use Rattle.vb_model.specs.{declared.replies.Reply.TheVariants.{Ready, Refused}, Balance.spare}
 use Rattle.vb_model.specs.Pages.{all_free, maximal_free_blocks, is_wholly_free}
-use Rattle.vb_model.specs.{Requests.BufferPosted, Guest.{Guest, Config, fresh}, Step.HonestStep}
+use Rattle.vb_model.specs.{Requests.BufferPosted, Guest.{Guest, Config, fresh}}
 use Rattle.vb_model.specs.{Orderly.IsOrderly, Rogue.IsRogueAfter, StepLaws.HasNoReservedBallooned}
 use Rattle.vb_model.specs.declared.places.Place.TheVariants.{Reserved, Free as FreePlace}
 
@@ -68,20 +71,20 @@ abbrev seventeen_frames : List (Option ℕ)
 seventeen_frames = replicate 4 None ++ (map Some (range_with_len 20 9)
     ++ (replicate 3 None ++ (map Some (range_with_len 29 8) ++ replicate 56 None)))
 
-initialised : HonestStep down (Init 0x100000027) seventeen Ready (record down {
+initialised : StepsJustSo down (Init 0x100000027) seventeen Ready (record down {
   status = 15;
   features = 0x100000027;
   buffer = BufferPosted (record { free = 196608; total = 327680 });
   frames = seventeen_frames;
 })
-initialised = (refl, (refl, refl))
+initialised = ((refl, (refl, refl)), λ reply new s. s.1)
 
 thirteen_are_too_few : AreClaimsFor (lacking down) (map (λ k. Gave (k + 20)) (range_with_len 0 13)) → ⊥
 thirteen_are_too_few a = a
 
-no_frame_left : HonestStep down (Init 0x100000027) (Gave 20 ∷ Gave 21 ∷ GaveNoFrame ∷ [])
+no_frame_left : StepsJustSo down (Init 0x100000027) (Gave 20 ∷ Gave 21 ∷ GaveNoFrame ∷ [])
     (Refused NoFrame) down
-no_frame_left = (refl, (refl, refl))
+no_frame_left = ((refl, (refl, refl)), λ reply new s. s.1)
 
 -- ---- what it can spare: never its 32 reserved pages
 
@@ -100,3 +103,15 @@ rogue_with_page_31 : IsRogueAfter down
     (record down { ballooned = replicate 31 false ++ (true ∷ replicate 48 false); rogue = true })
     → ⊥
 rogue_with_page_31 s = let e : true ≡ false = s.unreserved 31 (omega arith) in cc
+
+-- ---- what queues of up to 128 have, and those of 256 don't: 16 reserved pages, each ring in a page
+-- of its own, all of them in pages 0 to 3, and a start that needs pages 0 to 12
+
+no_small_shape : (HasSmallShape 256 → ⊥) × (HasSmallShape 256 → ⊥) × (HasSmallShape 256 → ⊥)
+    × (HasSmallShape 256 → ⊥)
+no_small_shape = (
+  λ s. differ 32 16 refl s.reserved,
+  λ s. differ 22 3 refl (s.rings 4),
+  λ s. (let e : false ≡ true = s.pages 3 in cc),
+  λ s. differ 17 13 refl (ap (λ (pages : List ℕ). length pages) s.start),
+)

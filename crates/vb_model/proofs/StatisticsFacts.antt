@@ -1,15 +1,16 @@
 -- Worked facts of the statistics buffer.
 use Rattle.std.{proofs.Common.{[], map, refl, replicate, ◌++◌, ◌∷◌, ◌≡◌}, specs.Prelude.None}
 use Rattle.std.specs.Prelude.{Some, ℕ}
+use Rattle.vb_model.proofs.Samples.{PerformsJustSo, StepsJustSo}
 use Rattle.vb_model.specs.declared.replies.Reply.TheVariants.{Asked, Done, Empty, Filled, NotUsed}
 use Rattle.vb_model.specs.{Requests.BufferDone, declared.replies.Reply.TheVariants.{Ready, Taken}}
 use Rattle.vb_model.specs.Requests.{BufferPosted, BufferTaken, Figures, NoBuffer, StatisticsBuffer}
 use Rattle.vb_model.specs.declared.calls.Call.TheVariants.{Ask, Finish, Reap, Reset, Stats, Take}
 use Rattle.vb_model.specs.declared.replies.Refusal.TheVariants.{Busy, NoFeature, NoQueue, NotReady}
 use Rattle.vb_model.{proofs.Samples.down, specs.declared.replies.Refusal.TheVariants.NotTaken}
-use Rattle.vb_model.{proofs.Samples.{mixed, ready, without_stats_vq}, specs.Step.HonestStep}
-use Rattle.vb_model.specs.{Driver.figures, Guest.Guest, Life.Negotiates, Step.Performs}
-use Rattle.vb_model.specs.{Refusals.refusal_of, declared.replies.LastStatistics.LastStatistics}
+use Rattle.vb_model.{proofs.Samples.{mixed, ready, without_stats_vq}}
+use Rattle.vb_model.specs.{Driver.figures, Guest.Guest, Life.Negotiates, Refusals.refusal_of}
+use Rattle.vb_model.specs.{declared.replies.LastStatistics.LastStatistics}
 
 -- ---- figures, in bytes: the free pages, and all pages, the reserved ones among them
 
@@ -44,54 +45,54 @@ no_buffer_without_stats_vq = (refl, refl)
 
 -- a take of queue 2 answers head 0, and the buffer's own figures are the last statistics, whatever
 -- is free now
-take_reads_the_buffer : Performs (Take 2) (with_buffer (BufferPosted old)) [] (Taken 0)
+take_reads_the_buffer : PerformsJustSo (Take 2) (with_buffer (BufferPosted old)) [] (Taken 0)
     (record ready { buffer = BufferTaken old; last = last_is 131072 262144 })
-take_reads_the_buffer = (refl, (refl, refl))
+take_reads_the_buffer = ((refl, (refl, refl)), λ reply new s. s.1)
 
-take_replaces_the_last : Performs (Take 2)
+take_replaces_the_last : PerformsJustSo (Take 2)
     (record ready { buffer = BufferPosted old; last = last_is 4096 8192 }) [] (Taken 0)
     (record ready { buffer = BufferTaken old; last = last_is 131072 262144 })
-take_replaces_the_last = (refl, (refl, refl))
+take_replaces_the_last = ((refl, (refl, refl)), λ reply new s. s.1)
 
 -- nothing is posted: nothing happens
-no_buffer_to_take : Performs (Take 2) ready [] Empty ready
-no_buffer_to_take = (refl, (refl, refl))
+no_buffer_to_take : PerformsJustSo (Take 2) ready [] Empty ready
+no_buffer_to_take = ((refl, (refl, refl)), λ reply new s. s.1)
 
-done_buffer_is_not_taken : Performs (Take 2) (with_buffer (BufferDone old)) [] Empty
+done_buffer_is_not_taken : PerformsJustSo (Take 2) (with_buffer (BufferDone old)) [] Empty
     (with_buffer (BufferDone old))
-done_buffer_is_not_taken = (refl, (refl, refl))
+done_buffer_is_not_taken = ((refl, (refl, refl)), λ reply new s. s.1)
 
 -- the device uses the buffer; its figures and the last statistics stay
-ask_uses_the_buffer : HonestStep
+ask_uses_the_buffer : StepsJustSo
     (record ready { buffer = BufferTaken old; last = last_is 131072 262144 }) Ask [] Asked
     (record ready { buffer = BufferDone old; last = last_is 131072 262144 })
-ask_uses_the_buffer = (refl, (refl, refl))
+ask_uses_the_buffer = ((refl, (refl, refl)), λ reply new s. s.1)
 
 -- the driver fills a used buffer with what is free now; the last statistics stay until it is taken
-stats_fills_anew : HonestStep
+stats_fills_anew : StepsJustSo
     (record ready { buffer = BufferDone old; last = last_is 131072 262144 }) Stats [] Filled
     (record ready {
       buffer = BufferPosted (record { free = 196608; total = 262144 });
       last = last_is 131072 262144;
     })
-stats_fills_anew = (refl, (refl, refl))
+stats_fills_anew = ((refl, (refl, refl)), λ reply new s. s.1)
 
 -- a buffer that isn't used is left alone
-no_buffer_to_fill : HonestStep ready Stats [] NotUsed ready
-no_buffer_to_fill = (refl, (refl, refl))
+no_buffer_to_fill : StepsJustSo ready Stats [] NotUsed ready
+no_buffer_to_fill = ((refl, (refl, refl)), λ reply new s. s.1)
 
-posted_buffer_is_not_filled : HonestStep (with_buffer (BufferPosted old)) Stats [] NotUsed
+posted_buffer_is_not_filled : StepsJustSo (with_buffer (BufferPosted old)) Stats [] NotUsed
     (with_buffer (BufferPosted old))
-posted_buffer_is_not_filled = (refl, (refl, refl))
+posted_buffer_is_not_filled = ((refl, (refl, refl)), λ reply new s. s.1)
 
-taken_buffer_is_not_filled : HonestStep (with_buffer (BufferTaken old)) Stats [] NotUsed
+taken_buffer_is_not_filled : StepsJustSo (with_buffer (BufferTaken old)) Stats [] NotUsed
     (with_buffer (BufferTaken old))
-taken_buffer_is_not_filled = (refl, (refl, refl))
+taken_buffer_is_not_filled = ((refl, (refl, refl)), λ reply new s. s.1)
 
 -- a reset empties the buffer and the last statistics
-reset_forgets_statistics : HonestStep
+reset_forgets_statistics : StepsJustSo
     (record ready { buffer = BufferTaken old; last = last_is 131072 262144 }) Reset [] Done down
-reset_forgets_statistics = (refl, (refl, refl))
+reset_forgets_statistics = ((refl, (refl, refl)), λ reply new s. s.1)
 
 -- ---- refusals
 

@@ -3,11 +3,14 @@ use Rattle.std.proofs.Common.{List, [], ap, arith, false, map, refl, replicate, 
 use Rattle.{std.proofs.Common.{◌∙◌, ◌∷◌, ◌≡◌}, vb_model.specs.Life.{after_reset, feature_refusal}}
 use Rattle.{std.specs.List.range_with_len, vb_model.specs.{Driver.contents_of, Refusals.refusal_of}}
 use Rattle.{std.specs.Prelude.{Bool, None, Some, drop}, vb_model.specs.GuestRun.{Called, Leads}}
-use Rattle.vb_model.proofs.Samples.{down, mixed_places, ready, request, untold}
+use Rattle.vb_model.proofs.{PostingFacts.{just_posted}, WorkFacts.{just_finished}}
+use Rattle.vb_model.specs.Requests.{BufferPosted, Deflating, IsLeastHead, Request, Requests}
+use Rattle.vb_model.proofs.Samples.{PerformsJustSo, StepsJustSo, down, mixed_places, ready, request}
+use Rattle.vb_model.proofs.Samples.{untold}
 use Rattle.vb_model.specs.Guest.{Guest, frame_of, is_ballooned, is_ready, tells_host, zero_page}
 use Rattle.vb_model.specs.{Pages.{block_at, place_of}, Requests.no_requests, Status.status_refusal}
-use Rattle.vb_model.specs.Requests.{BufferPosted, IsLeastHead, Request, Requests, given_away}
-use Rattle.vb_model.specs.{Step.{HonestStep, Performs}, declared.calls.Claim.TheVariants.Gave}
+use Rattle.vb_model.specs.Requests.{given_away}
+use Rattle.vb_model.specs.{Step.{HonestStep}, declared.calls.Claim.TheVariants.Gave}
 use Rattle.vb_model.specs.declared.calls.Call.{Call, TheVariants.{Oom, Reap, Reset, Take, Write}}
 use Rattle.vb_model.specs.declared.{calls.Actor.TheVariants.{Processor, Worker}, places.Place.Place}
 use Rattle.vb_model.specs.declared.calls.Call.TheVariants.{Alloc, Deflate, Finish, Inflate, Init}
@@ -33,12 +36,12 @@ status_accepted = refl
 abbrev with_frames : Guest
 with_frames = record down { frames = map Some (range_with_len 20 13) ++ replicate 51 None }
 
-started : HonestStep with_frames (Init 0x100000026) [] Ready (record with_frames {
+started : StepsJustSo with_frames (Init 0x100000026) [] Ready (record with_frames {
   status = 15;
   features = 0x100000026;
   buffer = BufferPosted (record { free = 196608; total = 262144 });
 })
-started = (refl, (refl, refl))
+started = ((refl, (refl, refl)), λ reply new s. s.1)
 
 refused_at_the_start : (new : Guest)
     → HonestStep with_frames (Init 0x100000026) [] (Refused VersionMissing) new → ⊥
@@ -86,22 +89,38 @@ pub no_head_out : IsLeastHead no_requests 0
 no_head_out = record { new = refl; least = λ h l. absurd (omega arith) }
 
 -- they are free at once; flags and `actual` stay
-free_at_once : HonestStep (three_lent untold) (Deflate 2) [] (Posted 0 2) (asked FreePlace untold)
-free_at_once = (refl, (0, no_head_out, refl, refl))
+free_at_once : StepsJustSo (three_lent untold) (Deflate 2) [] (Posted 0 2) (asked FreePlace untold)
+free_at_once = (
+  (refl, (0, no_head_out, refl, refl)),
+  λ reply new s. just_posted Deflating (16 ∷ 17 ∷ []) 2 (three_lent untold) 0 no_head_out reply
+      new s.1,
+)
 
 -- a guest that tells the host waits
-taking_where_it_tells : HonestStep (three_lent ready) (Deflate 2) [] (Posted 0 2)
+taking_where_it_tells : StepsJustSo (three_lent ready) (Deflate 2) [] (Posted 0 2)
     (asked Taking ready)
-taking_where_it_tells = (refl, (0, no_head_out, refl, refl))
+taking_where_it_tells = (
+  (refl, (0, no_head_out, refl, refl)),
+  λ reply new s. just_posted Deflating (16 ∷ 17 ∷ []) 2 (three_lent ready) 0 no_head_out reply
+      new s.1,
+)
 
 -- for want of memory alike, whatever the target is
-free_at_once_when_short : HonestStep (record (three_lent untold) { target = 40 }) (Oom 2) []
+free_at_once_when_short : StepsJustSo (record (three_lent untold) { target = 40 }) (Oom 2) []
     (Posted 0 2) (record (asked FreePlace untold) { target = 40 })
-free_at_once_when_short = (refl, (0, no_head_out, refl, refl))
+free_at_once_when_short = (
+  (refl, (0, no_head_out, refl, refl)),
+  λ reply new s. just_posted Deflating (16 ∷ 17 ∷ []) 2 (record (three_lent untold) { target = 40 }) 0 no_head_out reply
+      new s.1,
+)
 
-taking_when_short : HonestStep (record (three_lent ready) { target = 40 }) (Oom 2) [] (Posted 0 2)
+taking_when_short : StepsJustSo (record (three_lent ready) { target = 40 }) (Oom 2) [] (Posted 0 2)
     (record (asked Taking ready) { target = 40 })
-taking_when_short = (refl, (0, no_head_out, refl, refl))
+taking_when_short = (
+  (refl, (0, no_head_out, refl, refl)),
+  λ reply new s. just_posted Deflating (16 ∷ 17 ∷ []) 2 (record (three_lent ready) { target = 40 }) 0 no_head_out reply
+      new s.1,
+)
 
 -- they are at no other place after either call, and not free where the guest tells the host
 abbrev NotAt : Guest → Place → Call → Type 0
@@ -170,21 +189,21 @@ first_pages : map (λ g. refusal_of g (Alloc 0 0))
 first_pages = refl
 
 -- written to, such a page gets a frame while it is ballooned
-written_at_once : HonestStep (in_use true (posted both)) (Write 16 0 (7 ∷ [])) (Gave 5 ∷ []) Done
+written_at_once : StepsJustSo (in_use true (posted both)) (Write 16 0 (7 ∷ [])) (Gave 5 ∷ []) Done
     (record (in_use true (posted both)) {
       frames = replicate 16 None ++ (Some 5 ∷ replicate 47 None);
       contents = replicate 16 zero_page ++ ((7 ∷ drop 1 zero_page) ∷ replicate 47 zero_page);
     })
-written_at_once = (refl, (refl, refl))
+written_at_once = ((refl, (refl, refl)), λ reply new s. s.1)
 
 abbrev pub each_stage : List Requests
 each_stage = posted both ∷ taken both ∷ done both ∷ no_requests ∷ []
 
 -- ---- a reaped deflate moves no page: page 16 is used by then, and page 17 is free
 
-reap_moves_nothing : HonestStep (in_use false (done both)) (Reap 1) [] (Reaped 0 2)
+reap_moves_nothing : StepsJustSo (in_use false (done both)) (Reap 1) [] (Reaped 0 2)
     (record (in_use false no_requests) { actual = 1 })
-reap_moves_nothing = (refl, (refl, refl))
+reap_moves_nothing = ((refl, (refl, refl)), λ reply new s. s.1)
 
 freed_by_a_reap : (new : Guest) → HonestStep (in_use false (done both)) (Reap 1) [] (Reaped 0 2) new
     → place_of new.places 16 ≡ FreePlace → ⊥
@@ -199,35 +218,35 @@ counted_too_long new s e =
 abbrev two_out : List Request → Requests
 two_out rs = record { posted = request 1 (19 ∷ []) 0 ∷ []; taken = []; done = rs }
 
-one_of_two_reaped : HonestStep (record (in_use false (two_out (both ∷ []))) { actual = 4 }) (Reap 1)
+one_of_two_reaped : StepsJustSo (record (in_use false (two_out (both ∷ []))) { actual = 4 }) (Reap 1)
     [] (Reaped 0 2) (record (in_use false (two_out [])) { actual = 2 })
-one_of_two_reaped = (refl, (refl, refl))
+one_of_two_reaped = ((refl, (refl, refl)), λ reply new s. s.1)
 
 -- where the guest tells the host they are free from then on
-free_once_reaped : HonestStep
+free_once_reaped : StepsJustSo
     (record (asked Taking ready) { ballooned = flags false true; deflate = done both }) (Reap 1) []
     (Reaped 0 2)
     (record (asked FreePlace ready)
     { ballooned = flags false true; deflate = no_requests; actual = 1 })
-free_once_reaped = (refl, (refl, refl))
+free_once_reaped = ((refl, (refl, refl)), λ reply new s. s.1)
 
 taking_still : (new : Guest) → HonestStep (record (asked Taking ready) { deflate = done both })
     (Reap 1) [] (Reaped 0 2) new → place_of new.places 16 ≡ Taking → ⊥
 taking_still new s e = cc
 
 -- a reaped inflate's pages are lent as ever, and a reaped report's are free
-lent_once_reaped : HonestStep (record untold {
+lent_once_reaped : StepsJustSo (record untold {
   places = places Giving Giving Used;
   ballooned = flags true false;
   inflate = done both;
 }) (Reap 0) [] (Reaped 0 2)
     (record untold { places = places Lent Lent Used; ballooned = flags true false; actual = 2 })
-lent_once_reaped = (refl, (refl, refl))
+lent_once_reaped = ((refl, (refl, refl)), λ reply new s. s.1)
 
-reported_once_reaped : Performs (Reap 4)
+reported_once_reaped : PerformsJustSo (Reap 4)
     (record untold { places = places Reporting Reporting Used; report = done both }) []
     (Reaped 0 2) (record untold { places = places FreePlace FreePlace Used })
-reported_once_reaped = (refl, (refl, refl))
+reported_once_reaped = ((refl, (refl, refl)), λ reply new s. s.1)
 
 -- ---- a finished deflate leaves frames and bytes alone, and its pages are ballooned no more
 
@@ -237,13 +256,16 @@ framed flag rs = record (in_use flag rs) {
   contents = replicate 16 zero_page ++ ((7 ∷ []) ∷ (8 ∷ []) ∷ replicate 46 zero_page);
 }
 
-taken_first : HonestStep (framed true (posted both)) (Take 1) [] (Taken 0)
+taken_first : StepsJustSo (framed true (posted both)) (Take 1) [] (Taken 0)
     (framed true (taken both))
-taken_first = (refl, (refl, refl))
+taken_first = ((refl, (refl, refl)), λ reply new s. s.1)
 
-finished : HonestStep (framed true (taken both)) (Finish 1 0) [] (Finished 0)
+finished : StepsJustSo (framed true (taken both)) (Finish 1 0) [] (Finished 0)
     (framed false (done both))
-finished = (refl, (both, refl, refl, refl))
+finished = (
+  (refl, (both, refl, refl, refl)),
+  λ reply new s. just_finished Deflating 0 (framed true (taken both)) both refl reply new s.1,
+)
 
 abbrev FinishedSo : Guest → Type 0
 FinishedSo new = HonestStep (framed true (taken both)) (Finish 1 0) [] (Finished 0) new
@@ -261,12 +283,12 @@ all_the_way : Leads (three_lent untold) (Some (Called (Processor 0 0) (Deflate 2
     (asked FreePlace untold ∷ in_use true (posted both) ∷ in_use true (taken both)
     ∷ in_use false (done both) ∷ record (in_use false no_requests) { actual = 1 } ∷ [])
 all_the_way = (
-  (refl, free_at_once),
+  (refl, free_at_once.0),
   (
     (refl, handed_out),
     (
       (refl, (refl, (refl, refl))),
-      ((refl, (refl, (both, refl, refl, refl))), ((refl, reap_moves_nothing), tt)),
+      ((refl, (refl, (both, refl, refl, refl))), ((refl, reap_moves_nothing.0), tt)),
     ),
   ),
 )
@@ -290,8 +312,8 @@ after_it = record (framed true no_requests) {
   actual = 0;
 }
 
-reset : HonestStep (before_a_reset (posted both)) Reset [] Done after_it
-reset = (refl, (refl, refl))
+reset : StepsJustSo (before_a_reset (posted both)) Reset [] Done after_it
+reset = ((refl, (refl, refl)), λ reply new s. s.1)
 
 reset_in_each_stage : map (λ rs. after_reset (before_a_reset rs)) each_stage ≡ replicate 4 after_it
 reset_in_each_stage = refl

@@ -2,7 +2,7 @@
 -- and a sweep.
 use Rattle.std.proofs.Common.{List, [], false, map, refl, replicate, true, ◌++◌, ◌∷◌, ◌≡◌}
 use Rattle.{std.specs.Prelude.{Bool, None, Some}, vb_model.proofs.UntoldFacts.{each_stage, framed}}
-use Rattle.vb_model.proofs.Samples.{at, config, new_request, ready, request, untold}
+use Rattle.vb_model.proofs.Samples.{StepsJustSo, at, config, new_request, ready, request, untold}
 use Rattle.vb_model.specs.{FirstRefusal.{Cause, ◌⇒◌}, Requests.{Request, Requests, no_requests}}
 use Rattle.vb_model.specs.{Guest.Guest, declared.calls.Call.TheVariants.{Report, Sweep, Take, Work}}
 use Rattle.vb_model.specs.{Refusals.refusal_of, declared.replies.Refusal.TheVariants.QueueFull}
@@ -63,9 +63,9 @@ just_inflates : map (refusal_of (record (asked FreePlace untold) { target = 0 })
     ∷ Report 0 ∷ Reap 0 ∷ Reap 1 ∷ Take 0 ∷ Take 1 ∷ Work ∷ Alloc 0 0 ∷ []) ≡ replicate 9 None
 just_inflates = refl
 
-inflate_changes_nothing : HonestStep (pending untold (posted both)) (Inflate 1) []
+inflate_changes_nothing : StepsJustSo (pending untold (posted both)) (Inflate 1) []
     (Refused DeflatePending) (pending untold (posted both))
-inflate_changes_nothing = (refl, refl, refl)
+inflate_changes_nothing = ((refl, refl, refl), λ reply new s. (s.1, s.2))
 
 offered_too_early : (new : Guest)
     → HonestStep (pending untold (posted both)) (Inflate 1) [] (Posted 0 1) new → ⊥
@@ -96,9 +96,9 @@ sweep_by_status : map (λ status. refusal_of (record (three_lent untold) { statu
     ∷ replicate 4 (Some NotReady)
 sweep_by_status = refl
 
-sweep_changes_nothing : HonestStep (framed true (posted both)) (Sweep 16) [] (Refused NoFeature)
+sweep_changes_nothing : StepsJustSo (framed true (posted both)) (Sweep 16) [] (Refused NoFeature)
     (framed true (posted both))
-sweep_changes_nothing = (refl, refl, refl)
+sweep_changes_nothing = ((refl, refl, refl), λ reply new s. (s.1, s.2))
 
 swept_in_use : (new : Guest) → HonestStep (framed true (posted both)) (Sweep 16) [] (Swept true) new
     → ⊥

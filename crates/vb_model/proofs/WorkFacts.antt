@@ -1,9 +1,16 @@
 -- Worked facts of the device's calls on requests: take, work, finish and sweep.
-use Rattle.std.proofs.Common.{List, [], false, map, refl, replicate, true, ℕ, ◌++◌, ◌+◌, ◌∷◌, ◌≡◌}
+use Rattle.std.proofs.Common.{List, [], false, map, refl, replicate, subst, sym, true, ℕ, ◌++◌, ◌+◌}
 use Rattle.std.specs.{List.range_with_len, Prelude.{Bool, None, Option, Some, drop}}
-use Rattle.vb_model.proofs.Samples.{config, down, ready, request, without_reporting}
+use Rattle.std.proofs.Common.{◌∙◌, ◌∷◌, ◌≡◌}
+use Rattle.std.specs.Prelude.{slice_get}
+use Rattle.vb_model.specs.Device.{Finishes, settled, used}
+use Rattle.vb_model.specs.Guest.{requests}
+use Rattle.vb_model.specs.Requests.{Deflating, Inflating, Kind, Reporting_free}
+use Rattle.vb_model.specs.declared.replies.Reply.{Reply}
+use Rattle.vb_model.proofs.Samples.{PerformsJustSo, StepsJustSo, config, down, ready, request}
+use Rattle.vb_model.proofs.Samples.{without_reporting}
 use Rattle.vb_model.specs.{Guest.{Guest, zero_page}, Refusals.{causes, first_refusal, refusal_of}}
-use Rattle.vb_model.specs.{Requests.{Request, Requests}, Step.{HonestStep, Performs}}
+use Rattle.vb_model.specs.{Requests.{Request, Requests}}
 use Rattle.vb_model.specs.declared.calls.Call.{Call, TheVariants.{Finish, Sweep, Take, Work}}
 use Rattle.vb_model.specs.declared.replies.Refusal.{Refusal, TheVariants.{Busy, NoQueue}}
 use Rattle.vb_model.specs.declared.replies.Refusal.TheVariants.{NotBallooned, NotReady, NotTaken}
@@ -91,8 +98,8 @@ after_19 = record busy {
       ∷ (15 ∷ []) ∷ (16 ∷ []) ∷ []);
 }
 
-inflate_before_report : HonestStep busy Work [] (Worked 19 true) after_19
-inflate_before_report = (refl, (refl, refl))
+inflate_before_report : StepsJustSo busy Work [] (Worked 19 true) after_19
+inflate_before_report = ((refl, (refl, refl)), λ reply new s. s.1)
 
 -- then a report, page by page; a page without a frame is bare
 abbrev after_20 : Guest
@@ -103,17 +110,17 @@ after_20 = record after_19 {
       ∷ (15 ∷ []) ∷ (16 ∷ []) ∷ []);
 }
 
-then_the_report : HonestStep after_19 Work [] (Worked 20 true) after_20
-then_the_report = (refl, (refl, refl))
+then_the_report : StepsJustSo after_19 Work [] (Worked 20 true) after_20
+then_the_report = ((refl, (refl, refl)), λ reply new s. s.1)
 
-the_last_page_is_bare : HonestStep after_20 Work [] (Worked 21 false)
+the_last_page_is_bare : StepsJustSo after_20 Work [] (Worked 21 false)
     (record after_20 { report = reports 2 })
-the_last_page_is_bare = (refl, (refl, refl))
+the_last_page_is_bare = ((refl, (refl, refl)), λ reply new s. s.1)
 
 -- once all are visited there is nothing to do; a deflate is never visited
-all_visited : HonestStep (record after_20 { report = reports 2 }) Work [] Idle
+all_visited : StepsJustSo (record after_20 { report = reports 2 }) Work [] Idle
     (record after_20 { report = reports 2 })
-all_visited = (refl, (refl, refl))
+all_visited = ((refl, (refl, refl)), λ reply new s. s.1)
 
 -- of two inflates the oldest goes on, and the other one waits
 abbrev two_waiting : ℕ → Guest
@@ -125,8 +132,8 @@ two_waiting visited = record ready {
   };
 }
 
-the_oldest_goes_on : HonestStep (two_waiting 1) Work [] (Worked 17 false) (two_waiting 2)
-the_oldest_goes_on = (refl, (refl, refl))
+the_oldest_goes_on : StepsJustSo (two_waiting 1) Work [] (Worked 17 false) (two_waiting 2)
+the_oldest_goes_on = ((refl, (refl, refl)), λ reply new s. s.1)
 
 -- posted and used requests aren't visited
 abbrev none_taken : Guest
@@ -136,21 +143,35 @@ none_taken = record ready {
   report = record { posted = request 0 (18 ∷ []) 0 ∷ []; taken = []; done = [] };
 }
 
-only_taken_ones : HonestStep none_taken Work [] Idle none_taken
-only_taken_ones = (refl, (refl, refl))
+only_taken_ones : StepsJustSo none_taken Work [] Idle none_taken
+only_taken_ones = ((refl, (refl, refl)), λ reply new s. s.1)
 
 -- an immediate device finds nothing to do
-immediate_is_idle : HonestStep (at_once busy) Work [] Idle (at_once busy)
-immediate_is_idle = (refl, (refl, refl))
+immediate_is_idle : StepsJustSo (at_once busy) Work [] Idle (at_once busy)
+immediate_is_idle = ((refl, (refl, refl)), λ reply new s. s.1)
 
 work_not_ready : refusal_of down Work ≡ Some NotReady
 work_not_ready = refl
 
 -- ---- finish
 
+same_request : (a b : Request) → Some a ≡ Some b → a ≡ b
+same_request a b e = cc
+
+-- the taken request is the one of this number, and so the answer and what is left are one
+pub just_finished : (kind : Kind) (i : ℕ) (g : Guest) (r : Request)
+    → slice_get (requests kind g).taken i ≡ Some r → (reply : Reply) (new : Guest)
+    → Finishes kind i g reply new
+    → (reply ≡ Finished r.head) × (new ≡ settled kind r.pages (used kind i r g))
+just_finished kind i g r there reply new f =
+    let e : f.0 ≡ r = same_request f.0 r (sym f.1 ∙ there) in (
+      subst (λ (x : Request). reply ≡ Finished x.head) e f.2,
+      subst (λ (x : Request). new ≡ settled kind x.pages (used kind i x g)) e f.3,
+    )
+
 -- an inflate: its pages lose the frames that they still have and are ballooned; it is the last used
 -- one
-finished_inflate : HonestStep busy (Finish 0 0) [] (Finished 1) (record busy {
+finished_inflate : StepsJustSo busy (Finish 0 0) [] (Finished 1) (record busy {
   inflate = record {
     posted = request 2 (25 ∷ []) 0 ∷ [];
     taken = second_inflate 1 ∷ [];
@@ -162,27 +183,36 @@ finished_inflate : HonestStep busy (Finish 0 0) [] (Finished 1) (record busy {
   ballooned = flags (true ∷ true ∷ false ∷ false ∷ false ∷ false ∷ true ∷ true ∷ true ∷ false
       ∷ false ∷ []);
 })
-finished_inflate = (refl, (first_inflate, refl, refl, refl))
+finished_inflate = (
+  (refl, (first_inflate, refl, refl, refl)),
+  λ reply new s. just_finished Inflating 0 busy first_inflate refl reply new s.1,
+)
 
 -- a deflate: its pages are ballooned no more and keep their frames
-finished_deflate : HonestStep busy (Finish 1 0) [] (Finished 5) (record busy {
+finished_deflate : StepsJustSo busy (Finish 1 0) [] (Finished 5) (record busy {
   deflate = record { posted = []; taken = []; done = request 6 (26 ∷ []) 0 ∷ deflate ∷ [] };
   ballooned = flags (false ∷ false ∷ false ∷ false ∷ false ∷ false ∷ false ∷ false ∷ true ∷ false
       ∷ false ∷ []);
 })
-finished_deflate = (refl, (deflate, refl, refl, refl))
+finished_deflate = (
+  (refl, (deflate, refl, refl, refl)),
+  λ reply new s. just_finished Deflating 0 busy deflate refl reply new s.1,
+)
 
 -- a report: its pages lose their frames and aren't ballooned
-finished_report : Performs (Finish 4 0) (at_once busy) [] (Finished 0) (record (at_once busy) {
+finished_report : PerformsJustSo (Finish 4 0) (at_once busy) [] (Finished 0) (record (at_once busy) {
   report = record { posted = []; taken = []; done = report 0 ∷ [] };
   frames = frames (Some 17 ∷ None ∷ None ∷ Some 13 ∷ None ∷ None ∷ Some 15 ∷ Some 16 ∷ []);
   contents = contents ((17 ∷ []) ∷ zero_page ∷ zero_page ∷ (13 ∷ []) ∷ zero_page ∷ zero_page
       ∷ (15 ∷ []) ∷ (16 ∷ []) ∷ []);
 })
-finished_report = (refl, (report 0, refl, refl, refl))
+finished_report = (
+  (refl, (report 0, refl, refl, refl)),
+  λ reply new s. just_finished Reporting_free 0 (at_once busy) (report 0) refl reply new s.1,
+)
 
 -- the number is that among the taken ones of the queue, the oldest first
-second_by_its_number : HonestStep (at_once busy) (Finish 0 1) [] (Finished 3)
+second_by_its_number : StepsJustSo (at_once busy) (Finish 0 1) [] (Finished 3)
     (record (at_once busy) {
       inflate = record {
         posted = request 2 (25 ∷ []) 0 ∷ [];
@@ -195,7 +225,10 @@ second_by_its_number : HonestStep (at_once busy) (Finish 0 1) [] (Finished 3)
       ballooned = flags (false ∷ false ∷ true ∷ true ∷ false ∷ false ∷ true ∷ true ∷ true ∷ false
           ∷ false ∷ []);
     })
-second_by_its_number = (refl, (second_inflate 1, refl, refl, refl))
+second_by_its_number = (
+  (refl, (second_inflate 1, refl, refl, refl)),
+  λ reply new s. just_finished Inflating 1 (at_once busy) (second_inflate 1) refl reply new s.1,
+)
 
 abbrev behind_no_queue : Guest → Call → Option Refusal
 behind_no_queue g call = first_refusal (drop 1 (causes g call))
@@ -231,30 +264,30 @@ one_posted = record {
   done = request 1 (19 ∷ []) 1 ∷ [];
 }
 
-taken_inflate : HonestStep (record ready { inflate = two_posted }) (Take 0) [] (Taken 4)
+taken_inflate : StepsJustSo (record ready { inflate = two_posted }) (Take 0) [] (Taken 4)
     (record ready { inflate = one_posted })
-taken_inflate = (refl, (refl, refl))
+taken_inflate = ((refl, (refl, refl)), λ reply new s. s.1)
 
-taken_deflate : HonestStep (record ready { deflate = two_posted }) (Take 1) [] (Taken 4)
+taken_deflate : StepsJustSo (record ready { deflate = two_posted }) (Take 1) [] (Taken 4)
     (record ready { deflate = one_posted })
-taken_deflate = (refl, (refl, refl))
+taken_deflate = ((refl, (refl, refl)), λ reply new s. s.1)
 
-taken_report : Performs (Take 4) (record ready { report = two_posted }) [] (Taken 4)
+taken_report : PerformsJustSo (Take 4) (record ready { report = two_posted }) [] (Taken 4)
     (record ready { report = one_posted })
-taken_report = (refl, (refl, refl))
+taken_report = ((refl, (refl, refl)), λ reply new s. s.1)
 
 -- each queue has requests of its own kind
-none_posted : HonestStep (record ready { deflate = two_posted; report = two_posted }) (Take 0) []
+none_posted : StepsJustSo (record ready { deflate = two_posted; report = two_posted }) (Take 0) []
     Empty (record ready { deflate = two_posted; report = two_posted })
-none_posted = (refl, (refl, refl))
+none_posted = ((refl, (refl, refl)), λ reply new s. s.1)
 
-no_deflate_posted : HonestStep (record ready { inflate = two_posted; report = two_posted }) (Take 1)
+no_deflate_posted : StepsJustSo (record ready { inflate = two_posted; report = two_posted }) (Take 1)
     [] Empty (record ready { inflate = two_posted; report = two_posted })
-no_deflate_posted = (refl, (refl, refl))
+no_deflate_posted = ((refl, (refl, refl)), λ reply new s. s.1)
 
-no_report_posted : Performs (Take 4) (record ready { inflate = two_posted; deflate = two_posted })
+no_report_posted : PerformsJustSo (Take 4) (record ready { inflate = two_posted; deflate = two_posted })
     [] Empty (record ready { inflate = two_posted; deflate = two_posted })
-no_report_posted = (refl, (refl, refl))
+no_report_posted = ((refl, (refl, refl)), λ reply new s. s.1)
 
 -- at most 16 taken ones of each queue; posted and used ones don't count
 abbrev many : ℕ → Requests
@@ -279,15 +312,15 @@ take_without_reporting = refl
 -- ---- sweep
 
 -- a ballooned page loses its frame and stays ballooned
-swept_freed : HonestStep busy (Sweep 23) [] (Swept true) (record busy {
+swept_freed : StepsJustSo busy (Sweep 23) [] (Swept true) (record busy {
   frames = frames (Some 17 ∷ None ∷ None ∷ Some 13 ∷ Some 14 ∷ None ∷ Some 15 ∷ None ∷ []);
   contents = contents ((17 ∷ []) ∷ zero_page ∷ zero_page ∷ (13 ∷ []) ∷ (14 ∷ []) ∷ zero_page
       ∷ (15 ∷ []) ∷ zero_page ∷ []);
 })
-swept_freed = (refl, (refl, refl))
+swept_freed = ((refl, (refl, refl)), λ reply new s. s.1)
 
-swept_bare : HonestStep busy (Sweep 24) [] (Swept false) busy
-swept_bare = (refl, (refl, refl))
+swept_bare : StepsJustSo busy (Sweep 24) [] (Swept false) busy
+swept_bare = ((refl, (refl, refl)), λ reply new s. s.1)
 
 not_swept : refusal_of (record busy { status = 0 }) (Sweep 19)
     ∷ map (refusal_of busy) (Sweep 19 ∷ Sweep 64 ∷ []) ≡ Some NotReady

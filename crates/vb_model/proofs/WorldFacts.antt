@@ -1,16 +1,19 @@
 -- Worked facts of the host: plugging guests in, numbers, spare devices, and which frames are given.
-use Rattle.std.proofs.Common.{List, [], arith, false, inl, inr, refl, replicate, true, ℕ, ◌++◌, ◌<◌}
+use Rattle.std.proofs.Common.{List, [], arith, false, inl, inr, refl, replicate, subst, true, ℕ}
+use Rattle.std.proofs.Common.{◌++◌, ◌<◌}
+use Rattle.vb_model.specs.{Step.{HonestStep}, World.{put_guest}}
 use Rattle.std.{proofs.Common.{◌∷◌, ◌≡◌, ◌⊎◌}, specs.Prelude.{None, Option, Some}}
+use Rattle.vb_model.proofs.Samples.{HappensJustSo}
 use Rattle.vb_model.{proofs.Samples.{down, plug, ready}, specs.Guest.{Config, Guest, fresh}}
-use Rattle.vb_model.specs.{HostEvents.{WorldStep, with_targets}, HostFrames.Gives, World.World}
+use Rattle.vb_model.specs.{HostEvents.{Plugs, WorldStep, with_targets}, HostFrames.Gives, World.World}
 use Rattle.vb_model.specs.{World.made, declared.calls.{Call.TheVariants.SetTarget, Event.Event}}
-use Rattle.vb_model.specs.declared.calls.Claim.TheVariants.{Gave, GaveNoFrame, GaveNoMemory}
+use Rattle.vb_model.specs.declared.calls.Claim.{Claim, TheVariants.{Gave, GaveNoFrame, GaveNoMemory}}
 use Rattle.vb_model.specs.declared.calls.Event.TheVariants.{Frames as CountFrames, Guest as OnGuest}
 use Rattle.vb_model.specs.declared.calls.Event.TheVariants.{Query as OnQuery, Restart, Unplug}
 use Rattle.vb_model.specs.declared.{calls.Query.TheVariants.Places, replies.Refusal.Refusal}
 use Rattle.vb_model.specs.declared.replies.Refusal.TheVariants.{BadConfig, NoDevice, NoGuest}
 use Rattle.vb_model.specs.declared.replies.Refusal.TheVariants.{NoMemory, TooMany}
-use Rattle.vb_model.specs.declared.replies.Reply.TheVariants.{Done, Frames, Plugged, Refused}
+use Rattle.vb_model.specs.declared.replies.Reply.{Reply, TheVariants.{Done, Frames, Plugged, Refused}}
 
 abbrev world : List (Option Guest) → World
 world guests = record
@@ -46,6 +49,18 @@ number_given_up = inr (1, refl, refl, refl, refl)
 no_other_number : (v : World) → WorldStep gap (plug 128 2 4) (Plugged 3) v → ⊥
 no_other_number v h1 = grind arith
 
+-- or there is no memory; nothing else comes of it
+plugged_or_not : (reply : Reply) (v : World) → WorldStep gap (plug 128 2 4) reply v
+    → ((reply ≡ Refused NoMemory) × (v ≡ gap)) ⊎ ((reply ≡ Plugged 1)
+    × (v ≡ record (world (Some ready ∷ Some (fresh wide 0) ∷ Some ready ∷ None ∷ []))
+    { spares = true ∷ true ∷ []; vacated = None }))
+plugged_or_not reply v (inl none) = inl none
+plugged_or_not reply v (inr (n, free, last, answer, same)) = inr (
+  subst (λ (m : ℕ). reply ≡ Plugged m) last answer,
+  subst (λ (m : ℕ). v ≡ record (put_guest m (Some (fresh wide 0)) gap)
+      { spares = true ∷ true ∷ []; vacated = None }) last same,
+)
+
 -- with none given up any number that no guest has
 any_free_number : WorldStep (record gap { vacated = None }) (plug 128 2 4) (Plugged 3)
     (record (world (Some ready ∷ None ∷ Some ready ∷ Some (fresh wide 0) ∷ []))
@@ -58,6 +73,19 @@ no_number_twice v h1 = grind arith
 -- want of memory leaves the spare, and the number given up
 no_memory_for_a_plug : WorldStep gap (plug 128 2 4) (Refused NoMemory) gap
 no_memory_for_a_plug = inl (refl, refl)
+
+-- the number given up is not another's, a number isn't used twice, and the answer is the number
+abbrev NoPlug : World → Reply → Type 0
+NoPlug w reply = (v : World) → Plugs wide (true ∷ true ∷ []) w reply v → ⊥
+
+no_such_plug : NoPlug gap (Plugged 3) × NoPlug gap (Plugged 0) × NoPlug gap Done
+    × NoPlug (world (Some ready ∷ [])) (Plugged 0)
+no_such_plug = grind arith
+
+just_so_plugged : (v : World) → Plugs wide (true ∷ []) gap (Plugged 1) v
+    → v ≡ record (world (Some ready ∷ Some (fresh wide 0) ∷ Some ready ∷ None ∷ []))
+    { spares = true ∷ []; vacated = None }
+just_so_plugged v p = grind arith
 
 -- ---- refusals of a plug: the configuration, then the number of guests, then the spares
 
@@ -103,6 +131,23 @@ no_frame_claimed : WorldStep (world (Some ready ∷ None ∷ Some down ∷ Some 
     (world (Some ready ∷ None ∷ Some (record down { target = 7 }) ∷ Some ready ∷ []))
 no_frame_claimed = ([], record down { target = 7 }, tt, (refl, (refl, refl)), refl)
 
+-- and nothing else comes of it
+its_target : (claims : List Claim) (reply : Reply) (after : Guest)
+    → HonestStep down (SetTarget 7) claims reply after
+    → (reply ≡ Done) × (after ≡ record down { target = 7 })
+its_target [] reply after s = s.1
+its_target (claim ∷ claims) reply after s = absurd (let t : claim ∷ claims ≡ [] = s.0 in cc)
+
+just_that_target : (reply : Reply) (v : World)
+    → WorldStep (world (Some ready ∷ None ∷ Some down ∷ Some ready ∷ [])) (OnGuest 2 (SetTarget 7))
+    reply v → (reply ≡ Done)
+    × (v ≡ world (Some ready ∷ None ∷ Some (record down { target = 7 }) ∷ Some ready ∷ []))
+just_that_target reply v (claims, after, gives, step, same) =
+    let aimed = its_target claims reply after step in (
+      aimed.0,
+      subst (λ (g : Guest). v ≡ world (Some ready ∷ None ∷ Some g ∷ Some ready ∷ [])) aimed.1 same,
+    )
+
 -- targets go to the guests in rising number, past the numbers that have none
 targets_past_gaps : with_targets (5 ∷ 7 ∷ 9 ∷ []) (None ∷ Some ready
     ∷ None ∷ None ∷ Some down ∷ Some ready ∷ []) ≡ None ∷ Some (record ready { target = 5 })
@@ -114,11 +159,11 @@ targets_past_gaps = refl
 abbrev with_frames : List (Option ℕ) → Option Guest
 with_frames frames = Some (record ready { frames = frames })
 
-frames_in_use : WorldStep
+frames_in_use : HappensJustSo
     (world (with_frames (Some 3 ∷ None ∷ Some 199 ∷ []) ∷ None ∷ with_frames (Some 0 ∷ []) ∷ []))
     CountFrames (Frames 3 197)
     (world (with_frames (Some 3 ∷ None ∷ Some 199 ∷ []) ∷ None ∷ with_frames (Some 0 ∷ []) ∷ []))
-frames_in_use = (refl, refl)
+frames_in_use = ((refl, refl), λ reply v s. s)
 
 -- ---- which frames are given: of five frames 0, 1 and 3 are out
 
