@@ -12,6 +12,8 @@ pub mod CountLemmas
 pub mod MarkLemmas
 mod Examples
 mod SettingFacts
+mod CopyFacts
+mod FitFacts
 mod ConfigFacts
 mod RunFacts
 mod SavedFacts
