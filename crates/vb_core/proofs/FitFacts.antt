@@ -1,6 +1,5 @@
 -- Numbers that fit the fields of a saved device, worked out: the largest ones, and one more of each.
-use Rattle.std.proofs.Common.{◌≡◌, ℕ, arith}
-use Rattle.vb_core.specs.Devices.{new_device}
+use Rattle.std.proofs.Common.{arith}
 use Rattle.vb_core.specs.Format.{FitsSettings, FitsRing, FitsSaved}
 use Rattle.vb_core.specs.declared.{device.Device.Device, ring.Virtqueue.Virtqueue}
 use Rattle.vb_core.specs.declared.{saved.Saved.Saved, settings.Settings.Settings}

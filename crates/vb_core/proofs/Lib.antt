@@ -13,6 +13,9 @@ pub mod MarkLemmas
 mod Examples
 mod SettingFacts
 mod CopyFacts
+pub mod PopFacts
+mod NextFacts
+mod NameFacts
 mod FitFacts
 mod ConfigFacts
 mod RunFacts
