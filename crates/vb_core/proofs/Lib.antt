@@ -12,6 +12,11 @@ pub mod CountLemmas
 pub mod MarkLemmas
 mod Examples
 mod SettingFacts
+mod CopyFacts
+pub mod PopFacts
+mod NextFacts
+mod NameFacts
+mod FitFacts
 mod ConfigFacts
 mod RunFacts
 mod SavedFacts

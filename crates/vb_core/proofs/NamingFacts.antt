@@ -85,6 +85,17 @@ none_skipped runs n = omega (arith, n.others)
 left_open : AreNamed four 4 [] (record { runs = 2; pages = 4; skipped = 0 }) → ⊥
 left_open n = grind (arith, told)
 
+-- other runs, more runs than numbers, and a number that wasn't skipped
+exchanged_runs : AreNamed four 4 (run_at 5 1 ∷ run_at 20 3 ∷ []) (record { runs = 2; pages = 4; skipped = 0 })
+    → ⊥
+exchanged_runs n = exchanged n.told_so
+
+more_runs : AreNamed [] 0 [] (record { runs = 1; pages = 0; skipped = 0 }) → ⊥
+more_runs n = omega (arith, n.few)
+
+one_skipped : (runs : List Run) → AreNamed four 4 runs (record { runs = 2; pages = 4; skipped = 1 }) → ⊥
+one_skipped runs n = omega (arith, n.others)
+
 -- ---- numbers
 
 -- of memory of 64 pages, of which 16 are reserved

@@ -10,7 +10,7 @@ use Rattle.vb_pages.specs.FreePages.{TakesSingle, spilled, given_back, IsSoundFr
 
 -- ---- sets of pages
 
-abbrev six : List Bool
+abbrev pub six : List Bool
 six = false ∷ false ∷ true ∷ true ∷ true ∷ true ∷ true ∷ true ∷ []
 
 all_but_two : unreserved 8 2 ≡ six
@@ -32,7 +32,7 @@ held = refl
 
 -- ---- lists
 
-abbrev free : FreePages
+abbrev pub free : FreePages
 free = record {
   areas = false ∷ false ∷ true ∷ false ∷ false ∷ true ∷ false ∷ false ∷ [];
   lists = (3 ∷ 4 ∷ []) ∷ [] ∷ (7 ∷ []) ∷ [];
@@ -114,10 +114,10 @@ misaligned is = (let wrong : false ≡ true = is.1 in absurd cc)
 too_large : IsBlock (block_at 0 10) → ⊥
 too_large is = omega (arith, is.0)
 
-abbrev pair : Block
+abbrev pub pair : Block
 pair = block_at 2 1
 
-pair_is_free : LiesIn six pair
+pub pair_is_free : LiesIn six pair
 pair_is_free zero from to = absurd (omega (arith, from))
 pair_is_free (suc zero) from to = absurd (omega (arith, from))
 pair_is_free (suc (suc zero)) from to = refl
@@ -133,7 +133,7 @@ half : IsMaximal six (block_at 2 0) → ⊥
 half maximal =
     omega (arith, maximal.alone pair (omega arith, refl) pair_is_free (omega arith, omega arith))
 
-there_is_a_pair : HasNoBlock six 1 → ⊥
+pub there_is_a_pair : HasNoBlock six 1 → ⊥
 there_is_a_pair none = none 2 (omega arith, refl) pair_is_free
 
 nothing_is_taken : TakesBlock six 1 None six → ⊥
@@ -141,7 +141,7 @@ nothing_is_taken takes = there_is_a_pair takes.0
 
 -- ---- blocks that are held
 
-abbrev state : PageState
+abbrev pub state : PageState
 state = record { free = free; held = block_at 6 0 ∷ [] }
 
 page_freed : freed 1 (block_at 6 0) state ≡ record { free = given_back 1 6 0 free; held = [] }

@@ -11,3 +11,7 @@ pub mod HeldLemmas
 pub mod PagesLemmas
 mod NumberFacts
 mod AreaFacts
+mod ChoiceFacts
+mod TableFacts
+mod TakeFacts
+mod StateFacts

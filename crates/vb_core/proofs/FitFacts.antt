@@ -1,0 +1,137 @@
+-- Numbers that fit the fields of a saved device, worked out: the largest ones, and one more of each.
+use Rattle.std.proofs.Common.{arith}
+use Rattle.vb_core.specs.Format.{FitsSettings, FitsRing, FitsSaved}
+use Rattle.vb_core.specs.declared.{device.Device.Device, ring.Virtqueue.Virtqueue}
+use Rattle.vb_core.specs.declared.{saved.Saved.Saved, settings.Settings.Settings}
+
+-- the largest numbers of 64, 32, 16 and 8 bits
+abbrev settings : Settings
+settings = record {
+  memory_end = 0xffffffffffffffff;
+  offered = 0xffffffffffffffff;
+  reserved_pages = 0xffffffff;
+  needs_must_tell = 255;
+  skips_bad_pages = 255;
+}
+
+abbrev ring : Virtqueue
+ring = record {
+  table = 0xffffffffffffffff;
+  avail = 0xffffffffffffffff;
+  used = 0xffffffffffffffff;
+  size = 65535;
+  next_avail = 65535;
+  next_used = 65535;
+}
+
+abbrev device : Device
+device = record {
+  settings = settings;
+  features = 0xffffffffffffffff;
+  target = 0xffffffff;
+  actual = 0xffffffff;
+  inflate = ring;
+  deflate = ring;
+  statistics = ring;
+  report = ring;
+  poison = 0xffffffff;
+  status = 255;
+}
+
+abbrev saved : Device → Saved
+saved d = record { device = d; held = 0xffffffff }
+
+settings_fit : FitsSettings settings
+settings_fit = record {
+  memory_end = omega arith;
+  offered = omega arith;
+  reserved_pages = omega arith;
+  needs_must_tell = omega arith;
+  skips_bad_pages = omega arith;
+}
+
+ring_fits : FitsRing ring
+ring_fits = record {
+  table = omega arith;
+  avail = omega arith;
+  used = omega arith;
+  size = omega arith;
+  next_avail = omega arith;
+  next_used = omega arith;
+}
+
+all_fit : FitsSaved (saved device)
+all_fit = record {
+  settings = settings_fit;
+  features = omega arith;
+  target = omega arith;
+  actual = omega arith;
+  inflate = ring_fits;
+  deflate = ring_fits;
+  statistics = ring_fits;
+  report = ring_fits;
+  poison = omega arith;
+  status = omega arith;
+  held = omega arith;
+}
+
+-- one more doesn't fit: of settings, of a ring, and of the device
+settings_past : (FitsSettings (record settings { memory_end = 0x10000000000000000 }) → ⊥)
+    × (FitsSettings (record settings { offered = 0x10000000000000000 }) → ⊥)
+    × (FitsSettings (record settings { reserved_pages = 0x100000000 }) → ⊥)
+    × (FitsSettings (record settings { needs_must_tell = 256 }) → ⊥)
+    × (FitsSettings (record settings { skips_bad_pages = 256 }) → ⊥)
+settings_past = (
+  λ f. omega (arith, f.memory_end),
+  λ f. omega (arith, f.offered),
+  λ f. omega (arith, f.reserved_pages),
+  λ f. omega (arith, f.needs_must_tell),
+  λ f. omega (arith, f.skips_bad_pages),
+)
+
+ring_past : (FitsRing (record ring { table = 0x10000000000000000 }) → ⊥)
+    × (FitsRing (record ring { avail = 0x10000000000000000 }) → ⊥)
+    × (FitsRing (record ring { used = 0x10000000000000000 }) → ⊥)
+    × (FitsRing (record ring { size = 65536 }) → ⊥)
+    × (FitsRing (record ring { next_avail = 65536 }) → ⊥)
+    × (FitsRing (record ring { next_used = 65536 }) → ⊥)
+ring_past = (
+  λ f. omega (arith, f.table),
+  λ f. omega (arith, f.avail),
+  λ f. omega (arith, f.used),
+  λ f. omega (arith, f.size),
+  λ f. omega (arith, f.next_avail),
+  λ f. omega (arith, f.next_used),
+)
+
+device_past : (FitsSaved (saved (record device { features = 0x10000000000000000 })) → ⊥)
+    × (FitsSaved (saved (record device { target = 0x100000000 })) → ⊥)
+    × (FitsSaved (saved (record device { actual = 0x100000000 })) → ⊥)
+    × (FitsSaved (saved (record device { poison = 0x100000000 })) → ⊥)
+    × (FitsSaved (saved (record device { status = 256 })) → ⊥)
+    × (FitsSaved (record (saved device) { held = 0x100000000 }) → ⊥)
+device_past = (
+  λ f. omega (arith, f.features),
+  λ f. omega (arith, f.target),
+  λ f. omega (arith, f.actual),
+  λ f. omega (arith, f.poison),
+  λ f. omega (arith, f.status),
+  λ f. omega (arith, f.held),
+)
+
+-- nor one of its settings, and of each of its rings
+abbrev long : Virtqueue
+long = record ring { size = 65536 }
+
+parts_past : (FitsSaved (saved (record device { settings = record settings { needs_must_tell = 256 } })) → ⊥)
+    × (FitsSaved (saved (record device { inflate = long })) → ⊥)
+    × (FitsSaved (saved (record device { deflate = long })) → ⊥)
+    × (FitsSaved (saved (record device { statistics = long })) → ⊥)
+    × (FitsSaved (saved (record device { report = long })) → ⊥)
+parts_past = (
+  λ f. omega (arith, f.settings.needs_must_tell),
+  λ f. omega (arith, f.inflate.size),
+  λ f. omega (arith, f.deflate.size),
+  λ f. omega (arith, f.statistics.size),
+  λ f. omega (arith, f.report.size),
+)

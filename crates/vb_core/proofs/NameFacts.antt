@@ -1,0 +1,109 @@
+-- What is answered to requests by their bytes, worked out, and the device after it.
+use Rattle.std.proofs.Common.{◌≡◌, ◌∙◌, ℕ, true, false, List, [], ◌∷◌, refl, ap, arith, Result, Ok, Err}
+use Rattle.std.proofs.Common.{None, take, subst}
+use Rattle.vb_chain.specs.declared.fault.ChainFault.{ChainFault, TheVariants.{BadPage, ReservedPage}}
+use Rattle.vb_request.specs.Request.{numbers_of}
+use Rattle.vb_core.specs.Name.{NamesRuns, NamesBy, name_denial, after_request}
+use Rattle.vb_core.specs.{Next.told, Devices.{placed, needing_reset}, Runs.Tell}
+use Rattle.vb_core.specs.declared.kinds.Kind.TheVariants.{Deflate}
+use Rattle.vb_core.specs.declared.{device.Device.Device, runs.Run.Run, name.Named.Named}
+use Rattle.vb_core.specs.declared.device.Denial.{Denial, TheVariants.Broken}
+use Rattle.vb_core.proofs.Examples.{ready, settings}
+
+-- a device of 64 pages, of which 16 are reserved, and one that skips wrong numbers
+abbrev device : Device
+device = record ready { deflate = placed 0 256 512 8 }
+
+abbrev skipping : Device
+skipping = record device { settings = record settings { skips_bad_pages = 1 } }
+
+-- the first page that isn't reserved, and the last one; the last that is reserved, and one past the end
+abbrev right : List ℕ
+right = 16 ∷ 63 ∷ []
+
+abbrev wrong : List ℕ
+wrong = 16 ∷ 15 ∷ 63 ∷ 64 ∷ []
+
+abbrev right_bytes : List ℕ
+right_bytes = 16 ∷ 0 ∷ 0 ∷ 0 ∷ 63 ∷ 0 ∷ 0 ∷ 0 ∷ []
+
+abbrev wrong_bytes : List ℕ
+wrong_bytes = 16 ∷ 0 ∷ 0 ∷ 0 ∷ 15 ∷ 0 ∷ 0 ∷ 0 ∷ 63 ∷ 0 ∷ 0 ∷ 0 ∷ 64 ∷ 0 ∷ 0 ∷ 0 ∷ []
+
+they_are : (numbers_of right_bytes ≡ right) × (numbers_of wrong_bytes ≡ wrong)
+unfolding numbers_of
+they_are = (refl, refl)
+
+-- ---- what is answered to numbers
+
+-- a count of pages and one of skipped numbers
+abbrev Counts : {E : Type 0} → ℕ → ℕ → Result Named E → Type 0
+Counts pages skipped (Ok named) = (named.pages ≡ pages) × (named.skipped ≡ skipped)
+Counts pages skipped (Err why) = ⊥
+
+abbrev Tells : {E : Type 0} → List Run → List ℕ → Result Named E → Type 0
+Tells runs ns (Ok named) = Tell (take named.runs runs) ns
+Tells runs ns (Err why) = ⊥
+
+two_named : (runs : List Run) (answer : Result Named ChainFault)
+    → NamesRuns false 16 64 right runs answer
+    → Counts 2 0 (told answer) × Tells runs right (told answer)
+    × (after_request Deflate answer device
+    ≡ record device { deflate = record (placed 0 256 512 8) { next_avail = 1 } })
+two_named runs (Ok named) n = let is = n.named refl in
+    ((is.count, omega (arith, is.others)), is.told_so, refl)
+two_named runs (Err fault) n = absurd (n.named refl)
+
+two_skipped : (runs : List Run) (answer : Result Named ChainFault)
+    → NamesRuns true 16 64 wrong runs answer
+    → Counts 2 2 (told answer) × Tells runs right (told answer)
+    × (after_request Deflate answer skipping
+    ≡ record skipping { deflate = record (placed 0 256 512 8) { next_avail = 1 } })
+two_skipped runs (Ok named) n = let is = n.named refl in
+    ((is.count, omega (arith, is.others)), is.told_so, refl)
+two_skipped runs (Err fault) n = absurd (n.named refl)
+
+-- the first wrong one is told, and no fault where none is wrong
+one_wrong : (runs : List Run) (answer : Result Named ChainFault)
+    → (NamesRuns false 16 64 wrong runs answer → answer ≡ Err ReservedPage)
+    × (NamesRuns false 16 64 (64 ∷ 15 ∷ []) runs answer → answer ≡ Err BadPage)
+    × (NamesRuns false 16 64 right runs (Err BadPage) → ⊥)
+    × (NamesRuns true 16 64 wrong runs (Err ReservedPage) → ⊥)
+one_wrong runs answer = (
+  λ n. n.fault ReservedPage refl,
+  λ n. n.fault BadPage refl,
+  λ n. n.named refl,
+  λ n. n.named refl,
+)
+
+-- ---- what is answered to bytes
+
+open_names : (name_denial Deflate 8 2 device ≡ None) × (name_denial Deflate 16 4 device ≡ None)
+    × (name_denial Deflate 16 4 skipping ≡ None)
+unfolding lib.Count.ones
+open_names = (refl, refl, refl)
+
+names_two : (runs : List Run) (d : Device) (result : Result Named Denial)
+    → NamesBy Deflate right_bytes 2 runs device d result
+    → Counts 2 0 result × Tells runs right result
+    × (d ≡ record device { deflate = record (placed 0 256 512 8) { next_avail = 1 } })
+names_two runs d result n = let r = n.names open_names.0 in
+    let is = two_named runs r.0 (subst (λ ns. NamesRuns false 16 64 ns runs r.0) they_are.0 r.1) in
+    rw (r.2) (is.0, is.1, r.3 ∙ is.2)
+
+names_skipping : (runs : List Run) (d : Device) (result : Result Named Denial)
+    → NamesBy Deflate wrong_bytes 4 runs skipping d result
+    → Counts 2 2 result × Tells runs right result
+    × (d ≡ record skipping { deflate = record (placed 0 256 512 8) { next_avail = 1 } })
+names_skipping runs d result n = let r = n.names open_names.2 in
+    let is = two_skipped runs r.0 (subst (λ ns. NamesRuns true 16 64 ns runs r.0) they_are.1 r.1) in
+    rw (r.2) (is.0, is.1, r.3 ∙ is.2)
+
+-- a wrong number breaks the device
+names_breaks : (runs : List Run) (d : Device) (result : Result Named Denial)
+    → NamesBy Deflate wrong_bytes 4 runs device d result
+    → (result ≡ Err (Broken ReservedPage)) × (d ≡ needing_reset device)
+names_breaks runs d result n = let r = n.names open_names.1 in
+    let e : r.0 ≡ Err ReservedPage =
+    (one_wrong runs r.0).0 (subst (λ ns. NamesRuns false 16 64 ns runs r.0) they_are.1 r.1) in
+    (r.2 ∙ ap (λ a. told a) e, r.3 ∙ ap (λ a. after_request Deflate a device) e)

@@ -1,0 +1,222 @@
+-- Tables of blocks, the sets that stand for them, and their lowest blocks, worked out.
+use Rattle.std.proofs.Common.{◌≡◌, ℕ, zero, suc, ◌+◌, ◌%◌, ◌^◌, ◌<◌, ◌≤◌, Bool, true, false, List, [], ◌∷◌}
+use Rattle.std.proofs.Common.{Option, Some, None, ap, arith, length, refl, replicate, inl, inr}
+use Rattle.std.proofs.Common.{subst, sym}
+use Rattle.vb_pages.specs.Table.{order_at, AreBlocks, set_of_order, sets_of, table_of, AreSetsOf}
+use Rattle.vb_pages.specs.Table.{IsLowestStart}
+use Rattle.vb_pages.specs.Tiles.{is_covered, set_of, IsPlaced, IsMerged, IsBuddy, HasRoom, IsTiled}
+use Rattle.vb_pages.specs.Areas.{LiesOutside, block_at}
+use Rattle.vb_pages.specs.{Tiles.IsLowestListed, declared.block.FreeBlock.FreeBlock}
+
+abbrev or_none : Option ℕ → ℕ
+or_none None = 10
+or_none (Some order) = order
+
+-- ---- blocks
+
+-- a pair that takes all of a table of two pages
+pair : AreBlocks (Some 1 ∷ None ∷ [])
+pair = record { bounded = bounded; aligned = aligned; fits = fits } where
+  bounded : (start order : ℕ) → order_at (Some 1 ∷ None ∷ []) start ≡ Some order → order ≤ 9
+  bounded zero order e = omega (arith, ap or_none e)
+  bounded (suc zero) order e = absurd cc
+  bounded (suc (suc k)) order e = absurd cc
+
+  aligned : (start order : ℕ) → order_at (Some 1 ∷ None ∷ []) start ≡ Some order
+      → start % 2 ^ order ≡ 0
+  aligned zero order e = omega arith
+  aligned (suc zero) order e = absurd cc
+  aligned (suc (suc k)) order e = absurd cc
+
+  fits : (start order : ℕ) → order_at (Some 1 ∷ None ∷ []) start ≡ Some order → start + 2 ^ order ≤ 2
+  fits zero order e = subst (λ k. 0 + 2 ^ k ≤ 2) (ap or_none e) (omega arith)
+  fits (suc zero) order e = absurd cc
+  fits (suc (suc k)) order e = absurd cc
+
+-- an order past 9, a pair that begins with page 1, and one of which the table has half
+no_blocks : (AreBlocks (Some 10 ∷ replicate 1023 None) → ⊥) × (AreBlocks (None ∷ Some 1 ∷ None ∷ []) → ⊥)
+    × (AreBlocks (Some 1 ∷ []) → ⊥)
+no_blocks = (
+  λ are. omega (arith, are.bounded 0 10 refl),
+  λ are. omega (arith, are.aligned 1 1 refl),
+  λ are. omega (arith, are.fits 0 1 refl),
+)
+
+-- ---- sets
+
+-- the set of each order for a table of one page, in which that page is a block, or no block is
+abbrev sets : Bool → Bool → List (List Bool)
+sets page larger = (page ∷ []) ∷ (larger ∷ []) ∷ replicate 8 (false ∷ [])
+
+sets_are : (sets_of (Some 0 ∷ []) ≡ sets true false) × (table_of 1 (sets true false) ≡ Some 0 ∷ [])
+    × (sets_of [] ≡ sets false false) × (table_of 0 (sets false false) ≡ [])
+unfolding sets_of set_of_order table_of
+sets_are = (refl, refl, refl, refl)
+
+-- too many pages, a set that is missing, one with a number too many, and a block past the end
+no_sets : ((all : List (List Bool)) → AreSetsOf 262145 all → ⊥) × (AreSetsOf 1 [] → ⊥)
+    × (AreSetsOf 1 ((true ∷ false ∷ []) ∷ replicate 9 (false ∷ [])) → ⊥)
+    × (AreSetsOf 1 (sets false true) → ⊥)
+unfolding sets_of set_of_order table_of
+no_sets = (
+  λ all are. omega (arith, are.small),
+  λ are. omega (arith, ap (λ (all : List (List Bool)). length all) are.same),
+  λ are. omega (arith, ap first_length are.same),
+  λ are. omega (arith, are.blocks.fits 0 1 refl),
+) where
+  first_length : List (List Bool) → ℕ
+  first_length [] = 0
+  first_length (set ∷ more) = length set
+
+-- ---- the lowest start of a block of an order
+
+-- page 0, pages 2 and 3, and page 4
+abbrev three : List (Option ℕ)
+three = Some 0 ∷ None ∷ Some 1 ∷ None ∷ Some 0 ∷ []
+
+lowest_start : IsLowestStart three 0 0 (Some 0) × IsLowestStart three 0 1 (Some 4)
+    × IsLowestStart three 2 0 None
+lowest_start = (
+  (refl, omega arith, λ page from e. omega arith),
+  (refl, omega arith, from_one),
+  none_of_two,
+) where
+  from_one : (page : ℕ) → 1 ≤ page → order_at three page ≡ Some 0 → 4 ≤ page
+  from_one zero from e = absurd (omega (arith, from))
+  from_one (suc zero) from e = absurd cc
+  from_one (suc (suc zero)) from e = absurd (omega (arith, ap or_none e))
+  from_one (suc (suc (suc zero))) from e = absurd cc
+  from_one (suc (suc (suc (suc k)))) from e = omega arith
+
+  none_of_two : (page : ℕ) → 0 ≤ page → order_at three page ≡ Some 2 → ⊥
+  none_of_two zero from e = omega (arith, ap or_none e)
+  none_of_two (suc zero) from e = cc
+  none_of_two (suc (suc zero)) from e = omega (arith, ap or_none e)
+  none_of_two (suc (suc (suc zero))) from e = cc
+  none_of_two (suc (suc (suc (suc zero)))) from e = omega (arith, ap or_none e)
+  none_of_two (suc (suc (suc (suc (suc k))))) from e = cc
+
+-- none though there is one, one of another order, one before the page, and one behind another
+not_lowest_start : (IsLowestStart three 0 4 None → ⊥) × (IsLowestStart three 0 1 (Some 2) → ⊥)
+    × (IsLowestStart three 0 1 (Some 0) → ⊥) × (IsLowestStart three 0 0 (Some 4) → ⊥)
+not_lowest_start = (
+  λ is. is 4 (omega arith) refl,
+  λ is. omega (arith, ap or_none is.0),
+  λ is. omega (arith, is.1),
+  λ is. omega (arith, is.2 0 (omega arith) refl),
+)
+
+-- ---- the lowest block of some order at least
+
+abbrev block : ℕ → ℕ → FreeBlock
+block start order = record { start = start; order = order }
+
+lowest_listed : IsLowestListed three 0 1 (Some (block 2 1)) × IsLowestListed three 0 5 None
+lowest_listed = ((refl, omega arith, omega arith, omega arith, from_one), none_behind) where
+  from_one : (start larger : ℕ) → 0 ≤ larger → larger ≤ 9 → 1 ≤ start
+      → order_at three start ≡ Some larger → 2 ≤ start
+  from_one zero larger some few from e = absurd (omega (arith, from))
+  from_one (suc zero) larger some few from e = absurd cc
+  from_one (suc (suc k)) larger some few from e = omega arith
+
+  none_behind : (start larger : ℕ) → 0 ≤ larger → larger ≤ 9 → 5 ≤ start
+      → order_at three start ≡ Some larger → ⊥
+  none_behind zero larger some few from e = omega (arith, from)
+  none_behind (suc zero) larger some few from e = omega (arith, from)
+  none_behind (suc (suc zero)) larger some few from e = omega (arith, from)
+  none_behind (suc (suc (suc zero))) larger some few from e = omega (arith, from)
+  none_behind (suc (suc (suc (suc zero)))) larger some few from e = omega (arith, from)
+  none_behind (suc (suc (suc (suc (suc k))))) larger some few from e = cc
+
+-- none though there is one, another order than its own, too small a block, too large a one, one
+-- before the page, and one behind a larger one
+not_lowest_listed : (IsLowestListed three 1 2 None → ⊥)
+    × (IsLowestListed three 0 2 (Some (block 2 0)) → ⊥)
+    × (IsLowestListed three 1 0 (Some (block 0 0)) → ⊥)
+    × (IsLowestListed (Some 10 ∷ []) 0 0 (Some (block 0 10)) → ⊥)
+    × (IsLowestListed three 0 1 (Some (block 0 0)) → ⊥)
+    × (IsLowestListed three 0 2 (Some (block 4 0)) → ⊥)
+not_lowest_listed = (
+  λ is. is 2 1 (omega arith) (omega arith) (omega arith) refl,
+  λ is. omega (arith, ap or_none is.0),
+  λ is. omega (arith, is.1),
+  λ is. omega (arith, is.2),
+  λ is. omega (arith, is.3),
+  λ is. omega (arith, is.4 2 1 (omega arith) (omega arith) (omega arith) refl),
+)
+
+-- ---- blocks that lie side by side
+
+-- a pair; and not one with the page in its midst, nor half of a pair
+placed : IsPlaced (Some 1 ∷ None ∷ [])
+placed = record { blocks = pair; apart = apart } where
+  apart : (start order other k : ℕ) → order_at (Some 1 ∷ None ∷ []) start ≡ Some order
+      → start < other → other < start + 2 ^ order → order_at (Some 1 ∷ None ∷ []) other ≡ Some k → ⊥
+  apart zero order zero k e from to also = omega (arith, from)
+  apart zero order (suc zero) k e from to also = cc
+  apart zero order (suc (suc j)) k e from to also = cc
+  apart (suc zero) order other k e from to also = cc
+  apart (suc (suc i)) order other k e from to also = cc
+
+not_placed : (IsPlaced (Some 1 ∷ Some 0 ∷ []) → ⊥) × (IsPlaced (Some 1 ∷ []) → ⊥)
+not_placed = (
+  λ is. is.apart 0 1 1 0 refl (omega arith) (omega arith) refl,
+  λ is. omega (arith, is.blocks.fits 0 1 refl),
+)
+
+-- two pages that are no halves of a pair stay two blocks; two that are, and two pairs that are, don't
+merged : IsMerged (None ∷ Some 0 ∷ Some 0 ∷ [])
+merged zero order e also even few = cc
+merged (suc zero) order e also even few =
+    let odd : 1 % 2 ≡ 0 = subst (λ k. 1 % 2 ^ suc k ≡ 0) (sym (ap or_none e)) even in omega (arith, odd)
+merged (suc (suc zero)) order e also even few = none_behind order (sym (ap or_none e)) also where
+  none_behind : (order : ℕ) → order ≡ 0 → order_at (None ∷ Some 0 ∷ Some 0 ∷ []) (2 + 2 ^ order) ≡ Some order → ⊥
+  none_behind zero is also = cc
+  none_behind (suc k) is also = omega (arith, is)
+merged (suc (suc (suc k))) order e also even few = cc
+
+not_merged : (IsMerged (Some 0 ∷ Some 0 ∷ []) → ⊥) × (IsMerged (Some 1 ∷ None ∷ Some 1 ∷ None ∷ []) → ⊥)
+not_merged = (λ is. is 0 0 refl refl refl (omega arith), λ is. is 0 1 refl refl refl (omega arith))
+
+-- pages 4 and 5, and pages 6 and 7, are the halves of a block; no others are with pages 4 and 5
+buddies : IsBuddy 4 1 6 × IsBuddy 6 1 4
+buddies = (inl (refl, refl), inr ((λ e. omega (arith, e)), refl, refl))
+
+no_buddies : (IsBuddy 4 1 2 → ⊥) × (IsBuddy 4 1 5 → ⊥) × (IsBuddy 6 1 8 → ⊥) × (IsBuddy 2 1 4 → ⊥)
+no_buddies = (λ is. grind arith, λ is. grind arith, λ is. grind arith, λ is. grind arith)
+
+-- ---- room for a block
+
+-- pages 0 and 1 of a table in which page 2 is a block
+abbrev third : List (Option ℕ)
+third = None ∷ None ∷ Some 0 ∷ None ∷ []
+
+room : HasRoom third 0 1
+unfolding set_of is_covered
+room = record { bounded = omega arith; aligned = refl; fits = omega arith; outside = outside } where
+  outside : LiesOutside (set_of third) (block_at 0 1)
+  outside zero from to = refl
+  outside (suc zero) from to = refl
+  outside (suc (suc k)) from to = absurd (omega (arith, to))
+
+-- too large an order, pages 1 and 2, a page past the end, and pages of which one is in a block
+no_room : (HasRoom (replicate 1024 None) 0 10 → ⊥) × (HasRoom third 1 1 → ⊥) × (HasRoom third 4 0 → ⊥)
+    × (HasRoom third 2 1 → ⊥)
+unfolding set_of is_covered
+no_room = (
+  λ has. omega (arith, has.bounded),
+  λ has. omega (arith, has.aligned),
+  λ has. omega (arith, has.fits),
+  λ has. (let wrong : true ≡ false = has.outside 2 (omega arith) (omega arith) in cc),
+)
+
+-- ---- tables as the allocator keeps them
+
+-- one with a block in another, one with both halves of a block, and one of too many pages
+not_tiled : (IsTiled (Some 1 ∷ Some 0 ∷ []) → ⊥) × (IsTiled (Some 0 ∷ Some 0 ∷ []) → ⊥)
+    × ((table : List (Option ℕ)) → length table ≡ 262145 → IsTiled table → ⊥)
+not_tiled = (
+  λ is. not_placed.0 is.placed,
+  λ is. not_merged.0 is.merged,
+  λ table e is. omega (arith, e, is.small),
+)
