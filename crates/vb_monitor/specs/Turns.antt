@@ -110,8 +110,8 @@ ReadsInTurn regions kind d before (ReadWord at answer) =
 ReadsInTurn regions kind d before (CopyBytes at answer) =
     CopiesNext regions (ring_after (ring_of kind d) before) (known kind before) at answer
 ReadsInTurn regions kind d before Acquire =
-    (known kind before ≡ Unknown)
-    × (is_over before ≡ false) × IsPublished (index_read before) (ring_after (ring_of kind d) before)
+    (known kind before ≡ Unknown) × (is_over before ≡ false)
+    × IsPublished (index_read before) (ring_after (ring_of kind d) before)
 ReadsInTurn regions kind d before Release = Unit {0}
 ReadsInTurn regions kind d before Full = is_over before ≡ false
 ReadsInTurn regions kind d before (TellPages of runs named) = Unit {0}

@@ -85,8 +85,9 @@ pub fn a_notice_makes_few_accesses()
 /// What counts is read once: the index once a notice, first of all; behind it, and behind a chain
 /// that is given back, the entry that is taken next, if that index publishes it; then rows of its
 /// chain's descriptors, each from the number on that the one before named; and then each part of
-/// each piece, in order (VIRTIO 1.1, 2.6.5 and 2.6.6). A descriptor counts as it stands in the row that was copied last,
-/// so nothing is asked for again that this row has, whatever the guest makes of it.
+/// each piece, in order (VIRTIO 1.1, 2.6.5 and 2.6.6). A descriptor counts as it stands in the row
+/// that was copied last, so nothing is asked for again that this row has, whatever the guest makes
+/// of it.
 #[tactic(auto, using(crate::proofs::TurnLaws::reads_in_turn))]
 pub fn what_counts_is_read_once()
     ensures { (regions : List Region) (kind : Kind) (budget : Budget) (d1 d2 : Device)
