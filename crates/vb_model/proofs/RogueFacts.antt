@@ -59,6 +59,18 @@ any_bytes : (bytes : List ℕ) → HonestStep before (Scribble 17 0 (1 ∷ [])) 
     (record marked { contents = replicate 64 bytes })
 any_bytes bytes = search (arith, no_flag)
 
+-- but as many pages as there were, and it isn't honest any more
+abbrev NotLeft : Guest → Type 0
+NotLeft new = HonestStep before (Scribble 17 0 (1 ∷ [])) (Gave 20 ∷ []) Done new → ⊥
+
+no_other_sizes : NotLeft (record marked { contents = replicate 65 [] })
+    × NotLeft (record marked { contents = [] }) × NotLeft (record marked { rogue = false })
+no_other_sizes = (
+  λ s. differ 65 64 refl s.1.state.sizes.filled,
+  λ s. differ 0 64 refl s.1.state.sizes.filled,
+  λ s. (let e : false ≡ true = s.1.state.still in cc),
+)
+
 -- a claim that is refused is the answer, and the guest stays honest
 no_frame_for_a_scribble : StepsJustSo before (Scribble 17 0 (1 ∷ [])) (GaveNoFrame ∷ [])
     (Refused NoFrame) before

@@ -216,5 +216,9 @@ no_memory = (2, omega arith, two_is_not_out, refl)
 no_frame_before_no_memory : Gives 2 (λ x. x < 2) (GaveNoMemory ∷ []) → ⊥
 no_frame_before_no_memory g = g.2 g.1
 
-nothing_after_a_refused_claim : Gives 5 Out (GaveNoMemory ∷ Gave 2 ∷ []) → ⊥
-nothing_after_a_refused_claim g = let e : Gave 2 ∷ [] ≡ [] = g.3 in cc
+nothing_after_a_refused_claim : (Gives 5 Out (GaveNoMemory ∷ Gave 2 ∷ []) → ⊥)
+    × (Gives 0 Out (GaveNoFrame ∷ Gave 2 ∷ []) → ⊥)
+nothing_after_a_refused_claim = (
+  λ g. (let e : Gave 2 ∷ [] ≡ [] = g.3 in cc),
+  λ g. (let e : Gave 2 ∷ [] ≡ [] = g.1 in cc),
+)
