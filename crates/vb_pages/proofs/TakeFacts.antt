@@ -1,12 +1,13 @@
 -- Pages that are taken from the areas and the lists, worked out, and what is left.
 use Rattle.std.proofs.Common.{◌≡◌, ◌∙◌, ℕ, zero, suc, ◌^◌, ◌<◌, ◌≤◌, Bool, true, false, List, [], ◌∷◌}
 use Rattle.std.proofs.Common.{◌++◌, Some, None, ap, arith, length, refl, replicate, reverse}
-use Rattle.std.proofs.Common.{inl, inr, sym}
+use Rattle.std.proofs.Common.{inl, inr, sym, subst}
 use Rattle.std.proofs.lemmas.List.{length-reverse, reverse-reverse}
 use Rattle.std.proofs.{Math.Pow.pow-lt, lemmas.List.Sorted.{length_permutation, IsPermutation-refl}}
 use Rattle.vb_pages.specs.Areas.{has, with_pages, without_pages, block_at, LiesIn, IsChosen}
 use Rattle.vb_pages.specs.Areas.{HasNoBlock, TakesBlock}
 use Rattle.vb_pages.specs.FreePages.{FreePages, drained, TakesPages, Refills, Tries, Serves, IsSoundFree}
+use Rattle.vb_pages.specs.FreePages.{Pops, TakesSingle}
 use Rattle.vb_pages.proofs.AreaFacts.{six, free, pair, there_is_a_pair}
 use Rattle.vb_pages.proofs.ChoiceFacts.{spread, first_one, first_two, maximal_between, one_in}
 
@@ -88,6 +89,19 @@ not_filled = (
       sym (reverse-reverse r.rising) ∙ ap (λ (xs : List ℕ). reverse xs) (sym r.list_is) in
       let falls = r.sorted 0 0 (omega arith) (omega (arith, ap (λ (xs : List ℕ). length xs) e)) in
       grind (arith, e, falls)
+
+-- an empty list is filled, and then its last page comes out; and no page comes only where there is none
+single : TakesSingle (true ∷ []) [] (Some 0) (false ∷ []) []
+single = (0 ∷ [], fills_one, refl)
+
+no_single : (TakesSingle spread [] None spread [] → ⊥)
+    × ((new : List Bool) (page : ℕ) → TakesSingle [] [] (Some page) new (1 ∷ 2 ∷ 3 ∷ 4 ∷ 5 ∷ 6 ∷ 7 ∷ 8 ∷ []) → ⊥)
+    × (Pops [] None (1 ∷ []) → ⊥)
+no_single = (
+  λ s. not_filled.0 (subst (λ (list : List ℕ). Refills spread list spread) s.2.0 s.1),
+  λ new page s. not_filled.1 [] new s.0 (ap (λ (list : List ℕ). length list) s.2) s.1,
+  λ pops. omega (arith, ap (λ (list : List ℕ). length list) pops.1),
+)
 
 -- ---- a request is tried
 
