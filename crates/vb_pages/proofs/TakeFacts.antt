@@ -13,6 +13,7 @@ use Rattle.vb_pages.proofs.ChoiceFacts.{spread, first_one, first_two, maximal_be
 
 -- ---- single pages, one after the other
 
+-- none, and then pages 0 and 5
 takes_in_turn : (new : List Bool) → (TakesPages six [] new → new ≡ six)
     × (TakesPages spread (0 ∷ 5 ∷ []) new → new
     ≡ false ∷ false ∷ true ∷ true ∷ false ∷ false ∷ false ∷ false ∷ true ∷ true ∷ [])
@@ -46,6 +47,7 @@ one_page = ((0, chosen), refl) where
     lowest = λ c m e. omega arith;
   }
 
+-- the one page comes into the list
 fills_one : Refills (true ∷ []) (0 ∷ []) (false ∷ [])
 fills_one = record {
   taken = 0 ∷ [];
@@ -120,6 +122,7 @@ tries_page new t =
 abbrev areas_of : List Bool → FreePages
 areas_of set = record free { areas = set }
 
+-- pages 2 and 3 are a pair, and there is none in the other areas
 tries_pair : (new : FreePages) → (Tries (areas_of spread) 0 1 (Some 2) new
     → (new.areas ≡ true ∷ false ∷ false ∷ false ∷ false ∷ true ∷ false ∷ false ∷ true ∷ true ∷ [])
     × (new.lists ≡ free.lists) × (new.reserved ≡ 2))
@@ -204,6 +207,7 @@ serves_some start new = (undrained start new, then_drained start new) where
 
 -- ---- free pages as the allocator keeps them
 
+-- more than four lists, and more than 262,144 pages
 unsound : (IsSoundFree (record free { lists = replicate 5 [] }) → ⊥)
     × ((f : FreePages) → length f.areas ≡ 262145 → IsSoundFree f → ⊥)
 unsound = (λ s. omega (arith, s.few), λ f e s. omega (arith, e, s.small))
