@@ -2,3 +2,4 @@ pub mod Bits
 pub mod Levels
 pub mod Words
 mod SetFacts
+mod LevelFacts

@@ -41,6 +41,7 @@ device = record {
 abbrev saved : Device → Saved
 saved d = record { device = d; held = 0xffffffff }
 
+-- they fit: in settings, in a ring, and in the device with both
 settings_fit : FitsSettings settings
 settings_fit = record {
   memory_end = omega arith;

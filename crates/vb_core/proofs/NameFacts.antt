@@ -30,6 +30,7 @@ right_bytes = 16 ∷ 0 ∷ 0 ∷ 0 ∷ 63 ∷ 0 ∷ 0 ∷ 0 ∷ []
 abbrev wrong_bytes : List ℕ
 wrong_bytes = 16 ∷ 0 ∷ 0 ∷ 0 ∷ 15 ∷ 0 ∷ 0 ∷ 0 ∷ 63 ∷ 0 ∷ 0 ∷ 0 ∷ 64 ∷ 0 ∷ 0 ∷ 0 ∷ []
 
+-- the bytes are these numbers
 they_are : (numbers_of right_bytes ≡ right) × (numbers_of wrong_bytes ≡ wrong)
 unfolding numbers_of
 they_are = (refl, refl)
@@ -45,6 +46,7 @@ abbrev Tells : {E : Type 0} → List Run → List ℕ → Result Named E → Typ
 Tells runs ns (Ok named) = Tell (take named.runs runs) ns
 Tells runs ns (Err why) = ⊥
 
+-- two pages are named, none is skipped, and the request is taken
 two_named : (runs : List Run) (answer : Result Named ChainFault)
     → NamesRuns false 16 64 right runs answer
     → Counts 2 0 (told answer) × Tells runs right (told answer)
@@ -54,6 +56,7 @@ two_named runs (Ok named) n = let is = n.named refl in
     ((is.count, omega (arith, is.others)), is.told_so, refl)
 two_named runs (Err fault) n = absurd (n.named refl)
 
+-- where wrong numbers are skipped, two are
 two_skipped : (runs : List Run) (answer : Result Named ChainFault)
     → NamesRuns true 16 64 wrong runs answer
     → Counts 2 2 (told answer) × Tells runs right (told answer)
@@ -78,11 +81,13 @@ one_wrong runs answer = (
 
 -- ---- what is answered to bytes
 
+-- nothing is denied to them
 open_names : (name_denial Deflate 8 2 device ≡ None) × (name_denial Deflate 16 4 device ≡ None)
     × (name_denial Deflate 16 4 skipping ≡ None)
 unfolding lib.Count.ones
 open_names = (refl, refl, refl)
 
+-- so it is with the bytes of right numbers, and with those of wrong ones
 names_two : (runs : List Run) (d : Device) (result : Result Named Denial)
     → NamesBy Deflate right_bytes 2 runs device d result
     → Counts 2 0 result × Tells runs right result

@@ -23,6 +23,7 @@ found = Some (record { head = 3; pieces = 1; bytes = 4 })
 abbrev buffers : List ChainPiece
 buffers = record { address = 0x14000; length = 4; writable = 0 } ∷ []
 
+-- the request that stands next, and its piece
 reads_request : (out : List ChainPiece) (result : Result (Option NextChain) ChainFault)
     → ReadsNext Inflate 64 ring (avail 17) request out result
     → (result ≡ Ok found) × (take 1 out ≡ buffers)
@@ -30,6 +31,7 @@ reads_request out result n = let e = pops_request n.found n.pops in
     let is : result ≡ Ok found = n.answer ∙ ap (answer_to Inflate) e in
     (is, n.pieces_are (taken readable) e (ap (λ (r : Result (Option NextChain) ChainFault). is_ok r) is))
 
+-- no request, and an index that is too far ahead
 reads_none : (out : List ChainPiece) (result : Result (Option NextChain) ChainFault)
     → (ReadsNext Inflate 64 ring (avail 9) blank out result → result ≡ Ok None)
     × (ReadsNext Inflate 64 ring (avail 18) blank out result → result ≡ Err IndexJump)
@@ -38,6 +40,7 @@ reads_none out result = (
   λ n. n.answer ∙ ap (answer_to Inflate) ((pops_none n.found).1 n.pops),
 )
 
+-- nothing is denied
 open_next : next_denial Inflate 20 128 8 device ≡ None
 unfolding lib.Count.ones
 open_next = refl
@@ -65,6 +68,7 @@ reported = Some (record { head = 3; runs = 1; pages = 2 })
 abbrev run : Run
 run = record { first = 20; count = 2 }
 
+-- the report that stands next, and its run
 reads_report : (out : List Run) (result : Result (Option Reported) ChainFault)
     → ReadsReport 16 64 ring (avail 17) report out result
     → (result ≡ Ok reported) × (take 1 out ≡ run ∷ [])
@@ -77,6 +81,7 @@ reads_reserved : (out : List Run) (result : Result (Option Reported) ChainFault)
     → ReadsReport 21 64 ring (avail 17) report out result → result ≡ Err ReservedPage
 reads_reserved out result n = n.answer ∙ ap (report_of 21) (pops_report n.found n.pops)
 
+-- nothing is denied, with room for 32 runs
 open_report : report_denial 20 128 32 device ≡ None
 unfolding lib.Count.ones
 open_report = refl
@@ -89,6 +94,7 @@ report_is : (out : List Run) (d : Device) (result : Result (Option Reported) Den
 report_is out d result n = let r = n.reads open_report in let e = reads_report out r.0 r.1 in
     (r.2 ∙ ap (λ a. told a) e.0, e.1, r.3 ∙ ap (λ a. after_report a device) e.0)
 
+-- an index that is too far ahead breaks the device
 report_breaks : (out : List Run) (d : Device) (result : Result (Option Reported) Denial)
     → ReportsBy (avail 18) blank 32 out device d result
     → (result ≡ Err (Broken IndexJump)) × (d ≡ needing_reset device)

@@ -49,6 +49,7 @@ entries_are : (next_entry (copies_of 64 request (avail 17)) copied_layout 8 9 �
 unfolding byte_at field padded
 entries_are = (refl, refl, refl, refl)
 
+-- what descriptor 3 of either table says
 descriptors_are : (descriptor_at (copies_of 64 request (avail 17)) 0 3
     ≡ record { addr = 0x14000; len = 4; flags = 0; next = 0 })
     × (descriptor_at (copies_of 64 report (avail 17)) 0 3
@@ -89,6 +90,7 @@ one_piece d end x e last sound =
 abbrev pub taken : Piece → Taken
 taken piece = record { head = 3; chain = piece ∷ [] }
 
+-- the answer is the chain that stands next
 is_found : (found : Result (Option Taken) ChainFault) (piece : Piece)
     → IsOkAnd found (λ got. IsSomeAnd got (λ t. (t.head ≡ 3) × (t.chain ≡ piece ∷ [])))
     → found ≡ Ok (Some (taken piece))
@@ -96,6 +98,7 @@ is_found (Ok (Some t)) piece is = rw (is.0, is.1) refl
 is_found (Ok None) piece is = absurd is
 is_found (Err fault) piece is = absurd is
 
+-- a request and a report are popped
 pub pops_request : (found : Result (Option Taken) ChainFault)
     → PopsCopies 64 ring (avail 17) request found → found ≡ Ok (Some (taken readable))
 pops_request found pops = is_found found readable (pops.chain 3 (readable ∷ []) refl entries_are.0
@@ -106,6 +109,7 @@ pub pops_report : (found : Result (Option Taken) ChainFault)
 pops_report found pops = is_found found writable (pops.chain 3 (writable ∷ []) refl entries_are.1
     (one_piece (descriptor_at (copies_of 64 report (avail 17)) 0) 262144 _ descriptors_are.1 refl refl))
 
+-- nothing is where nothing stands, and where the index is too far ahead
 pub pops_none : (found : Result (Option Taken) ChainFault)
     → (PopsCopies 64 ring (avail 9) blank found → found ≡ Ok None)
     × (PopsCopies 64 ring (avail 18) blank found → found ≡ Err IndexJump)

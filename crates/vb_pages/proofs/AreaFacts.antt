@@ -1,5 +1,5 @@
 -- Sets of pages, processors' lists and blocks, worked out: of eight pages the first two are reserved.
-use Rattle.std.proofs.Common.{◌≡◌, ℕ, zero, suc, true, false, List, [], ◌∷◌, ◌++◌, map, slice_index}
+use Rattle.std.proofs.Common.{◌≡◌, ℕ, zero, suc, ◌<◌, ◌≤◌, true, false, List, [], ◌∷◌, ◌++◌, map, slice_index}
 use Rattle.std.{proofs.Common.{length, refl, arith, ap}, specs.Prelude.{Bool, Some, None}}
 use Rattle.{vb_model.specs.Pages.Block, vb_pages.specs.Held.blocks_of}
 use Rattle.vb_pages.specs.Areas.{block_at, with_pages, without_pages, unreserved, IsBlock, LiesIn}
@@ -157,3 +157,13 @@ free_and_held apart = omega (arith, apart 5)
 
 no_room : HasRoomFor free 4 1 → ⊥
 no_room room = (let wrong : true ≡ false = room.2 5 (omega arith) (omega arith) in absurd cc)
+
+-- nor is there for pages that are no block, or that lie past the end; for two that aren't free there is
+no_other_room : (HasRoomFor free 1 1 → ⊥) × (HasRoomFor free 8 0 → ⊥)
+no_other_room =
+    (λ room. (let wrong : false ≡ true = room.0.1 in absurd cc), λ room. omega (arith, room.1))
+
+room : HasRoomFor (record free { lists = [] }) 6 1
+room = ((omega arith, refl), omega arith, outside) where
+  outside : (page : ℕ) → 6 ≤ page → page < 8 → is_free_in (record free { lists = [] }) page ≡ false
+  outside page from to = grind arith

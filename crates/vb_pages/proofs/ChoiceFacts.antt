@@ -40,6 +40,7 @@ two_in : (set : List Bool) (start : ℕ) → IsTrue (has set start) → IsTrue (
     → LiesIn set (block_at start 1)
 two_in set start is also page from to = grind arith
 
+-- page 0, pages 2 and 3, and pages 8 and 9
 pub first_one : IsMaximal spread (block_at 0 0)
 first_one = maximal_between spread 0 0 (omega arith, refl) (one_in spread 0 refl)
     (λ lt. absurd (omega (arith, lt))) refl

@@ -43,6 +43,7 @@ refuses fault new a = (a.0, a.1, a.1.2, a.2)
 
 -- ---- single pages are taken
 
+-- none is taken, and the lists are drained all the same
 takes_free : (new : PageState) → TakesFree state [] new
     → (new.free.areas ≡ false ∷ false ∷ true ∷ true ∷ true ∷ true ∷ false ∷ true ∷ [])
     × (new.free.lists ≡ [] ∷ [] ∷ [] ∷ []) × (new.held ≡ block_at 6 0 ∷ []) × (new.free.reserved ≡ 2)
@@ -60,6 +61,7 @@ last_page = maximal_between (drained free).areas 7 0 (omega arith, refl)
 abbrev page_seven : FreeBlock
 page_seven = record { start = 7; order = 0 }
 
+-- page 7 leaves the areas, and nothing else changes but what is drained
 isolates : (new : PageState) → Isolates state 0 7 (Some page_seven) new
     → (new.free.areas ≡ false ∷ false ∷ true ∷ true ∷ true ∷ true ∷ false ∷ false ∷ [])
     × (new.free.lists ≡ [] ∷ [] ∷ [] ∷ []) × (new.held ≡ block_at 6 0 ∷ []) × (new.free.reserved ≡ 2)
@@ -87,6 +89,7 @@ isolates_no_other new = (
 
 -- ---- what the allocator keeps
 
+-- a page that is free and held, a count that isn't that of the areas, and a held page that is reserved
 not_kept : (IsKept free (record { pages = 8; blocks = block_at 5 0 ∷ [] }) → ⊥)
     × (IsKept free (record { pages = 7; blocks = [] }) → ⊥)
     × (IsKept free (record { pages = 8; blocks = block_at 1 0 ∷ [] }) → ⊥)

@@ -1,7 +1,7 @@
 -- Tables of blocks, the sets that stand for them, and their lowest blocks, worked out.
 use Rattle.std.proofs.Common.{◌≡◌, ℕ, zero, suc, ◌+◌, ◌%◌, ◌^◌, ◌<◌, ◌≤◌, Bool, true, false, List, [], ◌∷◌}
 use Rattle.std.proofs.Common.{Option, Some, None, ap, arith, length, refl, replicate, inl, inr}
-use Rattle.std.proofs.Common.{subst, sym}
+use Rattle.std.proofs.Common.{subst, sym, ◌∙◌, ◌++◌}
 use Rattle.vb_pages.specs.Table.{order_at, AreBlocks, set_of_order, sets_of, table_of, AreSetsOf}
 use Rattle.vb_pages.specs.Table.{IsLowestStart}
 use Rattle.vb_pages.specs.Tiles.{is_covered, set_of, IsPlaced, IsMerged, IsBuddy, HasRoom, IsTiled}
@@ -128,6 +128,11 @@ lowest_listed = ((refl, omega arith, omega arith, omega arith, from_one), none_b
   none_behind (suc (suc (suc (suc zero)))) larger some few from e = omega (arith, from)
   none_behind (suc (suc (suc (suc (suc k))))) larger some few from e = cc
 
+-- an order past 9 is no block's
+no_order_past_nine : IsLowestListed (Some 10 ∷ []) 0 0 None
+no_order_past_nine zero larger some few from e = omega (arith, few, ap or_none e)
+no_order_past_nine (suc k) larger some few from e = cc
+
 -- none though there is one, another order than its own, too small a block, too large a one, one
 -- before the page, and one behind a larger one
 not_lowest_listed : (IsLowestListed three 1 2 None → ⊥)
@@ -177,6 +182,30 @@ merged (suc (suc (suc k))) order e also even few = cc
 
 not_merged : (IsMerged (Some 0 ∷ Some 0 ∷ []) → ⊥) × (IsMerged (Some 1 ∷ None ∷ Some 1 ∷ None ∷ []) → ⊥)
 not_merged = (λ is. is 0 0 refl refl refl (omega arith), λ is. is 0 1 refl refl refl (omega arith))
+
+-- each block has order 9
+abbrev AreLargest : List (Option ℕ) → Type 0
+AreLargest [] = Unit {0}
+AreLargest (None ∷ table) = AreLargest table
+AreLargest (Some order ∷ table) = (order ≡ 9) × AreLargest table
+
+largest_at : (table : List (Option ℕ)) → AreLargest table → (start order : ℕ)
+    → order_at table start ≡ Some order → order ≡ 9
+largest_at [] are start order e = absurd cc
+largest_at (None ∷ table) are zero order e = absurd cc
+largest_at (Some k ∷ table) are zero order e = sym (ap or_none e) ∙ are.0
+largest_at (None ∷ table) are (suc start) order e = largest_at table are start order e
+largest_at (Some k ∷ table) are (suc start) order e = largest_at table are.1 start order e
+
+-- two of the largest blocks side by side stay two
+largest_stay : IsMerged (Some 9 ∷ replicate 511 None ++ Some 9 ∷ replicate 511 None)
+largest_stay start order e also even few =
+    omega (
+      arith,
+      few,
+      largest_at (Some 9 ∷ replicate 511 None ++ Some 9 ∷ replicate 511 None)
+          (refl, (refl, tt)) start order e,
+    )
 
 -- pages 4 and 5, and pages 6 and 7, are the halves of a block; no others are with pages 4 and 5
 buddies : IsBuddy 4 1 6 × IsBuddy 6 1 4

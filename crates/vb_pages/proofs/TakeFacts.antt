@@ -1,17 +1,19 @@
 -- Pages that are taken from the areas and the lists, worked out, and what is left.
 use Rattle.std.proofs.Common.{◌≡◌, ◌∙◌, ℕ, zero, suc, ◌^◌, ◌<◌, ◌≤◌, Bool, true, false, List, [], ◌∷◌}
 use Rattle.std.proofs.Common.{◌++◌, Some, None, ap, arith, length, refl, replicate, reverse}
-use Rattle.std.proofs.Common.{inl, inr, sym}
+use Rattle.std.proofs.Common.{inl, inr, sym, subst}
 use Rattle.std.proofs.lemmas.List.{length-reverse, reverse-reverse}
 use Rattle.std.proofs.{Math.Pow.pow-lt, lemmas.List.Sorted.{length_permutation, IsPermutation-refl}}
 use Rattle.vb_pages.specs.Areas.{has, with_pages, without_pages, block_at, LiesIn, IsChosen}
 use Rattle.vb_pages.specs.Areas.{HasNoBlock, TakesBlock}
 use Rattle.vb_pages.specs.FreePages.{FreePages, drained, TakesPages, Refills, Tries, Serves, IsSoundFree}
+use Rattle.vb_pages.specs.FreePages.{Pops, TakesSingle}
 use Rattle.vb_pages.proofs.AreaFacts.{six, free, pair, there_is_a_pair}
 use Rattle.vb_pages.proofs.ChoiceFacts.{spread, first_one, first_two, maximal_between, one_in}
 
 -- ---- single pages, one after the other
 
+-- none, and then pages 0 and 5
 takes_in_turn : (new : List Bool) → (TakesPages six [] new → new ≡ six)
     × (TakesPages spread (0 ∷ 5 ∷ []) new → new
     ≡ false ∷ false ∷ true ∷ true ∷ false ∷ false ∷ false ∷ false ∷ true ∷ true ∷ [])
@@ -45,6 +47,7 @@ one_page = ((0, chosen), refl) where
     lowest = λ c m e. omega arith;
   }
 
+-- the one page comes into the list
 fills_one : Refills (true ∷ []) (0 ∷ []) (false ∷ [])
 fills_one = record {
   taken = 0 ∷ [];
@@ -89,6 +92,19 @@ not_filled = (
       let falls = r.sorted 0 0 (omega arith) (omega (arith, ap (λ (xs : List ℕ). length xs) e)) in
       grind (arith, e, falls)
 
+-- an empty list is filled, and then its last page comes out; and no page comes only where there is none
+single : TakesSingle (true ∷ []) [] (Some 0) (false ∷ []) []
+single = (0 ∷ [], fills_one, refl)
+
+no_single : (TakesSingle spread [] None spread [] → ⊥)
+    × ((new : List Bool) (page : ℕ) → TakesSingle [] [] (Some page) new (1 ∷ 2 ∷ 3 ∷ 4 ∷ 5 ∷ 6 ∷ 7 ∷ 8 ∷ []) → ⊥)
+    × (Pops [] None (1 ∷ []) → ⊥)
+no_single = (
+  λ s. not_filled.0 (subst (λ (list : List ℕ). Refills spread list spread) s.2.0 s.1),
+  λ new page s. not_filled.1 [] new s.0 (ap (λ (list : List ℕ). length list) s.2) s.1,
+  λ pops. omega (arith, ap (λ (list : List ℕ). length list) pops.1),
+)
+
 -- ---- a request is tried
 
 rest_is : (rest : List ℕ) → 3 ∷ 4 ∷ [] ≡ rest ++ 4 ∷ [] → rest ≡ 3 ∷ []
@@ -106,6 +122,7 @@ tries_page new t =
 abbrev areas_of : List Bool → FreePages
 areas_of set = record free { areas = set }
 
+-- pages 2 and 3 are a pair, and there is none in the other areas
 tries_pair : (new : FreePages) → (Tries (areas_of spread) 0 1 (Some 2) new
     → (new.areas ≡ true ∷ false ∷ false ∷ false ∷ false ∷ true ∷ false ∷ false ∷ true ∷ true ∷ [])
     × (new.lists ≡ free.lists) × (new.reserved ≡ 2))
@@ -190,6 +207,7 @@ serves_some start new = (undrained start new, then_drained start new) where
 
 -- ---- free pages as the allocator keeps them
 
+-- more than four lists, and more than 262,144 pages
 unsound : (IsSoundFree (record free { lists = replicate 5 [] }) → ⊥)
     × ((f : FreePages) → length f.areas ≡ 262145 → IsSoundFree f → ⊥)
 unsound = (λ s. omega (arith, s.few), λ f e s. omega (arith, e, s.small))

@@ -5,4 +5,5 @@ pub mod OneRequest
 pub mod Reports
 pub mod LastStatistics
 mod NumberFacts
+mod RequestFacts
 pub mod Chains

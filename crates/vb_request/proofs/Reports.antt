@@ -12,7 +12,7 @@ use Rattle.vb_chain.specs.declared.pieces.Piece.{Piece}
 use Rattle.vb_chain.specs.declared.fault.ChainFault.{ChainFault, TheVariants.WrongDirection}
 use Rattle.vb_request.specs.Report.{pages_of_piece, pages_of_pieces, piece_fault, first_piece_fault}
 use Rattle.vb_request.specs.{Report.report_request, Request.{first_of_both, unless_fault}}
-use Rattle.std.specs.Prelude.{◌≡◌, ℕ, suc, ◌+◌, ◌*◌, ◌/◌, ◌%◌, ◌<◌, ◌≤◌, Bool, true, false, not}
+use Rattle.std.specs.Prelude.{◌≡◌, ℕ, suc, ◌+◌, ◌*◌, ◌/◌, ◌%◌, ◌<◌, ◌≤◌, Bool, false, not}
 
 pub piece_length : (piece : Piece) → length (pages_of_piece piece) ≡ piece.len / 4096
 piece_length piece = length-range_with_len (piece.addr / 4096) (piece.len / 4096)

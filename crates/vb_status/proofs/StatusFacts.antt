@@ -12,7 +12,7 @@ use Rattle.vb_status.specs.declared.bits.StatusFault.TheVariants.{VersionMissing
 use Rattle.vb_status.specs.After.{after_status}
 use Rattle.vb_status.specs.Answers.{refusal_of_fault, answered_refusal}
 use Rattle.vb_status.specs.Agreement.{Agreement, Write, Negotiate, refusal_of_request, after_request}
-use Rattle.vb_status.specs.Agreement.{Leads, unplugged, changes, outcome, initialisation, initialised}
+use Rattle.vb_status.specs.Agreement.{Leads, unplugged, AreSteps, changes, outcome, initialisation, initialised}
 
 -- ---- what a write leaves of a device that has something in each queue
 
@@ -95,6 +95,22 @@ leads_nowhere_else way = omega (arith, ap (λ (a : Agreement). a.status) way.1)
 
 leads_over_no_refusal : Leads unplugged (Write 2 ∷ []) (at 2 0) → ⊥
 leads_over_no_refusal way = (let refused : Some OutOfOrder ≡ None = way.0 in absurd cc)
+
+-- requests that only add, whatever they negotiate; and a write of 0, or of a bit that there isn't,
+-- first, behind another, and behind what is negotiated
+steps : AreSteps (Write 1 ∷ Negotiate 0 ∷ Write 255 ∷ []) × AreSteps []
+steps = (((λ e. omega (arith, e)), omega arith, ((λ e. omega (arith, e)), omega arith, tt)), tt)
+
+not_steps : (AreSteps (Write 0 ∷ []) → ⊥) × (AreSteps (Write 256 ∷ []) → ⊥)
+    × (AreSteps (Write 1 ∷ Write 0 ∷ []) → ⊥) × (AreSteps (Negotiate 1 ∷ Write 0 ∷ []) → ⊥)
+    × (AreSteps (Write 1 ∷ Negotiate 0 ∷ Write 256 ∷ []) → ⊥)
+not_steps = (
+  λ are. are.0 refl,
+  λ are. omega (arith, are.1),
+  λ are. are.2.0 refl,
+  λ are. are.0 refl,
+  λ are. omega (arith, are.2.1),
+)
 
 changed : changes 1 (Write 1 ∷ Negotiate 9 ∷ Write 3 ∷ Write 3 ∷ Write 1 ∷ []) ≡ 3 ∷ 1 ∷ []
 changed = refl
