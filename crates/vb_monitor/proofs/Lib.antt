@@ -38,6 +38,8 @@ mod TellingFacts
 mod AskingFacts
 mod PartsOfRunsFacts
 mod MachineFacts
+mod AheadFacts
+mod AheadToldFacts
 mod GivingFacts
 mod ChainFacts
 mod TableRowFacts
