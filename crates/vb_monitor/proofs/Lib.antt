@@ -46,6 +46,7 @@ mod TableRowFacts
 mod LookFacts
 mod WholeFacts
 mod TwoFacts
+mod StatisticsFacts
 pub mod LargeLemmas
 pub mod LargeRows
 pub mod LargeLaws
