@@ -41,6 +41,7 @@ mod MachineFacts
 mod AheadFacts
 mod AheadToldFacts
 mod GivingFacts
+mod HoleFacts
 mod ChainFacts
 mod TableRowFacts
 mod LookFacts
