@@ -22,6 +22,7 @@ mod NoticeFacts
 mod OrderFacts
 pub mod PlaceLemmas
 mod PlaceFacts
+mod LieFacts
 mod RestoreFacts
 pub mod TurnLemmas
 pub mod NamedLemmas
