@@ -47,12 +47,14 @@ mod ChainFacts
 mod TableRowFacts
 mod LookFacts
 mod WholeFacts
+mod NamedFacts
 mod TwoFacts
 mod StatisticsFacts
 pub mod LargeLemmas
 pub mod LargeRows
 pub mod LargeLaws
 mod LargeFacts
+mod LargeWaitFacts
 mod WholeReportFacts
 mod KeepsFacts
 mod UsualFacts
