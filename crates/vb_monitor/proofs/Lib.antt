@@ -23,6 +23,7 @@ mod OrderFacts
 pub mod PlaceLemmas
 mod PlaceFacts
 mod LieFacts
+mod BalloonFacts
 mod RestoreFacts
 pub mod TurnLemmas
 pub mod NamedLemmas
