@@ -265,6 +265,15 @@ interrupting h = let e : Same 1 0 = h.interrupt in omega arith
 with_more : HasEnded (record over { more = 1 }) 7 → ⊥
 with_more h = let e : Same 1 0 = h.more in omega arith
 
+at_a_phase : HasEnded (record over { phase = 1 }) 7 → ⊥
+at_a_phase h = let e : Same 1 0 = h.phase in omega arith
+
+by_a_rule : HasEnded (record over { rule = 3 }) 7 → ⊥
+by_a_rule h = let e : Same 3 0 = h.rule in omega arith
+
+with_a_change : HasEnded (record over { configuration = 1 }) 7 → ⊥
+with_a_change h = let e : Same 1 0 = h.configuration in omega arith
+
 -- ---- the buffer that is held
 
 abbrev outcome : Outcome

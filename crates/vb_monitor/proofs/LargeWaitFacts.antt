@@ -5,7 +5,7 @@ use Rattle.std.specs.Prelude.{◌||◌}
 use Rattle.std.proofs.lemmas.Bool.{cases_order}
 use Rattle.vb_core.specs.Ballooned.{is_ballooned}
 use Rattle.vb_monitor.specs.declared.{large.Large.Large, cuts.Cut.Cut, regions.Region.Region}
-use Rattle.vb_monitor.specs.Large.{GoesWith, RowGoes, outside, all_wait, LargeBy, AreWholePages}
+use Rattle.vb_monitor.specs.Large.{Begins, Here, After, Stops, Behind, Before, GoesWith, RowGoes, outside, all_wait, LargeBy, AreWholePages}
 use Rattle.vb_monitor.proofs.{Samples.Same, LargeLemmas.{between_is, between_says}}
 
 -- four large pages of 16 KiB from page 16 on
@@ -189,3 +189,34 @@ stands_within_one h = let e : Same 0x2000 0 = h.in_file in omega arith
 
 past_its_end : AreWholePages 0x4000 region (cut 0xc000 0x8000) → ⊥
 past_its_end h = absurd (omega (arith, h.inside))
+
+-- ---- the ends of a row: it begins at the first large page where that goes, and behind it where it
+-- doesn't; it ends behind the last one where that goes, and before it where it doesn't
+
+begins_here : Begins (Unit {0}) 5 5
+begins_here = Here refl tt
+
+begins_after : Begins ⊥ 5 6
+begins_after = After refl (λ goes. goes)
+
+not_after_one_that_goes : Begins (Unit {0}) 5 6 → ⊥
+not_after_one_that_goes (Here e goes) = let other : Same 6 5 = e in omega arith
+not_after_one_that_goes (After e none) = none tt
+
+not_at_one_that_waits : Begins ⊥ 5 5 → ⊥
+not_at_one_that_waits (Here e goes) = goes
+not_at_one_that_waits (After e none) = let is : Same 5 6 = e in omega arith
+
+stops_behind : Stops (Unit {0}) 5 6
+stops_behind = Behind refl tt
+
+stops_before : Stops ⊥ 5 5
+stops_before = Before refl (λ goes. goes)
+
+not_before_one_that_goes : Stops (Unit {0}) 5 5 → ⊥
+not_before_one_that_goes (Behind e goes) = let other : Same 5 6 = e in omega arith
+not_before_one_that_goes (Before e none) = none tt
+
+not_behind_one_that_waits : Stops ⊥ 5 6 → ⊥
+not_behind_one_that_waits (Behind e goes) = goes
+not_behind_one_that_waits (Before e none) = let is : Same 6 5 = e in omega arith

@@ -1,5 +1,5 @@
 -- Memory that stays as it is, its copies, and what is done as is answered to them, worked out.
-use Rattle.std.proofs.Common.{◌≡◌, ◌≢◌, ◌∙◌, refl, ap, arith, ◌+◌, ◌*◌, ◌<◌, zero, suc, length, ℕ, false, true, List, [], ◌∷◌, ◌++◌, Option, Some, None, Ok, Err}
+use Rattle.std.proofs.Common.{◌≡◌, ◌≢◌, ◌∙◌, refl, ap, arith, length-append, ◌+◌, ◌*◌, ◌<◌, zero, suc, length, ℕ, false, true, List, [], ◌∷◌, ◌++◌, Option, Some, None, Ok, Err}
 use Rattle.vb_core.specs.declared.device.Denial.{Denial, TheVariants.{NotReady, NeedsReset, Broken}}
 use Rattle.vb_core.specs.declared.{device.Device.Device, kinds.Kind.TheVariants.{Inflate, Statistics}}
 use Rattle.vb_chain.specs.declared.fault.ChainFault.TheVariants.{OutOfRam}
