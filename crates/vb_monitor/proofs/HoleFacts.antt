@@ -15,7 +15,7 @@ use Rattle.vb_monitor.specs.{Ends.{Whole, Ends, FlagsAt}, Pieces.{PartAt}}
 use Rattle.vb_monitor.specs.Giving.{Then, with_given, after_use, UsedAt, GivesBack, GivesBackBy}
 use Rattle.vb_monitor.specs.Chains.{TableRow, RowAt}
 use Rattle.vb_monitor.specs.Notices.{EntryAt, TakesChain, AfterEntry}
-use Rattle.vb_monitor.proofs.Samples.{Same, two, at, ring, ready, tally, descriptor, part, id, used_length, flags}
+use Rattle.vb_monitor.proofs.Samples.{Same, two, at, ring, ready, tally, descriptor, part, id, used_length}
 use Rattle.vb_monitor.proofs.AheadFacts.{over, ends}
 
 abbrev none : Then
