@@ -2,16 +2,16 @@
 use Rattle.std.proofs.Common.{◌≡◌, ◌∙◌, refl, ap, subst, sym, arith, ℕ, ◌++◌, true, false, List, []}
 use Rattle.std.{proofs.Common.{◌∷◌, length, Option, Some, None}, specs.Option.unwrap_or}
 use Rattle.vb_core.{specs.declared.kinds.Kind.Kind, specs.declared.device.Device.Device}
-use Rattle.vb_core.specs.declared.kinds.Kind.TheVariants.{Inflate, Deflate}
-use Rattle.vb_monitor.specs.declared.{outcome.Outcome.Outcome, notice.Notice.Notice}
+use Rattle.vb_core.specs.declared.kinds.Kind.TheVariants.{Inflate, Deflate, Statistics}
+use Rattle.vb_monitor.specs.declared.{outcome.{Outcome.Outcome, Budget.Budget}, notice.Notice.Notice}
 use Rattle.vb_monitor.specs.{declared.step.Phase.TheVariants.{AwaitsFlags, Ended}, Accesses.Access}
 use Rattle.vb_monitor.specs.{Accesses.{ReadWord, Full}, Ends.wants_interrupt, Machine.{Room, Ahead}}
 use Rattle.vb_monitor.specs.{Machine.whole, Orders.at_once, declared.balloon.Balloon.Balloon}
 use Rattle.vb_c.specs.declared.notice.{VbNotice.VbNotice, VbRoom.VbRoom}
 use Rattle.vb_c.{specs.Codes.code_of_kind, specs.Notices.{tally_of, notice_of}}
-use Rattle.vb_c.specs.Serving.{room_in, HandsOver, with_device, Begins, GoesOn, held_then}
+use Rattle.vb_c.specs.Serving.{room_in, HandsOver, with_device, Begins, BeginsIf, GoesOn, held_then}
 use Rattle.vb_c.proofs.HandingFacts.{spot, shown, nothing, at_index, handed}
-use Rattle.vb_c.proofs.Samples.{Same, two, begun, balloon}
+use Rattle.vb_c.proofs.Samples.{Same, two, begun, ready, balloon}
 
 abbrev room : VbRoom
 room = record { pieces = []; bytes = []; runs = []; figures = []; cuts = [] }
@@ -89,6 +89,82 @@ of_nothing h =
     (subst (λ (k : Kind). Ahead (whole two k begun nothing_came) first.step h.device (room_in room)
     (at_once h.hands.asked k shown.orders [] [] [] read_index)) h.kind_is
     (h.hands.step begun nothing_came [] [] [] read_index read))
+
+-- ---- of a queue that may be looked at, all that its notice may do may come
+
+abbrev eight : Budget
+eight = record { chains = 8; pages = 256; keeps = false }
+
+abbrev driven : Balloon
+driven = record { device = ready; held = 0 }
+
+abbrev BeginsOf : Kind → VbRoom → Type 0
+BeginsOf kind then = BeginsIf true two kind eight driven driven room then shown
+
+handed_of_none : HandsOver at_index two [] driven driven [] shown
+handed_of_none = record {
+  asked = nothing;
+  notice = at_index;
+  is = record { read = refl; says = tt; what = refl };
+  kind_is = refl;
+  step = λ after outcome pieces bytes figures rest h. h;
+  room = record { runs = λ e. cc; figures = λ e. cc; cuts = omega arith };
+  kept = λ e. absurd cc;
+  waits_now = refl;
+  fills = record { full = λ e. absurd (grind arith) };
+  fits = tt;
+  held = refl;
+}
+
+begins_with_the_index : BeginsOf Inflate room
+unfolding lib.Count.ones
+begins_with_the_index = record {
+  first = at_index;
+  device = ready;
+  kind_is = refl;
+  step = λ after outcome room log h. h;
+  hands = handed_of_none;
+  room = refl;
+}
+
+of_another_queue : BeginsOf Deflate room → ⊥
+of_another_queue h =
+    let read : Same 0 (kind_code h.hands.notice) =
+    ap kind_code (handed_is at_index h.first (with_device h.device driven) driven shown refl h.hands) in
+    let first : Same (kind_code h.hands.notice) (kind_code h.first) =
+    ap (λ (k : Kind). code_of_kind (Some k)) h.hands.kind_is in
+    let e : Same (kind_code h.first) 1 = ap (λ (k : Kind). code_of_kind (Some k)) h.kind_is in
+    omega (arith, read, first, e)
+
+room_changed : BeginsOf Inflate (record room { bytes = 1 ∷ [] }) → ⊥
+room_changed h = let e : Same 1 0 = ap (λ (r : Room). length r.bytes) h.room in omega arith
+
+-- one that may not be looked at does nothing, with code 1
+not_begun : BeginsIf false two Statistics eight balloon balloon room room (record shown { what = 0; phase = 0; code = 1 })
+not_begun = record {
+  ended = record {
+    what = refl;
+    phase = refl;
+    code_is = refl;
+    rule = refl;
+    interrupt = refl;
+    configuration = refl;
+    more = refl;
+  };
+  balloon = refl;
+  room = refl;
+}
+
+begun_all_the_same : BeginsIf false two Statistics eight balloon balloon room room shown → ⊥
+begun_all_the_same h = let e : Same 64 0 = h.ended.what in omega arith
+
+with_another_code : BeginsIf false two Statistics eight balloon balloon room room
+    (record shown { what = 0; phase = 0; code = 4 }) → ⊥
+with_another_code h = let e : Same 4 1 = h.ended.code_is in omega arith
+
+room_changed_then : (c : VbNotice) →
+    BeginsIf false two Statistics eight balloon balloon room (record room { bytes = 1 ∷ [] }) c → ⊥
+room_changed_then c h = let e : Same 1 0 = ap (λ (r : VbRoom). length r.bytes) h.room in omega arith
 
 -- ---- a notice that goes on: the flags were read, and it ends
 

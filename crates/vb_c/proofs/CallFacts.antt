@@ -1,6 +1,8 @@
 -- What the calls of a device answer in C, worked out: each refusal, and what it leaves.
-use Rattle.std.proofs.Common.{refl, ap, arith, ℕ, List, [], ◌∷◌, Some, None, Ok, Err}
+use Rattle.std.proofs.Common.{refl, ap, arith, ℕ, zero, suc, List, [], ◌∷◌, ◌++◌, Some, None, Ok, Err}
 use Rattle.vb_core.{specs.declared.kinds.Kind.TheVariants.Inflate, specs.Rings.used_entry}
+use Rattle.vb_core.{specs.declared.statistics.Statistic.Statistic, specs.Statistics.AreFigures}
+use Rattle.vb_c.specs.declared.answers.VbFigures.{VbFigures}
 use Rattle.vb_core.specs.declared.device.Denial.TheVariants.{NoQueue, BadArgument, Misplaced}
 use Rattle.vb_core.{specs.declared.device.Device.Device, specs.Devices.{new_device, placed}}
 use Rattle.vb_c.specs.declared.answers.{VbChain.VbChain, VbNamed.VbNamed, VbUsed.VbUsed}
@@ -87,6 +89,61 @@ not_counted h = let e : Same 0 1 = ap (λ (d : Device). d.inflate.next_used) (h.
 figures_although_refused : SaysFigures (0 ∷ []) 102 [] ready (changed ready) (figures_of (Err BadArgument)) → ⊥
 unfolding lib.Count.ones
 figures_although_refused h = let e : Same 1 0 = ap target_of (h.denied BadArgument refl).1 in omega arith
+
+-- two of them, ten bytes each: a tag of two and a value of eight
+abbrev figure : ℕ → Statistic
+figure tag = record { tag = tag; value = 7 }
+
+abbrev bytes_of : ℕ → List ℕ
+bytes_of tag = tag ∷ 0 ∷ 7 ∷ 0 ∷ 0 ∷ 0 ∷ 0 ∷ 0 ∷ 0 ∷ 0 ∷ []
+
+abbrev both : List ℕ
+both = bytes_of 4 ++ bytes_of 5
+
+abbrev figures : List Statistic
+figures = figure 4 ∷ figure 5 ∷ []
+
+are_both : AreFigures both figures
+are_both zero d lt = refl
+are_both (suc zero) d lt = refl
+are_both (suc (suc k)) d lt = absurd (omega (arith, lt))
+
+abbrev taken : Device
+taken = record ready { statistics = record (ready.statistics) { next_avail = 1 } }
+
+abbrev counts : ℕ → VbFigures
+counts n = record { code = 0; rule = 0; count = n }
+
+two_figures : SaysFigures both 2 figures ready taken (counts 2)
+unfolding lib.Count.ones
+two_figures = record { denied = λ why e. absurd cc; taken = λ e. (refl, are_both, refl) }
+
+-- room for one is too little
+no_room : (d : Device) → SaysFigures both 1 figures ready d (counts 2) → ⊥
+unfolding lib.Count.ones
+no_room d h = let e : Same 0 7 = ap (λ (f : VbFigures). f.code) (h.denied BadArgument refl).0 in omega arith
+
+one_counted : (d : Device) → SaysFigures both 2 figures ready d (counts 1) → ⊥
+unfolding lib.Count.ones
+one_counted d h = let e : Same 1 2 = ap (λ (f : VbFigures). f.count) (h.taken refl).0 in omega arith
+
+refused_all_the_same : (d : Device) → SaysFigures both 2 figures ready d (figures_of (Err BadArgument)) → ⊥
+unfolding lib.Count.ones
+refused_all_the_same d h = let e : Same 7 0 = ap (λ (f : VbFigures). f.code) (h.taken refl).0 in omega arith
+
+exchanged : (d : Device) → SaysFigures both 2 (figure 5 ∷ figure 4 ∷ []) ready d (counts 2) → ⊥
+unfolding lib.Count.ones
+exchanged d h =
+    let e : Same 5 4 = ap (λ (s : Statistic). s.tag) ((h.taken refl).1 0 (figure 0) (omega arith)) in omega arith
+
+second_left_out : (d : Device) → SaysFigures both 2 (figure 4 ∷ []) ready d (counts 2) → ⊥
+unfolding lib.Count.ones
+second_left_out d h =
+    let e : Same 0 5 = ap (λ (s : Statistic). s.tag) ((h.taken refl).1 1 (figure 0) (omega arith)) in omega arith
+
+not_taken : SaysFigures both 2 figures ready ready (counts 2) → ⊥
+unfolding lib.Count.ones
+not_taken h = let e : Same 0 1 = ap (λ (d : Device). d.statistics.next_avail) (h.taken refl).2 in omega arith
 
 -- ---- a start
 

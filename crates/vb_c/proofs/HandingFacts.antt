@@ -1,5 +1,5 @@
 -- Which notices are handed over to C, and which aren't.
-use Rattle.std.proofs.Common.{◌≡◌, ◌∙◌, refl, ap, sym, arith, ℕ, ◌+◌, ◌*◌, Bool, true, false, [], Option, Some, None}
+use Rattle.std.proofs.Common.{◌≡◌, ◌∙◌, refl, ap, sym, arith, ℕ, ◌+◌, ◌*◌, ◌≤◌, Bool, true, false, [], Option, Some, None}
 use Rattle.vb_core.specs.declared.{kinds.Kind.{Kind, TheVariants.{Inflate, Deflate}}, name.Named.Named}
 use Rattle.vb_monitor.specs.declared.{regions.Spot.Spot, orders.Orders.Orders}
 use Rattle.vb_monitor.specs.declared.orders.{Told.{Told, TheVariants.{Nothing, Pages, Figures}}, Asked.Asked}
@@ -8,7 +8,7 @@ use Rattle.vb_monitor.specs.declared.step.Phase.TheVariants.{AwaitsEntry, Awaits
 use Rattle.vb_monitor.specs.declared.step.Phase.TheVariants.{AwaitsPart, TellsPages, TellsFigures}
 use Rattle.vb_monitor.specs.declared.step.Phase.TheVariants.{Discards, GivesBack, AwaitsFlags}
 use Rattle.vb_monitor.specs.declared.step.Phase.{TheVariants.Ended, Phase}
-use Rattle.vb_monitor.specs.{declared.balloon.Balloon.Balloon, Machine.{stage, waits, is_ended}}
+use Rattle.vb_monitor.specs.{declared.balloon.Balloon.Balloon, Machine.{Fits, row_bytes, stage, waits, is_ended}}
 use Rattle.vb_c.specs.declared.notice.{VbNotice.VbNotice, VbRoom.VbRoom}
 use Rattle.vb_model.specs.Tests.{one_if}
 use Rattle.vb_c.specs.{Notices.{tally_of, told_bits, asked_bits, answer_bits, what_of}, Serving.{held_then, Refuses}, Served.telling_pages}
@@ -100,6 +100,34 @@ too_many_parts n b1 b2 h = let e = h.room.cuts in omega (arith, e)
 -- what is of no kind is no notice
 of_no_kind : (n : Notice) (b1 b2 : Balloon) → HandsOver n two [] b1 b2 [] (record shown { kind = 4 }) → ⊥
 of_no_kind n b1 b2 h = let e = h.is.read in absurd cc
+
+-- bytes that are to be copied have room: 1,024 of them, and no more
+abbrev copying : ℕ → VbNotice
+copying into = record shown { what = 128; phase = 4; length = 4; into = into }
+
+abbrev ends_in : Phase → ℕ
+ends_in (AwaitsPart at place) = place.into + place.length
+ends_in (AwaitsDescriptor at walk) = row_bytes walk
+ends_in phase = 0
+
+at_most : (phase : Phase) → Fits phase → ends_in phase ≤ 1024
+at_most (AwaitsPart at place) fits = fits
+at_most (AwaitsDescriptor at walk) fits = fits
+at_most (AwaitsIndex at) fits = omega arith
+at_most (AwaitsEntry at) fits = omega arith
+at_most (TellsPages head named) fits = omega arith
+at_most (TellsFigures head count) fits = omega arith
+at_most (Discards cut x) fits = omega arith
+at_most (GivesBack spots entry) fits = omega arith
+at_most (AwaitsFlags at why more) fits = omega arith
+at_most (Ended why interrupt more) fits = omega arith
+
+has_room : (n : Notice) (b1 b2 : Balloon) (c : VbNotice) → (h : HandsOver n two [] b1 b2 [] c) →
+    ends_in h.notice.step.phase ≤ 1024
+has_room n b1 b2 c h = at_most h.notice.step.phase h.fits
+
+past_the_room : (n : Notice) (b1 b2 : Balloon) → HandsOver n two [] b1 b2 [] (copying 1021) → ⊥
+past_the_room n b1 b2 h = let e = h.is.read in absurd cc
 
 abbrev held_in : Option Notice → Balloon → ℕ
 held_in None b = 0

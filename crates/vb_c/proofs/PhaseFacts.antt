@@ -12,7 +12,7 @@ use Rattle.vb_monitor.specs.declared.step.Phase.TheVariants.{AwaitsDescriptor, A
 use Rattle.vb_monitor.specs.declared.step.Phase.TheVariants.{AwaitsFlags, Ended}
 use Rattle.vb_c.specs.{declared.notice.VbNotice.VbNotice, Codes.code_of_kind, Notices.tally_of}
 use Rattle.vb_c.specs.Notices.{walk_of, phase_of, notice_of, end_code, end_rule, breaks, SaysEnd, Says}
-use Rattle.vb_c.specs.{Notices.{IsNotice, HasEnded}, Serving.{held_by, held_then}}
+use Rattle.vb_c.specs.{Notices.{SameElse, IsNotice, HasEnded}, Serving.{held_by, held_then}}
 use Rattle.vb_c.proofs.Samples.{Same, balloon}
 
 abbrev spot : Spot
@@ -125,6 +125,39 @@ tells_nothing h = let e : Same 64 65 = h.what in omega arith
 of_another_kind : IsNotice notice (record { told = Nothing; gives = false }) (record at_index { kind = Statistics }) → ⊥
 of_another_kind h = let e : Same 0 2 = ap kind_in h.read in omega arith
 
+-- nor another end than the notice's
+abbrev at_end : Notice
+at_end = record at_index { step = record (at_index.step) { phase = Ended (Some (Broken TooLong)) true false } }
+
+abbrev shows_end : ℕ → VbNotice
+shows_end configuration = record notice { what = 0; phase = 0; configuration = configuration }
+
+end_is_said : IsNotice (shows_end 1) (record { told = Nothing; gives = false }) at_end
+end_is_said = record {
+  read = refl;
+  says = record { code = refl; rule = refl; interrupt_is = refl; configuration = refl; more_is = refl };
+  what = refl;
+}
+
+end_half_said : IsNotice (shows_end 0) (record { told = Nothing; gives = false }) at_end → ⊥
+end_half_said h = let e : Same 0 1 = h.says.configuration in omega arith
+
+-- what is set beside the notice leaves what was served, the queue, and what needs no answer
+nothing_else : SameElse notice (record notice { what = 0; phase = 0; at = none_at; code = 1; interrupt = 0; flag = 0; head = 1 })
+nothing_else = (refl, refl, refl)
+
+another_tally : SameElse notice (record notice { chains_left = 8 }) → ⊥
+another_tally h = let e : Same 8 9 = ap (λ (t : Tally). t.chains) h.0 in omega arith
+
+buffer_forgotten : SameElse notice (record notice { taken = 0 }) → ⊥
+buffer_forgotten h = let e = ap (λ (t : Tally). t.held) h.0 in absurd cc
+
+another_queue : SameElse notice (record notice { kind = 2 }) → ⊥
+another_queue h = let e : Same 2 0 = h.1 in omega arith
+
+another_order : SameElse notice (record notice { orders = record orders { cuts = 1 } }) → ⊥
+another_order h = let e : Same 1 0 = ap (λ (o : Orders). o.cuts) h.2 in omega arith
+
 -- 16 bytes of each descriptor, in front
 abbrev walk : ℕ → Walk
 walk behind = record { head = 11; count = 12; writing = true; first = 5; behind = behind }
@@ -231,6 +264,15 @@ interrupting h = let e : Same 1 0 = h.interrupt in omega arith
 
 with_more : HasEnded (record over { more = 1 }) 7 → ⊥
 with_more h = let e : Same 1 0 = h.more in omega arith
+
+at_a_phase : HasEnded (record over { phase = 1 }) 7 → ⊥
+at_a_phase h = let e : Same 1 0 = h.phase in omega arith
+
+by_a_rule : HasEnded (record over { rule = 3 }) 7 → ⊥
+by_a_rule h = let e : Same 3 0 = h.rule in omega arith
+
+with_a_change : HasEnded (record over { configuration = 1 }) 7 → ⊥
+with_a_change h = let e : Same 1 0 = h.configuration in omega arith
 
 -- ---- the buffer that is held
 

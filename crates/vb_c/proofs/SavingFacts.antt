@@ -1,9 +1,9 @@
 -- What saving, restoring and targets answer in C, worked out.
-use Rattle.std.proofs.Common.{refl, ap, arith, inl, inr, ℕ, List, [], ◌∷◌}
+use Rattle.std.proofs.Common.{◌≡◌, ◌∙◌, refl, ap, sym, arith, Result, Ok, Err, inl, inr, ℕ, List, [], ◌∷◌}
 use Rattle.vb_model.specs.Balance.{Need}
 use Rattle.vb_balance.specs.Serving.{StillServe}
 use Rattle.vb_core.{specs.declared.device.Device.Device, specs.declared.saved.Saved.Saved}
-use Rattle.vb_core.specs.declared.saved.StateDenial.TheVariants.{BadLength}
+use Rattle.vb_core.{specs.declared.saved.StateDenial.{StateDenial, TheVariants.BadLength}, specs.Saved.restored}
 use Rattle.vb_c.{specs.Saving.{Saves, Restores}, specs.Sharing.TellsServing}
 use Rattle.vb_c.proofs.Samples.{Same, begun}
 
@@ -30,6 +30,34 @@ held_by_nothing h = let e : Same 0 4 = (h.denied BadLength refl).2 in omega arit
 
 restored_from_nothing : (d : Device) (held : ℕ) → Restores [] begun d 4 held 0 → ⊥
 restored_from_nothing d held h = let e : Same 0 9 = (h.denied BadLength refl).0 in omega arith
+
+-- bytes that are a state, whatever they are: the device is theirs, and so is the buffer that is held
+abbrev device_in : Result Saved StateDenial → Device
+device_in (Ok s) = s.device
+device_in (Err why) = begun
+
+abbrev held_in : Result Saved StateDenial → ℕ
+held_in (Ok s) = s.held
+held_in (Err why) = 0
+
+restored_so : (bytes : List ℕ) (s : Saved) → restored bytes ≡ Ok s → Restores bytes begun s.device 4 s.held 0
+restored_so bytes s e = record {
+  denied = λ why f. absurd cc;
+  restored_so = λ t f. let same = sym e ∙ f in (refl, ap device_in same, ap held_in same);
+}
+
+refused_all_the_same : (bytes : List ℕ) (s : Saved) (d : Device) (held : ℕ) → restored bytes ≡ Ok s →
+    Restores bytes begun d 4 held 9 → ⊥
+refused_all_the_same bytes s d held e h = let code : Same 9 0 = (h.restored_so s e).0 in omega arith
+
+device_stays : (bytes : List ℕ) (held : ℕ) → restored bytes ≡ Ok (record { device = record begun { target = 1 }; held = 5 }) →
+    Restores bytes begun begun 4 held 0 → ⊥
+device_stays bytes held e h =
+    let same : Same 0 1 = ap (λ (d : Device). d.target) (h.restored_so _ e).1 in omega arith
+
+buffer_stays : (bytes : List ℕ) (d : Device) → restored bytes ≡ Ok (record { device = begun; held = 5 }) →
+    Restores bytes begun d 4 4 0 → ⊥
+buffer_stays bytes d e h = let same : Same 4 5 = (h.restored_so _ e).2 in omega arith
 
 -- an answer of targets is 0 or 1, and only one of both
 no_other_answer : (needs : List Need) (frames : ℕ) (targets : List ℕ) → TellsServing needs frames targets 2 → ⊥

@@ -20,6 +20,8 @@ mod NoticeFacts
 mod OrderFacts
 pub mod PlaceLemmas
 mod PlaceFacts
+mod LieFacts
+mod BalloonFacts
 mod RestoreFacts
 pub mod TurnEnds
 pub mod TurnLemmas
@@ -38,16 +40,22 @@ mod TellingFacts
 mod AskingFacts
 mod PartsOfRunsFacts
 mod MachineFacts
+mod AheadFacts
+mod AheadToldFacts
 mod GivingFacts
+mod HoleFacts
 mod ChainFacts
 mod TableRowFacts
 mod LookFacts
 mod WholeFacts
+mod NamedFacts
 mod TwoFacts
+mod StatisticsFacts
 pub mod LargeLemmas
 pub mod LargeRows
 pub mod LargeLaws
 mod LargeFacts
+mod LargeWaitFacts
 mod WholeReportFacts
 mod KeepsFacts
 mod UsualFacts

@@ -101,6 +101,22 @@ to_the_end = omega arith
 past_the_end : Fits (AwaitsPart (at 0x400) (record place { into = 1021 })) → ⊥
 past_the_end h = let e : 1025 ≤ 1024 = h in omega (arith, e)
 
+-- a row has as much, though it stands in front; of runs there are 256 at most, and of figures 102
+rows_fit : Fits (AwaitsDescriptor (at 0x30) (record walk { behind = 63 }))
+rows_fit = omega arith
+
+as_many_runs : Fits (TellsPages 3 (record named { runs = 256; pages = 300; skipped = 300 }))
+as_many_runs = omega arith
+
+one_run_more : Fits (TellsPages 3 (record named { runs = 257; pages = 1 })) → ⊥
+one_run_more h = let e : 257 ≤ 256 = h in omega (arith, e)
+
+as_many_figures : Fits (TellsFigures 3 102)
+as_many_figures = omega arith
+
+one_figure_more : Fits (TellsFigures 3 103) → ⊥
+one_figure_more h = let e : 103 ≤ 102 = h in omega (arith, e)
+
 -- ---- the parts that are left
 
 -- the first of two pieces lies over the end of a page

@@ -1,10 +1,11 @@
 -- Pages that one region alone has, worked out.
-use Rattle.std.proofs.Common.{◌≡◌, refl, arith, length, true, false, List, [], ◌∷◌, ap, Some, None}
+use Rattle.std.proofs.Common.{◌≡◌, refl, arith, ℕ, ◌+◌, length, true, false, List, [], ◌∷◌, ap, Some, None}
 use Rattle.vb_core.specs.declared.runs.Run.{Run}
 use Rattle.vb_monitor.specs.declared.{regions.Region.Region, sole.Sole.Sole, cuts.Cut.Cut}
 use Rattle.vb_monitor.specs.declared.cuts.NextCut.{NextCut}
 use Rattle.vb_monitor.specs.{Regions.cuts_of, Sole.{LiesIn, lies_in, lying, has_page, all_but, sole_of}}
-use Rattle.vb_monitor.{specs.Sole.{sole_cut, sole_at, HasPages, IsSole}, proofs.Samples.low}
+use Rattle.vb_monitor.{specs.Sole.{sole_cut, sole_at, HasPages, IsSole}, proofs.{Samples.{Same, low}, SoleLemmas.sole_so}}
+use Rattle.vb_monitor.specs.declared.regions.TheConstants.{FILE_LIMIT}
 
 -- pages 22 to 31, which stand from 0x100000 on in a file
 abbrev high : Region
@@ -79,6 +80,48 @@ shared h =
 -- a region's pages begin where it does
 begins_elsewhere : HasPages (record of_high { first = 21 }) → ⊥
 begins_elsewhere h = absurd (omega (arith, h.guest))
+
+-- nor behind where memory or a file may end
+abbrev to_the_limits : Sole
+to_the_limits = record of_high { in_file = FILE_LIMIT; end = 0x100000000 }
+
+up_to_both : HasPages to_the_limits
+up_to_both = record { guest = omega arith; file = omega arith; below = omega arith }
+
+past_memory : HasPages (record to_the_limits { end = 0x100000001 }) → ⊥
+past_memory h = absurd (omega (arith, h.below))
+
+past_the_file : HasPages (record to_the_limits { in_file = FILE_LIMIT + 1 }) → ⊥
+past_the_file h = absurd (omega (arith, h.file))
+
+-- a region of two that no other overlaps
+is_alone : IsSole (record of_high { region = 1 }) (low ∷ high ∷ [])
+is_alone = (sole_so (low ∷ high ∷ []) 1 low (record of_high { region = 1 }) (omega arith) refl refl refl).1
+
+abbrev first_region : List Cut → ℕ
+first_region [] = 9
+first_region (c ∷ cs) = c.region
+
+abbrev first_in_file : List Cut → ℕ
+first_in_file [] = 9
+first_in_file (c ∷ cs) = c.in_file
+
+of_another_region : IsSole of_high (low ∷ high ∷ []) → ⊥
+of_another_region h = let e : Same 1 0 = ap first_region (h.parts last last_lies) in omega arith
+
+of_another_file : IsSole (record of_high { in_file = 0x200000 }) (high ∷ []) → ⊥
+of_another_file h = let e : Same 0x108000 0x208000 = ap first_in_file (h.parts last last_lies) in omega arith
+
+-- one that is none of them, though it would have no page
+no_region : IsSole (record of_high { region = 1; first = 32 }) (high ∷ []) → ⊥
+no_region h = absurd (omega (arith, h.is_one))
+
+begins_before_it : IsSole (record of_high { first = 21 }) (high ∷ []) → ⊥
+begins_before_it h = begins_elsewhere h.pages
+
+-- the regions behind it have none of its pages
+shared_with_one_behind : IsSole of_high (high ∷ low ∷ high ∷ []) → ⊥
+shared_with_one_behind h = let e = h.no_more last last_lies in absurd cc
 
 -- ---- which region has pages alone
 

@@ -1,12 +1,15 @@
 -- Memory that stays as it is, its copies, and what is done as is answered to them, worked out.
-use Rattle.std.proofs.Common.{◌≡◌, ◌∙◌, refl, ap, arith, length, length-append, ℕ, false, true, List, [], ◌∷◌, ◌++◌, Option, Some, None, Ok, Err}
-use Rattle.vb_core.specs.declared.device.Denial.{Denial, TheVariants.{NotReady, NeedsReset}}
-use Rattle.vb_core.specs.declared.{device.Device.Device, kinds.Kind.TheVariants.Inflate}
-use Rattle.vb_core.specs.declared.{report.Reported.Reported}
-use Rattle.vb_monitor.specs.{Accesses.{Access, ReadWord, CopyBytes, Acquire, TellPages}, Ends.Whole}
-use Rattle.vb_monitor.specs.{Machine.whole, Still.{bytes_from, Holds, Stays, IsMapped, avail_copy}}
+use Rattle.std.proofs.Common.{◌≡◌, ◌≢◌, ◌∙◌, refl, ap, arith, length-append, ◌+◌, ◌*◌, ◌<◌, zero, suc, length, ℕ, false, true, List, [], ◌∷◌, ◌++◌, Option, Some, None, Ok, Err}
+use Rattle.vb_core.specs.declared.device.Denial.{Denial, TheVariants.{NotReady, NeedsReset, Broken}}
+use Rattle.vb_core.specs.declared.{device.Device.Device, kinds.Kind.TheVariants.{Inflate, Statistics}}
+use Rattle.vb_chain.specs.declared.fault.ChainFault.TheVariants.{OutOfRam}
+use Rattle.vb_core.specs.declared.{report.Reported.Reported, next.{NextChain.NextChain, ChainPiece.ChainPiece}}
+use Rattle.vb_core.specs.{Next.pieces_in, Devices.with_one_taken}
+use Rattle.vb_monitor.specs.{Regions.spot, declared.outcome.Outcome.Outcome}
+use Rattle.vb_monitor.specs.{Accesses.{Access, ReadWord, CopyBytes, Acquire, TellPages, TellFigures}, Ends.Whole}
+use Rattle.vb_monitor.specs.{Machine.{whole, serves}, Still.{bytes_from, Holds, Stays, IsMapped, avail_copy}}
 use Rattle.vb_monitor.specs.Still.{table_copy, Behind, DoesAs, ReportsAs, bytes_of, ArePartsMapped}
-use Rattle.vb_monitor.proofs.Samples.{Same, two, at, ring, ready, tally, index, discard, page_5, one_page, pages}
+use Rattle.vb_monitor.proofs.Samples.{Same, two, at, ring, ready, tally, index, discard, page_5, one_page, pages, piece}
 
 -- each byte is the lowest of its address; all are 0
 abbrev own : ℕ → ℕ
@@ -90,6 +93,21 @@ behind_it_a_hole : ArePartsMapped two
     (record { address = 0x400; plus = 4; length = 4 } ∷ record { address = 0x14ffc; plus = 4; length = 4 } ∷ []) → ⊥
 behind_it_a_hole h = h.1.0 refl
 
+-- all of eight descriptors, the last one of which ends where the hole begins
+each_there : (k : ℕ) → k < 8 → spot two (0x14f80 + 16 * k) 16 ≢ None
+each_there zero lt = λ e. absurd cc
+each_there (suc zero) lt = λ e. absurd cc
+each_there (suc (suc zero)) lt = λ e. absurd cc
+each_there (suc (suc (suc zero))) lt = λ e. absurd cc
+each_there (suc (suc (suc (suc zero)))) lt = λ e. absurd cc
+each_there (suc (suc (suc (suc (suc zero))))) lt = λ e. absurd cc
+each_there (suc (suc (suc (suc (suc (suc zero)))))) lt = λ e. absurd cc
+each_there (suc (suc (suc (suc (suc (suc (suc zero))))))) lt = λ e. absurd cc
+each_there (suc (suc (suc (suc (suc (suc (suc (suc k)))))))) lt = absurd (omega (arith, lt))
+
+mapped : IsMapped two (record ring { table = 0x14f80; avail = 0x14ffa })
+mapped = record { index = λ e. absurd cc; entry = λ e. absurd cc; descriptors = each_there }
+
 -- ---- what is done
 
 abbrev over : Option Denial → Device → Whole
@@ -126,6 +144,62 @@ joined (x ∷ xs) rest e f = absurd cc
 
 behind_nothing : Behind Rest [] → ⊥
 behind_nothing h = joined h.read h.rest h.all h.is
+
+-- a chain is served by its own pieces: the first of these, so many
+abbrev chain : ℕ → NextChain
+chain pieces = record { head = 3; pieces = pieces; bytes = 0 }
+
+abbrev in_the_hole : ChainPiece
+in_the_hole = record { address = 0x15000; length = 4; writable = 0 }
+
+abbrev short : ChainPiece
+short = record { address = 0x400; length = 3; writable = 0 }
+
+served : DoesAs (Ok (Some (chain 1))) (in_the_hole ∷ short ∷ [])
+    (over (Some (Broken OutOfRam)) (record ready { status = 79 })) tally ready (index ∷ Acquire ∷ [])
+unfolding pieces_in
+served = record {
+  read = index ∷ Acquire ∷ [];
+  rest = [];
+  all = refl;
+  is = record { nothing = refl; device = refl; outcome = refl };
+}
+
+unserved_in : (w : Whole) (read rest : List Access) → [] ≡ read ++ rest →
+    serves (record w { regions = two; kind = Inflate }) tally ready 3 (piece ∷ []) rest → ⊥
+unserved_in w [] rest e h = let f = h.asks in absurd cc
+unserved_in w (x ∷ xs) rest e h = absurd cc
+
+unserved : (w : Whole) → DoesAs (Ok (Some (chain 1))) (record short { length = 4 } ∷ [])
+    (record w { regions = two; kind = Inflate }) tally ready [] → ⊥
+unfolding pieces_in
+unserved w h = unserved_in w h.read h.rest h.all h.is
+
+-- its head counts, which a buffer of statistics is held by
+abbrev holds : ℕ → Whole
+holds head = whole two Statistics (with_one_taken Statistics ready) (record {
+  tally = record tally { held = Some head };
+  why = None;
+  interrupt = false;
+  more = false;
+})
+
+held : DoesAs (Ok (Some (chain 0))) (short ∷ []) (holds 3) tally ready (index ∷ TellFigures [] ∷ [])
+unfolding pieces_in lib.Count.ones
+held = record {
+  read = index ∷ [];
+  rest = TellFigures [] ∷ [];
+  all = refl;
+  is = record {
+    figures = [];
+    are = λ k d lt. absurd (omega (arith, lt));
+    tells = record { rest = []; asks = refl; ends = record { nothing = refl; device = refl; outcome = refl } };
+  };
+}
+
+of_another_head : DoesAs (Ok (Some (chain 0))) (short ∷ []) (holds 4) tally ready (index ∷ TellFigures [] ∷ []) → ⊥
+unfolding pieces_in lib.Count.ones
+of_another_head h = let e = ap (λ (o : Outcome). o.tally.held) h.is.tells.ends.outcome in absurd cc
 
 -- ---- reports
 

@@ -1,0 +1,173 @@
+-- Parts of a ring that lie in a hole of memory, worked out: what is there isn't read or written, and
+-- the guest broke a rule.
+use Rattle.std.proofs.Common.{refl, ℕ, ap, arith, true, false, List, [], ◌∷◌, None, Some, Bool}
+use Rattle.vb_chain.specs.declared.fault.ChainFault.{ChainFault}
+use Rattle.vb_chain.specs.declared.fault.ChainFault.TheVariants.{BadHead, BadNext, OutOfRam}
+use Rattle.vb_chain.specs.declared.pieces.Piece.{Piece}
+use Rattle.vb_core.specs.declared.kinds.Kind.TheVariants.{Inflate}
+use Rattle.vb_core.specs.declared.ring.Virtqueue.{Virtqueue}
+use Rattle.vb_core.specs.declared.device.{Device.Device, Denial.TheVariants.{Broken, BadArgument, NotReady}}
+use Rattle.vb_core.specs.{Rings.used_entry, Devices.needing_reset}
+use Rattle.vb_monitor.specs.declared.parts.Part.{Part}
+use Rattle.vb_monitor.specs.declared.outcome.{Tally.Tally, Outcome.Outcome}
+use Rattle.vb_monitor.specs.Accesses.{Access, ReadWord, CopyBytes, Acquire, Full, WriteNumber}
+use Rattle.vb_monitor.specs.{Ends.{Whole, Ends, FlagsAt}, Pieces.{PartAt}}
+use Rattle.vb_monitor.specs.Giving.{Then, with_given, after_use, UsedAt, GivesBack, GivesBackBy}
+use Rattle.vb_monitor.specs.Chains.{TableRow, RowAt}
+use Rattle.vb_monitor.specs.Notices.{EntryAt, TakesChain, AfterEntry}
+use Rattle.vb_monitor.proofs.Samples.{Same, two, at, ring, ready, tally, descriptor, part, id, used_length}
+use Rattle.vb_monitor.proofs.AheadFacts.{over, ends}
+
+abbrev none : Then
+none = λ d t log. ⊥
+
+-- a device whose inflate queue is this one
+abbrev with : Virtqueue → Device
+with r = record ready { inflate = r }
+
+abbrev broken : Device → ChainFault → Whole
+broken d fault = over Inflate (needing_reset d) (ends tally (Some (Broken fault)) false false)
+
+-- ---- the flags: the one part whose hole breaks no rule, since no interrupt is wanted then
+
+-- the last two bytes before the hole, and those behind them
+abbrev given : Tally
+given = with_given tally
+
+abbrev in_the_hole : Device
+in_the_hole = with (record ring { avail = 0x15000 })
+
+flags_before_it : Ends (over Inflate (with (record ring { avail = 0x14ffe })) (ends given None true false))
+    (with (record ring { avail = 0x14ffe })) given None false (Full ∷ ReadWord (at 0x14ffe) 0 ∷ [])
+flags_before_it = record {
+  flags = 0;
+  rest = [];
+  asks = refl;
+  then_stops = record { nothing = refl; device = refl; outcome = refl };
+}
+
+no_flags : Ends (over Inflate in_the_hole (ends given (Some NotReady) false true)) in_the_hole given (Some NotReady) true []
+no_flags = record { nothing = refl; device = refl; outcome = refl }
+
+flags_all_the_same : (w : Whole) (x : Access) (rest : List Access) → FlagsAt w ready given None false None (x ∷ rest) → ⊥
+flags_all_the_same w x rest h = let e = h.nothing in absurd cc
+
+interrupts_all_the_same : FlagsAt (over Inflate ready (ends given None true false)) ready given None false None [] → ⊥
+interrupts_all_the_same h = let e = ap (λ (o : Outcome). o.interrupt) h.outcome in absurd cc
+
+breaks_all_the_same : (o : Outcome) → FlagsAt (over Inflate (needing_reset ready) o) ready given None false None [] → ⊥
+breaks_all_the_same o h = let e : Same 79 15 = ap (λ (d : Device). d.status) h.device in omega arith
+
+says_why : FlagsAt (over Inflate ready (ends given None false false)) ready given (Some NotReady) false None [] → ⊥
+says_why h = let e = ap (λ (o : Outcome). o.why) h.outcome in absurd cc
+
+says_more : FlagsAt (over Inflate ready (ends given None false false)) ready given None true None [] → ⊥
+says_more h = let e = ap (λ (o : Outcome). o.more) h.outcome in absurd cc
+
+-- ---- the entry
+
+-- an entry that stands last before the hole, and one behind it
+abbrev eighth : Virtqueue
+eighth = record ring { avail = 0x14fec; next_avail = 7 }
+
+last_entry : TakesChain (broken (with eighth) BadHead) none (with eighth) tally (Acquire ∷ ReadWord (at 0x14ffe) 8 ∷ [])
+last_entry = record {
+  head = 8;
+  rest = [];
+  asks = refl;
+  goes_on = record { nothing = refl; device = refl; outcome = refl };
+}
+
+abbrev behind : Virtqueue
+behind = record eighth { avail = 0x14fee }
+
+no_entry : TakesChain (broken (with behind) OutOfRam) none (with behind) tally []
+no_entry = record { nothing = refl; device = refl; outcome = refl }
+
+entry_all_the_same : (w : Whole) (next : Then) (x : Access) (rest : List Access) →
+    EntryAt w next ready tally None (x ∷ rest) → ⊥
+entry_all_the_same w next x rest h = let e = h.nothing in absurd cc
+
+-- ---- heads: 7 is the last one of eight
+
+seventh : AfterEntry (broken ready BadNext) none ready tally 7
+    (CopyBytes (at 0x70) (0 ∷ 4 ∷ 0 ∷ 0 ∷ 0 ∷ 0 ∷ 0 ∷ 0 ∷ 4 ∷ 0 ∷ 0 ∷ 0 ∷ 1 ∷ 0 ∷ 8 ∷ 0 ∷ []) ∷ [])
+seventh = record {
+  bytes = 0 ∷ 4 ∷ 0 ∷ 0 ∷ 0 ∷ 0 ∷ 0 ∷ 0 ∷ 4 ∷ 0 ∷ 0 ∷ 0 ∷ 1 ∷ 0 ∷ 8 ∷ 0 ∷ [];
+  rest = [];
+  asks = refl;
+  long = refl;
+  goes_on = record { nothing = refl; device = refl; outcome = refl };
+}
+
+seventh_refused : (w : Whole) → AfterEntry (record w { regions = two; kind = Inflate }) none ready tally 7 [] → ⊥
+seventh_refused w h = let e = h.asks in absurd cc
+
+eighth_followed : (w : Whole) (x : Access) (rest : List Access) →
+    AfterEntry (record w { regions = two; kind = Inflate }) none ready tally 8 (x ∷ rest) → ⊥
+eighth_followed w x rest h = let e = h.nothing in absurd cc
+
+-- ---- descriptors and parts
+
+abbrev On : TableRow → ℕ → Bool → List Piece → List Access → Type 0
+On row n writing pieces log = ⊥
+
+no_descriptor : RowAt (broken ready OutOfRam) ready tally On (λ pieces log. ⊥) 3 0 false [] None []
+no_descriptor = record { nothing = refl; device = refl; outcome = refl }
+
+descriptor_all_the_same : (w : Whole) (rest : List Access) →
+    RowAt w ready tally On (λ pieces log. ⊥) 3 0 false [] None (descriptor ∷ rest) → ⊥
+descriptor_all_the_same w rest h = let e = h.nothing in absurd cc
+
+abbrev a_part : Part
+a_part = record { address = 0x400; plus = 0; length = 4 }
+
+part_all_the_same : (w : Whole) (rest : List Access) →
+    PartAt w (λ bytes log. Unit {0}) ready tally a_part [] None (part ∷ rest) → ⊥
+part_all_the_same w rest h = let e = h.nothing in absurd cc
+
+no_part : PartAt (broken ready OutOfRam) (λ bytes log. ⊥) ready tally a_part [] None []
+no_part = record { nothing = refl; device = refl; outcome = refl }
+
+part_of_another_rule : PartAt (broken ready BadNext) (λ bytes log. ⊥) ready tally a_part [] None [] → ⊥
+part_of_another_rule h = let e = ap (λ (o : Outcome). o.why) h.outcome in absurd cc
+
+-- ---- used elements: the chain was used up, though nothing is written
+
+abbrev used_behind : Device
+used_behind = with (record ring { used = 0x14ff8 })
+
+not_given : GivesBack (broken (after_use Inflate used_behind) OutOfRam) none used_behind tally 3 []
+unfolding lib.Count.ones
+not_given = record { nothing = refl; device = refl; outcome = refl }
+
+written_all_the_same : (w : Whole) (x : Access) (rest : List Access) →
+    UsedAt w (λ log. Unit {0}) ready tally (used_entry ring 3) None (x ∷ rest) → ⊥
+written_all_the_same w x rest h = let e = h.nothing in absurd cc
+
+given_all_the_same : (d : Device) →
+    UsedAt (over Inflate d (ends given (Some (Broken OutOfRam)) false false)) (λ log. Unit {0}) ready tally (used_entry ring 3) None [] → ⊥
+given_all_the_same d h = let e = ap (λ (o : Outcome). o.tally.given) h.outcome in absurd cc
+
+-- ---- uses that are refused
+
+refused : GivesBackBy (Some NotReady) (over Inflate ready (ends tally (Some NotReady) false false)) none ready tally 3 []
+refused = record { nothing = refl; device = refl; outcome = refl }
+
+refused_and_written : (w : Whole) → GivesBackBy (Some NotReady) w none ready tally 3 (id ∷ used_length ∷ []) → ⊥
+refused_and_written w h = let e = h.nothing in absurd cc
+
+for_another_reason : GivesBackBy (Some NotReady) (over Inflate ready (ends tally (Some BadArgument) false false)) none ready tally 3 [] → ⊥
+for_another_reason h = let e = ap (λ (o : Outcome). o.why) h.outcome in absurd cc
+
+abbrev written_at : List Access → ℕ
+written_at (WriteNumber at n ∷ xs) = at.offset
+written_at xs = 0
+
+-- the second element's place for the first
+second_element : (w : Whole) (rest : List Access) → GivesBackBy None (record w { regions = two; kind = Inflate }) none ready
+    tally 3 (WriteNumber (at 0x20c) 3 ∷ rest) → ⊥
+second_element w rest h = let e : Same 0x20c 0x204 = ap written_at h.asks in omega arith
+
+nothing_written : (w : Whole) → GivesBackBy None (record w { regions = two; kind = Inflate }) none ready tally 3 [] → ⊥
+nothing_written w h = let e = h.asks in absurd cc
