@@ -6,8 +6,12 @@ use Rattle.vb_script.specs.{Numbers.{IsDigit, IsDecimal, IsByteWord, ShowsBits},
 
 -- `0` and `9` are digits, and their neighbours `/` and `:` aren't
 digits : IsDigit 48 × IsDigit 57 × (IsDigit 47 → ⊥) × (IsDigit 58 → ⊥)
-digits = ((omega arith, omega arith), (omega arith, omega arith), λ is. omega (arith, is.0),
-    λ is. omega (arith, is.1))
+digits = (
+  (omega arith, omega arith),
+  (omega arith, omega arith),
+  λ is. omega (arith, is.0),
+  λ is. omega (arith, is.1),
+)
 
 -- one digit is enough; no word without one, and none with another byte, first or last
 decimals : IsDecimal (codes "0") × IsDecimal (codes "09")
