@@ -1,3 +1,4 @@
 pub mod Spares
 pub mod Shares
 mod PolicyFacts
+mod ShareFacts

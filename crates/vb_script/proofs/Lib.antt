@@ -7,5 +7,6 @@ pub mod Ranged
 pub mod Speaking
 pub mod ThreadsFacts
 mod EventFacts
+mod NumberFacts
 pub mod WordLemmas
 pub mod ByLength

@@ -2,7 +2,7 @@
 use Rattle.{std.proofs.Common.{◌≡◌, ◌≢◌, ℕ}, vb_device.specs.Own.has, vb_shared.specs.Rule.view_of}
 use Rattle.std.proofs.Common.{◌||◌, Bool, true, false, List, [], ◌∷◌, map, refl, ap, arith, ne_eqb}
 use Rattle.vb_shared.specs.{Rule.{holding, pass, count, count_all, IsTied}, declared.rule.Size.Size}
-use Rattle.vb_shared.specs.Rule.{IsKept, FrameRule, TryClaim, PutBack, Look, word_after, held_after}
+use Rattle.vb_shared.specs.Rule.{IsKept, Kept, FrameRule, TryClaim, PutBack, Look, word_after, held_after}
 
 -- three frames and two guests: a frame that is free, one of the first guest, one of the second
 abbrev sizes : Size
@@ -63,6 +63,11 @@ a_pass_without_its_frame is = lacks_its_own (is.tied 1 (pass 0 []) refl).0
 second_of_a_seat : IsKept sizes words (view_of (holding 1 (2 ∷ []) ∷ holding 0 [] ∷ []) ∷ []) → ⊥
 second_of_a_seat is =
     lacks_its_own (is.tied 0 (view_of (holding 1 (2 ∷ []) ∷ holding 0 [] ∷ [])) refl).1.0
+
+-- of a whole table these are its own words and seats
+kept_of_a_table : (Kept sizes (record { words = 0 ∷ 1 ∷ []; homes = []; views = [] }) → ⊥)
+    × (Kept sizes (record { words = words; homes = []; views = pass 2 [] ∷ [] }) → ⊥)
+kept_of_a_table = (λ is. omega (arith, is.wide), λ is. tag_of_nobody (is.tied 0 (pass 2 []) refl).0)
 
 -- ---- the same of passes that are handed out
 

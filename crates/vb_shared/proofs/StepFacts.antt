@@ -1,10 +1,10 @@
 -- Worked facts of what a step tells its pass, and of how seats are cut.
 use Rattle.{std.proofs.Common.{◌≡◌, ℕ, true}, vb_shared.specs.Rule.{holding, view_of, pass, count}}
 use Rattle.std.proofs.Common.{false, List, [], ◌∷◌, map, length, refl, sym, ap, arith, Some, None}
-use Rattle.{atomic_table.specs.Table.{Me, Step, step}, vb_ram.specs.Pages.Page}
+use Rattle.{atomic_table.specs.{Seated.TableId, Table.{Me, Step, step}}, vb_ram.specs.Pages.Page}
 use Rattle.vb_device.specs.declared.claimed.Claimed.TheVariants.{Gave, AskHost, NoFrame, NoMemory}
 use Rattle.vb_shared.specs.Steps.{held_of, added, removed, claimed, returned, Apart, met, no_view}
-use Rattle.vb_shared.specs.{Passes.{new_passes, Within, IsPass}, declared.rule.View.View}
+use Rattle.vb_shared.specs.{Passes.{IsTable, new_passes, Within, IsPass}, declared.rule.{Size.Size, View.View}}
 use Rattle.vb_shared.specs.{Leases.AnswersAs, Steps.{first_of, rest_of, new_holdings, opening_view}}
 use mathlib.Core.Option.{none}
 
@@ -156,3 +156,26 @@ never_the_host number is = is
 
 never_the_host_for_none : AnswersAs None AskHost → ⊥
 never_the_host_for_none is = is
+
+-- ---- a table and a seat at it
+
+abbrev table : ℕ → TableId
+table frames = record
+    { words = frames; slots = 2; views_name = 0; atom = 0; block = 0; offset = 0; slot_names = [] }
+
+abbrev sizes : ℕ → Size
+sizes frames = record { frames = frames; guests = 2 }
+
+seat_at_it : IsTable (table 1) (sizes 1) (table 1) 1
+seat_at_it = (refl, refl, refl, omega arith)
+
+-- a seat at another table, other words than frames, another size, and a table without a frame
+no_seat_at_it : (IsTable (record (table 3) { atom = 1 }) (sizes 3) (table 3) 3 → ⊥)
+    × (IsTable (table 4) (sizes 3) (table 4) 3 → ⊥) × (IsTable (table 3) (sizes 4) (table 3) 3 → ⊥)
+    × (IsTable (table 0) (sizes 0) (table 0) 0 → ⊥)
+no_seat_at_it = (
+  λ is. omega (arith, ap (λ (t : TableId). t.atom) is.0),
+  λ is. omega (arith, is.1),
+  λ is. omega (arith, is.2),
+  λ is. omega (arith, is.3),
+)

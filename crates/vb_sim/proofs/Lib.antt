@@ -7,3 +7,6 @@ pub mod Reading
 pub mod Reporting
 pub mod Speaking
 mod ArgumentFacts
+mod EndFacts
+mod FaultFacts
+mod RunFacts

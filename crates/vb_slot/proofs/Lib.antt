@@ -5,3 +5,4 @@ pub use Rattle.vb_guest.proofs.Standing
 pub use Rattle.vb_guest.proofs.Fresh
 pub mod AloneSizes
 mod SpareFacts
+mod SlotFacts

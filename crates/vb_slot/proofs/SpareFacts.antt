@@ -21,6 +21,9 @@ spare_with_a_frame is = (let wrong : 3 ∷ [] ≡ [] = is.unused.no_frames in ab
 spare_that_keeps : IsSpare [] (record no_part { keeps = true }) → ⊥
 spare_that_keeps is = (let wrong : true ≡ false = is.keeps in absurd cc)
 
+spare_with_one_of_its_own : IsSpare [] (record no_part { own = 3 ∷ [] }) → ⊥
+spare_with_one_of_its_own is = (let wrong : 3 ∷ [] ≡ [] = is.own in absurd cc)
+
 -- one that keeps frames may be new, but none of them is out
 new : IsNew [] (record no_part { keeps = true })
 new = (record { no_memory = refl; no_frames = refl }, refl)

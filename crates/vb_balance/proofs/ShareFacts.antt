@@ -1,0 +1,89 @@
+-- Worked facts of what guests are given at a level, and of targets that are set in a caller's list.
+use Rattle.std.proofs.Common.{◌≡◌, ℕ, ◌-◌, ◌^◌, List, [], ◌∷◌, Result, Ok, Err, refl, arith}
+use Rattle.vb_model.specs.Balance.{Need, AreTargets}
+use Rattle.vb_balance.{specs.Levels.AreGiven, specs.Sharing.SharesInto}
+use Rattle.vb_balance.specs.declared.need.NoTargets.{NoTargets, TheVariants.{OtherLength, Short}}
+
+-- ---- what is given at level 30: one guest is above it, two are at it, and one is below
+
+abbrev needs : List Need
+needs = record { pages = 64; spare = 50 } ∷ record { pages = 64; spare = 30 }
+    ∷ record { pages = 64; spare = 30 } ∷ record { pages = 64; spare = 29 } ∷ []
+
+-- for those at it 40, 30, 10 or none are left, and of the first two guests the others have no part
+forty : AreGiven needs 30 40 4 (50 ∷ 30 ∷ 10 ∷ 0 ∷ []) 0
+forty = grind arith
+
+thirty : AreGiven needs 30 30 4 (50 ∷ 30 ∷ 0 ∷ 0 ∷ []) 0
+thirty = grind arith
+
+ten : AreGiven needs 30 10 4 (50 ∷ 10 ∷ 0 ∷ 0 ∷ []) 0
+ten = grind arith
+
+none : AreGiven needs 30 0 4 (50 ∷ 0 ∷ 0 ∷ 0 ∷ []) 0
+none = grind arith
+
+first_two : AreGiven needs 30 40 2 (50 ∷ 30 ∷ 7 ∷ 7 ∷ []) 10
+first_two = grind arith
+
+-- not a target for each, not all from above, some from below, one too many at the level, out of turn,
+-- something left though one could give it, and one too few or too many together
+not_so : (left : ℕ) → (AreGiven needs 30 40 3 (50 ∷ 30 ∷ 10 ∷ []) left → ⊥)
+    × (AreGiven needs 30 40 4 (49 ∷ 30 ∷ 10 ∷ 0 ∷ []) left → ⊥)
+    × (AreGiven needs 30 40 4 (50 ∷ 30 ∷ 9 ∷ 1 ∷ []) left → ⊥)
+    × (AreGiven needs 30 40 4 (50 ∷ 31 ∷ 9 ∷ 0 ∷ []) left → ⊥)
+    × (AreGiven needs 30 40 4 (50 ∷ 29 ∷ 11 ∷ 0 ∷ []) left → ⊥)
+    × (AreGiven needs 30 40 4 (50 ∷ 30 ∷ 9 ∷ 0 ∷ []) 1 → ⊥)
+    × (AreGiven needs 30 40 4 (50 ∷ 30 ∷ 9 ∷ 0 ∷ []) 0 → ⊥)
+    × (AreGiven needs 30 40 4 (50 ∷ 30 ∷ 11 ∷ 0 ∷ []) 0 → ⊥)
+    × (AreGiven needs 30 40 2 (50 ∷ 30 ∷ 10 ∷ 0 ∷ []) 0 → ⊥)
+not_so left = (
+  λ are. omega (arith, are.one_each),
+  λ are. omega (arith, are.above 0 (omega arith) (omega arith)),
+  λ are. omega (arith, are.below 3 (omega arith) (omega arith)),
+  λ are. omega (arith, are.within 1 (omega arith) refl),
+  λ are. omega (arith, are.in_turn 2 1 (omega arith) (omega arith) refl refl (omega arith)),
+  λ are. omega (arith, are.all_of_it (omega arith) 2 (omega arith) refl),
+  λ are. omega (arith, are.shared),
+  λ are. omega (arith, are.shared),
+  λ are. omega (arith, are.shared),
+)
+
+-- ---- targets that are set in a caller's list: two guests that can spare 40 and 30
+
+abbrev two : List Need
+two = record { pages = 64; spare = 40 } ∷ record { pages = 64; spare = 30 } ∷ []
+
+-- a list of another length, whatever is missing; then a page that none can spare, or more than are
+-- counted, and the list stays; and with a frame more it has targets
+set : (new : List ℕ) (result : Result (Unit {0}) NoTargets)
+    → (SharesInto two 58 (7 ∷ []) new result → (result ≡ Err OtherLength) × (new ≡ 7 ∷ []))
+    × (SharesInto two 57 (7 ∷ 7 ∷ 7 ∷ []) new result
+    → (result ≡ Err OtherLength) × (new ≡ 7 ∷ 7 ∷ 7 ∷ []))
+    × (SharesInto two 57 (7 ∷ 8 ∷ []) new result
+    → (result ≡ Err (Short (record { missing = 1 }))) × (new ≡ 7 ∷ 8 ∷ []))
+    × (SharesInto (record { pages = 2 ^ 64; spare = 0 } ∷ []) 0 (7 ∷ []) new result
+    → (result ≡ Err (Short (record { missing = 2 ^ 64 - 1 }))) × (new ≡ 7 ∷ []))
+    × (SharesInto two 58 (7 ∷ 8 ∷ []) new result → (result ≡ Ok tt) × AreTargets two 58 new)
+set new result = (
+  λ into. into.other_length (λ e. omega (arith, e)),
+  λ into. into.other_length (λ e. omega (arith, e)),
+  λ into. into.short refl (omega arith),
+  λ into. into.short refl (omega arith),
+  λ into. into.shared refl refl,
+)
+
+-- and each of them can be
+kept : SharesInto two 57 (7 ∷ []) (7 ∷ []) (Err OtherLength)
+kept = record {
+  other_length = λ other. (refl, refl);
+  short = λ e. absurd (omega (arith, e));
+  shared = λ e. absurd (omega (arith, e));
+}
+
+short : SharesInto two 57 (7 ∷ 8 ∷ []) (7 ∷ 8 ∷ []) (Err (Short (record { missing = 1 })))
+short = record {
+  other_length = λ other. absurd (other refl);
+  short = λ e some. (refl, refl);
+  shared = λ e enough. absurd (omega (arith, enough));
+}
