@@ -51,8 +51,8 @@ pub record IsRun (pages : List ℕ) (run : NamedRun) : Type 0 where
   pub at : (i : ℕ) → i < run.count → slice_get pages (run.at + i) ≡ Some (run.first + i)
   pub below : run.first + run.count ≤ 2 ^ 32
 
--- A run that begins with the page of number `k`; none where there are no more than `k` pages. It is left
--- open how long it is, so that a list may be told in runs that its owner keeps.
+-- A run that begins with the page of number `k`; none where there are no more than `k` pages. How
+-- long it is, is left open, so that a list may be told in the runs that its owner keeps.
 abbrev pub RunsFrom : List ℕ → ℕ → Option NamedRun → Type 0
 RunsFrom pages k result =
     MatchOption result (length pages ≤ k) (λ run.
