@@ -14,3 +14,4 @@ mod NoteFacts
 mod ServiceFacts
 mod ReportFacts
 mod MadeFacts
+mod PastFacts

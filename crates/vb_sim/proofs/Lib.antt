@@ -9,4 +9,5 @@ pub mod Speaking
 mod ArgumentFacts
 mod EndFacts
 mod FaultFacts
-mod RunFacts
+mod CommandFacts
+pub mod RunFacts

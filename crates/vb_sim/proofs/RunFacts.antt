@@ -89,7 +89,7 @@ is_plan plan = (
 
 -- ---- its run: on devices of its paces, and on its frames alone
 
-abbrev two : Planned
+abbrev pub two : Planned
 two = planned (record quiet { pace = Immediate } ∷ quiet ∷ [])
 
 is_run : (plan : Plan) (report : Report) → IsRunOf two Drop plan report

@@ -8,3 +8,4 @@ pub mod Lives
 pub mod Aiming
 pub mod Balancing
 mod HostFacts
+mod WorldFacts
