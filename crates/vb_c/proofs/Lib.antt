@@ -5,6 +5,7 @@ mod NoticeFacts
 mod Samples
 mod CodeFacts
 mod CallFacts
+mod AnswerFacts
 mod OverFacts
 mod SavingFacts
 mod PhaseFacts
