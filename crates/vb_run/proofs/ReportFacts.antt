@@ -11,7 +11,8 @@ use Rattle.vb_model.specs.{Layout.reserved_pages, Requests.Request, declared.rep
 use Rattle.vb_model.specs.declared.calls.Actor.{Actor, TheVariants.{Balancer, Processor, Worker}}
 use Rattle.vb_model.specs.declared.calls.Call.{Call, TheVariants.{Alloc, SetTarget, Stats, Work}}
 use Rattle.vb_model.specs.declared.replies.Reply.TheVariants.{Done, Filled, Idle, NotUsed, Page}
-use Rattle.vb_run.specs.{Entries.{calls_by, entries_by, replies_by}, Reports.history_in}
+use Rattle.vb_run.specs.{Entries.{calls_by, entries_by, replies_by}, Made.AreMade}
+use Rattle.vb_run.specs.Reports.{history_in}
 use Rattle.vb_run.specs.{Plans.config_of, declared.report.{GuestReport.GuestReport, Report.Report}}
 use Rattle.vb_run.specs.Reports.{AreApart, IsGuestReport, IsReport, IsRound, Plays, frames_behind}
 use Rattle.vb_run.{specs.declared.plan.GuestPlan.GuestPlan, proofs.RoundFacts.{Same, shared, round}}
@@ -142,6 +143,12 @@ NoReport plan rounds report = (paced : Bool) → IsGuestReport 16 1 plan paced r
 plays_scripts : (plan : GuestPlan) (paced : Bool) (rounds : List Rounded) (report : GuestReport)
     → IsGuestReport 16 1 plan paced rounds report → Plays 1 plan report
 plays_scripts plan paced rounds report is = is.plays
+
+-- Its own processors and its own worker made its history, with the starter and the balancer.
+made_by_its_own : (plan : GuestPlan) (paced : Bool) (rounds : List Rounded) (report : GuestReport)
+    → IsGuestReport 16 1 plan paced rounds report
+    → AreMade 1 (length plan.scripts.items) (history_in 1 plan report)
+made_by_its_own plan paced rounds report is = is.made
 
 -- Its history is that of a guest as it is plugged in, as large as the plan says, on a device of the
 -- given pace, with no target.

@@ -3,6 +3,7 @@ use Rattle.std.proofs.Common.{◌≡◌, ℕ, [], ◌∷◌, true, false, map, r
 use Rattle.{std.specs.Prelude.length, vb_model.specs.Requests.{BufferTaken, BufferDone, Figures}}
 use Rattle.vb_model.proofs.{LifeSteps.fresh_consistent, OrderlySteps.fresh_order}
 use Rattle.vb_model.{proofs.Performed.performed, specs.Guest.{Guest, Config, fresh}}
+use Rattle.vb_model.specs.Orderly.{IsOrderly}
 use Rattle.vb_model.specs.Requests.{Request, Requests, no_requests, NoBuffer, BufferPosted}
 use Rattle.vb_model.specs.declared.calls.Call.TheVariants.{Take, Work, Finish, Ask, SetTarget}
 use Rattle.vb_model.specs.declared.negotiation.TheConstants.{OFFERED_FEATURES}
@@ -127,6 +128,9 @@ pages_without_places t = let e : Same 0 64 = t.consistent.sized in omega arith
 
 request_of_a_free_page : IsTended (record buffered { inflate = posted }) → ⊥
 request_of_a_free_page t = let e : Same 1 0 = (t.consistent.pages 16).inflating in omega arith
+
+in_order : (g : Guest) → IsTended g → IsOrderly g
+in_order g t = t.orderly
 
 status_of_no_driver : IsTended (record buffered { status = 11 }) → ⊥
 status_of_no_driver t = grind arith
