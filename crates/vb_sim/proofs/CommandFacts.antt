@@ -7,7 +7,7 @@ use Rattle.vb_script.specs.Plans.{threads_script_of}
 use Rattle.vb_run.specs.declared.plan.{Bells.{Bells, TheVariants.{Plain, Late}}}
 use Rattle.vb_sim.specs.Arguments.{asked_by, asked_of}
 use Rattle.vb_sim.specs.{Commands.{EndsAs, CommandEnds}, Ends.{Ends, IsWithinBound, fault_line}}
-use Rattle.vb_sim.specs.{Faults.status_of, Plans.{lacks_plan, makes_plan}, Plays.RunsSafely}
+use Rattle.vb_sim.specs.{Plans.{lacks_plan, makes_plan}, Plays.RunsSafely}
 use Rattle.vb_sim.specs.Threads.{PrintsReport, ThreadsEnds, IsThreadsFault, IsTextFault}
 use Rattle.vb_sim.specs.declared.arguments.Asked.{Asked, TheVariants.{Run, Threads}}
 use Rattle.vb_sim.specs.declared.arguments.ArgumentsFault.{ArgumentsFault}
@@ -15,7 +15,7 @@ use Rattle.vb_sim.specs.declared.arguments.ArgumentsFault.TheVariants.{Refused, 
 use Rattle.vb_sim.specs.declared.fault.ProgramFault.{ProgramFault}
 use Rattle.vb_sim.specs.declared.fault.ProgramFault.TheVariants.{BadLine, BadPlan, Memory, Audit}
 use Rattle.vb_sim.specs.declared.fault.ProgramFault.TheVariants.{Stream}
-use Rattle.vb_sim.proofs.RunFacts.{two}
+use Rattle.vb_sim.proofs.{EndFacts.faulted, RunFacts.two}
 
 -- ---- why a text has no report: its first bad line, no plan that can be run, or an audit of one
 
@@ -53,13 +53,6 @@ of_text text bad is = grind (arith, bad, is)
 abbrev End : List ℕ → List ℕ → List ℕ → ℕ → Type 0
 End input written said status = ThreadsEnds
     Late (Some input) (Some (codes "a")) (Some written) (Some (codes "b")) (Some said) status
-
-faulted : (fault : ProgramFault) → 0 ≡ status_of fault → ⊥
-faulted (BadLine n) e = omega (arith, e)
-faulted BadPlan e = omega (arith, e)
-faulted Memory e = omega (arith, e)
-faulted Audit e = omega (arith, e)
-faulted Stream e = omega (arith, e)
 
 well : (input written said : List ℕ) → End input written said 0 → IsWithinBound input
     × PrintsReport Late (threads_script_of input) (Some (codes "a")) (Some written)

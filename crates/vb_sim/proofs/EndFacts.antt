@@ -73,7 +73,7 @@ End input written said status =
     Ends RunsSafely (Some input) (Some (codes "a")) (Some written) (Some (codes "b")) (Some said) status
 
 -- each status but 4, by the fault: what was printed, and what is said
-faulted : (fault : ProgramFault) → 0 ≡ status_of fault → ⊥
+pub faulted : (fault : ProgramFault) → 0 ≡ status_of fault → ⊥
 faulted (BadLine n) e = omega (arith, e)
 faulted BadPlan e = omega (arith, e)
 faulted Memory e = omega (arith, e)

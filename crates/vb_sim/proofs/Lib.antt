@@ -7,7 +7,7 @@ pub mod Reading
 pub mod Reporting
 pub mod Speaking
 mod ArgumentFacts
-mod EndFacts
+pub mod EndFacts
 mod FaultFacts
 mod CommandFacts
 pub mod RunFacts
