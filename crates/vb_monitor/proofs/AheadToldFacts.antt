@@ -13,7 +13,7 @@ use Rattle.vb_monitor.specs.declared.giving.UsedSpots.{UsedSpots}
 use Rattle.vb_monitor.specs.Accesses.{Access, ReadWord, Acquire, Release, Full, TellPages, TellFigures, Discard}
 use Rattle.vb_monitor.specs.{Ends.Whole, Giving.{after_use, with_given}, Machine.{Room, room_of, AheadAt, Ahead, AwaitedBy, Awaited}}
 use Rattle.vb_monitor.proofs.Samples.{Same, at, ring, ready, tally, page_5, over_the_hole, cut_5, cut_20, cut_22, one_page, two}
-use Rattle.vb_monitor.proofs.Samples.{index, pages, discard, id, used_length, used_index, flags, given}
+use Rattle.vb_monitor.proofs.Samples.{flags_are_read, index, pages, discard, id, used_length, used_index, flags, given}
 use Rattle.vb_monitor.proofs.AheadFacts.{over, ends, empty, publishing, word_at}
 
 -- ---- pages: of the room's two runs so many are told, and discarded
@@ -36,16 +36,7 @@ told = record {
   discards = record {
     rest = given;
     asks = refl;
-    gives_back = record {
-      rest = Full ∷ flags ∷ [];
-      asks = refl;
-      goes_on = record {
-        flags = 0;
-        rest = [];
-        asks = refl;
-        then_stops = record { nothing = refl; device = refl; outcome = refl };
-      };
-    };
+    gives_back = record { rest = Full ∷ flags ∷ []; asks = refl; goes_on = flags_are_read refl refl };
   };
 }
 
@@ -96,16 +87,7 @@ unfolding lib.Count.ones
 both_parts = record {
   rest = given;
   asks = refl;
-  gives_back = record {
-    rest = Full ∷ flags ∷ [];
-    asks = refl;
-    goes_on = record {
-      flags = 0;
-      rest = [];
-      asks = refl;
-      then_stops = record { nothing = refl; device = refl; outcome = refl };
-    };
-  };
+  gives_back = record { rest = Full ∷ flags ∷ []; asks = refl; goes_on = flags_are_read refl refl };
 }
 
 both_runs : AheadAt (Discards cut_20 (discarding 2)) last tally ready over_then_5
@@ -114,16 +96,7 @@ unfolding lib.Count.ones
 both_runs = record {
   rest = given;
   asks = refl;
-  gives_back = record {
-    rest = Full ∷ flags ∷ [];
-    asks = refl;
-    goes_on = record {
-      flags = 0;
-      rest = [];
-      asks = refl;
-      then_stops = record { nothing = refl; device = refl; outcome = refl };
-    };
-  };
+  gives_back = record { rest = Full ∷ flags ∷ []; asks = refl; goes_on = flags_are_read refl refl };
 }
 
 first_part_alone : (w : Whole) (rest : List Access) → AheadAt (Discards cut_20 (discarding 1)) (record w { regions = two }) tally
@@ -147,16 +120,7 @@ abbrev gives : Phase
 gives = GivesBack spots (used_entry ring 3)
 
 given_back : AheadAt gives (over Inflate ready (ends (with_given tally) None true false)) tally ready empty given
-given_back = record {
-  rest = Full ∷ flags ∷ [];
-  asks = refl;
-  goes_on = record {
-    flags = 0;
-    rest = [];
-    asks = refl;
-    then_stops = record { nothing = refl; device = refl; outcome = refl };
-  };
-}
+given_back = record { rest = Full ∷ flags ∷ []; asks = refl; goes_on = flags_are_read refl refl }
 
 -- one more is served where the budget has one
 next_one : AheadAt gives
@@ -169,40 +133,17 @@ next_one = record {
     head = 8;
     rest = Full ∷ flags ∷ [];
     asks = refl;
-    goes_on = record {
-      flags = 0;
-      rest = [];
-      asks = refl;
-      then_stops = record { nothing = refl; device = refl; outcome = refl };
-    };
+    goes_on = flags_are_read refl refl;
   };
 }
 
 no_budget : AheadAt gives (over Inflate ready (ends (with_given (publishing 0)) None true true)) (publishing 0) ready empty given
-no_budget = record {
-  rest = Full ∷ flags ∷ [];
-  asks = refl;
-  goes_on = record {
-    flags = 0;
-    rest = [];
-    asks = refl;
-    then_stops = record { nothing = refl; device = refl; outcome = refl };
-  };
-}
+no_budget = record { rest = Full ∷ flags ∷ []; asks = refl; goes_on = flags_are_read refl refl }
 
 -- of statistics none does
 asked_for : AheadAt gives (over Statistics ready (ends (with_given (publishing 1)) None true false)) (publishing 1) ready empty
     given
-asked_for = record {
-  rest = Full ∷ flags ∷ [];
-  asks = refl;
-  goes_on = record {
-    flags = 0;
-    rest = [];
-    asks = refl;
-    then_stops = record { nothing = refl; device = refl; outcome = refl };
-  };
-}
+asked_for = record { rest = Full ∷ flags ∷ []; asks = refl; goes_on = flags_are_read refl refl }
 
 nothing_given : (w : Whole) (rest : List Access) → AheadAt gives w tally ready empty (Full ∷ flags ∷ rest) → ⊥
 nothing_given w rest h = let e = h.asks in absurd cc
@@ -214,12 +155,7 @@ wanted interrupt = ends tally (Some NotReady) interrupt true
 
 flags_read : AheadAt (AwaitsFlags (at 0x100) (Some NotReady) true) (over Inflate ready (wanted true)) tally ready empty
     (Full ∷ flags ∷ [])
-flags_read = record {
-  flags = 0;
-  rest = [];
-  asks = refl;
-  then_stops = record { nothing = refl; device = refl; outcome = refl };
-}
+flags_read = flags_are_read refl refl
 
 flags_unread : (w : Whole) → AheadAt (AwaitsFlags (at 0x100) None false) w tally ready empty [] → ⊥
 flags_unread w h = let e = h.asks in absurd cc

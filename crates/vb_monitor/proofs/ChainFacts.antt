@@ -13,7 +13,7 @@ use Rattle.vb_monitor.specs.Pieces.{parts_of, all_parts, CopiesParts, PartBy, fi
 use Rattle.vb_core.specs.Next.{pieces_in}
 use Rattle.vb_monitor.specs.Giving.{Then}
 use Rattle.vb_monitor.specs.Chains.{descriptor_of, memory_end, descriptors, table_fault, GoesOn, no_row, Follows, ServesPieces, with_held}
-use Rattle.vb_monitor.proofs.Samples.{Same, two, at, ring, ready, tally, piece, first_descriptor, last_descriptor, with_two, number, descriptor, part, discard, flags}
+use Rattle.vb_monitor.proofs.Samples.{flags_are_read, Same, two, at, ring, ready, tally, piece, first_descriptor, last_descriptor, with_two, number, descriptor, part, discard, flags}
 
 -- ---- how a notice ends
 
@@ -26,12 +26,7 @@ ends_so given interrupt =
 
 -- where a chain was given back the flags are read, and else nothing is
 flags_read : Ends (whole ready (ends_so true true)) ready (record tally { given = true }) None false (Full ∷ flags ∷ [])
-flags_read = record {
-  flags = 0;
-  rest = [];
-  asks = refl;
-  then_stops = record { nothing = refl; device = refl; outcome = refl };
-}
+flags_read = flags_are_read refl refl
 
 nothing_given : Ends (whole ready (ends_so false false)) ready tally None false []
 nothing_given = record { nothing = refl; device = refl; outcome = refl }

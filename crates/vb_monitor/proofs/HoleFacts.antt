@@ -15,7 +15,7 @@ use Rattle.vb_monitor.specs.{Ends.{Whole, Ends, FlagsAt}, Pieces.{PartAt}}
 use Rattle.vb_monitor.specs.Giving.{Then, with_given, after_use, UsedAt, GivesBack, GivesBackBy}
 use Rattle.vb_monitor.specs.Chains.{TableRow, RowAt}
 use Rattle.vb_monitor.specs.Notices.{EntryAt, TakesChain, AfterEntry}
-use Rattle.vb_monitor.proofs.Samples.{Same, two, at, ring, ready, tally, descriptor, part, id, used_length}
+use Rattle.vb_monitor.proofs.Samples.{flags_are_read, Same, two, at, ring, ready, tally, descriptor, part, id, used_length}
 use Rattle.vb_monitor.proofs.AheadFacts.{over, ends}
 
 abbrev none : Then
@@ -39,12 +39,7 @@ in_the_hole = with (record ring { avail = 0x15000 })
 
 flags_before_it : Ends (over Inflate (with (record ring { avail = 0x14ffe })) (ends given None true false))
     (with (record ring { avail = 0x14ffe })) given None false (Full ∷ ReadWord (at 0x14ffe) 0 ∷ [])
-flags_before_it = record {
-  flags = 0;
-  rest = [];
-  asks = refl;
-  then_stops = record { nothing = refl; device = refl; outcome = refl };
-}
+flags_before_it = flags_are_read refl refl
 
 no_flags : Ends (over Inflate in_the_hole (ends given (Some NotReady) false true)) in_the_hole given (Some NotReady) true []
 no_flags = record { nothing = refl; device = refl; outcome = refl }

@@ -10,7 +10,7 @@ use Rattle.vb_monitor.specs.{Ends.Whole, Notices.{Serves, fresh, with_chains}, S
 use Rattle.vb_monitor.specs.Giving.{Then, is_kept, kept_pages, cuts_for, with_given, spent, after_use, TellsThen}
 use Rattle.vb_monitor.{specs.Turns.{TellsInTurn, IsNext}, proofs.TurnLaws.tells_in_turn, proofs.TurnLaws.in_order}
 use Rattle.vb_monitor.proofs.Samples.{two, at, ready, tally, page_5, one_page, pages, discard, id, used_length, used_index}
-use Rattle.vb_monitor.proofs.Samples.{index, entry, descriptor, part, number, last_descriptor, flags, given, budget, outcome}
+use Rattle.vb_monitor.proofs.Samples.{flags_are_read, index, entry, descriptor, part, number, last_descriptor, flags, given, budget, outcome}
 use Rattle.vb_monitor.proofs.WholeFacts.{taken, used, names_5}
 
 -- ---- what is kept
@@ -165,16 +165,7 @@ stays = record {
             discards = record {
               rest = given;
               asks = refl;
-              gives_back = record {
-                rest = Full ∷ flags ∷ [];
-                asks = refl;
-                goes_on = record {
-                  flags = 0;
-                  rest = [];
-                  asks = refl;
-                  then_stops = record { nothing = refl; device = refl; outcome = refl };
-                };
-              };
+              gives_back = record { rest = Full ∷ flags ∷ []; asks = refl; goes_on = flags_are_read refl refl };
             };
           };
         };

@@ -1,5 +1,5 @@
 -- Regions, a ring, a device and the accesses of a notice, which the facts share.
-use Rattle.std.proofs.Common.{◌≡◌, ℕ, false, true, List, [], ◌∷◌, ◌++◌, None}
+use Rattle.std.proofs.Common.{◌≡◌, ℕ, Bool, false, true, List, [], ◌∷◌, ◌++◌, Option, None, refl}
 use Rattle.std.specs.Prelude.{replicate}
 use Rattle.vb_chain.specs.declared.pieces.Piece.{Piece}
 use Rattle.vb_core.{specs.declared.kinds.Kind.TheVariants.Inflate, specs.declared.runs.Run.Run}
@@ -11,6 +11,8 @@ use Rattle.vb_monitor.specs.Accesses.{Full, Release}
 use Rattle.vb_monitor.specs.{Accesses.{WriteNumber, WriteWord}, declared.regions.Region.Region}
 use Rattle.vb_monitor.specs.declared.{regions.Spot.Spot, cuts.Cut.Cut, outcome.Tally.Tally}
 use Rattle.vb_monitor.specs.declared.outcome.{Budget.Budget, Outcome.Outcome}
+use Rattle.vb_core.specs.declared.device.Denial.{Denial}
+use Rattle.vb_monitor.specs.Ends.{Whole, AsksFlags}
 
 abbrev pub Same : ℕ → ℕ → Type 0
 Same a b = a ≡ b
@@ -142,6 +144,17 @@ flags = ReadWord (at 0x100) 0
 -- a chain is given back, and no other one stands there
 abbrev pub given : List Access
 given = id ∷ used_length ∷ Release ∷ used_index ∷ Full ∷ flags ∷ []
+
+-- the flags want an interrupt, and the notice ends
+pub flags_are_read : {w : Whole} {d : Device} {t : Tally} {why : Option Denial} {more : Bool} {place : Spot} →
+    w.device ≡ d → w.outcome ≡ record { tally = t; why = why; interrupt = true; more = more } →
+    AsksFlags w d t why more place (Full ∷ ReadWord place 0 ∷ [])
+flags_are_read device outcome = record {
+  flags = 0;
+  rest = [];
+  asks = refl;
+  then_stops = record { nothing = refl; device = device; outcome = outcome };
+}
 
 -- a notice of one chain of one page
 abbrev pub budget : Budget

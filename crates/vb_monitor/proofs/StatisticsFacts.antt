@@ -11,7 +11,7 @@ use Rattle.vb_monitor.specs.declared.outcome.{Tally.Tally, Outcome.Outcome}
 use Rattle.vb_monitor.specs.Accesses.{Access, CopyBytes, Acquire, Release, Full, TellFigures, WriteNumber}
 use Rattle.vb_monitor.specs.{Ends.Whole, Giving.{Then, after_use}, Chains.{FiguresBy, AfterBytes, ServesPieces}}
 use Rattle.vb_monitor.specs.Notices.{Serves, AsksStatistics}
-use Rattle.vb_monitor.proofs.Samples.{Same, two, at, ready, tally, budget, index, entry, flags, id, used_length, used_index, given}
+use Rattle.vb_monitor.proofs.Samples.{flags_are_read, Same, two, at, ready, tally, budget, index, entry, flags, id, used_length, used_index, given}
 use Rattle.vb_monitor.proofs.AheadFacts.{over, ends, needs_reset}
 
 -- ---- two figures: 10 bytes each, a tag of two and a value of eight
@@ -200,16 +200,7 @@ back = after_use Statistics ready
 
 asks : AsksStatistics two 3 ready back (ends spent None true false) given
 unfolding lib.Count.ones
-asks = record {
-  rest = Full ∷ flags ∷ [];
-  asks = refl;
-  goes_on = record {
-    flags = 0;
-    rest = [];
-    asks = refl;
-    then_stops = record { nothing = refl; device = refl; outcome = refl };
-  };
-}
+asks = record { rest = Full ∷ flags ∷ []; asks = refl; goes_on = flags_are_read refl refl }
 
 abbrev number_written : List Access → ℕ
 number_written (WriteNumber at n ∷ xs) = n

@@ -7,7 +7,7 @@ use Rattle.vb_core.{specs.declared.kinds.Kind.TheVariants.Inflate, specs.Devices
 use Rattle.vb_core.{specs.declared.device.Device.Device, specs.Name.NamesBy, specs.Runs.Tell}
 use Rattle.vb_monitor.proofs.Samples.{Same, two, at, ready, page_5, last_descriptor, number, entry}
 use Rattle.vb_monitor.proofs.Samples.{descriptor, part, pages, discard, id, used_length, used_index}
-use Rattle.vb_monitor.proofs.Samples.{flags, budget, outcome, one_page}
+use Rattle.vb_monitor.proofs.Samples.{flags_are_read, flags, budget, outcome, one_page}
 use Rattle.vb_monitor.specs.Accesses.{Access, ReadWord, CopyBytes, Acquire, Release, Full}
 use Rattle.vb_monitor.specs.Accesses.{WriteNumber, WriteWord}
 use Rattle.vb_monitor.specs.{declared.outcome.{Outcome.Outcome, Tally.Tally}, Giving.after_use}
@@ -114,16 +114,7 @@ serves_second = record {
           discards = record {
             rest = given_then;
             asks = refl;
-            gives_back = record {
-              rest = Full ∷ flags ∷ [];
-              asks = refl;
-              goes_on = record {
-                flags = 0;
-                rest = [];
-                asks = refl;
-                then_stops = record { nothing = refl; device = refl; outcome = refl };
-              };
-            };
+            gives_back = record { rest = Full ∷ flags ∷ []; asks = refl; goes_on = flags_are_read refl refl };
           };
         };
       };
@@ -211,12 +202,7 @@ abbrev ended : Tally → Bool → Outcome
 ended t more = record { tally = t; why = None; interrupt = true; more = more }
 
 last : ServesPublished 7 (whole (used ready) (ended of_one false)) (used ready) of_one (Full ∷ flags ∷ [])
-last = record {
-  flags = 0;
-  rest = [];
-  asks = refl;
-  then_stops = record { nothing = refl; device = refl; outcome = refl };
-}
+last = flags_are_read refl refl
 
 one_more : (d : Device) (o : Outcome) (rest : List Access) →
     ServesPublished 7 (whole d o) (used ready) of_one (Acquire ∷ rest) → ⊥
@@ -230,12 +216,7 @@ abbrev unpaid : Tally
 unpaid = record one_given { chains = 0 }
 
 more_stands : ServesPublished 0 (whole (used ready) (ended unpaid true)) (used ready) unpaid (Full ∷ flags ∷ [])
-more_stands = record {
-  flags = 0;
-  rest = [];
-  asks = refl;
-  then_stops = record { nothing = refl; device = refl; outcome = refl };
-}
+more_stands = flags_are_read refl refl
 
 in_silence : (d : Device) →
     ServesPublished 0 (whole d (ended unpaid false)) (used ready) unpaid (Full ∷ flags ∷ []) → ⊥
@@ -249,9 +230,4 @@ served_unpaid d o rest h = let e = h.asks in absurd cc
 jumped : ServesPublished 7 (whole (record (used ready) { status = 79 })
     (record { tally = record of_one { published = 0 }; why = Some (Broken IndexJump); interrupt = true; more = false }))
     (used ready) (record of_one { published = 0 }) (Full ∷ flags ∷ [])
-jumped = record {
-  flags = 0;
-  rest = [];
-  asks = refl;
-  then_stops = record { nothing = refl; device = refl; outcome = refl };
-}
+jumped = flags_are_read refl refl

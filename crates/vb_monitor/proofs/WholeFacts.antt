@@ -10,7 +10,7 @@ use Rattle.vb_monitor.{specs.declared.outcome.Outcome.Outcome}
 use Rattle.vb_monitor.{specs.Accesses.{Access, Acquire, Release, Full}, specs.Giving.after_use}
 use Rattle.vb_monitor.{specs.Notices.Serves, proofs.TurnLaws.in_order}
 use Rattle.vb_monitor.proofs.TurnLaws.{reads_in_turn, tells_in_turn, writes_used}
-use Rattle.vb_monitor.proofs.Samples.{used_index, flags, given, budget, outcome, one_page}
+use Rattle.vb_monitor.proofs.Samples.{flags_are_read, used_index, flags, given, budget, outcome, one_page}
 
 -- the device once the chain was taken, and once it was given back
 abbrev pub taken : Device
@@ -73,16 +73,7 @@ serves = record {
             discards = record {
               rest = given;
               asks = refl;
-              gives_back = record {
-                rest = Full ∷ flags ∷ [];
-                asks = refl;
-                goes_on = record {
-                  flags = 0;
-                  rest = [];
-                  asks = refl;
-                  then_stops = record { nothing = refl; device = refl; outcome = refl };
-                };
-              };
+              gives_back = record { rest = Full ∷ flags ∷ []; asks = refl; goes_on = flags_are_read refl refl };
             };
           };
         };

@@ -5,7 +5,7 @@ use Rattle.vb_core.specs.declared.{kinds.Kind.TheVariants.Report, device.Device.
 use Rattle.vb_core.specs.{Devices.with_one_taken, Report.NamesPiecesBy}
 use Rattle.vb_monitor.proofs.Samples.{two, at, settings, ready, page_5, one_page, index, entry, part, discard}
 use Rattle.vb_monitor.specs.Accesses.{Access, CopyBytes, Acquire, Full, TellPages}
-use Rattle.vb_monitor.{proofs.Samples.{flags, given, budget, outcome}, specs.Giving.after_use}
+use Rattle.vb_monitor.{proofs.Samples.{flags_are_read, flags, given, budget, outcome}, specs.Giving.after_use}
 use Rattle.vb_monitor.{proofs.TurnLaws.{reads_in_turn, tells_in_turn}, specs.Notices.Serves}
 use Rattle.vb_monitor.{specs.declared.outcome.Outcome.Outcome}
 
@@ -66,16 +66,7 @@ reported = record {
           discards = record {
             rest = given;
             asks = refl;
-            gives_back = record {
-              rest = Full ∷ flags ∷ [];
-              asks = refl;
-              goes_on = record {
-                flags = 0;
-                rest = [];
-                asks = refl;
-                then_stops = record { nothing = refl; device = refl; outcome = refl };
-              };
-            };
+            gives_back = record { rest = Full ∷ flags ∷ []; asks = refl; goes_on = flags_are_read refl refl };
           };
         };
       };
@@ -126,16 +117,7 @@ kept = record {
           discards = record {
             rest = given;
             asks = refl;
-            gives_back = record {
-              rest = Full ∷ flags ∷ [];
-              asks = refl;
-              goes_on = record {
-                flags = 0;
-                rest = [];
-                asks = refl;
-                then_stops = record { nothing = refl; device = refl; outcome = refl };
-              };
-            };
+            gives_back = record { rest = Full ∷ flags ∷ []; asks = refl; goes_on = flags_are_read refl refl };
           };
         };
       };
