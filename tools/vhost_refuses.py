@@ -6,6 +6,7 @@ import subprocess
 import tempfile
 import unittest
 
+import linux_guest
 from vhost_client import (
     ADD_MEM_REG, BUFFERS, FEATURES, GET_CONFIG, GET_FEATURES, GET_STATUS, GET_VRING_BASE, INDIRECT, INFLATE, LIMIT, NEXT, NO_FILE,
     PAGE, PAGES_OF_REGION, REGIONS, REM_MEM_REG, SET_BACKEND_REQ_FD, SET_CONFIG, SET_FEATURES, SET_MEM_TABLE,
@@ -90,7 +91,7 @@ class Refuses(unittest.TestCase):
             self.assertNotEqual(client.send(SET_FEATURES, struct.pack("<Q", features)), bytes(8))
         client.start()
         self.assertEqual(client.counter("status"), 15)
-        client.close()
+        self.assertEqual(client.close()[0], 0)
 
     def test_places(self):
         for words, how in (
@@ -109,7 +110,7 @@ class Refuses(unittest.TestCase):
                 client.hand_over_memory()
                 client.place(INFLATE, **how)
                 self.assertNotEqual(client.enable(INFLATE), bytes(8))
-                self.refused(client, words if how != {"shift": (PAGES_OF_REGION - 2) * PAGE - 64} else "")
+                self.refused(client, words)
 
     def test_messages(self):
         body = struct.pack("<II", 9, 0)
@@ -195,14 +196,22 @@ class Refuses(unittest.TestCase):
 
     def test_saved_states_that_are_none(self):
         with tempfile.TemporaryDirectory() as folder:
-            for data, code in ((b"", 9), (bytes(187), 10), (bytes(1000), 9)):
-                path = os.path.join(folder, "state")
+            path, words = os.path.join(folder, "state"), [f"{folder}/socket", "--state", os.path.join(folder, "state")]
+            backend = linux_guest.Backend(program(), folder, words)
+            self.assertEqual((backend.ask("target 5"), backend.counters()["target"], backend.close()), ("ok", 5, 2))
+            backend.process.stdout.close()
+            with open(path, "rb") as file:
+                saved = file.read()
+            # The codes of vb.h, in the order in which vb_restore tests for them.
+            for data, code in (
+                (b"", 9), (saved[:15], 9), (bytes(187), 10), (bytes(1000), 10), (saved[:-1], 9), (saved + b"\0", 9),
+                (saved[:-1] + bytes([saved[-1] ^ 1]), 12),
+            ):
                 with open(path, "wb") as file:
                     file.write(data)
-                words = [program(), f"{folder}/socket", "--state", path]
-                ran = subprocess.run(words, stdin=subprocess.DEVNULL, capture_output=True, text=True, timeout=LIMIT)
-                said = f"refused: {path} is no saved state: it is answered "
-                self.assertEqual((ran.returncode, ran.stdout, ran.stderr[: len(said)]), (2, "", said), code)
+                ran = subprocess.run([program(), *words], stdin=subprocess.DEVNULL, capture_output=True, text=True, timeout=LIMIT)
+                said = f"refused: {path} is no saved state: it is answered {code}\n"
+                self.assertEqual((ran.returncode, ran.stdout, ran.stderr), (2, "", said))
 
     def test_bytes_that_are_no_message(self):
         client = self.started()

@@ -4,6 +4,7 @@ import os
 import re
 import select
 import struct
+import time
 import unittest
 
 import linux_kit
@@ -103,6 +104,25 @@ class Serves(Good):
         self.assertEqual(client.holes(), [first + it for it in (*range(8), *range(16, 20))])
         self.assertEqual((client.counter("reports"), client.counter("reported")), (1, 12))
 
+    def test_what_each_counter_counts(self):
+        client = self.started()
+        first, hole, end = (REGIONS[region][0] // PAGE + more for region, more in ((1, 0), (0, PAGES_OF_REGION), (1, PAGES_OF_REGION)))
+        post_statistics(client, 11)
+        for number, pages in ((INFLATE, [first, first + 1, first + 2, hole, end]), (DEFLATE, [first, first + 1])):
+            client.post_pages(number, pages)
+        for page, count in ((first + 8, 4), (first + 20, 3)):
+            client.describe(REPORT, 0, page * PAGE, count * PAGE, WRITE)
+            client.publish(REPORT, 0)
+            client.kick(REPORT)
+        client.accepted(SET_CONFIG, struct.pack("<IIII", 4, 4, 0, 6))
+        self.assertEqual((client.backend.ask("target 6"), client.backend.ask("ask")), ("ok", "asked"))
+        # 128 pages less 3 and 7; 21 messages until the queues run, 5 kicks and a write; a question gives one more buffer back.
+        self.assertEqual(client.backend.counters(), {
+            "target": 6, "actual": 6, "status": 15, "held_kib": 472, "end": end, "messages": 27, "kicks": 5, "interrupts": 5,
+            "told": 1, "chains": 6, "pages": 13, "discarded": 10, "waiting": 0, "skipped": 1, "in_holes": 1, "kept": 0, "marked": 0,
+            "unmarked": 0, "inflated": 4, "deflated": 2, "reported": 7, "reports": 2, "statistics": 1, "taken": 0,
+        })
+
     def test_statistics(self):
         client = self.started()
         self.assertEqual(client.backend.ask("ask"), "nothing")
@@ -194,6 +214,21 @@ class Serves(Good):
         client.backend.ask("target 5")
         for _ in range(3):
             self.assertIsNone(client.told(5))
+
+    def test_a_target_is_not_told_again_while_the_balloon_moves(self):
+        client = self.started()
+        client.backend.ask("target 1000")
+        self.assertIsNone(client.told())
+        begin = last = time.monotonic()
+        longest, actual = 0, 0
+        while last < begin + 2.5:
+            actual += 1
+            client.accepted(SET_CONFIG, struct.pack("<IIII", 4, 4, 0, actual))
+            time.sleep(0.02)
+            longest, last = max(longest, time.monotonic() - last), time.monotonic()
+        if longest < 0.5:  # else the machine has held the client up, and the balloon has stayed
+            self.assertEqual(client.counter("told"), 1)
+        self.assertIsNone(client.told(5))
 
     def test_features_twice_and_lives(self):
         client = self.client()

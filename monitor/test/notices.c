@@ -120,6 +120,10 @@ static void all_queues_are_looked_at(void)
     }
     result = balloon_notify(&guest.balloon, VB_DEFLATE);
     EXPECT(result.chains == 3 && result.pages == 3 && result.marked == 1 && result.unmarked == 1 && words[9] == 0);
+    for (int i = 0; i < 2; i++)
+        name_pages(&guest, VB_DEFLATE, pages + 1, 2);
+    result = balloon_notify(&guest.balloon, VB_DEFLATE);
+    EXPECT(result.chains == 2 && result.pages == 2 && result.skipped == 2 && result.unmarked == 2);
     free_memory(&guest);
 }
 
