@@ -6,8 +6,9 @@ import struct
 import subprocess
 import time
 
-from host_checks import eventually
+from host_checks import check_decisions, eventually
 from linux_guest import PAGES_PER_MIB
+from linux_host import pairs
 from linux_kit import demand
 from vhost_client import BUFFERS, DEFLATE, INFLATE, LIMIT, PAGE, REGIONS, STATISTICS, Client
 
@@ -147,6 +148,14 @@ def worked_run(bench):
         short_by_hand(town, clients)
         clients.pop().leave()
         targets_become(town, clients, (0, 0, 0))
+        # What the host asks a guest to take back isn't taken by itself.
+        clients[1].post_pages(DEFLATE, list(range(PAGES + 8, PAGES + 28)))
+        eventually(lambda: town.host.guests()["b"]["ballooned"] == 0, "b's balloon isn't empty", 5)
+        seen, counted = town.host.guests()["b"], pairs(town.host.ask("b counters").split())
+        demand((seen["taken"], seen["inflated"], seen["deflated"]) == (8, 28, 28), f"b moved 28 pages, 8 of them by itself: {seen}")
+        demand((counted["marked"], counted["unmarked"]) == (56, 0), f"28 pages went into b's set, and out of it: {counted}")
+        decided = check_decisions(town)
+        demand(decided == town.host.counters()["decisions"] > 0, f"the log has {decided} decisions: {town.host.counters()}")
         for it in clients:
             it.leave()
     return f"{PAGES_PER_MIB} frames for three guests of 128 pages"

@@ -186,7 +186,8 @@ class Events(Lives):
             os.write(ends[1], word(1))
             self.assertEqual(client.called(DEFLATE), 1)
             os.close(ends[0]), os.close(ends[1])
-            client.counter("kicks")  # a kick whose other end has gone is let go of
+            client.counter("kicks")
+            self.assertTrue(client.is_at_rest(), "a kick whose other end has gone isn't let go of")
 
     def test_a_call_for_which_there_is_no_room(self):
         client = self.started()

@@ -39,18 +39,18 @@ class Refuses(unittest.TestCase):
     def test_rules(self):
         page = REGIONS[1][0] // PAGE
         far = REGIONS[1][0] + PAGES_OF_REGION * PAGE
-        # By its rule: the head, and the descriptors (number, address, length, flags, next).
+        # By its rule: what is said of it, the head, and the descriptors (number, address, length, flags, next).
         chains = {
-            1: (SIZE, []),
-            2: (0, [(0, BUFFERS, 4, NEXT, SIZE)]),
-            3: (0, [(0, BUFFERS, 4, NEXT, 1), (1, BUFFERS, 4, NEXT, 0)]),
-            4: (0, [(0, BUFFERS, 16, INDIRECT, 0)]),
-            5: (0, [(0, BUFFERS, 4, WRITE, 0)]),
-            6: (0, [(0, far, 4, 0, 0)]),
-            8: (0, [(0, BUFFERS, 5, 0, 0)]),
-            9: (0, [(0, BUFFERS, 4, 0, 0)]),
+            1: ("a head that is no descriptor", SIZE, []),
+            2: ("a next descriptor that is none", 0, [(0, BUFFERS, 4, NEXT, SIZE)]),
+            3: ("a chain that is too long", 0, [(0, BUFFERS, 4, NEXT, 1), (1, BUFFERS, 4, NEXT, 0)]),
+            4: ("an indirect descriptor", 0, [(0, BUFFERS, 16, INDIRECT, 0)]),
+            5: ("a buffer of the wrong direction", 0, [(0, BUFFERS, 4, WRITE, 0)]),
+            6: ("a buffer that isn't in memory", 0, [(0, far, 4, 0, 0)]),
+            8: ("a bad length", 0, [(0, BUFFERS, 5, 0, 0)]),
+            9: ("a page that isn't there", 0, [(0, BUFFERS, 4, 0, 0)]),
         }
-        for rule, (head, descriptors) in chains.items():
+        for rule, (words, head, descriptors) in chains.items():
             with self.subTest(rule=rule):
                 client = self.started("--strict")
                 client.write(BUFFERS, struct.pack("<I", page + PAGES_OF_REGION))
@@ -59,13 +59,22 @@ class Refuses(unittest.TestCase):
                 client.publish(INFLATE, head)
                 # The kick is answered well: what it leads to comes after that.
                 self.assertEqual(client.kick(INFLATE), bytes(8))
-                self.refused(client, f"(rule {rule})")
+                self.refused(client, f"the guest's bytes have {words} (rule {rule})")
+
+    def test_what_was_served_before_a_fault_is_told(self):
+        client = self.started()
+        client.write(BUFFERS, struct.pack("<I", REGIONS[1][0] // PAGE))
+        client.describe(INFLATE, 0, BUFFERS, 4)
+        client.publish(INFLATE, 0), client.publish(INFLATE, SIZE)
+        client.kick(INFLATE)
+        self.assertEqual((client.told(), client.used(INFLATE)), (INFLATE, (1, [(0, 0)])))
+        self.refused(client, "(rule 1)")
 
     def test_index_that_jumps(self):
         client = self.started()
         client.publish(INFLATE, 0, SIZE + 1)
         client.kick(INFLATE)
-        self.refused(client, "(rule 7)")
+        self.refused(client, "an available index that jumps (rule 7)")
 
     def test_buffer_in_the_hole(self):
         client = self.started()
@@ -182,6 +191,8 @@ class Refuses(unittest.TestCase):
         client.start_by_events()
         fault = os.eventfd(0, os.EFD_NONBLOCK)
         client.accepted(SET_VRING_ERR, struct.pack("<Q", INFLATE), [fault])
+        client.post_pages(INFLATE, [REGIONS[1][0] // PAGE])
+        self.assertEqual(client.called(INFLATE), 1)
         client.publish(INFLATE, SIZE)
         client.kick(INFLATE)
         self.refused(client, "(rule 1)")

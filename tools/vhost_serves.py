@@ -1,5 +1,6 @@
 """Tests of what a client of good will gets from a backend to which it talks by messages alone, as virtio_uml."""
 
+import fcntl
 import os
 import re
 import select
@@ -16,6 +17,9 @@ from vhost_served import Served
 
 # Chains of the largest queue, more than a notice serves.
 MOST_CHAINS = 256
+
+# A seal of a memory's file (memfd_create(2)).
+FUTURE_WRITE = 0x10
 
 
 def post_statistics(client, *values):
@@ -92,6 +96,20 @@ class Serves(Good):
         self.assertEqual(client.holes(), [])
         counters = client.backend.counters()
         self.assertEqual([counters[it] for it in ("discarded", "in_holes", "kept")], [0, 0, 1])
+
+    def test_pages_that_the_machine_keeps(self):
+        client = self.client()
+        os.close(client.files[1])
+        client.files[1] = os.memfd_create("sealed", os.MFD_CLOEXEC | os.MFD_ALLOW_SEALING)
+        os.write(client.files[1], b"\xff" * PAGES_OF_REGION * PAGE)
+        client.start()
+        fcntl.fcntl(client.files[1], fcntl.F_ADD_SEALS, FUTURE_WRITE)  # mapped as it is, and no hole is made in it any more
+        client.post_pages(INFLATE, [REGIONS[1][0] // PAGE + it for it in (0, 1)])
+        self.assertEqual((client.told(), client.used(INFLATE)), (INFLATE, (1, [(0, 0)])))
+        counters = client.backend.counters()
+        self.assertEqual([counters[it] for it in ("inflated", "discarded", "kept", "in_holes")], [2, 0, 2, 0])
+        self.assertEqual((client.holes(), client.backend.why()), ([], "2 pages can't be discarded: Operation not permitted"))
+        os.truncate(client.backend.log, 0)
 
     def test_report(self):
         client = self.started()
@@ -171,7 +189,13 @@ class Serves(Good):
     def test_what_is_left_after_a_long_service_is_served(self):
         client = self.client()
         client.start(size=MOST_CHAINS)
-        self.assertTrue(client.are_served(DEFLATE, MOST_CHAINS), "a notice left chains, and no other one came")
+        self.assertTrue(client.are_served([DEFLATE], MOST_CHAINS), "a notice left chains, and no other one came")
+
+    def test_what_is_left_of_two_queues_is_served(self):
+        client = self.client()
+        client.start(size=MOST_CHAINS)
+        self.assertTrue(client.are_served([INFLATE, DEFLATE], MOST_CHAINS), "one queue's chains are left behind another's")
+        self.assertTrue(client.is_at_rest(), "nothing is left, and the backend looks again and again")
 
     def test_what_is_published_meanwhile_waits_for_its_kick(self):
         client = self.started()

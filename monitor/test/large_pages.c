@@ -94,9 +94,10 @@ static void a_large_page_goes_once_it_is_given_up(void)
     EXPECT(seen.calls == 5 && seen.from == LARGE_MIB * MIB && seen.length == 2 * LARGE_MIB * MIB);
     EXPECT(balloon_write_status(&guest.balloon, 0, &result) == 0);
     start_features(&guest, LINUX_FEATURES, 8);
-    EXPECT(balloon_write_status(&guest.balloon, 15, &result) == 0);
-    result = move_pages(&guest, VB_INFLATE, 600, 1);        /* nothing is in the balloon after a reset */
-    EXPECT(result.discarded == 0 && result.waiting == 1 && seen.calls == 5);
+    name_pages(&guest, VB_INFLATE, (const uint32_t[]){ 600 }, 1);
+    EXPECT(balloon_write_status(&guest.balloon, 15, &result) == 0);         /* nothing is in the balloon after a reset */
+    EXPECT(result.chains == 1 && result.marked == 1 && result.discarded == 0 && result.waiting == 1 && result.in_holes == 0);
+    EXPECT(seen.calls == 5);
     stop_large(&guest);
 }
 

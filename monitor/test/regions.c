@@ -1,8 +1,17 @@
 /* Regions that touch, have bounds or are mapped anew, and queues that aren't there. */
 #include "test.h"
 
-/* Two halves of a file that stand in memory in the other order: a run, a ring and a buffer over the boundary. */
-static void regions_may_touch(void)
+#ifndef RUST_SHIM
+static int discard_likewise(void *context, const struct balloon_region *region, uint64_t from, uint64_t length)
+{
+    (void)context;
+    return balloon_discard_bytes(region, from, length);
+}
+#endif
+
+/* Two halves of a file that stand in memory in the other order: a run, a ring and a buffer over the boundary. A monitor may
+ * discard by itself as the balloon does. */
+static void regions_may_touch(int (*discard)(void *, const struct balloon_region *, uint64_t, uint64_t))
 {
     static struct guest guest;
     struct balloon *balloon = &guest.balloon;
@@ -14,6 +23,7 @@ static void regions_may_touch(void)
                                         { 0, half, guest.regions[0].host + half, guest.regions[0].fd, half, 0 } };
     EXPECT(balloon_init(balloon, regions, 2, REFUSES) == VB_OK);
     EXPECT(balloon->state.device.settings.memory_end == 2 * half);
+    balloon->discard = discard;
     start_features(&guest, VERSION_1, 256);
     EXPECT(balloon_place(balloon, VB_INFLATE, half - 2048, avail_of(VB_INFLATE), used_of(VB_INFLATE), 256) == VB_OK);
     EXPECT(balloon_write_status(balloon, 15, &result) == 0);
@@ -140,7 +150,10 @@ static void queues_may_be_missing(void)
 
 void test_regions(void)
 {
-    RUN(regions_may_touch());
+    RUN(regions_may_touch(NULL));
+#ifndef RUST_SHIM
+    RUN(regions_may_touch(discard_likewise));
+#endif
     RUN(regions_have_bounds());
     RUN(memory_is_mapped_anew());
     RUN(regions_may_be_far(true));
