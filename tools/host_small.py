@@ -10,7 +10,7 @@ from host_checks import check_decisions, eventually
 from linux_guest import PAGES_PER_MIB
 from linux_host import pairs
 from linux_kit import demand
-from vhost_client import BUFFERS, DEFLATE, INFLATE, LIMIT, PAGE, REGIONS, STATISTICS, Client
+from vhost_client import BUFFERS, DEFLATE, INFLATE, LIMIT, NO_NUMBERS, PAGE, REGIONS, STATISTICS, Client
 
 FREE_MEMORY = 4
 
@@ -19,7 +19,8 @@ PAGES = REGIONS[1][0] // PAGE
 
 # Command lines that are none.
 COMMANDS = ((), ("folder",), ("--budget", "5"), ("folder", "--budget", "x"), ("folder", "--budget", "0"),
-            ("folder", "--budget", "5", "--period", "9"), ("folder", "--budget", "5", "--features", "8"), ("a", "b", "--budget", "5"))
+            ("folder", "--budget", "5", "--period", "9"), ("folder", "--budget", "5", "--features", "8"), ("a", "b", "--budget", "5"),
+            *(("folder", "--budget", it) for it in (*NO_NUMBERS, "16777216")))
 
 # Lines, and how each answer begins; `a` is a name of a guest that never came.
 LINES = (
@@ -28,6 +29,7 @@ LINES = (
     ("budget 5 ", "error"), ("budget 5", "ok"), ("floor 0", "ok"), ("floor 16777216", "error"), ("a counters", "error: nobody is there"),
     ("b counters", "error: add"), ("remove b", "error: no guest"), ("remove a", "ok"), ("a counters", "error: add"),
     ("guests x", "error"), ("frames", "error"),
+    *((f"{word} {it}", "error: a number of MiB") for word in ("budget", "floor") for it in (*NO_NUMBERS, "16777216")),
 )
 
 

@@ -246,6 +246,7 @@ class Refuses(unittest.TestCase):
             self.assertEqual(os.listdir(folder), [])
 
     def test_command_lines(self):
-        for words in ([], ["--features"], ["a", "b"], ["a", "--features", "x"], ["--wrong", "a"], ["a", "--features", "8"], ["x" * 200]):
+        for words in ([], ["--features"], ["a", "b"], ["a", "--features", "x"], ["--wrong", "a"], ["x" * 200],
+                      *(["a", "--features", it] for it in ("8", "", " 100000027", "+100000027", "100000027 ", "10000000000000000"))):
             ran = subprocess.run([program(), *words], stdin=subprocess.DEVNULL, capture_output=True, timeout=LIMIT)
             self.assertEqual((ran.returncode, ran.stdout), (2, b""), words)

@@ -11,7 +11,7 @@ import unittest
 import linux_kit
 from vhost_client import (
     BUFFERS, DEFLATE, FEATURES, GET_CONFIG, GET_FEATURES, GET_PROTOCOL_FEATURES, GET_QUEUE_NUM, HAS_PROTOCOL, INFLATE, LIMIT,
-    NEXT, OFFERED, PAGE, PAGES_OF_REGION, REGIONS, REPORT, SET_CONFIG, SET_FEATURES, SIZE, STATISTICS, WRITE,
+    NEXT, NO_NUMBERS, OFFERED, PAGE, PAGES_OF_REGION, REGIONS, REPORT, SET_CONFIG, SET_FEATURES, SIZE, STATISTICS, WRITE,
 )
 from vhost_served import Served
 
@@ -22,9 +22,9 @@ MOST_CHAINS = 256
 FUTURE_WRITE = 0x10
 
 
-def post_statistics(client, *values):
-    """Posts statistics with these values."""
-    data = b"".join(struct.pack("<HQ", tag, it) for tag, it in enumerate(values, 4))
+def post_statistics(client, *values, first=4):
+    """Posts statistics with these values, whose tags are this one and those behind it."""
+    data = b"".join(struct.pack("<HQ", tag, it) for tag, it in enumerate(values, first))
     client.write(BUFFERS, data)
     client.describe(STATISTICS, 0, BUFFERS, len(data))
     client.publish(STATISTICS, 0)
@@ -153,6 +153,14 @@ class Serves(Good):
         post_statistics(client, 13)
         self.assertEqual(client.backend.statistics(), (2, {"free_memory": 13}))
 
+    def test_the_names_of_statistics(self):
+        client = self.started()
+        # The tags of VIRTIO 1.1, 5.5.6.4, from 0 on.
+        names = ("swap_in swap_out major_faults minor_faults free_memory total_memory available_memory disk_caches"
+                 " hugetlb_allocations hugetlb_failures other").split()
+        post_statistics(client, *range(100, 111), first=0)
+        self.assertEqual(client.backend.statistics(), (1, dict(zip(names, range(100, 111)))))
+
     def test_more_statistics_than_are_kept(self):
         client = self.started()
         post_statistics(client, *range(102))
@@ -279,8 +287,10 @@ class Serves(Good):
 
     def test_lines_that_are_none(self):
         client = self.started()
-        for line in ("", "target", "target x", "target 4294967296", "snapshot", "audit", "x" * 60):
+        numbers = [f"target {it}" for it in (*NO_NUMBERS, "4294967296")]
+        for line in ("", "target", *numbers, "snapshot", "audit", "x" * 60):
             self.assertTrue(client.backend.ask(line).startswith("error: "), line)
+        self.assertEqual((client.counter("target"), client.backend.ask("target 4294967295")), (0, "ok"))
 
     def test_quit(self):
         client = Served()
