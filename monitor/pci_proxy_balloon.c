@@ -11,9 +11,9 @@
 #include "backend/virtio_pci.h"
 #include "backend/stream.h"
 
+#include <limits.h>
 #include <signal.h>
 #include <stdio.h>
-#include <stdlib.h>
 #include <unistd.h>
 
 /* Messages of QEMU (its docs/devel/multi-process.rst). */
@@ -135,17 +135,16 @@ int main(int count, char **words)
 {
     static struct backend backend;
     static struct options options;
-    char *end = "";
+    uint64_t socket;
     setvbuf(stdout, NULL, _IOLBF, 0);
     signal(SIGPIPE, SIG_IGN);
-    int socket = backend_options(&options, count, words) ? (int)strtoul(options.client, &end, 10) : -1;
-    if (socket < 0 || *end) {
+    if (!backend_options(&options, count, words) || !read_number(options.client, 10, INT_MAX, &socket)) {
         fputs("pci_proxy_balloon FD [--features HEX] [--strict] [--keep]\n", stderr);
         return 2;
     }
     if (!backend_start(&backend, &options))
         return 2;
-    backend.socket = socket;
+    backend.socket = (int)socket;
     backend.tell = tell;
     backend.idle = idle;
     pci_start(&pci, &backend);

@@ -27,18 +27,9 @@
 
 #include <signal.h>
 #include <stdio.h>
-#include <stdlib.h>
 #include <sys/resource.h>
 
 enum { BALLOON_FEATURES = 0x27, PERIOD = 200, LEAST_PERIOD = 10, FLOOR_MIB = 12 };
-
-/* Reads a number that begins a word and ends it; false where it doesn't, or where it is more than `most`. */
-static bool read_number(const char *word, int base, uint64_t most, uint64_t *number)
-{
-    char *end;
-    *number = strtoull(word, &end, base);
-    return end != word && !*end && *number <= most;
-}
 
 /* Reads one of the options that have a number. */
 static bool read_option(struct host *host, const char *name, const char *word)

@@ -6,10 +6,11 @@ import struct
 import subprocess
 import time
 
-from host_checks import eventually
+from host_checks import check_decisions, eventually
 from linux_guest import PAGES_PER_MIB
+from linux_host import pairs
 from linux_kit import demand
-from vhost_client import BUFFERS, DEFLATE, INFLATE, LIMIT, PAGE, REGIONS, STATISTICS, Client
+from vhost_client import BUFFERS, DEFLATE, INFLATE, LIMIT, NO_NUMBERS, PAGE, REGIONS, STATISTICS, Client
 
 FREE_MEMORY = 4
 
@@ -18,7 +19,8 @@ PAGES = REGIONS[1][0] // PAGE
 
 # Command lines that are none.
 COMMANDS = ((), ("folder",), ("--budget", "5"), ("folder", "--budget", "x"), ("folder", "--budget", "0"),
-            ("folder", "--budget", "5", "--period", "9"), ("folder", "--budget", "5", "--features", "8"), ("a", "b", "--budget", "5"))
+            ("folder", "--budget", "5", "--period", "9"), ("folder", "--budget", "5", "--features", "8"), ("a", "b", "--budget", "5"),
+            *(("folder", "--budget", it) for it in (*NO_NUMBERS, "16777216")))
 
 # Lines, and how each answer begins; `a` is a name of a guest that never came.
 LINES = (
@@ -27,6 +29,7 @@ LINES = (
     ("budget 5 ", "error"), ("budget 5", "ok"), ("floor 0", "ok"), ("floor 16777216", "error"), ("a counters", "error: nobody is there"),
     ("b counters", "error: add"), ("remove b", "error: no guest"), ("remove a", "ok"), ("a counters", "error: add"),
     ("guests x", "error"), ("frames", "error"),
+    *((f"{word} {it}", "error: a number of MiB") for word in ("budget", "floor") for it in (*NO_NUMBERS, "16777216")),
 )
 
 
@@ -147,6 +150,14 @@ def worked_run(bench):
         short_by_hand(town, clients)
         clients.pop().leave()
         targets_become(town, clients, (0, 0, 0))
+        # What the host asks a guest to take back isn't taken by itself.
+        clients[1].post_pages(DEFLATE, list(range(PAGES + 8, PAGES + 28)))
+        eventually(lambda: town.host.guests()["b"]["ballooned"] == 0, "b's balloon isn't empty", 5)
+        seen, counted = town.host.guests()["b"], pairs(town.host.ask("b counters").split())
+        demand((seen["taken"], seen["inflated"], seen["deflated"]) == (8, 28, 28), f"b moved 28 pages, 8 of them by itself: {seen}")
+        demand((counted["marked"], counted["unmarked"]) == (56, 0), f"28 pages went into b's set, and out of it: {counted}")
+        decided = check_decisions(town)
+        demand(decided == town.host.counters()["decisions"] > 0, f"the log has {decided} decisions: {town.host.counters()}")
         for it in clients:
             it.leave()
     return f"{PAGES_PER_MIB} frames for three guests of 128 pages"

@@ -193,12 +193,15 @@ class Town:
     def __enter__(self):
         return self
 
-    def __exit__(self, *_):
-        """Ends all guests, and the host."""
+    def __exit__(self, _kind, fault, _trace):
+        """Ends all guests, and the host, which has to end well: it has no fault of its own, and has lost no memory."""
         self.ended.set()
         for it in self.members:
             it.close()
-        self.host.close()
+        self.host.process.stdout.close()
+        status = self.host.close()
+        if fault is None and status != 0:
+            raise Fault(f"the host ends with status {status}: {self.host.why()}")
 
     def settle_in(self, names, memory):
         """Boots guests of these names, one after the other, as each has to find room beside those before it."""

@@ -38,6 +38,9 @@ BUFFERS = REGIONS[0][0] + 16 * PAGE
 
 LIMIT = 20
 
+# Words that are no decimal number, nor one of 64 bits: what C's strtoul would take is among them.
+NO_NUMBERS = ("", "x", " 5", "+5", "-1", "5 ", "5x", "0x5", "-18446744073709551615", "18446744073709551621")
+
 
 class Client:
     """A vhost-user client with memory; `why` says what its backend said last."""

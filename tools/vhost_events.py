@@ -186,7 +186,8 @@ class Events(Lives):
             os.write(ends[1], word(1))
             self.assertEqual(client.called(DEFLATE), 1)
             os.close(ends[0]), os.close(ends[1])
-            client.counter("kicks")  # a kick whose other end has gone is let go of
+            client.counter("kicks")
+            self.assertTrue(client.is_at_rest(), "a kick whose other end has gone isn't let go of")
 
     def test_a_call_for_which_there_is_no_room(self):
         client = self.started()
@@ -195,6 +196,37 @@ class Events(Lives):
         client.post_pages(INFLATE, [FIRST])
         time.sleep(MOMENT)
         self.assertEqual((client.counter("interrupts"), client.used(INFLATE)[0]), (1, 1))
+
+    def test_a_call_to_a_pipe_or_a_socket_that_is_full(self):
+        client = self.started()
+        for count, ends in enumerate((os.pipe(), tuple(it.detach() for it in socket.socketpair())), 1):
+            os.set_blocking(ends[1], False)
+            try:
+                while os.write(ends[1], bytes(8)):
+                    pass
+            except BlockingIOError:
+                pass
+            client.accepted(SET_VRING_CALL, word(INFLATE), [ends[1]])
+            os.set_blocking(ends[1], True)
+            client.post_pages(INFLATE, [FIRST])
+            time.sleep(MOMENT)
+            self.assertEqual((client.counter("interrupts"), client.used(INFLATE)[0]), (count, count))
+            client.accepted(SET_VRING_CALL, word(INFLATE | NO_FILE))
+            os.close(ends[0]), os.close(ends[1])
+
+    def test_one_event_for_the_kicks_of_two_queues(self):
+        client = self.started()
+        event = os.eventfd(0, os.EFD_NONBLOCK)
+        for count, ends in enumerate(((event, event), tuple(it.detach() for it in socket.socketpair())), 1):
+            for number in (INFLATE, DEFLATE):
+                client.accepted(SET_VRING_KICK, word(number), [ends[0]])
+            os.set_blocking(ends[0], True)
+            client.describe(INFLATE, 0, BUFFERS, 4)
+            client.publish(INFLATE, 0)
+            os.write(ends[1], word(1))  # whoever takes it, the other one finds nothing, and doesn't wait
+            self.assertEqual((client.called(INFLATE), client.used(INFLATE)[0], client.counter("kicks")), (1, count, count))
+            for it in set(ends):
+                os.close(it)
 
     def test_a_channel_that_nobody_reads(self):
         client = self.started()

@@ -6,6 +6,7 @@ import subprocess
 import tempfile
 import unittest
 
+import linux_guest
 from vhost_client import (
     ADD_MEM_REG, BUFFERS, FEATURES, GET_CONFIG, GET_FEATURES, GET_STATUS, GET_VRING_BASE, INDIRECT, INFLATE, LIMIT, NEXT, NO_FILE,
     PAGE, PAGES_OF_REGION, REGIONS, REM_MEM_REG, SET_BACKEND_REQ_FD, SET_CONFIG, SET_FEATURES, SET_MEM_TABLE,
@@ -38,18 +39,18 @@ class Refuses(unittest.TestCase):
     def test_rules(self):
         page = REGIONS[1][0] // PAGE
         far = REGIONS[1][0] + PAGES_OF_REGION * PAGE
-        # By its rule: the head, and the descriptors (number, address, length, flags, next).
+        # By its rule: what is said of it, the head, and the descriptors (number, address, length, flags, next).
         chains = {
-            1: (SIZE, []),
-            2: (0, [(0, BUFFERS, 4, NEXT, SIZE)]),
-            3: (0, [(0, BUFFERS, 4, NEXT, 1), (1, BUFFERS, 4, NEXT, 0)]),
-            4: (0, [(0, BUFFERS, 16, INDIRECT, 0)]),
-            5: (0, [(0, BUFFERS, 4, WRITE, 0)]),
-            6: (0, [(0, far, 4, 0, 0)]),
-            8: (0, [(0, BUFFERS, 5, 0, 0)]),
-            9: (0, [(0, BUFFERS, 4, 0, 0)]),
+            1: ("a head that is no descriptor", SIZE, []),
+            2: ("a next descriptor that is none", 0, [(0, BUFFERS, 4, NEXT, SIZE)]),
+            3: ("a chain that is too long", 0, [(0, BUFFERS, 4, NEXT, 1), (1, BUFFERS, 4, NEXT, 0)]),
+            4: ("an indirect descriptor", 0, [(0, BUFFERS, 16, INDIRECT, 0)]),
+            5: ("a buffer of the wrong direction", 0, [(0, BUFFERS, 4, WRITE, 0)]),
+            6: ("a buffer that isn't in memory", 0, [(0, far, 4, 0, 0)]),
+            8: ("a bad length", 0, [(0, BUFFERS, 5, 0, 0)]),
+            9: ("a page that isn't there", 0, [(0, BUFFERS, 4, 0, 0)]),
         }
-        for rule, (head, descriptors) in chains.items():
+        for rule, (words, head, descriptors) in chains.items():
             with self.subTest(rule=rule):
                 client = self.started("--strict")
                 client.write(BUFFERS, struct.pack("<I", page + PAGES_OF_REGION))
@@ -58,13 +59,22 @@ class Refuses(unittest.TestCase):
                 client.publish(INFLATE, head)
                 # The kick is answered well: what it leads to comes after that.
                 self.assertEqual(client.kick(INFLATE), bytes(8))
-                self.refused(client, f"(rule {rule})")
+                self.refused(client, f"the guest's bytes have {words} (rule {rule})")
+
+    def test_what_was_served_before_a_fault_is_told(self):
+        client = self.started()
+        client.write(BUFFERS, struct.pack("<I", REGIONS[1][0] // PAGE))
+        client.describe(INFLATE, 0, BUFFERS, 4)
+        client.publish(INFLATE, 0), client.publish(INFLATE, SIZE)
+        client.kick(INFLATE)
+        self.assertEqual((client.told(), client.used(INFLATE)), (INFLATE, (1, [(0, 0)])))
+        self.refused(client, "(rule 1)")
 
     def test_index_that_jumps(self):
         client = self.started()
         client.publish(INFLATE, 0, SIZE + 1)
         client.kick(INFLATE)
-        self.refused(client, "(rule 7)")
+        self.refused(client, "an available index that jumps (rule 7)")
 
     def test_buffer_in_the_hole(self):
         client = self.started()
@@ -90,7 +100,7 @@ class Refuses(unittest.TestCase):
             self.assertNotEqual(client.send(SET_FEATURES, struct.pack("<Q", features)), bytes(8))
         client.start()
         self.assertEqual(client.counter("status"), 15)
-        client.close()
+        self.assertEqual(client.close()[0], 0)
 
     def test_places(self):
         for words, how in (
@@ -109,7 +119,7 @@ class Refuses(unittest.TestCase):
                 client.hand_over_memory()
                 client.place(INFLATE, **how)
                 self.assertNotEqual(client.enable(INFLATE), bytes(8))
-                self.refused(client, words if how != {"shift": (PAGES_OF_REGION - 2) * PAGE - 64} else "")
+                self.refused(client, words)
 
     def test_messages(self):
         body = struct.pack("<II", 9, 0)
@@ -181,6 +191,8 @@ class Refuses(unittest.TestCase):
         client.start_by_events()
         fault = os.eventfd(0, os.EFD_NONBLOCK)
         client.accepted(SET_VRING_ERR, struct.pack("<Q", INFLATE), [fault])
+        client.post_pages(INFLATE, [REGIONS[1][0] // PAGE])
+        self.assertEqual(client.called(INFLATE), 1)
         client.publish(INFLATE, SIZE)
         client.kick(INFLATE)
         self.refused(client, "(rule 1)")
@@ -195,14 +207,22 @@ class Refuses(unittest.TestCase):
 
     def test_saved_states_that_are_none(self):
         with tempfile.TemporaryDirectory() as folder:
-            for data, code in ((b"", 9), (bytes(187), 10), (bytes(1000), 9)):
-                path = os.path.join(folder, "state")
+            path, words = os.path.join(folder, "state"), [f"{folder}/socket", "--state", os.path.join(folder, "state")]
+            backend = linux_guest.Backend(program(), folder, words)
+            self.assertEqual((backend.ask("target 5"), backend.counters()["target"], backend.close()), ("ok", 5, 2))
+            backend.process.stdout.close()
+            with open(path, "rb") as file:
+                saved = file.read()
+            # The codes of vb.h, in the order in which vb_restore tests for them.
+            for data, code in (
+                (b"", 9), (saved[:15], 9), (bytes(187), 10), (bytes(1000), 10), (saved[:-1], 9), (saved + b"\0", 9),
+                (saved[:-1] + bytes([saved[-1] ^ 1]), 12),
+            ):
                 with open(path, "wb") as file:
                     file.write(data)
-                words = [program(), f"{folder}/socket", "--state", path]
-                ran = subprocess.run(words, stdin=subprocess.DEVNULL, capture_output=True, text=True, timeout=LIMIT)
-                said = f"refused: {path} is no saved state: it is answered "
-                self.assertEqual((ran.returncode, ran.stdout, ran.stderr[: len(said)]), (2, "", said), code)
+                ran = subprocess.run([program(), *words], stdin=subprocess.DEVNULL, capture_output=True, text=True, timeout=LIMIT)
+                said = f"refused: {path} is no saved state: it is answered {code}\n"
+                self.assertEqual((ran.returncode, ran.stdout, ran.stderr), (2, "", said))
 
     def test_bytes_that_are_no_message(self):
         client = self.started()
@@ -226,6 +246,7 @@ class Refuses(unittest.TestCase):
             self.assertEqual(os.listdir(folder), [])
 
     def test_command_lines(self):
-        for words in ([], ["--features"], ["a", "b"], ["a", "--features", "x"], ["--wrong", "a"], ["a", "--features", "8"], ["x" * 200]):
+        for words in ([], ["--features"], ["a", "b"], ["a", "--features", "x"], ["--wrong", "a"], ["x" * 200],
+                      *(["a", "--features", it] for it in ("8", "", " 100000027", "+100000027", "100000027 ", "10000000000000000"))):
             ran = subprocess.run([program(), *words], stdin=subprocess.DEVNULL, capture_output=True, timeout=LIMIT)
             self.assertEqual((ran.returncode, ran.stdout), (2, b""), words)

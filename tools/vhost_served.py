@@ -9,7 +9,7 @@ import time
 
 import linux_guest
 import linux_kit
-from vhost_client import BUFFERS, LIMIT, PAGE, PAGES_OF_REGION, REGIONS, SIZE, Client
+from vhost_client import BUFFERS, LIMIT, PAGE, PAGES_OF_REGION, REGIONS, SIZE, VRING_KICK, Client
 
 CHECKS = ("-g", "-fsanitize=address,undefined", "-fno-sanitize-recover=all")
 
@@ -63,6 +63,15 @@ class Served(Client):
         """Returns one of the backend's counters."""
         return self.backend.counters()[name]
 
+    def is_at_rest(self):
+        """Whether the backend takes no processor's time while nobody wants anything of it."""
+        def seconds():
+            with open(f"/proc/{self.backend.process.pid}/stat", encoding="ascii") as stat:
+                return sum(map(int, stat.read().rsplit(")", 1)[1].split()[11:13])) / os.sysconf("SC_CLK_TCK")
+        before = seconds()
+        time.sleep(0.4)
+        return seconds() - before < 0.1
+
     def open_files(self):
         """Returns how many files the backend has open."""
         return len(os.listdir(f"/proc/{self.backend.process.pid}/fd"))
@@ -75,13 +84,14 @@ class Served(Client):
         self.write(self.table(number) + PAGE + 4, struct.pack(f"<{size}H", *range(size)))
         self.write(self.table(number) + PAGE, struct.pack("<H", 1))
 
-    def are_served(self, number, count):
-        """Makes a whole queue of so many chains available, and kicks it once: whether all are served, in time."""
+    def are_served(self, numbers, count):
+        """Makes whole queues of so many chains available, and kicks each once, all at a time: whether all are served, in time."""
         end = time.monotonic() + LIMIT
-        self.describe_all(number, count)
-        self.write(self.table(number) + PAGE + 2, struct.pack("<H", count))
-        self.kick(number)
-        while self.read(self.table(number) + 2 * PAGE + 2, 2) != struct.pack("<H", count):
+        for it in numbers:
+            self.describe_all(it, count)
+            self.write(self.table(it) + PAGE + 2, struct.pack("<H", count))
+        self.socket.sendall(b"".join(struct.pack("<IIIII", VRING_KICK, 1, 8, it, 0) for it in numbers))
+        while any(self.read(self.table(it) + 2 * PAGE + 2, 2) != struct.pack("<H", count) for it in numbers):
             if time.monotonic() > end:
                 return False
             time.sleep(0.01)

@@ -1,25 +1,30 @@
 """Tests of what a client of good will gets from a backend to which it talks by messages alone, as virtio_uml."""
 
+import fcntl
 import os
 import re
 import select
 import struct
+import time
 import unittest
 
 import linux_kit
 from vhost_client import (
     BUFFERS, DEFLATE, FEATURES, GET_CONFIG, GET_FEATURES, GET_PROTOCOL_FEATURES, GET_QUEUE_NUM, HAS_PROTOCOL, INFLATE, LIMIT,
-    NEXT, OFFERED, PAGE, PAGES_OF_REGION, REGIONS, REPORT, SET_CONFIG, SET_FEATURES, SIZE, STATISTICS, WRITE,
+    NEXT, NO_NUMBERS, OFFERED, PAGE, PAGES_OF_REGION, REGIONS, REPORT, SET_CONFIG, SET_FEATURES, SIZE, STATISTICS, WRITE,
 )
 from vhost_served import Served
 
 # Chains of the largest queue, more than a notice serves.
 MOST_CHAINS = 256
 
+# A seal of a memory's file (memfd_create(2)).
+FUTURE_WRITE = 0x10
 
-def post_statistics(client, *values):
-    """Posts statistics with these values."""
-    data = b"".join(struct.pack("<HQ", tag, it) for tag, it in enumerate(values, 4))
+
+def post_statistics(client, *values, first=4):
+    """Posts statistics with these values, whose tags are this one and those behind it."""
+    data = b"".join(struct.pack("<HQ", tag, it) for tag, it in enumerate(values, first))
     client.write(BUFFERS, data)
     client.describe(STATISTICS, 0, BUFFERS, len(data))
     client.publish(STATISTICS, 0)
@@ -92,6 +97,20 @@ class Serves(Good):
         counters = client.backend.counters()
         self.assertEqual([counters[it] for it in ("discarded", "in_holes", "kept")], [0, 0, 1])
 
+    def test_pages_that_the_machine_keeps(self):
+        client = self.client()
+        os.close(client.files[1])
+        client.files[1] = os.memfd_create("sealed", os.MFD_CLOEXEC | os.MFD_ALLOW_SEALING)
+        os.write(client.files[1], b"\xff" * PAGES_OF_REGION * PAGE)
+        client.start()
+        fcntl.fcntl(client.files[1], fcntl.F_ADD_SEALS, FUTURE_WRITE)  # mapped as it is, and no hole is made in it any more
+        client.post_pages(INFLATE, [REGIONS[1][0] // PAGE + it for it in (0, 1)])
+        self.assertEqual((client.told(), client.used(INFLATE)), (INFLATE, (1, [(0, 0)])))
+        counters = client.backend.counters()
+        self.assertEqual([counters[it] for it in ("inflated", "discarded", "kept", "in_holes")], [2, 0, 2, 0])
+        self.assertEqual((client.holes(), client.backend.why()), ([], "2 pages can't be discarded: Operation not permitted"))
+        os.truncate(client.backend.log, 0)
+
     def test_report(self):
         client = self.started()
         client.describe(REPORT, 2, REGIONS[1][0], 8 * PAGE, NEXT | WRITE, 5)
@@ -102,6 +121,25 @@ class Serves(Good):
         first = REGIONS[1][0] // PAGE
         self.assertEqual(client.holes(), [first + it for it in (*range(8), *range(16, 20))])
         self.assertEqual((client.counter("reports"), client.counter("reported")), (1, 12))
+
+    def test_what_each_counter_counts(self):
+        client = self.started()
+        first, hole, end = (REGIONS[region][0] // PAGE + more for region, more in ((1, 0), (0, PAGES_OF_REGION), (1, PAGES_OF_REGION)))
+        post_statistics(client, 11)
+        for number, pages in ((INFLATE, [first, first + 1, first + 2, hole, end]), (DEFLATE, [first, first + 1])):
+            client.post_pages(number, pages)
+        for page, count in ((first + 8, 4), (first + 20, 3)):
+            client.describe(REPORT, 0, page * PAGE, count * PAGE, WRITE)
+            client.publish(REPORT, 0)
+            client.kick(REPORT)
+        client.accepted(SET_CONFIG, struct.pack("<IIII", 4, 4, 0, 6))
+        self.assertEqual((client.backend.ask("target 6"), client.backend.ask("ask")), ("ok", "asked"))
+        # 128 pages less 3 and 7; 21 messages until the queues run, 5 kicks and a write; a question gives one more buffer back.
+        self.assertEqual(client.backend.counters(), {
+            "target": 6, "actual": 6, "status": 15, "held_kib": 472, "end": end, "messages": 27, "kicks": 5, "interrupts": 5,
+            "told": 1, "chains": 6, "pages": 13, "discarded": 10, "waiting": 0, "skipped": 1, "in_holes": 1, "kept": 0, "marked": 0,
+            "unmarked": 0, "inflated": 4, "deflated": 2, "reported": 7, "reports": 2, "statistics": 1, "taken": 0,
+        })
 
     def test_statistics(self):
         client = self.started()
@@ -114,6 +152,14 @@ class Serves(Good):
         self.assertEqual(client.backend.ask("ask"), "nothing")
         post_statistics(client, 13)
         self.assertEqual(client.backend.statistics(), (2, {"free_memory": 13}))
+
+    def test_the_names_of_statistics(self):
+        client = self.started()
+        # The tags of VIRTIO 1.1, 5.5.6.4, from 0 on.
+        names = ("swap_in swap_out major_faults minor_faults free_memory total_memory available_memory disk_caches"
+                 " hugetlb_allocations hugetlb_failures other").split()
+        post_statistics(client, *range(100, 111), first=0)
+        self.assertEqual(client.backend.statistics(), (1, dict(zip(names, range(100, 111)))))
 
     def test_more_statistics_than_are_kept(self):
         client = self.started()
@@ -151,7 +197,13 @@ class Serves(Good):
     def test_what_is_left_after_a_long_service_is_served(self):
         client = self.client()
         client.start(size=MOST_CHAINS)
-        self.assertTrue(client.are_served(DEFLATE, MOST_CHAINS), "a notice left chains, and no other one came")
+        self.assertTrue(client.are_served([DEFLATE], MOST_CHAINS), "a notice left chains, and no other one came")
+
+    def test_what_is_left_of_two_queues_is_served(self):
+        client = self.client()
+        client.start(size=MOST_CHAINS)
+        self.assertTrue(client.are_served([INFLATE, DEFLATE], MOST_CHAINS), "one queue's chains are left behind another's")
+        self.assertTrue(client.is_at_rest(), "nothing is left, and the backend looks again and again")
 
     def test_what_is_published_meanwhile_waits_for_its_kick(self):
         client = self.started()
@@ -195,6 +247,21 @@ class Serves(Good):
         for _ in range(3):
             self.assertIsNone(client.told(5))
 
+    def test_a_target_is_not_told_again_while_the_balloon_moves(self):
+        client = self.started()
+        client.backend.ask("target 1000")
+        self.assertIsNone(client.told())
+        begin = last = time.monotonic()
+        longest, actual = 0, 0
+        while last < begin + 2.5:
+            actual += 1
+            client.accepted(SET_CONFIG, struct.pack("<IIII", 4, 4, 0, actual))
+            time.sleep(0.02)
+            longest, last = max(longest, time.monotonic() - last), time.monotonic()
+        if longest < 0.5:  # else the machine has held the client up, and the balloon has stayed
+            self.assertEqual(client.counter("told"), 1)
+        self.assertIsNone(client.told(5))
+
     def test_features_twice_and_lives(self):
         client = self.client()
         client.negotiate(0x100000021)
@@ -220,8 +287,10 @@ class Serves(Good):
 
     def test_lines_that_are_none(self):
         client = self.started()
-        for line in ("", "target", "target x", "target 4294967296", "snapshot", "audit", "x" * 60):
+        numbers = [f"target {it}" for it in (*NO_NUMBERS, "4294967296")]
+        for line in ("", "target", *numbers, "snapshot", "audit", "x" * 60):
             self.assertTrue(client.backend.ask(line).startswith("error: "), line)
+        self.assertEqual((client.counter("target"), client.backend.ask("target 4294967295")), (0, "ok"))
 
     def test_quit(self):
         client = Served()

@@ -1,8 +1,10 @@
 #include "backend.h"
 #include "audit.h"
 
+#include <ctype.h>
 #include <stdarg.h>
 #include <stdio.h>
+#include <stdlib.h>
 #include <unistd.h>
 
 const char *served_name;
@@ -32,6 +34,15 @@ void remark(struct backend *backend, const char *format, ...)
     vfprintf(stderr, format, words);
     fputc('\n', stderr);
     va_end(words);
+}
+
+bool read_number(const char *word, int base, uint64_t most, uint64_t *number)
+{
+    char *end;
+    errno = 0;
+    *number = strtoull(word, &end, base);
+    /* It would take spaces and a sign before them. */
+    return isxdigit((unsigned char)word[0]) && !*end && errno == 0 && *number <= most;
 }
 
 /* How many of these pages left the balloon below its target: the guest took them back by itself. */

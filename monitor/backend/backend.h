@@ -48,6 +48,9 @@ bool refuse(const char *format, ...) __attribute__((format(printf, 1, 2)));
 /* Says something of a client that goes on being served, on standard error; but not for ever. */
 void remark(struct backend *backend, const char *format, ...) __attribute__((format(printf, 2, 3)));
 
+/* Reads a word of digits, of this base; false where it is another one, or where the number is more than `most`. */
+bool read_number(const char *word, int base, uint64_t most, uint64_t *number);
+
 /* Reads the words that follow a program's name; false where it doesn't know one. */
 bool backend_options(struct options *options, int count, char **words);
 

@@ -4,7 +4,6 @@
 
 #include <inttypes.h>
 #include <stdio.h>
-#include <stdlib.h>
 
 /* The names of the tags (VIRTIO 1.1, 5.5.6.3, and Linux). */
 static const char *tag_name(uint16_t tag)
@@ -60,9 +59,8 @@ static bool ask(struct backend *backend)
 
 static void set_target(struct backend *backend, const char *number)
 {
-    char *end;
-    unsigned long pages = strtoul(number, &end, 10);
-    if (end == number || *end || pages > UINT32_MAX) {
+    uint64_t pages;
+    if (!read_number(number, 10, UINT32_MAX, &pages)) {
         puts("error: target PAGES");
         return;
     }

@@ -4,7 +4,6 @@
 #include "state.h"
 
 #include <errno.h>
-#include <stdlib.h>
 #include <time.h>
 #include <unistd.h>
 
@@ -24,14 +23,12 @@ struct loop {
 /* Reads an option that has a word; false where it is none. */
 static bool read_option(struct options *options, const char *name, const char *word)
 {
-    char *end = "";
     if (!strcmp(name, "--features"))
-        options->features = strtoull(word, &end, 16);
-    else if (!strcmp(name, "--state"))
-        options->state = word;
-    else
+        return read_number(word, 16, UINT64_MAX, &options->features);
+    if (strcmp(name, "--state"))
         return false;
-    return !*end;
+    options->state = word;
+    return true;
 }
 
 bool backend_options(struct options *options, int count, char **words)

@@ -3,7 +3,6 @@
 
 #include <inttypes.h>
 #include <stdio.h>
-#include <stdlib.h>
 
 static void print_seat(const struct seat *seat)
 {
@@ -38,9 +37,8 @@ static void print_counters(const struct host *host)
 /* Reads a number of MiB as pages. */
 static bool read_mib(const char *word, uint32_t *pages)
 {
-    char *end;
-    unsigned long mib = strtoul(word, &end, 10);
-    if (end == word || *end || mib > UINT32_MAX / PAGES_PER_MIB)
+    uint64_t mib;
+    if (!read_number(word, 10, UINT32_MAX / PAGES_PER_MIB, &mib))
         return false;
     *pages = (uint32_t)mib * PAGES_PER_MIB;
     return true;

@@ -14,7 +14,7 @@ static int fail_to_discard(void *context, const struct balloon_region *region, u
     return EIO;
 }
 
-/* The machine's call, after as many interruptions as a test wants, and failing where one wants that. */
+/* The machine's calls, after as many interruptions as a test wants, and failing where one wants that. */
 static int interruptions, failure;
 
 int fallocate(int file, int how, off_t from, off_t length)
@@ -25,14 +25,29 @@ int fallocate(int file, int how, off_t from, off_t length)
     return (int)syscall(SYS_fallocate, file, how, from, length);
 }
 
-/* A discard that is interrupted is tried again; one that fails is told with its reason. */
-static void the_machine_is_asked_again(void)
+int madvise(void *from, size_t length, int advice)
+{
+    errno = failure;
+    return failure ? -1 : (int)syscall(SYS_madvise, from, length, advice);
+}
+
+/* The guest's pages from this one on, so many, have their bytes. */
+static bool stay(const struct guest *guest, uint32_t first, uint32_t count)
+{
+    bool all = true;
+    for (uint32_t page = first; page < first + count; page++)
+        all &= resident(guest, page) && *at(guest, page * 4096ull + 4095) == 1;
+    return all;
+}
+
+/* A discard that is interrupted is tried again; one that fails is told with its reason, in memory of each sort. */
+static void the_machine_is_asked_again(int low)
 {
     static struct guest guest;
     const uint32_t pages[] = { 700, 702 };
-    start(&guest, 0, REFUSES, LINUX_FEATURES, 4);
+    start(&guest, low, REFUSES, LINUX_FEATURES, 4);
     memset(at(&guest, 700 * 4096), 1, 4096);
-    interruptions = 3;
+    interruptions = low == 0 ? 3 : 0;       /* madvise has none (its man page) */
     name_pages(&guest, VB_INFLATE, pages, 2);
     struct balloon_result result = balloon_notify(&guest.balloon, VB_INFLATE);
     EXPECT(interruptions == 0 && result.discarded == 2 && result.kept == 0 && result.error == 0 && !resident(&guest, 700));
@@ -44,16 +59,23 @@ static void the_machine_is_asked_again(void)
     free_memory(&guest);
 }
 
-/* Where one discard fails, and later ones don't, the reason stays. */
+static int fail_by_page(void *context, const struct balloon_region *region, uint64_t from, uint64_t length)
+{
+    (void)context, (void)region, (void)length;
+    return from == 700 * 4096 ? EIO : from == 800 * 4096 ? EPERM : 0;
+}
+
+/* Where discards fail, and later ones don't, the last reason stays. What a monitor discards by itself, nobody else does. */
 static void a_reason_stays(void)
 {
     static struct guest guest;
     const uint32_t pages[] = { 700, 800, 900 };
     start(&guest, 0, REFUSES, LINUX_FEATURES, 4);
-    guest.balloon.discard = fail_at_700;
+    guest.balloon.discard = fail_by_page;
+    memset(at(&guest, 900 * 4096), 1, 4096);
     name_pages(&guest, VB_INFLATE, pages, 3);
     struct balloon_result result = balloon_notify(&guest.balloon, VB_INFLATE);
-    EXPECT(result.kept == 1 && result.error == EIO && result.discarded == 2);
+    EXPECT(result.kept == 2 && result.error == EPERM && result.discarded == 1 && stay(&guest, 900, 1));
     free_memory(&guest);
 }
 
@@ -76,15 +98,6 @@ static int never_discard(void *context, const struct balloon_region *region, uin
 {
     (void)context, (void)region, (void)from, (void)length;
     exit(1);
-}
-
-/* The guest's pages from this one on, so many, have their bytes. */
-static bool stay(const struct guest *guest, uint32_t first, uint32_t count)
-{
-    bool all = true;
-    for (uint32_t page = first; page < first + count; page++)
-        all &= resident(guest, page) && *at(guest, page * 4096ull + 4095) == 1;
-    return all;
 }
 
 /* A notice that keeps all pages tells them and marks them, and counts those that were given up or are free: nothing is
@@ -135,7 +148,9 @@ static void a_notice_may_keep_all_pages(void)
 
 void test_discards(void)
 {
-    RUN(the_machine_is_asked_again());
+    RUN(the_machine_is_asked_again(0));
+    RUN(the_machine_is_asked_again(BALLOON_SHARED));
+    RUN(the_machine_is_asked_again(BALLOON_PRIVATE));
     RUN(a_reason_stays());
     RUN(pages_may_be_kept());
     RUN(a_notice_may_keep_all_pages());

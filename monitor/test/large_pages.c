@@ -43,10 +43,10 @@ static struct balloon_result report_pages(struct guest *guest, uint32_t first, u
     return balloon_notify(&guest->balloon, VB_REPORT);
 }
 
-static void start_large(struct guest *guest, struct larges *seen, uint64_t page_size, uint64_t features)
+static void start_large(struct guest *guest, struct larges *seen, int region, uint64_t page_size, uint64_t features)
 {
     make_memory(guest, 0);
-    guest->regions[0].page_size = page_size;
+    guest->regions[region].page_size = page_size;
     memset(seen, 0, sizeof *seen);
     EXPECT(balloon_init(&guest->balloon, guest->regions, 2, REFUSES) == VB_OK);
     guest->balloon.context = seen;
@@ -70,7 +70,7 @@ static void a_large_page_goes_once_it_is_given_up(void)
 {
     static struct guest guest;
     struct larges seen;
-    start_large(&guest, &seen, LARGE_MIB * MIB, LINUX_FEATURES);
+    start_large(&guest, &seen, 0, LARGE_MIB * MIB, LINUX_FEATURES);
     struct balloon_result result = move_pages(&guest, VB_INFLATE, 512, LARGE_PAGES - 1);
     EXPECT(result.discarded == 0 && result.waiting == LARGE_PAGES - 1 && seen.calls == 0);
     result = move_pages(&guest, VB_INFLATE, 1023, 1);
@@ -94,9 +94,10 @@ static void a_large_page_goes_once_it_is_given_up(void)
     EXPECT(seen.calls == 5 && seen.from == LARGE_MIB * MIB && seen.length == 2 * LARGE_MIB * MIB);
     EXPECT(balloon_write_status(&guest.balloon, 0, &result) == 0);
     start_features(&guest, LINUX_FEATURES, 8);
-    EXPECT(balloon_write_status(&guest.balloon, 15, &result) == 0);
-    result = move_pages(&guest, VB_INFLATE, 600, 1);        /* nothing is in the balloon after a reset */
-    EXPECT(result.discarded == 0 && result.waiting == 1 && seen.calls == 5);
+    name_pages(&guest, VB_INFLATE, (const uint32_t[]){ 600 }, 1);
+    EXPECT(balloon_write_status(&guest.balloon, 15, &result) == 0);         /* nothing is in the balloon after a reset */
+    EXPECT(result.chains == 1 && result.marked == 1 && result.discarded == 0 && result.waiting == 1 && result.in_holes == 0);
+    EXPECT(seen.calls == 5);
     stop_large(&guest);
 }
 
@@ -105,7 +106,7 @@ static void the_set_may_not_count(bool has_set, uint64_t features)
 {
     static struct guest guest;
     struct larges seen;
-    start_large(&guest, &seen, LARGE_MIB * MIB, features);
+    start_large(&guest, &seen, 0, LARGE_MIB * MIB, features);
     uint64_t *set = guest.balloon.ballooned;
     guest.balloon.ballooned = has_set ? set : NULL;
     struct balloon_result result = move_pages(&guest, VB_INFLATE, 512, LARGE_PAGES);
@@ -132,11 +133,30 @@ static void a_page_size_may_not_fit(void)
         EXPECT(large.cut.offset == (rows[row].goes ? part.offset : 0) && large.cut.length == (rows[row].goes ? part.length : 0));
         EXPECT(large.cut.in_file == (rows[row].goes ? part.in_file : 0));
     }
+    static const uint64_t none[] = { 3 * MIB, 2048, 1 };
+    for (size_t row = 0; row < sizeof none / sizeof *none; row++) {
+        static struct guest guest;
+        struct larges seen;
+        start_large(&guest, &seen, 0, none[row], LINUX_FEATURES);
+        struct balloon_result result = move_pages(&guest, VB_INFLATE, 512, 256);
+        EXPECT(result.discarded == 0 && result.waiting == 256 && seen.calls == 0);
+        stop_large(&guest);
+    }
+}
+
+/* Large pages behind the second region alone, and what waits of two of them in one request. */
+static void one_region_may_be_of_large_pages(void)
+{
     static struct guest guest;
     struct larges seen;
-    start_large(&guest, &seen, 3 * MIB, LINUX_FEATURES);
-    struct balloon_result result = move_pages(&guest, VB_INFLATE, 512, 256);
-    EXPECT(result.discarded == 0 && result.waiting == 256 && seen.calls == 0);
+    const uint32_t first = (uint32_t)(HIGH_ADDRESS / 4096), pages[] = { first, first + LARGE_PAGES, first + LARGE_PAGES + 1 };
+    start_large(&guest, &seen, 1, LARGE_MIB * MIB, LINUX_FEATURES);
+    name_pages(&guest, VB_INFLATE, pages, 3);
+    struct balloon_result result = balloon_notify(&guest.balloon, VB_INFLATE);
+    EXPECT(result.pages == 3 && result.waiting == 3 && result.discarded == 0 && result.in_holes == 0 && seen.calls == 0);
+    result = move_pages(&guest, VB_INFLATE, first + LARGE_PAGES + 2, LARGE_PAGES - 2);
+    EXPECT(result.discarded == LARGE_PAGES - 2 - 256 && result.waiting == 256 && seen.calls == 1);
+    EXPECT(seen.from == LARGE_MIB * MIB && seen.length == LARGE_MIB * MIB);
     stop_large(&guest);
 }
 
@@ -152,7 +172,7 @@ static void huge_pages_go(void)
             close(file);
         return;
     }
-    start_large(&guest, &seen, 0, LINUX_FEATURES);
+    start_large(&guest, &seen, 0, 0, LINUX_FEATURES);
     uint8_t *huge = mmap(NULL, 2 * LARGE_MIB * MIB, PROT_READ | PROT_WRITE, MAP_SHARED, file, 0);
     EXPECT(huge != MAP_FAILED);
     memset(huge, 7, 2 * LARGE_MIB * MIB);
@@ -176,5 +196,6 @@ void test_large_pages(void)
     RUN(the_set_may_not_count(false, LINUX_FEATURES));
     RUN(the_set_may_not_count(true, LINUX_FEATURES & ~(uint64_t)MUST_TELL_HOST));
     RUN(a_page_size_may_not_fit());
+    RUN(one_region_may_be_of_large_pages());
     RUN(huge_pages_go());
 }

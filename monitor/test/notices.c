@@ -13,7 +13,9 @@ static void a_notice_has_an_end(void)
     EXPECT(result.code == VB_OK && result.chains == 4 && !result.more && used_index(&guest, VB_DEFLATE) == 4);
     name_pages(&guest, VB_DEFLATE, &page, 1);
     EXPECT(balloon_notify_number(&guest.balloon, 1).chains == 1);
-    EXPECT(balloon_notify_number(&guest.balloon, 4).code == VB_NO_QUEUE);
+    const uint32_t none[] = { 4, 256, 1 << 16, UINT32_MAX };
+    for (size_t i = 0; i < sizeof none / sizeof *none; i++)
+        EXPECT(balloon_notify_number(&guest.balloon, none[i]).code == VB_NO_QUEUE);
     free_memory(&guest);
 }
 
@@ -120,6 +122,34 @@ static void all_queues_are_looked_at(void)
     }
     result = balloon_notify(&guest.balloon, VB_DEFLATE);
     EXPECT(result.chains == 3 && result.pages == 3 && result.marked == 1 && result.unmarked == 1 && words[9] == 0);
+    for (int i = 0; i < 2; i++)
+        name_pages(&guest, VB_DEFLATE, pages + 1, 2);
+    result = balloon_notify(&guest.balloon, VB_DEFLATE);
+    EXPECT(result.chains == 2 && result.pages == 2 && result.skipped == 2 && result.unmarked == 2);
+    free_memory(&guest);
+}
+
+/* At DRIVER_OK a queue's fault is told beside what was served before it, and what a budget leaves is told of any queue. */
+static void a_look_at_all_queues_may_end_early(void)
+{
+    static struct guest guest;
+    const uint32_t page = 900;
+    struct balloon_result result;
+    make_memory(&guest, 0);
+    EXPECT(balloon_init(&guest.balloon, guest.regions, 2, REFUSES) == VB_OK);
+    start_features(&guest, LINUX_FEATURES, 8);
+    name_pages(&guest, VB_INFLATE, &page, 1);
+    publish(&guest, VB_DEFLATE, 8);
+    EXPECT(balloon_write_status(&guest.balloon, 15, &result) == 0);
+    EXPECT(result.code == VB_BROKEN && result.rule == 1 && result.configuration && result.chains == 1);
+    EXPECT(result.interrupts == 1 << VB_INFLATE && used_index(&guest, VB_INFLATE) == 1 && used_index(&guest, VB_DEFLATE) == 0);
+    start_features(&guest, LINUX_FEATURES, 8);
+    guest.balloon.most_chains = 1;
+    for (int i = 0; i < 2; i++)
+        name_pages(&guest, VB_DEFLATE, &page, 1);
+    EXPECT(balloon_write_status(&guest.balloon, 15, &result) == 0 && result.chains == 1 && result.more && !result.configuration);
+    result = balloon_notify(&guest.balloon, VB_DEFLATE);
+    EXPECT(result.chains == 1 && !result.more && used_index(&guest, VB_DEFLATE) == 2);
     free_memory(&guest);
 }
 
@@ -130,4 +160,5 @@ void test_notices(void)
     RUN(a_notice_keeps_to_its_budget());
     RUN(an_error_of_one_queue_is_told_with_the_others());
     RUN(all_queues_are_looked_at());
+    RUN(a_look_at_all_queues_may_end_early());
 }

@@ -1,8 +1,17 @@
 /* Regions that touch, have bounds or are mapped anew, and queues that aren't there. */
 #include "test.h"
 
-/* Two halves of a file that stand in memory in the other order: a run, a ring and a buffer over the boundary. */
-static void regions_may_touch(void)
+#ifndef RUST_SHIM
+static int discard_likewise(void *context, const struct balloon_region *region, uint64_t from, uint64_t length)
+{
+    (void)context;
+    return balloon_discard_bytes(region, from, length);
+}
+#endif
+
+/* Two halves of a file that stand in memory in the other order: a run, a ring and a buffer over the boundary. A monitor may
+ * discard by itself as the balloon does. */
+static void regions_may_touch(int (*discard)(void *, const struct balloon_region *, uint64_t, uint64_t))
 {
     static struct guest guest;
     struct balloon *balloon = &guest.balloon;
@@ -14,6 +23,7 @@ static void regions_may_touch(void)
                                         { 0, half, guest.regions[0].host + half, guest.regions[0].fd, half, 0 } };
     EXPECT(balloon_init(balloon, regions, 2, REFUSES) == VB_OK);
     EXPECT(balloon->state.device.settings.memory_end == 2 * half);
+    balloon->discard = discard;
     start_features(&guest, VERSION_1, 256);
     EXPECT(balloon_place(balloon, VB_INFLATE, half - 2048, avail_of(VB_INFLATE), used_of(VB_INFLATE), 256) == VB_OK);
     EXPECT(balloon_write_status(balloon, 15, &result) == 0);
@@ -85,6 +95,39 @@ static void memory_is_mapped_anew(void)
     free_memory(&guest);
 }
 
+/* Beyond 4 GiB of a region, and of its file, numbers of 64 bits say where a ring, a buffer and a page lie. What stands in the
+ * `offset` of memory without a file means nothing. */
+static void regions_may_be_far(bool has_file)
+{
+    static struct guest guest;
+    struct balloon *balloon = &guest.balloon;
+    const uint64_t far = 5ull << 30, ring = far + 0x10000, buffer = far + 0x20000, length = far + MIB;
+    const uint32_t page = (uint32_t)(far / 4096) + 100, low = (uint32_t)((far + 100 * 4096) % (1ull << 32) / 4096);
+    const int flags = MAP_NORESERVE | (has_file ? MAP_SHARED : MAP_PRIVATE | MAP_ANONYMOUS);
+    int fd = has_file ? memfd_create("far", 0) : BALLOON_PRIVATE;
+    struct balloon_result result;
+    EXPECT(!has_file || (fd >= 0 && ftruncate(fd, (off_t)(far + length)) == 0));
+    void *host = mmap(NULL, length, PROT_READ | PROT_WRITE, flags, has_file ? fd : -1, has_file ? (off_t)far : 0);
+    EXPECT(host != MAP_FAILED);
+    const struct balloon_region region = { 0, length, host, fd, has_file ? far : 1ull << 63, 0 };
+    EXPECT(balloon_init(balloon, &region, 1, REFUSES) == VB_OK);
+    start_features(&guest, LINUX_FEATURES, 8);
+    EXPECT(balloon_place(balloon, VB_INFLATE, ring, ring + 4096, ring + 8192, 8) == VB_OK);
+    EXPECT(balloon_write_status(balloon, 15, &result) == 0);
+    memset(at(&guest, page * 4096ull), 1, 4096);
+    memset(at(&guest, low * 4096ull), 1, 4096);
+    put(&guest, buffer, page, 4);
+    put(&guest, ring, buffer, 8);
+    put(&guest, ring + 8, 4, 4);
+    put(&guest, ring + 4096 + 2, 1, 2);
+    result = balloon_notify(balloon, VB_INFLATE);
+    EXPECT(result.code == VB_OK && result.discarded == 1 && result.error == 0 && get(&guest, ring + 8192 + 2, 2) == 1);
+    EXPECT(!resident(&guest, page) && resident(&guest, low) && *at(&guest, low * 4096ull) == 1);
+    munmap(host, length);
+    if (has_file)
+        close(fd);
+}
+
 /* A notice of a queue without a place, or without its feature, says so. */
 static void queues_may_be_missing(void)
 {
@@ -107,8 +150,13 @@ static void queues_may_be_missing(void)
 
 void test_regions(void)
 {
-    RUN(regions_may_touch());
+    RUN(regions_may_touch(NULL));
+#ifndef RUST_SHIM
+    RUN(regions_may_touch(discard_likewise));
+#endif
     RUN(regions_have_bounds());
     RUN(memory_is_mapped_anew());
+    RUN(regions_may_be_far(true));
+    RUN(regions_may_be_far(false));
     RUN(queues_may_be_missing());
 }
