@@ -10,7 +10,7 @@ from host_checks import check_decisions, eventually
 from linux_guest import PAGES_PER_MIB
 from linux_host import pairs
 from linux_kit import demand
-from vhost_client import BUFFERS, DEFLATE, INFLATE, LIMIT, NO_NUMBERS, PAGE, REGIONS, STATISTICS, Client
+from vhost_client import BUFFERS, DEFLATE, INFLATE, LIMIT, NO_LINES, NO_NUMBERS, PAGE, REGIONS, STATISTICS, Client
 
 FREE_MEMORY = 4
 
@@ -29,6 +29,7 @@ LINES = (
     ("budget 5 ", "error"), ("budget 5", "ok"), ("floor 0", "ok"), ("floor 16777216", "error"), ("a counters", "error: nobody is there"),
     ("b counters", "error: add"), ("remove b", "error: no guest"), ("remove a", "ok"), ("a counters", "error: add"),
     ("guests x", "error"), ("frames", "error"),
+    *((f"{it}budget 7", "error: add") for it in NO_LINES), ("budget 7\0", "error: add"),
     *((f"{word} {it}", "error: a number of MiB") for word in ("budget", "floor") for it in (*NO_NUMBERS, "16777216")),
 )
 

@@ -41,6 +41,9 @@ LIMIT = 20
 # Words that are no decimal number, nor one of 64 bits: what C's strtoul would take is among them.
 NO_NUMBERS = ("", "x", " 5", "+5", "-1", "5 ", "5x", "0x5", "-18446744073709551615", "18446744073709551621")
 
+# What may stand in front of a line so that nothing of it is obeyed: more bytes than a line may have, or a byte 0.
+NO_LINES = (*("x" * it for it in (127, 128, 254, 255, 256, 257, 511, 512, 513)), "\0", "x\0")
+
 
 class Client:
     """A vhost-user client with memory; `why` says what its backend said last."""

@@ -11,7 +11,7 @@ import unittest
 import linux_kit
 from vhost_client import (
     BUFFERS, DEFLATE, FEATURES, GET_CONFIG, GET_FEATURES, GET_PROTOCOL_FEATURES, GET_QUEUE_NUM, HAS_PROTOCOL, INFLATE, LIMIT,
-    NEXT, NO_NUMBERS, OFFERED, PAGE, PAGES_OF_REGION, REGIONS, REPORT, SET_CONFIG, SET_FEATURES, SIZE, STATISTICS, WRITE,
+    NEXT, NO_LINES, NO_NUMBERS, OFFERED, PAGE, PAGES_OF_REGION, REGIONS, REPORT, SET_CONFIG, SET_FEATURES, SIZE, STATISTICS, WRITE,
 )
 from vhost_served import Served
 
@@ -290,6 +290,9 @@ class Serves(Good):
         numbers = [f"target {it}" for it in (*NO_NUMBERS, "4294967296")]
         for line in ("", "target", *numbers, "snapshot", "audit", "x" * 60):
             self.assertTrue(client.backend.ask(line).startswith("error: "), line)
+        for begin in NO_LINES:
+            self.assertTrue(client.backend.ask(f"{begin}target 7").startswith("error: "), begin)
+        self.assertTrue(client.backend.ask("target 7\0").startswith("error: "))
         self.assertEqual((client.counter("target"), client.backend.ask("target 4294967295")), (0, "ok"))
 
     def test_quit(self):

@@ -86,8 +86,20 @@ bool backend_finish(struct backend *backend, const struct balloon_result *result
 void statistics_keep(struct backend *backend, const VbStatistic *figures, uint32_t count);
 uint32_t statistics_room(uint32_t count);
 
+/* What has come of a control pipe's next line. */
+struct control_line {
+    char bytes[256];
+    size_t length;
+    bool cut;                   /* it is longer than that, and its first bytes are gone */
+};
+
+/* Reads what stands in the control pipe, and has its whole lines obeyed, as long as `obey` answers 1; returns what that
+ * answered last, and 0 at the pipe's end. A line that is too long, or that has a byte 0, is obeyed as an empty one, which
+ * says nothing. */
+int control_read(struct control_line *line, int (*obey)(void *context, const char *line), void *context);
+
 /* Obeys one line of the control pipe, with one line on standard output: 1; 0 where it says to quit; -1 where the client
  * can't be served any longer. */
-int control_line(struct backend *backend, const char *line);
+int control_obey(struct backend *backend, const char *line);
 
 #endif

@@ -4,6 +4,7 @@
 
 #include <inttypes.h>
 #include <stdio.h>
+#include <unistd.h>
 
 /* The names of the tags (VIRTIO 1.1, 5.5.6.3, and Linux). */
 static const char *tag_name(uint16_t tag)
@@ -70,7 +71,28 @@ static void set_target(struct backend *backend, const char *number)
     puts("ok");
 }
 
-int control_line(struct backend *backend, const char *line)
+int control_read(struct control_line *line, int (*obey)(void *context, const char *line), void *context)
+{
+    ssize_t got = read(STDIN_FILENO, line->bytes + line->length, sizeof line->bytes - line->length);
+    if (got <= 0)
+        return got < 0 && errno == EINTR;
+    line->length += (size_t)got;
+    for (char *end; (end = memchr(line->bytes, '\n', line->length));) {
+        *end = 0;
+        bool whole = !line->cut && line->bytes + strlen(line->bytes) == end;
+        int obeyed = obey(context, whole ? line->bytes : "");
+        if (obeyed <= 0)
+            return obeyed;
+        line->cut = false;
+        line->length -= (size_t)(end + 1 - line->bytes);
+        memmove(line->bytes, end + 1, line->length);
+    }
+    if (line->length == sizeof line->bytes)
+        line->length = 0, line->cut = true;
+    return 1;
+}
+
+int control_obey(struct backend *backend, const char *line)
 {
     bool served = true;
     if (!strcmp(line, "quit"))

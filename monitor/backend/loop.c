@@ -3,11 +3,10 @@
 #include "guard.h"
 #include "state.h"
 
-#include <errno.h>
 #include <time.h>
 #include <unistd.h>
 
-enum { BALLOON_FEATURES = 0x27, LOOK_EVERY = 1000, IDLE_EVERY = 50, POLL_EVERY = 10, MOST_LINE = 128 };
+enum { BALLOON_FEATURES = 0x27, LOOK_EVERY = 1000, IDLE_EVERY = 50, POLL_EVERY = 10 };
 
 /* What is waited for, in this order: the client, the control pipe, the queues' kicks. */
 enum { CLIENT, PIPE, KICKS, FILES = KICKS + QUEUES };
@@ -16,8 +15,7 @@ struct loop {
     struct backend *backend;
     int (*serve)(struct backend *backend);
     int64_t look;               /* when the next look is */
-    size_t length;              /* of what is left of the last line that came */
-    char line[MOST_LINE];
+    struct control_line line;
 };
 
 /* Reads an option that has a word; false where it is none. */
@@ -58,25 +56,9 @@ static int64_t now(void)
     return time.tv_sec * INT64_C(1000) + time.tv_nsec / 1000000;
 }
 
-/* Reads what stands in the control pipe and obeys its whole lines: 1; 0 at its end, or where it says to quit; -1 where
- * the client can't be served any longer. */
-static int obey(struct loop *loop)
+static int obey(void *backend, const char *line)
 {
-    ssize_t got = read(STDIN_FILENO, loop->line + loop->length, MOST_LINE - 1 - loop->length);
-    if (got <= 0)
-        return got < 0 && errno == EINTR;
-    loop->length += (size_t)got;
-    loop->line[loop->length] = 0;
-    for (char *end; (end = strchr(loop->line, '\n'));) {
-        *end = 0;
-        int obeyed = control_line(loop->backend, loop->line);
-        if (obeyed <= 0)
-            return obeyed;
-        loop->length -= (size_t)(end + 1 - loop->line);
-        memmove(loop->line, end + 1, loop->length + 1);
-    }
-    loop->length = loop->length < MOST_LINE - 1 ? loop->length : 0;
-    return 1;
+    return control_obey(backend, line);
 }
 
 /* How long to wait for something to do, in milliseconds. */
@@ -98,7 +80,7 @@ static int serve(struct loop *loop, const struct pollfd files[FILES])
 {
     int served = files[CLIENT].revents ? loop->serve(loop->backend) : 1;
     if (served > 0 && files[PIPE].revents)
-        served = obey(loop);
+        served = control_read(&loop->line, obey, loop->backend);
     if (served <= 0)
         return served;
     bool good = rings_kicked(loop->backend, files + KICKS) && rings_look(loop->backend)

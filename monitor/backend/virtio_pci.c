@@ -52,13 +52,17 @@ uint32_t pci_read_configuration(const struct virtio_pci *pci, uint32_t at, uint3
     return value;
 }
 
-/* The command, the base address, and what a driver may note for itself. */
+/* Bytes of the command, of the base address, and of what a driver may note for itself. */
+static bool is_writable(uint32_t at)
+{
+    return at == 4 || at == 5 || at == 0x0c || at == 0x0d || (at >= 0x10 && at < 0x14) || at == 0x3c;
+}
+
 void pci_write_configuration(struct virtio_pci *pci, uint32_t at, uint32_t value, uint32_t length)
 {
-    bool writable = at == 4 || at == 5 || (at >= 0x0c && at <= 0x0d) || (at >= 0x10 && at < 0x14) || at == 0x3c;
-    if (!writable || length > 4)
-        return;
-    memcpy(pci->configuration + at, &value, length);
+    for (uint32_t i = 0; length <= 4 && i < length; i++)
+        if (is_writable(at + i))
+            pci->configuration[at + i] = (uint8_t)(value >> 8 * i);
     memset(pci->configuration + 0x10, 0, 1);
     pci->configuration[0x11] &= (uint8_t)~((BAR_SIZE - 1) >> 8);
 }

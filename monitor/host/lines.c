@@ -79,7 +79,7 @@ static void guest_line(struct seat *seat, const char *line)
     else if (!strcmp(line, "ask"))
         puts(seat_ask(seat) ? "asked" : "nothing");
     else if (strcmp(line, "quit"))
-        control_line(&seat->backend, line);
+        control_obey(&seat->backend, line);
     else
         puts("error: quit is for all guests");
 }

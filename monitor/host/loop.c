@@ -1,19 +1,12 @@
 /* The loop of a host: all sockets at once, its control pipe, and a look each period. */
 #include "host.h"
 
-#include <errno.h>
 #include <poll.h>
 #include <stdio.h>
 #include <time.h>
 #include <unistd.h>
 
-enum { MOST_LINE = 256, POLL_EVERY = 10 };
-
-/* What is left of the last line that came. */
-struct pipe {
-    char line[MOST_LINE];
-    size_t length;
-};
+enum { POLL_EVERY = 10 };
 
 int64_t host_now(void)
 {
@@ -60,23 +53,9 @@ static void remind(struct host *host)
             seat_remind(host->seats[i]);
 }
 
-/* Reads what stands in the control pipe and obeys its whole lines; false at its end, or where it says to quit. */
-static bool obey(struct host *host, struct pipe *pipe)
+static int obey(void *host, const char *line)
 {
-    ssize_t got = read(STDIN_FILENO, pipe->line + pipe->length, MOST_LINE - 1 - pipe->length);
-    if (got <= 0)
-        return got < 0 && errno == EINTR;
-    pipe->length += (size_t)got;
-    pipe->line[pipe->length] = 0;
-    for (char *end; (end = strchr(pipe->line, '\n'));) {
-        *end = 0;
-        if (!host_line(host, pipe->line))
-            return false;
-        pipe->length -= (size_t)(end + 1 - pipe->line);
-        memmove(pipe->line, end + 1, pipe->length + 1);
-    }
-    pipe->length = pipe->length < MOST_LINE - 1 ? pipe->length : 0;
-    return true;
+    return host_line(host, line);
 }
 
 /* What is waited for: the control pipe, and of each seat its socket and the kicks of its queues. */
@@ -137,12 +116,12 @@ static void serve(struct host *host, const struct pollfd *files)
 int host_run(struct host *host)
 {
     struct pollfd files[MOST_FILES_OF_ALL];
-    struct pipe pipe = {.length = 0};
+    struct control_line line = {.length = 0};
     int64_t next = host_now() + host->period;
     for (bool asks = true;;) {
         wait_for(host, files, next - host_now());
         serve(host, files);
-        if (files[0].revents && !obey(host, &pipe))
+        if (files[0].revents && control_read(&line, obey, host) <= 0)
             return 0;
         if (host->news)
             policy_decide(host);
