@@ -75,8 +75,11 @@ class Tree:
 
 def read_outside(path):
     """Returns the text of a file that isn't one of the tree."""
-    with open(path, encoding="utf-8", errors="replace") as file:
-        return file.read()
+    try:
+        with open(path, encoding="utf-8", errors="replace") as file:
+            return file.read()
+    except OSError as error:
+        raise Fault(f"{path}: {error.strerror}") from error
 
 
 def contracts():
