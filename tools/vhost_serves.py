@@ -178,6 +178,18 @@ class Serves(Good):
         self.assertEqual((client.told(), client.used(INFLATE)), (INFLATE, (1, [(0, 0)])))
         self.assertEqual(client.holes(), [page, page + 2])
 
+    def test_regions_that_begin_within_their_files(self):
+        client = self.client()
+        client.offset = 8 * PAGE
+        for it in client.files:
+            os.pwrite(it, b"\xff" * client.offset, PAGES_OF_REGION * PAGE)
+        client.start()
+        first = REGIONS[1][0] // PAGE
+        client.post_pages(INFLATE, [first, first + 9, first + PAGES_OF_REGION - 1])
+        self.assertEqual((client.told(), client.used(INFLATE)), (INFLATE, (1, [(0, 0)])))
+        self.assertEqual(client.holes(), [first, first + 9, first + PAGES_OF_REGION - 1])
+        self.assertEqual(client.counter("held_kib"), 4 * (2 * (PAGES_OF_REGION + 8) - 3))
+
     def test_an_old_table_s_files_are_closed(self):
         client = self.started()
         before = client.open_files()
