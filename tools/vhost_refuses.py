@@ -177,10 +177,10 @@ class Refuses(unittest.TestCase):
     def test_more_regions_than_slots(self):
         client = Served()
         client.negotiate(protocol=QEMU_PROTOCOL)
-        region = lambda it: struct.pack("<QQQQQ", 0, it * PAGE, PAGE, REGIONS[0][1] + it * PAGE, it * PAGE)
+        region = lambda it: struct.pack("<QQQQQ", 0, (1 + it) * PAGE, PAGE, REGIONS[0][1] + it * PAGE, it * PAGE)
         for it in range(32):  # each touches the one before it
             client.accepted(ADD_MEM_REG, region(it), [client.files[0]])
-        self.assertEqual(client.counter("end"), 32)
+        self.assertEqual(client.counter("end"), 33)
         client.send(ADD_MEM_REG, region(32), [client.files[0]], flags=1)
         self.refused(client, "a region of the guest's memory can't be mapped")
 
