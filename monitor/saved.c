@@ -127,6 +127,9 @@ static void impossible_devices_are_not_saved(void)
     device.settings.memory_end = 8192;
     EXPECT(vb_save(&device, 0, bytes, sizeof bytes) == VB_IMPOSSIBLE);
     EXPECT(vb_save(&good, 65, bytes, sizeof bytes) == VB_IMPOSSIBLE && memcmp(bytes, before, sizeof bytes) == 0);
+    const size_t rooms[] = { 0, 1, VB_STATE_BYTES - 1 };
+    for (size_t i = 0; i < sizeof rooms / sizeof *rooms; i++)
+        EXPECT(balloon_save(&guest.balloon, bytes, rooms[i]) == VB_BAD_LENGTH && memcmp(bytes, before, sizeof bytes) == 0);
     EXPECT(vb_save(&good, 64, bytes, sizeof bytes) == VB_OK);
 }
 

@@ -148,10 +148,13 @@ static void queues_may_be_missing(void)
     EXPECT(balloon_write_status(&guest.balloon, 0, &result) == 0);
     EXPECT(balloon_notify(&guest.balloon, VB_INFLATE).code == VB_NOT_READY);
     EXPECT(balloon_write_status(&guest.balloon, 1, &result) == 0);
-    EXPECT(balloon_write_status(&guest.balloon, 3, &result) == 0);
-    EXPECT(balloon_negotiate(&guest.balloon, VERSION_1) == 0);
+    EXPECT(balloon_write_status(&guest.balloon, 3, &result) == 0 && !balloon_may_tell(&guest.balloon));
+    EXPECT(balloon_negotiate(&guest.balloon, 1) == 0 && balloon_write_status(&guest.balloon, 11, &result) == 5);
+    EXPECT(balloon_negotiate(&guest.balloon, VERSION_1 | 8) == 3 && balloon_write_status(&guest.balloon, 1, &result) == 1);
+    EXPECT(balloon_negotiate(&guest.balloon, VERSION_1) == 0 && balloon_write_status(&guest.balloon, 15, &result) == 2);
     EXPECT(balloon_write_status(&guest.balloon, 11, &result) == 0);
     EXPECT(balloon_write_status(&guest.balloon, 15, &result) == 0 && result.code == VB_NOTHING && result.chains == 0);
+    EXPECT(balloon_may_tell(&guest.balloon));
     EXPECT(balloon_notify(&guest.balloon, VB_INFLATE).code == VB_MISPLACED);
     free_memory(&guest);
 }
