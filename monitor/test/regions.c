@@ -131,6 +131,10 @@ static void regions_may_be_far(bool has_file)
     result = balloon_notify(balloon, VB_INFLATE);
     EXPECT(result.code == VB_OK && result.discarded == 1 && result.error == 0 && get(&guest, ring + 8192 + 2, 2) == 1);
     EXPECT(!resident(&guest, page) && resident(&guest, low) && *at(&guest, low * 4096ull) == 1);
+    describe(&guest, VB_REPORT, 0, 1 << 30, 400 * MIB, WRITE, 0);
+    publish(&guest, VB_REPORT, 0), publish(&guest, VB_REPORT, 0);
+    result = balloon_notify(balloon, VB_REPORT);
+    EXPECT(result.chains == 2 && !result.more && result.pages == 2 * 400 * MIB / 4096 && result.discarded == result.pages);
     munmap(host, length);
     if (has_file)
         close(fd);
