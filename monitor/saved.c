@@ -127,13 +127,16 @@ static void impossible_devices_are_not_saved(void)
     device.settings.memory_end = 8192;
     EXPECT(vb_save(&device, 0, bytes, sizeof bytes) == VB_IMPOSSIBLE);
     EXPECT(vb_save(&good, 65, bytes, sizeof bytes) == VB_IMPOSSIBLE && memcmp(bytes, before, sizeof bytes) == 0);
+    const size_t rooms[] = { 0, 1, VB_STATE_BYTES - 1 };
+    for (size_t i = 0; i < sizeof rooms / sizeof *rooms; i++)
+        EXPECT(balloon_save(&guest.balloon, bytes, rooms[i]) == VB_BAD_LENGTH && memcmp(bytes, before, sizeof bytes) == 0);
     EXPECT(vb_save(&good, 64, bytes, sizeof bytes) == VB_OK);
 }
 
 /* A balloon goes on where it stood; not over other memory, or with a queue in a hole. */
 static void a_balloon_goes_on(void)
 {
-    uint8_t bytes[VB_STATE_BYTES];
+    uint8_t bytes[VB_STATE_BYTES], again[VB_STATE_BYTES];
     struct balloon_region low = guest.regions[0];
     struct guest *it = &guest;
     EXPECT(reach(7) && balloon_save(&it->balloon, bytes, sizeof bytes) == VB_OK);
@@ -150,7 +153,9 @@ static void a_balloon_goes_on(void)
     bytes[100] ^= 1;
     EXPECT(balloon_restore(&it->balloon, bytes, sizeof bytes) == VB_BAD_SUM && it->balloon.state.device.status == 0);
     bytes[100] ^= 1;
+    balloon_set_target(&it->balloon, 99);
     EXPECT(balloon_restore(&it->balloon, bytes, sizeof bytes) == VB_OK);
+    EXPECT(balloon_save(&it->balloon, again, sizeof again) == VB_OK && memcmp(bytes, again, sizeof again) == 0);
     EXPECT(balloon_ask_statistics(&it->balloon).chains == 1 && used_index(it, VB_STATISTICS) == (uint16_t)(used + 1));
     EXPECT(last_used(it, VB_STATISTICS) == 3);
     name_pages(it, VB_INFLATE, (const uint32_t[]){ 700 }, 1);

@@ -1,6 +1,7 @@
 """Runs of a host without any Linux: what it answers to lines, and targets that are worked out by hand. Its guests are clients
 of 128 pages."""
 
+import os
 import select
 import struct
 import subprocess
@@ -39,17 +40,24 @@ class Talker(Client):
 
     def __init__(self, path, why, free):
         super().__init__(path, why)
-        self.free = free
+        self.free, self.tag, self.name = free, FREE_MEMORY, os.path.basename(path)
         self.start()
         self.tell()
 
     def tell(self):
         """Posts statistics."""
-        data = struct.pack("<HQ", FREE_MEMORY, self.free * PAGE)
+        data = struct.pack("<HQ", self.tag, self.free * PAGE)
         self.write(BUFFERS + PAGE, data)
         self.describe(STATISTICS, 0, BUFFERS + PAGE, len(data))
         self.publish(STATISTICS, 0)
         self.kick(STATISTICS)
+
+    def tell_again(self, town):
+        """Answers a question that is asked by a line."""
+        demand(town.host.ask(f"{self.name} ask") == "asked", f"{self.name} isn't asked")
+        while self.told(LIMIT) != STATISTICS:
+            pass
+        self.tell()
 
     def answer(self):
         """Answers a question, if there is one."""
@@ -121,6 +129,9 @@ def refuse_third(town, clients):
     refused.leave()
     said = town.host.why_of("c")
     demand(said == "refused c: no room for 128 pages: 28 are missing", said)
+    # Two guests of 512 KiB hold what the budget has, and no more.
+    counters = town.host.counters()
+    demand([counters[it] for it in ("held_kib", "peak_kib", "above")] == [1024, 1024, 0], f"the guests hold 1024 KiB: {counters}")
 
 
 def worked_run(bench):
@@ -157,6 +168,8 @@ def worked_run(bench):
         seen, counted = town.host.guests()["b"], pairs(town.host.ask("b counters").split())
         demand((seen["taken"], seen["inflated"], seen["deflated"]) == (8, 28, 28), f"b moved 28 pages, 8 of them by itself: {seen}")
         demand((counted["marked"], counted["unmarked"]) == (56, 0), f"28 pages went into b's set, and out of it: {counted}")
+        counters = town.host.counters()
+        demand(counters["peak_kib"] == 1536 and 0 < counters["above"] < counters["looks"], f"three held 1536 KiB: {counters}")
         decided = check_decisions(town)
         demand(decided == town.host.counters()["decisions"] > 0, f"the log has {decided} decisions: {town.host.counters()}")
         for it in clients:

@@ -56,6 +56,7 @@ class Client:
             os.write(it, b"\xff" * PAGES_OF_REGION * PAGE)
         self.available = [0] * 4
         self.region = 0  # where the rings are
+        self.offset = 0  # where each region begins in its file
         self.kicks, self.calls = [None] * 4, [None] * 4
 
     def connect(self):
@@ -103,13 +104,13 @@ class Client:
         """Writes bytes of the guest."""
         for (guest, _), file in zip(REGIONS, self.files):
             if guest <= address < guest + PAGES_OF_REGION * PAGE:
-                os.pwrite(file, data, address - guest)
+                os.pwrite(file, data, self.offset + address - guest)
 
     def read(self, address, length):
         """Reads bytes of the guest."""
         for (guest, _), file in zip(REGIONS, self.files):
             if guest <= address < guest + PAGES_OF_REGION * PAGE:
-                return os.pread(file, length, address - guest)
+                return os.pread(file, length, self.offset + address - guest)
         raise AssertionError(f"{address:x} is in a hole")
 
     def holes(self):
@@ -117,7 +118,8 @@ class Client:
         found = []
         for (guest, _), file in zip(REGIONS, self.files):
             for page in range(PAGES_OF_REGION):
-                if os.lseek(file, page * PAGE, os.SEEK_HOLE) == page * PAGE:
+                at = self.offset + page * PAGE
+                if os.lseek(file, at, os.SEEK_HOLE) == at:
                     found.append(guest // PAGE + page)
         return found
 
@@ -125,12 +127,12 @@ class Client:
         """Tells the backend of the memory."""
         table = struct.pack("<II", len(REGIONS), 0)
         for guest, user in REGIONS:
-            table += struct.pack("<QQQQ", guest, PAGES_OF_REGION * PAGE, user, 0)
+            table += struct.pack("<QQQQ", guest, PAGES_OF_REGION * PAGE, user, self.offset)
         self.accepted(SET_MEM_TABLE, table, self.files)
 
     def region_body(self, region):
         """Returns the body of a message that adds a region, or takes it away."""
-        return struct.pack("<QQQQQ", 0, REGIONS[region][0], PAGES_OF_REGION * PAGE, REGIONS[region][1], 0)
+        return struct.pack("<QQQQQ", 0, REGIONS[region][0], PAGES_OF_REGION * PAGE, REGIONS[region][1], self.offset)
 
     def add_memory(self):
         """Tells the backend of the memory, region by region."""

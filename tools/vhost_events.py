@@ -58,6 +58,27 @@ class Events(Lives):
         self.assertEqual(client.used(INFLATE)[0], 4)
         self.assertEqual(client.holes(), [FIRST + it for it in (0, 1, 2, 9)])
 
+    def test_a_ring_goes_on_at_an_index_of_two_bytes(self):
+        client = self.client()
+        client.negotiate(protocol=QEMU_PROTOCOL)
+        client.add_memory()
+        client.clear(INFLATE)
+        for part in (1, 2):
+            client.write(client.table(INFLATE) + part * PAGE + 2, struct.pack("<H", 0x1FFF))
+        client.available[INFLATE] = 0x1FFF
+        client.go_on([0x1FFF, 0, 0, 0])
+        client.called(INFLATE)
+        client.post_pages(INFLATE, [FIRST])
+        self.assertEqual((client.called(INFLATE), client.stop_ring(INFLATE), client.holes()), (1, 0x2000, [FIRST]))
+
+    def test_regions_of_one_file(self):
+        client = self.client()
+        os.close(client.files[1])
+        client.files[1] = os.dup(client.files[0])
+        client.negotiate(protocol=QEMU_PROTOCOL)
+        client.add_memory()
+        self.assertEqual(client.counter("held_kib"), 4 * PAGES_OF_REGION)
+
     def test_a_ring_that_was_stopped_is_not_served(self):
         client = self.started()
         self.served(client, INFLATE, [FIRST])

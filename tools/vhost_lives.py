@@ -23,6 +23,15 @@ class Lives(Kicked):
         accepted = [(True, 8), (True, 9), (False, 9), (False, 9), (True, 11), (True, 15), (False, 15), (True, 0)]
         self.assertEqual(answers, accepted)
 
+    def test_what_stops_all_rings(self):
+        for request, body in ((vhost_client.RESET_OWNER, b""), (SET_STATUS, word(0)), (RESET_DEVICE, b"")):
+            client = self.started()
+            self.served(client, INFLATE, [FIRST])
+            client.accepted(request, body)
+            self.assertEqual(client.counter("status"), 0)
+            client.post_pages(INFLATE, [FIRST + 1])
+            self.unserved(client, INFLATE)
+
     def test_features_before_the_status_that_stands_on_them(self):
         client = self.client()
         client.send(vhost_client.SET_PROTOCOL_FEATURES, word(QEMU_PROTOCOL), flags=1)
@@ -120,6 +129,33 @@ class Lives(Kicked):
         client.go_on()
         self.reported(client, FIRST + 1, 0)
 
+    def test_poison_val_is_kept_in_the_state(self):
+        client = self.client()
+        words = ("--features", "100000037", "--state", client.file("state"))
+        client.restart(*words)
+        client.connect()
+        client.negotiate(FEATURES | POISON)
+        client.accepted(SET_CONFIG, struct.pack("<IIII", 12, 4, 0, 0xFFFFFFFF))
+        client.counter("status")
+        client.restart(*words, killed=True)
+        client.connect()
+        client.start_by_events(features=FEATURES | POISON)
+        self.reported(client, FIRST, 1)
+
+    def test_a_state_s_file_is_whole_at_each_moment(self):
+        client = self.client()
+        state = client.file("state")
+        client.restart("--state", state)
+        self.assertEqual((client.backend.ask("target 7"), client.counter("target")), ("ok", 7))
+        with open(state, "rb") as before:
+            saved = before.read()
+            self.assertEqual((client.backend.ask("target 8"), client.counter("target")), ("ok", 8))
+            before.seek(0)
+            self.assertEqual((len(saved), before.read()), (191, saved))  # whoever has it open has the old one, whole
+        with open(state, "rb") as after:
+            self.assertNotEqual(after.read(), saved)
+        client.connect()
+
     def test_a_reset_forgets_the_rings(self):
         client = self.started()
         client.accepted(SET_CONFIG, struct.pack("<IIII", 4, 4, 0, 77))
@@ -159,3 +195,15 @@ class Lives(Kicked):
         self.assertEqual(client.used(INFLATE)[0], 4)
         self.assertEqual(client.holes(), [FIRST + it for it in range(4)])
         self.served(client, INFLATE, [FIRST + 4])
+        # And again while no ring runs.
+        bases = [client.stop_ring(number) for number in range(4)]
+        client.accepted(SET_STATUS, word(0))
+        client.counter("status")
+        client.restart("--state", state, killed=True)
+        client.connect()
+        client.negotiate(protocol=QEMU_PROTOCOL)
+        client.add_memory()
+        client.go_on(bases)
+        self.assertEqual((client.counter("status"), client.counter("actual")), (15, 2))
+        self.assertGreater(client.called(INFLATE), 0)
+        self.served(client, INFLATE, [FIRST + 5])

@@ -9,7 +9,7 @@ import unittest
 import linux_guest
 from vhost_client import (
     ADD_MEM_REG, BUFFERS, FEATURES, GET_CONFIG, GET_FEATURES, GET_STATUS, GET_VRING_BASE, INDIRECT, INFLATE, LIMIT, NEXT, NO_FILE,
-    PAGE, PAGES_OF_REGION, REGIONS, REM_MEM_REG, SET_BACKEND_REQ_FD, SET_CONFIG, SET_FEATURES, SET_MEM_TABLE,
+    PAGE, PAGES_OF_REGION, QEMU_PROTOCOL, REGIONS, REM_MEM_REG, SET_BACKEND_REQ_FD, SET_CONFIG, SET_FEATURES, SET_MEM_TABLE,
     SET_PROTOCOL_FEATURES, SET_VRING_ADDR, SET_VRING_BASE, SET_VRING_CALL, SET_VRING_ENABLE, SET_VRING_ERR, SET_VRING_KICK,
     SET_VRING_NUM, SIZE, STATISTICS, VRING_KICK, WRITE,
 )
@@ -152,6 +152,11 @@ class Refuses(unittest.TestCase):
             ("can't be mapped", SET_MEM_TABLE, struct.pack("<IIQQQQ", 1, 0, 0, 0, 0, 0), 1),
             ("can't be mapped", SET_MEM_TABLE, struct.pack("<IIQQQQ", 1, 0, 2**64 - PAGE, 2 * PAGE, 0, 0), 1),
             ("can't be mapped", SET_MEM_TABLE, struct.pack("<IIQQQQ", 1, 0, 0, PAGE, 0, 1), 1),
+            ("can't be mapped", SET_MEM_TABLE, struct.pack("<IIQQQQ", 1, 0, 0, 2 * PAGE, 2**64 - PAGE, 0), 1),
+            ("can't be mapped", SET_MEM_TABLE, struct.pack("<IIQQQQ", 1, 0, 0, 2 * PAGE, 0, 2**64 - PAGE), 1),
+            ("can't be mapped", SET_MEM_TABLE, struct.pack("<IIQQQQ", 1, 0, 0, PAGE, 0, 2**63), 1),
+            ("can't be mapped", SET_MEM_TABLE, struct.pack("<IIQQQQ", 1, 0, 0, PAGE, 0, PAGES_OF_REGION * PAGE), 1),
+            ("can't be mapped", SET_MEM_TABLE, struct.pack("<IIQQQQ", 1, 0, 0, PAGE + 1, 0, 0), 1),
             ("can't be mapped", SET_MEM_TABLE, struct.pack("<IIQQQQ", 1, 0, 1, PAGE, 0, 0), 1),
             ("can't be mapped", SET_MEM_TABLE, struct.pack("<IIQQQQ", 1, 0, 0, PAGE * 65, 0, 0), 1),
             ("can't be mapped", SET_MEM_TABLE, struct.pack("<II8Q", 2, 0, 0, PAGE * 2, 0, 0, PAGE, PAGE, 1 << 40, 0), 2),
@@ -168,6 +173,25 @@ class Refuses(unittest.TestCase):
                 client = self.started()
                 client.send(request, body, [client.files[0]] * files, flags=1)
                 self.refused(client, words)
+
+    def test_more_regions_than_slots(self):
+        client = Served()
+        client.negotiate(protocol=QEMU_PROTOCOL)
+        region = lambda it: struct.pack("<QQQQQ", 0, (1 + it) * PAGE, PAGE, REGIONS[0][1] + it * PAGE, it * PAGE)
+        for it in range(32):  # each touches the one before it
+            client.accepted(ADD_MEM_REG, region(it), [client.files[0]])
+        self.assertEqual(client.counter("end"), 33)
+        client.send(ADD_MEM_REG, region(32), [client.files[0]], flags=1)
+        self.refused(client, "a region of the guest's memory can't be mapped")
+
+    def test_channels_that_are_no_sockets(self):
+        ends = os.pipe()
+        event = os.eventfd(0)
+        for file in (*ends, event):
+            client = self.started()
+            client.send(SET_BACKEND_REQ_FD, b"", [file], flags=1)
+            self.refused(client, "the channel is no socket")
+            os.close(file)
 
     def test_flags(self):
         for flags in (0, 2, 3, 5):
@@ -223,6 +247,22 @@ class Refuses(unittest.TestCase):
                 ran = subprocess.run([program(), *words], stdin=subprocess.DEVNULL, capture_output=True, text=True, timeout=LIMIT)
                 said = f"refused: {path} is no saved state: it is answered {code}\n"
                 self.assertEqual((ran.returncode, ran.stdout, ran.stderr), (2, "", said))
+
+    def test_states_that_cannot_be_read_or_written(self):
+        for words, target, line in (
+            ("Too many levels of symbolic links", "state", False),
+            ("No space left on device", "/dev/full", True),
+            ("Is a directory", "", True),
+        ):
+            with self.subTest(words=words), tempfile.TemporaryDirectory() as folder:
+                path = os.path.join(folder, "state")
+                place = f"{path}.part" if line else path
+                os.symlink(target, place) if target else os.mkdir(place)
+                options = [program(), f"{folder}/socket", "--state", path]
+                ran = subprocess.run(options, input="target 5\n" * line, capture_output=True, text=True, timeout=LIMIT)
+                said = f"vhost_user_balloon: {folder}/socket: Operation canceled\n" * line
+                answers = "listening\nok\n" * line
+                self.assertEqual((ran.returncode, ran.stdout, ran.stderr), (2, answers, f"refused: {path}: {words}\n{said}"))
 
     def test_bytes_that_are_no_message(self):
         client = self.started()

@@ -69,7 +69,7 @@ class Served(Client):
             with open(f"/proc/{self.backend.process.pid}/stat", encoding="ascii") as stat:
                 return sum(map(int, stat.read().rsplit(")", 1)[1].split()[11:13])) / os.sysconf("SC_CLK_TCK")
         before = seconds()
-        time.sleep(0.4)
+        time.sleep(0.8)
         return seconds() - before < 0.1
 
     def open_files(self):

@@ -126,12 +126,15 @@ class Serves(Good):
         client = self.started()
         first, hole, end = (REGIONS[region][0] // PAGE + more for region, more in ((1, 0), (0, PAGES_OF_REGION), (1, PAGES_OF_REGION)))
         post_statistics(client, 11)
+        self.assertEqual(client.backend.statistics(), (1, {"free_memory": 11}))
         for number, pages in ((INFLATE, [first, first + 1, first + 2, hole, end]), (DEFLATE, [first, first + 1])):
             client.post_pages(number, pages)
+            self.assertEqual(client.told(), number)
         for page, count in ((first + 8, 4), (first + 20, 3)):
             client.describe(REPORT, 0, page * PAGE, count * PAGE, WRITE)
             client.publish(REPORT, 0)
             client.kick(REPORT)
+            self.assertEqual(client.told(), REPORT)
         client.accepted(SET_CONFIG, struct.pack("<IIII", 4, 4, 0, 6))
         self.assertEqual((client.backend.ask("target 6"), client.backend.ask("ask")), ("ok", "asked"))
         # 128 pages less 3 and 7; 21 messages until the queues run, 5 kicks and a write; a question gives one more buffer back.
@@ -177,6 +180,18 @@ class Serves(Good):
         client.post_pages(INFLATE, [page, page + 2])
         self.assertEqual((client.told(), client.used(INFLATE)), (INFLATE, (1, [(0, 0)])))
         self.assertEqual(client.holes(), [page, page + 2])
+
+    def test_regions_that_begin_within_their_files(self):
+        client = self.client()
+        client.offset = 8 * PAGE
+        for it in client.files:
+            os.pwrite(it, b"\xff" * client.offset, PAGES_OF_REGION * PAGE)
+        client.start()
+        first = REGIONS[1][0] // PAGE
+        client.post_pages(INFLATE, [first, first + 9, first + PAGES_OF_REGION - 1])
+        self.assertEqual((client.told(), client.used(INFLATE)), (INFLATE, (1, [(0, 0)])))
+        self.assertEqual(client.holes(), [first, first + 9, first + PAGES_OF_REGION - 1])
+        self.assertEqual(client.counter("held_kib"), 4 * (2 * (PAGES_OF_REGION + 8) - 3))
 
     def test_an_old_table_s_files_are_closed(self):
         client = self.started()

@@ -28,13 +28,24 @@ static void a_device_moves(void)
 static void the_target_is_told(void)
 {
     static struct guest guest;
-    uint8_t words[8];
+    uint8_t words[8], all[300];
     start(&guest, 0, REFUSES, LINUX_FEATURES, 8);
     EXPECT(!balloon_is_off_target(&guest.balloon));
     balloon_set_target(&guest.balloon, 513);
     balloon_read_config(&guest.balloon, 0, words, 8);
     EXPECT(words[0] == 1 && words[1] == 2 && words[4] == 0 && balloon_is_off_target(&guest.balloon));
+    memset(all, 0xa5, sizeof all);
+    balloon_read_config(&guest.balloon, 0, all, sizeof all);
+    for (size_t i = 0; i < sizeof all; i++)
+        EXPECT(all[i] == (i == 0 ? 1 : i == 1 ? 2 : 0));
     EXPECT(balloon_write_config(&guest.balloon, 4, words, 4) == VB_OK && !balloon_is_off_target(&guest.balloon));
+    balloon_set_target(&guest.balloon, 512);
+    EXPECT(balloon_is_off_target(&guest.balloon));
+    balloon_set_target(&guest.balloon, 514);
+    EXPECT(balloon_is_off_target(&guest.balloon));
+    balloon_set_target(&guest.balloon, 513);
+    for (uint32_t offset = 256; offset < 1 << 20; offset *= 2)
+        EXPECT(balloon_write_config(&guest.balloon, offset + 4, all, 4) == VB_BAD_ARGUMENT && !balloon_is_off_target(&guest.balloon));
     EXPECT(balloon_write_config(&guest.balloon, 0, words, 4) == VB_BAD_ARGUMENT);
     free_memory(&guest);
 }

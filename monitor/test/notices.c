@@ -13,6 +13,7 @@ static void a_notice_has_an_end(void)
     EXPECT(result.code == VB_OK && result.chains == 4 && !result.more && used_index(&guest, VB_DEFLATE) == 4);
     name_pages(&guest, VB_DEFLATE, &page, 1);
     EXPECT(balloon_notify_number(&guest.balloon, 1).chains == 1);
+    EXPECT(guest.balloon.most_chains == 256 && guest.balloon.most_pages == UINT32_MAX);
     const uint32_t none[] = { 4, 256, 1 << 16, UINT32_MAX };
     for (size_t i = 0; i < sizeof none / sizeof *none; i++)
         EXPECT(balloon_notify_number(&guest.balloon, none[i]).code == VB_NO_QUEUE);

@@ -61,6 +61,9 @@ static void regions_have_bounds(void)
     for (size_t i = 0; i < sizeof wrong / sizeof wrong[0]; i++)
         EXPECT(balloon_set_regions(balloon, &wrong[i], 1) == VB_BAD_ARGUMENT && balloon->region_count == 2
                && balloon->regions == guest.regions);
+    memset(at(&guest, 600 * 4096), 1, 4096);
+    name_pages(&guest, VB_INFLATE, (const uint32_t[]){ 600 }, 1);
+    EXPECT(balloon_notify(balloon, VB_INFLATE).discarded == 1 && !resident(&guest, 600));       /* over the regions before */
     EXPECT(balloon_set_regions(balloon, guest.regions, 1) == VB_OK && balloon->region_count == 1);
     EXPECT(balloon->state.device.settings.memory_end == 8 * MIB);
     EXPECT(balloon_init(balloon, guest.regions, 0, REFUSES) == VB_BAD_ARGUMENT);
@@ -68,12 +71,17 @@ static void regions_have_bounds(void)
     free_memory(&guest);
 }
 
-/* Regions in the other order: what is discarded lies where the new ones say. */
+/* Regions in the other order: what is discarded lies where the new ones say, and what is in the balloon stays there. */
 static void memory_is_mapped_anew(void)
 {
     static struct guest guest;
+    static uint64_t words[96];          /* 6144 pages */
     const uint32_t pages[] = { 600, 4200 };
     start(&guest, 0, REFUSES, LINUX_FEATURES, 8);
+    guest.balloon.ballooned = words;
+    guest.balloon.ballooned_words = 96;
+    name_pages(&guest, VB_INFLATE, (const uint32_t[]){ 64 }, 1);
+    EXPECT(balloon_notify(&guest.balloon, VB_INFLATE).marked == 1 && words[1] == 1);
     memset(at(&guest, 600 * 4096), 1, 4096);
     memset(at(&guest, 4200 * 4096), 1, 4096);
     const struct balloon_region other[] = { guest.regions[1], guest.regions[0] };
@@ -81,7 +89,7 @@ static void memory_is_mapped_anew(void)
     name_pages(&guest, VB_INFLATE, pages, 2);
     struct balloon_result result = balloon_notify(&guest.balloon, VB_INFLATE);
     EXPECT(result.code == VB_OK && result.discarded == 2 && !resident(&guest, 600) && !resident(&guest, 4200));
-    EXPECT(used_index(&guest, VB_INFLATE) == 1);
+    EXPECT(used_index(&guest, VB_INFLATE) == 2 && result.marked == 2 && words[1] == 1 && words[9] == 1ull << 24);
 #ifndef RUST_SHIM
     static struct balloon_region many[BALLOON_MOST_REGIONS + 1];
     for (uint64_t i = 0; i <= BALLOON_MOST_REGIONS; i++)
@@ -123,6 +131,10 @@ static void regions_may_be_far(bool has_file)
     result = balloon_notify(balloon, VB_INFLATE);
     EXPECT(result.code == VB_OK && result.discarded == 1 && result.error == 0 && get(&guest, ring + 8192 + 2, 2) == 1);
     EXPECT(!resident(&guest, page) && resident(&guest, low) && *at(&guest, low * 4096ull) == 1);
+    describe(&guest, VB_REPORT, 0, 1 << 30, 400 * MIB, WRITE, 0);
+    publish(&guest, VB_REPORT, 0), publish(&guest, VB_REPORT, 0);
+    result = balloon_notify(balloon, VB_REPORT);
+    EXPECT(result.chains == 2 && !result.more && result.pages == 2 * 400 * MIB / 4096 && result.discarded == result.pages);
     munmap(host, length);
     if (has_file)
         close(fd);
@@ -140,10 +152,13 @@ static void queues_may_be_missing(void)
     EXPECT(balloon_write_status(&guest.balloon, 0, &result) == 0);
     EXPECT(balloon_notify(&guest.balloon, VB_INFLATE).code == VB_NOT_READY);
     EXPECT(balloon_write_status(&guest.balloon, 1, &result) == 0);
-    EXPECT(balloon_write_status(&guest.balloon, 3, &result) == 0);
-    EXPECT(balloon_negotiate(&guest.balloon, VERSION_1) == 0);
+    EXPECT(balloon_write_status(&guest.balloon, 3, &result) == 0 && !balloon_may_tell(&guest.balloon));
+    EXPECT(balloon_negotiate(&guest.balloon, 1) == 0 && balloon_write_status(&guest.balloon, 11, &result) == 5);
+    EXPECT(balloon_negotiate(&guest.balloon, VERSION_1 | 8) == 3 && balloon_write_status(&guest.balloon, 1, &result) == 1);
+    EXPECT(balloon_negotiate(&guest.balloon, VERSION_1) == 0 && balloon_write_status(&guest.balloon, 15, &result) == 2);
     EXPECT(balloon_write_status(&guest.balloon, 11, &result) == 0);
     EXPECT(balloon_write_status(&guest.balloon, 15, &result) == 0 && result.code == VB_NOTHING && result.chains == 0);
+    EXPECT(balloon_may_tell(&guest.balloon));
     EXPECT(balloon_notify(&guest.balloon, VB_INFLATE).code == VB_MISPLACED);
     free_memory(&guest);
 }

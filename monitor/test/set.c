@@ -89,6 +89,7 @@ static void the_set_is_kept(void)
     balloon->ballooned_words = 96;
     EXPECT(balloon_write_status(balloon, 1, &result) != 0 && vb_count_ballooned(words, 96) == 4);
     EXPECT(result.chains == 0);
+    EXPECT(balloon_write_status(balloon, 15, &result) == 0 && vb_count_ballooned(words, 96) == 4);
     EXPECT(balloon_write_status(balloon, 0, &result) == 0 && vb_count_ballooned(words, 96) == 0);
     free_memory(&guest);
 }
