@@ -72,9 +72,9 @@ ready = record (new_device settings) {
   report = ring;
 }
 
--- another ring, of which four chains were given back, and the device with it for each queue
+-- a smaller ring, of which five chains were given back, and the device with it for each queue
 abbrev pub elsewhere : Virtqueue
-elsewhere = record (placed 0x1000 0x1100 0x1200 8) { next_avail = 4; next_used = 4 }
+elsewhere = record (placed 0x1000 0x1100 0x1200 4) { next_avail = 5; next_used = 5 }
 
 abbrev pub far : Device
 far = record ready {
