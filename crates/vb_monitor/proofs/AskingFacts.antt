@@ -1,10 +1,11 @@
 -- What is done to ask for new statistics, worked out, and what isn't.
 use Rattle.std.proofs.Common.{◌≡◌, ◌⊎◌, refl, ap, arith, inl, inr, ℕ, List, [], ◌∷◌, ◌++◌, Option, Some, None}
-use Rattle.vb_core.specs.Rings.{used_entry}
+use Rattle.vb_core.{specs.Rings.used_entry, specs.declared.device.Device.Device}
+use Rattle.vb_core.specs.Devices.{placed}
 use Rattle.vb_monitor.specs.{declared.regions.Spot.Spot, Accesses.{Access, ReadWord, Full, Release}}
 use Rattle.vb_monitor.specs.{Accesses.{WriteNumber, WriteWord}, Giving.used_accesses}
 use Rattle.vb_monitor.{specs.Asking.{AsksForFlags, GivesHeldAlone}, proofs.Samples.{Same, two, at}}
-use Rattle.vb_monitor.proofs.Samples.{ready, index, descriptor, id, used_length, used_index, flags}
+use Rattle.vb_monitor.proofs.Samples.{ready, far, index, descriptor, id, used_length, used_index, flags}
 
 -- the buffer of head 3 is given back, and then the driver asked whether it wants an interrupt
 flags_read : AsksForFlags two ready (Full ∷ flags ∷ [])
@@ -30,6 +31,22 @@ without_flags = inr (record {
 
 nothing : GivesHeldAlone two 3 ready []
 nothing = inl refl
+
+-- the other queues stand elsewhere; the flags are a region's last two bytes
+abbrev at_the_end : Device
+at_the_end = record far { statistics = placed 0 0x14ffe 0x200 8 }
+
+last_flags : AsksForFlags two at_the_end (Full ∷ ReadWord (at 0x14ffe) 0 ∷ [])
+last_flags = record { at = at 0x14ffe; flags = 0; place = refl; asks = refl }
+
+given_back_alone : GivesHeldAlone two 3 at_the_end (id ∷ used_length ∷ Release ∷ used_index ∷ [])
+given_back_alone = inr (record {
+  spots = record { id = at 0x204; length = at 0x208; index = at 0x202 };
+  rest = [];
+  place = refl;
+  asks = refl;
+  then_flags = inl refl;
+})
 
 -- ---- what isn't done
 

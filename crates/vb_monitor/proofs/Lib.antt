@@ -12,6 +12,7 @@ pub mod TableRowLemmas
 pub mod TouchLemmas
 pub mod PartCounts
 mod RoomFacts
+mod QueueFacts
 mod RegionFacts
 mod SoleFacts
 mod FewFacts

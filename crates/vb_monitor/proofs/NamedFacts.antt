@@ -8,10 +8,10 @@ use Rattle.vb_core.specs.declared.kinds.Kind.TheVariants.{Inflate, Deflate, Stat
 use Rattle.vb_core.specs.declared.{name.Named.Named, runs.Run.Run, device.{Device.Device, Denial.{Denial, TheVariants.{Broken, BadArgument, NoQueue}}}}
 use Rattle.vb_core.specs.{Devices.with_one_taken, Name.NamesBy, Report.NamesPiecesBy, Runs.Tell}
 use Rattle.vb_monitor.specs.declared.outcome.{Outcome.Outcome}
-use Rattle.vb_monitor.specs.Accesses.{Access, CopyBytes, Release, TellPages}
+use Rattle.vb_monitor.specs.Accesses.{Access, CopyBytes, Release, TellPages, Discard}
 use Rattle.vb_monitor.specs.{Ends.{Whole, Stops}, Giving.{Then, after_use, with_given, spent, AfterName}}
 use Rattle.vb_monitor.specs.Chains.{AfterBytes, CopiesBy, ServesPieces}
-use Rattle.vb_monitor.proofs.Samples.{Same, two, at, ready, tally, piece, page_5, one_page, number, part, id, used_length, used_index}
+use Rattle.vb_monitor.proofs.Samples.{Same, two, at, ready, tally, piece, page_5, cut_5, one_page, number, part, id, used_length, used_index}
 use Rattle.vb_monitor.proofs.AheadFacts.{over, ends, needs_reset}
 
 -- ---- a request of no number, and bytes of a report, which name none at all
@@ -152,6 +152,55 @@ asked_back o = record {
       rest = back;
       asks = refl;
       gives_back = record { rest = []; asks = refl; goes_on = (refl, refl, refl) };
+    };
+  };
+}
+
+-- ---- pages 5 and 6 are named by one inflate, and told as one run
+
+abbrev both : List ℕ
+both = 5 ∷ 0 ∷ 0 ∷ 0 ∷ 6 ∷ 0 ∷ 0 ∷ 0 ∷ []
+
+abbrev run_of_both : Run
+run_of_both = record { first = 5; count = 2 }
+
+abbrev both_named : Named
+both_named = record { runs = 1; pages = 2; skipped = 0 }
+
+tells_both : Tell (run_of_both ∷ []) (5 ∷ 6 ∷ [])
+tells_both =
+    (5 ∷ 6 ∷ [], ([], (record { whole = refl; grows = (5, (6 ∷ [], (refl, (run_of_both, (refl, refl))))) }, (tt, refl))))
+
+names_both : NamesBy Inflate both 256 (run_of_both ∷ []) ready (with_one_taken Inflate ready) (Ok both_named)
+unfolding numbers_of lib.Count.ones
+names_both = record {
+  denied = λ why e. absurd cc;
+  names = λ e. (
+    Ok both_named,
+    record {
+      fault = λ f e. absurd cc;
+      named = λ e. record { told_so = tells_both; few = omega arith; count = refl; others = refl };
+    },
+    refl,
+    refl,
+  );
+}
+
+both_told : (o : Outcome) → AfterBytes Inflate (over Inflate ready o) (λ d t log. Unit {0}) ready tally 3 both
+    (TellPages Inflate (run_of_both ∷ []) both_named ∷ Discard (record cut_5 { length = 0x2000 }) ∷ back)
+unfolding lib.Count.ones
+both_told o = record {
+  answer = Ok both_named;
+  runs = run_of_both ∷ [];
+  device = with_one_taken Inflate ready;
+  names = names_both;
+  goes_on = record {
+    rest = Discard (record cut_5 { length = 0x2000 }) ∷ back;
+    asks = refl;
+    discards = record {
+      rest = back;
+      asks = refl;
+      gives_back = record { rest = []; asks = refl; goes_on = tt };
     };
   };
 }

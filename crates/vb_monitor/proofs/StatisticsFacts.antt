@@ -1,7 +1,7 @@
 -- Buffers of statistics, worked out: one is served, whose figures are told, and one is given back,
 -- to ask for new ones.
 use Rattle.std.proofs.Common.{◌≡◌, refl, ap, arith, ℕ, zero, suc, true, false, List, [], ◌∷◌, ◌++◌, Some, None}
-use Rattle.std.specs.Prelude.{take}
+use Rattle.std.specs.Prelude.{take, replicate}
 use Rattle.vb_chain.specs.declared.pieces.Piece.{Piece}
 use Rattle.vb_chain.specs.declared.fault.ChainFault.TheVariants.{WrongDirection, BadLength}
 use Rattle.vb_core.specs.declared.{kinds.Kind.TheVariants.Statistics, statistics.Statistic.Statistic}
@@ -104,6 +104,19 @@ of_no_figure = record {
   tells = record { rest = []; asks = refl; ends = record { nothing = refl; device = refl; outcome = refl } };
 }
 
+-- of more figures than the bytes have, the first are told
+of_three_figures : Told (ends one_held None false false) both (TellFigures figures ∷ [])
+unfolding lib.Count.ones
+of_three_figures = record {
+  figures = figure 4 ∷ figure 5 ∷ figure 6 ∷ [];
+  are = are_both_of_three;
+  tells = record { rest = []; asks = refl; ends = record { nothing = refl; device = refl; outcome = refl } };
+} where
+  are_both_of_three : AreFigures both (figure 4 ∷ figure 5 ∷ figure 6 ∷ [])
+  are_both_of_three zero d lt = refl
+  are_both_of_three (suc zero) d lt = refl
+  are_both_of_three (suc (suc k)) d lt = absurd (omega (arith, lt))
+
 untold : (o : Outcome) → Told o both [] → ⊥
 unfolding lib.Count.ones
 untold o h = let e = h.tells.asks in absurd cc
@@ -163,6 +176,15 @@ bad = ends tally (Some BadArgument) false false
 eleven_bytes : AfterBytes Statistics (over Statistics ready bad) none ready tally 3 (0 ∷ bytes_of 4) []
 unfolding lib.Count.ones
 eleven_bytes = record { nothing = refl; device = refl; outcome = refl }
+
+-- as many figures as have room are told, and one more is refused
+as_many_untold : (o : Outcome) → Told o (replicate 1020 0) [] → ⊥
+unfolding lib.Count.ones
+as_many_untold o h = let e = h.tells.asks in absurd cc
+
+one_too_many : AfterBytes Statistics (over Statistics ready bad) none ready tally 3 (replicate 1030 0) []
+unfolding lib.Count.ones
+one_too_many = record { nothing = refl; device = refl; outcome = refl }
 
 told_although_refused : (w : Whole) → FiguresBy (Some NotReady) w ready tally 3 both (TellFigures figures ∷ []) → ⊥
 told_although_refused w h = let e = h.nothing in absurd cc

@@ -1,0 +1,161 @@
+-- Each kind's notice is of its own queue, worked out: all others stand elsewhere, have fewer
+-- descriptors, and have gone on farther.
+use Rattle.std.proofs.Common.{◌≡◌, refl, ℕ, false, true, List, [], ◌∷◌, ◌++◌, Some, None}
+use Rattle.vb_chain.specs.declared.fault.ChainFault.TheVariants.{BadNext}
+use Rattle.vb_core.specs.declared.kinds.Kind.{Kind}
+use Rattle.vb_core.specs.declared.kinds.Kind.TheVariants.{Inflate, Deflate, Statistics, Report}
+use Rattle.vb_core.specs.declared.device.{Device.Device, Denial.TheVariants.Broken}
+use Rattle.vb_core.specs.Devices.{with_ring, needing_reset}
+use Rattle.vb_monitor.specs.declared.outcome.{Outcome.Outcome, Tally.Tally}
+use Rattle.vb_monitor.specs.Accesses.{Access, ReadWord, CopyBytes, Acquire, Full}
+use Rattle.vb_monitor.specs.{Ends.{Whole, Ends}, Giving.{Then, with_given, after_use, GivesBack}}
+use Rattle.vb_monitor.specs.Notices.{LooksBy, TakesChain, ServesPublished}
+use Rattle.vb_monitor.proofs.Samples.{at, ring, far, tally, index, naming, flags, given}
+use Rattle.vb_monitor.proofs.AheadFacts.{over, ends}
+
+-- the queue of this kind is the ring that the accesses are of
+abbrev only : Kind → Device
+only kind = with_ring kind ring far
+
+-- ---- the index
+
+abbrev stop : Then
+stop = λ d t log. log ≡ []
+
+looks : (kind : Kind) (d : Device) (o : Outcome) → LooksBy None (over kind d o) stop (only kind) tally (index ∷ [])
+looks Inflate d o = record { index = 1; rest = []; asks = refl; goes_on = refl }
+looks Deflate d o = record { index = 1; rest = []; asks = refl; goes_on = refl }
+looks Statistics d o = record { index = 1; rest = []; asks = refl; goes_on = refl }
+looks Report d o = record { index = 1; rest = []; asks = refl; goes_on = refl }
+
+-- what it publishes is taken, or is more than the queue has
+abbrev published : ℕ → Tally
+published n = record tally { chains = 0; published = n }
+
+abbrev Serves : Kind → ℕ → List Access → Type 0
+Serves kind n log =
+    ServesPublished 0 (over kind (only kind) (ends (published n) None false true)) (only kind) (published n) log
+
+eight_published : (kind : Kind) → Serves kind 8 []
+eight_published Inflate = record { nothing = refl; device = refl; outcome = refl }
+eight_published Deflate = record { nothing = refl; device = refl; outcome = refl }
+eight_published Statistics = record { nothing = refl; device = refl; outcome = refl }
+eight_published Report = record { nothing = refl; device = refl; outcome = refl }
+
+-- ---- a chain: head 7, and behind it descriptor 5 with two of its row, which names none that is there
+
+abbrev row : List ℕ
+row = naming 8 ++ naming 8 ++ naming 8
+
+abbrev broken : Kind → Whole
+broken kind = over kind (needing_reset (only kind)) (ends tally (Some (Broken BadNext)) false false)
+
+takes : (kind : Kind) → TakesChain (broken kind) stop (only kind) tally
+    (Acquire ∷ ReadWord (at 0x104) 7 ∷ CopyBytes (at 0x70) (naming 5) ∷ CopyBytes (at 0x50) row ∷ [])
+takes Inflate = record {
+  head = 7;
+  rest = CopyBytes (at 0x70) (naming 5) ∷ CopyBytes (at 0x50) row ∷ [];
+  asks = refl;
+  goes_on = record {
+    bytes = naming 5;
+    rest = CopyBytes (at 0x50) row ∷ [];
+    asks = refl;
+    long = refl;
+    goes_on = record {
+      bytes = row;
+      rest = [];
+      asks = refl;
+      long = refl;
+      goes_on = record { nothing = refl; device = refl; outcome = refl };
+    };
+  };
+}
+takes Deflate = record {
+  head = 7;
+  rest = CopyBytes (at 0x70) (naming 5) ∷ CopyBytes (at 0x50) row ∷ [];
+  asks = refl;
+  goes_on = record {
+    bytes = naming 5;
+    rest = CopyBytes (at 0x50) row ∷ [];
+    asks = refl;
+    long = refl;
+    goes_on = record {
+      bytes = row;
+      rest = [];
+      asks = refl;
+      long = refl;
+      goes_on = record { nothing = refl; device = refl; outcome = refl };
+    };
+  };
+}
+takes Statistics = record {
+  head = 7;
+  rest = CopyBytes (at 0x70) (naming 5) ∷ CopyBytes (at 0x50) row ∷ [];
+  asks = refl;
+  goes_on = record {
+    bytes = naming 5;
+    rest = CopyBytes (at 0x50) row ∷ [];
+    asks = refl;
+    long = refl;
+    goes_on = record {
+      bytes = row;
+      rest = [];
+      asks = refl;
+      long = refl;
+      goes_on = record { nothing = refl; device = refl; outcome = refl };
+    };
+  };
+}
+takes Report = record {
+  head = 7;
+  rest = CopyBytes (at 0x70) (naming 5) ∷ CopyBytes (at 0x50) row ∷ [];
+  asks = refl;
+  goes_on = record {
+    bytes = naming 5;
+    rest = CopyBytes (at 0x50) row ∷ [];
+    asks = refl;
+    long = refl;
+    goes_on = record {
+      bytes = row;
+      rest = [];
+      asks = refl;
+      long = refl;
+      goes_on = record { nothing = refl; device = refl; outcome = refl };
+    };
+  };
+}
+
+-- ---- it is given back, and the flags are read
+
+abbrev used : Kind → Device
+used kind = with_ring kind (record ring { next_used = 1 }) far
+
+goes_on : (kind : Kind) → after_use kind (only kind) ≡ used kind
+goes_on Inflate = refl
+goes_on Deflate = refl
+goes_on Statistics = refl
+goes_on Report = refl
+
+gives : (kind : Kind) → GivesBack (over kind (used kind) (ends (with_given tally) None true false))
+    (λ d t log. Ends (over kind (used kind) (ends (with_given tally) None true false)) d t None false log) (only kind) tally 3 given
+unfolding lib.Count.ones
+gives Inflate = record {
+  rest = Full ∷ flags ∷ [];
+  asks = refl;
+  goes_on = record { flags = 0; rest = []; asks = refl; then_stops = record { nothing = refl; device = refl; outcome = refl } };
+}
+gives Deflate = record {
+  rest = Full ∷ flags ∷ [];
+  asks = refl;
+  goes_on = record { flags = 0; rest = []; asks = refl; then_stops = record { nothing = refl; device = refl; outcome = refl } };
+}
+gives Statistics = record {
+  rest = Full ∷ flags ∷ [];
+  asks = refl;
+  goes_on = record { flags = 0; rest = []; asks = refl; then_stops = record { nothing = refl; device = refl; outcome = refl } };
+}
+gives Report = record {
+  rest = Full ∷ flags ∷ [];
+  asks = refl;
+  goes_on = record { flags = 0; rest = []; asks = refl; then_stops = record { nothing = refl; device = refl; outcome = refl } };
+}
