@@ -6,4 +6,8 @@ pub mod Reports
 pub mod LastStatistics
 mod NumberFacts
 mod RequestFacts
+mod PageFacts
+mod ReportFacts
+mod StatisticsFacts
+mod AskedFacts
 pub mod Chains

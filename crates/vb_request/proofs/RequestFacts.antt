@@ -1,6 +1,7 @@
 -- What a request may name, the piece that it is written as, and the runs of a report, worked out.
 use Rattle.std.proofs.Common.{◌≡◌, ℕ, zero, suc, ◌+◌, ◌*◌, ◌<◌, ◌≤◌, true, false, List, [], ◌∷◌}
-use Rattle.std.proofs.Common.{Some, None, ap, arith, length, refl}
+use Rattle.std.proofs.Common.{Some, None, ap, arith, length, refl, replicate, sym}
+use Rattle.std.proofs.lemmas.List.{get_or-replicate}
 use Rattle.std.specs.Prelude.{Option, slice_get, slice_index, slice_index_or}
 use Rattle.vb_ram.specs.Pages.{Pages, byte_at, field}
 use Rattle.vb_chain.specs.declared.pieces.Piece.{Piece}
@@ -76,10 +77,19 @@ no_request_piece = (
   λ mem p numbers e is. omega (arith, e, is.few),
 )
 
--- the last bytes of a page are room for it
-at_the_end : (mem : Pages) (p : Piece) → IsRequestPiece mem p 1 4088 (20 ∷ 258 ∷ [])
-    → p.addr ≡ 8184
-at_the_end mem p is = is.addr
+-- the last 1024 bytes of a page are room for the most numbers
+at_the_end : IsRequestPiece (None ∷ None ∷ [])
+    (record { addr = 7168; len = 1024; writable = false }) 1 3072 (replicate 256 0)
+unfolding field byte_at
+at_the_end = record {
+  addr = refl;
+  len = refl;
+  readable = refl;
+  inside = omega arith;
+  numbers = λ k lt. sym (get_or-replicate 256 k 0 0 lt);
+  some = omega arith;
+  few = omega arith;
+}
 
 -- ---- runs of a report
 

@@ -83,6 +83,11 @@ refused : map (refusal_of_request (at 3 5)) (Write 1 ∷ Write 7 ∷ Write 11 �
     ≡ Some ClearsBit ∷ Some OutOfOrder ∷ Some VersionMissing ∷ None ∷ Some FeatureNotOffered ∷ []
 refused = refl
 
+-- features are agreed on while the status is ACKNOWLEDGE and DRIVER, and at no other time
+not_agreed_then : map (λ status. refusal_of_request (at status 5) (Negotiate 5)) (1 ∷ 3 ∷ 11 ∷ 15 ∷ [])
+    ≡ Some OutOfOrder ∷ None ∷ Some OutOfOrder ∷ Some OutOfOrder ∷ []
+not_agreed_then = refl
+
 left : map (after_request (at 3 5)) (Write 0 ∷ Write 7 ∷ Negotiate 1 ∷ [])
     ≡ at 0 0 ∷ at 7 5 ∷ at 3 1 ∷ []
 left = refl
@@ -112,7 +117,7 @@ not_steps = (
   λ are. omega (arith, are.2.1),
 )
 
-changed : changes 1 (Write 1 ∷ Negotiate 9 ∷ Write 3 ∷ Write 3 ∷ Write 1 ∷ []) ≡ 3 ∷ 1 ∷ []
+changed : changes 1 (Write 1 ∷ Negotiate 3 ∷ Write 3 ∷ Write 3 ∷ Write 1 ∷ []) ≡ 3 ∷ 1 ∷ []
 changed = refl
 
 -- what is done up to the first refusal stays, and nothing after it is done
