@@ -79,6 +79,18 @@ def told_three_times(client):
             told += 1
 
 
+def decisions_are_kept(town):
+    """Each change of the budget is a decision; of more than 512 since the last `log` the last ones are there."""
+    town.host.decisions()
+    for mib in range(7, 7 + 600):
+        town.host.demand(f"budget {mib}")
+    frames = [(said["frames"], said["why"]) for said, _ in town.host.decisions()]
+    wanted = [(mib * PAGES_PER_MIB, "budget") for mib in range(7 + 600 - 512, 7 + 600)]
+    demand(frames == wanted, f"600 budgets, and the log has {len(frames)} decisions, the last {frames[-1:]}")
+    demand(town.host.decisions() == [], "the log has decisions a second time")
+    town.host.demand("budget 5")
+
+
 def lines_run(bench):
     """Command lines, and lines of the control pipe."""
     for words in COMMANDS:
@@ -90,7 +102,10 @@ def lines_run(bench):
             demand(said.startswith(answer), f"{line!r} is answered {said!r}")
         seen = [town.host.ask(f"add guest-{it}").split()[0] for it in range(64)]
         demand(seen == 63 * ["listening"] + ["error:"], f"64 guests beside one: {seen}")
+        decisions_are_kept(town)
         client = Talker(f"{town.host.folder}/guest-1", town.host.why, 60)
+        whys = [said["why"] for said, _ in town.host.decisions()]
+        demand(whys[:1] == ["guests"], f"a guest came, and the host has decided by {whys}")
         for line, answer in (("quit", "error: quit"), ("statistics", "statistics 1 free_memory 245760"), ("x", "error"), ("target 5", "ok")):
             said = town.host.ask(f"guest-1 {line}")
             demand(said.startswith(answer), f"guest-1 {line!r} is answered {said!r}")

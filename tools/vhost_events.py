@@ -105,8 +105,8 @@ class Events(Lives):
     def test_a_buffer_of_statistics_is_given_up_and_taken_again(self):
         client = self.started()
         post_statistics(client, 11)
-        while client.counter("statistics") < 1:
-            pass
+        self.assertEqual(client.called(STATISTICS, MOMENT), 0)  # the buffer is held
+        self.assertEqual(client.counter("statistics"), 1)
         self.assertEqual((client.stop_ring(STATISTICS), client.used(STATISTICS)[0]), (0, 0))
         self.assertEqual(client.backend.ask("ask"), "nothing")
         client.give_events(STATISTICS)

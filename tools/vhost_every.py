@@ -5,6 +5,7 @@ import os
 import struct
 import subprocess
 import tempfile
+import time
 import unittest
 
 import linux_host
@@ -98,10 +99,15 @@ class Every(unittest.TestCase):
                 break
         self.assertEqual(self.held(), self.before)
 
+    def wait_for(self, gone):
+        """Waits until clients have gone, without a rest."""
+        end = time.monotonic() + LIMIT
+        while not gone(self.host.guests()):
+            self.assertLess(time.monotonic(), end, "a client doesn't go")
+
     def held(self):
         """Returns how many files the host has open once all clients of the seats have gone."""
-        while any(it["here"] for name, it in self.host.guests().items() if name != "well"):
-            pass
+        self.wait_for(lambda guests: not any(it["here"] for name, it in guests.items() if name != "well"))
         return len(os.listdir(f"/proc/{self.host.process.pid}/fd"))
 
     def memory(self):
@@ -112,13 +118,13 @@ class Every(unittest.TestCase):
     def serves(self):
         """Demands that the client that is well is served."""
         self.well.post_pages(INFLATE, [REGIONS[1][0] // PAGE])
-        while self.well.told() != INFLATE:
-            pass  # the host reminds it of its target
+        end = time.monotonic() + LIMIT
+        while self.well.told() != INFLATE:  # the host reminds it of its target
+            self.assertLess(time.monotonic(), end, "the client that is well isn't served")
 
     def come(self):
         """Returns a client that has negotiated all protocol features."""
-        while self.host.guests()["seat0"]["here"]:
-            pass
+        self.wait_for(lambda guests: not guests["seat0"]["here"])
         client = Client(self.paths[0], self.host.why)
         client.send(SET_PROTOCOL_FEATURES, struct.pack("<Q", OFFERED), flags=1)
         return client
