@@ -42,85 +42,116 @@ eight_published Deflate = record { nothing = refl; device = refl; outcome = refl
 eight_published Statistics = record { nothing = refl; device = refl; outcome = refl }
 eight_published Report = record { nothing = refl; device = refl; outcome = refl }
 
--- ---- a chain: head 7, and behind it descriptor 5 with two of its row, which names none that is there
+-- ---- a chain: head 7, behind it a row of the table's last three descriptors, and then the fifth one, which
+-- goes on with none that is there
 
-abbrev row : List ℕ
-row = naming 8 ++ naming 8 ++ naming 8
+abbrev three : List ℕ
+three = naming 6 ++ naming 7 ++ naming 4
+
+abbrev four : List ℕ
+four = naming 8 ++ three
+
+abbrev rows : List Access
+rows = CopyBytes (at 0x50) three ∷ CopyBytes (at 0x40) four ∷ []
 
 abbrev broken : Kind → Whole
 broken kind = over kind (needing_reset (only kind)) (ends tally (Some (Broken BadNext)) false false)
 
 takes : (kind : Kind) → TakesChain (broken kind) stop (only kind) tally
-    (Acquire ∷ ReadWord (at 0x104) 7 ∷ CopyBytes (at 0x70) (naming 5) ∷ CopyBytes (at 0x50) row ∷ [])
+    (Acquire ∷ ReadWord (at 0x104) 7 ∷ CopyBytes (at 0x70) (naming 5) ∷ rows)
 takes Inflate = record {
   head = 7;
-  rest = CopyBytes (at 0x70) (naming 5) ∷ CopyBytes (at 0x50) row ∷ [];
+  rest = CopyBytes (at 0x70) (naming 5) ∷ rows;
   asks = refl;
   goes_on = record {
     bytes = naming 5;
-    rest = CopyBytes (at 0x50) row ∷ [];
+    rest = rows;
     asks = refl;
     long = refl;
     goes_on = record {
-      bytes = row;
-      rest = [];
+      bytes = three;
+      rest = CopyBytes (at 0x40) four ∷ [];
       asks = refl;
       long = refl;
-      goes_on = record { nothing = refl; device = refl; outcome = refl };
+      goes_on = record {
+        bytes = four;
+        rest = [];
+        asks = refl;
+        long = refl;
+        goes_on = record { nothing = refl; device = refl; outcome = refl };
+      };
     };
   };
 }
 takes Deflate = record {
   head = 7;
-  rest = CopyBytes (at 0x70) (naming 5) ∷ CopyBytes (at 0x50) row ∷ [];
+  rest = CopyBytes (at 0x70) (naming 5) ∷ rows;
   asks = refl;
   goes_on = record {
     bytes = naming 5;
-    rest = CopyBytes (at 0x50) row ∷ [];
+    rest = rows;
     asks = refl;
     long = refl;
     goes_on = record {
-      bytes = row;
-      rest = [];
+      bytes = three;
+      rest = CopyBytes (at 0x40) four ∷ [];
       asks = refl;
       long = refl;
-      goes_on = record { nothing = refl; device = refl; outcome = refl };
+      goes_on = record {
+        bytes = four;
+        rest = [];
+        asks = refl;
+        long = refl;
+        goes_on = record { nothing = refl; device = refl; outcome = refl };
+      };
     };
   };
 }
 takes Statistics = record {
   head = 7;
-  rest = CopyBytes (at 0x70) (naming 5) ∷ CopyBytes (at 0x50) row ∷ [];
+  rest = CopyBytes (at 0x70) (naming 5) ∷ rows;
   asks = refl;
   goes_on = record {
     bytes = naming 5;
-    rest = CopyBytes (at 0x50) row ∷ [];
+    rest = rows;
     asks = refl;
     long = refl;
     goes_on = record {
-      bytes = row;
-      rest = [];
+      bytes = three;
+      rest = CopyBytes (at 0x40) four ∷ [];
       asks = refl;
       long = refl;
-      goes_on = record { nothing = refl; device = refl; outcome = refl };
+      goes_on = record {
+        bytes = four;
+        rest = [];
+        asks = refl;
+        long = refl;
+        goes_on = record { nothing = refl; device = refl; outcome = refl };
+      };
     };
   };
 }
 takes Report = record {
   head = 7;
-  rest = CopyBytes (at 0x70) (naming 5) ∷ CopyBytes (at 0x50) row ∷ [];
+  rest = CopyBytes (at 0x70) (naming 5) ∷ rows;
   asks = refl;
   goes_on = record {
     bytes = naming 5;
-    rest = CopyBytes (at 0x50) row ∷ [];
+    rest = rows;
     asks = refl;
     long = refl;
     goes_on = record {
-      bytes = row;
-      rest = [];
+      bytes = three;
+      rest = CopyBytes (at 0x40) four ∷ [];
       asks = refl;
       long = refl;
-      goes_on = record { nothing = refl; device = refl; outcome = refl };
+      goes_on = record {
+        bytes = four;
+        rest = [];
+        asks = refl;
+        long = refl;
+        goes_on = record { nothing = refl; device = refl; outcome = refl };
+      };
     };
   };
 }

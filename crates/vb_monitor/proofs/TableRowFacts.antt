@@ -78,6 +78,10 @@ in_the_second = refl
 in_one_region : behind_in_row two over_both 1 (piece ∷ []) ≡ 6
 in_one_region = refl
 
+-- no queue has more than 256: five stand behind number 250, to the end of the first region
+no_more_than_256 : behind_in_row halves (record ring { size = 512 }) 250 (piece ∷ []) ≡ 5
+no_more_than_256 = refl
+
 -- ---- a chain is followed
 
 abbrev outcome : Outcome
