@@ -9,8 +9,8 @@ use Rattle.vb_core.specs.Devices.{with_ring, needing_reset}
 use Rattle.vb_monitor.specs.declared.outcome.{Outcome.Outcome, Tally.Tally}
 use Rattle.vb_monitor.specs.Accesses.{Access, ReadWord, CopyBytes, Acquire, Full}
 use Rattle.vb_monitor.specs.{Ends.{Whole, Ends}, Giving.{Then, with_given, after_use, GivesBack}}
-use Rattle.vb_monitor.specs.Notices.{LooksBy, TakesChain, ServesPublished}
-use Rattle.vb_monitor.proofs.Samples.{at, ring, far, tally, index, naming, flags, given}
+use Rattle.vb_monitor.specs.Notices.{LooksBy, TakesChain, ServesPublished, AsksStatistics}
+use Rattle.vb_monitor.proofs.Samples.{two, at, ring, far, tally, index, naming, flags, given}
 use Rattle.vb_monitor.proofs.AheadFacts.{over, ends}
 
 -- the queue of this kind is the ring that the accesses are of
@@ -186,6 +186,16 @@ gives Statistics = record {
   goes_on = record { flags = 0; rest = []; asks = refl; then_stops = record { nothing = refl; device = refl; outcome = refl } };
 }
 gives Report = record {
+  rest = Full ∷ flags ∷ [];
+  asks = refl;
+  goes_on = record { flags = 0; rest = []; asks = refl; then_stops = record { nothing = refl; device = refl; outcome = refl } };
+}
+
+-- a buffer of statistics is given back to its own queue
+asks : AsksStatistics two 3 (only Statistics) (used Statistics)
+    (ends (record (with_given tally) { chains = 0; pages = 0 }) None true false) given
+unfolding lib.Count.ones
+asks = record {
   rest = Full ∷ flags ∷ [];
   asks = refl;
   goes_on = record { flags = 0; rest = []; asks = refl; then_stops = record { nothing = refl; device = refl; outcome = refl } };
