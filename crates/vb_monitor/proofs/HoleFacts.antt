@@ -1,8 +1,8 @@
 -- Parts of a ring that lie in a hole of memory, worked out: what is there isn't read or written, and
 -- the guest broke a rule.
-use Rattle.std.proofs.Common.{refl, ℕ, ap, arith, true, false, List, [], ◌∷◌, None, Some, Bool}
+use Rattle.std.proofs.Common.{◌≡◌, refl, ℕ, ap, arith, true, false, List, [], ◌∷◌, None, Some, Bool}
 use Rattle.vb_chain.specs.declared.fault.ChainFault.{ChainFault}
-use Rattle.vb_chain.specs.declared.fault.ChainFault.TheVariants.{BadHead, BadNext, OutOfRam}
+use Rattle.vb_chain.specs.declared.fault.ChainFault.TheVariants.{BadHead, BadNext, TooLong, OutOfRam}
 use Rattle.vb_chain.specs.declared.pieces.Piece.{Piece}
 use Rattle.vb_core.specs.declared.kinds.Kind.TheVariants.{Inflate}
 use Rattle.vb_core.specs.declared.ring.Virtqueue.{Virtqueue}
@@ -13,9 +13,9 @@ use Rattle.vb_monitor.specs.declared.outcome.{Tally.Tally, Outcome.Outcome}
 use Rattle.vb_monitor.specs.Accesses.{Access, ReadWord, CopyBytes, Acquire, Full, WriteNumber}
 use Rattle.vb_monitor.specs.{Ends.{Whole, Ends, FlagsAt}, Pieces.{PartAt}}
 use Rattle.vb_monitor.specs.Giving.{Then, with_given, after_use, UsedAt, GivesBack, GivesBackBy}
-use Rattle.vb_monitor.specs.Chains.{TableRow, RowAt}
-use Rattle.vb_monitor.specs.Notices.{EntryAt, TakesChain, AfterEntry}
-use Rattle.vb_monitor.proofs.Samples.{flags_are_read, Same, two, at, ring, ready, tally, descriptor, part, id, used_length}
+use Rattle.vb_monitor.specs.Chains.{TableRow, RowAt, TakesRow}
+use Rattle.vb_monitor.specs.Notices.{LooksBy, EntryAt, TakesChain, AfterEntry}
+use Rattle.vb_monitor.proofs.Samples.{flags_are_read, Same, two, at, ring, ready, tally, descriptor, naming, last_descriptor, part, id, used_length}
 use Rattle.vb_monitor.proofs.AheadFacts.{over, ends}
 
 abbrev none : Then
@@ -58,6 +58,12 @@ says_why h = let e = ap (λ (o : Outcome). o.why) h.outcome in absurd cc
 
 says_more : FlagsAt (over Inflate ready (ends given None false false)) ready given None true None [] → ⊥
 says_more h = let e = ap (λ (o : Outcome). o.more) h.outcome in absurd cc
+
+-- ---- the index: it stands last before the hole
+
+looks : (d : Device) (o : Outcome) → LooksBy None (over Inflate d o) (λ d t log. log ≡ [])
+    (with (record ring { avail = 0x14ffc })) tally (ReadWord (at 0x14ffe) 1 ∷ [])
+looks d o = record { index = 1; rest = []; asks = refl; goes_on = refl }
 
 -- ---- the entry
 
@@ -102,6 +108,31 @@ eighth_followed : (w : Whole) (x : Access) (rest : List Access) →
     AfterEntry (record w { regions = two; kind = Inflate }) none ready tally 8 (x ∷ rest) → ⊥
 eighth_followed w x rest h = let e = h.nothing in absurd cc
 
+-- no queue has more than 256 descriptors
+two_hundred_fifty_sixth : AfterEntry (broken (with (record ring { size = 512 })) BadHead) none (with (record ring { size = 512 }))
+    tally 256 []
+two_hundred_fifty_sixth = record { nothing = refl; device = refl; outcome = refl }
+
+-- of a table of two descriptors none is read for a third time
+abbrev two_descriptors : Device
+two_descriptors = with (record ring { size = 2 })
+
+around : AfterEntry (broken two_descriptors TooLong) none two_descriptors tally 0
+    (CopyBytes (at 0) (naming 1) ∷ CopyBytes (at 0x10) (naming 0) ∷ [])
+around = record {
+  bytes = naming 1;
+  rest = CopyBytes (at 0x10) (naming 0) ∷ [];
+  asks = refl;
+  long = refl;
+  goes_on = record {
+    bytes = naming 0;
+    rest = [];
+    asks = refl;
+    long = refl;
+    goes_on = record { nothing = refl; device = refl; outcome = refl };
+  };
+}
+
 -- ---- descriptors and parts
 
 abbrev On : TableRow → ℕ → Bool → List Piece → List Access → Type 0
@@ -113,6 +144,17 @@ no_descriptor = record { nothing = refl; device = refl; outcome = refl }
 descriptor_all_the_same : (w : Whole) (rest : List Access) →
     RowAt w ready tally On (λ pieces log. ⊥) 3 0 false [] None (descriptor ∷ rest) → ⊥
 descriptor_all_the_same w rest h = let e = h.nothing in absurd cc
+
+-- the table's first descriptor stands last before the hole: it is a row, and with another one it isn't
+abbrev before_the_hole : Device
+before_the_hole = with (record ring { table = 0x14ff0 })
+
+row_of_one : TakesRow (over Inflate before_the_hole (ends tally None false false)) before_the_hole tally
+    (λ row n writing pieces log. ⊥) (λ pieces log. log ≡ []) 0 0 false [] (CopyBytes (at 0x14ff0) last_descriptor ∷ [])
+row_of_one = record { bytes = last_descriptor; rest = []; asks = refl; long = refl; goes_on = refl }
+
+row_of_two : TakesRow (broken before_the_hole OutOfRam) before_the_hole tally On (λ pieces log. ⊥) 0 1 false [] []
+row_of_two = record { nothing = refl; device = refl; outcome = refl }
 
 abbrev a_part : Part
 a_part = record { address = 0x400; plus = 0; length = 4 }

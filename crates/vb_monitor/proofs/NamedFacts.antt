@@ -2,7 +2,7 @@
 -- and told, or the notice ends for what is wrong with them.
 use Rattle.std.proofs.Common.{◌≡◌, refl, Option, ap, subst, arith, ℕ, false, List, [], ◌∷◌, Some, None, Result, Ok, Err}
 use Rattle.vb_request.specs.Request.{numbers_of}
-use Rattle.vb_chain.specs.declared.fault.ChainFault.TheVariants.{WrongDirection, BadLength}
+use Rattle.vb_chain.specs.declared.fault.ChainFault.TheVariants.{WrongDirection, BadLength, OutOfRam}
 use Rattle.vb_core.specs.declared.kinds.Kind.{Kind}
 use Rattle.vb_core.specs.declared.kinds.Kind.TheVariants.{Inflate, Deflate, Statistics, Report}
 use Rattle.vb_core.specs.declared.{name.Named.Named, runs.Run.Run, device.{Device.Device, Denial.{Denial, TheVariants.{Broken, BadArgument, NoQueue}}}}
@@ -186,21 +186,28 @@ names_both = record {
   );
 }
 
-both_told : (o : Outcome) → AfterBytes Inflate (over Inflate ready o) (λ d t log. Unit {0}) ready tally 3 both
-    (TellPages Inflate (run_of_both ∷ []) both_named ∷ Discard (record cut_5 { length = 0x2000 }) ∷ back)
+both_told : (o : Outcome) →
+    ServesPieces Inflate (over Inflate ready o) (λ d t log. Unit {0}) ready tally 3 (record piece { len = 8 } ∷ [])
+    (CopyBytes (at 0x400) both ∷ TellPages Inflate (run_of_both ∷ []) both_named ∷ Discard (record cut_5 { length = 0x2000 }) ∷ back)
 unfolding lib.Count.ones
 both_told o = record {
-  answer = Ok both_named;
-  runs = run_of_both ∷ [];
-  device = with_one_taken Inflate ready;
-  names = names_both;
+  bytes = both;
+  rest = TellPages Inflate (run_of_both ∷ []) both_named ∷ Discard (record cut_5 { length = 0x2000 }) ∷ back;
+  asks = refl;
+  long = refl;
   goes_on = record {
-    rest = Discard (record cut_5 { length = 0x2000 }) ∷ back;
-    asks = refl;
-    discards = record {
-      rest = back;
+    answer = Ok both_named;
+    runs = run_of_both ∷ [];
+    device = with_one_taken Inflate ready;
+    names = names_both;
+    goes_on = record {
+      rest = Discard (record cut_5 { length = 0x2000 }) ∷ back;
       asks = refl;
-      gives_back = record { rest = []; asks = refl; goes_on = tt };
+      discards = record {
+        rest = back;
+        asks = refl;
+        gives_back = record { rest = []; asks = refl; goes_on = tt };
+      };
     };
   };
 }
@@ -250,6 +257,17 @@ unbroken why h =
     let f : Same h.device.status 79 = ap (λ (d : Device). d.status) (h.names.device refl) in omega (arith, e, f)
 
 -- ---- bytes are copied before anything is told, unless a rule is broken
+
+-- the pieces in their order, up to one in the hole
+up_to_the_hole : CopiesBy (Ok 8) (over Inflate needs_reset (refuses (Some (Broken OutOfRam)))) none ready tally 3
+    (piece ∷ record piece { addr = 0x15000 } ∷ []) (part ∷ [])
+up_to_the_hole = record {
+  bytes = number;
+  rest = [];
+  asks = refl;
+  long = refl;
+  goes_on = record { nothing = refl; device = refl; outcome = refl };
+}
 
 abbrev copied_at : List Access → ℕ
 copied_at (CopyBytes at bytes ∷ xs) = at.offset

@@ -108,6 +108,10 @@ naming n = record orders { named = record { runs = n; pages = n; skipped = 0 } }
 as_many_runs : HasRoom by_pages (naming 256)
 as_many_runs = record { runs = λ e. omega arith; figures = λ e. cc; cuts = omega arith }
 
+-- a run may have more pages than there are runs
+many_pages : HasRoom by_pages (record orders { named = record { runs = 256; pages = 300; skipped = 0 } })
+many_pages = record { runs = λ e. omega arith; figures = λ e. cc; cuts = omega arith }
+
 one_run_more : HasRoom by_pages (naming 257) → ⊥
 one_run_more h = let few : 257 ≤ 256 = h.runs refl in omega (arith, few)
 

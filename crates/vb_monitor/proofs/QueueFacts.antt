@@ -9,8 +9,8 @@ use Rattle.vb_core.specs.Devices.{with_ring, needing_reset}
 use Rattle.vb_monitor.specs.declared.outcome.{Outcome.Outcome, Tally.Tally}
 use Rattle.vb_monitor.specs.Accesses.{Access, ReadWord, CopyBytes, Acquire, Full}
 use Rattle.vb_monitor.specs.{Ends.{Whole, Ends}, Giving.{Then, with_given, after_use, GivesBack}}
-use Rattle.vb_monitor.specs.Notices.{LooksBy, TakesChain, ServesPublished}
-use Rattle.vb_monitor.proofs.Samples.{at, ring, far, tally, index, naming, flags, given}
+use Rattle.vb_monitor.specs.Notices.{LooksBy, TakesChain, ServesPublished, AsksStatistics}
+use Rattle.vb_monitor.proofs.Samples.{two, at, ring, far, tally, index, naming, flags, given}
 use Rattle.vb_monitor.proofs.AheadFacts.{over, ends}
 
 -- the queue of this kind is the ring that the accesses are of
@@ -42,85 +42,116 @@ eight_published Deflate = record { nothing = refl; device = refl; outcome = refl
 eight_published Statistics = record { nothing = refl; device = refl; outcome = refl }
 eight_published Report = record { nothing = refl; device = refl; outcome = refl }
 
--- ---- a chain: head 7, and behind it descriptor 5 with two of its row, which names none that is there
+-- ---- a chain: head 7, behind it a row of the table's last three descriptors, and then the fifth one, which
+-- goes on with none that is there
 
-abbrev row : List ℕ
-row = naming 8 ++ naming 8 ++ naming 8
+abbrev three : List ℕ
+three = naming 6 ++ naming 7 ++ naming 4
+
+abbrev four : List ℕ
+four = naming 8 ++ three
+
+abbrev rows : List Access
+rows = CopyBytes (at 0x50) three ∷ CopyBytes (at 0x40) four ∷ []
 
 abbrev broken : Kind → Whole
 broken kind = over kind (needing_reset (only kind)) (ends tally (Some (Broken BadNext)) false false)
 
 takes : (kind : Kind) → TakesChain (broken kind) stop (only kind) tally
-    (Acquire ∷ ReadWord (at 0x104) 7 ∷ CopyBytes (at 0x70) (naming 5) ∷ CopyBytes (at 0x50) row ∷ [])
+    (Acquire ∷ ReadWord (at 0x104) 7 ∷ CopyBytes (at 0x70) (naming 5) ∷ rows)
 takes Inflate = record {
   head = 7;
-  rest = CopyBytes (at 0x70) (naming 5) ∷ CopyBytes (at 0x50) row ∷ [];
+  rest = CopyBytes (at 0x70) (naming 5) ∷ rows;
   asks = refl;
   goes_on = record {
     bytes = naming 5;
-    rest = CopyBytes (at 0x50) row ∷ [];
+    rest = rows;
     asks = refl;
     long = refl;
     goes_on = record {
-      bytes = row;
-      rest = [];
+      bytes = three;
+      rest = CopyBytes (at 0x40) four ∷ [];
       asks = refl;
       long = refl;
-      goes_on = record { nothing = refl; device = refl; outcome = refl };
+      goes_on = record {
+        bytes = four;
+        rest = [];
+        asks = refl;
+        long = refl;
+        goes_on = record { nothing = refl; device = refl; outcome = refl };
+      };
     };
   };
 }
 takes Deflate = record {
   head = 7;
-  rest = CopyBytes (at 0x70) (naming 5) ∷ CopyBytes (at 0x50) row ∷ [];
+  rest = CopyBytes (at 0x70) (naming 5) ∷ rows;
   asks = refl;
   goes_on = record {
     bytes = naming 5;
-    rest = CopyBytes (at 0x50) row ∷ [];
+    rest = rows;
     asks = refl;
     long = refl;
     goes_on = record {
-      bytes = row;
-      rest = [];
+      bytes = three;
+      rest = CopyBytes (at 0x40) four ∷ [];
       asks = refl;
       long = refl;
-      goes_on = record { nothing = refl; device = refl; outcome = refl };
+      goes_on = record {
+        bytes = four;
+        rest = [];
+        asks = refl;
+        long = refl;
+        goes_on = record { nothing = refl; device = refl; outcome = refl };
+      };
     };
   };
 }
 takes Statistics = record {
   head = 7;
-  rest = CopyBytes (at 0x70) (naming 5) ∷ CopyBytes (at 0x50) row ∷ [];
+  rest = CopyBytes (at 0x70) (naming 5) ∷ rows;
   asks = refl;
   goes_on = record {
     bytes = naming 5;
-    rest = CopyBytes (at 0x50) row ∷ [];
+    rest = rows;
     asks = refl;
     long = refl;
     goes_on = record {
-      bytes = row;
-      rest = [];
+      bytes = three;
+      rest = CopyBytes (at 0x40) four ∷ [];
       asks = refl;
       long = refl;
-      goes_on = record { nothing = refl; device = refl; outcome = refl };
+      goes_on = record {
+        bytes = four;
+        rest = [];
+        asks = refl;
+        long = refl;
+        goes_on = record { nothing = refl; device = refl; outcome = refl };
+      };
     };
   };
 }
 takes Report = record {
   head = 7;
-  rest = CopyBytes (at 0x70) (naming 5) ∷ CopyBytes (at 0x50) row ∷ [];
+  rest = CopyBytes (at 0x70) (naming 5) ∷ rows;
   asks = refl;
   goes_on = record {
     bytes = naming 5;
-    rest = CopyBytes (at 0x50) row ∷ [];
+    rest = rows;
     asks = refl;
     long = refl;
     goes_on = record {
-      bytes = row;
-      rest = [];
+      bytes = three;
+      rest = CopyBytes (at 0x40) four ∷ [];
       asks = refl;
       long = refl;
-      goes_on = record { nothing = refl; device = refl; outcome = refl };
+      goes_on = record {
+        bytes = four;
+        rest = [];
+        asks = refl;
+        long = refl;
+        goes_on = record { nothing = refl; device = refl; outcome = refl };
+      };
     };
   };
 }
@@ -155,6 +186,16 @@ gives Statistics = record {
   goes_on = record { flags = 0; rest = []; asks = refl; then_stops = record { nothing = refl; device = refl; outcome = refl } };
 }
 gives Report = record {
+  rest = Full ∷ flags ∷ [];
+  asks = refl;
+  goes_on = record { flags = 0; rest = []; asks = refl; then_stops = record { nothing = refl; device = refl; outcome = refl } };
+}
+
+-- a buffer of statistics is given back to its own queue
+asks : AsksStatistics two 3 (only Statistics) (used Statistics)
+    (ends (record (with_given tally) { chains = 0; pages = 0 }) None true false) given
+unfolding lib.Count.ones
+asks = record {
   rest = Full ∷ flags ∷ [];
   asks = refl;
   goes_on = record { flags = 0; rest = []; asks = refl; then_stops = record { nothing = refl; device = refl; outcome = refl } };

@@ -104,18 +104,23 @@ of_no_figure = record {
   tells = record { rest = []; asks = refl; ends = record { nothing = refl; device = refl; outcome = refl } };
 }
 
--- of more figures than the bytes have, the first are told
-of_three_figures : Told (ends one_held None false false) both (TellFigures figures ∷ [])
+-- of more figures than the bytes have, the first are told: four of forty bytes
+abbrev four : List Statistic
+four = figure 4 ∷ figure 5 ∷ figure 4 ∷ figure 5 ∷ []
+
+of_five_figures : Told (ends one_held None false false) (both ++ both) (TellFigures four ∷ [])
 unfolding lib.Count.ones
-of_three_figures = record {
-  figures = figure 4 ∷ figure 5 ∷ figure 6 ∷ [];
-  are = are_both_of_three;
+of_five_figures = record {
+  figures = four ++ figure 6 ∷ [];
+  are = are_four;
   tells = record { rest = []; asks = refl; ends = record { nothing = refl; device = refl; outcome = refl } };
 } where
-  are_both_of_three : AreFigures both (figure 4 ∷ figure 5 ∷ figure 6 ∷ [])
-  are_both_of_three zero d lt = refl
-  are_both_of_three (suc zero) d lt = refl
-  are_both_of_three (suc (suc k)) d lt = absurd (omega (arith, lt))
+  are_four : AreFigures (both ++ both) (four ++ figure 6 ∷ [])
+  are_four zero d lt = refl
+  are_four (suc zero) d lt = refl
+  are_four (suc (suc zero)) d lt = refl
+  are_four (suc (suc (suc zero))) d lt = refl
+  are_four (suc (suc (suc (suc k)))) d lt = absurd (omega (arith, lt))
 
 untold : (o : Outcome) → Told o both [] → ⊥
 unfolding lib.Count.ones

@@ -1,9 +1,10 @@
 -- Rows of descriptors that are copied together, worked out.
 use Rattle.std.proofs.Common.{◌≡◌, refl, arith, ℕ, Bool, false, List, []}
 use Rattle.std.proofs.Common.{◌∷◌, ◌++◌, length, Some, None}
+use Rattle.std.specs.Prelude.{take, replicate}
 use Rattle.vb_chain.specs.declared.pieces.Piece.{Piece}
 use Rattle.vb_chain.specs.declared.fault.ChainFault.{ChainFault}
-use Rattle.vb_chain.specs.declared.fault.ChainFault.TheVariants.{TooLong, OutOfRam, Indirect}
+use Rattle.vb_chain.specs.declared.fault.ChainFault.TheVariants.{TooLong, OutOfRam, Indirect, WrongDirection}
 use Rattle.vb_core.specs.declared.kinds.Kind.TheVariants.{Report}
 use Rattle.vb_core.specs.declared.device.{Denial.TheVariants.Broken, Device.Device}
 use Rattle.vb_core.specs.declared.ring.Virtqueue.{Virtqueue}
@@ -13,7 +14,7 @@ use Rattle.vb_monitor.specs.declared.rows.RowEnd.TheVariants.{Leaves, Last, Brok
 use Rattle.vb_monitor.specs.declared.step.Phase.TheVariants.{AwaitsDescriptor}
 use Rattle.vb_monitor.specs.{Accesses.{Access, CopyBytes}, Ends.{Whole}, Rows.EndsRow}
 use Rattle.vb_monitor.specs.Chains.{TableRow, row_of, no_row, in_row, so_many_behind}
-use Rattle.vb_monitor.specs.Chains.{behind_in_row, TakesRow, Follows}
+use Rattle.vb_monitor.specs.Chains.{behind_in_row, AfterDescriptor, TakesRow, FollowsBy, Follows}
 use Rattle.vb_monitor.specs.{Machine.{Fits, row_bytes, row_in}, SoFar.{Walks, Has, walked_in}}
 use Rattle.vb_monitor.proofs.Samples.{Same, two, low, at, ring, ready, tally, piece, naming}
 use Rattle.vb_monitor.proofs.Samples.{last_descriptor, zeros, with_two, discard}
@@ -36,7 +37,8 @@ one_before = refl
 one_behind : in_row three 8 ≡ None
 one_behind = refl
 
-part_of_one : in_row (row_of 5 (naming 6 ++ 0 ∷ 4 ∷ 0 ∷ [])) 6 ≡ None
+-- of its 16 bytes one is left out
+part_of_one : in_row (row_of 5 (naming 6 ++ take 15 (naming 7))) 6 ≡ None
 part_of_one = refl
 
 of_none : in_row no_row 0 ≡ None
@@ -78,6 +80,17 @@ in_the_second = refl
 in_one_region : behind_in_row two over_both 1 (piece ∷ []) ≡ 6
 in_one_region = refl
 
+-- the first descriptor, or just the last one, lies in another region than the row
+behind_the_first : behind_in_row halves (record ring { table = 0xff0 }) 1 (piece ∷ []) ≡ 6
+behind_the_first = refl
+
+over_by_the_last : behind_in_row halves (record ring { table = 0xf90 }) 1 (piece ∷ []) ≡ 0
+over_by_the_last = refl
+
+-- no queue has more than 256: five stand behind number 250, to the end of the first region
+no_more_than_256 : behind_in_row halves (record ring { size = 512 }) 250 (piece ∷ []) ≡ 5
+no_more_than_256 = refl
+
 -- ---- a chain is followed
 
 abbrev outcome : Outcome
@@ -114,6 +127,55 @@ in_a_row = record {
     goes_on = (refl, refl);
   };
 }
+
+-- none that is read stands behind one that the device may write, within a row and in the next one
+abbrev writes : ℕ → List ℕ
+writes next = 0 ∷ 4 ∷ 0 ∷ 0 ∷ 0 ∷ 0 ∷ 0 ∷ 0 ∷ 4 ∷ 0 ∷ 0 ∷ 0 ∷ 3 ∷ 0 ∷ next ∷ 0 ∷ []
+
+read_in_it : Follows 8 (broken_by WrongDirection) ready tally (λ pieces log. ⊥) no_row 3 false []
+    (behind_3 (writes 6 ++ naming 7 ++ last_descriptor))
+read_in_it = record {
+  bytes = naming 5;
+  rest = CopyBytes (at 0x50) (writes 6 ++ naming 7 ++ last_descriptor) ∷ [];
+  asks = refl;
+  long = refl;
+  goes_on = record {
+    bytes = writes 6 ++ naming 7 ++ last_descriptor;
+    rest = [];
+    asks = refl;
+    long = refl;
+    goes_on = record { nothing = refl; device = refl; outcome = refl };
+  };
+}
+
+read_in_the_next : Follows 8 (broken_by WrongDirection) ready tally (λ pieces log. ⊥) no_row 3 false []
+    (CopyBytes (at 0x30) (writes 5) ∷ CopyBytes (at 0x50) (naming 6 ++ naming 7 ++ last_descriptor) ∷ [])
+read_in_the_next = record {
+  bytes = writes 5;
+  rest = CopyBytes (at 0x50) (naming 6 ++ naming 7 ++ last_descriptor) ∷ [];
+  asks = refl;
+  long = refl;
+  goes_on = record {
+    bytes = naming 6 ++ naming 7 ++ last_descriptor;
+    rest = [];
+    asks = refl;
+    long = refl;
+    goes_on = record { nothing = refl; device = refl; outcome = refl };
+  };
+}
+
+-- no row goes over the end of a region
+abbrev split : Device
+split = record ready { report = over_both }
+
+alone_before_an_end : FollowsBy None (record whole { regions = halves; device = split }) split tally (λ row n writing pieces log. ⊥)
+    (Ended 2) no_row 3 false (piece ∷ []) (CopyBytes (at 0xff0) last_descriptor ∷ [])
+alone_before_an_end = record { bytes = last_descriptor; rest = []; asks = refl; long = refl; goes_on = (refl, refl) }
+
+-- no chain has more descriptors than the table, its last one either
+a_ninth : AfterDescriptor (broken_by TooLong) ready tally (λ n writing pieces log. ⊥) (λ pieces log. ⊥) false
+    (replicate 8 piece) last_descriptor []
+a_ninth = record { nothing = refl; device = refl; outcome = refl }
 
 -- a jump back to one that the row has asks for nothing
 jumps_in_it : Follows 8 whole ready tally (Ended 4) no_row 3 false []

@@ -1,13 +1,14 @@
 -- A whole notice of a report, worked out: page 5 is free. It is told and discarded, or told and kept.
 use Rattle.std.proofs.Common.{refl, ℕ, true, List, [], ◌∷◌, Ok}
 use Rattle.vb_chain.specs.declared.pieces.Piece.{Piece}
-use Rattle.vb_core.specs.declared.{kinds.Kind.TheVariants.Report, device.Device.Device}
+use Rattle.vb_core.specs.declared.{kinds.Kind.TheVariants.Report, device.Device.Device, runs.Run.Run, name.Named.Named}
 use Rattle.vb_core.specs.{Devices.with_one_taken, Report.NamesPiecesBy}
-use Rattle.vb_monitor.proofs.Samples.{two, at, settings, ready, page_5, one_page, index, entry, part, discard}
-use Rattle.vb_monitor.specs.Accesses.{Access, CopyBytes, Acquire, Full, TellPages}
-use Rattle.vb_monitor.{proofs.Samples.{flags_are_read, flags, given, budget, outcome}, specs.Giving.after_use}
+use Rattle.vb_monitor.proofs.Samples.{two, at, settings, ready, tally, page_5, cut_5, one_page, index, entry, part, discard}
+use Rattle.vb_monitor.specs.Accesses.{Access, CopyBytes, Acquire, Release, Full, TellPages, Discard}
+use Rattle.vb_monitor.{proofs.Samples.{flags_are_read, id, used_length, used_index, flags, given, budget, outcome}, specs.Giving.after_use}
 use Rattle.vb_monitor.{proofs.TurnLaws.{reads_in_turn, tells_in_turn}, specs.Notices.Serves}
 use Rattle.vb_monitor.{specs.declared.outcome.Outcome.Outcome}
+use Rattle.vb_monitor.{specs.Chains.ServesPieces, proofs.AheadFacts.over}
 
 -- descriptor 3: page 5, which the device may write, and no more
 abbrev bytes : List ℕ
@@ -141,3 +142,48 @@ not_discarded (d, (o, h)) =
 -- the page itself is read
 page_read : IsServed ready (index ∷ Acquire ∷ entry ∷ descriptor ∷ part ∷ told ∷ discard ∷ given) → ⊥
 page_read (d, (o, h)) = absurd (reads_in_turn two Report budget ready d o _ h).1.1.1.1.0
+
+-- ---- one of two pieces: a run for each
+
+abbrev free_8 : Piece
+free_8 = record free { addr = 0x8000 }
+
+abbrev page_8 : Run
+page_8 = record { first = 8; count = 1 }
+
+abbrev two_pages : Named
+two_pages = record { runs = 2; pages = 2; skipped = 0 }
+
+both_named : NamesPiecesBy (free ∷ free_8 ∷ []) 256 (page_5 ∷ page_8 ∷ []) ready (taken ready) (Ok two_pages)
+unfolding lib.Count.ones
+both_named = record {
+  denied = λ why e. absurd cc;
+  answer = λ e. refl;
+  device = λ e. refl;
+  runs_are = λ ok. refl;
+}
+
+abbrev back : List Access
+back = id ∷ used_length ∷ Release ∷ used_index ∷ []
+
+abbrev discards : List Access
+discards = discard ∷ Discard (record cut_5 { offset = 0x8000; in_file = 0x8000 }) ∷ back
+
+both_told : (o : Outcome) → ServesPieces Report (over Report ready o) (λ d t log. Unit {0}) ready tally 3 (free ∷ free_8 ∷ [])
+    (TellPages Report (page_5 ∷ page_8 ∷ []) two_pages ∷ discards)
+unfolding lib.Count.ones
+both_told o = record {
+  answer = Ok two_pages;
+  runs = page_5 ∷ page_8 ∷ [];
+  device = taken ready;
+  names = both_named;
+  goes_on = record {
+    rest = discards;
+    asks = refl;
+    discards = record {
+      rest = back;
+      asks = refl;
+      gives_back = record { rest = []; asks = refl; goes_on = tt };
+    };
+  };
+}
