@@ -6,7 +6,7 @@ use Rattle.vb_chain.specs.declared.fault.ChainFault.TheVariants.{BadHead, BadNex
 use Rattle.vb_chain.specs.declared.{descriptor.Descriptor.Descriptor, fault.ChainFault.ChainFault}
 use Rattle.vb_chain.specs.declared.fault.ChainFault.TheVariants.{Indirect, WrongDirection, OutOfRam}
 use Rattle.vb_chain.specs.{Rules.{has_next, first_fault}, Written.linked}
-use Rattle.vb_chain.specs.Chain.{IsPath, IsChain, BreaksAt, ChainGives, FaultGives, fault_at}
+use Rattle.vb_chain.specs.Chain.{IsPath, IsChain, BreaksAt, ChainGives, NoHead, FaultGives, fault_at}
 
 abbrev one : ℕ → ℕ → ℕ → ℕ → Descriptor
 one addr len flags next = record { addr = addr; len = len; flags = flags; next = next }
@@ -113,12 +113,30 @@ past_memory =
 not_the_second : BreaksAt table 2 4096 0 (0 ∷ 2 ∷ []) OutOfRam → ⊥
 not_the_second breaks = (let none : Some BadNext ≡ None = breaks.sound 0 (omega arith) in absurd cc)
 
+-- no chain begins past the table, and none has a fault, at its last descriptor either
+past_the_table : (IsChain (λ i. one 0 0 0 0) 1 4096 1 (1 ∷ []) → ⊥)
+    × ((f : ChainFault) → BreaksAt (λ i. one 0 0 4 0) 1 4096 1 (1 ∷ []) f → ⊥)
+past_the_table = (λ chain. omega (arith, chain.inside), λ f breaks. omega (arith, breaks.inside))
+
+no_chain_past_memory : IsChain table 8 131 0 (0 ∷ 2 ∷ []) → ⊥
+no_chain_past_memory chain =
+    (let none : Some OutOfRam ≡ None = chain.sound 1 (omega arith) in absurd cc)
+
+-- one that is read after one that is written, and two that name each other in a table of two
+faults_on_the_way : map (λ d. map (fault_at d 2 4096 (0 ∷ 1 ∷ [])) (0 ∷ 1 ∷ []))
+    ((λ i. if i == 0 then one 0 4 3 1 else one 0 4 0 0) ∷ (λ i. one 0 4 1 (if i == 0 then 1 else 0)) ∷ [])
+    ≡ (None ∷ Some WrongDirection ∷ []) ∷ (None ∷ Some TooLong ∷ []) ∷ []
+faults_on_the_way = refl
+
 -- a head past the table is BadHead and nothing else
 bad_head : FaultGives table 8 4096 8 BadHead
 bad_head = inl (record { past = omega arith; is = refl })
 
 bad_head_alone : FaultGives table 8 4096 8 OutOfRam → ⊥
 bad_head_alone gives = grind arith
+
+last_head_is_good : NoHead 8 7 BadHead → ⊥
+last_head_is_good is = omega (arith, is.past)
 
 -- ---- what a driver writes: the last descriptor of two has no NEXT
 
