@@ -10,7 +10,7 @@ use Rattle.vb_monitor.specs.declared.outcome.{Outcome.Outcome, Tally.Tally}
 use Rattle.vb_monitor.specs.Accesses.{Access, ReadWord, CopyBytes, Acquire, Full}
 use Rattle.vb_monitor.specs.{Ends.{Whole, Ends}, Giving.{Then, with_given, after_use, GivesBack}}
 use Rattle.vb_monitor.specs.Notices.{LooksBy, TakesChain, ServesPublished, AsksStatistics}
-use Rattle.vb_monitor.proofs.Samples.{two, at, ring, far, tally, index, naming, flags, given}
+use Rattle.vb_monitor.proofs.Samples.{flags_are_read, two, at, ring, far, tally, index, naming, flags, given}
 use Rattle.vb_monitor.proofs.AheadFacts.{over, ends}
 
 -- the queue of this kind is the ring that the accesses are of
@@ -170,33 +170,13 @@ goes_on Report = refl
 gives : (kind : Kind) → GivesBack (over kind (used kind) (ends (with_given tally) None true false))
     (λ d t log. Ends (over kind (used kind) (ends (with_given tally) None true false)) d t None false log) (only kind) tally 3 given
 unfolding lib.Count.ones
-gives Inflate = record {
-  rest = Full ∷ flags ∷ [];
-  asks = refl;
-  goes_on = record { flags = 0; rest = []; asks = refl; then_stops = record { nothing = refl; device = refl; outcome = refl } };
-}
-gives Deflate = record {
-  rest = Full ∷ flags ∷ [];
-  asks = refl;
-  goes_on = record { flags = 0; rest = []; asks = refl; then_stops = record { nothing = refl; device = refl; outcome = refl } };
-}
-gives Statistics = record {
-  rest = Full ∷ flags ∷ [];
-  asks = refl;
-  goes_on = record { flags = 0; rest = []; asks = refl; then_stops = record { nothing = refl; device = refl; outcome = refl } };
-}
-gives Report = record {
-  rest = Full ∷ flags ∷ [];
-  asks = refl;
-  goes_on = record { flags = 0; rest = []; asks = refl; then_stops = record { nothing = refl; device = refl; outcome = refl } };
-}
+gives Inflate = record { rest = Full ∷ flags ∷ []; asks = refl; goes_on = flags_are_read refl refl }
+gives Deflate = record { rest = Full ∷ flags ∷ []; asks = refl; goes_on = flags_are_read refl refl }
+gives Statistics = record { rest = Full ∷ flags ∷ []; asks = refl; goes_on = flags_are_read refl refl }
+gives Report = record { rest = Full ∷ flags ∷ []; asks = refl; goes_on = flags_are_read refl refl }
 
 -- a buffer of statistics is given back to its own queue
 asks : AsksStatistics two 3 (only Statistics) (used Statistics)
     (ends (record (with_given tally) { chains = 0; pages = 0 }) None true false) given
 unfolding lib.Count.ones
-asks = record {
-  rest = Full ∷ flags ∷ [];
-  asks = refl;
-  goes_on = record { flags = 0; rest = []; asks = refl; then_stops = record { nothing = refl; device = refl; outcome = refl } };
-}
+asks = record { rest = Full ∷ flags ∷ []; asks = refl; goes_on = flags_are_read refl refl }
