@@ -30,6 +30,7 @@ LINES = (
     ("budget 5 ", "error"), ("budget 5", "ok"), ("floor 0", "ok"), ("floor 16777216", "error"), ("a counters", "error: nobody is there"),
     ("b counters", "error: add"), ("remove b", "error: no guest"), ("remove a", "ok"), ("a counters", "error: add"),
     ("guests x", "error"), ("frames", "error"),
+    (600 * "x", "error"), ("floor 0", "ok"),
     *((f"{word} {it}", "error: a number of MiB") for word in ("budget", "floor") for it in (*NO_NUMBERS, "16777216")),
 )
 
@@ -104,7 +105,9 @@ def lines_run(bench):
         decisions_are_kept(town)
         client = Talker(f"{town.host.folder}/guest-1", town.host.why, 60)
         whys = [said["why"] for said, _ in town.host.decisions()]
-        demand(whys[:1] == ["guests"], f"a guest came, and the host has decided by {whys}")
+        demand(whys[:2] == ["budget", "guests"], f"a guest came, and the host has decided by {whys}")
+        said = town.host.in_parts(b"coun", b"ters\ncounters\n")
+        demand(all(it.startswith("frames ") for it in said), f"lines in parts are answered {said}")
         for line, answer in (("quit", "error: quit"), ("statistics", "statistics 1 free_memory 245760"), ("x", "error"), ("target 5", "ok")):
             said = town.host.ask(f"guest-1 {line}")
             demand(said.startswith(answer), f"guest-1 {line!r} is answered {said!r}")
