@@ -212,6 +212,7 @@ def many_run(bench):
         targets_become(town, clients, 64 * (0,))
         town.host.demand("budget 20")
         targets_become(town, clients, 51 * (60,) + (12,) + 12 * (0,))
+        demand(town.host.counters()["changed"] == 52, f"52 targets have changed: {town.host.counters()}")
         for it in clients:
             it.leave()
     return "64 clients, each asked for what it should give"
