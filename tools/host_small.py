@@ -31,6 +31,7 @@ LINES = (
     ("b counters", "error: add"), ("remove b", "error: no guest"), ("remove a", "ok"), ("a counters", "error: add"),
     ("guests x", "error"), ("frames", "error"),
     *((f"{it}budget 7", "error: add") for it in NO_LINES), ("budget 7\0", "error: add"),
+    (600 * "x", "error"), ("floor 0", "ok"),
     *((f"{word} {it}", "error: a number of MiB") for word in ("budget", "floor") for it in (*NO_NUMBERS, "16777216")),
 )
 
@@ -105,7 +106,9 @@ def lines_run(bench):
         decisions_are_kept(town)
         client = Talker(f"{town.host.folder}/guest-1", town.host.why, 60)
         whys = [said["why"] for said, _ in town.host.decisions()]
-        demand(whys[:1] == ["guests"], f"a guest came, and the host has decided by {whys}")
+        demand(whys[:2] == ["budget", "guests"], f"a guest came, and the host has decided by {whys}")
+        said = town.host.in_parts(b"coun", b"ters\ncounters\n")
+        demand(all(it.startswith("frames ") for it in said), f"lines in parts are answered {said}")
         for line, answer in (("quit", "error: quit"), ("statistics", "statistics 1 free_memory 245760"), ("x", "error"), ("target 5", "ok")):
             said = town.host.ask(f"guest-1 {line}")
             demand(said.startswith(answer), f"guest-1 {line!r} is answered {said!r}")
@@ -210,6 +213,7 @@ def many_run(bench):
         targets_become(town, clients, 64 * (0,))
         town.host.demand("budget 20")
         targets_become(town, clients, 51 * (60,) + (12,) + 12 * (0,))
+        demand(town.host.counters()["changed"] == 52, f"52 targets have changed: {town.host.counters()}")
         for it in clients:
             it.leave()
     return "64 clients, each asked for what it should give"

@@ -69,6 +69,15 @@ class Backend:
             except (OSError, Fault) as fault:
                 raise Fault(f"the backend doesn't answer {line!r}: {self.why() or fault}") from None
 
+    def in_parts(self, first, last):
+        """Writes two parts of lines, with a rest between them; returns as many answers as there are lines."""
+        with self.lock:
+            for part in (first, last):
+                self.process.stdin.write(part)
+                self.process.stdin.flush()
+                time.sleep(0.1)
+            return [self.lines.next(time.monotonic() + ANSWER_LIMIT) for _ in range((first + last).count(b"\n"))]
+
     def counters(self):
         """Returns its counters by their names."""
         words = self.ask("counters").split()

@@ -32,6 +32,8 @@ def walk_threads(proved):
     """Refuses each request of a run on threads, and each thread; returns how many were answered wrongly."""
     lines, words = threads_script(), ("threads",)
     whole = proved.run(lines, words=words)
+    if not whole.requests:
+        sys.exit("refuse-memory: no request of the run on threads is counted, so none would be refused")
     if not is_whole(whole):
         sys.exit("refuse-memory: the run on threads isn't whole, though nothing was refused")
     runs = [(it, proved.run(lines, it, words)) for it in range(1, whole.requests + 1)]
@@ -57,6 +59,8 @@ def what_is_left(run):
 def walk_tests(proved):
     """Refuses each request of the test of runs on threads, and each thread; returns how many were answered wrongly."""
     whole = proved.test()
+    if not whole.requests:
+        sys.exit("refuse-memory: no request of the test is counted, so none would be refused")
     if what_is_left(whole) != REPORT:
         sys.exit("refuse-memory: the test of runs on threads has no report, though nothing was refused")
     runs = [proved.test(refused=it) for it in range(1, whole.requests + 1)]

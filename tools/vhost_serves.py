@@ -303,12 +303,17 @@ class Serves(Good):
     def test_lines_that_are_none(self):
         client = self.started()
         numbers = [f"target {it}" for it in (*NO_NUMBERS, "4294967296")]
-        for line in ("", "target", *numbers, "snapshot", "audit", "x" * 60):
+        for line in ("", "target", *numbers, "snapshot", "audit", "x" * 60, "x" * 300):
             self.assertTrue(client.backend.ask(line).startswith("error: "), line)
         for begin in NO_LINES:
             self.assertTrue(client.backend.ask(f"{begin}target 7").startswith("error: "), begin)
         self.assertTrue(client.backend.ask("target 7\0").startswith("error: "))
         self.assertEqual((client.counter("target"), client.backend.ask("target 4294967295")), (0, "ok"))
+
+    def test_lines_in_parts(self):
+        client = self.started()
+        said = client.backend.in_parts(b"coun", b"ters\ntarget 9\nstatistics\n")
+        self.assertEqual([it.split()[0] for it in said], ["target", "ok", "statistics"])
 
     def test_quit(self):
         client = Served()

@@ -151,6 +151,11 @@ static void a_look_at_all_queues_may_end_early(void)
     EXPECT(balloon_write_status(&guest.balloon, 15, &result) == 0 && result.chains == 1 && result.more && !result.configuration);
     result = balloon_notify(&guest.balloon, VB_DEFLATE);
     EXPECT(result.chains == 1 && !result.more && used_index(&guest, VB_DEFLATE) == 2);
+    guest.balloon.most_chains = 256;
+    name_pages(&guest, VB_DEFLATE, &page, 1);
+    publish(&guest, VB_DEFLATE, 8);
+    result = balloon_notify(&guest.balloon, VB_DEFLATE);
+    EXPECT(result.code == VB_BROKEN && result.chains == 1 && result.interrupts == 1 << VB_DEFLATE && used_index(&guest, VB_DEFLATE) == 3);
     free_memory(&guest);
 }
 

@@ -1,7 +1,7 @@
 //! Requests, reports, statistics and configuration.
 
 use crate::guest::{buffer, settings, Guest, Told, HIGH, LINUX};
-use vb_balloon::{features, Balloon, Kind, Refusal, Run, Settings, Statistic};
+use vb_balloon::{features, Balloon, Kind, Refusal, Run, Settings, State, Statistic};
 
 #[test]
 fn pages_go_and_come() {
@@ -42,6 +42,11 @@ fn statistics_come_before_the_driver_is_ready_and_outlive_a_move() {
     assert_eq!(balloon.write_status(&guest.memory, 15, &mut told).map(|it| it.chains), Ok(1));
     assert_eq!((&told.figures[..], guest.used_index(Kind::Statistics)), (&[figure][..], 0));
     let bytes = balloon.state().to_bytes().expect("calls led there");
+    let moved = Balloon::restore(State::from_bytes(&bytes).expect("it was saved"));
+    assert_eq!(
+        (moved.state().to_bytes(), moved.most_chains, moved.most_pages, moved.keeps_pages),
+        (Ok(bytes), 256, u32::MAX, false)
+    );
     let mut balloon = Balloon::restore_bytes(&guest.memory, &bytes).expect("it was saved");
     assert_eq!(balloon.state().to_bytes(), Ok(bytes));
     assert_eq!(balloon.ask_statistics(&guest.memory).interrupts, 4);
@@ -109,7 +114,9 @@ fn pages_are_kept() {
     let mut balloon = guest.ready(settings());
     balloon.keeps_pages = true;
     guest.put(700 << 12, &[7; 2 << 12]);
-    for (kind, kept, discarded) in [(Kind::Inflate, 2, 0), (Kind::Report, 2, 0), (Kind::Deflate, 0, 0), (Kind::Inflate, 0, 2)] {
+    for (kind, kept, discarded) in
+        [(Kind::Inflate, 2, 0), (Kind::Report, 2, 0), (Kind::Deflate, 0, 0), (Kind::Inflate, 0, 2)]
+    {
         balloon.keeps_pages = discarded == 0;
         if kind == Kind::Report {
             guest.describe(kind, 0, 700 << 12, 2 << 12, 2, 0);

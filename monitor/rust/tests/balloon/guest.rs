@@ -32,7 +32,7 @@ pub struct Guest {
     published: [u16; 4],
 }
 
-fn file_of(length: u64) -> File {
+pub fn file_of(length: u64) -> File {
     // SAFETY: the name ends with a zero, and the descriptor is nobody else's.
     let file = unsafe { File::from_raw_fd(libc::memfd_create(b"guest\0".as_ptr().cast(), 0)) };
     file.set_len(length).expect("a file");

@@ -1,10 +1,10 @@
 //! Memory that is mapped anew, and large pages and the set that they go by.
 
-use crate::guest::{settings, Guest};
+use crate::guest::{buffer, file_of, settings, Guest};
 use std::io;
 use std::sync::Arc;
-use vb_balloon::{Cut, Kind, LiveMemory, Monitor, Refusal, Settings};
-use vm_memory::{GuestAddress, GuestMemoryMmap, GuestRegionMmap, MmapRegion};
+use vb_balloon::{Balloon, Cut, Kind, LiveMemory, Monitor, Refusal, Settings};
+use vm_memory::{FileOffset, GuestAddress, GuestMemoryMmap, GuestRegionMmap, MmapRegion};
 
 /// A machine of pages of 2 MiB: what is discarded is whole ones.
 #[derive(Default)]
@@ -73,6 +73,38 @@ fn a_hole_may_be_filled() {
     guest.name(Kind::Inflate, &[hole]);
     let served = balloon.notify(&guest.memory, Kind::Inflate, &mut ());
     assert_eq!((served.pages, served.discarded, served.in_holes), (1, 1, 0));
+}
+
+/// A question for statistics goes over the regions of the memory at hand, whose numbers have changed.
+#[test]
+fn statistics_are_asked_over_the_memory_at_hand() {
+    let (mut guest, file, cut) = (Guest::new(), file_of(8 << 20), 0x10000);
+    let part = |at: u64, length: u64| {
+        let its = FileOffset::new(file.try_clone().expect("a file"), at);
+        (GuestAddress(at), length as usize, Some(its))
+    };
+    guest.memory = GuestMemoryMmap::from_ranges_with_files([part(0, 8 << 20)]).expect("memory");
+    let mut balloon = guest.ready(settings());
+    guest.describe(Kind::Statistics, 0, buffer(Kind::Statistics), 10, 0, 0);
+    guest.publish(Kind::Statistics, 0);
+    assert_eq!(balloon.notify(&guest.memory, Kind::Statistics, &mut ()).chains, 1);
+    let parts = [part(0, cut), part(cut, (8 << 20) - cut)];
+    guest.memory = GuestMemoryMmap::from_ranges_with_files(parts).expect("memory");
+    let served = balloon.ask_statistics(&guest.memory);
+    assert_eq!((served.stopped, served.chains, guest.used_index(Kind::Statistics)), (None, 1, 1));
+}
+
+/// The set has a word for each 64 pages of memory, and for those left; a page beyond 65,536 is another one than those below.
+#[test]
+fn the_set_has_a_bit_for_each_page() {
+    for (pages, words) in [(2, 1), (64, 1), (65, 2), (128, 2), (129, 3)] {
+        let memory = GuestMemoryMmap::<()>::from_ranges(&[(GuestAddress(0), pages << 12)]).expect("memory");
+        let mut balloon = Balloon::new(&memory, settings()).expect("a balloon");
+        assert_eq!(balloon.words_of_set(), words);
+        balloon.ballooned = vec![0; 1025];
+        balloon.ballooned[1024] = 1;
+        assert!(balloon.is_ballooned(1 << 16) && !balloon.is_ballooned(0));
+    }
 }
 
 /// The set of ballooned pages, where there is one: for all of memory, and empty after a reset.
