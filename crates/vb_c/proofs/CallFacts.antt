@@ -1,13 +1,14 @@
 -- What the calls of a device answer in C, worked out: each refusal, and what it leaves.
-use Rattle.std.proofs.Common.{refl, ap, arith, ℕ, zero, suc, List, [], ◌∷◌, ◌++◌, Some, None, Ok, Err}
-use Rattle.vb_core.{specs.declared.kinds.Kind.TheVariants.Inflate, specs.Rings.used_entry}
+use Rattle.std.proofs.Common.{refl, ◌∙◌, ap, arith, ℕ, zero, suc, List, [], ◌∷◌, ◌++◌, Some, None, Ok, Err}
+use Rattle.std.specs.Prelude.{replicate}
+use Rattle.vb_core.{specs.declared.kinds.Kind.TheVariants.{Inflate, Report}, specs.Rings.used_entry}
 use Rattle.vb_core.{specs.declared.statistics.Statistic.Statistic, specs.Statistics.AreFigures}
 use Rattle.vb_c.specs.declared.answers.VbFigures.{VbFigures}
-use Rattle.vb_core.specs.declared.device.Denial.TheVariants.{NoQueue, BadArgument, Misplaced}
+use Rattle.vb_core.specs.declared.device.Denial.TheVariants.{NoQueue, BadArgument, Misplaced, NotReady}
 use Rattle.vb_core.{specs.declared.device.Device.Device, specs.Devices.{new_device, placed}}
 use Rattle.vb_c.specs.declared.answers.{VbChain.VbChain, VbNamed.VbNamed, VbUsed.VbUsed}
-use Rattle.vb_c.specs.{declared.marks.VbMarked.VbMarked, Answers.{figures_of, used_of}}
-use Rattle.vb_c.specs.{Marks.MarksFor, Chains.{NextFor, NamesFor, SaysFigures, Uses, UsesFor}}
+use Rattle.vb_c.specs.{declared.marks.VbMarked.VbMarked, Answers.{chain_of, named_of, reported_of, figures_of, used_of}}
+use Rattle.vb_c.specs.{Marks.MarksFor, Chains.{NextFor, NamesFor, Reports, SaysFigures, Uses, UsesFor}}
 use Rattle.vb_c.{specs.Registers.{Starts, WritesStatus, Places, PlacesFor}, proofs.Samples.Same}
 use Rattle.vb_c.proofs.Samples.{settings, no_settings, begun, ready}
 
@@ -53,6 +54,44 @@ marks_of_no_kind_changes h = let e : Same 3 1 = ap first_word h.1 in omega arith
 marks_of_no_kind_succeeds : MarksFor None [] [] [] (record { code = 0; pages = 0 }) → ⊥
 marks_of_no_kind_succeeds h = let e : Same 0 5 = ap (λ (m : VbMarked). m.code) h.0 in omega arith
 
+-- ---- copies of a queue of eight: 20 bytes of its available ring, and 128 of its table
+
+abbrev twenty : List ℕ
+twenty = replicate 20 0
+
+abbrev table : List ℕ
+table = replicate 128 0
+
+abbrev none_stands : VbChain
+none_stands = record no_queue { code = 1 }
+
+abbrev chain_code : VbChain → ℕ
+chain_code c = c.code
+
+copies_exchanged : (d : Device) → NextFor (Some Inflate) table twenty 256 [] ready d none_stands → ⊥
+unfolding lib.Count.ones
+copies_exchanged d (answer, by, is) =
+    let e : Same 1 6 = ap chain_code (is ∙ ap chain_of (by.denied Misplaced refl).0) in omega arith
+
+-- reports aren't asked for so, and a request of no number isn't one
+chain_of_a_report : (d : Device) → NextFor (Some Report) twenty table 256 [] ready d none_stands → ⊥
+unfolding lib.Count.ones
+chain_of_a_report d (answer, by, is) =
+    let e : Same 1 5 = ap chain_code (is ∙ ap chain_of (by.denied NoQueue refl).0) in omega arith
+
+no_number : (d : Device) → NamesFor (Some Inflate) [] 256 [] ready d names_nothing → ⊥
+unfolding lib.Count.ones
+no_number d (answer, by, is) =
+    let e : Same 5 7 = ap (λ (n : VbNamed). n.code) (is ∙ ap named_of (by.denied BadArgument refl).0) in omega arith
+
+abbrev reporting : Device
+reporting = record ready { report = placed 0 0x100 0x200 8 }
+
+report_exchanged : (d : Device) → Reports table twenty 32 [] reporting d (record names_nothing { code = 1 }) → ⊥
+unfolding lib.Count.ones
+report_exchanged d (answer, by, is) =
+    let e : Same 1 6 = ap (λ (n : VbNamed). n.code) (is ∙ ap reported_of (by.denied Misplaced refl).0) in omega arith
+
 -- ---- chains that are used
 
 uses_of_no_kind : UsesFor None 3 ready ready (used_of (Err NoQueue))
@@ -61,8 +100,9 @@ uses_of_no_kind = (refl, refl)
 uses_of_no_kind_changes : UsesFor None 3 ready (changed ready) (used_of (Err NoQueue)) → ⊥
 uses_of_no_kind_changes h = let e : Same 1 0 = ap target_of h.1 in omega arith
 
-used_so : UsesFor (Some Inflate) 3 ready (record ready { inflate = record (placed 0 0x100 0x200 8) { next_used = 1 } })
-    (record { code = 0; element_at = 0x204; index_at = 0x202; id = 3; length = 0; index = 1 })
+-- the queue of statistics stands elsewhere, and has four descriptors
+used_so : UsesFor (Some Inflate) 7 ready (record ready { inflate = record (placed 0 0x100 0x200 8) { next_used = 1 } })
+    (record { code = 0; element_at = 0x204; index_at = 0x202; id = 7; length = 0; index = 1 })
 unfolding lib.Count.ones
 used_so = record { denied = λ why e. absurd cc; used = λ e. (refl, refl) }
 
@@ -79,7 +119,7 @@ another_element : (d : Device) → Uses Inflate 3 ready d
 unfolding lib.Count.ones
 another_element d h = let e : Same 0x20c 0x204 = ap (λ (u : VbUsed). u.element_at) (h.used refl).0 in omega arith
 
-not_counted : Uses Inflate 3 ready ready (used_of (Ok (used_entry (ready.inflate) 3))) → ⊥
+not_counted : Uses Inflate 7 ready ready (used_of (Ok (used_entry (ready.inflate) 7))) → ⊥
 unfolding lib.Count.ones
 not_counted h = let e : Same 0 1 = ap (λ (d : Device). d.inflate.next_used) (h.used refl).1 in omega arith
 
@@ -117,6 +157,21 @@ counts n = record { code = 0; rule = 0; count = n }
 two_figures : SaysFigures both 2 figures ready taken (counts 2)
 unfolding lib.Count.ones
 two_figures = record { denied = λ why e. absurd cc; taken = λ e. (refl, are_both, refl) }
+
+-- of three figures that stand there two are the bytes'
+two_of_three : SaysFigures both 3 (figure 4 ∷ figure 5 ∷ figure 6 ∷ []) ready taken (counts 2)
+unfolding lib.Count.ones
+two_of_three = record { denied = λ why e. absurd cc; taken = λ e. (refl, are, refl) } where
+  are : AreFigures both (figure 4 ∷ figure 5 ∷ figure 6 ∷ [])
+  are zero d lt = refl
+  are (suc zero) d lt = refl
+  are (suc (suc k)) d lt = absurd (omega (arith, lt))
+
+-- the device is asked as it was before
+before_it_is_ready : SaysFigures both 2 figures begun ready (counts 2) → ⊥
+unfolding lib.Count.ones
+before_it_is_ready h =
+    let e : Same 0 3 = ap (λ (f : VbFigures). f.code) (h.denied NotReady refl).0 in omega arith
 
 -- room for one is too little
 no_room : (d : Device) → SaysFigures both 1 figures ready d (counts 2) → ⊥
@@ -177,6 +232,10 @@ clears_although_refused d h = let e : Same 0 1 = (h.denied _ refl).0 in omega ar
 not_written : WritesStatus 15 begun begun 0 → ⊥
 not_written h = let e : Same 11 15 = ap (λ (d : Device). d.status) (h.accepted refl).1 in omega arith
 
+-- ACKNOWLEDGE comes first, or else 2 is answered
+out_of_order : (d : Device) → WritesStatus 2 (new_device settings) d 1 → ⊥
+out_of_order d h = let e : Same 1 2 = (h.denied _ refl).0 in omega arith
+
 -- ---- places
 
 placed_so : Places Inflate 0 0x100 0x200 8 begun (record begun { inflate = placed 0 0x100 0x200 8 }) 0
@@ -186,6 +245,19 @@ placed_so = record { denied = λ why e. absurd cc; placed_so = λ e. (refl, refl
 in_another_queue : Places Inflate 0 0x100 0x200 8 begun (record begun { deflate = placed 0 0x100 0x200 8 }) 0 → ⊥
 unfolding lib.Count.ones
 in_another_queue h = let e : Same 0 8 = ap (λ (d : Device). d.inflate.size) (h.placed_so refl).1 in omega arith
+
+-- an available ring stands at an even address, and a used one at a multiple of four
+at_an_even_address : Places Inflate 0 0x102 0x200 8 begun (record begun { inflate = placed 0 0x102 0x200 8 }) 0
+unfolding lib.Count.ones
+at_an_even_address = record { denied = λ why e. absurd cc; placed_so = λ e. (refl, refl) }
+
+not_placed_there : Places Inflate 0 0x102 0x200 8 begun begun 0 → ⊥
+unfolding lib.Count.ones
+not_placed_there h = let e : Same 0 8 = ap (λ (d : Device). d.inflate.size) (h.placed_so refl).1 in omega arith
+
+used_at_one : (d : Device) → Places Inflate 0 0x100 0x202 8 begun d 0 → ⊥
+unfolding lib.Count.ones
+used_at_one d h = let e : Same 0 6 = (h.denied Misplaced refl).0 in omega arith
 
 -- nine is no size, and once DRIVER_OK is set no queue is placed
 of_nine : (d : Device) → Places Inflate 0 0x100 0x200 9 begun d 0 → ⊥

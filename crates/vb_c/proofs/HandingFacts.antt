@@ -1,6 +1,6 @@
 -- Which notices are handed over to C, and which aren't.
 use Rattle.std.proofs.Common.{◌≡◌, ◌∙◌, refl, ap, sym, arith, ℕ, ◌+◌, ◌*◌, ◌≤◌, Bool, true, false, [], Option, Some, None}
-use Rattle.vb_core.specs.declared.{kinds.Kind.{Kind, TheVariants.{Inflate, Deflate}}, name.Named.Named}
+use Rattle.vb_core.specs.declared.{kinds.Kind.{Kind, TheVariants.{Inflate, Deflate, Statistics, Report}}, name.Named.Named}
 use Rattle.vb_monitor.specs.declared.{regions.Spot.Spot, orders.Orders.Orders}
 use Rattle.vb_monitor.specs.declared.orders.{Told.{Told, TheVariants.{Nothing, Pages, Figures}}, Asked.Asked}
 use Rattle.vb_monitor.specs.declared.{notice.Notice.Notice, step.Phase.TheVariants.AwaitsIndex}
@@ -12,7 +12,7 @@ use Rattle.vb_monitor.specs.{declared.balloon.Balloon.Balloon, Machine.{Fits, ro
 use Rattle.vb_c.specs.declared.notice.{VbNotice.VbNotice, VbRoom.VbRoom}
 use Rattle.vb_model.specs.Tests.{one_if}
 use Rattle.vb_c.specs.{Notices.{tally_of, told_bits, asked_bits, answer_bits, what_of}, Serving.{held_then, Refuses}, Served.telling_pages}
-use Rattle.vb_c.{specs.Serving.HandsOver, proofs.Samples.{Same, two, balloon}}
+use Rattle.vb_c.{specs.Serving.HandsOver, proofs.Samples.{Same, two, begun, balloon}}
 
 abbrev pub spot : Spot
 spot = record { region = 0; offset = 0x102 }
@@ -142,17 +142,18 @@ buffer_lost n h =
 
 -- ---- how many of the pages that are told are kept
 
-abbrev one_page : Named
-one_page = record { runs = 1; pages = 1; skipped = 0 }
+-- one run of two pages
+abbrev two_pages : Named
+two_pages = record { runs = 1; pages = 2; skipped = 0 }
 
 abbrev telling : Kind → Bool → Notice
-telling kind keeps = telling_pages kind (record (tally_of shown) { keeps = keeps }) 3 one_page
+telling kind keeps = telling_pages kind (record (tally_of shown) { keeps = keeps }) 3 two_pages
 
--- a page is told, its chain is given back, and the index is awaited
+-- they are told, their chain is given back, and the index is awaited
 abbrev told : ℕ → VbNotice
 told kept = record shown {
   what = 73;
-  orders = record none_asked { named = one_page; kept = kept };
+  orders = record none_asked { named = two_pages; kept = kept };
   given = 1;
 }
 
@@ -173,10 +174,10 @@ is_told : (n : Notice) (kept : ℕ) (b1 b2 : Balloon) →
 is_told n kept b1 b2 h =
     tells_pages h.asked.told h.asked.gives _ (ap bits_in h.is.read) h.is.what
 
--- one that is kept is counted, and no other one is
+-- those that are kept are counted, and no others are
 uncounted : (b1 b2 : Balloon) → HandsOver (telling Inflate true) two [] b1 b2 [] (told 0) → ⊥
 uncounted b1 b2 h =
-    let e : Same 0 1 = h.kept (is_told (telling Inflate true) 0 b1 b2 h) in omega arith
+    let e : Same 0 2 = h.kept (is_told (telling Inflate true) 0 b1 b2 h) in omega arith
 
 discarded_and_counted : (b1 b2 : Balloon) →
     HandsOver (telling Inflate false) two [] b1 b2 [] (told 1) → ⊥
@@ -187,6 +188,35 @@ asked_back_and_counted : (b1 b2 : Balloon) →
     HandsOver (telling Deflate true) two [] b1 b2 [] (told 1) → ⊥
 asked_back_and_counted b1 b2 h =
     let e : Same 1 0 = h.kept (is_told (telling Deflate true) 1 b1 b2 h) in omega arith
+
+-- a report's, where the device keeps them
+abbrev keeping : Balloon
+keeping = record balloon { device = record begun { features = 0x100000037; poison = 1 } }
+
+uncounted_of_a_report : (b2 : Balloon) → HandsOver (telling Report false) two [] keeping b2 [] (told 0) → ⊥
+unfolding lib.Count.ones
+uncounted_of_a_report b2 h =
+    let e : Same 0 2 = h.kept (is_told (telling Report false) 0 keeping b2 h) in omega arith
+
+-- the chain that they are of
+told_of_3 : telling_pages Inflate (tally_of shown) 3 two_pages ≡
+    record { kind = Inflate; step = record { tally = tally_of shown; phase = TellsPages 3 two_pages } }
+told_of_3 = refl
+
+-- ---- the buffer that is held: another one where a notice of statistics has ended that took one
+
+abbrev taking : Kind → Phase → Notice
+taking kind phase =
+    record { kind = kind; step = record { tally = record (tally_of shown) { held = Some 6 }; phase = phase } }
+
+held_then_7 : held_then (taking Statistics (Ended None false false)) balloon ≡ 7
+held_then_7 = refl
+
+not_yet : held_then (taking Statistics (AwaitsIndex spot)) balloon ≡ 4
+not_yet = refl
+
+of_inflates : held_then (taking Inflate (Ended None false false)) balloon ≡ 4
+of_inflates = refl
 
 -- ---- what is refused changes nothing
 

@@ -13,3 +13,4 @@ mod RefusalFacts
 mod RegisterFacts
 mod HandingFacts
 mod BeginFacts
+mod ServingFacts

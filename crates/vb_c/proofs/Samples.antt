@@ -25,7 +25,7 @@ abbrev pub begun : Device
 begun = record (new_device settings) { features = 0x100000027; status = 11 }
 
 abbrev pub ready : Device
-ready = record begun { status = 15; inflate = placed 0 0x100 0x200 8; statistics = placed 0 0x100 0x200 8 }
+ready = record begun { status = 15; inflate = placed 0 0x100 0x200 8; statistics = placed 0x800 0x900 0xa00 4 }
 
 -- pages 0 to 20, and, one page on, pages 22 to 31
 abbrev pub two : List Region

@@ -1,9 +1,9 @@
 -- What saving, restoring and targets answer in C, worked out.
-use Rattle.std.proofs.Common.{◌≡◌, ◌∙◌, refl, ap, sym, arith, Result, Ok, Err, inl, inr, ℕ, List, [], ◌∷◌}
+use Rattle.std.proofs.Common.{◌≡◌, ◌∙◌, refl, ap, sym, arith, Result, Ok, Err, inl, inr, ℕ, List, [], ◌∷◌, length, Some}
 use Rattle.vb_model.specs.Balance.{Need}
 use Rattle.vb_balance.specs.Serving.{StillServe}
 use Rattle.vb_core.{specs.declared.device.Device.Device, specs.declared.saved.Saved.Saved}
-use Rattle.vb_core.{specs.declared.saved.StateDenial.{StateDenial, TheVariants.BadLength}, specs.Saved.restored}
+use Rattle.vb_core.{specs.declared.saved.StateDenial.{StateDenial, TheVariants.{BadLength, BadSum, Impossible}}, specs.Saved.{restored, save_denial}}
 use Rattle.vb_c.{specs.Saving.{Saves, Restores}, specs.Sharing.TellsServing}
 use Rattle.vb_c.proofs.Samples.{Same, begun}
 
@@ -20,6 +20,14 @@ written_although_refused h = let e : Same 8 7 = ap first_byte (h.denied BadLengt
 
 saved_in_one_byte : (new : List ℕ) → Saves saved (7 ∷ []) new 0 → ⊥
 saved_in_one_byte new h = let e : Same 0 9 = (h.denied BadLength refl).0 in omega arith
+
+-- each refusal has its code
+as_too_short : (s : Saved) (old new : List ℕ) → save_denial s (length old) ≡ Some Impossible → Saves s old new 9 → ⊥
+as_too_short s old new e h = let code : Same 9 13 = (h.denied Impossible e).0 in omega arith
+
+restored_as_too_short : (bytes : List ℕ) (d : Device) (held : ℕ) → restored bytes ≡ Err BadSum →
+    Restores bytes begun d 4 held 9 → ⊥
+restored_as_too_short bytes d held e h = let code : Same 9 12 = (h.denied BadSum e).0 in omega arith
 
 -- of no byte nothing is restored
 changed_by_nothing : (held : ℕ) → Restores [] begun (record begun { target = 1 }) held held 9 → ⊥

@@ -4,7 +4,8 @@ use Rattle.vb_core.specs.declared.{kinds.Kind.Kind, name.Named.Named}
 use Rattle.vb_core.specs.declared.kinds.Kind.TheVariants.{Inflate, Deflate, Statistics, Report}
 use Rattle.vb_core.specs.{declared.device.Denial.TheVariants.BadArgument, Rings.used_entry}
 use Rattle.vb_core.specs.Devices.{ring_of}
-use Rattle.vb_monitor.specs.declared.cuts.Cut.{Cut}
+use Rattle.vb_core.specs.declared.ring.UsedEntry.{UsedEntry}
+use Rattle.vb_monitor.specs.declared.{cuts.Cut.Cut, regions.Region.Region}
 use Rattle.vb_monitor.specs.declared.giving.UsedSpots.{UsedSpots}
 use Rattle.vb_monitor.specs.declared.outcome.Outcome.{Outcome}
 use Rattle.vb_monitor.specs.Accesses.{Access, Acquire, Release, TellPages, Discard, WriteNumber, WriteWord}
@@ -39,6 +40,23 @@ to_the_end_of_a_region : used_spots two (record { element_at = 0x14ff8; index_at
     Some (record { id = at 0x14ff8; length = at 0x14ffc; index = at 0x14ffe })
 to_the_end_of_a_region = refl
 
+-- the id lies in one region and the length in the next one; no number lies in both, and no index in half
+abbrev halves : List Region
+halves = record { guest = 0; length = 0x1000; in_file = 0 } ∷ record { guest = 0x1000; length = 0x1000; in_file = 0 } ∷ []
+
+abbrev element : ℕ → UsedEntry
+element a = record { element_at = a; index_at = 0x202; id = 3; length = 0; index = 1 }
+
+in_two_regions : used_spots halves (element 0xffc) ≡
+    Some (record { id = at 0xffc; length = record { region = 1; offset = 0 }; index = at 0x202 })
+in_two_regions = refl
+
+id_in_both : used_spots halves (element 0xffe) ≡ None
+id_in_both = refl
+
+half_an_index : used_spots halves (record (element 0x204) { index_at = 0xfff }) ≡ None
+half_an_index = refl
+
 -- id and length, and behind a release fence the index
 in_their_order : used_accesses spots (record { element_at = 0x204; index_at = 0x202; id = 3; length = 7; index = 9 }) ≡
     WriteNumber (at 0x204) 3 ∷ WriteNumber (at 0x208) 7 ∷ Release ∷ WriteWord (at 0x202) 9 ∷ []
@@ -53,7 +71,7 @@ around = refl
 
 -- ---- tallies
 
-given : with_given tally ≡ record tally { given = true }
+given : with_given (record tally { held = Some 3 }) ≡ record tally { given = true; held = Some 3 }
 given = refl
 
 one_spent : spent 1 tally ≡ record tally { pages = 2 }
@@ -113,6 +131,11 @@ told_discarded_given = record {
 no_descriptor : GivesBack whole last ready tally 8 (id ∷ used_length ∷ Release ∷ used_index ∷ []) → ⊥
 unfolding lib.Count.ones
 no_descriptor h = let e = h.nothing in absurd cc
+
+-- the last descriptor's is
+last_descriptor_kept : GivesBack whole last ready tally 7 [] → ⊥
+unfolding lib.Count.ones
+last_descriptor_kept h = let e = h.asks in absurd cc
 
 -- the element behind its index, its numbers exchanged, no fence, another fence, the fence too early or too late
 abbrev Writes : List Access → Type 0
@@ -205,9 +228,9 @@ refused_and_told h = let e = h.nothing in absurd cc
 
 -- the first runs alone count, and the pages are taken off the budget
 abbrev two_skipped : Named
-two_skipped = record one_page { skipped = 2 }
+two_skipped = record { runs = 1; pages = 2; skipped = 2 }
 
-first_run : AfterName whole (λ d t log. (t ≡ with_given (spent 1 tally)) × (log ≡ [])) ready tally 3 (page_5 ∷ over_the_hole ∷ [])
+first_run : AfterName whole (λ d t log. (t ≡ with_given (record tally { pages = 1 })) × (log ≡ [])) ready tally 3 (page_5 ∷ over_the_hole ∷ [])
     (Ok two_skipped) (TellPages Inflate (page_5 ∷ []) two_skipped ∷ discard ∷ id ∷ used_length ∷ Release ∷ used_index ∷ [])
 unfolding lib.Count.ones
 first_run = record {

@@ -15,6 +15,7 @@ use Rattle.vb_monitor.specs.declared.step.Phase.TheVariants.{AwaitsIndex, Awaits
 use Rattle.vb_monitor.specs.declared.step.Phase.TheVariants.{TellsPages, TellsFigures, Discards, GivesBack, AwaitsFlags, Ended}
 use Rattle.vb_monitor.specs.Accesses.{Access, Adds, ReadWord, CopyBytes, Acquire, Release, Full, TellPages, TellFigures}
 use Rattle.vb_monitor.specs.Machine.{Room, room_of, behind_part, cuts_behind, is_ended, stage, waits, outcome_at, Fits, Does, Goes}
+use Rattle.vb_monitor.specs.{declared.cuts.NextCut.NextCut, Orders.cuts_left}
 use Rattle.vb_monitor.specs.Left.{parts_left, of_chains, left_of, left}
 use Rattle.vb_monitor.proofs.Samples.{Same, two, at, tally, ring, page_5, one_page, over_the_hole, cut_5, cut_20, cut_22, last_descriptor, number, index, entry, discard, id, used_length, used_index, flags}
 
@@ -164,6 +165,19 @@ behind_the_second_run = refl
 
 behind_all_runs : cuts_behind 0 2 two runs ≡ []
 behind_all_runs = refl
+
+-- the next part that is left stands before these, whichever it is
+abbrev next_cut : ℕ → ℕ → NextCut
+next_cut run from = record { cut = cut_20; run = run; from = from }
+
+before_those : cuts_left two runs (Some (next_cut 0 1)) ≡ cut_20 ∷ cut_22 ∷ cut_5 ∷ []
+before_those = refl
+
+before_the_second_run : cuts_left two runs (Some (next_cut 1 0)) ≡ cut_20 ∷ cut_5 ∷ []
+before_the_second_run = refl
+
+none_left : cuts_left two runs None ≡ []
+none_left = refl
 
 -- ---- what was done
 

@@ -51,6 +51,12 @@ all_of_them : at_once (record { told = Pages; gives = true }) Inflate orders cut
     ∷ Acquire ∷ ReadWord (spot 6) 3 ∷ []
 all_of_them = refl
 
+-- one run of two pages is told as one run
+one_run_of_two : at_once (record { told = Pages; gives = false }) Inflate
+    (record orders { named = record { runs = 1; pages = 2; skipped = 0 }; cuts = 0 }) cuts runs figures [] ≡
+    TellPages Inflate (record { first = 1; count = 1 } ∷ []) (record { runs = 1; pages = 2; skipped = 0 }) ∷ []
+one_run_of_two = refl
+
 figures_alone : at_once (record { told = Figures; gives = false }) Statistics
     (record orders { cuts = 0 }) cuts runs figures [] ≡
     TellFigures (record { tag = 4; value = 9 } ∷ []) ∷ []

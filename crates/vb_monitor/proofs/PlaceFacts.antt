@@ -3,7 +3,7 @@ use Rattle.std.proofs.Common.{◌≡◌, refl, arith, true, false, [], ◌∷◌
 use Rattle.vb_core.specs.{declared.settings.Settings.Settings, Devices.{new_device, placed}}
 use Rattle.vb_core.specs.declared.kinds.Kind.TheVariants.{Inflate, Statistics}
 use Rattle.vb_monitor.specs.Places.{memory_end_of, is_memory, AreMemory, HasMemory, balloon_over}
-use Rattle.vb_monitor.specs.{Places.may_be_memory, Balloons.{held_head, held_after, may_tell}}
+use Rattle.vb_monitor.specs.{Places.{may_be_memory, ending_with}, Balloons.{held_head, held_after, may_tell}}
 use Rattle.vb_monitor.specs.{Counts.others, declared.cuts.Cut.Cut, Accesses.{Full, Release}}
 use Rattle.vb_monitor.specs.{Accesses.Discard, declared.outcome.Outcome.Outcome}
 use Rattle.vb_monitor.specs.declared.{regions.Region.Region, balloon.Balloon.Balloon}
@@ -56,6 +56,11 @@ settings = record {
 
 abbrev balloon : Balloon
 balloon = record { device = new_device (record settings { memory_end = 0x20000 }); held = 0 }
+
+-- of settings that had another end, just that one is changed
+other_end : ending_with (record settings { memory_end = 0x15000; reserved_pages = 16 }) (low ∷ high ∷ []) ≡
+    record settings { memory_end = 0x20000; reserved_pages = 16 }
+other_end = refl
 
 ends_with_them : balloon_over settings (low ∷ high ∷ []) ≡ Some balloon
 ends_with_them = refl

@@ -4,13 +4,13 @@ use Rattle.std.proofs.Common.{◌≡◌, refl, ℕ, false, true, List, [], ◌�
 use Rattle.vb_chain.specs.declared.fault.ChainFault.TheVariants.{BadNext}
 use Rattle.vb_core.specs.declared.kinds.Kind.{Kind}
 use Rattle.vb_core.specs.declared.kinds.Kind.TheVariants.{Inflate, Deflate, Statistics, Report}
-use Rattle.vb_core.specs.declared.device.{Device.Device, Denial.TheVariants.Broken}
+use Rattle.vb_core.specs.declared.device.{Device.Device, Denial.TheVariants.{Broken, NotReady, NoQueue}}
 use Rattle.vb_core.specs.Devices.{with_ring, needing_reset}
 use Rattle.vb_monitor.specs.declared.outcome.{Outcome.Outcome, Tally.Tally}
-use Rattle.vb_monitor.specs.Accesses.{Access, ReadWord, CopyBytes, Acquire, Full}
+use Rattle.vb_monitor.specs.Accesses.{Access, ReadWord, CopyBytes, Acquire, Release, Full, WriteNumber}
 use Rattle.vb_monitor.specs.{Ends.{Whole, Ends}, Giving.{Then, with_given, after_use, GivesBack}}
-use Rattle.vb_monitor.specs.Notices.{LooksBy, TakesChain, ServesPublished, AsksStatistics}
-use Rattle.vb_monitor.proofs.Samples.{flags_are_read, two, at, ring, far, tally, index, naming, flags, given}
+use Rattle.vb_monitor.specs.Notices.{Looks, LooksBy, TakesChain, ServesPublished, AsksStatistics}
+use Rattle.vb_monitor.proofs.Samples.{flags_are_read, two, at, ring, ready, far, tally, index, naming, used_length, used_index, flags, given}
 use Rattle.vb_monitor.proofs.AheadFacts.{over, ends}
 
 -- the queue of this kind is the ring that the accesses are of
@@ -27,6 +27,18 @@ looks Inflate d o = record { index = 1; rest = []; asks = refl; goes_on = refl }
 looks Deflate d o = record { index = 1; rest = []; asks = refl; goes_on = refl }
 looks Statistics d o = record { index = 1; rest = []; asks = refl; goes_on = refl }
 looks Report d o = record { index = 1; rest = []; asks = refl; goes_on = refl }
+
+-- none is where the device isn't ready, or where the queue's feature wasn't negotiated
+unready : Looks 1 (over Inflate (record ready { status = 11 }) (ends tally (Some NotReady) false false)) (record ready { status = 11 })
+    tally []
+unready = record { nothing = refl; device = refl; outcome = refl }
+
+abbrev no_reports : Device
+no_reports = record ready { features = 0x100000007 }
+
+without_its_feature : Looks 1 (over Report no_reports (ends tally (Some NoQueue) false false)) no_reports tally []
+unfolding lib.Count.ones
+without_its_feature = record { nothing = refl; device = refl; outcome = refl }
 
 -- what it publishes is taken, or is more than the queue has
 abbrev published : ℕ → Tally
@@ -168,7 +180,8 @@ goes_on Statistics = refl
 goes_on Report = refl
 
 gives : (kind : Kind) → GivesBack (over kind (used kind) (ends (with_given tally) None true false))
-    (λ d t log. Ends (over kind (used kind) (ends (with_given tally) None true false)) d t None false log) (only kind) tally 3 given
+    (λ d t log. Ends (over kind (used kind) (ends (with_given tally) None true false)) d t None false log) (only kind) tally 7
+    (WriteNumber (at 0x204) 7 ∷ used_length ∷ Release ∷ used_index ∷ Full ∷ flags ∷ [])
 unfolding lib.Count.ones
 gives Inflate = record { rest = Full ∷ flags ∷ []; asks = refl; goes_on = flags_are_read refl refl }
 gives Deflate = record { rest = Full ∷ flags ∷ []; asks = refl; goes_on = flags_are_read refl refl }

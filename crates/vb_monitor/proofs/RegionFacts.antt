@@ -50,6 +50,13 @@ up_to_the_limit = refl
 one_page_further : is_region (record low { guest = 0xffffffec000 }) ≡ false
 one_page_further = refl
 
+-- an empty one may stand at the limit, and not past it
+empty_at_the_limit : is_region (record low { guest = 0x100000000000; length = 0 }) ≡ true
+empty_at_the_limit = refl
+
+empty_past_the_limit : is_region (record low { guest = 0x100000001000; length = 0 }) ≡ false
+empty_past_the_limit = refl
+
 -- ---- parts of runs
 
 -- pages 20 to 23 lie in both regions, with a hole between; page 5 in the first; 21 in none

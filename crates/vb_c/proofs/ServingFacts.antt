@@ -1,0 +1,49 @@
+-- From which balloon, room and lists a notice begins, goes on and is handed over.
+use Rattle.std.proofs.Common.{◌≡◌, ℕ, true, List, ◌++◌, Some}
+use Rattle.vb_core.specs.declared.kinds.Kind.{Kind}
+use Rattle.vb_core.specs.declared.kinds.Kind.TheVariants.{Inflate, Statistics}
+use Rattle.vb_core.specs.declared.{device.{Device.Device, Denial.Denial}, runs.Run.Run}
+use Rattle.vb_monitor.specs.declared.outcome.{Outcome.Outcome, Budget.Budget, Tally.Tally}
+use Rattle.vb_monitor.specs.declared.{balloon.Balloon.Balloon, cuts.Cut.Cut, notice.Notice.Notice}
+use Rattle.vb_monitor.specs.{Accesses.Access, Machine.{Ahead, Awaited, whole, room_of}, Notices.{Serves, AsksStatistics}}
+use Rattle.vb_c.specs.declared.notice.{VbNotice.VbNotice, VbRoom.VbRoom}
+use Rattle.vb_c.specs.{Serving.{room_in, with_device, HandsOver, Begins, BeginsIf, BeginsFor, AsksFor, GoesOn}, Served.Denies}
+use Rattle.vb_c.proofs.Samples.{two, balloon}
+
+-- ---- a notice of a queue is of the device as it was, and may begin while a buffer of statistics is held
+
+of_the_device_before : (kind : Kind) (budget : Budget) (b1 b2 : Balloon) (r1 r2 : VbRoom) (c : VbNotice) →
+    BeginsIf true two kind budget b1 b2 r1 r2 c →
+    Begins (λ after outcome log. Serves two kind budget b1.device after outcome log) two kind b1 b2 r1 r2 c
+of_the_device_before kind budget b1 b2 r1 r2 c h = h
+
+while_one_is_held : (budget : Budget) (b2 : Balloon) (r1 r2 : VbRoom) (c : VbNotice) →
+    BeginsFor (Some Inflate) two budget balloon b2 r1 r2 c → BeginsIf true two Inflate budget balloon b2 r1 r2 c
+while_one_is_held budget b2 r1 r2 c h = h
+
+of_the_buffer : (b1 b2 : Balloon) (r1 r2 : VbRoom) (c : VbNotice) → AsksFor (Some 3) two b1 b2 r1 r2 c →
+    Begins (λ after outcome log. AsksStatistics two 3 b1.device after outcome log) two Statistics b1 b2 r1 r2 c
+of_the_buffer b1 b2 r1 r2 c h = h
+
+-- ---- what is handed over is of the lists as they are then
+
+first_lists : (from : Device → Outcome → List Access → Type 0) (kind : Kind) (b1 b2 : Balloon) (r1 r2 : VbRoom) (c : VbNotice) →
+    (h : Begins from two kind b1 b2 r1 r2 c) → HandsOver h.first two r2.runs (with_device h.device b1) b2 r2.cuts c
+first_lists from kind b1 b2 r1 r2 c h = h.hands
+
+next_lists : (n : Notice) (answer : ℕ) (b1 b2 : Balloon) (r1 r2 : VbRoom) (c : VbNotice) →
+    (h : GoesOn n two answer b1 b2 r1 r2 c) → HandsOver h.next two r2.runs (with_device h.device b1) b2 r2.cuts c
+next_lists n answer b1 b2 r1 r2 c h = h.hands
+
+lists_of_a_denial : (why : Denial) (kind : Kind) (tally : Tally) (runs : List Run) (b1 b2 : Balloon) (cuts : List Cut) (c : VbNotice) →
+    (h : Denies why kind tally two runs b1 b2 cuts c) → (h.next.kind ≡ kind) × HandsOver h.next two runs b1 b2 cuts c
+lists_of_a_denial why kind tally runs b1 b2 cuts c h = (h.kind_is, h.hands)
+
+-- ---- a notice that goes on: the room had all else before, and other bytes
+
+goes_on_in_the_room : (n : Notice) (answer : ℕ) (b1 b2 : Balloon) (r1 r2 : VbRoom) (c : VbNotice) →
+    (h : GoesOn n two answer b1 b2 r1 r2 c) → (after : Device) (outcome : Outcome) (bytes : List ℕ) (done rest : List Access) →
+    Awaited n.step.phase n.kind answer bytes (room_in r1) done →
+    Ahead (whole two n.kind after outcome) h.next.step h.device (room_in r2) rest →
+    Ahead (whole two n.kind after outcome) n.step b1.device (room_of r1.pieces bytes r1.runs r1.figures) (done ++ rest)
+goes_on_in_the_room n answer b1 b2 r1 r2 c h = h.step
