@@ -1,2 +1,3 @@
 pub mod Putting
 mod ReplyFacts
+mod HeldFacts

@@ -1,17 +1,30 @@
 -- What a guest's lock keeps of scripts, calls and services, worked out.
-use Rattle.std.proofs.Common.{◌≡◌, ◌+◌, ℕ, true, false, List, [], ◌∷◌, refl, sym, arith}
+use Rattle.std.proofs.Common.{◌≡◌, ◌+◌, ℕ, zero, suc, true, false, List, [], ◌∷◌, refl, sym}
+use Rattle.std.proofs.Common.{arith}
 use Rattle.std.specs.Prelude.{Some, slice_get, slice_set, replicate}
 use Rattle.std.specs.declared.{alloc.Global.Global, vec.Vec.Vec}
 use Rattle.vb_model.specs.declared.calls.Actor.TheVariants.{Starter, Processor, Worker, Balancer}
-use Rattle.vb_model.specs.declared.calls.{Call.{Call, TheVariants.{Alloc, Stats}}, Claim.Claim}
+use Rattle.vb_model.specs.declared.calls.{Call.{Call, TheVariants.{Alloc, Stats, Ask, Init}}, Claim.Claim}
+use Rattle.vb_model.specs.declared.calls.Claim.TheVariants.{GaveNoFrame}
+use Rattle.vb_model.specs.declared.replies.Reply.TheVariants.{Done}
+use Rattle.vb_model.specs.GuestRun.{Entry, Called, Looked}
+use Rattle.vb_ram.specs.declared.config.Config.{Config as Sizes}
 use Rattle.vb_model.specs.declared.replies.Reply.{Reply}
 use Rattle.vb_run.specs.{Rising.IsRising, Services.services}
 use Rattle.vb_run.specs.Past.{Past, Progress, IsScript, HasEnded, NotesNext, NotesService, AreHushed}
-use Rattle.vb_run.specs.Past.{IsAside, IsSame, AllEnded, AreBegun, AreScripts, noted}
+use Rattle.vb_run.specs.Past.{IsAside, IsSame, AllEnded, AreBegun, AreScripts, Follows, Notes, noted}
+use Rattle.vb_run.specs.Past.{just_started, scripts_in}
 
 -- each above the one before it: not the same again, and not below it
-rising : (IsRising (3 ∷ 3 ∷ []) → ⊥) × (IsRising (1 ∷ 4 ∷ 2 ∷ []) → ⊥)
-rising = (λ is. omega (arith, is 0 (omega arith)), λ is. omega (arith, is 1 (omega arith)))
+rising : IsRising [] × IsRising (1 ∷ 2 ∷ 9 ∷ [])
+rising = (λ i lt. absurd (omega (arith, lt)), rises) where
+  rises : IsRising (1 ∷ 2 ∷ 9 ∷ [])
+  rises zero lt = omega arith
+  rises (suc zero) lt = omega arith
+  rises (suc (suc i)) lt = absurd (omega (arith, lt))
+
+not_rising : (IsRising (3 ∷ 3 ∷ []) → ⊥) × (IsRising (1 ∷ 4 ∷ 2 ∷ []) → ⊥)
+not_rising = (λ is. omega (arith, is 0 (omega arith)), λ is. omega (arith, is 1 (omega arith)))
 
 abbrev script : List Call → ℕ → Progress
 script calls place = record { calls = calls; place = place }
@@ -28,6 +41,21 @@ ended = (
   λ is. (let wrong : false ≡ true = is in absurd cc),
 )
 
+-- and where none is left, or none was made, they have
+all_ended : AllEnded (script [] 0 ∷ script (Stats ∷ []) 1 ∷ [])
+all_ended cpu s is = grind (arith, is)
+
+begun : AreBegun (script [] 0 ∷ script (Alloc 1 0 ∷ Stats ∷ []) 0 ∷ [])
+begun cpu s is = grind (arith, is)
+
+own_calls : IsScript 0 (Alloc 0 1 ∷ Stats ∷ []) × IsScript 3 []
+own_calls = (refl, refl)
+
+-- also a processor that there is none of
+of_past_that_ended : (p : Past) → p.scripts ≡ script (Stats ∷ []) 0 ∷ script (Stats ∷ []) 1 ∷ []
+    → HasEnded 1 p × HasEnded 2 p
+of_past_that_ended p has = (λ s is. grind (arith, has, is), λ s is. grind (arith, has, is))
+
 of_past : (p : Past) → p.scripts ≡ script [] 0 ∷ script (Stats ∷ []) 0 ∷ [] → HasEnded 1 p → ⊥
 of_past p has is = omega (arith, is (script (Stats ∷ []) 0) (rw has refl))
 
@@ -35,6 +63,13 @@ of_past p has is = omega (arith, is (script (Stats ∷ []) 0) (rw has refl))
 others : (calls : Vec Call Global) → (AreScripts [] (calls ∷ []) → ⊥)
     × (AreScripts (script (Stats ∷ []) 0 ∷ []) (calls ∷ []) → calls.items ≡ Stats ∷ [])
 others calls = (λ are. omega (arith, are.0), λ are. sym (are.1 0 _ calls refl refl))
+
+its_scripts : (calls : Vec Call Global) → calls.items ≡ Stats ∷ []
+    → AreScripts (script (Stats ∷ []) 1 ∷ []) (calls ∷ [])
+its_scripts calls has = (refl, λ cpu s own is given. grind (arith, has, is, given))
+
+all_hushed : AreHushed (replicate 9 true)
+all_hushed n lt = grind (arith, lt)
 
 -- one of the services that may find something to do
 hushed : AreHushed (replicate 8 true) → ⊥
@@ -46,6 +81,51 @@ aside = (λ is. is, tt, tt, tt)
 same : (old new : Past) → IsSame old new → (new.guest ≡ old.guest) × (new.sizes ≡ old.sizes)
     × (new.paced ≡ old.paced) × (new.scripts ≡ old.scripts) × (new.short ≡ old.short)
 same old new is = (is.guest, is.sizes, is.paced, is.scripts, is.short)
+
+-- of a history and of what is quiet nothing is said
+same_but_for_them : (p : Past) → IsSame p (record p { history = []; quiet = [] })
+same_but_for_them p = record { guest = refl; sizes = refl; paced = refl; scripts = refl; short = refl }
+
+-- ---- what is kept of a start, and what a note makes of it
+
+started : (sizes : Sizes) (claims : List Claim) (reply : Reply)
+    → just_started 2 sizes true (script (Stats ∷ []) 0 ∷ []) claims reply ≡ record {
+      guest = 2;
+      sizes = sizes;
+      paced = true;
+      history = Called Starter (Init 0x100000027) claims reply ∷ [];
+      scripts = script (Stats ∷ []) 0 ∷ [];
+      quiet = replicate 9 false;
+      short = false;
+    }
+started sizes claims reply = refl
+
+-- at the end, and nothing is known to be quiet any more
+note : (p : Past) → p.history ≡ Looked 16 32 ∷ [] → p.short ≡ true
+    → let new = noted (Worker 2) Ask [] Done p in
+    (new.history ≡ Looked 16 32 ∷ Called (Worker 2) Ask [] Done ∷ [])
+    × (new.quiet ≡ replicate 9 false) × IsSame p new
+note p has short = grind (arith, has, short)
+
+notes : (p : Past) → Notes (Worker 2) Ask p (noted (Worker 2) Ask (GaveNoFrame ∷ []) Done p)
+notes p = (GaveNoFrame ∷ [], Done, refl)
+
+scripts_are : scripts_in (script [] 0 ∷ script (Stats ∷ []) 1 ∷ []) ≡ [] ∷ (Stats ∷ []) ∷ []
+scripts_are = refl
+
+-- what was called is the script up to its place: not more of it, and nothing else
+abbrev after : List Entry → Past → Past
+after history p = record p { guest = 2; history = history; scripts = script (Stats ∷ Alloc 0 1 ∷ []) 1 ∷ [] }
+
+follows : (p : Past)
+    → Follows (after (Looked 16 32 ∷ Called (Processor 2 0) Stats [] Done ∷ []) p)
+    × (Follows (after [] p) → ⊥)
+    × (Follows (after (Called (Processor 2 0) (Alloc 0 1) [] Done ∷ []) p) → ⊥)
+follows p = (
+  λ cpu s is. grind (arith, is),
+  λ is. (let wrong : [] ≡ Stats ∷ [] = is 0 (script (Stats ∷ Alloc 0 1 ∷ []) 1) refl in absurd cc),
+  λ is. (let wrong : Alloc 0 1 ∷ [] ≡ Stats ∷ [] = is 0 (script (Stats ∷ Alloc 0 1 ∷ []) 1) refl in absurd cc),
+)
 
 -- what is noted of a processor's next call, and of a service
 next : (reply : Reply) (old new : Past) → NotesNext 1 reply old new

@@ -8,5 +8,6 @@ pub mod Speaking
 pub mod ThreadsFacts
 mod EventFacts
 mod NumberFacts
+mod TextFacts
 pub mod WordLemmas
 pub mod ByLength
