@@ -1,9 +1,10 @@
 -- What the calls of a device answer in C, worked out: each refusal, and what it leaves.
-use Rattle.std.proofs.Common.{refl, ◌∙◌, ap, arith, ℕ, zero, suc, List, [], ◌∷◌, ◌++◌, Some, None, Ok, Err}
+use Rattle.std.proofs.Common.{refl, ◌∙◌, ap, arith, ℕ, zero, suc, List, [], ◌∷◌, ◌++◌, Option, Some, None, Ok, Err}
 use Rattle.std.specs.Prelude.{replicate}
 use Rattle.vb_core.{specs.declared.kinds.Kind.TheVariants.{Inflate, Report}, specs.Rings.used_entry}
 use Rattle.vb_core.{specs.declared.statistics.Statistic.Statistic, specs.Statistics.AreFigures}
 use Rattle.vb_c.specs.declared.answers.VbFigures.{VbFigures}
+use Rattle.vb_core.specs.declared.device.Denial.{Denial}
 use Rattle.vb_core.specs.declared.device.Denial.TheVariants.{NoQueue, BadArgument, Misplaced, NotReady}
 use Rattle.vb_core.{specs.declared.device.Device.Device, specs.Devices.{new_device, placed}}
 use Rattle.vb_c.specs.declared.answers.{VbChain.VbChain, VbNamed.VbNamed, VbUsed.VbUsed}
@@ -84,6 +85,17 @@ unfolding lib.Count.ones
 no_number d (answer, by, is) =
     let e : Same 5 7 = ap (λ (n : VbNamed). n.code) (is ∙ ap named_of (by.denied BadArgument refl).0) in omega arith
 
+-- a piece for each descriptor of the queue has room, and a page for each number
+room_of_seven : (d : Device) → NextFor (Some Inflate) twenty table 7 [] ready d none_stands → ⊥
+unfolding lib.Count.ones
+room_of_seven d (answer, by, is) =
+    let e : Same 1 7 = ap chain_code (is ∙ ap chain_of (by.denied BadArgument refl).0) in omega arith
+
+room_of_none : (d : Device) → NamesFor (Some Inflate) (5 ∷ 0 ∷ 0 ∷ 0 ∷ []) 0 [] ready d names_nothing → ⊥
+unfolding lib.Count.ones
+room_of_none d (answer, by, is) =
+    let e : Same 5 7 = ap (λ (n : VbNamed). n.code) (is ∙ ap named_of (by.denied BadArgument refl).0) in omega arith
+
 abbrev reporting : Device
 reporting = record ready { report = placed 0 0x100 0x200 8 }
 
@@ -91,6 +103,12 @@ report_exchanged : (d : Device) → Reports table twenty 32 [] reporting d (reco
 unfolding lib.Count.ones
 report_exchanged d (answer, by, is) =
     let e : Same 1 6 = ap (λ (n : VbNamed). n.code) (is ∙ ap reported_of (by.denied Misplaced refl).0) in omega arith
+
+-- a report may have 32 pieces
+room_of_31 : (d : Device) → Reports twenty table 31 [] reporting d (record names_nothing { code = 1 }) → ⊥
+unfolding lib.Count.ones
+room_of_31 d (answer, by, is) =
+    let e : Same 1 7 = ap (λ (n : VbNamed). n.code) (is ∙ ap reported_of (by.denied BadArgument refl).0) in omega arith
 
 -- ---- chains that are used
 
@@ -129,6 +147,10 @@ not_counted h = let e : Same 0 1 = ap (λ (d : Device). d.inflate.next_used) (h.
 figures_although_refused : SaysFigures (0 ∷ []) 102 [] ready (changed ready) (figures_of (Err BadArgument)) → ⊥
 unfolding lib.Count.ones
 figures_although_refused h = let e : Same 1 0 = ap target_of (h.denied BadArgument refl).1 in omega arith
+
+abbrev figures_by : Option Denial → VbFigures
+figures_by None = figures_of (Ok 0)
+figures_by (Some why) = figures_of (Err why)
 
 -- two of them, ten bytes each: a tag of two and a value of eight
 abbrev figure : ℕ → Statistic
@@ -177,6 +199,10 @@ before_it_is_ready h =
 no_room : (d : Device) → SaysFigures both 1 figures ready d (counts 2) → ⊥
 unfolding lib.Count.ones
 no_room d h = let e : Same 0 7 = ap (λ (f : VbFigures). f.code) (h.denied BadArgument refl).0 in omega arith
+
+refused_for_room : SaysFigures both 1 figures ready ready (figures_of (Err BadArgument))
+unfolding lib.Count.ones
+refused_for_room = record { denied = λ why e. (ap figures_by e, refl); taken = λ e. absurd cc }
 
 one_counted : (d : Device) → SaysFigures both 2 figures ready d (counts 1) → ⊥
 unfolding lib.Count.ones

@@ -12,10 +12,10 @@ discarded : is_discarded Inflate true ∷ is_discarded Inflate false ∷ is_disc
     ≡ false ∷ true ∷ false ∷ false ∷ false ∷ true ∷ []
 discarded = refl
 
--- a run with one part; one round the hole, one in it, no run, and two
+-- a run with one part; one round the hole, one in it, no run, and two, also where one lies in it
 few : map (few_parts Inflate false two) ((run 3 2 ∷ []) ∷ (run 30 2 ∷ []) ∷ (run 20 3 ∷ [])
-    ∷ (run 21 1 ∷ []) ∷ [] ∷ (run 3 1 ∷ run 5 1 ∷ []) ∷ [])
-    ≡ Some 1 ∷ Some 1 ∷ None ∷ None ∷ None ∷ None ∷ []
+    ∷ (run 21 1 ∷ []) ∷ [] ∷ (run 3 1 ∷ run 5 1 ∷ []) ∷ (run 21 1 ∷ run 5 1 ∷ []) ∷ [])
+    ≡ Some 1 ∷ Some 1 ∷ None ∷ None ∷ None ∷ None ∷ None ∷ []
 few = refl
 
 not_discarded : few_parts Deflate false two (run 20 3 ∷ []) ∷ few_parts Report true two (run 3 2 ∷ [])

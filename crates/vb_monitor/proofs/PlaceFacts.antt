@@ -62,6 +62,10 @@ other_end : ending_with (record settings { memory_end = 0x15000; reserved_pages 
     record settings { memory_end = 0x20000; reserved_pages = 16 }
 other_end = refl
 
+-- no balloon is over what isn't whole pages, though its settings have an end
+over_half_a_page : balloon_over (record settings { memory_end = 0x20000 }) (record low { length = 0x800 } ∷ []) ≡ None
+over_half_a_page = refl
+
 ends_with_them : balloon_over settings (low ∷ high ∷ []) ≡ Some balloon
 ends_with_them = refl
 

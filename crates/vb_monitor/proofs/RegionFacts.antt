@@ -57,7 +57,25 @@ empty_at_the_limit = refl
 empty_past_the_limit : is_region (record low { guest = 0x100000001000; length = 0 }) ≡ false
 empty_past_the_limit = refl
 
+-- its file goes up to 2^62 bytes
+up_to_the_files_limit : is_region (record low { in_file = 0x4000000000000000 }) ≡ true
+up_to_the_files_limit = refl
+
+past_the_files_limit : is_region (record low { in_file = 0x4000000000000001 }) ≡ false
+past_the_files_limit = refl
+
+-- all bytes of a region, and one more
+all_of_it : spot two 0 0x15000 ≡ Some (record { region = 0; offset = 0 })
+all_of_it = refl
+
+one_byte_more : spot two 0 0x15001 ≡ None
+one_byte_more = refl
+
 -- ---- parts of runs
+
+-- a region that isn't whole pages has none
+of_no_region : cuts_of (record low { length = 0x1800 } ∷ []) (record { first = 0; count = 1 } ∷ []) ≡ []
+of_no_region = refl
 
 -- pages 20 to 23 lie in both regions, with a hole between; page 5 in the first; 21 in none
 over_the_hole : cuts_of two (record { first = 20; count = 4 } ∷ record { first = 5; count = 1 }

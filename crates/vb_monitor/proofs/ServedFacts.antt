@@ -7,7 +7,7 @@ use Rattle.vb_core.specs.{declared.kinds.Kind.Kind, Devices.with_ring}
 use Rattle.vb_monitor.specs.declared.usual.NextWord.{NextWord, TheVariants.{Entry, Flags}}
 use Rattle.vb_monitor.{specs.declared.step.Place.Place}
 use Rattle.vb_monitor.{specs.Served.{is_last, goes_on, word_behind, first_has}}
-use Rattle.vb_monitor.proofs.Samples.{two, at, ring, ready, tally}
+use Rattle.vb_monitor.proofs.Samples.{two, at, ring, far, tally}
 
 -- ---- the last part of a chain's pieces
 
@@ -40,6 +40,10 @@ another_behind : is_last (part 2 0 true) (bytes 0xffc 8 ∷ bytes 0x500 4 ∷ []
 unfolding pieces_in
 another_behind = refl
 
+second_of_two : is_last (part 2 1 false) (bytes 0x400 4 ∷ bytes 0x500 4 ∷ []) ≡ true
+unfolding pieces_in
+second_of_two = refl
+
 -- what stands behind the chain's pieces is none of them
 older_piece : is_last (part 1 0 false) (bytes 0x400 4 ∷ bytes 0x500 4 ∷ []) ≡ true
 unfolding pieces_in
@@ -58,7 +62,7 @@ all_but_statistics = refl
 -- by an index that publishes so many chains, of which the first one was taken
 abbrev word : ℕ → Kind → ℕ → Virtqueue → Option NextWord
 word index kind head r = word_behind two kind (record tally { published = index }) head
-    (with_ring kind (record r { next_avail = 1 }) ready)
+    (with_ring kind (record r { next_avail = 1 }) far)
 
 flags_there : word 1 Inflate 7 ring ≡ Some (Flags (at 0x100))
 flags_there = refl
@@ -68,6 +72,9 @@ entry_there = refl
 
 reports_too : word 2 Report 7 ring ≡ Some (Entry (at 0x106))
 reports_too = refl
+
+report_in_the_hole : word 1 Report 7 (record ring { used = 0x15000 }) ≡ None
+report_in_the_hole = refl
 
 no_descriptor : word 1 Inflate 8 ring ≡ None
 no_descriptor = refl
