@@ -1,7 +1,10 @@
 -- Words and their members, the next member of a word, and levels of summaries, worked out.
-use Rattle.std.proofs.Common.{◌≡◌, ℕ, zero, suc, ◌/◌, ◌<◌, ◌≤◌, Bool, true, false, List, []}
+use Rattle.std.proofs.Common.{◌≡◌, ℕ, zero, suc, ◌/◌, ◌%◌, ◌<◌, ◌≤◌, Bool, true, false, List, []}
 use Rattle.std.proofs.Common.{◌∷◌, ◌++◌, Some, None, arith, length, refl, replicate}
 use Rattle.std.proofs.lemmas.List.{get_or-replicate, get_or_append_left, length-replicate}
+use Rattle.std.specs.Prelude.{slice_index}
+use Rattle.vb_model.specs.Tests.{has_bit}
+use Rattle.vb_bits.proofs.Words.{cleared, zero_bit}
 use Rattle.vb_bits.specs.Sets.{has, HasNoneFrom, IsLeastFrom, IsNextInWord, HasNoneIn}
 use Rattle.vb_bits.specs.{Words.{IsLowestFrom, AreWordsOf}, Levels.{HasSummary, IsSummed}}
 
@@ -13,6 +16,24 @@ no e = cc
 -- no bits need no word
 no_words_for_none : AreWordsOf 0 (0 ∷ []) → ⊥
 no_words_for_none are = omega (arith, are.fewest)
+
+-- as many words as the bits need; bits below the bound may be 1
+words_of_bits : AreWordsOf 0 [] × AreWordsOf 1 (0 ∷ []) × AreWordsOf 65 (0 ∷ 0 ∷ [])
+words_of_bits = (
+  cleared 0 0 (omega arith) (omega arith),
+  cleared 1 1 (omega arith) (omega arith),
+  cleared 65 2 (omega arith) (omega arith),
+)
+
+word_of_64 : AreWordsOf 64 (6 ∷ [])
+word_of_64 = record {
+  enough = omega arith;
+  fewest = omega arith;
+  clear = λ n from. past (n / 64) (n % 64) (omega (arith, from));
+} where
+  past : (w b : ℕ) → 0 < w → has_bit (slice_index (6 ∷ []) w) b ≡ false
+  past zero b lt = absurd (omega (arith, lt))
+  past (suc w) b lt = zero_bit b
 
 -- a bit before the first that is asked for, the bit behind the last of a word, and one that is 0
 not_lowest : (IsLowestFrom 6 2 1 → ⊥) × (IsLowestFrom 0x10000000000000000 0 64 → ⊥)

@@ -47,7 +47,7 @@ bit_is_flag bound words s w b l = sym (has_flag bound words s (64 * w + b) ∙ a
 
 -- ---- all bits 0
 
-zero_bit : (b : ℕ) → has_bit 0 b ≡ false
+pub zero_bit : (b : ℕ) → has_bit 0 b ≡ false
 zero_bit b = no_bit 0 b (bit_at-zero b)
 
 read_zero : (len k : ℕ) → get_or {A = ℕ} (replicate len 0) k 0 ≡ 0

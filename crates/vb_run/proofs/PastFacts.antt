@@ -1,19 +1,21 @@
 -- What a guest's lock keeps of scripts, calls and services, worked out.
 use Rattle.std.proofs.Common.{◌≡◌, ◌+◌, ℕ, zero, suc, true, false, List, [], ◌∷◌, refl, sym}
 use Rattle.std.proofs.Common.{arith}
-use Rattle.std.specs.Prelude.{Some, slice_get, slice_set, replicate}
+use Rattle.std.specs.Prelude.{Some, length, slice_get, slice_index_or, slice_set, replicate}
 use Rattle.std.specs.declared.{alloc.Global.Global, vec.Vec.Vec}
 use Rattle.vb_model.specs.declared.calls.Actor.TheVariants.{Starter, Processor, Worker, Balancer}
 use Rattle.vb_model.specs.declared.calls.{Call.{Call, TheVariants.{Alloc, Stats, Ask, Init}}, Claim.Claim}
 use Rattle.vb_model.specs.declared.calls.Claim.TheVariants.{GaveNoFrame}
 use Rattle.vb_model.specs.declared.replies.Reply.TheVariants.{Done}
-use Rattle.vb_model.specs.GuestRun.{Entry, Called, Looked}
+use Rattle.vb_model.specs.{Guest.Guest, GuestRun.{Entry, Called, Looked, IsHistory}}
 use Rattle.vb_ram.specs.declared.config.Config.{Config as Sizes}
 use Rattle.vb_model.specs.declared.replies.Reply.{Reply}
-use Rattle.vb_run.specs.{Rising.IsRising, Services.services}
+use Rattle.vb_run.specs.{Rising.IsRising, Services.{services, IsTended, IsQuiet}}
 use Rattle.vb_run.specs.Past.{Past, Progress, IsScript, HasEnded, NotesNext, NotesService, AreHushed}
 use Rattle.vb_run.specs.Past.{IsAside, IsSame, AllEnded, AreBegun, AreScripts, Follows, Notes, noted}
-use Rattle.vb_run.specs.Past.{just_started, scripts_in}
+use Rattle.vb_run.specs.Past.{just_started, scripts_in, IsKept}
+use Rattle.vb_run.specs.{Made.AreMade, Plans.config_of}
+use Rattle.vb_slot.specs.Alone.{AreBehind}
 
 -- each above the one before it: not the same again, and not below it
 rising : IsRising [] × IsRising (1 ∷ 2 ∷ 9 ∷ [])
@@ -140,3 +142,22 @@ service : (reply : Reply) (old new : Past) → NotesService 8 reply old new
     → (call : Call) × (claims : List Claim) × (slice_get services 8 ≡ Some call)
     × (new ≡ noted (Worker old.guest) call claims reply old)
 service reply old new is = is
+
+-- of the guest that is there: what is kept beside what calls are promised
+kept : (Is : Guest → Type 0) (own : List ℕ) (p : Past) → IsKept Is own p → (now : Guest) × Is now
+    × IsHistory (config_of p.sizes p.paced) 0 p.history now × IsTended now × AreBehind own now
+    × AreMade p.guest (length p.scripts) p.history × Follows p
+    × ((n : ℕ) (call : Call) → slice_index_or p.quiet n false ≡ true → slice_get services n ≡ Some call
+    → IsQuiet now call)
+    × ((cpu : ℕ) (s : Progress) → slice_get p.scripts cpu ≡ Some s → IsScript cpu s.calls)
+kept Is own p is = (
+  is.now,
+  is.stands,
+  is.run,
+  is.tended,
+  is.behind,
+  is.made,
+  is.follows,
+  is.hushed,
+  is.scripted,
+)

@@ -1,7 +1,9 @@
 -- What each line of a script says, and which lines are bad, worked out.
-use Rattle.std.proofs.Common.{◌≡◌, ℕ, List, [], ◌∷◌, Some, None, Ok, Err, codes, refl, map}
+use Rattle.std.proofs.Common.{◌≡◌, ℕ, true, false, List, [], ◌∷◌, Some, None, Ok, Err, codes, refl}
+use Rattle.std.proofs.Common.{map, length}
 use Rattle.{std.specs.Prelude.Option, vb_script.specs.Values.{features_of, bytes_of, positive_of}}
-use Rattle.{hex.specs.Hex.decode_pairs, vb_model.specs.declared.places.Place.TheVariants.Stranded}
+use Rattle.vb_script.specs.Values.{value_in}
+use Rattle.{hex.specs.Hex.{decode_pairs, decode_of}, vb_model.specs.declared.places.Place.TheVariants.Stranded}
 use Rattle.vb_model.specs.declared.calls.Call.TheVariants.{Init, Reset, Alloc}
 use Rattle.vb_model.specs.declared.calls.Call.TheVariants.{Free, Read, Write, Scribble, Inflate}
 use Rattle.vb_model.specs.declared.calls.Call.TheVariants.{Deflate, Oom, Report, Stats, Reap, Take}
@@ -11,7 +13,7 @@ use Rattle.vb_model.specs.declared.calls.Query.TheVariants.{Balloon, Memory, Bac
 use Rattle.vb_model.specs.declared.calls.Event.{Event, TheVariants.{Guest, Query, Balance, Frames}}
 use Rattle.vb_model.specs.declared.calls.Event.TheVariants.{Plug, Unplug, Restart}
 use Rattle.vb_script.specs.{declared.lines.LineFault.TheVariants.Bad, Words.{number_of, words_of}}
-use Rattle.vb_script.specs.{declared.lines.Pace.TheVariants.{Immediate, Paced}, Events.event_of}
+use Rattle.vb_script.specs.{declared.lines.Pace.TheVariants.{Immediate, Paced}, Events.{event_of, is_call}}
 use Rattle.vb_script.specs.{Lines.{host_of, spare_of}, Names.{form_of, pages_query_of, pace_of}}
 
 abbrev says : List ℕ → Option Event
@@ -74,3 +76,17 @@ spares : map (λ line. spare_of (words_of line)) (codes "spare immediate" ∷ co
     ≡ Ok (Some Immediate) ∷ Ok (Some Paced) ∷ Ok None ∷ Err Bad ∷ Err Bad ∷ []
 unfolding pace_of
 spares = refl
+
+-- no word says nothing, and only a call on a guest is a call
+no_words : (host_of [] ≡ None) × (spare_of [] ≡ Err Bad) × (event_of [] ≡ None)
+no_words = (refl, refl, refl)
+
+calls : map is_call (None ∷ Some (Guest 3 Stats) ∷ Some (Query 3 Places) ∷ Some Frames ∷ [])
+    ≡ false ∷ true ∷ false ∷ false ∷ []
+calls = refl
+
+-- a page of bytes are the most
+most_bytes : (word : List ℕ) → (length word ≡ 8192 → bytes_of word ≡ value_in (decode_of word))
+    × (length word ≡ 8194 → bytes_of word ≡ None)
+unfolding bytes_of
+most_bytes word = (λ long. rw long refl, λ long. rw long refl)

@@ -105,6 +105,22 @@ no_spare : plan_of (record { frames = 64; spares = Paced ∷ []; events = two_gu
 unfolding plan_of
 no_spare = refl
 
+four_processors : plan_of (record { frames = 64; spares = Paced ∷ []; events = Plug 64 8 4 ∷ [] })
+    ≡ Some (record {
+      frames = 64;
+      guests = record {
+        pace = Paced;
+        pages = 64;
+        queue_size = 8;
+        processors = 4;
+        scripts = [] ∷ [] ∷ [] ∷ [] ∷ [];
+      } ∷ [];
+      floor = 0;
+      rounds = 0;
+    })
+unfolding plan_of
+four_processors = refl
+
 five_processors :
     plan_of (record { frames = 64; spares = Paced ∷ []; events = Plug 64 8 5 ∷ [] }) ≡ None
 unfolding plan_of

@@ -2,6 +2,7 @@
 use Rattle.{std.proofs.Common.{◌≡◌, ◌≢◌, ℕ}, vb_device.specs.Own.has, vb_shared.specs.Rule.view_of}
 use Rattle.std.proofs.Common.{◌||◌, Bool, true, false, List, [], ◌∷◌, map, refl, ap, arith, ne_eqb}
 use Rattle.vb_shared.specs.{Rule.{holding, pass, count, count_all, IsTied}, declared.rule.Size.Size}
+use Rattle.vb_shared.proofs.Shares.{in_words}
 use Rattle.vb_shared.specs.Rule.{IsKept, Kept, FrameRule, TryClaim, PutBack, Look, word_after, held_after}
 
 -- three frames and two guests: a frame that is free, one of the first guest, one of the second
@@ -70,6 +71,9 @@ kept_of_a_table : (Kept sizes (record { words = 0 ∷ 1 ∷ []; homes = []; view
 kept_of_a_table = (λ is. omega (arith, is.wide), λ is. tag_of_nobody (is.tied 0 (pass 2 []) refl).0)
 
 -- ---- the same of passes that are handed out
+
+rule : FrameRule sizes words (pass 0 (1 ∷ []) ∷ pass 1 (2 ∷ []) ∷ [])
+rule = in_words sizes words (pass 0 (1 ∷ []) ∷ pass 1 (2 ∷ []) ∷ []) kept
 
 rule_of_a_tag_twice : FrameRule sizes (0 ∷ 0 ∷ 0 ∷ []) (pass 0 [] ∷ pass 0 [] ∷ []) → ⊥
 rule_of_a_tag_twice is = is.tags 0 1 0 0 [] [] (λ e. omega (arith, e)) refl refl refl

@@ -85,6 +85,30 @@ five input written said (inr (Audit, is, keeps, inl (status, says))) = (is, keep
 five input written said (inr (Stream, is, keeps, inl (status, says))) = absurd (omega (arith, status))
 five input written said (inr (fault, is, keeps, inr broken)) = absurd (omega (arith, broken))
 
+-- for want of memory nothing is printed, and the line says so; no run ends with the status of
+-- arguments; and with 4 anything may be there
+no_memory : (input written said : List ℕ) → End input written said 3 → (written ≡ codes "a")
+    × (said ≡ codes "brun: memory\n")
+no_memory input written said (inl (wrong, is, keeps)) = absurd (omega (arith, wrong))
+no_memory input written said (inr (BadLine n, is, keeps, inl (status, says))) = absurd (omega (arith, status))
+no_memory input written said (inr (BadPlan, is, keeps, inl (status, says))) = absurd (omega (arith, status))
+no_memory input written said (inr (Memory, is, keeps, inl (status, says))) = (keeps, says)
+no_memory input written said (inr (Audit, is, keeps, inl (status, says))) = absurd (omega (arith, status))
+no_memory input written said (inr (Stream, is, keeps, inl (status, says))) = absurd (omega (arith, status))
+no_memory input written said (inr (fault, is, keeps, inr broken)) = absurd (omega (arith, broken))
+
+no_usage : (input written said : List ℕ) → End input written said 2 → ⊥
+no_usage input written said (inl (wrong, is, keeps)) = omega (arith, wrong)
+no_usage input written said (inr (BadLine n, is, keeps, inl (status, says))) = omega (arith, status)
+no_usage input written said (inr (BadPlan, is, keeps, inl (status, says))) = omega (arith, status)
+no_usage input written said (inr (Memory, is, keeps, inl (status, says))) = omega (arith, status)
+no_usage input written said (inr (Audit, is, keeps, inl (status, says))) = omega (arith, status)
+no_usage input written said (inr (Stream, is, keeps, inl (status, says))) = omega (arith, status)
+no_usage input written said (inr (fault, is, keeps, inr broken)) = omega (arith, broken)
+
+four : (written said : List ℕ) → End [] written said 4
+four written said = inr (Stream, (tt, tt), tt, inr refl)
+
 -- ---- a command ends as what is asked for
 
 as_asked : (input old new errors said : Option (List ℕ)) (status : ℕ)

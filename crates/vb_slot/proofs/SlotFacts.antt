@@ -10,7 +10,7 @@ use Rattle.vb_ram.specs.{Pages.Pages, Part.{Part, no_part}}
 use Rattle.vb_driver.specs.State.{DriverState}
 use Rattle.vb_guest.specs.{Promises.{moment, EachSteps}, Stands.Stands, Steps.{AreOut, IsBare, StepsAlone}}
 use Rattle.vb_slot.specs.{Alone.{StepsTo, IsAlone}, declared.slot.Slot.Slot}
-use Rattle.vb_slot.specs.Slots.{IsUntouched, stands_for, is_empty, HasGuest, HasGuestOut, OfItsGuest}
+use Rattle.vb_slot.specs.Slots.{IsUntouched, stands_for, supply_at, is_empty, HasGuest, HasGuestOut, OfItsGuest}
 use Rattle.vb_slot.specs.Slots.{SlotAnswers, SlotSteps, SlotStepsAlone}
 
 -- ---- a guest by itself
@@ -46,8 +46,13 @@ touched mem part old new = (
 
 stands : {X : Type 0} {F : X → Type 0} (mem : DynBox X Global F → Pages)
     (part : DynBox X Global F → Part) (s : Slot X F) (g : Guest) (out : List Bool)
-    → (stands_for true mem part s g
-    ↔ Stands true (mem s.device.device) (part s.device.device) s.driver g)
+    → ((keeps : Bool) → stands_for keeps mem part s g
+    ↔ Stands keeps (mem s.device.device) (part s.device.device) s.driver g)
+    × (supply_at part s out ≡ record {
+      keeps = (part s.device.device).keeps;
+      own = (part s.device.device).own;
+      out = out;
+    })
     × (is_empty mem part s ↔ IsBare (mem s.device.device) (part s.device.device))
     × (HasGuest mem part s ↔ ((keeps : Bool) × (g : Guest)
     × Stands keeps (mem s.device.device) (part s.device.device) s.driver g))
@@ -55,7 +60,7 @@ stands : {X : Type 0} {F : X → Type 0} (mem : DynBox X Global F → Pages)
     × Stands keeps (mem s.device.device) (part s.device.device) s.driver g
     × (keeps ≡ false → AreOut g out)))
 stands mem part s g out =
-    ((λ is. is, λ is. is), (λ is. is, λ is. is), (λ is. is, λ is. is), (λ is. is, λ is. is))
+    (λ keeps. (λ is. is, λ is. is), refl, (λ is. is, λ is. is), (λ is. is, λ is. is), (λ is. is, λ is. is))
 
 -- of that guest its target and its statistics are those that it has
 answers : {X : Type 0} {F : X → Type 0} (mem : DynBox X Global F → Pages)

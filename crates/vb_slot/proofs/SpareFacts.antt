@@ -37,6 +37,9 @@ abbrev guest : List (Option ℕ) → Guest
 guest frames = record (fresh (record { pages = 64; queue_size = 8; processors = 1; paced = false }) 0)
     { frames = frames }
 
+behind_its_page : AreBehind (5 ∷ []) (guest (None ∷ Some 5 ∷ [])) × AreBehind [] (guest (None ∷ []))
+behind_its_page = (λ n. grind arith, λ n. refl)
+
 none_behind_none : AreBehind [] (guest (Some 5 ∷ [])) → ⊥
 none_behind_none behind = omega (arith, behind 5)
 

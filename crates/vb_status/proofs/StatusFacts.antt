@@ -9,6 +9,8 @@ use Rattle.vb_status.specs.declared.bits.StatusFault.TheVariants.{OutOfOrder as 
 use Rattle.vb_status.specs.declared.bits.StatusFault.TheVariants.{FeatureNotOffered as OffersNot}
 use Rattle.vb_status.specs.declared.bits.StatusFault.TheVariants.{MustTellHostMissing}
 use Rattle.vb_status.specs.declared.bits.StatusFault.TheVariants.{VersionMissing as LacksVersion}
+use Rattle.vb_status.specs.declared.bits.{Status.Status, Features.Features}
+use Rattle.vb_status.specs.Bits.{status_bits, feature_bits}
 use Rattle.vb_status.specs.After.{after_status}
 use Rattle.vb_status.specs.Answers.{refusal_of_fault, answered_refusal}
 use Rattle.vb_status.specs.Agreement.{Agreement, Write, Negotiate, refusal_of_request, after_request}
@@ -64,6 +66,10 @@ fails : after_status 139 busy ≡ record busy { status = 139 }
 fails = refl
 
 -- ---- refusals
+
+-- a status and a set of features are told by their bits
+bits : (s : Status) (f : Features) → (status_bits s ≡ s.0) × (feature_bits f ≡ f.0)
+bits s f = (refl, refl)
 
 each_fault : map refusal_of_fault
     (ClearsOne ∷ BreaksOrder ∷ OffersNot ∷ MustTellHostMissing ∷ LacksVersion ∷ [])
