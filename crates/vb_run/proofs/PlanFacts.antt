@@ -8,6 +8,7 @@ use Rattle.vb_model.specs.declared.calls.Call.TheVariants.{Stats, Reap, Take, Wo
 use Rattle.vb_model.specs.declared.calls.Call.{TheVariants.{Ask, SetTarget}, Call}
 use Rattle.vb_run.specs.declared.plan.{GuestPlan.GuestPlan, TheConstants.MAX_SCRIPT_CALLS}
 use Rattle.vb_run.specs.Plans.{config_of, may_stand, is_script, are_scripts, is_guest_plan, is_plan}
+use Rattle.vb_run.specs.Plans.{is_actor_call}
 
 -- ---- which calls may stand in the script of processor 1: its own, and none of a starter, a
 -- worker, a balancer or a host
@@ -18,6 +19,16 @@ who_may_stand : map (may_stand 1) (Alloc 1 0 ∷ Alloc 0 0 ∷ Free 1 16 0 ∷ F
     ∷ false ∷ true ∷ false ∷ true ∷ true ∷ true ∷ true ∷ true ∷ true
     ∷ true ∷ true ∷ false ∷ false ∷ false ∷ false ∷ false ∷ false ∷ false ∷ false ∷ false ∷ []
 who_may_stand = refl
+
+-- ---- which calls an actor of a guest that was started may make: all but these four
+
+no_actor_calls : map is_actor_call (Init 0 ∷ Reset ∷ Scribble 16 0 [] ∷ Sweep 16 ∷ []) ≡ replicate 4 false
+no_actor_calls = refl
+
+actor_calls : map is_actor_call (Alloc 1 0 ∷ Free 1 16 0 ∷ Read 16 0 1 ∷ Write 16 0 [] ∷ Inflate 1
+    ∷ Deflate 1 ∷ Oom 1 ∷ Report 0 ∷ Stats ∷ Reap 0 ∷ Take 0 ∷ Work ∷ Finish 0 0 ∷ Ask ∷ SetTarget 1 ∷ [])
+    ≡ replicate 15 true
+actor_calls = refl
 
 -- ---- scripts: up to 100,000 calls, each of which may stand there
 

@@ -60,8 +60,9 @@ bad : map says (codes "peek 3" ∷ codes "Unplug 3" ∷ codes "unplug 3 1" ∷ c
 unfolding form_of number_of positive_of bytes_of features_of pages_query_of decode_pairs
 bad = refl
 
-numbers : map number_of (codes "0" ∷ codes "007" ∷ codes "4294967295" ∷ codes "" ∷ codes "1e3" ∷ [])
-    ≡ Some 0 ∷ Some 7 ∷ Some 4294967295 ∷ None ∷ None ∷ []
+numbers : map number_of (codes "0" ∷ codes "007" ∷ codes "4294967295" ∷ codes "" ∷ codes "1e3"
+    ∷ codes "1/" ∷ codes ":1" ∷ [])
+    ≡ Some 0 ∷ Some 7 ∷ Some 4294967295 ∷ None ∷ None ∷ None ∷ None ∷ []
 unfolding number_of
 numbers = refl
 

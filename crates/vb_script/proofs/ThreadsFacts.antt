@@ -21,6 +21,10 @@ no_plug_behind_rounds :
 unfolding threads_form_of form_of number_of
 no_plug_behind_rounds = refl
 
+no_plug_behind_a_call : threads (Call 0 Stats ∷ []) (words_of (codes "plug 64 8 1")) ≡ None
+unfolding threads_form_of form_of number_of
+no_plug_behind_a_call = refl
+
 -- so do rounds, the floor before the count
 rounds_behind_a_plug :
     threads (Plug 64 8 1 ∷ []) (words_of (codes "rounds 16 3")) ≡ Some (Rounds 16 3)
