@@ -71,6 +71,9 @@ report_told = (refl, record { free = 5 ∷ []; sound = refl; are = refl; pages =
 report_given_back : WritesUsedAlone two Report (only Report) (of_page_5 ∷ taken) id
 report_given_back = (refl, refl)
 
+report_counted : WritesUsedAlone two Report (only Report) (used_length ∷ id ∷ of_page_5 ∷ taken) used_index
+report_counted = (refl, refl)
+
 -- ---- pages that are kept aren't discarded, and their chain is given back without
 
 kept_and_discarded : TellsInTurn two Inflate true (only Inflate) (pages ∷ read) discard → ⊥
