@@ -134,6 +134,10 @@ a_wrong_report : reported_of (Err NotReady) ≡
     record { code = 3; rule = 0; head = 0; runs = 0; pages = 0; skipped = 0 }
 a_wrong_report = refl
 
+a_broken_report : reported_of (Err (Broken BadPage)) ≡
+    record { code = 2; rule = 9; head = 0; runs = 0; pages = 0; skipped = 0 }
+a_broken_report = refl
+
 figures : figures_of (Ok 4) ≡ record { code = 0; rule = 0; count = 4 }
 figures = refl
 

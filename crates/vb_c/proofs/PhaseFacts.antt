@@ -1,6 +1,7 @@
 -- Which notice plain data of C is, what is none, and what a notice says at its end, worked out.
 use Rattle.std.proofs.Common.{◌≡◌, refl, ap, arith, ℕ, Bool, true, false, [], ◌∷◌, map, Option, Some, None}
 use Rattle.vb_chain.specs.declared.fault.ChainFault.TheVariants.{TooLong}
+use Rattle.vb_core.specs.declared.ring.UsedEntry.{UsedEntry}
 use Rattle.vb_core.specs.declared.kinds.Kind.TheVariants.{Inflate, Statistics}
 use Rattle.vb_core.specs.declared.device.Denial.TheVariants.{NoQueue, BadArgument, NotReady, NeedsReset, Misplaced, Broken}
 use Rattle.vb_monitor.specs.declared.{regions.Spot.Spot, outcome.Tally.Tally}
@@ -9,9 +10,10 @@ use Rattle.vb_monitor.specs.declared.orders.Told.TheVariants.{Nothing, Pages}
 use Rattle.vb_monitor.specs.declared.{notice.Notice.Notice, step.{Phase.Phase, Walk.Walk}}
 use Rattle.vb_monitor.specs.declared.step.Phase.TheVariants.{AwaitsIndex, AwaitsEntry}
 use Rattle.vb_monitor.specs.declared.step.Phase.TheVariants.{AwaitsDescriptor, AwaitsPart, Discards}
-use Rattle.vb_monitor.specs.declared.step.Phase.TheVariants.{AwaitsFlags, Ended}
+use Rattle.vb_monitor.specs.declared.step.Phase.TheVariants.{GivesBack, AwaitsFlags, Ended}
 use Rattle.vb_c.specs.{declared.notice.VbNotice.VbNotice, Codes.code_of_kind, Notices.tally_of}
 use Rattle.vb_c.specs.Notices.{walk_of, phase_of, notice_of, end_code, end_rule, breaks, SaysEnd, Says}
+use Rattle.vb_c.specs.Notices.{answer_bits, why_code, place_of, cut_of_notice, discarding_of}
 use Rattle.vb_c.specs.{Notices.{SameElse, IsNotice, HasEnded}, Serving.{held_by, held_then}}
 use Rattle.vb_c.proofs.Samples.{Same, balloon}
 
@@ -78,6 +80,13 @@ each_phase : map waits_at (0 ∷ 1 ∷ 2 ∷ 3 ∷ 4 ∷ 5 ∷ 6 ∷ 7 ∷ []) �
     ∷ None ∷ []
 each_phase = refl
 
+-- more stands there
+ended_with_more : phase_of (record notice { phase = 0; more = 1 }) ≡ Some (Ended (Some (Broken TooLong)) true true)
+ended_with_more = refl
+
+flags_with_more : phase_of (record notice { phase = 5; more = 1 }) ≡ Some (AwaitsFlags spot (Some (Broken TooLong)) true)
+flags_with_more = refl
+
 -- bytes that just have room, and those that haven't
 last_that_fits : phase_of (record notice { phase = 4; into = 1020 }) ≡
     Some (AwaitsPart spot (record { head = 11; count = 12; piece = 5; is_second = true; into = 1020; length = 4 }))
@@ -110,6 +119,19 @@ at_no_phase : notice_of (record notice { phase = 7 }) ≡ None
 at_no_phase = refl
 
 -- ---- what it says
+
+abbrev used : UsedEntry
+used = record { element_at = 0x204; index_at = 0x202; id = 3; length = 0; index = 1 }
+
+-- a word is read, behind an acquire fence, or behind a full one; bytes are copied; or nothing is answered
+answered : answer_bits (AwaitsIndex spot) ∷ answer_bits (AwaitsEntry spot) ∷ answer_bits (AwaitsDescriptor spot (walk_of notice))
+    ∷ answer_bits (AwaitsPart spot (place_of notice)) ∷ answer_bits (AwaitsFlags spot None false)
+    ∷ answer_bits (Discards (cut_of_notice notice) (discarding_of notice)) ∷ answer_bits (GivesBack (orders.used.spots) used)
+    ∷ answer_bits (Ended None false false) ∷ [] ≡ 64 ∷ 80 ∷ 128 ∷ 128 ∷ 96 ∷ 0 ∷ 0 ∷ 0 ∷ []
+answered = refl
+
+whys : map why_code (None ∷ Some NotReady ∷ Some (Broken TooLong) ∷ []) ≡ 0 ∷ 3 ∷ 2 ∷ []
+whys = refl
 
 says_it_all : IsNotice notice (record { told = Nothing; gives = false }) at_index
 says_it_all = record { read = refl; says = tt; what = refl }

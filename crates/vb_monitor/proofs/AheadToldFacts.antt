@@ -214,3 +214,11 @@ whatever_is_next h = absurd cc
 
 done_at_once : AwaitedBy false discards Inflate 0 [] empty [] → ⊥
 done_at_once h = absurd cc
+
+-- of two runs or figures that stand in the room the first one is told
+one_run_told : Awaited (TellsPages 3 (record one_page { pages = 2 })) Inflate 0 [] two_runs
+    (TellPages Inflate (page_5 ∷ []) (record one_page { pages = 2 }) ∷ [])
+one_run_told = refl
+
+one_figure_told : Awaited (TellsFigures 3 1) Statistics 0 [] two_figures (TellFigures (figure 4 ∷ []) ∷ [])
+one_figure_told = refl

@@ -13,6 +13,7 @@ pub mod TouchLemmas
 pub mod PartCounts
 mod RoomFacts
 mod QueueFacts
+mod KindTurnFacts
 mod RegionFacts
 mod SoleFacts
 mod FewFacts

@@ -10,12 +10,8 @@ use Rattle.vb_monitor.specs.declared.outcome.{Outcome.Outcome, Tally.Tally}
 use Rattle.vb_monitor.specs.Accesses.{Access, ReadWord, CopyBytes, Acquire, Release, Full, WriteNumber}
 use Rattle.vb_monitor.specs.{Ends.{Whole, Ends}, Giving.{Then, with_given, after_use, GivesBack}}
 use Rattle.vb_monitor.specs.Notices.{Looks, LooksBy, TakesChain, ServesPublished, AsksStatistics}
-use Rattle.vb_monitor.proofs.Samples.{flags_are_read, two, at, ring, ready, far, tally, index, naming, used_length, used_index, flags, given}
+use Rattle.vb_monitor.proofs.Samples.{flags_are_read, two, at, ring, ready, far, only, tally, index, naming, used_length, used_index, flags, given}
 use Rattle.vb_monitor.proofs.AheadFacts.{over, ends}
-
--- the queue of this kind is the ring that the accesses are of
-abbrev only : Kind → Device
-only kind = with_ring kind ring far
 
 -- ---- the index
 

@@ -2,10 +2,10 @@
 use Rattle.std.proofs.Common.{◌≡◌, ℕ, Bool, false, true, List, [], ◌∷◌, ◌++◌, Option, None, refl}
 use Rattle.std.specs.Prelude.{replicate}
 use Rattle.vb_chain.specs.declared.pieces.Piece.{Piece}
-use Rattle.vb_core.{specs.declared.kinds.Kind.TheVariants.Inflate, specs.declared.runs.Run.Run}
+use Rattle.vb_core.{specs.declared.kinds.Kind.{Kind, TheVariants.Inflate}, specs.declared.runs.Run.Run}
 use Rattle.vb_core.{specs.declared.ring.Virtqueue.Virtqueue, specs.declared.name.Named.Named}
 use Rattle.vb_core.{specs.declared.settings.Settings.Settings}
-use Rattle.vb_core.{specs.declared.device.Device.Device, specs.Devices.{new_device, placed}}
+use Rattle.vb_core.{specs.declared.device.Device.Device, specs.Devices.{new_device, placed, with_ring}}
 use Rattle.vb_monitor.specs.Accesses.{Access, ReadWord, CopyBytes, TellPages, TellFigures, Discard}
 use Rattle.vb_monitor.specs.Accesses.{Full, Release}
 use Rattle.vb_monitor.specs.{Accesses.{WriteNumber, WriteWord}, declared.regions.Region.Region}
@@ -85,6 +85,10 @@ far = record ready {
   statistics = elsewhere;
   report = elsewhere;
 }
+
+-- where the queue of just this kind is the first ring
+abbrev pub only : Kind → Device
+only kind = with_ring kind ring far
 
 abbrev pub tally : Tally
 tally = record { chains = 8; pages = 3; keeps = false; given = false; held = None; published = 0 }

@@ -114,6 +114,9 @@ first_has_its_start = refl
 half_behind : in_first 0x14ffc 2 ≡ false
 half_behind = refl
 
+in_the_second : in_first 0x16000 0x16010 ≡ false
+in_the_second = refl
+
 index_behind : in_first 0 0x14fff ≡ false
 index_behind = refl
 

@@ -18,6 +18,13 @@ refused = refl
 index_in_the_hole : index_place two None (record ring { avail = 0x14ffe }) ≡ None
 index_in_the_hole = refl
 
+-- the region's last two bytes, and half of them
+index_at_the_end : index_place two None (record ring { avail = 0x14ffc }) ≡ Some (at 0x14ffe)
+index_at_the_end = refl
+
+half_an_index : index_place two None (record ring { avail = 0x14ffd }) ≡ None
+half_an_index = refl
+
 -- ---- a request by itself
 
 abbrev alone : Descriptor
@@ -47,6 +54,15 @@ half_a_number = refl
 of_no_byte : is_single Inflate (record alone { len = 0 }) ≡ false
 of_no_byte = refl
 
+of_one_number : is_single Inflate (record alone { len = 4 }) ≡ true
+of_one_number = refl
+
+of_the_longest : is_single Inflate (record alone { len = 1024 }) ≡ true
+of_the_longest = refl
+
+past_the_longest : is_single Inflate (record alone { len = 1028 }) ≡ false
+past_the_longest = refl
+
 -- ---- where its bytes are, up to the end of a page
 
 abbrev walk : Walk
@@ -69,6 +85,13 @@ up_to_a_page = refl
 
 up_to_a_hole : after Inflate walk (record alone { addr = 0x14ffc }) ≡ Some (part_at 0x14ffc 4)
 up_to_a_hole = refl
+
+-- also of a table that has no other descriptor; the chain's head is its own
+only_descriptor : single_place two Inflate walk alone 0x20000 (record ring { size = 1 }) ≡ Some (at 0x400)
+only_descriptor = refl
+
+of_its_head : after Inflate (record walk { first = 5 }) alone ≡ Some (part_at 0x400 8)
+of_its_head = refl
 
 behind_another : after Inflate (record walk { count = 1 }) alone ≡ None
 behind_another = refl

@@ -1,10 +1,11 @@
 -- What accesses say so far, worked out. Of a list the last access stands first.
 use Rattle.std.proofs.Common.{◌≡◌, refl, ℕ, Bool, true, false, List, [], ◌∷◌, map, Option, Some, None}
+use Rattle.vb_chain.specs.declared.pieces.Piece.{Piece}
 use Rattle.vb_core.specs.declared.kinds.Kind.TheVariants.{Inflate, Deflate, Statistics, Report}
 use Rattle.vb_monitor.specs.declared.cuts.Cut.{Cut}
 use Rattle.vb_monitor.specs.declared.parts.Part.{Part}
 use Rattle.vb_monitor.specs.Accesses.{Access, CopyBytes, Acquire, Release, Full, TellPages}
-use Rattle.vb_monitor.specs.SoFar.{Each, Known, Unknown, Walks, Has, parts_read, with_copied, is_fenced, known, ring_after, index_read, left}
+use Rattle.vb_monitor.specs.SoFar.{Each, Known, Unknown, Walks, Has, parts_read, walked_by, with_copied, is_fenced, known, ring_after, index_read, left}
 use Rattle.vb_monitor.proofs.Samples.{two, ring, page_5, one_page, over_the_hole, cut_5, cut_20, cut_22, piece, first_descriptor, last_descriptor, number, index, entry, descriptor, part, pages, figures, discard, id, used_length, used_index, flags}
 
 -- ---- what is known of a chain
@@ -35,6 +36,13 @@ unfenced = refl
 
 behind_another_fence : known Inflate (entry ∷ Full ∷ index ∷ []) ≡ Unknown
 behind_another_fence = refl
+
+-- its pieces stand in their order
+abbrev other : Piece
+other = record piece { addr = 0x800 }
+
+in_their_order : walked_by (Some first_descriptor) (Walks 3) Inflate 3 7 (other ∷ []) ≡ Walks 3 5 (other ∷ piece ∷ [])
+in_their_order = refl
 
 -- a descriptor goes on with the one that it names, and the head stays
 of_the_first : known Inflate (CopyBytes (record { region = 0; offset = 0x30 }) first_descriptor ∷ taken) ≡

@@ -79,3 +79,10 @@ past_the_table = refl
 -- it waits for this one alone
 alone : first_walk 3 ≡ record { head = 3; count = 0; writing = false; first = 3; behind = 0 }
 alone = refl
+
+-- no queue has more than 256 descriptors, and none stands over the end of a region
+two_hundred_fifty_sixth : descriptor_place two 256 (record ring { size = 512 }) ≡ None
+two_hundred_fifty_sixth = refl
+
+half_a_descriptor : descriptor_place two 0 (record ring { table = 0x14ff8 }) ≡ None
+half_a_descriptor = refl
