@@ -13,7 +13,7 @@ use Rattle.vb_monitor.specs.declared.giving.UsedSpots.{UsedSpots}
 use Rattle.vb_monitor.specs.Accesses.{Access, ReadWord, Acquire, Release, Full, TellPages, TellFigures, Discard}
 use Rattle.vb_monitor.specs.{Ends.Whole, Giving.{after_use, with_given}, Machine.{Room, room_of, AheadAt, Ahead, AwaitedBy, Awaited}}
 use Rattle.vb_monitor.proofs.Samples.{Same, at, ring, ready, tally, page_5, over_the_hole, cut_5, cut_20, cut_22, one_page, two}
-use Rattle.vb_monitor.proofs.Samples.{flags_are_read, index, pages, discard, id, used_length, used_index, flags, given}
+use Rattle.vb_monitor.proofs.Samples.{flags_are_read, index, discard, id, used_length, used_index, flags, given}
 use Rattle.vb_monitor.proofs.AheadFacts.{over, ends, empty, publishing, word_at}
 
 -- ---- pages: of the room's two runs so many are told, and discarded
@@ -28,9 +28,11 @@ used = after_use Inflate ready
 abbrev last : Whole
 last = over Inflate used (ends (with_given tally) None true false)
 
-told : AheadAt (TellsPages 3 one_page) last tally ready two_runs (pages ∷ discard ∷ given)
+-- the first run alone, however many pages it is said to have
+told : (n : ℕ) → AheadAt (TellsPages 3 (record one_page { pages = n })) last tally ready two_runs
+    (TellPages Inflate (page_5 ∷ []) (record one_page { pages = n }) ∷ discard ∷ given)
 unfolding lib.Count.ones
-told = record {
+told n = record {
   rest = discard ∷ given;
   asks = refl;
   discards = record {
