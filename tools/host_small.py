@@ -56,8 +56,9 @@ class Talker(Client):
     def tell_again(self, town):
         """Answers a question that is asked by a line."""
         demand(town.host.ask(f"{self.name} ask") == "asked", f"{self.name} isn't asked")
-        while self.told(LIMIT) != STATISTICS:
-            pass
+        end = time.monotonic() + LIMIT
+        while self.told() != STATISTICS:
+            demand(time.monotonic() < end, f"{self.name} isn't told that it is asked")
         self.tell()
 
     def answer(self):

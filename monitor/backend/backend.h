@@ -48,7 +48,8 @@ bool refuse(const char *format, ...) __attribute__((format(printf, 1, 2)));
 /* Says something of a client that goes on being served, on standard error; but not for ever. */
 void remark(struct backend *backend, const char *format, ...) __attribute__((format(printf, 2, 3)));
 
-/* Reads a word of digits, of this base; false where it is another one, or where the number is more than `most`. */
+/* Reads a word of digits, of base 10, or of base 16 with 0x before them or without; false where it is another word, or where
+ * the number is more than `most`. */
 bool read_number(const char *word, int base, uint64_t most, uint64_t *number);
 
 /* Reads the words that follow a program's name; false where it doesn't know one. */
@@ -94,8 +95,8 @@ struct control_line {
 };
 
 /* Reads what stands in the control pipe, and has its whole lines obeyed, as long as `obey` answers 1; returns what that
- * answered last, and 0 at the pipe's end. A line that is too long, or that has a byte 0, is obeyed as an empty one, which
- * says nothing. */
+ * answered last, and 0 at the pipe's end. In place of a line that is too long, or that has a byte 0, an empty one is obeyed,
+ * which is answered as a line that says nothing known. */
 int control_read(struct control_line *line, int (*obey)(void *context, const char *line), void *context);
 
 /* Obeys one line of the control pipe, with one line on standard output: 1; 0 where it says to quit; -1 where the client
