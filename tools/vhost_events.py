@@ -3,6 +3,7 @@ memory and its answers; those of a device's life are in vhost_lives.py."""
 
 import os
 import select
+import signal
 import socket
 import struct
 import time
@@ -237,8 +238,9 @@ class Events(Lives):
 
     def test_one_event_for_the_kicks_of_two_queues(self):
         client = self.started()
-        event = os.eventfd(0, os.EFD_NONBLOCK)
-        for count, ends in enumerate(((event, event), tuple(it.detach() for it in socket.socketpair())), 1):
+        os.mkfifo(client.file("pipe"))
+        event, pipe = os.eventfd(0, os.EFD_NONBLOCK), os.open(client.file("pipe"), os.O_RDWR)
+        for count, ends in enumerate(((event, event), (pipe, pipe), tuple(it.detach() for it in socket.socketpair())), 1):
             for number in (INFLATE, DEFLATE):
                 client.accepted(SET_VRING_KICK, word(number), [ends[0]])
             os.set_blocking(ends[0], True)
@@ -248,6 +250,15 @@ class Events(Lives):
             self.assertEqual((client.called(INFLATE), client.used(INFLATE)[0], client.counter("kicks")), (1, count, count))
             for it in set(ends):
                 os.close(it)
+
+    def test_a_kick_that_another_event_follows(self):
+        client = self.started()
+        process = client.backend.process.pid
+        os.kill(process, signal.SIGSTOP)
+        client.post_pages(INFLATE, [FIRST])
+        client.send(SET_VRING_KICK, word(INFLATE), [client.kicks[DEFLATE]], flags=1)
+        os.kill(process, signal.SIGCONT)
+        self.assertEqual((client.called(INFLATE), client.used(INFLATE)[0], client.holes()), (1, 1, [FIRST]))
 
     def test_a_channel_that_nobody_reads(self):
         client = self.started()

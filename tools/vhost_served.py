@@ -77,25 +77,27 @@ class Served(Client):
         return len(os.listdir(f"/proc/{self.backend.process.pid}/fd"))
 
     def describe_all(self, number, size):
-        """Writes descriptors that stand by themselves, and entries of which each names the one of its place. No interrupt is
-        wanted."""
+        """Writes descriptors that stand by themselves, and entries of which each names the one of its place, and makes all
+        available. No interrupt is wanted."""
         for head in range(size):
             self.describe(number, head, BUFFERS, 4)
-        self.write(self.table(number) + PAGE + 4, struct.pack(f"<{size}H", *range(size)))
-        self.write(self.table(number) + PAGE, struct.pack("<H", 1))
+        self.write(self.table(number) + PAGE, struct.pack(f"<HH{size}H", 1, size, *range(size)))
 
-    def are_served(self, numbers, count):
-        """Makes whole queues of so many chains available, and kicks each once, all at a time: whether all are served, in time."""
+    def are_used(self, numbers, count):
+        """Waits until so many chains of each queue are used: whether they are, in time."""
         end = time.monotonic() + LIMIT
-        for it in numbers:
-            self.describe_all(it, count)
-            self.write(self.table(it) + PAGE + 2, struct.pack("<H", count))
-        self.socket.sendall(b"".join(struct.pack("<IIIII", VRING_KICK, 1, 8, it, 0) for it in numbers))
         while any(self.read(self.table(it) + 2 * PAGE + 2, 2) != struct.pack("<H", count) for it in numbers):
             if time.monotonic() > end:
                 return False
             time.sleep(0.01)
         return True
+
+    def are_served(self, numbers, count):
+        """Makes whole queues of so many chains available, and kicks each once, all at a time: whether all are served, in time."""
+        for it in numbers:
+            self.describe_all(it, count)
+        self.socket.sendall(b"".join(struct.pack("<IIIII", VRING_KICK, 1, 8, it, 0) for it in numbers))
+        return self.are_used(numbers, count)
 
     def served_by_a_kick(self, number, seconds):
         """Kicks a queue once while another process makes each chain available again as soon as it is used, without a kick;

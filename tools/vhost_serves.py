@@ -214,6 +214,15 @@ class Serves(Good):
         client.start(size=MOST_CHAINS)
         self.assertTrue(client.are_served([DEFLATE], MOST_CHAINS), "a notice left chains, and no other one came")
 
+    def test_what_is_left_as_the_driver_gets_ready_is_served(self):
+        client = self.client()
+        client.negotiate()
+        client.hand_over_memory()
+        client.place(DEFLATE, MOST_CHAINS)
+        client.describe_all(DEFLATE, MOST_CHAINS)
+        client.enable(DEFLATE)
+        self.assertTrue(client.are_used([DEFLATE], MOST_CHAINS), "the first look left chains, and no other one came")
+
     def test_what_is_left_of_two_queues_is_served(self):
         client = self.client()
         client.start(size=MOST_CHAINS)

@@ -4,14 +4,16 @@
 #include <errno.h>
 #include <fcntl.h>
 #include <poll.h>
+#include <signal.h>
 #include <stdint.h>
 #include <sys/socket.h>
 #include <sys/stat.h>
+#include <sys/time.h>
 #include <sys/uio.h>
 #include <unistd.h>
 
-/* An eventfd is a file of no type. */
-enum { NO_TYPE = 0 };
+/* An eventfd is a file of no type. Microseconds after which a call is broken off that was to come back at once. */
+enum { NO_TYPE = 0, MOMENT = 1000 };
 
 void event_close(struct event *event)
 {
@@ -40,14 +42,51 @@ static bool would_wait(void)
     return errno == EAGAIN || errno == EWOULDBLOCK || errno == EINTR;
 }
 
-/* Reads without waiting, whatever the other end has made of the file's flags. */
+/* Whether a file has something to read, or its end; or room to be written to. */
+static bool is_ready(int file, short how)
+{
+    struct pollfd its = {file, how, 0};
+    return poll(&its, 1, 0) > 0 && (its.revents & (how | POLLHUP));
+}
+
+static void break_off(int number)
+{
+    (void)number;
+}
+
+/* Breaks off whatever waits from now on, again and again, until `moment_ends`: by a signal. */
+static void moment_begins(void)
+{
+    static const struct itimerval soon = {{0, MOMENT}, {0, MOMENT}};
+    static bool prepared;
+    struct sigaction action = {.sa_handler = break_off};
+    if (!prepared)
+        prepared = sigaction(SIGALRM, &action, NULL) == 0;
+    if (prepared)
+        setitimer(ITIMER_REAL, &soon, NULL);
+}
+
+static void moment_ends(void)
+{
+    static const struct itimerval never;
+    setitimer(ITIMER_REAL, &never, NULL);
+}
+
+/* Reads without waiting, whatever the other end has made of the file's flags, or reads of it meanwhile. */
 static ssize_t read_now(const struct event *event, void *to, size_t length)
 {
     struct iovec part = {to, length};
     if (event->is_socket)
         return recv(event->file, to, length, MSG_DONTWAIT);
     ssize_t got = preadv2(event->file, &part, 1, -1, RWF_NOWAIT);
-    return got < 0 && errno == EOPNOTSUPP ? read(event->file, to, length) : got;
+    if (got >= 0 || errno != EOPNOTSUPP)
+        return got;
+    if (!is_ready(event->file, POLLIN))
+        return errno = EAGAIN, -1;
+    moment_begins();
+    got = read(event->file, to, length);
+    moment_ends();
+    return got;
 }
 
 int event_read(const struct event *event)
@@ -59,17 +98,15 @@ int event_read(const struct event *event)
     return got > 0 ? 1 : -1;
 }
 
-/* Whether there is room to write now. */
-static bool has_room(int file)
-{
-    struct pollfd room = {file, POLLOUT, 0};
-    return poll(&room, 1, 0) > 0 && (room.revents & POLLOUT);
-}
-
 bool event_signal(const struct event *event)
 {
     uint64_t one = 1;
     if (event->is_socket)
         return send(event->file, &one, sizeof one, MSG_DONTWAIT | MSG_NOSIGNAL) > 0 || would_wait();
-    return !has_room(event->file) || write(event->file, &one, sizeof one) > 0 || would_wait();
+    if (!is_ready(event->file, POLLOUT))
+        return true;
+    moment_begins(); /* what others write meanwhile may leave no room */
+    bool told = write(event->file, &one, sizeof one) > 0 || would_wait();
+    moment_ends();
+    return told;
 }

@@ -91,7 +91,8 @@ enum outcome set_vring_kick(struct backend *backend, struct message *message)
         return STOP;
     ring->polled = ring->kick.file < 0;
     ring->started = true;
-    return DONE;
+    /* A kick of the file before may be lost. */
+    return !ring->runs || backend_serve(backend, message_u64(message, 0) & NUMBER_OF_EVENT) ? DONE : STOP;
 }
 
 /* Who is called anew may have missed a call. */

@@ -167,7 +167,8 @@ static bool start(struct backend *backend, unsigned number)
         begin_life(backend, position);
     if (position > 0 && !backend->tell(backend, (int)number)) /* who was served last may not have been told of it */
         return refuse("the client can't be told of a used buffer");
-    return backend_is_ready(backend) ? backend_serve(backend, number) : write_status(backend, DRIVER_OK);
+    /* The status looks at each queue once, which may leave more than a notice serves. */
+    return (backend_is_ready(backend) || write_status(backend, DRIVER_OK)) && backend_serve(backend, number);
 }
 
 /* Stops a ring. */

@@ -1,7 +1,5 @@
 #include "virtio_pci.h"
 
-#include <stdio.h>
-
 /* Where the parts of the registers begin, and the offsets in the first one. */
 enum { NOTIFY_AT = 0x1000, ISR_AT = 0x2000, DEVICE_AT = 0x3000, PART = 0x1000, NOTIFY_STEP = 4 };
 enum {
@@ -130,6 +128,14 @@ static void forget(struct virtio_pci *pci)
     pci->backend->pending = 0;
 }
 
+/* The status looks at each queue once: what that leaves on one is served later. */
+static void leave_more(struct virtio_pci *pci, const struct balloon_result *result)
+{
+    for (unsigned number = 0; result->more && number < QUEUES; number++)
+        if (pci->queues[number].enabled)
+            pci->backend->pending |= 1u << number;
+}
+
 /* The device's own status machine takes what the driver writes; what it refuses, the driver reads back as unset. */
 static bool write_status(struct virtio_pci *pci, uint8_t status)
 {
@@ -143,8 +149,8 @@ static bool write_status(struct virtio_pci *pci, uint8_t status)
     if (answer == 0)
         answer = balloon_write_status(&pci->backend->balloon, status, &result);
     if (answer == 0)
-        return backend_finish(pci->backend, &result);
-    fprintf(stderr, "the driver's status %u is answered %u\n", status, answer);
+        return leave_more(pci, &result), backend_finish(pci->backend, &result);
+    remark(pci->backend, "the driver's status %u is answered %u", status, answer);
     return true;
 }
 
