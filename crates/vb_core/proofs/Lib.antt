@@ -26,6 +26,8 @@ mod ReportFacts
 mod NamingFacts
 mod SetFacts
 mod QueueFacts
+mod LifeFacts
+mod FormatFacts
 pub mod Numbers
 pub mod PieceLemmas
 pub mod RoundTrip

@@ -9,7 +9,8 @@ use Rattle.vb_core.specs.Ballooned.{is_ballooned, ballooned_count, is_changed, m
 ballooned : map (is_ballooned (10 ∷ 1 ∷ [])) (1 ∷ 2 ∷ 64 ∷ 128 ∷ []) ≡ true ∷ false ∷ true ∷ false ∷ []
 ballooned = refl
 
-three : ballooned_count (10 ∷ 1 ∷ []) ≡ 3
+-- of the first page, the last one of a word, and the first one of the next
+three : ballooned_count (0x8000000000000001 ∷ 1 ∷ []) ≡ 3
 three = refl
 
 -- in one of two sets, and in both

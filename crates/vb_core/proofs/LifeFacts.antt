@@ -1,0 +1,120 @@
+-- A device as it is made, its rings, and what each kind's queue is refused for, worked out.
+use Rattle.std.specs.Prelude.{Option, Some, None, take}
+use Rattle.std.proofs.Common.{◌≡◌, ℕ, Bool, true, false, List, [], ◌∷◌, map, refl}
+use Rattle.vb_chain.specs.declared.pieces.Piece.{Piece}
+use Rattle.vb_core.specs.declared.device.{Device.Device, Denial.{Denial, TheVariants.NoQueue}}
+use Rattle.vb_core.specs.declared.kinds.Kind.{Kind, TheVariants.{Inflate, Deflate, Statistics, Report}}
+use Rattle.vb_core.specs.declared.ring.Virtqueue.{Virtqueue}
+use Rattle.vb_core.specs.{Ballooned.{puts_in, pages_with_bits}, Kinds.queue_of, Name.is_request}
+use Rattle.vb_core.specs.Devices.{placed, ring_of, with_ring, with_one_taken, needing_reset}
+use Rattle.vb_core.specs.{Devices.{queue_denial, place_denial}, Next.{is_read, device_end}}
+use Rattle.vb_core.{proofs.Examples.{settings, fresh}, specs.Rings.{no_ring, with_taken, with_used}}
+use lib.Count
+
+abbrev all : List Kind
+all = Inflate ∷ Deflate ∷ Statistics ∷ Report ∷ []
+
+-- ---- as it is made
+
+abbrev nowhere : Virtqueue
+nowhere = record { table = 0; avail = 0; used = 0; size = 0; next_avail = 0; next_used = 0 }
+
+made : fresh ≡ record {
+  settings = settings;
+  features = 0;
+  target = 0;
+  actual = 0;
+  inflate = nowhere;
+  deflate = nowhere;
+  statistics = nowhere;
+  report = nowhere;
+  poison = 0;
+  status = 0;
+}
+made = refl
+
+-- ---- rings, one of each kind
+
+abbrev ring : ℕ → Virtqueue
+ring size = record {
+  table = 4096;
+  avail = 8192;
+  used = 12288;
+  size = size;
+  next_avail = 0;
+  next_used = 0;
+}
+
+abbrev four : Device
+four = record fresh { inflate = ring 2; deflate = ring 4; statistics = ring 8; report = ring 16 }
+
+placed_so : placed 4096 8192 12288 8 ≡ ring 8
+placed_so = refl
+
+its_own : map (λ kind. (ring_of kind four).size) all ≡ 2 ∷ 4 ∷ 8 ∷ 16 ∷ []
+its_own = refl
+
+put : map (λ kind. with_ring kind (ring 32) four) all
+    ≡ record four { inflate = ring 32 } ∷ record four { deflate = ring 32 }
+    ∷ record four { statistics = ring 32 } ∷ record four { report = ring 32 } ∷ []
+put = refl
+
+taken : with_one_taken Statistics four ≡ record four { statistics = record (ring 8) { next_avail = 1 } }
+taken = refl
+
+counted : with_taken (record (ring 8) { next_avail = 7; next_used = 3 })
+    ∷ with_used (record (ring 8) { next_avail = 7; next_used = 3 }) ∷ []
+    ≡ record (ring 8) { next_avail = 8; next_used = 3 }
+    ∷ record (ring 8) { next_avail = 7; next_used = 4 } ∷ []
+counted = refl
+
+-- DEVICE_NEEDS_RESET is 64
+broken : map (λ status. needing_reset (record four { status = status })) (15 ∷ 79 ∷ [])
+    ≡ record four { status = 79 } ∷ record four { status = 79 } ∷ []
+broken = refl
+
+-- ---- what each kind's queue is for
+
+-- queue 3 would be that of hints (VIRTIO 1.2, 5.5.2)
+numbers : map queue_of all ≡ 0 ∷ 1 ∷ 2 ∷ 4 ∷ []
+numbers = refl
+
+requests : map is_request all ≡ true ∷ true ∷ false ∷ false ∷ []
+requests = refl
+
+reads : map is_read all ≡ true ∷ true ∷ true ∷ false ∷ []
+reads = refl
+
+puts : map puts_in all ≡ true ∷ false ∷ false ∷ false ∷ []
+puts = refl
+
+-- ---- queues and features: statistics want feature 2, and reports 32
+
+abbrev with_features : ℕ → ℕ → Device
+with_features status features = record four { status = status; features = features }
+
+abbrev denials : Device → List (Option Denial)
+denials d = map (λ kind. queue_denial kind d) all
+
+no_more : denials (with_features 15 0x100000000) ≡ None ∷ None ∷ Some NoQueue ∷ Some NoQueue ∷ []
+unfolding lib.Count.ones
+no_more = refl
+
+statistics_too : denials (with_features 15 0x100000002) ≡ None ∷ None ∷ None ∷ Some NoQueue ∷ []
+unfolding lib.Count.ones
+statistics_too = refl
+
+reports_too : denials (with_features 15 0x100000020) ≡ None ∷ None ∷ Some NoQueue ∷ None ∷ []
+unfolding lib.Count.ones
+reports_too = refl
+
+-- a place is refused for the same
+places : map (λ kind. place_denial kind (ring 8) (with_features 11 0x100000002)) all
+    ≡ None ∷ None ∷ None ∷ Some NoQueue ∷ []
+unfolding lib.Count.ones
+places = refl
+
+-- ---- the pages that a set of one word has bits for
+
+sixty_four : take 2 (pages_with_bits 1) ≡ 0 ∷ 1 ∷ []
+sixty_four = refl
