@@ -1,14 +1,13 @@
 -- A device as it is made, its rings, and what each kind's queue is refused for, worked out.
 use Rattle.std.specs.Prelude.{Option, Some, None, take}
-use Rattle.std.proofs.Common.{◌≡◌, ℕ, Bool, true, false, List, [], ◌∷◌, map, refl}
-use Rattle.vb_chain.specs.declared.pieces.Piece.{Piece}
-use Rattle.vb_core.specs.declared.device.{Device.Device, Denial.{Denial, TheVariants.NoQueue}}
+use Rattle.std.proofs.Common.{◌≡◌, ℕ, true, false, List, [], ◌∷◌, map, refl}
+use Rattle.vb_core.specs.declared.device.{Device.Device, Denial.{Denial, TheVariants.{NoQueue, Misplaced}}}
 use Rattle.vb_core.specs.declared.kinds.Kind.{Kind, TheVariants.{Inflate, Deflate, Statistics, Report}}
 use Rattle.vb_core.specs.declared.ring.Virtqueue.{Virtqueue}
-use Rattle.vb_core.specs.{Ballooned.{puts_in, pages_with_bits}, Kinds.queue_of, Name.is_request}
+use Rattle.vb_core.specs.{Ballooned.{puts_in, pages_with_bits}, Kinds.{queue_of, kinds}, Name.is_request}
 use Rattle.vb_core.specs.Devices.{placed, ring_of, with_ring, with_one_taken, needing_reset}
-use Rattle.vb_core.specs.{Devices.{queue_denial, place_denial}, Next.{is_read, device_end}}
-use Rattle.vb_core.{proofs.Examples.{settings, fresh}, specs.Rings.{no_ring, with_taken, with_used}}
+use Rattle.vb_core.specs.{Devices.{queue_denial, place_denial}, Next.is_read}
+use Rattle.vb_core.{proofs.Examples.{settings, fresh}, specs.Rings.{with_taken, with_used}}
 use lib.Count
 
 abbrev all : List Kind
@@ -79,6 +78,12 @@ broken = refl
 numbers : map queue_of all ≡ 0 ∷ 1 ∷ 2 ∷ 4 ∷ []
 numbers = refl
 
+-- without gaps, by what was negotiated
+in_order : map kinds (0x100000000 ∷ 0x100000002 ∷ 0x100000020 ∷ 0x100000022 ∷ [])
+    ≡ (Inflate ∷ Deflate ∷ []) ∷ (Inflate ∷ Deflate ∷ Statistics ∷ [])
+    ∷ (Inflate ∷ Deflate ∷ Report ∷ []) ∷ all ∷ []
+in_order = refl
+
 requests : map is_request all ≡ true ∷ true ∷ false ∷ false ∷ []
 requests = refl
 
@@ -113,6 +118,11 @@ places : map (λ kind. place_denial kind (ring 8) (with_features 11 0x100000002)
     ≡ None ∷ None ∷ None ∷ Some NoQueue ∷ []
 unfolding lib.Count.ones
 places = refl
+
+-- a table at an odd address
+misplaced : place_denial Inflate (placed 1 8192 12288 8) (with_features 11 0) ≡ Some Misplaced
+unfolding lib.Count.ones
+misplaced = refl
 
 -- ---- the pages that a set of one word has bits for
 
