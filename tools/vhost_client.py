@@ -183,15 +183,15 @@ class Client:
         self.add_memory()
         self.go_on(bases)
 
-    def go_on(self, bases=None):
-        """Starts the rings and the driver."""
+    def go_on(self, bases=None, order=range(4)):
+        """Starts the rings, which are enabled in this order, and the driver."""
         if bases is None:
             for number in range(4):
                 self.clear(number)
         for number in range(4):
             self.tell_place(number, base=bases[number] if bases else 0)
             self.give_events(number)
-        for number in range(4):
+        for number in order:
             self.accepted(SET_VRING_ENABLE, struct.pack("<II", number, 1))
         self.accepted(SET_STATUS, struct.pack("<Q", 15))
 

@@ -1,11 +1,12 @@
 """Tests of a device's life with a client that kicks and is called by events: its status, what stays and what a reset forgets."""
 
+import os
 import struct
 
 import vhost_client
 from vhost_client import (
-    DEFLATE, FEATURES, GET_CONFIG, GET_STATUS, INFLATE, PAGE, POISON, QEMU_PROTOCOL, REPORT, RESET_DEVICE, SET_CONFIG,
-    SET_FEATURES, SET_STATUS, SET_VRING_ENABLE, WRITE,
+    DEFLATE, FEATURES, GET_CONFIG, GET_STATUS, INFLATE, PAGE, POISON, QEMU_PROTOCOL, REGIONS, REPORT, RESET_DEVICE, SET_CONFIG,
+    SET_FEATURES, SET_STATUS, SET_VRING_ADDR, SET_VRING_ENABLE, SET_VRING_KICK, SET_VRING_NUM, SIZE, WRITE,
 )
 from vhost_kicked import FIRST, Kicked, word
 
@@ -55,10 +56,48 @@ class Lives(Kicked):
         client.accepted(SET_STATUS, word(0))
         self.assertEqual(client.counter("status"), 0)
         client.accepted(SET_FEATURES, word(FEATURES | vhost_client.HAS_PROTOCOL))
-        client.go_on(bases)
+        client.go_on(bases, order=(2, 3, 1, 0))  # one that begins at 0 before the one that goes on
         self.assertEqual((client.counter("status"), client.counter("actual")), (15, 77))
         client.called(INFLATE)
         self.served(client, INFLATE, [FIRST + 1])
+        # One ring stops and starts beside others: `actual` stays what it is.
+        client.accepted(SET_CONFIG, struct.pack("<IIII", 4, 4, 0, 5))
+        for on in (0, 1):
+            client.accepted(SET_VRING_ENABLE, struct.pack("<II", INFLATE, on))
+        self.assertEqual(client.counter("actual"), 5)
+
+    def test_calls_stay_over_a_status_of_0(self):
+        client = self.started()
+        self.served(client, INFLATE, [FIRST])
+        client.accepted(SET_STATUS, word(0))
+        client.accepted(SET_FEATURES, word(FEATURES | vhost_client.HAS_PROTOCOL))
+        client.tell_place(INFLATE, base=1)
+        client.accepted(SET_VRING_KICK, word(INFLATE), [client.kicks[INFLATE]])
+        client.accepted(SET_VRING_ENABLE, struct.pack("<II", INFLATE, 1))
+        self.assertEqual(client.called(INFLATE), 1)  # where it goes on, it calls once
+        self.served(client, INFLATE, [FIRST + 1])
+
+    def test_a_ring_runs_once_all_is_told(self):
+        place = struct.pack("<IIQQQQ", INFLATE, 0, *(REGIONS[0][1] + it * PAGE for it in (0, 2, 1)), 0)
+        kick = os.eventfd(0, os.EFD_NONBLOCK)
+        messages = (
+            (SET_VRING_NUM, struct.pack("<II", INFLATE, SIZE)), (SET_VRING_ADDR, place), (SET_VRING_KICK, word(INFLATE), [kick]),
+            (SET_VRING_ENABLE, struct.pack("<II", INFLATE, 1)),
+        )
+        for late in messages:
+            client = self.client()
+            client.negotiate(protocol=QEMU_PROTOCOL)
+            client.add_memory()
+            client.clear(INFLATE)
+            client.kicks[INFLATE] = os.dup(kick)
+            for it in messages:
+                if it is not late:
+                    client.accepted(*it)
+            client.post_pages(INFLATE, [FIRST])
+            self.assertEqual([client.counter(it) for it in ("kicks", "chains", "status")], [0, 0, 11])
+            client.accepted(*late)
+            self.assertEqual((client.counter("status"), client.used(INFLATE)), (15, (1, [(0, 0)])))
+        os.close(kick)
 
     def test_a_status_of_0_before_the_indexes_are_asked_for(self):
         client = self.started()
@@ -162,6 +201,7 @@ class Lives(Kicked):
         client.accepted(RESET_DEVICE)
         self.assertEqual((client.counter("status"), client.counter("actual")), (0, 0))
         self.assertEqual(client.send(GET_STATUS), bytes(8))
+        self.assertNotEqual(client.send(SET_STATUS, word(11)), bytes(8))
         client.accepted(SET_FEATURES, word(FEATURES | vhost_client.HAS_PROTOCOL))
         client.accepted(SET_STATUS, word(15))
         client.post_pages(INFLATE, [FIRST + 1])
@@ -169,6 +209,13 @@ class Lives(Kicked):
         self.assertEqual((client.used(INFLATE)[0], client.stop_ring(INFLATE)), (0, 0))
         client.go_on()
         self.served(client, INFLATE, [FIRST + 2])
+        # Nor does `actual` come back, of rings that had stopped before.
+        client.accepted(SET_CONFIG, struct.pack("<IIII", 4, 4, 0, 77))
+        client.accepted(SET_STATUS, word(0))
+        client.accepted(RESET_DEVICE)
+        client.accepted(SET_FEATURES, word(FEATURES | vhost_client.HAS_PROTOCOL))
+        client.go_on([1, 0, 0, 0])
+        self.assertEqual((client.counter("status"), client.counter("actual")), (15, 0))
 
     def test_a_backend_that_is_killed_goes_on(self):
         client = self.client()

@@ -8,9 +8,9 @@ import unittest
 
 import linux_guest
 from vhost_client import (
-    ADD_MEM_REG, BUFFERS, FEATURES, GET_CONFIG, GET_FEATURES, GET_STATUS, GET_VRING_BASE, INDIRECT, INFLATE, LIMIT, NEXT, NO_FILE,
-    PAGE, PAGES_OF_REGION, QEMU_PROTOCOL, REGIONS, REM_MEM_REG, SET_BACKEND_REQ_FD, SET_CONFIG, SET_FEATURES, SET_MEM_TABLE,
-    SET_PROTOCOL_FEATURES, SET_VRING_ADDR, SET_VRING_BASE, SET_VRING_CALL, SET_VRING_ENABLE, SET_VRING_ERR, SET_VRING_KICK,
+    ADD_MEM_REG, BUFFERS, FEATURES, GET_CONFIG, GET_FEATURES, GET_STATUS, GET_VRING_BASE, HAS_PROTOCOL, INDIRECT, INFLATE, LIMIT, NEXT,
+    NO_FILE, PAGE, PAGES_OF_REGION, QEMU_PROTOCOL, REGIONS, REM_MEM_REG, SET_BACKEND_REQ_FD, SET_CONFIG, SET_FEATURES, SET_MEM_TABLE,
+    SET_PROTOCOL_FEATURES, SET_STATUS, SET_VRING_ADDR, SET_VRING_BASE, SET_VRING_CALL, SET_VRING_ENABLE, SET_VRING_ERR, SET_VRING_KICK,
     SET_VRING_NUM, SIZE, STATISTICS, VRING_KICK, WRITE,
 )
 from vhost_served import Served, program
@@ -123,6 +123,8 @@ class Refuses(unittest.TestCase):
 
     def test_messages(self):
         body = struct.pack("<II", 9, 0)
+        stands = [REGIONS[0][1] + it * PAGE for it in (3, 5, 4)]
+        moved = [[place + (part == it) * PAGE for it, place in enumerate(stands)] for part in range(3)]
         for words, request, body, files in (
             ("message 99 is unknown", 99, b"", 0),
             ("no queue 9", SET_VRING_NUM, body, 0),
@@ -136,7 +138,7 @@ class Refuses(unittest.TestCase):
             ("no queue 9", VRING_KICK, body, 0),
             ("queue 1 runs", SET_VRING_NUM, struct.pack("<II", 1, 8), 0),
             ("queue 1 runs", SET_VRING_BASE, struct.pack("<II", 1, 0), 0),
-            ("queue 1 runs, and can't move", SET_VRING_ADDR, struct.pack("<IIQQQQ", 1, 0, 0, 0, 0, 0), 0),
+            *(("queue 1 runs, and can't move", SET_VRING_ADDR, struct.pack("<IIQQQQ", 1, 0, *it, 0), 0) for it in moved),
             ("0 files for an event of queue 1", SET_VRING_CALL, struct.pack("<Q", 1), 0),
             ("1 files for an event of queue 1", SET_VRING_CALL, struct.pack("<Q", 1 | NO_FILE), 1),
             ("by the word 0x401", SET_VRING_CALL, struct.pack("<Q", 0x401), 1),
@@ -161,6 +163,8 @@ class Refuses(unittest.TestCase):
             ("can't be mapped", SET_MEM_TABLE, struct.pack("<IIQQQQ", 1, 0, 0, PAGE * 65, 0, 0), 1),
             ("can't be mapped", SET_MEM_TABLE, struct.pack("<II8Q", 2, 0, 0, PAGE * 2, 0, 0, PAGE, PAGE, 1 << 40, 0), 2),
             ("can't be mapped", SET_MEM_TABLE, struct.pack("<II8Q", 2, 0, 0, PAGE, 0, 0, PAGE, PAGE, PAGE - 1, 0), 2),
+            ("can't be mapped", SET_MEM_TABLE, struct.pack("<II8Q", 2, 0, PAGE, PAGE, 0, 0, 0, PAGE * 2, 1 << 40, 0), 2),
+            ("can't be mapped", SET_MEM_TABLE, struct.pack("<II8Q", 2, 0, 0, PAGE, PAGE, 0, PAGE, PAGE * 2, 0, 0), 2),
             ("isn't in the guest's memory any longer", SET_MEM_TABLE, struct.pack("<IIQQQQ", 1, 0, 0, 2 * PAGE, 0, 0), 1),
             ("too far up", SET_MEM_TABLE, struct.pack("<IIQQQQ", 1, 0, (1 << 44) - PAGE, PAGE, 0, 0), 1),
             ("ADD_MEM_REG isn't negotiated", ADD_MEM_REG, bytes(40), 1),
@@ -201,13 +205,17 @@ class Refuses(unittest.TestCase):
                 self.refused(client, f"GET_FEATURES has the flags 0x{flags:x}")
 
     def test_regions_that_are_taken_away(self):
-        for words, region in (("no such region", 1), ("isn't in the guest's memory any longer", 0)):
-            with self.subTest(words=words):
+        (guest, user), size, no = REGIONS[1], PAGES_OF_REGION * PAGE, "no such region"
+        for words, gone, body in (
+            (no, True, (guest, size, user)), (no, False, (guest + PAGE, size, user)), (no, False, (guest, size - PAGE, user)),
+            (no, False, (guest, size, user + PAGE)), ("isn't in the guest's memory any longer", True, (REGIONS[0][0], size, REGIONS[0][1])),
+        ):
+            with self.subTest(words=words, body=body):
                 client = Served()
                 client.start_by_events()
-                if region == 1:
+                if gone:
                     client.accepted(REM_MEM_REG, client.region_body(1))
-                client.send(REM_MEM_REG, client.region_body(region), flags=1)
+                client.send(REM_MEM_REG, struct.pack("<QQQQQ", 0, *body, 0), flags=1)
                 self.refused(client, words)
 
     def test_a_broken_rule_is_told_by_its_event(self):
@@ -215,6 +223,9 @@ class Refuses(unittest.TestCase):
         client.start_by_events()
         fault = os.eventfd(0, os.EFD_NONBLOCK)
         client.accepted(SET_VRING_ERR, struct.pack("<Q", INFLATE), [fault])
+        client.accepted(SET_STATUS, bytes(8))  # which forgets other things
+        client.accepted(SET_FEATURES, struct.pack("<Q", FEATURES | HAS_PROTOCOL))
+        client.go_on()
         client.post_pages(INFLATE, [REGIONS[1][0] // PAGE])
         self.assertEqual(client.called(INFLATE), 1)
         client.publish(INFLATE, SIZE)
