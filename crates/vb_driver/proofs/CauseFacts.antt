@@ -8,7 +8,8 @@ use Rattle.vb_model.specs.declared.replies.Refusal.TheVariants.{NotReady, QueueF
 use Rattle.vb_model.specs.declared.replies.Refusal.TheVariants.{Nothing, NoFeature, NoQueue}
 use Rattle.vb_model.specs.declared.replies.Refusal.TheVariants.{AlreadyUp, NoFrame, VersionMissing}
 use Rattle.vb_model.specs.declared.replies.Refusal.TheVariants.{FeatureNotOffered, RingBroken}
-use Rattle.vb_model.specs.FirstRefusal.{Cause, first_refusal}
+use Rattle.vb_model.specs.declared.replies.Refusal.TheVariants.{NoPages, NotHeld, BadCpu, BadOrder}
+use Rattle.vb_model.specs.{FirstRefusal.{Cause, first_refusal}, Pages.block_at}
 use Rattle.vb_ram.specs.{Part.{Part, no_part}, Pages.{Pages, field, byte_at}}
 use Rattle.vb_ring.specs.{Ends.DriverEnd, Numbers.numbers}
 use Rattle.vb_driver.specs.State.{DriverState, fresh_driver}
@@ -16,6 +17,7 @@ use Rattle.vb_driver.specs.{Unchanged.Unchanged, Lives.{GivesUp, InitRefused}}
 use Rattle.vb_driver.specs.Answers.{inflate_count, deflate_count, oom_count, inflate_causes}
 use Rattle.vb_driver.specs.Answers.{deflate_causes, oom_causes, report_causes, reap_causes}
 use Rattle.vb_driver.specs.Answers.{stats_causes, IsLargeEnough, HaveRingFrames}
+use Rattle.vb_driver.specs.Answers.{alloc_causes, free_causes, init_causes}
 use Rattle.vb_driver.proofs.Shapes.{frames_there}
 
 -- 3 lent pages, one on its way, 2 stranded, and 4 free ones at an order of their own
@@ -40,6 +42,29 @@ deflates = refl
 -- lent pages, whatever the target
 short : map (oom_count (driver 1)) (0 ∷ 2 ∷ 3 ∷ 9 ∷ []) ≡ 0 ∷ 2 ∷ 3 ∷ 3 ∷ []
 short = refl
+
+-- ---- blocks
+
+-- an allocation, of which pages 6 to 9 are free: no order above 9, no second processor, and no block of
+-- four pages; and of 64 pages the last one
+alloc_refusals : map first_refusal (
+    alloc_causes (driver 0) 0 0 ∷ alloc_causes (driver 0) 0 1 ∷ alloc_causes (driver 0) 0 2
+    ∷ alloc_causes (driver 0) 1 2 ∷ alloc_causes (driver 0) 1 10 ∷ alloc_causes (driver 0) 0 9
+    ∷ alloc_causes (record (driver 0) { places = replicate 63 Lent ++ Free ∷ [] }) 0 0 ∷ []
+    ) ≡ None ∷ None ∷ Some NoPages ∷ Some BadCpu ∷ Some BadOrder ∷ Some NoPages ∷ None ∷ []
+unfolding numbers
+alloc_refusals = refl
+
+-- what is freed is a block that is held, from its first page on and of its order
+abbrev holds_four : DriverState
+holds_four = record (driver 0) { held = block_at 4 2 ∷ [] }
+
+free_refusals : map first_refusal (
+    free_causes holds_four 0 4 2 ∷ free_causes holds_four 0 4 1 ∷ free_causes holds_four 0 5 2
+    ∷ free_causes holds_four 1 5 2 ∷ free_causes holds_four 1 4 10 ∷ []
+    ) ≡ None ∷ Some NotHeld ∷ Some NotHeld ∷ Some BadCpu ∷ Some BadOrder ∷ []
+unfolding numbers
+free_refusals = refl
 
 -- ---- refusals
 
@@ -83,6 +108,13 @@ inflate_refusals : map why (
     ) ≡ None ∷ None ∷ None ∷ None ∷ Some NotReady ∷ Some QueueFull ∷ Some DeflatePending ∷ Some Nothing ∷ []
 unfolding numbers
 inflate_refusals = refl
+
+-- as many as the target asks for are lent, and none is stranded
+inflate_at_target : map (λ target. why (inflate_causes
+    (record (driver 1) { places = Lent ∷ Lent ∷ Lent ∷ Free ∷ [] }) (part 15 target) 1)) (3 ∷ 4 ∷ [])
+    ≡ Some Nothing ∷ None ∷ []
+unfolding numbers
+inflate_at_target = refl
 
 -- a deflate, which needs no feature, counts requests of its own queue, and the target
 deflate_refusals : map why (
@@ -170,6 +202,18 @@ frames = (
 )
 
 -- ---- an initialisation that is refused
+
+-- once the status isn't 0; without a frame; and for features that aren't offered, or without VERSION_1
+init_refusals : map first_refusal (
+    init_causes 8 (with_frames (replicate 13 (Some 0))) (part 0 0) 0x100000027
+    ∷ init_causes 8 (with_frames (replicate 13 (Some 0))) (part 1 0) 0x100000027
+    ∷ init_causes 8 (with_frames (replicate 12 (Some 0))) (part 15 0) 0x27
+    ∷ init_causes 8 (with_frames (replicate 12 (Some 0))) (part 0 0) 0x27
+    ∷ init_causes 8 (with_frames (replicate 13 (Some 0))) (part 0 0) 0x100000008
+    ∷ init_causes 8 (with_frames (replicate 13 (Some 0))) (part 0 0) 0x27 ∷ []
+    ) ≡ None ∷ Some AlreadyUp ∷ Some AlreadyUp ∷ Some NoFrame ∷ Some FeatureNotOffered ∷ Some VersionMissing ∷ []
+unfolding numbers field byte_at
+init_refusals = refl
 
 init_refused : (m1 m2 : Pages) (p1 p2 : Part) (d1 d2 : DriverState)
     → (InitRefused AlreadyUp m1 m2 p1 p2 d1 d2 3 ↔ Unchanged m1 m2 p1 p2 d1 d2)
