@@ -1,6 +1,6 @@
 -- Queues, entries and registers of a device, worked out.
 use Rattle.std.proofs.Common.{◌≡◌, refl, ap, arith, ℕ, true, false, List, [], ◌∷◌, Some, None, Ok}
-use Rattle.std.proofs.Common.{Err, map}
+use Rattle.std.proofs.Common.{Err, map, ◌++◌}
 use Rattle.vb_core.specs.declared.device.Denial.TheVariants.{NoQueue, BadArgument, NotReady}
 use Rattle.vb_core.specs.{Next.{answer_to, are_copies}, declared.statistics.Statistic.Statistic}
 use Rattle.vb_core.specs.{Kinds.kind_of, declared.device.Denial.TheVariants.{NeedsReset, Misplaced}}
@@ -28,6 +28,20 @@ parts = refl
 places : map (λ end. has_place end (placed 0 256 512 8)) (582 ∷ 581 ∷ []) ≡ true ∷ false ∷ []
 unfolding lib.Count.ones
 places = refl
+
+-- and an available ring of them 22, and a table 128, where these lie last
+others_last : map (λ end. has_place end (placed 0 512 256 8)) (534 ∷ 533 ∷ [])
+    ++ map (λ end. has_place end (placed 512 0 256 8)) (640 ∷ 639 ∷ []) ≡ true ∷ false ∷ true ∷ false ∷ []
+unfolding lib.Count.ones
+others_last = refl
+
+-- to 16 bytes, 2 and 4
+aligned : map (λ at. has_place 4096 (placed at 512 1024 8)) (16 ∷ 8 ∷ [])
+    ++ map (λ at. has_place 4096 (placed 0 at 1024 8)) (514 ∷ 513 ∷ [])
+    ++ map (λ at. has_place 4096 (placed 0 512 at 8)) (1028 ∷ 1026 ∷ [])
+    ≡ true ∷ false ∷ true ∷ false ∷ true ∷ false ∷ []
+unfolding lib.Count.ones
+aligned = refl
 
 -- ---- refusals, and which comes first
 

@@ -3,7 +3,7 @@ use Rattle.std.proofs.Common.{◌≡◌, refl, ap, arith, ℕ, true, false, List
 use Rattle.std.proofs.Common.{None, Result, Ok, Err, map, ◌++◌}
 use Rattle.vb_core.specs.Report.{run_of, report_named, report_of, after_report, pieces_denial}
 use Rattle.vb_core.specs.{Report.are_reported, Next.pieces_in}
-use Rattle.vb_core.specs.declared.device.Denial.{Denial, TheVariants.{BadArgument, NotReady}}
+use Rattle.vb_core.specs.declared.device.Denial.{Denial, TheVariants.{BadArgument, NotReady, Broken}}
 use Rattle.vb_core.specs.declared.{device.Device.Device, name.Named.Named, runs.Run.Run}
 use Rattle.vb_core.{proofs.Examples.{fresh, ready}, specs.Report.NamesPiecesBy}
 use Rattle.vb_chain.specs.declared.fault.ChainFault.TheVariants.{WrongDirection, BadLength, BadPage}
@@ -58,6 +58,19 @@ open_one = refl
 open_none : pieces_denial (record one { len = 0 } ∷ []) 256 ready ≡ None
 unfolding lib.Count.ones
 open_none = refl
+
+-- of 64 pages the first 16 are reserved, as its settings say
+abbrev reserved_one : Piece
+reserved_one = record one { addr = 61440 }
+
+open_reserved : pieces_denial (reserved_one ∷ []) 256 ready ≡ None
+unfolding lib.Count.ones
+open_reserved = refl
+
+by_its_settings : (runs : List Run) (d : Device) (result : Result Named Denial)
+    → NamesPiecesBy (reserved_one ∷ []) 256 runs ready d result
+    → (result ≡ Err (Broken ReservedPage)) × (d ≡ record ready { status = 79 })
+by_its_settings runs d result n = (n.answer open_reserved, n.device open_reserved)
 
 -- too few runs, a piece beyond memory, and a device that isn't ready
 refused : pieces_denial (one ∷ []) 31 ready ∷ pieces_denial (record one { addr = 0x100000000000 } ∷ []) 256 ready

@@ -1,7 +1,8 @@
 -- Worked facts of saved devices: their bytes, the states that calls lead to, and those that none do.
 use Rattle.std.specs.{List.range_with_len, Prelude.{Some, None, Err}}
 use Rattle.std.proofs.Common.{◌≡◌, ℕ, true, false, [], ◌∷◌, map, refl, count_by}
-use Rattle.vb_core.specs.Saved.{is_status, are_agreed, is_ring, is_held, is_poison, save_denial}
+use Rattle.vb_core.specs.Saved.{is_status, are_agreed, is_blank, has_moved, is_ring, is_held}
+use Rattle.vb_core.specs.Saved.{is_poison, save_denial}
 use Rattle.vb_core.specs.declared.format.TheConstants.{SAVED_LENGTH, CHECKSUM_AT, HEADER_LENGTH}
 use Rattle.vb_core.specs.declared.saved.StateDenial.TheVariants.{BadLength, NotAState, Impossible}
 use Rattle.vb_core.specs.declared.{device.Device.Device, saved.StateDenial.TheVariants.OtherVersion}
@@ -90,6 +91,19 @@ ring moved = record {
   next_avail = moved;
   next_used = 0;
 }
+
+-- no place, and what isn't none
+abbrev nowhere : Virtqueue
+nowhere = record { table = 0; avail = 0; used = 0; size = 0; next_avail = 0; next_used = 0 }
+
+blank : map is_blank (nowhere ∷ record nowhere { table = 1 } ∷ record nowhere { avail = 1 }
+    ∷ record nowhere { used = 1 } ∷ record nowhere { size = 1 } ∷ record nowhere { next_avail = 1 }
+    ∷ record nowhere { next_used = 1 } ∷ []) ≡ true ∷ false ∷ false ∷ false ∷ false ∷ false ∷ false ∷ []
+blank = refl
+
+moved : map has_moved (nowhere ∷ ring 0 ∷ ring 5 ∷ record (ring 0) { next_used = 5 } ∷ [])
+    ≡ false ∷ false ∷ true ∷ true ∷ []
+moved = refl
 
 -- queues of inflates: at any step, and moved only once the driver is done
 inflates : map (is_ring Inflate) (at_step 0 0 ∷ record (at_step 0 0) { inflate = ring 0 }
