@@ -1,10 +1,11 @@
 -- The bytes of a saved device, worked out: each field has a number of its own.
-use Rattle.std.specs.Prelude.{Ok}
-use Rattle.std.proofs.Common.{◌≡◌, ℕ, List, [], ◌∷◌, refl}
+use Rattle.std.specs.Prelude.{Ok, Err, take, drop}
+use Rattle.std.proofs.Common.{◌≡◌, ℕ, true, false, List, [], ◌∷◌, ◌++◌, map, refl}
 use Rattle.vb_core.specs.declared.{device.Device.Device, saved.Saved.Saved}
 use Rattle.vb_core.specs.declared.{ring.Virtqueue.Virtqueue, settings.Settings.Settings}
 use Rattle.vb_core.specs.Format.{u16_bytes, u32_bytes, u64_bytes, u16_at, u32_at, u64_at, checksum}
-use Rattle.vb_core.specs.{Format.{saved_bytes, saved_in}, Saved.restored}
+use Rattle.vb_core.specs.{Format.{saved_bytes, saved_in}, Saved.{can_be, restored}}
+use Rattle.vb_core.specs.declared.saved.StateDenial.TheVariants.{BadLength, BadSum, Impossible}
 use lib.Count
 
 abbrev ring : ℕ → ℕ → ℕ → ℕ → ℕ → ℕ → Virtqueue
@@ -65,3 +66,36 @@ read = refl
 back : restored bytes ≡ Ok saved
 unfolding u16_at u32_at u64_at checksum lib.Count.ones
 back = refl
+
+-- ---- what a device may be: each of these alone makes it impossible
+
+abbrev with_device : (Device → Device) → Saved
+with_device change = record saved { device = change saved.device }
+
+abbrev six : Virtqueue
+six = ring 0x10000 0x11000 0x12000 6 0 0
+
+impossible : map can_be (
+    saved ∷ record saved { held = 65 } ∷ with_device (λ d. record d { inflate = six })
+    ∷ with_device (λ d. record d { deflate = six }) ∷ with_device (λ d. record d { statistics = six })
+    ∷ with_device (λ d. record d { report = six }) ∷ with_device (λ d. record d { status = 31 })
+    ∷ with_device (λ d. record d { features = 0x100000034 })
+    ∷ with_device (λ d. record d { settings = record d.settings { memory_end = 0x100000000000 } })
+    ∷ with_device (λ d. record d {
+      features = 0x100000023;
+      settings = record d.settings { offered = 0x100000023 };
+    }) ∷ []
+    ) ≡ true ∷ false ∷ false ∷ false ∷ false ∷ false ∷ false ∷ false ∷ false ∷ false ∷ []
+unfolding lib.Count.ones
+impossible = refl
+
+-- ---- bytes that aren't restored, by what is wrong with them
+
+-- a byte less or more, another length in the header, a wrong checksum, and an impossible device with a
+-- right one
+not_restored : map restored (
+    take 15 bytes ∷ take 190 bytes ∷ (bytes ++ 0 ∷ []) ∷ (take 12 bytes ++ 190 ∷ drop 13 bytes)
+    ∷ (take 182 bytes ++ 171 ∷ drop 183 bytes) ∷ saved_bytes (record saved { held = 65 }) ∷ []
+    ) ≡ Err BadLength ∷ Err BadLength ∷ Err BadLength ∷ Err BadLength ∷ Err BadSum ∷ Err Impossible ∷ []
+unfolding u16_bytes u32_bytes u64_bytes u16_at u32_at u64_at checksum lib.Count.ones
+not_restored = refl

@@ -4,7 +4,7 @@ use Rattle.std.proofs.Common.{Err, map, ◌++◌}
 use Rattle.vb_core.specs.declared.device.Denial.TheVariants.{NoQueue, BadArgument, NotReady}
 use Rattle.vb_core.specs.{Next.{answer_to, are_copies}, declared.statistics.Statistic.Statistic}
 use Rattle.vb_core.specs.{Kinds.kind_of, declared.device.Denial.TheVariants.{NeedsReset, Misplaced}}
-use Rattle.vb_core.specs.{Statistics.{AreFigures, statistics_denial}, Statuses.after_write}
+use Rattle.vb_core.specs.{Statistics.{AreFigures, figure_at, statistics_denial}, Statuses.after_write}
 use Rattle.vb_core.specs.declared.kinds.Kind.TheVariants.{Inflate, Deflate, Statistics, Report}
 use Rattle.vb_core.specs.{Devices.{placed, queue_denial, call_denial, place_denial}, Next.length_of}
 use Rattle.vb_core.{proofs.Examples.{settings, fresh, ready}, specs.Using.use_denial}
@@ -128,6 +128,10 @@ acknowledged = refl
 
 abbrev ten : List ℕ
 ten = 4 ∷ 0 ∷ 7 ∷ 1 ∷ 0 ∷ 0 ∷ 0 ∷ 0 ∷ 0 ∷ 0 ∷ []
+
+figures : map (figure_at (ten ++ 5 ∷ 1 ∷ 8 ∷ 0 ∷ 0 ∷ 0 ∷ 0 ∷ 0 ∷ 0 ∷ 0 ∷ [])) (0 ∷ 1 ∷ [])
+    ≡ record { tag = 4; value = 263 } ∷ record { tag = 261; value = 8 } ∷ []
+figures = refl
 
 abbrev zeros : Statistic
 zeros = record { tag = 0; value = 0 }

@@ -1,5 +1,7 @@
 -- The limits of settings, as plain numbers.
-use Rattle.std.proofs.Common.{◌≡◌, [], ◌∷◌, refl}
+use Rattle.std.proofs.Common.{◌≡◌, ℕ, true, false, [], ◌∷◌, map, refl}
+use Rattle.vb_core.{proofs.Examples.offering, specs.declared.settings.Settings.Settings}
+use Rattle.vb_core.specs.Settings.{are_settings, memory_pages, needs_must_tell, skips}
 use Rattle.vb_core.specs.declared.settings.TheConstants.{LEAST_MEMORY, MEMORY_LIMIT}
 use Rattle.vb_core.specs.declared.report.TheConstants.{MAX_REPORT_RUNS}
 
@@ -10,3 +12,19 @@ memory_is = refl
 -- runs that a report's chain may have
 runs_are : MAX_REPORT_RUNS ∷ [] ≡ 32 ∷ []
 runs_are = refl
+
+abbrev ending : ℕ → Settings
+ending memory_end = record (offering 0x100000027) { memory_end = memory_end }
+
+ends : map (λ memory_end. are_settings (ending memory_end)) (8191 ∷ 8192 ∷ 17592186044415 ∷ 17592186044416 ∷ [])
+    ≡ false ∷ true ∷ true ∷ false ∷ []
+ends = refl
+
+-- whole pages, and what isn't 0
+settled : memory_pages (ending 12287) ∷ memory_pages (ending 12288) ∷ [] ≡ 2 ∷ 3 ∷ []
+settled = refl
+
+switches : needs_must_tell (record (ending 8192) { needs_must_tell = 7 }) ∷ needs_must_tell (ending 8192)
+    ∷ skips (record (ending 8192) { skips_bad_pages = 7 }) ∷ skips (ending 8192) ∷ []
+    ≡ true ∷ false ∷ true ∷ false ∷ []
+switches = refl
