@@ -27,6 +27,7 @@ mod NamingFacts
 mod SetFacts
 mod QueueFacts
 mod LifeFacts
+mod WriteFacts
 mod FormatFacts
 pub mod Numbers
 pub mod PieceLemmas
