@@ -119,6 +119,12 @@ def next_one_at_a_seat(town):
         becomes(town, {"ballooned": 15, "taken": 5, "free": 0}, "seat")
         client.leave()
         becomes(town, {"here": 0}, "seat")
+    # Of one who tells nothing, nothing is known.
+    client = Client(path, town.host.why)
+    client.start()
+    becomes(town, {"here": 1, "ready": 1, "answers": 0, "taken": 0, "statistics": 0}, "seat")
+    client.leave()
+    becomes(town, {"here": 0}, "seat")
 
 
 def memory_once_more(town):
