@@ -2,13 +2,15 @@
 
 import os
 import struct
+import subprocess
+import tempfile
 import time
 
 from host_checks import eventually
 from host_seats import becomes
 from host_small import PAGES, Talker
 from linux_kit import demand
-from vhost_client import ADD_MEM_REG, BUFFERS, DEFLATE, INFLATE, NO_FILE, OFFERED, PAGE, REGIONS, REPORT, SET_VRING_KICK, WRITE, Client
+from vhost_client import ADD_MEM_REG, BUFFERS, DEFLATE, INFLATE, LIMIT, NO_FILE, OFFERED, PAGE, REGIONS, REPORT, SET_VRING_KICK, WRITE, Client
 
 MOST_CHAINS = 256
 
@@ -88,6 +90,7 @@ def who_goes_amid_a_message(town):
         client.negotiate(protocol=OFFERED)
         client.socket.sendmsg([struct.pack("<IIIQ", ADD_MEM_REG, 1, 40, 0)], [(1, 1, struct.pack("i", client.files[0]))])
         eventually(lambda: files() == before + 3, "a file doesn't come", 5)
+        town.host.counters()  # it doesn't wait for the rest
         client.leave()
         becomes(town, {"here": 0}, "half")
         demand(files() == before, f"the host has {files()} files open, and had {before}")
@@ -137,8 +140,20 @@ def memory_once_more(town):
     client.leave()
 
 
+def longest_path(bench):
+    """A socket's path has 107 bytes at most."""
+    with tempfile.TemporaryDirectory() as folder:
+        deep = os.path.join(folder, (100 - len(folder)) * "x")
+        os.mkdir(deep)
+        ran = subprocess.run([bench.programs["checked"], deep, "--budget", "5"], input="add fives\nadd sixsix\n", capture_output=True,
+                             text=True, timeout=LIMIT)
+    said = f"ready\nlistening {deep}/fives\nerror: sixsix: File name too long\n"
+    demand((ran.returncode, ran.stdout, len(deep)) == (0, said, 101), f"paths of 107 and 108 bytes: {ran}")
+
+
 def queues_run(bench):
     """Queues and seats of a host that looks once a minute."""
+    longest_path(bench)
     with bench.town(5, ("--floor", "0", "--period", "60000"), checked=True) as town:
         client = long_queue(town)
         last_queue_s_kick(client)
