@@ -110,6 +110,17 @@ def memory_far_up(town):
     demand(said == "refused half: its memory ends too far up for a host of many", said)
 
 
+def channel_that_nobody_reads(town):
+    """It is said whose client can't be told, a hundred times."""
+    client = comes(town, "deaf")
+    for target in range(3000):
+        town.host.demand(f"deaf target {target}")
+    with open(town.host.log, encoding="latin-1") as log:
+        said = [it for it in log if "can't be told" in it]
+    demand(said == ["deaf: the client can't be told of a change\n"] * 100, f"{len(said)} lines: {said[:1]}")
+    client.leave()
+
+
 def next_one_at_a_seat(town):
     """Who comes to a seat tells as many statistics as the one before, and takes as many pages back by itself."""
     path = town.host.add("seat")
@@ -161,6 +172,7 @@ def queues_run(bench):
         seats_that_go(town)
         who_goes_amid_a_message(town)
         memory_far_up(town)
+        channel_that_nobody_reads(town)
         next_one_at_a_seat(town)
         memory_once_more(town)
         client.leave()
