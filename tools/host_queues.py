@@ -167,6 +167,7 @@ def queues_run(bench):
     longest_path(bench)
     with bench.town(5, ("--floor", "0", "--period", "60000"), checked=True) as town:
         client = long_queue(town)
+        demand(town.host.ask("a ask") == "nothing", "a guest is asked whose buffer isn't there")
         last_queue_s_kick(client)
         queue_that_nobody_kicks(client)
         seats_that_go(town)

@@ -104,6 +104,12 @@ class Regions(Good):
                     said = "refused: queue 1 isn't in the guest's memory any longer"
                     self.assertEqual(client.close(), (1, said))
 
+    def test_a_ring_where_a_region_ends_and_another_one_begins(self):
+        client = self.client()  # in the client they touch, in the guest they don't
+        hand_over(client, [(0, 32, 0, 0), (32, 32, AWAY, 32)])
+        client.tell_place(INFLATE, shift=32 * PAGE)
+        self.assertEqual((client.enable(INFLATE), client.counter("status")), (bytes(8), 15))
+
     def test_what_is_left_of_a_queue_that_stops(self):
         client = super().client()
         client.start(size=MOST_CHAINS)
