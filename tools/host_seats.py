@@ -131,6 +131,23 @@ def reminded_by_its_balloon(town, client):
     demand(told(town) == before, f"a guest that doesn't answer is reminded {told(town) - before} times")
 
 
+def not_reminded_while_it_moves(town, client):
+    """A guest whose balloon moves towards its target isn't told of that again."""
+    town.host.demand("a target 60")
+    before, last, longest = told(town), time.monotonic(), 0
+    for page in range(PAGES + 10, PAGES + 50):
+        client.answer()
+        client.post_pages(INFLATE, [page])
+        time.sleep(0.02)
+        longest, last = max(longest, time.monotonic() - last), time.monotonic()
+    again = told(town) - before
+    # Else the machine has held the client up, and the balloon has stayed.
+    demand(again == 0 or longest > 0.1, f"a guest whose balloon moves is told of its target {again} times more")
+    # Once it stays off it, it is.
+    last = told(town)
+    eventually(lambda: client.answer() or told(town) > last, "a guest whose balloon has stopped isn't told of its target again", 5)
+
+
 def told(town):
     """Returns how often `a` was told of a change."""
     words = town.host.ask("a counters").split()
@@ -144,6 +161,8 @@ def seats_run(bench):
         client = Talker(path, town.host.why, 60)
         becomes(town, {"here": 1, "ready": 1, "pages": 128, "answers": 1})
         lives_of_a_balloon(town, client)
+        not_reminded_while_it_moves(town, client)
+        client.post_pages(DEFLATE, list(range(PAGES + 10, PAGES + 50)))
         reminded_by_its_balloon(town, client)
         client.leave()
         nothing = dict.fromkeys("here ready pages held_kib ballooned target free spare answers inflated taken statistics".split(), 0)

@@ -189,6 +189,10 @@ class Events(Lives):
         client.describe(INFLATE, 0, BUFFERS, 4)
         client.publish(INFLATE, 0)
         self.assertEqual((client.called(INFLATE), client.used(INFLATE)[0]), (1, 1))
+        client.accepted(SET_VRING_ENABLE, struct.pack("<II", INFLATE, 0))
+        client.publish(INFLATE, 0)
+        time.sleep(MOMENT)
+        self.assertEqual((client.counter("status"), client.used(INFLATE)[0]), (15, 1))
         os.close(kick)
 
     def test_pipes_and_sockets_for_events(self):
@@ -259,6 +263,17 @@ class Events(Lives):
         client.send(SET_VRING_KICK, word(INFLATE), [client.kicks[DEFLATE]], flags=1)
         os.kill(process, signal.SIGCONT)
         self.assertEqual((client.called(INFLATE), client.used(INFLATE)[0], client.holes()), (1, 1, [FIRST]))
+
+    def test_a_kick_as_its_ring_is_disabled(self):
+        client = self.started()
+        process = client.backend.process.pid
+        os.kill(process, signal.SIGSTOP)
+        client.post_pages(INFLATE, [FIRST])
+        client.send(SET_VRING_ENABLE, struct.pack("<II", INFLATE, 0), flags=1)
+        os.kill(process, signal.SIGCONT)
+        self.assertEqual((client.counter("status"), client.used(INFLATE)[0]), (15, 0))
+        client.accepted(SET_VRING_ENABLE, struct.pack("<II", INFLATE, 1))
+        self.assertEqual((client.called(INFLATE), client.used(INFLATE)[0]), (1, 1))
 
     def test_a_channel_that_nobody_reads(self):
         client = self.started()

@@ -84,7 +84,7 @@ class Every(unittest.TestCase):
         cls.well.leave()
         os.close(cls.event)
         with open(cls.host.log, encoding="latin-1") as log:
-            said = [it for it in log if not it.startswith(("refused ", "gone ", "seat", "the client can't"))]
+            said = [it for it in log if not it.startswith(("refused ", "gone ", "seat", "well: the client can't"))]
         cls.folder.cleanup()
         assert (cls.status, said) == (0, []), (cls.status, said[:20])
 

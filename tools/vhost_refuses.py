@@ -182,7 +182,7 @@ class Refuses(unittest.TestCase):
         client = Served()
         client.negotiate(protocol=QEMU_PROTOCOL)
         region = lambda it: struct.pack("<QQQQQ", 0, (1 + it) * PAGE, PAGE, REGIONS[0][1] + it * PAGE, it * PAGE)
-        for it in range(32):  # each touches the one before it
+        for it in (*range(16, 32), *range(15, -1, -1)):  # each touches one that is there, from above or from below
             client.accepted(ADD_MEM_REG, region(it), [client.files[0]])
         self.assertEqual(client.counter("end"), 33)
         client.send(ADD_MEM_REG, region(32), [client.files[0]], flags=1)

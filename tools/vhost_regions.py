@@ -10,9 +10,14 @@ from vhost_serves import MOST_CHAINS, Good
 
 GUEST, USER = REGIONS[0]
 
-# Table, available ring and used ring begin on these pages, 128 bytes before their ends; each goes on on the next page. So the
-# used ring's element of number 15 has its id on one page, and its length on the other one.
-PARTS, BEGIN = (0, 4, 8), PAGE - 128
+# Table, available ring and used ring begin on these pages, and so many bytes into them; each goes on on the next page. So the
+# used ring's element of number 127 has its id on one page, and its length on the other one.
+PARTS, BEGINS = (0, 4, 8), (PAGE - 128, PAGE - 128, PAGE - 1024)
+
+
+def places(first):
+    """Returns where the parts begin, from here on."""
+    return (first + page * PAGE + it for page, it in zip(PARTS, BEGINS))
 
 # Elsewhere in the guest or in the client, in pages.
 AWAY = 1000
@@ -34,7 +39,7 @@ def around(page, *instead):
 
 def place(client, number, size):
     """Gives a queue its place over borders of pages."""
-    table, available, used = (USER + it * PAGE + BEGIN for it in PARTS)
+    table, available, used = places(USER)
     client.accepted(vhost_client.SET_VRING_NUM, struct.pack("<II", number, size))
     client.accepted(vhost_client.SET_VRING_BASE, struct.pack("<II", number, 0))
     client.accepted(vhost_client.SET_VRING_ADDR, struct.pack("<IIQQQQ", number, 0, table, used, available, 0))
@@ -52,7 +57,7 @@ class Regions(Good):
 
     def served(self, client, turn):
         """Makes 256 chains available, each of which names a page, and demands that all are used, in their order."""
-        table, available, used = (GUEST + it * PAGE + BEGIN for it in PARTS)
+        table, available, used = places(GUEST)
         pages, heads = [20 + it % 40 for it in range(MOST_CHAINS)], range(MOST_CHAINS - 1, -1, -1)
         client.write(BUFFERS, struct.pack(f"<{MOST_CHAINS}I", *(GUEST // PAGE + it for it in pages)))
         client.write(GUEST + 20 * PAGE, b"\xff" * 44 * PAGE)
@@ -98,6 +103,12 @@ class Regions(Good):
                     self.assertIsNone(client.receive())
                     said = "refused: queue 1 isn't in the guest's memory any longer"
                     self.assertEqual(client.close(), (1, said))
+
+    def test_a_ring_where_a_region_ends_and_another_one_begins(self):
+        client = self.client()  # in the client they touch, in the guest they don't
+        hand_over(client, [(0, 32, 0, 0), (32, 32, AWAY, 32)])
+        client.tell_place(INFLATE, shift=32 * PAGE)
+        self.assertEqual((client.enable(INFLATE), client.counter("status")), (bytes(8), 15))
 
     def test_what_is_left_of_a_queue_that_stops(self):
         client = super().client()

@@ -268,17 +268,25 @@ bool seat_ask(struct seat *seat)
     return seat_is_ready(seat) && seat->backend.balloon.state.held && serve(seat, ask, seat);
 }
 
+/* Tells its guest of a change of its configuration. */
+static void tell_change(struct seat *seat)
+{
+    served_name = seat->name;
+    backend_tell_change(&seat->backend);
+    served_name = NULL;
+}
+
 void seat_set_target(struct seat *seat, uint32_t pages)
 {
     balloon_set_target(&seat->backend.balloon, pages);
     seat->told_at = seat->ballooned;
-    backend_tell_change(&seat->backend);
+    tell_change(seat);
 }
 
 void seat_remind(struct seat *seat)
 {
     bool off = seat->ballooned != seat->backend.balloon.state.device.target;
     if (seat_is_ready(seat) && off && seat->ballooned == seat->told_at)
-        backend_tell_change(&seat->backend);
+        tell_change(seat);
     seat->told_at = seat->ballooned;
 }

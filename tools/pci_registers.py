@@ -1,0 +1,208 @@
+"""Tests of each register of a balloon on PCI, as VIRTIO 1.1 has them (4.1.4), of its memory and of its files."""
+
+import os
+import signal
+import struct
+import time
+import unittest
+
+from pci_client import (
+    ACCEPT_SELECT, ACCEPTED, BAR_WRITE, BUFFERS, CONFIGURATION_READ, DEVICE, ENABLE, GENERATION, ISR, LIMIT, MSIX, NOTIFY, NOTIFY_OFF,
+    OFFER_SELECT, OFFERED, PAGE, PAGES, PLACE, QUEUE_MSIX, QUEUE_SIZE, QUEUES, SELECT, SET_INTERRUPT, SIZE, STATUS, SYNC_MEMORY, Client,
+)
+
+COMMON, NOTIFIES, INTERRUPTS, CONFIGURATION = 1, 2, 3, 4
+
+# What a queue shows that nobody has placed; and one that isn't there.
+UNPLACED, ABSENT = [256, 0xFFFF, *[0] * 7], [0] * 9
+
+
+class Registers(unittest.TestCase):
+    """What a driver reads, and what its writes do."""
+
+    def setUp(self):
+        self.client, self.said = Client(), ""
+        self.addCleanup(lambda: self.assertEqual(self.client.close(), (0, self.said)))
+
+    def queue(self, number):
+        """Selects a queue; returns its size, vector, whether it is enabled, and the halves of its place."""
+        client = self.client
+        client.write(SELECT, number, 2)
+        return [client.read(it, 2) for it in (SIZE, QUEUE_MSIX, ENABLE)] + [client.read(PLACE + it) for it in range(0, 24, 4)]
+
+    def eventually(self, condition, words):
+        """Waits until a condition holds."""
+        end = time.monotonic() + LIMIT
+        while not condition():
+            self.assertLess(time.monotonic(), end, words)
+
+    def test_capabilities(self):
+        client, at, found = self.client, self.client.configuration(0x34, 1), {}
+        while at:
+            vendor, follows, length, kind = client.configuration(at).to_bytes(4, "little")
+            bar, offset, size = (client.configuration(at + it) for it in (4, 8, 12))
+            self.assertEqual((vendor, length, bar, kind in found), (9, 20 if kind == NOTIFIES else 16, 0, False))
+            found[kind] = offset, size, client.configuration(at + 16) if kind == NOTIFIES else None
+            at = follows
+        self.assertEqual(found, {
+            COMMON: (0, 56, None), NOTIFIES: (NOTIFY, 4096, 4), INTERRUPTS: (ISR, 4, None), CONFIGURATION: (DEVICE, 16, None),
+        })
+        # A device of no other class, of revision 1, as QEMU's balloon.
+        self.assertEqual(client.configuration(8), 0x00FF0001)
+
+    def test_features(self):
+        client = self.client
+        for select, offered in ((0, 0x27), (1, 1), (2, 0), (3, 0), (0xFFFFFFFF, 0)):
+            client.write(OFFER_SELECT, select)
+            self.assertEqual((client.read(OFFER_SELECT), client.read(OFFERED)), (select, offered))
+        for select, accepted in ((1, 1), (0, 5), (2, 7), (0xFFFFFFFF, 7)):
+            client.write(ACCEPT_SELECT, select), client.write(ACCEPTED, accepted)
+            self.assertEqual((client.read(ACCEPT_SELECT), client.read(ACCEPTED)), (select, accepted if select < 2 else 0))
+        client.write(ACCEPT_SELECT, 0)
+        self.assertEqual((client.read(ACCEPTED), client.read(MSIX, 2), client.read(QUEUES, 2)), (5, 0xFFFF, 4))
+
+    def test_features_that_are_refused(self):
+        client = self.client
+        # Not offered; without VERSION_1.
+        for features, code in ((0x10000002F, 3), (0x27, 5)):
+            client.negotiate(features)
+            self.said = f"the driver's status 11 is answered {code}"
+            self.assertEqual((client.read(STATUS, 1), client.backend.why()), (3, self.said))
+
+    def test_a_queue_s_registers(self):
+        client = self.client
+        client.negotiate(0x100000021)
+        self.assertEqual([self.queue(it) for it in range(5)], [UNPLACED] * 3 + [ABSENT] * 2)
+        for number in range(3):
+            client.write(SELECT, number, 2)
+            self.assertEqual((client.read(SELECT, 2), client.read(NOTIFY_OFF, 2)), (number, number))
+        client.write(SIZE, 64, 2)
+        for value in (0xFFFFFFFF, 0x12345000):
+            for it in range(0, 24, 4):
+                client.write(PLACE + it, value + it & 0xFFFFFFFF)
+        client.write(ENABLE, 0, 2)
+        self.assertEqual(self.queue(2), [64, 0xFFFF, 0, *(0x12345000 + it for it in range(0, 24, 4))])
+        client.place(1)
+        placed = [QUEUE_SIZE, 0xFFFF, 1, *(it for page in (3, 4, 5) for it in (page * PAGE, 0))]
+        for at, value in ((SIZE, 4), (PLACE, 0), (PLACE + 20, 1), (ENABLE, 0)):
+            client.write(at, value)
+            self.assertEqual(self.queue(1), placed)
+        self.assertEqual([it[2] for it in map(self.queue, range(4))], [0, 1, 0, 0])
+
+    def test_a_reset_clears(self):
+        client = self.client
+        client.start()
+        client.write(STATUS, 0, 1)
+        self.assertEqual(client.read(STATUS, 1), 0)
+        for half in (0, 1):
+            client.write(ACCEPT_SELECT, half)
+            self.assertEqual(client.read(ACCEPTED), 0)
+        client.negotiate()
+        self.assertEqual([self.queue(it) for it in range(4)], [UNPLACED] * 4)
+
+    def test_a_reset_ends_what_is_left(self):
+        client, size = self.client, 256
+        client.negotiate()
+        client.place(0, size)
+        client.write(STATUS, 15, 1)
+        os.pwrite(client.memory, b"".join(struct.pack("<QIHH", BUFFERS, 4, 0, 0) for _ in range(size)), 0)
+        os.pwrite(client.memory, struct.pack("<I", 20), BUFFERS)
+        os.pwrite(client.memory, struct.pack(f"<HH{size}H", 1, size, *range(size)), PAGE)
+        process = client.backend.process.pid
+        os.kill(process, signal.SIGSTOP)  # so that the reset follows the kick at once
+        for at in (NOTIFY, STATUS):
+            client.send(BAR_WRITE, struct.pack("<QQIB", at, 0, 2, 1))
+        os.kill(process, signal.SIGCONT)
+        self.assertEqual([client.answer() for _ in range(2)], [0, 0])
+        self.assertEqual(client.read(STATUS, 1), 0)
+        self.assertLess(client.backend.counters()["chains"], size)
+
+    def test_a_driver_that_has_failed(self):
+        client = self.client
+        client.start()
+        client.write(STATUS, 15 | 128, 1)
+        self.assertEqual(client.read(STATUS, 1), 15 | 128)
+
+    def test_kicks_that_are_none(self):
+        client = self.client
+        client.negotiate(0x100000021)
+        client.place(0)
+        client.post(0, [40])  # before the driver is ready
+        self.assertEqual((client.read(STATUS, 1), client.backend.counters()["chains"]), (11, 0))
+        client.write(STATUS, 15, 1)
+        for number in (3, 4, 5, 1023):
+            client.write(NOTIFY + 4 * number, number, 2)
+        client.write(ISR, 0)
+        counters = client.backend.counters()
+        self.assertEqual([counters[it] for it in ("chains", "kicks", "status")], [1, 5, 15])
+
+    def test_the_device_s_configuration(self):
+        client = self.client
+        client.start()
+        client.backend.ask(f"target {0x01020304}")
+        client.write(DEVICE + 4, 0x05060708)
+        for at, length, value in ((0, 1, 4), (1, 2, 0x0203), (3, 4, 0x06070801), (0, 8, 0x0506070801020304), (4, 4, 0x05060708), (8, 8, 0)):
+            self.assertEqual(client.read(DEVICE + at, length), value, (at, length))
+        for at, length in ((0, 4), (4, 2), (3, 4), (4, 8), (8, 4), (12, 4)):
+            client.write(DEVICE + at, 9, length)
+            self.assertEqual(client.read(DEVICE, 8), 0x0506070801020304, (at, length))
+
+    def test_interrupts(self):
+        client = self.client
+        client.negotiate()
+        time.sleep(0.2)  # nothing is told before the driver is ready
+        self.assertEqual((client.read(ISR, 1), client.read(GENERATION, 1)), (0, 0))
+        client.start()
+        client.backend.ask("target 7")
+        client.post(0, [40])
+        self.assertEqual((client.backend.counters()["interrupts"], client.read(ISR, 1) & 3), (1, 3))
+        self.assertEqual((client.read(GENERATION, 1), os.eventfd_read(client.interrupt)), (1, 2))
+        # A read clears it; a driver that looks by itself gets another one.
+        self.eventually(lambda: client.read(ISR, 1) == 0, "a read doesn't clear the interrupts")
+        self.eventually(lambda: time.sleep(0.1) or client.read(ISR, 1) == 1, "a driver that looks by itself finds nothing")
+
+    def test_memory_in_two_regions(self):
+        client = self.client
+        half = PAGES // 2
+        files = client.open_files()
+        for _ in range(2):
+            client.hand_over([(0, half * PAGE, 0), (100 * PAGE, half * PAGE, half * PAGE)])
+        self.assertEqual(client.open_files(), files + 1)
+        client.start()
+        client.post(0, [20, 100 + 8, 100 + half - 1])
+        counters = client.backend.counters()
+        self.assertEqual([counters[it] for it in ("end", "inflated", "discarded")], [100 + half, 3, 3])
+        holes = [it for it in range(PAGES) if os.lseek(client.memory, it * PAGE, os.SEEK_HOLE) == it * PAGE]
+        self.assertEqual(holes, [20, half + 8, PAGES - 1])
+
+    def test_files_that_nobody_wants_are_closed(self):
+        client = self.client
+        files = client.open_files()
+        for _ in range(2):
+            client.send(SET_INTERRUPT, files=[client.interrupt, client.memory])
+        client.send(CONFIGURATION_READ, struct.pack("<III", 0, 0, 4), [client.memory])
+        self.assertEqual(client.answer(), client.configuration(0))
+        self.assertEqual(client.open_files(), files)
+        client.start()
+        client.post(0, [40])
+        self.assertEqual((client.read(STATUS, 1), os.eventfd_read(client.interrupt)), (15, 1))
+
+
+class Tables(unittest.TestCase):
+    """Memory that can't be mapped, and how long a message may be."""
+
+    def test_tables(self):
+        good, bad = (0, PAGE, 0), (PAGE, PAGE + 1, 0)
+        for regions in ([bad], [bad, good], [good, bad], [good, good]):
+            client = Client()
+            client.hand_over(regions)
+            self.assertEqual(client.socket.recv(24), b"")
+            self.assertEqual(client.close(), (1, "refused: the guest's memory can't be mapped"))
+
+    def test_the_longest_message(self):
+        for size, said in ((256, (0, "")), (257, (1, "refused: the client's bytes are no message"))):
+            client = Client()
+            client.send(SYNC_MEMORY, struct.pack("<24Q", *[0] * 8, 32 * PAGE, *[0] * 15).ljust(size, b"\0"), [client.memory])
+            if size == 256:
+                self.assertEqual((client.read(STATUS), client.backend.counters()["end"]), (0, 32))
+            self.assertEqual(client.close(), said)
