@@ -1,5 +1,5 @@
 -- What the exact records of a guest's calls say, of bytes, frames and lives.
-use Rattle.std.proofs.Common.{◌≡◌, ◌⊎◌, ℕ, true, false, List, [], ◌∷◌, refl, arith, ap}
+use Rattle.std.proofs.Common.{◌≡◌, ◌≢◌, ◌⊎◌, ℕ, true, false, List, [], ◌∷◌, refl, arith, ap}
 use Rattle.std.specs.Prelude.{Bool, Option, Some, None, Result, Ok, Err, IsOk, is_some}
 use Rattle.vb_model.{specs.declared.calls.Claim.Claim, specs.declared.places.Place.Place}
 use Rattle.vb_model.specs.declared.calls.Call.TheVariants.{Ask, SetTarget, Free as FreeBlock, Write}
@@ -102,15 +102,15 @@ bare m part is = (is.frames, is.loose)
 abbrev driver : DriverState
 driver = fresh_driver 64 8 1
 
-inits_twice : (out : List Bool) (m2 : Pages) (p2 : Part) (d2 : DriverState) (claims : List Claim)
-    (result : Result Bool Refusal)
-    → InitialisesBy TableAnswers asks out mem m2 (record no_part { status = 15 }) p2
+-- not once the driver has begun, whatever the status is then
+inits_twice : (status : ℕ) (out : List Bool) (m2 : Pages) (p2 : Part) (d2 : DriverState)
+    (claims : List Claim) (result : Result Bool Refusal) → status ≢ 0
+    → InitialisesBy TableAnswers asks out mem m2 (record no_part { status = status }) p2
     driver d2 claims 0 result
-    → (result ≡ Err AlreadyUp) × (m2 ≡ mem) × (p2 ≡ record no_part { status = 15 })
+    → (result ≡ Err AlreadyUp) × (m2 ≡ mem) × (p2 ≡ record no_part { status = status })
     × (d2 ≡ driver) × (claims ≡ [])
-inits_twice out m2 p2 d2 claims result by =
-    let left = by.up (λ e. omega (arith, e)) in
-    (left.0, left.1.mem, left.1.part, left.1.driver, left.3)
+inits_twice status out m2 p2 d2 claims result begun by =
+    let left = by.up begun in (left.0, left.1.mem, left.1.part, left.1.driver, left.3)
 
 continues : (m2 : Pages) (p2 : Part) (d2 : DriverState) (result : Result Bool Refusal)
     → (Continues {U = Bool} (Ok true) mem m2 no_part p2 driver d2 1 result

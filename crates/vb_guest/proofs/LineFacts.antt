@@ -2,6 +2,7 @@
 -- reports and its buffer.
 use Rattle.std.proofs.Common.{◌≡◌, ◌↔◌, ℕ, ◌+◌, ◌%◌, ◌<◌, ◌≤◌, true, false, List, [], ◌∷◌, ◌++◌}
 use Rattle.std.proofs.Common.{refl, arith}
+use Rattle.vb_model.specs.Driver.{AllDistinct}
 use Rattle.std.specs.Prelude.{All, length, ⊤}
 use Rattle.std.proofs.lemmas.List.Elements.{All-cons, All-nil}
 use Rattle.vb_model.specs.Requests.{Request, Requests, NoBuffer, BufferPosted, BufferTaken}
@@ -100,6 +101,17 @@ requested = (
     distinct = (refl, tt);
   },
 )
+
+-- 256 pages at most
+longest : (pages : List ℕ) → length pages ≡ 256 → All (λ page. 16 ≤ page) pages
+    → All (λ page. page < 512) pages → AllDistinct pages → AreRequested 8 512 pages
+longest pages count above below distinct = record {
+  some = omega (arith, count);
+  few = omega (arith, count);
+  above = above;
+  below = below;
+  distinct = distinct;
+}
 
 not_requested : (pages : List ℕ) → (AreRequested 8 64 [] → ⊥) × (AreRequested 8 64 (20 ∷ 15 ∷ []) → ⊥)
     × (AreRequested 256 64 (31 ∷ []) → ⊥) × (AreRequested 8 64 (20 ∷ 64 ∷ []) → ⊥)
