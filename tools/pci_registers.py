@@ -130,11 +130,11 @@ class Registers(unittest.TestCase):
         client.post(0, [40])  # before the driver is ready
         self.assertEqual((client.read(STATUS, 1), client.backend.counters()["chains"]), (11, 0))
         client.write(STATUS, 15, 1)
-        for number in (3, 4, 5, 1023):
+        for number in (1, 2, 3, 4, 5, 1023):  # of which two are queues that aren't enabled
             client.write(NOTIFY + 4 * number, number, 2)
         client.write(ISR, 0)
         counters = client.backend.counters()
-        self.assertEqual([counters[it] for it in ("chains", "kicks", "status")], [1, 5, 15])
+        self.assertEqual([counters[it] for it in ("chains", "kicks", "status")], [1, 7, 15])
 
     def test_the_device_s_configuration(self):
         client = self.client

@@ -203,9 +203,7 @@ static bool write_common(struct virtio_pci *pci, uint64_t at, uint64_t value)
 static bool notify(struct virtio_pci *pci, uint64_t number)
 {
     pci->backend->counters.kicks++;
-    if (!(device_of(pci)->status & BALLOON_DRIVER_OK) || number >= QUEUES)
-        return true;
-    if (vb_kind(device_of(pci), (uint32_t)number) >= VB_NO_KIND)
+    if (!(device_of(pci)->status & BALLOON_DRIVER_OK) || number >= QUEUES || !pci->queues[number].enabled)
         return true;
     return backend_serve(pci->backend, (unsigned)number);
 }
