@@ -7,13 +7,13 @@ use Rattle.vb_model.specs.declared.calls.Claim.TheVariants.{Gave, GaveNoFrame, G
 use Rattle.vb_model.specs.declared.replies.Refusal.TheVariants.{NotReady, NoMemory}
 use Rattle.vb_model.specs.declared.replies.Reply.TheVariants.{Ready, Page, ReadBytes, Posted, Filled, NotUsed}
 use Rattle.vb_model.specs.declared.replies.Reply.TheVariants.{Reaped, Taken, Empty, Worked, Idle, Finished}
-use Rattle.vb_model.specs.declared.replies.Reply.TheVariants.{Swept, Asked, Done, Pages, Refused}
+use Rattle.vb_model.specs.declared.replies.Reply.TheVariants.{Swept, Asked, Done, Pages, Refused, Statistics}
 use Rattle.vb_model.specs.{Guest.{Guest, fresh}, Requests.{NoBuffer, BufferPosted, BufferTaken, BufferDone}}
 use Rattle.vb_frames.specs.Out.{TableAnswers, AllAnswered, is_out}
 use Rattle.vb_guest.specs.Buffer.{posted_heads, taken_heads, used_heads, taken_requests}
 use Rattle.vb_guest.specs.Replies.{ready_reply, bytes_reply, taken_reply, worked_reply, finished_reply}
 use Rattle.vb_guest.specs.Replies.{swept_reply, page_reply, posted_reply, reaped_reply, filled_reply}
-use Rattle.vb_guest.specs.Replies.{asked_reply, done_reply, runs_reply}
+use Rattle.vb_guest.specs.Replies.{asked_reply, done_reply, runs_reply, statistics_reply}
 use Rattle.vb_guest.specs.Steps.{backing_count, AreOut, StepsWithKeeper}
 use Rattle.vb_guest.specs.Supply.{Supply, is_used, Moves, nothing, AnswersTo, AreClaimed, AreLoose}
 
@@ -25,9 +25,10 @@ replies : ready_reply {T = ℕ} (Ok 0) ∷ bytes_reply (Ok (5 ∷ [])) ∷ taken
     ∷ posted_reply (Ok (record { head = 2; pages = 5 })) ∷ reaped_reply (Ok None)
     ∷ reaped_reply (Ok (Some (record { head = 2; pages = 5 }))) ∷ filled_reply (Ok true)
     ∷ filled_reply (Ok false) ∷ asked_reply {T = ℕ} (Ok 0) ∷ done_reply {T = ℕ} (Ok 0)
-    ∷ runs_reply {E = ℕ} (Ok []) ∷ []
+    ∷ runs_reply {E = ℕ} (Ok []) ∷ statistics_reply (record { free = Some 4; total = None }) ∷ []
     ≡ Ready ∷ ReadBytes (5 ∷ []) ∷ Empty ∷ Taken 3 ∷ Idle ∷ Worked 9 true ∷ Finished 3 ∷ Swept false
-    ∷ Page 16 ∷ Posted 2 5 ∷ NotUsed ∷ Reaped 2 5 ∷ Filled ∷ NotUsed ∷ Asked ∷ Done ∷ Pages [] ∷ []
+    ∷ Page 16 ∷ Posted 2 5 ∷ NotUsed ∷ Reaped 2 5 ∷ Filled ∷ NotUsed ∷ Asked ∷ Done ∷ Pages []
+    ∷ Statistics (record { free = Some 4; total = None }) ∷ []
 replies = refl
 
 refusals : ready_reply {T = ℕ} (Err NotReady) ∷ taken_reply (Err NotReady) ∷ worked_reply (Err NotReady)
