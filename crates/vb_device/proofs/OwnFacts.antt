@@ -4,7 +4,7 @@ use Rattle.std.proofs.Common.{◌≡◌, ℕ, ◌+◌, ◌≤◌, ◌==◌, true
 use Rattle.std.specs.Prelude.{Bool, Some, None, length}
 use Rattle.vb_ram.{specs.Pages.Page, specs.Part.{Part, no_part}}
 use Rattle.vb_model.{specs.declared.calls.Claim.Claim, specs.Guest.zero_page}
-use Rattle.vb_model.specs.declared.calls.Claim.TheVariants.{Gave as GaveNumber}
+use Rattle.vb_model.specs.declared.calls.Claim.TheVariants.{Gave as GaveNumber, GaveNoFrame}
 use Rattle.vb_device.{proofs.CallFacts.{keeper, frame, mem, busy}, specs.Calls.PutsBack}
 use Rattle.vb_device.specs.declared.claimed.Claimed.TheVariants.{Gave, AskHost, NoFrame, NoMemory}
 use Rattle.vb_device.specs.Calls.{SameFrames, PopsLoose, HandsBack, IsUnused, Claims, IsAnswered}
@@ -58,6 +58,14 @@ only_seven _ = false
 may : IsAnswered only_seven (Gave (frame 7)) × (IsAnswered only_seven (Gave (frame 8)) → false ≡ true)
     × (IsAnswered only_seven NoFrame → false ≡ true) × (IsAnswered only_seven NoMemory → false ≡ true)
 may = (refl, λ is. is, λ is. is, λ is. is)
+
+abbrev no_frame_alone : Claim → Bool
+no_frame_alone GaveNoFrame = true
+no_frame_alone _ = false
+
+may_not : IsAnswered no_frame_alone NoFrame × (IsAnswered no_frame_alone NoMemory → false ≡ true)
+    × IsAnswered no_frame_alone AskHost
+may_not = (refl, λ is. is, tt)
 
 -- ---- a frame that comes back, an own one or another's
 

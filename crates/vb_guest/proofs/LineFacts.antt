@@ -1,9 +1,10 @@
 -- What the driver, the device and memory say together of a queue: of its ring, its requests, its
 -- reports and its buffer.
 use Rattle.std.proofs.Common.{◌≡◌, ◌↔◌, ℕ, ◌+◌, ◌%◌, ◌<◌, ◌≤◌, true, false, List, [], ◌∷◌, ◌++◌}
-use Rattle.std.proofs.Common.{refl, arith}
+use Rattle.std.proofs.Common.{◌⊎◌, refl, arith}
 use Rattle.vb_model.specs.Driver.{AllDistinct}
 use Rattle.std.specs.Prelude.{All, length, ⊤}
+use Rattle.vb_model.specs.Pages.{pages_of_all}
 use Rattle.std.proofs.lemmas.List.Elements.{All-cons, All-nil}
 use Rattle.vb_model.specs.Requests.{Request, Requests, NoBuffer, BufferPosted, BufferTaken}
 use Rattle.vb_model.specs.{Requests.BufferDone, Pages.{Block, block_at}, Layout.ring_page}
@@ -189,9 +190,10 @@ lines m side part = ((λ is. is, λ is. is), (λ is. is, λ is. is))
 -- ---- reports
 
 own_blocks : IsOwnBlock 8 64 (block_at 16 4) × IsOwnBlock 8 64 (block_at 32 5)
-    × (IsOwnBlock 8 64 (block_at 0 4) → ⊥) × (IsOwnBlock 256 64 (block_at 16 4) → ⊥)
+    × IsOwnBlock 8 1024 (block_at 512 9) × (IsOwnBlock 8 64 (block_at 0 4) → ⊥) × (IsOwnBlock 256 64 (block_at 16 4) → ⊥)
     × (IsOwnBlock 8 64 (block_at 48 5) → ⊥) × (IsOwnBlock 8 2048 (block_at 1024 10) → ⊥)
 own_blocks = (
+  record { order = omega arith; above = omega arith; below = omega arith },
   record { order = omega arith; above = omega arith; below = omega arith },
   record { order = omega arith; above = omega arith; below = omega arith },
   λ is. omega (arith, is.above),
@@ -215,6 +217,19 @@ is_a_report = record {
   blocks_are = both (IsOwnBlock 2 64) (block_at 17 0) (block_at 20 1)
       (record { order = omega arith; above = omega arith; below = omega arith })
       (record { order = omega arith; above = omega arith; below = omega arith });
+}
+
+-- of one block, and of 16
+of_any_length : (r : Request) (blocks : List Block) → length blocks ≡ 1 ⊎ length blocks ≡ 16
+    → r.head ≡ 0 → r.pages ≡ pages_of_all blocks → All (IsOwnBlock 256 2048) blocks
+    → IsReport 256 2048 blocks r
+of_any_length r blocks count head names own = record {
+  head = head;
+  names = names;
+  some = omega (arith, count);
+  few = omega (arith, count);
+  inside = omega (arith, count);
+  blocks_are = own;
 }
 
 no_report : (r : Request) (blocks : List Block) → (IsReport 8 64 [] r → ⊥)
