@@ -108,6 +108,9 @@ full_is_unsound sound = omega (arith, sound.short 0)
 aligned : IsBlock (block_at 4 2)
 aligned = (omega arith, refl)
 
+largest : IsBlock (block_at 512 9)
+largest = (omega arith, refl)
+
 misaligned : IsBlock (block_at 2 2) → ⊥
 misaligned is = (let wrong : false ≡ true = is.1 in absurd cc)
 

@@ -119,6 +119,9 @@ before_the_first is = omega (arith, is.2.0)
 seat_of_a_pass : IsPass 8 4 (seat (7 ∷ []))
 seat_of_a_pass = (refl, (omega arith, omega arith, tt))
 
+seat_of_the_first_frame : IsPass 1 4 (seat (0 ∷ []))
+seat_of_the_first_frame = (refl, (omega arith, omega arith, tt))
+
 seat_of_another : IsPass 8 5 (seat []) → ⊥
 seat_of_another is = omega (arith, ap (λ (m : Seat). count 4 m.0.holdings) (sym is.0))
 
