@@ -1,12 +1,12 @@
 -- Sets of pages, processors' lists and blocks, worked out: of eight pages the first two are reserved.
 use Rattle.std.proofs.Common.{◌≡◌, ℕ, zero, suc, ◌<◌, ◌≤◌, true, false, List, [], ◌∷◌, ◌++◌, map, slice_index}
-use Rattle.std.{proofs.Common.{length, refl, arith, ap}, specs.Prelude.{Bool, Some, None}}
-use Rattle.{vb_model.specs.Pages.Block, vb_pages.specs.Held.blocks_of}
+use Rattle.std.{proofs.Common.{length, refl, arith, ap}, specs.Prelude.{Bool, Some, None, nat_lt}}
+use Rattle.{vb_model.specs.{Pages.Block, Tests.one_if}, vb_pages.specs.Held.blocks_of}
 use Rattle.vb_pages.specs.Areas.{block_at, with_pages, without_pages, unreserved, IsBlock, LiesIn}
 use Rattle.vb_pages.specs.FreePages.{FreePages, times_free, free_count, is_free_in, drained, Pops}
 use Rattle.vb_pages.specs.PageState.{PageState, freed, is_free_page, is_held_page, is_unreserved}
 use Rattle.vb_pages.specs.{Areas.{IsMaximal, HasNoBlock, TakesBlock}, PageState.IsApart}
-use Rattle.vb_pages.specs.FreePages.{TakesSingle, spilled, given_back, IsSoundFree, HasRoomFor}
+use Rattle.vb_pages.specs.FreePages.{TakesSingle, spilled, given_back, IsSoundFree, HasRoomFor, list_of}
 
 -- ---- sets of pages
 
@@ -101,6 +101,13 @@ twice_is_unsound sound = omega (arith, sound.once 2)
 
 full_is_unsound : IsSoundFree (listed (fifteen ++ 17 ∷ [])) → ⊥
 full_is_unsound sound = omega (arith, sound.short 0)
+
+-- four processors at most, and 65,536 pages
+largest_is_sound : (f : FreePages) → length f.lists ≡ 4 → length f.areas ≡ 65536
+    → ((page : ℕ) → times_free f page ≤ one_if (nat_lt page (length f.areas)))
+    → ((cpu : ℕ) → length (list_of f cpu) < 16) → IsSoundFree f
+largest_is_sound f processors pages once short =
+    record { once = once; short = short; few = omega (arith, processors); small = omega (arith, pages) }
 
 -- ---- blocks
 

@@ -135,7 +135,7 @@ not_chosen = (
 -- ---- the block that stands first from a page on
 
 lowest : IsLowestFrom spread 0 0 (block_at 0 0) × IsLowestFrom spread 0 1 (block_at 2 1)
-    × IsLowestFrom spread 1 0 (block_at 2 1)
+    × IsLowestFrom spread 1 0 (block_at 2 1) × IsLowestFrom spread 0 2 (block_at 2 1)
 lowest = (
   record {
     maximal = first_one;
@@ -155,6 +155,12 @@ lowest = (
     after = omega arith;
     lowest = λ c m le from. begins_later c m.inside le;
   },
+  record {
+    maximal = first_two;
+    sufficient = omega arith;
+    after = omega arith;
+    lowest = λ c m le from. omega (arith, from);
+  },
 )
 
 -- no part of a block, none that is too small or begins too early, and none behind one that is larger
@@ -170,11 +176,13 @@ not_lowest = (
 
 -- ---- blocks as bits
 
--- one word for 64 pages, or fewer, and two for 65; and for 65 pairs
+-- one word for 64 pages, or fewer, and two for 65; one for 64 pairs, and two for 96
 words_are : (AreBlockBits (replicate 64 false) 0 (0 ∷ 0 ∷ []) → ⊥)
     × (AreBlockBits (replicate 65 false) 0 (0 ∷ []) → ⊥)
     × (AreBlockBits (replicate 129 false) 1 (0 ∷ 0 ∷ []) → ⊥) × (AreBlockBits [] 0 [] → ⊥)
+    × (AreBlockBits (replicate 192 false) 1 (0 ∷ []) → ⊥)
 words_are = (
+  λ bits. omega (arith, bits.fewest),
   λ bits. omega (arith, bits.fewest),
   λ bits. omega (arith, bits.fewest),
   λ bits. omega (arith, bits.fewest),

@@ -1,7 +1,8 @@
 -- Pages that are taken from the areas and the lists, worked out, and what is left.
 use Rattle.std.proofs.Common.{◌≡◌, ◌∙◌, ℕ, zero, suc, ◌^◌, ◌<◌, ◌≤◌, Bool, true, false, List, [], ◌∷◌}
 use Rattle.std.proofs.Common.{◌++◌, Some, None, ap, arith, length, refl, replicate, reverse}
-use Rattle.std.proofs.Common.{inl, inr, sym, subst}
+use Rattle.std.proofs.Common.{inl, inr, sym, subst, IsPermutation}
+use Rattle.std.specs.{Ordering.nat_cmp, List.Sorted.IsSorted}
 use Rattle.std.proofs.lemmas.List.{length-reverse, reverse-reverse}
 use Rattle.std.proofs.{Math.Pow.pow-lt, lemmas.List.Sorted.{length_permutation, IsPermutation-refl}}
 use Rattle.vb_pages.specs.Areas.{has, with_pages, without_pages, block_at, LiesIn, IsChosen}
@@ -63,6 +64,21 @@ fills_one = record {
   by_start : (start : ℕ) → has (false ∷ []) start ≡ true → ⊥
   by_start zero e = cc
   by_start (suc k) e = cc
+
+-- eight come into it, whatever is left
+fills_eight : (set new : List Bool) (taken rising : List ℕ) → TakesPages set taken new
+    → length taken ≡ 8 → IsPermutation taken rising → IsSorted nat_cmp rising
+    → Refills set (reverse rising) new
+fills_eight set new taken rising takes count same sorted = record {
+  taken = taken;
+  rising = rising;
+  takes = takes;
+  most = omega (arith, count);
+  all = λ few. absurd (omega (arith, count, few));
+  same = same;
+  sorted = sorted;
+  list_is = refl;
+}
 
 -- so many pages are taken as come into the list
 as_many : (set new : List Bool) (list : List ℕ) (r : Refills set list new) → length r.taken ≡ length list
