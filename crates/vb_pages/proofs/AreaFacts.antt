@@ -102,6 +102,10 @@ twice_is_unsound sound = omega (arith, sound.once 2)
 full_is_unsound : IsSoundFree (listed (fifteen ++ 17 ∷ [])) → ⊥
 full_is_unsound sound = omega (arith, sound.short 0)
 
+-- a block of eight pages isn't one of four
+no_room_for_eight : HasRoomFor (listed []) 0 3 → ⊥
+no_room_for_eight room = omega (arith, room.1)
+
 -- four processors at most, and 65,536 pages
 largest_is_sound : (f : FreePages) → length f.lists ≡ 4 → length f.areas ≡ 65536
     → ((page : ℕ) → times_free f page ≤ one_if (nat_lt page (length f.areas)))
