@@ -26,6 +26,14 @@ none = grind arith
 first_two : AreGiven needs 30 40 2 (50 ∷ 30 ∷ 7 ∷ 7 ∷ []) 10
 first_two = grind arith
 
+-- nothing is said of a second guest, whether it is above the level, below it or at it
+abbrev pair : ℕ → ℕ → List Need
+pair one other = record { pages = 64; spare = one } ∷ record { pages = 64; spare = other } ∷ []
+
+first_alone : AreGiven (pair 29 50) 30 5 1 (0 ∷ 7 ∷ []) 5 × AreGiven (pair 50 29) 30 5 1 (50 ∷ 7 ∷ []) 5
+    × AreGiven (pair 50 30) 30 5 1 (50 ∷ 31 ∷ []) 5
+first_alone = (grind arith, grind arith, grind arith)
+
 -- not a target for each, not all from above, some from below, one too many at the level, out of turn,
 -- something left though one could give it, and one too few or too many together
 not_so : (left : ℕ) → (AreGiven needs 30 40 3 (50 ∷ 30 ∷ 10 ∷ []) left → ⊥)

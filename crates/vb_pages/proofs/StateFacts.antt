@@ -2,7 +2,7 @@
 use Rattle.std.proofs.Common.{◌≡◌, ℕ, zero, suc, ◌<◌, ◌≤◌, true, false, List, [], ◌∷◌}
 use Rattle.std.proofs.Common.{Some, None, Ok, Err, ap, arith, refl, sym, subst}
 use Rattle.vb_model.specs.Pages.{Block}
-use Rattle.vb_pages.specs.Areas.{with_pages, without_pages, block_at, IsMaximal}
+use Rattle.vb_pages.specs.Areas.{with_pages, without_pages, block_at, IsMaximal, IsLowestFrom}
 use Rattle.vb_pages.specs.FreePages.{FreePages, drained, Serves}
 use Rattle.vb_pages.specs.PageState.{PageState, IsWhollyFree, AllocatesBlock, TakesFree, Isolates}
 use Rattle.vb_pages.specs.PageState.{IsKept, IsGuestSize, HasRoomIn, is_free_page, is_held_page}
@@ -65,13 +65,21 @@ page_seven = record { start = 7; order = 0 }
 isolates : (new : PageState) → Isolates state 0 7 (Some page_seven) new
     → (new.free.areas ≡ false ∷ false ∷ true ∷ true ∷ true ∷ true ∷ false ∷ false ∷ [])
     × (new.free.lists ≡ [] ∷ [] ∷ [] ∷ []) × (new.held ≡ block_at 6 0 ∷ []) × (new.free.reserved ≡ 2)
+    × IsLowestFrom (drained free).areas 0 7 (block_at 7 0)
 unfolding with_pages without_pages
 isolates new is = (
   ap (λ (s : PageState). s.free.areas) is.1,
   ap (λ (s : PageState). s.free.lists) is.1,
   ap (λ (s : PageState). s.held) is.1,
   ap (λ (s : PageState). s.free.reserved) is.1,
+  is.0,
 )
+
+-- and of a pair both pages do
+isolates_a_pair : (new : PageState) → Isolates state 1 3 (Some (record { start = 4; order = 1 })) new
+    → new.free.areas ≡ false ∷ false ∷ true ∷ true ∷ false ∷ false ∷ false ∷ true ∷ []
+unfolding with_pages without_pages
+isolates_a_pair new is = ap (λ (s : PageState). s.free.areas) is.1
 
 -- with no block the lists are drained all the same
 isolates_none : (new : PageState) → Isolates state 9 0 None new

@@ -115,6 +115,10 @@ stays old new = (
 ends : IsDriverEnd busy × IsDeviceEnd device
 ends = grind arith
 
+last_counts : IsDriverEnd (record busy { published = 65535; seen = 65535 })
+    × IsDeviceEnd (record device { next_avail = 65535; next_used = 65535 })
+last_counts = grind arith
+
 no_driver_end : (IsDriverEnd (record busy { published = 65536 }) → ⊥)
     × (IsDriverEnd (record busy { seen = 65536 }) → ⊥)
     × (IsDriverEnd (record busy { owner = None ∷ [] }) → ⊥)
