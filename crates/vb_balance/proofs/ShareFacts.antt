@@ -34,6 +34,17 @@ first_alone : AreGiven (pair 29 50) 30 5 1 (0 ∷ 7 ∷ []) 5 × AreGiven (pair 
     × AreGiven (pair 50 30) 30 5 1 (50 ∷ 31 ∷ []) 5
 first_alone = (grind arith, grind arith, grind arith)
 
+first_in_part : AreGiven (pair 30 30) 30 5 1 (5 ∷ 7 ∷ []) 0
+first_in_part = grind arith
+
+-- one page above the level
+just_above : AreGiven (pair 31 0) 30 5 2 (31 ∷ 0 ∷ []) 5
+just_above = grind arith
+
+-- the second one has a page, and the first one not all that it can give
+out_of_turn : (left : ℕ) → AreGiven (pair 30 30) 30 1 2 (0 ∷ 1 ∷ []) left → ⊥
+out_of_turn left are = omega (arith, are.in_turn 1 0 (omega arith) (omega arith) refl refl (omega arith))
+
 -- not a target for each, not all from above, some from below, one too many at the level, out of turn,
 -- something left though one could give it, and one too few or too many together
 not_so : (left : ℕ) → (AreGiven needs 30 40 3 (50 ∷ 30 ∷ 10 ∷ []) left → ⊥)

@@ -2,7 +2,7 @@
 use Rattle.std.proofs.Common.{◌≡◌, ℕ, zero, suc, ◌/◌, ◌%◌, ◌<◌, ◌≤◌, Bool, true, false, List, []}
 use Rattle.std.proofs.Common.{◌∷◌, ◌++◌, Some, None, arith, length, refl, replicate}
 use Rattle.std.proofs.lemmas.List.{get_or-replicate, get_or_append_left, length-replicate}
-use Rattle.std.specs.Prelude.{slice_index}
+use Rattle.std.specs.Prelude.{slice_index, count_by, ◌↔◌}
 use Rattle.vb_model.specs.Tests.{has_bit}
 use Rattle.vb_bits.proofs.Words.{cleared, zero_bit}
 use Rattle.vb_bits.specs.Sets.{has, HasNoneFrom, IsLeastFrom, IsNextInWord, HasNoneIn}
@@ -100,6 +100,10 @@ not_next_in_word = (
   λ next. no (next.1.least 1 (omega arith) (omega arith)),
 )
 
+-- a member is the next one from itself on
+next_is_itself : IsNextInWord set 1 None → ⊥
+next_is_itself next = let wrong : true ≡ false = next 1 (omega arith) refl in cc
+
 -- ---- summaries
 
 no_words : HasNoneIn set 1 × (HasNoneIn set 0 → ⊥) × (HasNoneIn next_word 1 → ⊥)
@@ -134,6 +138,21 @@ no_summary = (
   none : (n : ℕ) → has (false ∷ []) n ≡ false
   none zero = refl
   none (suc n) = refl
+
+-- two words for 128 numbers, and one for 64
+whole_words : (level summary : List Bool) → length level ≡ 128 → length summary ≡ 2
+    → ((w : ℕ) → (has summary w ≡ false) ↔ HasNoneIn level w) → HasSummary level summary
+whole_words level summary long short tells =
+    record { enough = omega (arith, long, short); fewest = omega (arith, long, short); tells = tells }
+
+no_word_more : HasSummary (replicate 64 false) (false ∷ false ∷ []) → ⊥
+no_word_more summary = omega (arith, summary.fewest)
+
+-- 262,144 numbers at most
+summed : (members words groups : List Bool) → length members ≡ 262144 → HasSummary members words
+    → HasSummary words groups → IsSummed members words groups (count_by (λ b. b) members)
+summed members words groups long first second =
+    record { few = omega (arith, long); first = first; second = second; count = refl }
 
 -- too many numbers, a summary that leaves a member out, one of that which does, and another count
 not_summed : ((members words groups : List Bool) (len : ℕ) → length members ≡ 262145

@@ -1,8 +1,9 @@
 -- Tables of blocks, the sets that stand for them, and their lowest blocks, worked out.
 use Rattle.std.proofs.Common.{◌≡◌, ℕ, zero, suc, ◌+◌, ◌%◌, ◌^◌, ◌<◌, ◌≤◌, Bool, true, false, List, [], ◌∷◌}
 use Rattle.std.proofs.Common.{Option, Some, None, ap, arith, length, refl, replicate, inl, inr}
-use Rattle.std.proofs.Common.{subst, sym, ◌∙◌, ◌++◌}
-use Rattle.vb_pages.specs.Table.{order_at, AreBlocks, set_of_order, sets_of, table_of, AreSetsOf}
+use Rattle.std.proofs.Common.{subst, sym, ◌∙◌, ◌++◌, map}
+use Rattle.vb_pages.specs.Table.{order_at, AreBlocks, room_of, set_of_order, sets_of, is_in_sets}
+use Rattle.vb_pages.specs.Table.{table_of, AreSetsOf}
 use Rattle.vb_pages.specs.Table.{IsLowestStart}
 use Rattle.vb_pages.specs.Tiles.{is_covered, set_of, IsPlaced, IsMerged, IsBuddy, HasRoom, IsTiled}
 use Rattle.vb_pages.specs.Areas.{LiesOutside, block_at}
@@ -52,6 +53,39 @@ sets_are : (sets_of (Some 0 ∷ []) ≡ sets true false) × (table_of 1 (sets tr
     × (sets_of [] ≡ sets false false) × (table_of 0 (sets false false) ≡ [])
 unfolding sets_of set_of_order table_of
 sets_are = (refl, refl, refl, refl)
+
+-- eight pages: page 1, pages 2 and 3, and pages 4 to 7
+abbrev eight : List (Option ℕ)
+eight = None ∷ Some 0 ∷ Some 1 ∷ None ∷ Some 2 ∷ None ∷ None ∷ None ∷ []
+
+rooms : map (λ order. room_of order 8) (0 ∷ 1 ∷ 2 ∷ 3 ∷ 4 ∷ []) ≡ 8 ∷ 4 ∷ 2 ∷ 1 ∷ 1 ∷ []
+rooms = refl
+
+their_sets : map (λ order. set_of_order order eight) (0 ∷ 1 ∷ 2 ∷ 3 ∷ [])
+    ≡ (false ∷ true ∷ replicate 6 false) ∷ (false ∷ true ∷ false ∷ false ∷ []) ∷ (false ∷ true ∷ [])
+    ∷ (false ∷ []) ∷ []
+unfolding set_of_order
+their_sets = refl
+
+-- the first page of each, by its order, and no page besides
+in_sets : map (is_in_sets (sets_of eight) 4) (0 ∷ 1 ∷ 2 ∷ 3 ∷ [])
+    ++ map (λ page. is_in_sets (sets_of eight) page 1) (1 ∷ 2 ∷ 3 ∷ 4 ∷ 6 ∷ [])
+    ≡ false ∷ false ∷ true ∷ false ∷ false ∷ true ∷ false ∷ false ∷ false ∷ []
+unfolding sets_of set_of_order
+in_sets = refl
+
+there_and_back : table_of 8 (sets_of eight) ≡ eight
+unfolding sets_of set_of_order table_of
+there_and_back = refl
+
+-- the largest block, and its set
+largest : set_of_order 9 (Some 9 ∷ replicate 511 None) ∷ [] ≡ (true ∷ []) ∷ []
+unfolding set_of_order
+largest = refl
+
+found_by_the_last_set : table_of 1 (replicate 9 (false ∷ []) ++ (true ∷ []) ∷ []) ≡ Some 9 ∷ []
+unfolding table_of
+found_by_the_last_set = refl
 
 -- too many pages, a set that is missing, one with a number too many, and a block past the end
 no_sets : ((all : List (List Bool)) → AreSetsOf 262145 all → ⊥) × (AreSetsOf 1 [] → ⊥)
