@@ -1,11 +1,11 @@
 -- Copies of a ring, worked out: what a write makes of them, and which bytes of memory they are.
-use Rattle.std.proofs.Common.{◌≡◌, ℕ, zero, suc, ◌+◌, ◌<◌, ◌≤◌, List, [], ◌∷◌, ◌++◌, ap, arith, refl}
-use Rattle.std.proofs.Common.{length, replicate, sym, ◌∙◌}
+use Rattle.std.proofs.Common.{◌≡◌, ℕ, zero, suc, ◌+◌, ◌*◌, ◌%◌, ◌<◌, ◌≤◌, List, [], ◌∷◌, ◌++◌, ap, arith, refl}
+use Rattle.std.proofs.Common.{length, replicate, sym, ◌∙◌, map}
 use Rattle.std.specs.Prelude.{Some, None, slice_index, slice_index_or}
 use Rattle.std.proofs.lemmas.List.{get_or-replicate, get_or_append_left, length-replicate}
 use Rattle.vb_ram.specs.{Pages.{Pages, byte_at}, Put.PutAt}
 use Rattle.vb_ring.specs.declared.layout.Layout.{Layout}
-use Rattle.vb_core.specs.Copies.{PutsInto, AreCopies}
+use Rattle.vb_core.specs.Copies.{PutsInto, AreCopies, copy_number, copied_layout}
 
 -- ---- a write into the second of two copies
 
@@ -58,6 +58,19 @@ no_other_puts = (
   λ p. omega (arith, ap (size 1) p.others, p.len),
   λ p. omega (arith, ap (λ (copies : List (List ℕ)). length copies) p.others),
 )
+
+-- ---- which page is which copy, and where the parts of the ring stand: apart, and aligned
+
+numbers : map copy_number (0 ∷ 1 ∷ 2 ∷ 3 ∷ []) ≡ Some 0 ∷ Some 1 ∷ None ∷ None ∷ []
+numbers = refl
+
+-- 516 bytes are an available ring of 256
+apart : copied_layout.table ∷ copied_layout.avail.page ∷ copied_layout.avail.offset ∷ copied_layout.used.page
+    ∷ copied_layout.used.offset % 4 ∷ [] ≡ 0 ∷ 1 ∷ 0 ∷ 1 ∷ 0 ∷ []
+apart = refl
+
+behind_the_largest : 4 + 2 * 256 ≤ copied_layout.used.offset
+behind_the_largest = omega arith
 
 -- ---- copies of a ring of two descriptors
 

@@ -87,6 +87,17 @@ found_by_the_last_set : table_of 1 (replicate 9 (false ∷ []) ++ (true ∷ []) 
 unfolding table_of
 found_by_the_last_set = refl
 
+-- which pages are in a block: of order 9 at most
+covered : map (is_covered eight) (0 ∷ 1 ∷ 2 ∷ 3 ∷ 4 ∷ 5 ∷ 6 ∷ 7 ∷ [])
+    ≡ false ∷ true ∷ true ∷ true ∷ true ∷ true ∷ true ∷ true ∷ []
+unfolding is_covered
+covered = refl
+
+in_the_largest : is_covered (Some 9 ∷ replicate 511 None) 511
+    ∷ is_covered (Some 10 ∷ replicate 1023 None) 1 ∷ [] ≡ true ∷ false ∷ []
+unfolding is_covered
+in_the_largest = refl
+
 -- too many pages, a set that is missing, one with a number too many, and a block past the end
 no_sets : ((all : List (List Bool)) → AreSetsOf 262145 all → ⊥) × (AreSetsOf 1 [] → ⊥)
     × (AreSetsOf 1 ((true ∷ false ∷ []) ∷ replicate 9 (false ∷ [])) → ⊥)
