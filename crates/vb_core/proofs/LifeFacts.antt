@@ -130,8 +130,9 @@ places : map (λ kind. place_denial kind (ring 8) (with_features 11 0x100000002)
 unfolding lib.Count.ones
 places = refl
 
--- a table at an odd address
-misplaced : place_denial Inflate (placed 1 8192 12288 8) (with_features 11 0) ≡ Some Misplaced
+-- a table at an odd address, and one past the end of memory
+misplaced : map (λ table. place_denial Inflate (placed table 8192 12288 8) (with_features 11 0)) (1 ∷ 262144 ∷ [])
+    ≡ Some Misplaced ∷ Some Misplaced ∷ []
 unfolding lib.Count.ones
 misplaced = refl
 

@@ -106,8 +106,8 @@ full_is_unsound sound = omega (arith, sound.short 0)
 no_room_for_eight : HasRoomFor (listed []) 0 3 → ⊥
 no_room_for_eight room = omega (arith, room.1)
 
--- four processors at most, and 65,536 pages
-largest_is_sound : (f : FreePages) → length f.lists ≡ 4 → length f.areas ≡ 65536
+-- four processors at most, and 262,144 pages
+largest_is_sound : (f : FreePages) → length f.lists ≡ 4 → length f.areas ≡ 262144
     → ((page : ℕ) → times_free f page ≤ one_if (nat_lt page (length f.areas)))
     → ((cpu : ℕ) → length (list_of f cpu) < 16) → IsSoundFree f
 largest_is_sound f processors pages once short =
