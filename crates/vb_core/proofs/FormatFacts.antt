@@ -77,7 +77,8 @@ six = ring 0x10000 0x11000 0x12000 6 0 0
 
 impossible : map can_be (
     saved ∷ record saved { held = 65 } ∷ with_device (λ d. record d { inflate = six })
-    ∷ with_device (λ d. record d { deflate = six }) ∷ with_device (λ d. record d { statistics = six })
+    ∷ with_device (λ d. record d { deflate = six })
+    ∷ with_device (λ d. record d { statistics = record d.statistics { table = 1 } })
     ∷ with_device (λ d. record d { report = six }) ∷ with_device (λ d. record d { status = 31 })
     ∷ with_device (λ d. record d { features = 0x100000034 })
     ∷ with_device (λ d. record d { settings = record d.settings { memory_end = 0x100000000000 } })
