@@ -71,8 +71,8 @@ uint32_t __wrap_vb_begin(VbNotice *notice, VbBalloon *balloon, const VbRegion *r
     return say(notice, VB_READ, INDEX, queue->avail + 2 - regions->guest);
 }
 
-/* Each of these answers 0 where the library has to go on, and has changed nothing then. */
-static inline uint32_t behind_index(VbNotice *notice, const VbQueue *queue, const VbRegion *region, uint16_t index)
+/* What is done once the index was read. Each of these answers 0 where the library has to go on, and has changed nothing then. */
+static inline uint32_t after_index(VbNotice *notice, const VbQueue *queue, const VbRegion *region, uint16_t index)
 {
     uint16_t ahead = (uint16_t)(index - queue->next_avail);
     uint64_t entry = entry_of(queue, queue->next_avail);
@@ -83,7 +83,7 @@ static inline uint32_t behind_index(VbNotice *notice, const VbQueue *queue, cons
     return say(notice, READ_ENTRY, ENTRY, entry - region->guest);
 }
 
-static inline uint32_t behind_entry(VbNotice *notice, const VbQueue *queue, const VbRegion *region, uint16_t head)
+static inline uint32_t after_entry(VbNotice *notice, const VbQueue *queue, const VbRegion *region, uint16_t head)
 {
     uint64_t descriptor = queue->table + 16 * (uint32_t)head;
     if (!USUALLY(head < queue->size && head < VB_MAX_QUEUE_SIZE && descriptor >= queue->table && holds(region, descriptor, 16)))
@@ -93,7 +93,7 @@ static inline uint32_t behind_entry(VbNotice *notice, const VbQueue *queue, cons
     return say(notice, VB_COPY, DESCRIPTOR, descriptor - region->guest);
 }
 
-static inline uint32_t behind_descriptor(VbNotice *notice, VbRoom *room, const VbDevice *device, const VbQueue *queue,
+static inline uint32_t after_descriptor(VbNotice *notice, VbRoom *room, const VbDevice *device, const VbQueue *queue,
                                          const VbRegion *region)
 {
     uint64_t words[2], end = device->settings.memory_end & ~4095ull;
@@ -108,7 +108,7 @@ static inline uint32_t behind_descriptor(VbNotice *notice, VbRoom *room, const V
 }
 
 /* The page is told, the chain given back, and the next word read: another entry, or the flags. */
-static inline uint32_t behind_part(VbNotice *notice, VbRoom *room, const VbDevice *device, VbQueue *queue, const VbRegion *region)
+static inline uint32_t after_part(VbNotice *notice, VbRoom *room, const VbDevice *device, VbQueue *queue, const VbRegion *region)
 {
     if (!USUALLY(notice->length == 4 && !notice->into && notice->count == 1 && !notice->number && !notice->flag
                  && room->pieces[0].length == 4 && notice->keeps && is_served(device, queue)))
@@ -136,7 +136,7 @@ static inline uint32_t behind_part(VbNotice *notice, VbRoom *room, const VbDevic
                word - region->guest);
 }
 
-static inline uint32_t behind_flags(VbNotice *notice, uint16_t flags)
+static inline uint32_t after_flags(VbNotice *notice, uint16_t flags)
 {
     notice->cuts = 0, notice->rule = 0, notice->interrupt = !(flags & 1), notice->configuration = 0, notice->phase = 0;
     return notice->what = 0;
@@ -149,15 +149,15 @@ uint32_t __wrap_vb_go_on(VbNotice *notice, VbBalloon *balloon, const VbRegion *r
     uint32_t what = 0;
     if (USUALLY(notice->kind <= VB_DEFLATE && count && is_possible(regions))) {
         if (notice->phase == INDEX)
-            what = behind_index(notice, queue, regions, answer);
+            what = after_index(notice, queue, regions, answer);
         else if (notice->phase == ENTRY)
-            what = behind_entry(notice, queue, regions, answer);
+            what = after_entry(notice, queue, regions, answer);
         else if (notice->phase == DESCRIPTOR)
-            what = behind_descriptor(notice, room, &balloon->device, queue, regions);
+            what = after_descriptor(notice, room, &balloon->device, queue, regions);
         else if (notice->phase == PART)
-            what = behind_part(notice, room, &balloon->device, queue, regions);
+            what = after_part(notice, room, &balloon->device, queue, regions);
         else if (notice->phase == FLAGS && !notice->code)
-            return behind_flags(notice, answer);
+            return after_flags(notice, answer);
     }
     return what ? what : __real_vb_go_on(notice, balloon, regions, count, room, answer);
 }

@@ -14,7 +14,7 @@ from vhost_client import ADD_MEM_REG, BUFFERS, DEFLATE, INFLATE, LIMIT, NO_FILE,
 
 MOST_CHAINS = 256
 
-# Memory may end here, and a page behind it.
+# Where memory may end, at most.
 MOST_SET = 1 << 36
 
 

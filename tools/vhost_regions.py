@@ -32,7 +32,7 @@ def hand_over(client, regions, answered=True):
 
 
 def around(page, *instead):
-    """Returns the regions before and behind a page, and others in its place."""
+    """Returns the regions before and after a page, and others in its place."""
     sides = ((0, page, 0, 0), (page + 1, PAGES_OF_REGION - page - 1, page + 1, page + 1))
     return [*(it for it in sides if it[1]), *instead]
 

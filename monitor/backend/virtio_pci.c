@@ -148,8 +148,10 @@ static bool write_status(struct virtio_pci *pci, uint8_t status)
         answer = balloon_negotiate(&pci->backend->balloon, features);
     if (answer == 0)
         answer = balloon_write_status(&pci->backend->balloon, status, &result);
-    if (answer == 0)
-        return leave_more(pci, &result), backend_finish(pci->backend, &result);
+    if (answer == 0) {
+        leave_more(pci, &result);
+        return backend_finish(pci->backend, &result);
+    }
     remark(pci->backend, "the driver's status %u is answered %u", status, answer);
     return true;
 }

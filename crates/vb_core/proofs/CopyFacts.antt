@@ -64,13 +64,13 @@ no_other_puts = (
 numbers : map copy_number (0 ∷ 1 ∷ 2 ∷ 3 ∷ []) ≡ Some 0 ∷ Some 1 ∷ None ∷ None ∷ []
 numbers = refl
 
--- 516 bytes are an available ring of 256
 apart : copied_layout.table ∷ copied_layout.avail.page ∷ copied_layout.avail.offset ∷ copied_layout.used.page
     ∷ copied_layout.used.offset % 4 ∷ [] ≡ 0 ∷ 1 ∷ 0 ∷ 1 ∷ 0 ∷ []
 apart = refl
 
-behind_the_largest : 4 + 2 * 256 ≤ copied_layout.used.offset
-behind_the_largest = omega arith
+-- an available ring of 256 has that many bytes
+after_the_largest : 4 + 2 * 256 ≤ copied_layout.used.offset
+after_the_largest = omega arith
 
 -- ---- copies of a ring of two descriptors
 

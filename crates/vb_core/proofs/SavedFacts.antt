@@ -7,7 +7,7 @@ use Rattle.vb_core.specs.declared.format.TheConstants.{SAVED_LENGTH, CHECKSUM_AT
 use Rattle.vb_core.specs.declared.saved.StateDenial.TheVariants.{BadLength, NotAState, Impossible}
 use Rattle.vb_core.specs.declared.{device.Device.Device, saved.StateDenial.TheVariants.OtherVersion}
 use Rattle.vb_core.specs.declared.{ring.Virtqueue.Virtqueue, settings.Settings.Settings}
-use Rattle.vb_core.specs.{Devices.new_device, declared.saved.Saved.Saved}
+use Rattle.vb_core.specs.{Devices.new_device, Rings.no_ring, declared.saved.Saved.Saved}
 use Rattle.vb_core.specs.declared.kinds.Kind.TheVariants.{Inflate, Statistics, Report}
 use Rattle.vb_core.specs.declared.format.TheConstants.{FORMAT_VERSION, VERSION_AT, LENGTH_AT, MAGIC}
 use Rattle.vb_core.specs.{Format.{u16_bytes, u64_bytes, u32_at, u64_at, checksum}, Saved.restored}
@@ -93,15 +93,12 @@ ring moved = record {
 }
 
 -- no place, and what isn't none
-abbrev nowhere : Virtqueue
-nowhere = record { table = 0; avail = 0; used = 0; size = 0; next_avail = 0; next_used = 0 }
-
-blank : map is_blank (nowhere ∷ record nowhere { table = 1 } ∷ record nowhere { avail = 1 }
-    ∷ record nowhere { used = 1 } ∷ record nowhere { size = 1 } ∷ record nowhere { next_avail = 1 }
-    ∷ record nowhere { next_used = 1 } ∷ []) ≡ true ∷ false ∷ false ∷ false ∷ false ∷ false ∷ false ∷ []
+blank : map is_blank (no_ring ∷ record no_ring { table = 1 } ∷ record no_ring { avail = 1 }
+    ∷ record no_ring { used = 1 } ∷ record no_ring { size = 1 } ∷ record no_ring { next_avail = 1 }
+    ∷ record no_ring { next_used = 1 } ∷ []) ≡ true ∷ false ∷ false ∷ false ∷ false ∷ false ∷ false ∷ []
 blank = refl
 
-moved : map has_moved (nowhere ∷ ring 0 ∷ ring 5 ∷ record (ring 0) { next_used = 5 } ∷ [])
+moved : map has_moved (no_ring ∷ ring 0 ∷ ring 5 ∷ record (ring 0) { next_used = 5 } ∷ [])
     ≡ false ∷ false ∷ true ∷ true ∷ []
 moved = refl
 

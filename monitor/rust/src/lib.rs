@@ -24,19 +24,19 @@ pub const PAGE: u64 = 4096;
 /// Whether the library is of the version that this crate is written for, so that structs and codes are the same.
 pub fn is_library_of_this_version() -> bool {
     // SAFETY: it has no arguments.
-    is_like(unsafe { raw::vb_version() })
+    is_compatible(unsafe { raw::vb_version() })
 }
 
 /// Whether a version is that of this crate, or differs in its third number alone.
-fn is_like(version: u32) -> bool {
+fn is_compatible(version: u32) -> bool {
     version >> 8 == raw::VERSION >> 8
 }
 
 #[cfg(test)]
 mod tests {
     #[test]
-    fn versions_that_differ_in_the_third_number_are_alike() {
-        for (version, alike) in [
+    fn versions_that_differ_in_the_third_number_are_compatible() {
+        for (version, compatible) in [
             (0x00_0100, true),
             (0x00_0101, true),
             (0x00_01ff, true),
@@ -46,7 +46,7 @@ mod tests {
             (0x01_0100, false),
             (0x0100_0100, false),
         ] {
-            assert_eq!(super::is_like(version), alike, "{version:x}");
+            assert_eq!(super::is_compatible(version), compatible, "{version:x}");
         }
     }
 }
