@@ -18,12 +18,12 @@ void call_driver(void)
     EXPECT(device.target == kind && (device.target = twin.target, same(&device, &twin)));
 }
 
-/* Reads and writes of the configuration space: mostly of a field, or beside one. */
+/* Reads and writes of the configuration space: mostly of a field, of all fields, or beside one. */
 void call_config(void)
 {
     VbDevice device = any_device(), twin = device;
     uint32_t offset = once_in(4) ? (uint32_t)any_number() : any() % 20;
-    size_t length = once_in(4) ? any() % 32 : 4;
+    size_t length = once_in(2) ? any() % 32 : once_in(2) ? 16 : 4;
     uint8_t *bytes = any_bytes(0, length), *out = list_of(2, length), why[32];
     EXPECT(vb_write_config(&device, offset, bytes, length) == reference_write_config(&twin, offset, bytes, length));
     EXPECT(same(&device, &twin) && vb_keeps_reports(&device) == reference_keeps_reports(&twin));

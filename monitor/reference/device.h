@@ -95,13 +95,20 @@ void vb_read_config(const VbDevice *device, uint32_t offset, uint8_t *out, size_
     }
 }
 
+/* Writes a field of 4 bytes where these bytes cover it whole. */
+static bool write_field(uint32_t *field, uint32_t at, uint32_t offset, const uint8_t *bytes, size_t length)
+{
+    if (at < offset || length < 4 || length - 4 < at - offset)
+        return false;
+    *field = (uint32_t)little(bytes + (at - offset), 4);
+    return true;
+}
+
 uint32_t vb_write_config(VbDevice *device, uint32_t offset, const uint8_t *bytes, size_t length)
 {
-    bool poison = offset == 12 && (device->settings.offered & VB_F_PAGE_POISON);
-    if ((offset != 4 && !poison) || length != 4)
-        return VB_BAD_ARGUMENT;
-    *(poison ? &device->poison : &device->actual) = (uint32_t)little(bytes, 4);
-    return VB_OK;
+    bool actual = write_field(&device->actual, 4, offset, bytes, length);
+    bool poison = (device->settings.offered & VB_F_PAGE_POISON) && write_field(&device->poison, 12, offset, bytes, length);
+    return actual || poison ? VB_OK : VB_BAD_ARGUMENT;
 }
 
 uint32_t vb_keeps_reports(const VbDevice *device)

@@ -50,8 +50,26 @@ static void the_target_is_told(void)
     free_memory(&guest);
 }
 
+/* QEMU hands over all 16 bytes whenever the driver writes a field: num_pages isn't the driver's, and stays. */
+static void the_whole_configuration_is_written(void)
+{
+    static struct guest guest;
+    const VbSettings settings = { .offered = LINUX_FEATURES | VB_F_PAGE_POISON };
+    uint8_t all[16] = { 9, 9, 9, 9, 1, 2, 0, 0, 9, 9, 9, 9, 0xaa, 0, 0, 0 }, seen[16];
+    start(&guest, 0, settings, LINUX_FEATURES | VB_F_PAGE_POISON, 8);
+    balloon_set_target(&guest.balloon, 513);
+    EXPECT(balloon_write_config(&guest.balloon, 0, all, 16) == VB_OK && !balloon_is_off_target(&guest.balloon));
+    balloon_read_config(&guest.balloon, 0, seen, 16);
+    memset(all + 8, 0, 4);
+    memcpy(all, (const uint8_t[]){ 1, 2, 0, 0 }, 4);
+    EXPECT(memcmp(seen, all, 16) == 0);
+    EXPECT(balloon_write_config(&guest.balloon, 1, all, 6) == VB_BAD_ARGUMENT);
+    free_memory(&guest);
+}
+
 void test_moves(void)
 {
     RUN(a_device_moves());
     RUN(the_target_is_told());
+    RUN(the_whole_configuration_is_written());
 }

@@ -68,13 +68,13 @@ static void reports_keep_their_bytes(uint32_t poison, uint64_t features, bool ke
     static struct guest guest;
     static struct seen seen;
     const VbSettings settings = { .offered = LINUX_FEATURES | VB_F_PAGE_POISON };
-    const uint8_t word[] = { (uint8_t)poison, (uint8_t)(poison >> 8), (uint8_t)(poison >> 16), (uint8_t)(poison >> 24) };
+    const uint8_t bytes[16] = { [12] = (uint8_t)poison, (uint8_t)(poison >> 8), (uint8_t)(poison >> 16), (uint8_t)(poison >> 24) };
     const uint32_t inflated = 900;
     memset(&seen, 0, sizeof seen);
     start(&guest, 0, settings, features, 8);
     guest.balloon.context = &seen;
     guest.balloon.on_pages = see_pages;
-    EXPECT(balloon_write_config(&guest.balloon, 12, word, 4) == VB_OK);
+    EXPECT(balloon_write_config(&guest.balloon, 0, bytes, 16) == VB_OK);          /* as QEMU does */
     describe(&guest, VB_REPORT, 0, 800 * 4096, 3 * 4096, WRITE, 0);
     memset(at(&guest, 800 * 4096), 0xaa, 3 * 4096);
     memset(at(&guest, inflated * 4096ull), 0xaa, 4096);

@@ -127,11 +127,35 @@ static void configuration_is_little_endian(void)
     for (int i = 0; i < 12; i++)
         EXPECT(out[i] == 0);
     vb_read_config(&device, 0, NULL, 0);
-    for (uint32_t offset = 0; offset < 9; offset++)
-        for (size_t length = 0; length < 12 - offset; length++)
-            if (offset != 4 || length != 4)
-                EXPECT(vb_write_config(&device, offset, all, length) == VB_BAD_ARGUMENT);
-    EXPECT(vb_write_config(&device, UINT32_MAX, all, 4) == VB_BAD_ARGUMENT && device.actual == 0x44332211);
+}
+
+/* A driver may write actual and, where it is offered, poison_val: a write takes those that it covers whole, as QEMU hands over
+ * all 16 bytes for each field. The bytes that would be at 4 and at 12 of a write from 0 on are those of the fields. */
+static void a_write_takes_the_fields_that_it_covers(bool offered)
+{
+    enum { NEITHER, ACTUAL, POISON, BOTH };
+    const struct { uint32_t offset; size_t length; unsigned takes; } rows[] = {
+        { 0, 16, BOTH }, { 4, 12, BOTH }, { 3, 13, BOTH }, { 4, 13, BOTH }, { 0, 24, BOTH },
+        { 4, 4, ACTUAL }, { 0, 8, ACTUAL }, { 3, 6, ACTUAL }, { 4, 11, ACTUAL }, { 0, 15, ACTUAL },
+        { 12, 4, POISON }, { 12, 12, POISON }, { 5, 11, POISON }, { 8, 8, POISON }, { 11, 6, POISON },
+        { 0, 4, NEITHER }, { 0, 7, NEITHER }, { 4, 3, NEITHER }, { 5, 4, NEITHER }, { 5, 10, NEITHER }, { 8, 4, NEITHER },
+        { 8, 7, NEITHER }, { 12, 3, NEITHER }, { 13, 4, NEITHER }, { 13, 11, NEITHER }, { 16, 8, NEITHER }, { 0, 0, NEITHER },
+        { 4, 0, NEITHER }, { 12, 0, NEITHER }, { UINT32_MAX - 3, 4, NEITHER }, { UINT32_MAX, 24, NEITHER },
+    };
+    const uint8_t all[48] = { 1, 2, 3, 4, 0x11, 0x22, 0x33, 0x44, 5, 6, 7, 8, 0xdd, 0xcc, 0xbb, 0xaa, 9, 10, 11 };
+    const uint8_t seven[] = { 7, 0, 0, 0 };
+    for (size_t row = 0; row < sizeof rows / sizeof rows[0]; row++) {
+        VbDevice device;
+        const VbSettings settings = { .memory_end = MIB, .offered = VERSION_1 | (offered ? VB_F_PAGE_POISON : 0) };
+        unsigned takes = rows[row].takes & (offered ? BOTH : ACTUAL);
+        EXPECT(vb_new(&device, settings) == VB_OK && vb_write_config(&device, 4, seven, 4) == VB_OK);
+        EXPECT(vb_write_config(&device, 12, seven, 4) == (offered ? VB_OK : VB_BAD_ARGUMENT));
+        uint32_t code = vb_write_config(&device, rows[row].offset, all + rows[row].offset % 24, rows[row].length);
+        EXPECT(code == (takes == NEITHER ? VB_BAD_ARGUMENT : VB_OK));
+        EXPECT(device.actual == (takes & ACTUAL ? 0x44332211 : 7));
+        EXPECT(device.poison == (takes & POISON ? 0xaabbccdd : offered ? 7 : 0));
+        EXPECT(device.target == 0 && device.status == 0 && device.features == 0);
+    }
 }
 
 /* poison_val: 4 bytes at 12, which are there to read and to write where PAGE_POISON is offered (VIRTIO 1.2, 5.5.4). */
@@ -141,10 +165,6 @@ static void poison_val_stands_at_12(bool offered)
     const VbSettings settings = { .memory_end = MIB, .offered = VERSION_1 | (offered ? VB_F_PAGE_POISON : 0) };
     const uint8_t poison[] = { 0xdd, 0xcc, 0xbb, 0xaa, 1 };
     EXPECT(vb_new(&device, settings) == VB_OK && device.poison == 0);
-    for (uint32_t offset = 0; offset < 20; offset++)
-        for (size_t length = 0; length < 6; length++)
-            if (length != 4 || (offset != 4 && offset != 12))
-                EXPECT(vb_write_config(&device, offset, poison, length) == VB_BAD_ARGUMENT && device.poison == 0);
     EXPECT(vb_write_config(&device, 12, poison, 4) == (offered ? VB_OK : VB_BAD_ARGUMENT));
     EXPECT(device.poison == (offered ? 0xaabbccdd : 0) && device.actual == 0 && device.target == 0);
     for (uint32_t offset = 0; offset < 20; offset++) {
@@ -194,6 +214,8 @@ void test_steps(void)
     RUN(queues_are_numbered_without_gaps());
     RUN(status_is_refused());
     RUN(configuration_is_little_endian());
+    RUN(a_write_takes_the_fields_that_it_covers(true));
+    RUN(a_write_takes_the_fields_that_it_covers(false));
     RUN(poison_val_stands_at_12(true));
     RUN(poison_val_stands_at_12(false));
     RUN(places_are_refused());

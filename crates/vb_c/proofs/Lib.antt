@@ -11,6 +11,7 @@ mod SavingFacts
 mod PhaseFacts
 mod RefusalFacts
 mod RegisterFacts
+mod LeftFacts
 mod HandingFacts
 mod BeginFacts
 mod ServingFacts

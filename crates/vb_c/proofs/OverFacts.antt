@@ -1,16 +1,16 @@
 -- What the calls of a balloon over regions answer in C, worked out: each refusal, and what it leaves.
-use Rattle.std.proofs.Common.{◌≡◌, refl, ap, arith, inl, inr, ℕ, ◌∙◌, true, false, List, [], ◌∷◌}
+use Rattle.std.proofs.Common.{◌≡◌, refl, ap, arith, inl, inr, ℕ, ◌∙◌, true, false, []}
 use Rattle.std.proofs.Common.{Option, Some, None, Result, Err}
 use Rattle.vb_status.specs.declared.bits.StatusFault.{StatusFault, TheVariants.ClearsBit}
 use Rattle.vb_core.specs.declared.kinds.Kind.TheVariants.{Inflate}
 use Rattle.vb_core.{specs.declared.device.Denial.Denial, specs.Devices.{new_device, placed}}
 use Rattle.vb_core.specs.declared.device.Denial.TheVariants.{Misplaced}
 use Rattle.vb_core.specs.declared.saved.StateDenial.TheVariants.{BadLength}
-use Rattle.vb_monitor.{specs.declared.regions.Region.Region, specs.declared.balloon.Balloon.Balloon}
+use Rattle.vb_monitor.{specs.declared.balloon.Balloon.Balloon}
 use Rattle.vb_monitor.{specs.declared.placing.RestoreDenial.TheVariants.State, specs.Places.Lies}
 use Rattle.vb_c.specs.Places.{code_of_restore, StartsOver, MapsAnew, PlacesOver, PlacesOverFor}
 use Rattle.vb_c.{specs.Codes.{code_in, number_in}, specs.Places.{SetsStatus, RestoresOver}}
-use Rattle.vb_c.proofs.Samples.{Same, settings, begun, ready, two, half, balloon}
+use Rattle.vb_c.proofs.Samples.{Same, settings, begun, ready, two, first_alone, half, balloon}
 
 abbrev held_of : Balloon → ℕ
 held_of b = b.held
@@ -40,9 +40,6 @@ refused_although_possible : (b : Balloon) → StartsOver settings two balloon b 
 refused_although_possible b h = let e : Same 7 0 = (h.made _ refl).0 in omega arith
 
 -- ---- other regions
-
-abbrev first_alone : List Region
-first_alone = record { guest = 0; length = 0x15000; in_file = 0 } ∷ []
 
 abbrev shorter : Balloon
 shorter = record balloon { device = record begun { settings = record settings { memory_end = 0x15000 } } }

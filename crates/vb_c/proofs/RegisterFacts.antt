@@ -52,7 +52,7 @@ not_written h = let e : Same 0 261 = ap (λ (d : Device). d.actual) (h.written r
 in_another_field : WritesConfig 4 number ready (record ready { target = 261 }) 0 → ⊥
 in_another_field h = let e : Same 261 0 = ap target_of (h.written refl).1 in omega arith
 
--- num_pages is the host's, and a field is written as a whole
+-- num_pages is the host's, and half a field is ignored
 target_written : (d : Device) → WritesConfig 0 number ready d 0 → ⊥
 target_written d h = let e : Same 0 7 = (h.denied refl).0 in omega arith
 
@@ -80,6 +80,22 @@ poison_written = record { denied = λ e. absurd cc; written = λ e. (refl, refl)
 poison_as_actual : WritesConfig 12 number poisoning (record poisoning { actual = 261 }) 0 → ⊥
 unfolding lib.Count.ones
 poison_as_actual h = let e : Same 261 0 = ap (λ (d : Device). d.actual) (h.written refl).1 in omega arith
+
+-- a write of all 16 bytes writes both fields, and nothing else
+abbrev whole : List ℕ
+whole = 9 ∷ 9 ∷ 9 ∷ 9 ∷ 5 ∷ 1 ∷ 0 ∷ 0 ∷ 9 ∷ 9 ∷ 9 ∷ 9 ∷ 6 ∷ 1 ∷ 0 ∷ 0 ∷ []
+
+whole_written : WritesConfig 0 whole poisoning (record poisoning { actual = 261; poison = 262 }) 0
+unfolding lib.Count.ones
+whole_written = record { denied = λ e. absurd cc; written = λ e. (refl, refl) }
+
+whole_refused : (d : Device) → WritesConfig 0 whole ready d 7 → ⊥
+unfolding lib.Count.ones
+whole_refused d h = let e : Same 7 0 = (h.written refl).0 in omega arith
+
+num_pages_of_the_whole : WritesConfig 0 whole ready (record ready { actual = 261; target = 0x9090909 }) 0 → ⊥
+unfolding lib.Count.ones
+num_pages_of_the_whole h = let e : Same 0x9090909 0 = ap target_of (h.written refl).1 in omega arith
 
 -- ---- reports
 

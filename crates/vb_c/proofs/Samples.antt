@@ -32,6 +32,10 @@ abbrev pub two : List Region
 two = record { guest = 0; length = 0x15000; in_file = 0 }
     ∷ record { guest = 0x16000; length = 0xa000; in_file = 0x100000 } ∷ []
 
+-- the first of them without the other
+abbrev pub first_alone : List Region
+first_alone = record { guest = 0; length = 0x15000; in_file = 0 } ∷ []
+
 -- no region is half a page
 abbrev pub half : List Region
 half = record { guest = 0; length = 0x800; in_file = 0 } ∷ []

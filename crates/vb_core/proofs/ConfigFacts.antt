@@ -1,5 +1,6 @@
 -- The configuration space and PAGE_POISON, worked out.
-use Rattle.std.{proofs.Common.{◌≡◌, refl, true, false, [], ◌∷◌, map}, specs.Prelude.{Some, None}}
+use Rattle.std.proofs.Common.{◌≡◌, refl, ℕ, Bool, true, false, List, [], ◌∷◌, map, take, drop, replicate}
+use Rattle.std.specs.Prelude.{Some, None}
 use Rattle.vb_status.specs.declared.bits.StatusFault.TheVariants.{FeatureNotOffered, OutOfOrder}
 use Rattle.vb_core.specs.declared.{device.Device.Device, settings.TheConstants.PAGE_POISON}
 use Rattle.vb_core.{proofs.Examples.offering, specs.{Devices.new_device, Statuses.negotiate_denial}}
@@ -23,32 +24,61 @@ zeros_unless_offered : config_bytes other ≡
     2 ∷ 1 ∷ 0 ∷ 0 ∷ 1 ∷ 0 ∷ 0 ∷ 0 ∷ 0 ∷ 0 ∷ 0 ∷ 0 ∷ 0 ∷ 0 ∷ 0 ∷ 0 ∷ []
 zeros_unless_offered = refl
 
--- ---- writes: 4 bytes at 4 or, where it is offered, at 12
+-- ---- writes: the fields that the bytes cover whole, each beginning at an offset and having a length
 
-written : config_denies 4 4 poisons ∷ config_denies 12 4 poisons ∷ config_denies 4 4 other ∷ []
-    ≡ false ∷ false ∷ false ∷ []
-written = refl
+abbrev denied_of : Device → List (ℕ × ℕ) → List Bool
+denied_of d writes = map (λ w. config_denies w.0 w.1 d) writes
 
-denied_elsewhere : map (λ at. config_denies at 4 poisons) (0 ∷ 1 ∷ 3 ∷ 5 ∷ 8 ∷ 11
-    ∷ 13 ∷ 16 ∷ 4294967295 ∷ []) ≡ true ∷ true ∷ true ∷ true ∷ true ∷ true ∷ true ∷ true ∷ true ∷ []
-denied_elsewhere = refl
+-- actual or poison_val alone; both, as where the whole configuration is handed over; and with bytes round them
+taken : denied_of poisons ((4, 4) ∷ (12, 4) ∷ (0, 16) ∷ (4, 12) ∷ (0, 8) ∷ (3, 5) ∷ (4, 11) ∷ (5, 11) ∷ (8, 8)
+    ∷ (12, 5) ∷ (0, 17) ∷ (0, 100000) ∷ []) ≡ replicate 12 false
+taken = refl
 
-other_lengths_denied : map (λ len. config_denies 12 len poisons) (0 ∷ 1 ∷ 2 ∷ 3 ∷ 5 ∷ 8 ∷ [])
-    ≡ true ∷ true ∷ true ∷ true ∷ true ∷ true ∷ []
-other_lengths_denied = refl
+-- a field that is covered but for a byte isn't, nor are two halves of two
+halves_denied : denied_of poisons ((4, 3) ∷ (0, 7) ∷ (5, 3) ∷ (5, 4) ∷ (5, 10) ∷ (6, 8) ∷ (12, 3) ∷ (8, 7)
+    ∷ (13, 3) ∷ (13, 4) ∷ (13, 1000) ∷ []) ≡ replicate 11 true
+halves_denied = refl
 
-halves_of_actual_denied : map (λ len. config_denies 4 len poisons) (0 ∷ 2 ∷ 8 ∷ 12 ∷ [])
-    ≡ true ∷ true ∷ true ∷ true ∷ []
-halves_of_actual_denied = refl
+-- nor is num_pages, what is between the fields or past them, or nothing at all, at any offset
+others_denied : denied_of poisons ((0, 4) ∷ (8, 4) ∷ (16, 4) ∷ (16, 100000) ∷ (4294967292, 4) ∷ (4294967295, 16)
+    ∷ (4294967295, 9223372036854775807) ∷ (0, 0) ∷ (4, 0) ∷ (12, 0) ∷ []) ≡ replicate 10 true
+others_denied = refl
 
-denied_unless_offered : config_denies 12 4 other ≡ true
+-- poison_val isn't there unless it is offered
+denied_unless_offered : denied_of other ((12, 4) ∷ (5, 11) ∷ (8, 8) ∷ (12, 1000) ∷ []) ≡ replicate 4 true
 denied_unless_offered = refl
 
-actual_is : with_written 4 (2 ∷ 1 ∷ 0 ∷ 0 ∷ []) poisons ≡ record poisons { actual = 258 }
+actual_unless_offered : denied_of other ((4, 4) ∷ (0, 16) ∷ (4, 12) ∷ []) ≡ replicate 3 false
+actual_unless_offered = refl
+
+abbrev all_four : List ℕ
+all_four = 1 ∷ 2 ∷ 3 ∷ 4 ∷ 5 ∷ 6 ∷ 0 ∷ 0 ∷ 9 ∷ 10 ∷ 11 ∷ 12 ∷ 0xaa ∷ 0 ∷ 0 ∷ 1 ∷ 17 ∷ []
+
+both_written : with_written 0 all_four poisons ≡ record poisons { actual = 1541; poison = 0x10000aa }
+both_written = refl
+
+-- from within num_pages on, and from actual's end on
+both_from_three : with_written 3 (drop 3 all_four) poisons ≡ with_written 0 all_four poisons
+both_from_three = refl
+
+poison_from_eight : with_written 8 (drop 8 all_four) poisons ≡ record poisons { poison = 0x10000aa }
+poison_from_eight = refl
+
+actual_is : with_written 4 (2 ∷ 1 ∷ 0 ∷ 1 ∷ []) poisons ≡ record poisons { actual = 0x1000102 }
 actual_is = refl
 
 poison_is : with_written 12 (0xaa ∷ 0 ∷ 0 ∷ 1 ∷ []) poisons ≡ record poisons { poison = 0x10000aa }
 poison_is = refl
+
+-- half a field stays as it was, beside one that is written
+poison_half_covered : with_written 0 (take 15 all_four) poisons ≡ record poisons { actual = 1541 }
+poison_half_covered = refl
+
+actual_half_covered : with_written 5 (drop 5 all_four) poisons ≡ record poisons { poison = 0x10000aa }
+actual_half_covered = refl
+
+unless_offered : with_written 0 all_four other ≡ record other { actual = 1541 }
+unless_offered = refl
 
 -- ---- the feature
 

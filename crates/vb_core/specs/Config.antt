@@ -1,7 +1,9 @@
 -- The configuration space (VIRTIO 1.1, 5.5.4; poison_val: VIRTIO 1.2, 5.5.4).
-use Rattle.std.specs.Prelude.{ℕ, Bool, not, ◌==◌, ◌||◌, ◌&&◌, List, ◌++◌, if◌then◌else◌}
+use Rattle.std.specs.Prelude.{ℕ, ◌+◌, ◌-◌, Bool, not, ◌==◌, ◌&&◌, nat_le, List, ◌++◌, length}
+use Rattle.std.specs.Prelude.{take, drop, if◌then◌else◌}
 use Rattle.std.specs.Int.{w32, to_le_bytes, from_le_bytes}
 use Rattle.vb_core.specs.declared.device.Device.{Device}
+use Rattle.vb_core.specs.declared.config.TheConstants.{ACTUAL_AT, POISON_AT, FIELD_BYTES}
 use Rattle.vb_core.specs.Settings.{page_poison}
 
 -- What stands in poison_val: 0 where PAGE_POISON isn't offered.
@@ -14,19 +16,33 @@ config_bytes d =
     to_le_bytes w32 d.target ++ to_le_bytes w32 d.actual
     ++ to_le_bytes w32 0 ++ to_le_bytes w32 (shown_poison d)
 
--- A field that a driver may write begins here: actual, and poison_val where PAGE_POISON is offered.
-abbrev pub is_written_at : ℕ → Device → Bool
-is_written_at offset d = (offset == 4) || (offset == 12) && page_poison d.settings.offered
+-- So many bytes from an offset on cover the field that begins there whole.
+abbrev pub covers : ℕ → ℕ → ℕ → Bool
+covers offset len field = nat_le offset field && nat_le (field + FIELD_BYTES) (offset + len)
 
--- A write at this offset of so many bytes isn't one of such a field.
+-- A write of so many bytes at this offset writes poison_val, as one does that covers it where
+-- PAGE_POISON is offered.
+abbrev pub takes_poison : ℕ → ℕ → Device → Bool
+takes_poison offset len d = page_poison d.settings.offered && covers offset len POISON_AT
+
+-- It covers no field that a driver may write.
 abbrev pub config_denies : ℕ → ℕ → Device → Bool
-config_denies offset len d = not (is_written_at offset d) || not (len == 4)
+config_denies offset len d = not (covers offset len ACTUAL_AT) && not (takes_poison offset len d)
 
--- The device with these bytes in the field that begins here.
+-- The number that 4 of these bytes are, after so many.
+abbrev pub word_from : List ℕ → ℕ → ℕ
+word_from bytes skipped = from_le_bytes w32 (take FIELD_BYTES (drop skipped bytes))
+
+-- The device with the fields written that these bytes at this offset cover, and no other changed.
 abbrev pub with_written : ℕ → List ℕ → Device → Device
-with_written offset bytes d =
-    if offset == 4 then record d { actual = from_le_bytes w32 bytes }
-    else record d { poison = from_le_bytes w32 bytes }
+with_written offset bytes d = record d {
+  actual =
+      if covers offset (length bytes) ACTUAL_AT then word_from bytes (ACTUAL_AT - offset)
+      else d.actual;
+  poison =
+      if takes_poison offset (length bytes) d then word_from bytes (POISON_AT - offset)
+      else d.poison;
+}
 
 -- The pages of a report keep what is in them: the driver negotiated PAGE_POISON, and its free pages
 -- hold something else than zeros (VIRTIO 1.2, 5.5.4).

@@ -1,19 +1,40 @@
 //! The configuration space (VIRTIO 1.1, 5.5.4): `num_pages`, `actual` and `poison_val`,
 //! little-endian.
 
-ghost use Rattle.std.specs.Prelude.{◌≡◌, ℕ, ◌+◌, ◌<◌, true, false, Ok, Err, length, slice_index};
+ghost use Rattle.std.specs.Prelude.{◌≡◌, ℕ, ◌+◌, ◌≤◌, ◌<◌, true, false, Ok, Err, length};
+ghost use Rattle.std.specs.Prelude.{slice_index};
 ghost use Rattle.vb_core.specs.declared.device.Denial.{Denial};
-ghost use Rattle.vb_core.specs.Config.{shown_poison, config_bytes, is_written_at, config_denies};
-ghost use Rattle.vb_core.specs.Config.{with_written, keeps_reports};
+ghost use Rattle.vb_core.specs.Config.{shown_poison, config_bytes, covers, word_from};
+ghost use Rattle.vb_core.specs.Config.{takes_poison, config_denies, with_written, keeps_reports};
 
 use crate::settings::has_page_poison;
 use crate::{Denial, Device};
 
-/// Where `actual` stands.
+/// Where `actual` is.
 const ACTUAL_AT: u32 = 4;
 
-/// Where `poison_val` stands (VIRTIO 1.2, 5.5.4).
+/// Where `poison_val` is (VIRTIO 1.2, 5.5.4).
 const POISON_AT: u32 = 12;
+
+/// How many bytes a field has.
+const FIELD_BYTES: usize = 4;
+
+/// Whether `length` bytes from an offset on cover the field at `field` whole.
+fn covers(offset: u32, length: usize, field: u32) -> bool
+    ensures { result ≡ covers offset length field }
+{
+    offset <= field && (field - offset) as usize + FIELD_BYTES <= length
+}
+
+/// The number that 4 of these bytes are, after so many.
+fn word_from(bytes: &[u8], skipped: usize) -> u32
+    requires { skipped + FIELD_BYTES ≤ length bytes.now }
+    ensures { result ≡ word_from bytes.now skipped }
+{
+    let mut word = [0; FIELD_BYTES];
+    word.copy_from_slice(&bytes[skipped..skipped + FIELD_BYTES]);
+    u32::from_le_bytes(word)
+}
 
 impl Device {
     /// What stands in `poison_val`.
@@ -54,32 +75,35 @@ impl Device {
         }
     }
 
-    /// Whether a field that the driver may write begins at an offset.
-    fn is_written_at(&self, offset: u32) -> bool
-        ensures { result ≡ is_written_at offset self.now }
+    /// Whether a write of `length` bytes at an offset writes `poison_val`.
+    fn takes_poison(&self, offset: u32, length: usize) -> bool
+        ensures { result ≡ takes_poison offset length self.now }
     {
-        offset == ACTUAL_AT || offset == POISON_AT && has_page_poison(self.settings.offered)
+        has_page_poison(self.settings.offered) && covers(offset, length, POISON_AT)
     }
 
-    /// The driver writes to the configuration space: `actual`, whose 4 bytes stand from 4 on, or
-    /// `poison_val`, whose 4 bytes stand from 12 on, where PAGE_POISON is offered (VIRTIO 1.2,
-    /// 5.5.4). Any other write is refused with `BadArgument`, and changes nothing.
+    /// The driver writes to the configuration space, as many bytes as it likes: `actual` from 4 on,
+    /// and `poison_val` from 12 on where PAGE_POISON is offered (VIRTIO 1.2, 5.5.4), are written
+    /// where these bytes cover all 4 of the field's. All other bytes are ignored: a device may be
+    /// handed its whole configuration for each field that the driver writes.
+    ///
+    /// Refused with `BadArgument`, and nothing is changed, where neither field is covered.
     pub fn write_config(&mut self, offset: u32, bytes: &[u8]) -> Result<(), Denial>
         ensures denied { config_denies offset (length bytes.now) self.old ≡ true →
             (result ≡ Err Denial.BadArgument) × (self.new ≡ self.old) }
         ensures written { config_denies offset (length bytes.now) self.old ≡ false →
             (result ≡ Ok tt) × (self.new ≡ with_written offset bytes.now self.old) }
     {
-        if !self.is_written_at(offset) || bytes.len() != 4 {
+        let takes_actual = covers(offset, bytes.len(), ACTUAL_AT);
+        let takes_poison = self.takes_poison(offset, bytes.len());
+        if !takes_actual && !takes_poison {
             return Err(Denial::BadArgument);
         }
-        let mut word = [0; 4];
-        word.copy_from_slice(bytes);
-        let number = u32::from_le_bytes(word);
-        if offset == ACTUAL_AT {
-            self.actual = number;
-        } else {
-            self.poison = number;
+        if takes_actual {
+            self.actual = word_from(bytes, (ACTUAL_AT - offset) as usize);
+        }
+        if takes_poison {
+            self.poison = word_from(bytes, (POISON_AT - offset) as usize);
         }
         Ok(())
     }

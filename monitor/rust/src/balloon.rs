@@ -210,10 +210,11 @@ impl Balloon {
         unsafe { raw::vb_read_config(&self.state.0.device, offset, out.as_mut_ptr(), out.len()) }
     }
 
-    /// The driver writes its configuration space.
+    /// The driver writes its configuration space: those of `actual`, and of `poison_val` where it is offered, are written that the
+    /// bytes cover whole. All other bytes are ignored.
     ///
     /// # Errors
-    /// `BadArgument` but for the 4 bytes of `actual`, or of `poison_val` where it is offered; nothing is changed.
+    /// `BadArgument` where they cover neither; nothing is changed.
     pub fn write_config(&mut self, offset: u32, bytes: &[u8]) -> Result<(), Refusal> {
         // SAFETY: the pointers are of a `&mut` and of a slice with its length.
         match unsafe { raw::vb_write_config(&mut self.state.0.device, offset, bytes.as_ptr(), bytes.len()) } {

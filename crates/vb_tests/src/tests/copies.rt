@@ -416,7 +416,7 @@ fn must_tell_is_asked_for(rt: HostRuntime) {
 fn the_configuration_is_two_words(rt: HostRuntime) {
     let mut device = Device::new(SETTINGS);
     device.set_target(0x0102_0304);
-    let written = device.write_config(4, &[5, 6, 7, 8]);
+    let written = device.write_config(2, &[9, 9, 5, 6, 7, 8, 9]);
     assert!(rt; written.is_ok());
     let mut bytes = [9; 7];
     device.read_config(3, &mut bytes);

@@ -98,7 +98,9 @@ fn configuration_and_places() {
     let mut out = [9; 12];
     balloon.read_config(0, &mut out);
     assert_eq!(out, [1, 2, 0, 0, 1, 2, 0, 0, 0, 0, 0, 0]);
-    assert_eq!(balloon.write_config(0, &[0; 4]), Err(Refusal::BadArgument));
+    assert_eq!(balloon.write_config(0, &[0; 7]), Err(Refusal::BadArgument));
+    balloon.write_config(0, &[9, 9, 9, 9, 3, 0, 0, 0, 9, 9, 9, 9, 9, 9, 9, 9]).expect("actual, as QEMU writes it");
+    assert_eq!((balloon.actual(), balloon.keeps_reports()), (3, false));
     let place =
         |balloon: &mut Balloon, table, size| balloon.place(&guest.memory, Kind::Inflate, table, 0x2000, 0x3000, size);
     assert_eq!(place(&mut balloon, 9 << 20, 8), Err(Refusal::Misplaced));
