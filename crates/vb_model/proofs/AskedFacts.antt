@@ -165,12 +165,42 @@ reaps_another r =
     { deflate = record { posted = request_16 ∷ []; taken = []; done = r ∷ [] } }
     ∷ asked FreePlace ready ∷ handed_out ready ∷ [])
 
+-- or reaped one of the same head and page once the page was lent, but before this one was posted
+abbrev reaped_before_posted : Course
+reaped_before_posted = offering ready (made (Reap 0) (Reaped 0 1) ∷ made (Reap 1) (Reaped 0 1)
+    ∷ made (Deflate 1) (Posted 0 1) ∷ made (Alloc 0 0) (Page 16) ∷ []) (giving ready
+    ∷ coming_back Lent ready ∷ lent ready ∷ asked Taking ready ∷ handed_out ready ∷ [])
+
+-- or agreed to tell the host between the reap of the inflate and the posting of the deflate
+abbrev agreed_between : Course
+agreed_between = offering untold
+    (made (Reap 0) (Reaped 0 1) ∷ made (Deflate 1) (Posted 0 1) ∷ made (Alloc 0 0) (Page 16) ∷ [])
+    (giving untold ∷ lent ready ∷ asked Taking ready ∷ handed_out ready ∷ [])
+
 told_but_not_back : NoneOf IsAskedBack ((too_early, (0, 4)) ∷ (handed_out_next (Deflate 1), (0, 3))
-    ∷ (reaped_behind, (0, 3))
+    ∷ (reaped_behind, (0, 3)) ∷ (reaped_before_posted, (0, 4)) ∷ (agreed_between, (0, 3))
     -- another head, or other pages
     ∷ (reaps_another (request 1 (16 ∷ []) 0), (0, 4))
     ∷ (reaps_another (request 0 (16 ∷ 17 ∷ []) 0), (0, 4)) ∷ [])
 told_but_not_back = none_asked _ refl
+
+-- one that told the host when the inflate was reaped, and not when the deflate was posted
+abbrev tells_no_longer : Course
+tells_no_longer = offering ready
+    (made (Reap 0) (Reaped 0 1) ∷ made (Deflate 1) (Posted 0 1) ∷ made (Alloc 0 0) (Page 16) ∷ [])
+    (giving ready ∷ lent untold ∷ asked FreePlace untold ∷ handed_out untold ∷ [])
+
+untold_when_posted : WasAskedBack tells_no_longer 16 0 3
+untold_when_posted = record {
+  lent = 1;
+  asked = 2;
+  since = omega arith;
+  later = omega arith;
+  before = omega arith;
+  inflate = reaps Inflating tells_no_longer 1 (giving ready) (Processor 0 0) refl refl refl;
+  deflate = asks tells_no_longer untold FreePlace (Deflate 1) refl refl refl refl refl;
+  told = λ tells. absurd (let e : false ≡ true = tells in cc);
+}
 
 posted_by_an_inflate : DeflatePostedAt (handed_out_next (Inflate 1)) 16 2 → ⊥
 posted_by_an_inflate = not_posted (handed_out_next (Inflate 1)) 16 2 refl

@@ -2,7 +2,7 @@
 use Rattle.std.proofs.Common.{List, [], ap, arith, refl, replicate, subst, suc, zero, ℕ, ◌++◌, ◌<◌}
 use Rattle.std.proofs.Common.{◌∷◌, ◌≡◌}
 use Rattle.std.specs.Prelude.{None, Option, Some, drop, slice_index_or}
-use Rattle.vb_model.proofs.{Changes.{same_some}, Samples.{down, ready}}
+use Rattle.vb_model.proofs.{Changes.{same_some}, Samples.{differ, down, ready}}
 use Rattle.vb_model.specs.{Guest.{Guest, frame_of, zero_page}, HostFrames.{Gives, IsOut}}
 use Rattle.vb_model.specs.{HostEvents.{Happens, PlugsIn, WorldStep}, Step.{Does, HonestStep}}
 use Rattle.vb_model.specs.World.{World, guest_at}
@@ -27,13 +27,16 @@ abbrev writer : Guest
 writer = record ready
     { places = replicate 16 Reserved ++ (Used ∷ []); frames = replicate 17 none }
 
-abbrev world : ℕ → Guest → World
-world frames second = record {
+abbrev beside : Guest → ℕ → Guest → World
+beside first frames second = record {
   frames = frames;
-  guests = Some holding ∷ Some second ∷ [];
+  guests = Some first ∷ Some second ∷ [];
   spares = [];
   vacated = None;
 }
+
+abbrev world : ℕ → Guest → World
+world frames second = beside holding frames second
 
 abbrev Out : ℕ → ℕ → Type 0
 Out frames frame = IsOut (world frames writer) frame
@@ -61,8 +64,8 @@ not_frame_1 frames out = grind (arith, of_0_or_2, none_there)
 abbrev writing : Event
 writing = OnGuest 1 (Write 16 0 (7 ∷ []))
 
-abbrev with_frame : ℕ → Guest
-with_frame frame = record writer {
+abbrev backed_by : ℕ → Guest
+backed_by frame = record writer {
   frames = replicate 16 None ++ (Some frame ∷ []);
   contents = replicate 16 zero_page ++ ((7 ∷ drop 1 zero_page) ∷ replicate 47 zero_page);
 }
@@ -71,10 +74,10 @@ below_1 : (frames x : ℕ) → x < 1 → Out frames x
 below_1 frames zero l = (frames_0_and_2 frames).0
 below_1 frames (suc x) l = absurd (omega (arith, l))
 
-with_frame_1 : WorldStep (world 4 writer) writing Done (world 4 (with_frame 1))
+with_frame_1 : WorldStep (world 4 writer) writing Done (world 4 (backed_by 1))
 with_frame_1 = (
   Gave 1 ∷ [],
-  with_frame 1,
+  backed_by 1,
   (omega arith, not_frame_1 4, below_1 4, tt),
   (refl, (refl, refl)),
   refl,
@@ -92,26 +95,48 @@ its_claim (GaveNoFrame ∷ claims) after frame s e =
 its_claim (GaveNoMemory ∷ claims) after frame s e =
     absurd (let t : Done ≡ Refused NoMemory = s.1.0 in cc)
 
-abbrev IsGivenTo : (frames : ℕ) → Guest → ℕ → Type 0
-IsGivenTo frames new frame = WorldStep (world frames writer) writing Done (world frames new)
+abbrev IsGivenTo : Guest → ℕ → Guest → ℕ → Type 0
+IsGivenTo first frames new frame =
+    WorldStep (beside first frames writer) writing Done (beside first frames new)
     × (frame_of new.frames 16 ≡ Some frame)
 
-given : (frames frame : ℕ) (new : Guest) → IsGivenTo frames new frame
-    → Gives frames (Out frames) (Gave frame ∷ [])
-given frames frame new ((claims, after, gives, step, same), has) =
+given : (first : Guest) (frames frame : ℕ) (new : Guest) → IsGivenTo first frames new frame
+    → Gives frames (IsOut (beside first frames writer)) (Gave frame ∷ [])
+given first frames frame new ((claims, after, gives, step, same), has) =
     let e : new ≡ after =
     same_some new after (ap (λ (w : World). guest_at w.guests 1) same) in
-    subst (Gives frames (Out frames)) (its_claim claims after frame step
+    subst (Gives frames (IsOut (beside first frames writer))) (its_claim claims after frame step
     (subst (λ (g : Guest). frame_of g.frames 16 ≡ Some frame) e has)) gives
 
 -- not with one that is out, one past the last, or one above another that isn't out
-not_given : (new : Guest) → (IsGivenTo 4 new 0 → ⊥) × (IsGivenTo 4 new 2 → ⊥)
-    × (IsGivenTo 1 new 1 → ⊥) × (IsGivenTo 4 new 3 → ⊥)
+not_given : (new : Guest) → (IsGivenTo holding 4 new 0 → ⊥) × (IsGivenTo holding 4 new 2 → ⊥)
+    × (IsGivenTo holding 1 new 1 → ⊥) × (IsGivenTo holding 4 new 3 → ⊥)
 not_given new = (
-  λ is. (given 4 0 new is).1 (frames_0_and_2 4).0,
-  λ is. (given 4 2 new is).1 (frames_0_and_2 4).1,
-  λ is. omega (arith, (given 1 1 new is).0),
-  λ is. not_frame_1 4 ((given 4 3 new is).2 1 (omega arith)),
+  λ is. (given holding 4 0 new is).1 (frames_0_and_2 4).0,
+  λ is. (given holding 4 2 new is).1 (frames_0_and_2 4).1,
+  λ is. omega (arith, (given holding 1 1 new is).0),
+  λ is. not_frame_1 4 ((given holding 4 3 new is).2 1 (omega arith)),
+)
+
+-- where the two lowest that aren't out are neighbours, not with the second of them: frames 1 and 2,
+-- or 0 and 1
+abbrev with_one_frame : ℕ → Guest
+with_one_frame frame = record down { frames = Some frame ∷ [] }
+
+its_only_frame : (its page frame : ℕ) → frame_of (with_one_frame its).frames page ≡ Some frame
+    → frame ≡ its
+its_only_frame its zero frame e = grind arith
+its_only_frame its (suc page) frame e = absurd (grind arith)
+
+no_other_is_out : (its other : ℕ) → (other ≡ its → ⊥)
+    → IsOut (beside (with_one_frame its) 4 writer) other → ⊥
+no_other_is_out its other ne out = grind (arith, its_only_frame, none_there)
+
+not_the_second_of_two : (new : Guest) → (IsGivenTo (with_one_frame 0) 4 new 2 → ⊥)
+    × (IsGivenTo (with_one_frame 3) 4 new 1 → ⊥)
+not_the_second_of_two new = (
+  λ is. no_other_is_out 0 1 (λ e. differ 1 0 refl e) ((given (with_one_frame 0) 4 2 new is).2 1 (omega arith)),
+  λ is. no_other_is_out 3 0 (λ e. differ 0 3 refl e) ((given (with_one_frame 3) 4 1 new is).2 0 (omega arith)),
 )
 
 -- want of a frame is no answer while one isn't out

@@ -143,13 +143,13 @@ frame_of_a_large_guest_lost s = let e : SameFrame None (Some 5) =
 
 -- ---- a page reads otherwise, with no write of the guest's own to that page, and its frame stays
 
-abbrev one_byte : ℕ → List ℕ
+abbrev pub one_byte : ℕ → List ℕ
 one_byte byte = byte ∷ []
 
-abbrev SameBytes : List ℕ → List ℕ → Type 0
+abbrev pub SameBytes : List ℕ → List ℕ → Type 0
 SameBytes a b = a ≡ b
 
-abbrev with_byte : Place → Option ℕ → ℕ → Guest
+abbrev pub with_byte : Place → Option ℕ → ℕ → Guest
 with_byte place frame byte = record (used_with frame (one_byte byte) ready)
     { places = (place_16 place).places }
 

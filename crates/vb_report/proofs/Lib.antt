@@ -5,3 +5,4 @@ pub mod Filtering
 pub mod Choosing
 pub mod Taking
 mod BlockFacts
+mod ChoiceFacts

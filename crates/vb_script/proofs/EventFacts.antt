@@ -1,7 +1,7 @@
 -- What each line of a script says, and which lines are bad, worked out.
 use Rattle.std.proofs.Common.{◌≡◌, ℕ, true, false, List, [], ◌∷◌, Some, None, Ok, Err, codes, refl}
 use Rattle.std.proofs.Common.{map, length}
-use Rattle.{std.specs.Prelude.Option, vb_script.specs.Values.{features_of, bytes_of, positive_of}}
+use Rattle.{std.specs.Prelude.{Option, replicate}, vb_script.specs.Values.{features_of, bytes_of, positive_of}}
 use Rattle.vb_script.specs.Values.{value_in}
 use Rattle.{hex.specs.Hex.{decode_pairs, decode_of}, vb_model.specs.declared.places.Place.TheVariants.Stranded}
 use Rattle.vb_model.specs.declared.calls.Call.TheVariants.{Init, Reset, Alloc}
@@ -60,6 +60,32 @@ bad : map says (codes "peek 3" ∷ codes "Unplug 3" ∷ codes "unplug 3 1" ∷ c
 unfolding form_of number_of positive_of bytes_of features_of pages_query_of decode_pairs
 bad = refl
 
+-- a word too many of each form, and one too few
+word_too_many : map says (codes "frames 3" ∷ codes "init 3 0000000100000001 1" ∷ codes "pages 3 free 1"
+    ∷ codes "inflate 3 7 1" ∷ codes "alloc 3 1 2 1" ∷ codes "free 3 1 20 2 1" ∷ codes "read 3 20 5 1 1"
+    ∷ codes "write 3 20 5 aB aB" ∷ []) ≡ replicate 8 None
+unfolding form_of number_of features_of bytes_of pages_query_of decode_pairs
+word_too_many = refl
+
+word_too_few : map says (codes "init" ∷ codes "pages" ∷ codes "pages 3" ∷ codes "inflate 3"
+    ∷ codes "alloc 3 1" ∷ codes "free 3 1 20" ∷ codes "read 3 20 5" ∷ codes "write 3 20 5" ∷ [])
+    ≡ replicate 8 None
+unfolding form_of number_of
+word_too_few = refl
+
+-- a space before the first word
+space_first : (says (codes " unplug 3") ≡ None) × (host_of (words_of (codes " host 8")) ≡ None)
+unfolding form_of number_of
+space_first = (refl, refl)
+
+-- each number may be 0, but for how many bytes are read
+zeros : map says (codes "unplug 0" ∷ codes "inflate 0 0" ∷ codes "alloc 0 0 0" ∷ codes "free 0 0 0 0"
+    ∷ codes "read 0 0 0 1" ∷ codes "write 0 0 0 00" ∷ [])
+    ≡ Some (Unplug 0) ∷ Some (Guest 0 (Inflate 0)) ∷ Some (Guest 0 (Alloc 0 0)) ∷ Some (Guest 0 (Free 0 0 0))
+    ∷ Some (Guest 0 (Read 0 0 1)) ∷ Some (Guest 0 (Write 0 0 (0 ∷ []))) ∷ []
+unfolding form_of number_of positive_of bytes_of decode_pairs
+zeros = refl
+
 numbers : map number_of (codes "0" ∷ codes "007" ∷ codes "4294967295" ∷ codes "" ∷ codes "1e3"
     ∷ codes "1/" ∷ codes ":1" ∷ [])
     ≡ Some 0 ∷ Some 7 ∷ Some 4294967295 ∷ None ∷ None ∷ None ∷ None ∷ []
@@ -73,8 +99,8 @@ unfolding number_of
 hosts = refl
 
 spares : map (λ line. spare_of (words_of line)) (codes "spare immediate" ∷ codes "spare paced"
-    ∷ codes "frames" ∷ codes "spare slow" ∷ codes "spare" ∷ [])
-    ≡ Ok (Some Immediate) ∷ Ok (Some Paced) ∷ Ok None ∷ Err Bad ∷ Err Bad ∷ []
+    ∷ codes "frames" ∷ codes "spare slow" ∷ codes "spare" ∷ codes "spare paced paced" ∷ [])
+    ≡ Ok (Some Immediate) ∷ Ok (Some Paced) ∷ Ok None ∷ Err Bad ∷ Err Bad ∷ Err Bad ∷ []
 unfolding pace_of
 spares = refl
 

@@ -1,7 +1,8 @@
 -- What lines of a script for guests on threads say, and what they make together, worked out.
-use Rattle.std.proofs.Common.{◌≡◌, List, [], ◌∷◌, Some, None, codes, refl}
+use Rattle.std.proofs.Common.{◌≡◌, List, [], ◌∷◌, Some, None, codes, map, refl}
+use Rattle.std.specs.Prelude.{Option, replicate}
 use Rattle.vb_model.specs.declared.calls.Call.TheVariants.{Alloc, Inflate, Reap, Stats}
-use Rattle.vb_script.{specs.declared.lines.Pace.TheVariants.{Immediate, Paced}, specs.Plans.plan_of}
+use Rattle.vb_script.{specs.declared.lines.Pace.TheVariants.{Immediate, Paced}, specs.Plans.{Made, Plan, calls_in, plan_of}}
 use Rattle.vb_script.{specs.declared.threads.ThreadsLine.ThreadsLine, specs.Threads.threads}
 use Rattle.vb_script.specs.declared.threads.ThreadsLine.TheVariants.{Plug, Rounds, Cpu, Call}
 use Rattle.vb_script.{specs.Names.{form_of, threads_form_of}, specs.Words.{number_of, words_of}}
@@ -49,6 +50,16 @@ call_names_another_processor :
 unfolding threads_form_of form_of number_of
 call_names_another_processor = refl
 
+call_first : threads [] (words_of (codes "stats 0")) ≡ Some (Call 0 Stats)
+unfolding threads_form_of form_of number_of
+call_first = refl
+
+-- a word too many, and none
+other_words : map (λ line. threads [] (words_of line)) (codes "rounds 16 3 1" ∷ codes "rounds 16"
+    ∷ codes "cpu 1 1" ∷ codes "cpu" ∷ codes "plug 64 8 1 1" ∷ []) ≡ replicate 5 None
+unfolding threads_form_of form_of number_of
+other_words = refl
+
 -- no line of a device, no reset
 no_take : threads (Plug 64 8 1 ∷ []) (words_of (codes "take 0 0")) ≡ None
 unfolding threads_form_of form_of number_of
@@ -86,6 +97,25 @@ a_plan :
     })
 unfolding plan_of
 a_plan = refl
+
+-- a processor is chosen for all calls up to the next choice, of whichever guest
+abbrev chosen_once : List ThreadsLine
+chosen_once = Cpu 1 ∷ Call 0 Stats ∷ Call 0 (Reap 0) ∷ Call 1 Stats ∷ Call 0 (Inflate 4) ∷ []
+
+chosen_for_all : map (λ (m : Made). m.cpu) (calls_in chosen_once) ∷ map (λ (m : Made). m.guest) (calls_in chosen_once) ∷ []
+    ≡ (1 ∷ 1 ∷ 1 ∷ 1 ∷ []) ∷ (0 ∷ 0 ∷ 1 ∷ 0 ∷ []) ∷ []
+chosen_for_all = refl
+
+-- each guest has at most four processors, and each call is by one that is there
+abbrev plan_behind_one : List ThreadsLine → Option Plan
+plan_behind_one lines =
+    plan_of (record { frames = 64; spares = Paced ∷ Paced ∷ Paced ∷ []; events = Plug 64 8 1 ∷ lines })
+
+each_of_them : map plan_behind_one ((Plug 64 8 5 ∷ []) ∷ (Call 0 Stats ∷ Call 1 Stats ∷ [])
+    ∷ (Call 1 Stats ∷ Call 0 Stats ∷ []) ∷ (Call 0 Stats ∷ Cpu 1 ∷ Call 0 Stats ∷ []) ∷ [])
+    ≡ replicate 4 None
+unfolding plan_of
+each_of_them = refl
 
 -- without a line there are no rounds
 no_rounds : plan_of (record { frames = 64; spares = Paced ∷ []; events = Plug 64 8 1 ∷ [] })
