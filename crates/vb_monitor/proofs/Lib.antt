@@ -5,7 +5,7 @@ pub mod PartLemmas
 pub mod BufferLemmas
 pub mod NextLemmas
 pub mod UsualLemmas
-pub mod GoesLemmas
+pub mod StepLemmas
 pub mod LeftLemmas
 pub mod OrderLemmas
 pub mod TableRowLemmas

@@ -1,5 +1,5 @@
 -- What each phase of a notice does, comes to, and leaves, worked out.
-use Rattle.std.proofs.Common.{◌≡◌, refl, ap, arith, ℕ, ◌+◌, ◌*◌, ◌≤◌, true, false, List, [], ◌∷◌, map, length, Option, Some, None}
+use Rattle.std.proofs.Common.{◌≡◌, ◌∙◌, ◌++◌, refl, ap, arith, ℕ, ◌+◌, ◌*◌, ◌≤◌, true, false, List, [], ◌∷◌, map, length, Option, Some, None}
 use Rattle.vb_chain.specs.declared.pieces.Piece.{Piece}
 use Rattle.vb_core.specs.declared.{kinds.Kind.TheVariants.{Inflate, Deflate}, runs.Run.Run}
 use Rattle.vb_core.specs.declared.{name.Named.Named, device.Denial.TheVariants.NotReady}
@@ -13,8 +13,8 @@ use Rattle.vb_monitor.specs.declared.step.Discarding.{Discarding}
 use Rattle.vb_monitor.specs.declared.step.Phase.{Phase}
 use Rattle.vb_monitor.specs.declared.step.Phase.TheVariants.{AwaitsIndex, AwaitsEntry, AwaitsDescriptor, AwaitsPart}
 use Rattle.vb_monitor.specs.declared.step.Phase.TheVariants.{TellsPages, TellsFigures, Discards, GivesBack, AwaitsFlags, Ended}
-use Rattle.vb_monitor.specs.Accesses.{Access, Adds, ReadWord, CopyBytes, Acquire, Release, Full, TellPages, TellFigures}
-use Rattle.vb_monitor.specs.Machine.{Room, room_of, behind_part, cuts_behind, is_ended, stage, waits, outcome_at, Fits, Does, Goes}
+use Rattle.vb_monitor.specs.Accesses.{Access, Steps, Makes, ReadWord, CopyBytes, Acquire, Release, Full, TellPages, TellFigures}
+use Rattle.vb_monitor.specs.Machine.{Room, room_of, behind_part, cuts_behind, is_ended, stage, waits, outcome_at, Fits, Does, GoesOn}
 use Rattle.vb_monitor.specs.{declared.cuts.NextCut.NextCut, Orders.cuts_left}
 use Rattle.vb_monitor.specs.Left.{parts_left, of_chains, left_of, left}
 use Rattle.vb_monitor.proofs.Samples.{Same, two, at, tally, ring, page_5, one_page, over_the_hole, cut_5, cut_20, cut_22, last_descriptor, number, index, entry, discard, id, used_length, used_index, flags}
@@ -296,18 +296,33 @@ on_others : Does (AwaitsPart (at 0x400) (record place { into = 1; length = 1 }))
     (CopyBytes (at 0x400) (5 ∷ []) ∷ []) → ⊥
 on_others h = let e : Same 9 8 = ap head_of h.behind in omega arith
 
--- ---- what was added to a log
+-- ---- steps from one memory to another
 
--- whatever may come behind the index, the whole may come where the index was to be read
+-- a memory that is its log: an access makes of a log the one that has the access at its end
+abbrev logs : List Access → Access → List Access → Type 0
+logs old access new = new ≡ old ++ access ∷ []
+
+-- whatever may follow the index, the whole may come where the index was to be read
 abbrev From : List Access → Type 0
 From log = log ≡ index ∷ Acquire ∷ []
 
-adds : Adds (flags ∷ []) (flags ∷ index ∷ []) (λ added. added ≡ index ∷ [])
-adds = record { added = index ∷ []; whole = refl; is = refl }
+steps : Steps logs (flags ∷ []) (index ∷ Acquire ∷ []) (flags ∷ index ∷ Acquire ∷ [])
+steps = (flags ∷ index ∷ [], refl, (flags ∷ index ∷ Acquire ∷ [], refl, refl))
 
-goes : Goes (flags ∷ []) (flags ∷ index ∷ []) (λ d o log. From log) (λ d o log. log ≡ Acquire ∷ [])
-goes = record { added = index ∷ []; whole = refl; is = λ d o rest e. ap (λ (xs : List Access). index ∷ xs) e }
+makes : Makes logs (flags ∷ []) (flags ∷ index ∷ []) (λ log. log ≡ index ∷ [])
+makes = record { log = index ∷ []; steps = (flags ∷ index ∷ [], refl, refl); is = refl }
 
--- what stood in the log stays
-rewritten : Adds (flags ∷ []) (index ∷ []) (λ added. Unit {0}) → ⊥
-rewritten h = let e : Same 1 0 = ap answer_of h.whole in omega arith
+goes : GoesOn logs (flags ∷ []) (flags ∷ index ∷ []) (λ d o log. From log) (λ d o log. log ≡ Acquire ∷ [])
+goes = record {
+  log = index ∷ [];
+  steps = (flags ∷ index ∷ [], refl, refl);
+  is = λ d o rest e. ap (λ (xs : List Access). index ∷ xs) e;
+}
+
+-- no access makes no step
+no_step : Steps logs (flags ∷ []) [] (flags ∷ index ∷ []) → ⊥
+no_step h = let e : Same 2 1 = ap (λ (xs : List Access). length xs) h in omega arith
+
+-- a step is the access that was made
+another : Steps logs (flags ∷ []) (index ∷ []) (index ∷ index ∷ []) → ⊥
+another (next, step, last) = let e : Same 1 0 = ap answer_of (last ∙ step) in omega arith

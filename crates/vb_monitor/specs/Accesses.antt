@@ -1,5 +1,5 @@
 -- What is asked of a running guest's memory, and of who watches it, with what was answered.
-use Rattle.std.specs.Prelude.{◌≡◌, ℕ, List, ◌++◌}
+use Rattle.std.specs.Prelude.{◌≡◌, ℕ, List, [], ◌∷◌}
 use Rattle.vb_core.specs.declared.kinds.Kind.{Kind}
 use Rattle.vb_core.specs.declared.runs.Run.{Run}
 use Rattle.vb_core.specs.declared.name.Named.{Named}
@@ -21,8 +21,14 @@ pub data Access : Type 0 where
   WriteNumber : (at : Spot) (number : ℕ) → Access
   WriteWord : (at : Spot) (word : ℕ) → Access
 
--- To a log, accesses were added at its end, and of these a fact holds.
-pub record Adds (old new : List Access) (fact : List Access → Type 0) : Type 0 where
-  pub added : List Access
-  pub whole : new ≡ old ++ added
-  pub is : fact added
+-- These accesses, in this order, make one memory of another, where `goes` says what each one may make.
+abbrev pub Steps : {S : Type 0} → (S → Access → S → Type 0) → S → List Access → S → Type 0
+Steps {S} goes old [] new = new ≡ old
+Steps {S} goes old (x ∷ xs) new = (next : S) × goes old x next × Steps goes next xs new
+
+-- There are accesses that make one memory of another, and of these a fact holds.
+pub record Makes {S : Type 0} (goes : S → Access → S → Type 0) (old new : S)
+    (fact : List Access → Type 0) : Type 0 where
+  pub log : List Access
+  pub steps : Steps goes old log new
+  pub is : fact log

@@ -24,7 +24,7 @@ use Rattle.vb_monitor.specs.declared.step.Phase.TheVariants.{AwaitsIndex, Awaits
 use Rattle.vb_monitor.specs.declared.step.Phase.TheVariants.{AwaitsDescriptor, AwaitsPart}
 use Rattle.vb_monitor.specs.declared.step.Phase.TheVariants.{TellsPages, TellsFigures, Discards}
 use Rattle.vb_monitor.specs.declared.step.Phase.TheVariants.{GivesBack, AwaitsFlags, Ended}
-use Rattle.vb_monitor.specs.Accesses.{Access, Adds, ReadWord, CopyBytes, Acquire, Full}
+use Rattle.vb_monitor.specs.Accesses.{Access, Makes, ReadWord, CopyBytes, Acquire, Full}
 use Rattle.vb_monitor.specs.Accesses.{TellPages as ToldPages, TellFigures as ToldFigures}
 use Rattle.vb_monitor.specs.Accesses.{Discard}
 use Rattle.vb_monitor.specs.Regions.{cuts_from, cuts_of}
@@ -244,10 +244,10 @@ abbrev pub Awaited : Phase → Kind → ℕ → List ℕ → Room → List Acces
 Awaited phase kind answer before room done =
     AwaitedBy (is_discarding phase) phase kind answer before room done
 
--- To a log, accesses were added; whatever may still come behind them, the whole may come where this
--- was to be done before.
-abbrev pub Goes : List Access → List Access → (Device → Outcome → List Access → Type 0) →
-    (Device → Outcome → List Access → Type 0) → Type 0
-Goes old new from to =
-    Adds old new (λ added. (after : Device) (outcome : Outcome) (rest : List Access) →
-    to after outcome rest → from after outcome (added ++ rest))
+-- Accesses make one memory of another; whatever list may follow them, the whole list may come where
+-- this was to be done before.
+abbrev pub GoesOn : {S : Type 0} → (S → Access → S → Type 0) → S → S →
+    (Device → Outcome → List Access → Type 0) → (Device → Outcome → List Access → Type 0) → Type 0
+GoesOn {S} goes old new from to =
+    Makes goes old new (λ log. (after : Device) (outcome : Outcome) (rest : List Access) →
+    to after outcome rest → from after outcome (log ++ rest))

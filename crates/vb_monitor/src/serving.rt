@@ -1,12 +1,12 @@
 //! A notice over a running guest's memory.
 
-ghost use Rattle.std.specs.Prelude.{◌≡◌, ◌+◌, ◌≤◌, ◌++◌, List};
+ghost use Rattle.std.specs.Prelude.{◌≡◌, ◌+◌, ◌≤◌, List};
 ghost use Rattle.vb_core.specs.declared.next.ChainPiece.{ChainPiece};
 ghost use Rattle.vb_monitor.specs.declared.room.TheConstants.{MAX_BYTES};
-ghost use Rattle.vb_monitor.specs.Accesses.{Adds};
+ghost use Rattle.vb_monitor.specs.Accesses.{Steps, Makes};
 ghost use Rattle.vb_monitor.specs.Notices.{Serves};
 ghost use Rattle.vb_monitor.specs.Giving.{used_accesses};
-ghost use Rattle.vb_monitor.specs.Machine.{Fits, is_ended, Ahead, Does, Goes, Copies, whole};
+ghost use Rattle.vb_monitor.specs.Machine.{Fits, is_ended, Ahead, Does, GoesOn, Copies, whole};
 ghost use Rattle.vb_monitor.specs.Machine.{room_of};
 ghost use Rattle.vb_monitor.specs.Left.{left};
 ghost use Rattle.std.specs.Prelude.{◌<◌, false};
@@ -26,7 +26,7 @@ fn copy_bytes<M: LiveMemory>(
     bytes: &mut [u8; MAX_BYTES],
 )
     requires { from + length ≤ MAX_BYTES }
-    ensures { Adds (M.log memory.old) (M.log memory.new)
+    ensures { Makes M.goes memory.old memory.new
         (Copies at from length bytes.old bytes.new) }
 {
     memory.copy(at, &mut bytes[from..from + length]);
@@ -34,7 +34,7 @@ fn copy_bytes<M: LiveMemory>(
 
 /// Writes a used element, and behind it the index.
 fn write_used<M: LiveMemory>(memory: &mut M, spots: UsedSpots, entry: UsedEntry)
-    ensures { M.log memory.new ≡ M.log memory.old ++ used_accesses spots entry }
+    ensures { Steps M.goes memory.old (used_accesses spots entry) memory.new }
 {
     memory.write_number(spots.id, entry.id);
     memory.write_number(spots.length, entry.length);
@@ -52,7 +52,7 @@ pub(crate) fn perform<M: LiveMemory>(
     figures: &[Statistic; MAX_FIGURES],
 ) -> u16
     requires { Fits phase }
-    ensures { (pieces : List ChainPiece) → Adds (M.log memory.old) (M.log memory.new)
+    ensures { (pieces : List ChainPiece) → Makes M.goes memory.old memory.new
         (Does phase kind result bytes.old (room_of pieces bytes.new runs.now figures.now)) }
 {
     match phase {
@@ -107,7 +107,7 @@ impl Notice {
     )
         requires { Fits self.old.step.phase }
         ensures kind { self.new.kind ≡ self.old.kind }
-        ensures step { Goes (M.log memory.old) (M.log memory.new)
+        ensures step { GoesOn M.goes memory.old memory.new
             (λ after outcome log. Ahead (whole regions.now self.old.kind after outcome)
             self.old.step device.old (room_of pieces.old bytes.old runs.old figures.old) log)
             (λ after outcome log. Ahead (whole regions.now self.old.kind after outcome)
@@ -122,7 +122,7 @@ impl Notice {
     }
 
     /// The same until the notice has ended, at most so many times; says whether it has.
-    #[tactic(auto, using(crate::proofs::GoesLemmas::goes_steps))]
+    #[tactic(auto, using(crate::proofs::StepLemmas::on_steps))]
     pub fn serve_steps<M: LiveMemory>(
         &mut self,
         memory: &mut M,
@@ -136,7 +136,7 @@ impl Notice {
     ) -> bool
         requires { Fits self.old.step.phase }
         ensures kind { self.new.kind ≡ self.old.kind }
-        ensures step { Goes (M.log memory.old) (M.log memory.new)
+        ensures step { GoesOn M.goes memory.old memory.new
             (λ after outcome log. Ahead (whole regions.now self.old.kind after outcome)
             self.old.step device.old (room_of pieces.old bytes.old runs.old figures.old) log)
             (λ after outcome log. Ahead (whole regions.now self.old.kind after outcome)
@@ -164,7 +164,7 @@ impl Notice {
         figures: &mut [Statistic; MAX_FIGURES],
     ) -> Outcome
         requires { Fits self.old.step.phase }
-        ensures { Adds (M.log memory.old) (M.log memory.new) (λ log.
+        ensures { Makes M.goes memory.old memory.new (λ log.
             Ahead (whole regions.now self.old.kind device.new result) self.old.step device.old
             (room_of pieces.old bytes.old runs.old figures.old) log) }
     {
@@ -189,7 +189,7 @@ pub fn serve<M: LiveMemory>(
     runs: &mut [Run; MAX_RUNS],
     figures: &mut [Statistic; MAX_FIGURES],
 ) -> Outcome
-    ensures { Adds (M.log memory.old) (M.log memory.new)
+    ensures { Makes M.goes memory.old memory.new
         (Serves regions.now kind budget device.old device.new result) }
 {
     let mut notice = Notice::begin(device, regions, kind, budget);

@@ -8,10 +8,10 @@ returns g c =
     let done = c.serve_all.ensures in
     let room = room_of c.args.pieces.now c.args.bytes.now c.args.runs.now c.args.figures.now in
     record {
-      added = done.added;
-      whole = done.whole;
-      is = c.begin-notice.ensures.step c.serve_all.new.device c.serve_all.result room done.added
+      log = done.log;
+      steps = done.steps;
+      is = c.begin-notice.ensures.step c.serve_all.new.device c.serve_all.result room done.log
           (subst (λ (k : Kind). Ahead (whole c.args.regions.now k c.serve_all.new.device
-          c.serve_all.result) c.begin-notice.result.step c.begin-notice.new.device room done.added)
+          c.serve_all.result) c.begin-notice.result.step c.begin-notice.new.device room done.log)
           c.begin-notice.ensures.kind done.is);
     }

@@ -1,6 +1,6 @@
-use Rattle.std.proofs.Common.{rules, sym, ◌∙◌, Some}
+use Rattle.std.proofs.Common.{rules, sym, ◌∙◌}
 use Rattle.vb_monitor.specs.Machine.{Ahead, whole, room_of}
-use Rattle.vb_monitor.proofs.{GoesLemmas.all_served, LeftLemmas.not_over}
+use Rattle.vb_monitor.proofs.{StepLemmas.{ended_so, goes_further}, LeftLemmas.not_over}
 use Rattle.vb_monitor.proofs.notice.Notice.serve_all.Goals as goal
 
 pub loop-outcome-smaller : goal.loop-outcome-smaller
@@ -10,9 +10,24 @@ loop-outcome-smaller g c =
 
 pub returns-in-Some : goal.returns-in-Some
 returns-in-Some g c =
-    all_served (Some c.in-Some.outcome) _ (g.M.LiveMemory.log c.loop-outcome.memory)
+    ended_so g.M.LiveMemory.goes c.args.memory.now c.loop-outcome.memory c.in-Some.outcome
     c.args.regions.now c.args.self.now.kind
     (λ after outcome. Ahead (whole c.args.regions.now c.args.self.now.kind after outcome)
     c.args.self.now.step c.args.device.now (room_of c.args.pieces.now c.args.bytes.now
     c.args.runs.now c.args.figures.now)) c.loop-outcome.self.step c.loop-outcome.device _
     (sym c.in-Some.is ∙ c.outcome.ensures) c.loop-outcome.invariant.goes
+
+pub loop-outcome-preserved : goal.loop-outcome-preserved
+loop-outcome-preserved g c =
+    let l = c.loop-outcome in
+    let n = c.serve_step.new in
+    record {
+      kind = c.serve_step.ensures.kind ∙ l.invariant.kind;
+      fits = c.serve_step.ensures.fits;
+      goes = goes_further g.M.LiveMemory.goes c.args.memory.now l.memory n.memory c.args.regions.now
+          c.args.self.now.kind l.self.kind c.args.self.now.step l.self.step n.self.step
+          c.args.device.now l.device n.device
+          (room_of c.args.pieces.now c.args.bytes.now c.args.runs.now c.args.figures.now)
+          (room_of l.pieces l.bytes l.runs l.figures) (room_of n.pieces n.bytes n.runs n.figures)
+          l.invariant.kind l.invariant.goes c.serve_step.ensures.step;
+    }

@@ -2,8 +2,8 @@ use Rattle.vb_monitor.proofs.notice.Notice.serve_step.Goals as goal
 
 pub returns-clause-step : goal.returns-clause-step
 returns-clause-step g c = let done = c.perform-answer.ensures c.args.pieces.now in record {
-  added = done.added;
-  whole = done.whole;
+  log = done.log;
+  steps = done.steps;
   is = λ after outcome rest h.
-      c.next.ensures.step after outcome c.args.bytes.now done.added rest done.is h;
+      c.next.ensures.step after outcome c.args.bytes.now done.log rest done.is h;
 }

@@ -1,12 +1,12 @@
 use Rattle.std.proofs.Common.{◌≡◌}
-use Rattle.vb_monitor.specs.Machine.{Fits, Goes, Ahead, whole, room_of}
+use Rattle.vb_monitor.specs.Machine.{Fits, GoesOn, Ahead, whole, room_of}
 use Rattle.vb_monitor.proofs.notice.Notice.serve_steps.Given as goal
 
 abbrev pub invariant-loop : goal.invariant-loop
 invariant-loop g l = record {
   kind : l.self.kind ≡ l.fn.self.kind;
   fits : Fits l.self.step.phase;
-  goes : Goes (g.M.LiveMemory.log l.fn.memory) (g.M.LiveMemory.log l.memory)
+  goes : GoesOn g.M.LiveMemory.goes l.fn.memory l.memory
       (λ after outcome. Ahead (whole l.regions l.fn.self.kind after outcome) l.fn.self.step
       l.fn.device (room_of l.fn.pieces l.fn.bytes l.fn.runs l.fn.figures))
       (λ after outcome. Ahead (whole l.regions l.fn.self.kind after outcome) l.self.step

@@ -1,0 +1,19 @@
+use Rattle.std.proofs.Common.{◌∙◌}
+use Rattle.vb_monitor.specs.Machine.{room_of}
+use Rattle.vb_monitor.proofs.{StepLemmas.goes_further}
+use Rattle.vb_monitor.proofs.notice.Notice.serve_steps.Goals as goal
+
+pub loop-preserved : goal.loop-preserved
+loop-preserved g c =
+    let l = c.loop in
+    let n = c.serve_step.new in
+    record {
+      kind = c.serve_step.ensures.kind ∙ l.invariant.kind;
+      fits = c.serve_step.ensures.fits;
+      goes = goes_further g.M.LiveMemory.goes c.args.memory.now l.memory n.memory c.args.regions.now
+          c.args.self.now.kind l.self.kind c.args.self.now.step l.self.step n.self.step
+          c.args.device.now l.device n.device
+          (room_of c.args.pieces.now c.args.bytes.now c.args.runs.now c.args.figures.now)
+          (room_of l.pieces l.bytes l.runs l.figures) (room_of n.pieces n.bytes n.runs n.figures)
+          l.invariant.kind l.invariant.goes c.serve_step.ensures.step;
+    }
