@@ -4,4 +4,11 @@ pub mod Roomy
 pub mod Room
 pub mod Loans
 pub mod Stay
+pub mod Balloons
+pub mod Called
+pub mod Lent
+pub mod Beside
 mod TieFacts
+mod CountFacts
+mod BesideFacts
+mod LawFacts

@@ -241,27 +241,38 @@ holds_own w n g pages known here are bare flagless = holds (not g.rogue && tells
     holds_told g pages (known.framed n g here) fit ((known.bare n g here both.0).bare both.1) are bare (flagless fit both.0 both.1))
     (holds_any g pages (known.framed n g here) are bare)
 
-holds_all : (w : World) → Known w → (m : ℕ) (x : Guest) → guest_at w.guests m ≡ Some x → backed_count x ≤ may_hold x
+pub holds_all : (w : World) → Known w → (m : ℕ) (x : Guest) → guest_at w.guests m ≡ Some x → backed_count x ≤ may_hold x
 holds_all w known m x here = omega (arith, holds_own w m x [] known here (none_wanted x) (λ page k. absurd cc) (λ fit honest told page k. absurd cc))
 
 quiet_call : (call : Call) (g : Guest) → (is_scribble call ≡ false) ⊎ (g.rogue ≡ true) → g.rogue ≡ false → is_scribble call ≡ false
 quiet_call call g (inl e) honest = e
 quiet_call call g (inr rogue) honest = absurd cc
 
-known_at : (frames : ℕ) (spares : List Bool) (h : History) → Run frames spares h → (i : ℕ) (w : World) → slice_get (states h) i ≡ Some w → Known w
+pub known_at : (frames : ℕ) (spares : List Bool) (h : History) → Run frames spares h → (i : ℕ) (w : World) → slice_get (states h) i ≡ Some w → Known w
 known_at frames spares h r i w at = record {
   good = (positions frames spares h r).good i w at;
   bare = in_runs frames spares h r i w at;
   framed = framed_at h (positions frames spares h r) (subst AllFramed (sym r.0) (made_framed frames spares)) i w at;
 }
 
+-- what a guest holds, with what a call wants: no more than it may hold, and no more than its pages
+pub holds_call : (w : World) (n : ℕ) (g : Guest) (call : Call) → Known w → reserved_pages g.config.queue_size ≤ g.config.pages
+    → guest_at w.guests n ≡ Some g → (is_scribble call ≡ false) ⊎ (g.rogue ≡ true)
+    → backed_count g + length (pages_to_back call g) ≤ may_hold g
+holds_call w n g call known roomy here which =
+    holds_own w n g (pages_to_back call g) known here (wanted call g roomy) (λ page k. needed_pages_bare g call page k)
+    (λ fit honest told page k. wanted_off call g page fit told (quiet_call call g which honest) k)
+
+pub holds_any_at : (w : World) (n : ℕ) (g : Guest) (call : Call) → Known w → reserved_pages g.config.queue_size ≤ g.config.pages
+    → guest_at w.guests n ≡ Some g → backed_count g + length (pages_to_back call g) ≤ g.config.pages
+holds_any_at w n g call known roomy here =
+    holds_any g (pages_to_back call g) (known.framed n g here) (wanted call g roomy) (λ page k. needed_pages_bare g call page k)
+
 pub none_lacks : NoneLacksAFrame
 none_lacks frames spares h r n i w v call g at here fits which step =
     let known = known_at frames spares h r i w at in
     let roomy = roomy_in_runs frames spares h r i w at n g here in
-    let pages = pages_to_back call g in
-    let own = holds_own w n g (pages_to_back call g) known here (wanted call g roomy) (λ page k. needed_pages_bare g call page k)
-    (λ fit honest told page k. wanted_off call g page fit told (quiet_call call g which honest) k) in
+    let own = holds_call w n g call known roomy here which in
     let less = all_fit_more may_hold w.guests n g (length (pages_to_back call g)) here (holds_all w known) own in
     let more = wanted_more w (pages_to_back call g) (no_frame_exact w v n call g here step) in
     omega (arith, less, more, fits)

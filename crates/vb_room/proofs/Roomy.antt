@@ -1,5 +1,5 @@
 -- Each guest of a run has as many pages as are reserved, at least.
-use Rattle.std.proofs.Common.{Bool, List, [], ap, arith, inl, inr, refl, subst, suc, sym, true, zero, ℕ, ◌+◌, ◌∙◌, ◌∷◌, ◌≤◌, ◌≡◌}
+use Rattle.std.proofs.Common.{Bool, List, [], ap, arith, inl, inr, refl, subst, suc, sym, true, zero, ℕ, ◌+◌, ◌∙◌, ◌∷◌, ◌<◌, ◌≤◌, ◌≡◌}
 use Rattle.std.proofs.lemmas.Bool.{cases_eq, not-false}
 use Rattle.std.proofs.lemmas.Bool.Decides.{nat_tests}
 use Rattle.std.specs.Prelude.{None, Option, Some, slice_get}
@@ -20,7 +20,8 @@ use Rattle.vb_model.specs.declared.calls.Event.{Event}
 use Rattle.vb_model.specs.declared.calls.Event.TheVariants.{Balance, Plug, Restart, Unplug}
 use Rattle.vb_model.specs.declared.calls.Event.TheVariants.{Frames as CountFrames, Guest as OnGuest, Query as OnQuery}
 use Rattle.vb_model.specs.declared.replies.Reply.{Reply}
-use Rattle.vb_model.specs.declared.replies.Reply.TheVariants.{Done, Refused, Targets}
+use Rattle.vb_model.specs.declared.calls.GuestSize.{GuestSize}
+use Rattle.vb_model.specs.declared.replies.Reply.TheVariants.{Done, Plugged, Refused, Targets}
 use Rattle.vb_room.proofs.Bare.{before}
 
 abbrev pub IsRoomy : Guest → Type 0
@@ -31,6 +32,9 @@ AllRoomy w = (n : ℕ) (g : Guest) → guest_at w.guests n ≡ Some g → IsRoom
 
 config_roomy : (pages queue_size processors : ℕ) → is_config pages queue_size processors ≡ true → reserved_pages queue_size ≤ pages
 config_roomy pages queue_size processors e = grind (arith, nat_tests)
+
+config_some : (pages queue_size processors : ℕ) → is_config pages queue_size processors ≡ true → 0 < pages
+config_some pages queue_size processors e = grind (arith, nat_tests)
 
 no_guest : (o : Option Guest) (g : Guest) → o ≡ None → o ≡ Some g → ⊥
 no_guest o g e f = cc
@@ -60,21 +64,39 @@ balance_none _ w n e = e
 abbrev at_number : ℕ → World → Option Guest
 at_number n w = guest_at w.guests n
 
--- of whom an event brings
-brings : (event : Event) (w : World) (reply : Reply) (v : World) (n : ℕ) (g : Guest) → first_refusal (world_causes w event) ≡ None
-    → Happens event w reply v → guest_at w.guests n ≡ None → guest_at v.guests n ≡ Some g → IsRoomy g
-brings (Plug size) w reply v n g passed s none there = plugs w.spares s where
-  roomy : reserved_pages size.queue_size ≤ size.pages
-  roomy = config_roomy size.pages size.queue_size size.processors (not-false _ (not_refused (world_causes w (Plug size)) passed).0)
+-- a guest that an event brings: plugged in at its number, with as many pages as were asked for
+pub record Comes (event : Event) (reply : Reply) (n : ℕ) (g : Guest) : Type 0 where
+  pub size : GuestSize
+  pub event_is : event ≡ Plug size
+  pub reply_is : reply ≡ Plugged n
+  pub pages : g.config.pages ≡ size.pages
+  pub some : 0 < size.pages
+  pub roomy : IsRoomy g
 
-  plugs : (spares : List Bool) → PlugsIn size spares w reply v → IsRoomy g
+plugged : (size : GuestSize) (paced : Bool) (reply : Reply) (n : ℕ) (g : Guest) → is_config size.pages size.queue_size size.processors ≡ true
+    → reply ≡ Plugged n → g ≡ fresh (record { pages = size.pages; queue_size = size.queue_size; processors = size.processors; paced = paced }) 0
+    → Comes (Plug size) reply n g
+plugged size paced reply n g good said e = record {
+  size = size;
+  event_is = refl;
+  reply_is = said;
+  pages = ap (λ (x : Guest). x.config.pages) e;
+  some = config_some size.pages size.queue_size size.processors good;
+  roomy = subst IsRoomy (sym e) (config_roomy size.pages size.queue_size size.processors good);
+}
+
+brings : (event : Event) (w : World) (reply : Reply) (v : World) (n : ℕ) (g : Guest) → first_refusal (world_causes w event) ≡ None
+    → Happens event w reply v → guest_at w.guests n ≡ None → guest_at v.guests n ≡ Some g → Comes event reply n g
+brings (Plug size) w reply v n g passed s none there = plugs w.spares s where
+  plugs : (spares : List Bool) → PlugsIn size spares w reply v → Comes (Plug size) reply n g
   plugs [] s = absurd s
   plugs (paced ∷ rest) (inl same) = absurd (no_guest (guest_at v.guests n) g (ap (at_number n) same.1 ∙ none) there)
   plugs (paced ∷ rest) (inr p) = elim (cases_eq p.0 n) [
     | inl here ↦
         let config : Config = record { pages = size.pages; queue_size = size.queue_size; processors = size.processors; paced = paced } in
         let is : guest_at v.guests n ≡ Some (fresh config 0) = ap (at_number n) p.4 ∙ (ap (guest_at (with_guest p.0 (Some (fresh config 0)) w.guests)) (sym here) ∙ with_guest-same p.0 (Some (fresh config 0)) w.guests) in
-        subst IsRoomy (same_some (fresh config 0) g (sym is ∙ there)) roomy
+        plugged size paced reply n g (not-false _ (not_refused (world_causes w (Plug size)) passed).0) (p.3 ∙ ap Plugged here)
+        (sym (same_some (fresh config 0) g (sym is ∙ there)))
     | inr other ↦ absurd (no_guest (guest_at v.guests n) g (ap (at_number n) p.4 ∙ (with_guest-other p.0 n _ w.guests other ∙ none)) there)
   ]
 brings (Unplug m) w reply v n g passed s none there =
@@ -93,8 +115,8 @@ brings (OnQuery m query) w reply v n g passed s none there = absurd (no_guest (g
 brings (Balance floor) w reply v n g passed s none there = absurd (no_guest (guest_at v.guests n) g (ap (at_number n) s.1 ∙ balance_none reply w n none) there)
 brings CountFrames w reply v n g passed s none there = absurd (no_guest (guest_at v.guests n) g (ap (at_number n) s.1 ∙ none) there)
 
-comes : (event : Event) (w : World) (reply : Reply) (v : World) (n : ℕ) (g : Guest) → WorldStep w event reply v
-    → guest_at w.guests n ≡ None → guest_at v.guests n ≡ Some g → IsRoomy g
+pub comes : (event : Event) (w : World) (reply : Reply) (v : World) (n : ℕ) (g : Guest) → WorldStep w event reply v
+    → guest_at w.guests n ≡ None → guest_at v.guests n ≡ Some g → Comes event reply n g
 comes event w reply v n g s none there = elim (match_cases (first_refusal (world_causes w event)) (Happens event w reply v) (λ refusal. (reply ≡ Refused refusal) × (v ≡ w)) s) [
   | inl p ↦ brings event w reply v n g p.0 p.1 none there
   | inr r ↦ absurd (no_guest (guest_at v.guests n) g (ap (at_number n) r.2.1 ∙ none) there)
@@ -103,7 +125,7 @@ comes event w reply v n g s none there = elim (match_cases (first_refusal (world
 roomy_step : (w : World) (event : Event) (reply : Reply) (v : World) → AllRoomy w → WorldStep w event reply v → AllRoomy v
 roomy_step w event reply v h s n g there = by (guest_at w.guests n) refl where
   by : (o : Option Guest) → guest_at w.guests n ≡ o → IsRoomy g
-  by None e = comes event w reply v n g s e there
+  by None e = (comes event w reply v n g s e there).roomy
   by (Some old) e = let same = configurations_kept w event reply v n old g (record { step = s; before = e; after = there }) in
       subst (λ (c : Config). reserved_pages c.queue_size ≤ c.pages) (sym same) (h n old e)
 

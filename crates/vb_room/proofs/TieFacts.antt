@@ -9,7 +9,7 @@ use Rattle.vb_lender.specs.declared.event.Event.TheVariants.{Arrives, Asks, Budg
 use Rattle.vb_room.specs.Room.{HoldsNoneBallooned, all_may_hold, is_scribble, may_hold}
 use Rattle.vb_room.specs.Tie.{HaveLoans, IsLoanOf, KeepsBalloons, LowersNone, counted}
 
-abbrev config : Config
+abbrev pub config : Config
 config = record { pages = 64; queue_size = 8; processors = 1; paced = true }
 
 -- pages 20 to 22 are ballooned, and the guest has agreed to all features
