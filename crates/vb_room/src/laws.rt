@@ -29,16 +29,16 @@ pub fn loans_stay()
     ensures loans { LoanEventsLeaveLoans }
 {}
 
-/// In a run each call of a guest leaves as many pages that count as ballooned as before, but for what
-/// the table of calls says: a finished inflate puts its pages in, and a finished deflate, a reset and
-/// a scribble take pages out.
+/// In a run each call of a guest leaves as many pages that count as ballooned as before, but for
+/// what the table of calls says: a finished inflate puts its pages in, and a finished deflate, a
+/// reset and a scribble take pages out.
 pub fn calls_count_so()
     ensures so { CallsCountSo }
 {}
 
-/// Over every list of events of a host that asks its lender first, in each state: the loans together
-/// are no more than the host's frames, each guest has its loan, and no call of a guest is refused for
-/// want of a frame, but for a scribble of a guest whose balloon still counts.
+/// Over every list of events of a host that asks its lender first, in each state: the loans
+/// together are no more than the host's frames, each guest has its loan, and no call of a guest is
+/// refused for want of a frame, but for a scribble of a guest whose balloon still counts.
 pub fn no_guest_within_its_loan_lacks_a_frame()
     ensures covered { AskingFirstSuffices }
 {}
