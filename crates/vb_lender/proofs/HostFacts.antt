@@ -1,0 +1,124 @@
+-- Worked facts of what happens to a host, and of which events the promises speak of.
+use Rattle.std.proofs.Common.{◌≡◌, ◌≢◌, ℕ, zero, suc, ◌≤◌, Bool, true, false, List, [], ◌∷◌, refl, arith}
+use Rattle.std.specs.Prelude.{⊤}
+use Rattle.std.specs.List.{AllByRecursion}
+use Rattle.vb_lender.specs.declared.event.Event.{Event}
+use Rattle.vb_lender.specs.declared.event.Event.TheVariants.{Arrives, Leaves, Gives, Asks, Resets, Grants}
+use Rattle.vb_lender.specs.declared.event.Event.TheVariants.{Takes, Uncounts, Recounts, Figures, Budget}
+use Rattle.vb_lender.specs.declared.loan.Loan.{Loan}
+use Rattle.vb_lender.specs.Loans.{vacant, IsSound}
+use Rattle.vb_lender.specs.Lending.{Lending, AreSound, IsOrdinary, NeverLowers, happens, run}
+use Rattle.vb_lender.specs.Line.{AreApart, KeepsAsk, KeepsCount, IsOfLoans}
+
+-- a guest of 60 pages: how many are in its balloon, lent to it and asked for, and its turn
+abbrev loan : ℕ → ℕ → ℕ → ℕ → Loan
+loan ballooned lent asked turn = record {
+  pages = 60;
+  ballooned = ballooned;
+  lent = lent;
+  asked = asked;
+  turn = turn;
+  spare = 0;
+  uncounted = false;
+}
+
+-- of two guests one is there, with 10 of its pages in its balloon
+abbrev host : ℕ → Loan → Lending
+host frames other = record { frames = frames; loans = loan 10 50 0 0 ∷ other ∷ [] }
+
+-- ---- each event
+
+each : (happens (host 90 vacant) (Arrives 1 60) ≡ host 90 (loan 60 0 60 1))
+    × (happens (host 90 (loan 60 0 60 1)) (Leaves 1) ≡ host 90 vacant)
+    × (happens (host 90 (loan 10 50 0 0)) (Gives 1 5) ≡ host 90 (loan 15 45 0 0))
+    × (happens (host 90 (loan 10 50 0 0)) (Asks 1 5) ≡ host 90 (loan 10 50 5 1))
+    × (happens (host 90 (loan 10 50 3 4)) (Resets 1) ≡ host 90 (loan 10 50 10 5))
+    × (happens (host 110 (loan 60 0 60 1)) (Grants 1) ≡ host 110 (loan 60 60 0 0))
+    × (happens (host 90 (loan 10 55 0 0)) (Takes 1 5) ≡ host 90 (loan 5 55 0 0))
+    × (happens (host 90 (loan 10 50 5 1)) (Uncounts 1) ≡ host 90 (record (loan 0 60 0 0) { uncounted = true }))
+    × (happens (host 90 (record (loan 0 60 0 0) { uncounted = true })) (Recounts 1) ≡ host 90 (loan 0 60 0 0))
+    × (happens (host 90 (loan 10 50 0 0)) (Figures 1 7) ≡ host 90 (record (loan 10 50 0 0) { spare = 7 }))
+    × (happens (host 90 vacant) (Budget 70) ≡ host 70 vacant)
+each = (refl, refl, refl, refl, refl, refl, refl, refl, refl, refl, refl)
+
+-- no room for the first, a guest that doesn't wait, a place that isn't there, and no turn left
+without_effect : (happens (host 109 (loan 60 0 60 1)) (Grants 1) ≡ host 109 (loan 60 0 60 1))
+    × (happens (host 200 (loan 60 0 60 1)) (Grants 0) ≡ host 200 (loan 60 0 60 1))
+    × (happens (host 90 vacant) (Arrives 2 60) ≡ host 90 vacant)
+    × (happens (host 90 (loan 60 0 60 18446744073709551615)) (Asks 0 1)
+    ≡ host 90 (loan 60 0 60 18446744073709551615))
+without_effect = (refl, refl, refl, refl)
+
+-- one after another, in their order
+in_order : (run (Arrives 1 60 ∷ Grants 1 ∷ []) (host 110 vacant) ≡ host 110 (loan 60 60 0 0))
+    × (run (Grants 1 ∷ Arrives 1 60 ∷ []) (host 110 vacant) ≡ host 110 (loan 60 0 60 1))
+    × (run [] (host 110 vacant) ≡ host 110 vacant)
+in_order = (refl, refl, refl)
+
+-- ---- what the promises speak of
+
+sound : AreSound (loan 10 50 0 0 ∷ vacant ∷ [])
+sound = (
+  record { enough = omega arith; within = omega arith; inside = omega arith },
+  (record { enough = omega arith; within = omega arith; inside = omega arith }, tt),
+)
+
+not_sound : AreSound (loan 10 50 0 0 ∷ loan 10 49 0 0 ∷ []) → ⊥
+not_sound a = let e : 60 ≤ 59 = a.1.0.enough in absurd (omega arith)
+
+ordinary : AllByRecursion IsOrdinary (Arrives 0 1 ∷ Leaves 0 ∷ Gives 0 1 ∷ Asks 0 1 ∷ Resets 0 ∷ Grants 0
+    ∷ Takes 0 1 ∷ Recounts 0 ∷ Figures 0 1 ∷ [])
+ordinary = (tt, (tt, (tt, (tt, (tt, (tt, (tt, (tt, (tt, tt)))))))))
+
+not_ordinary : (IsOrdinary (Budget 9) → ⊥) × (IsOrdinary (Uncounts 0) → ⊥)
+not_ordinary = (λ o. o, λ o. o)
+
+lowers_none : NeverLowers 90 (Asks 0 1 ∷ Budget 90 ∷ Grants 0 ∷ Budget 95 ∷ [])
+lowers_none = (omega arith, (omega arith, tt))
+
+lowers : (NeverLowers 90 (Asks 0 1 ∷ Budget 89 ∷ []) → ⊥)
+    × (NeverLowers 90 (Budget 95 ∷ Budget 94 ∷ []) → ⊥) × (NeverLowers 90 (Uncounts 0 ∷ []) → ⊥)
+lowers = (
+  λ n. let e : 90 ≤ 89 = n.0 in absurd (omega arith),
+  λ n. let e : 95 ≤ 94 = n.1.0 in absurd (omega arith),
+  λ n. n,
+)
+
+abbrev Apart : ℕ → ℕ → Type 0
+Apart a b = a ≢ b
+
+-- what its own guest does ends an ask, and what another's does leaves it
+keeps_ask : AllByRecursion (KeepsAsk 1) (Arrives 0 1 ∷ Leaves 0 ∷ Asks 0 1 ∷ Resets 0 ∷ Grants 0
+    ∷ Uncounts 0 ∷ Gives 1 1 ∷ Takes 1 1 ∷ Recounts 1 ∷ Figures 1 1 ∷ Budget 9 ∷ [])
+keeps_ask = (other, (other, (other, (other, (other, (other, (tt, (tt, (tt, (tt, (tt, tt))))))))))) where
+  other : Apart 1 0
+  other = λ e. absurd (omega (arith, e))
+
+ends_ask : (KeepsAsk 1 (Arrives 1 1) → ⊥) × (KeepsAsk 1 (Leaves 1) → ⊥) × (KeepsAsk 1 (Asks 1 1) → ⊥)
+    × (KeepsAsk 1 (Resets 1) → ⊥) × (KeepsAsk 1 (Grants 1) → ⊥) × (KeepsAsk 1 (Uncounts 1) → ⊥)
+ends_ask = (λ k. k refl, λ k. k refl, λ k. k refl, λ k. k refl, λ k. k refl, λ k. k refl)
+
+keeps_count : KeepsCount 1 (Uncounts 0) × KeepsCount 1 (Leaves 1) × (KeepsCount 1 (Uncounts 1) → ⊥)
+keeps_count = (λ e. absurd (omega (arith, e)), tt, λ k. k refl)
+
+-- which events `change` is for
+of_loans : IsOfLoans (Gives 0 1) × IsOfLoans (Uncounts 0) × (IsOfLoans (Grants 0) → ⊥)
+    × (IsOfLoans (Budget 1) → ⊥)
+of_loans = (tt, tt, λ o. o, λ o. o)
+
+-- two that wait at one turn
+not_apart : AreApart (loan 10 50 1 4 ∷ loan 10 50 1 4 ∷ []) → ⊥
+not_apart a = let e : 0 ≡ 1 = a 0 1 (omega arith) (omega arith) refl in absurd (omega (arith, e))
+
+-- a turn that a guest had which doesn't wait is no other's
+apart : AreApart (loan 10 50 1 4 ∷ loan 10 50 0 4 ∷ loan 10 50 1 5 ∷ [])
+apart zero zero w v e = refl
+apart zero (suc zero) w v e = absurd (omega (arith, v))
+apart zero (suc (suc zero)) w v e = absurd (let f : 4 ≡ 5 = e in omega (arith, f))
+apart zero (suc (suc (suc j))) w v e = absurd (omega (arith, v))
+apart (suc zero) j w v e = absurd (omega (arith, w))
+apart (suc (suc zero)) zero w v e = absurd (let f : 5 ≡ 4 = e in omega (arith, f))
+apart (suc (suc zero)) (suc zero) w v e = absurd (omega (arith, v))
+apart (suc (suc zero)) (suc (suc zero)) w v e = refl
+apart (suc (suc zero)) (suc (suc (suc j))) w v e = absurd (omega (arith, v))
+apart (suc (suc (suc i))) j w v e = absurd (omega (arith, w))

@@ -1,0 +1,128 @@
+-- Worked facts of a line of guests, of grants, and of what happens to a host.
+use Rattle.std.proofs.Common.{◌≡◌, ◌⊎◌, inl, inr, ℕ, zero, suc, ◌+◌, ◌<◌, ◌≤◌, true, false, List, [], ◌∷◌, Some, None, refl, ap, subst, arith}
+use Rattle.std.specs.List.{AllByRecursion}
+use Rattle.vb_lender.specs.declared.event.Event.TheVariants.{Arrives, Leaves, Gives, Asks, Resets, Grants, Takes, Uncounts, Recounts, Figures, Budget}
+use Rattle.vb_lender.specs.declared.loan.Loan.{Loan}
+use Rattle.vb_lender.specs.Loans.{vacant, granted, may_give, may_reset}
+use Rattle.vb_lender.specs.Lending.{Lending, AreSound, IsOrdinary, NeverLowers, asked_at, comes_at}
+use Rattle.vb_lender.specs.Lending.{each_at, happens, has_turn, is_first, last_turn, lent_at}
+use Rattle.vb_lender.specs.Lending.{may_grant, next_turn, owed, run, test_at, turn_at, value_at}
+use Rattle.vb_lender.specs.Line.{AreApart, GrantsNext, IsAfter, IsFirst, KeepsAsk, KeepsCount}
+
+-- a guest of 60 pages: how many are lent to it, what it asks for and its turn
+abbrev loan : ℕ → ℕ → ℕ → Loan
+loan lent asked turn = record {
+  pages = 60;
+  ballooned = 20;
+  lent = lent;
+  asked = asked;
+  turn = turn;
+  spare = 9;
+  uncounted = false;
+}
+
+-- the third came first, the first after it, and the second doesn't wait
+abbrev line : List Loan
+line = loan 40 10 7 ∷ loan 50 0 0 ∷ loan 45 5 4 ∷ []
+
+abbrev host : ℕ → Lending
+host frames = record { frames = frames; loans = line }
+
+-- ---- numbers at a place
+
+together : (owed line ≡ 135) × (owed [] ≡ 0)
+together = (refl, refl)
+
+at_places : asked_at line 0 ∷ asked_at line 1 ∷ asked_at line 2 ∷ asked_at line 3 ∷ turn_at line 2
+    ∷ turn_at line 3 ∷ lent_at line 1 ∷ lent_at line 3 ∷ [] ≡ 10 ∷ 0 ∷ 5 ∷ 0 ∷ 4 ∷ 0 ∷ 50 ∷ 0 ∷ []
+at_places = refl
+
+tests : test_at may_reset line 1 ∷ test_at may_reset line 3 ∷ test_at (may_give 41) line 0
+    ∷ test_at (may_give 40) line 0 ∷ [] ≡ true ∷ false ∷ false ∷ true ∷ []
+tests = refl
+
+one_place : (each_at 1 granted (loan 1 2 3 ∷ loan 4 5 6 ∷ []) ≡ loan 1 2 3 ∷ loan 9 0 0 ∷ [])
+    × (each_at 2 granted (loan 1 2 3 ∷ []) ≡ loan 1 2 3 ∷ [])
+one_place = (refl, refl)
+
+-- ---- turns
+
+turns : (last_turn line ≡ 7) × (next_turn line ≡ 8) × (next_turn [] ≡ 1)
+turns = (refl, refl, refl)
+
+-- the last turn is given once
+turns_end : (has_turn (loan 0 1 18446744073709551614 ∷ []) ≡ true)
+    × (has_turn (loan 0 1 18446744073709551615 ∷ []) ≡ false)
+turns_end = (refl, refl)
+
+comes : comes_at 4 (loan 40 10 7) ∷ comes_at 7 (loan 40 10 7) ∷ comes_at 8 (loan 40 10 7)
+    ∷ comes_at 8 (loan 40 0 7) ∷ [] ≡ true ∷ true ∷ false ∷ true ∷ []
+comes = refl
+
+first : is_first line 0 ∷ is_first line 1 ∷ is_first line 2 ∷ is_first line 3 ∷ [] ≡ false ∷ false ∷ true ∷ false ∷ []
+first = refl
+
+is_the_first : IsFirst line 2
+is_the_first = record { waits = omega arith; before_all = λ i. by i } where
+  by : (i : ℕ) → 0 < asked_at line i → 4 ≤ turn_at line i
+  by zero w = omega arith
+  by (suc zero) w = absurd (omega arith)
+  by (suc (suc zero)) w = omega arith
+  by (suc (suc (suc i))) w = absurd (omega arith)
+
+not_first : (IsFirst line 0 → ⊥) × (IsFirst line 1 → ⊥) × (IsFirst line 3 → ⊥)
+not_first = (
+  λ f. let e : 7 ≤ 4 = f.before_all 2 (omega arith) in absurd (omega arith),
+  λ f. let e : 0 < 0 = f.waits in absurd (omega arith),
+  λ f. let e : 0 < 0 = f.waits in absurd (omega arith),
+)
+
+-- who comes after whom: later, or not waiting
+after : IsAfter line 2 0 × IsAfter line 2 1 × IsAfter line 0 1 × IsAfter line 0 3
+after = (inr (omega arith), inl refl, inl refl, inl refl)
+
+not_after : (IsAfter line 0 2 → ⊥) × (IsAfter line 2 2 → ⊥)
+not_after = (by, own) where
+  by : (asked_at line 2 ≡ 0) ⊎ (7 < 4) → ⊥
+  by (inl e) = omega (arith, e)
+  by (inr l) = omega (arith, l)
+
+  own : (asked_at line 2 ≡ 0) ⊎ (4 < 4) → ⊥
+  own (inl e) = omega (arith, e)
+  own (inr l) = omega (arith, l)
+
+-- ---- grants
+
+grants : may_grant (host 140) 2 ∷ may_grant (host 139) 2 ∷ may_grant (host 1000) 0
+    ∷ may_grant (host 1000) 1 ∷ [] ≡ true ∷ false ∷ false ∷ false ∷ []
+grants = refl
+
+granted_next : GrantsNext 140 line (loan 40 10 7 ∷ loan 50 0 0 ∷ loan 50 0 0 ∷ []) (Some 2)
+granted_next = record { none = λ e. absurd cc; some = λ n e. by n e } where
+  by : (n : ℕ) → Some 2 ≡ Some n → IsFirst line n × (135 + asked_at line n ≤ 140)
+      × ((loan 40 10 7 ∷ loan 50 0 0 ∷ loan 50 0 0 ∷ []) ≡ each_at n granted line)
+  by n e = let same : 2 ≡ n = cc in subst (λ (m : ℕ). IsFirst line m × (135 + asked_at line m ≤ 140)
+      × ((loan 40 10 7 ∷ loan 50 0 0 ∷ loan 50 0 0 ∷ []) ≡ each_at m granted line)) same (is_the_first, omega arith, refl)
+
+-- with a frame less nothing is lent, though there is room for no ask of the others either
+granted_none : GrantsNext 139 line line None
+granted_none = record { none = λ e. (refl, inr (2, is_the_first, omega arith)); some = λ n e. absurd cc }
+
+-- not though there is room, not to another, and not more than was asked for
+not_granted : (GrantsNext 140 line line None → ⊥) × (GrantsNext 145 line (each_at 0 granted line) (Some 0) → ⊥)
+    × (GrantsNext 140 line line (Some 2) → ⊥) × (GrantsNext 139 line (each_at 2 granted line) (Some 2) → ⊥)
+not_granted = (
+  λ g. none (g.none refl).1,
+  λ g. not_first.0 (g.some 0 refl).0,
+  λ g. let e : 45 ≡ 50 = ap (λ (xs : List Loan). lent_at xs 2) (g.some 2 refl).2 in absurd (omega (arith, e)),
+  λ g. let e : 140 ≤ 139 = (g.some 2 refl).1 in absurd (omega arith),
+) where
+  only : (n : ℕ) → IsFirst line n → 135 + asked_at line n ≤ 140
+  only zero f = absurd (not_first.0 f)
+  only (suc zero) f = absurd (not_first.1 f)
+  only (suc (suc zero)) f = omega arith
+  only (suc (suc (suc n))) f = absurd (let w : 0 < 0 = f.waits in omega (arith, w))
+
+  none : ((n : ℕ) → asked_at line n ≡ 0) ⊎ ((n : ℕ) × IsFirst line n × (140 < 135 + asked_at line n)) → ⊥
+  none (inl nobody) = let e : asked_at line 2 ≡ 0 = nobody 2 in omega (arith, e)
+  none (inr one) = omega (arith, only one.0 one.1, one.2)

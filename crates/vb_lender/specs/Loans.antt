@@ -1,0 +1,101 @@
+-- What a guest on a host has, may hold and waits for, all in pages, and what each event makes of
+-- it.
+use Rattle.std.specs.Prelude.{ℕ, ◌+◌, ◌-◌, ◌≤◌, Bool, true, false, not, ◌&&◌, ◌==◌, nat_lt, nat_le}
+use Rattle.std.specs.Prelude.{if◌then◌else◌}
+use Rattle.vb_lender.specs.declared.loan.Loan.{Loan}
+
+-- the loan of a place where no guest is
+abbrev pub vacant : Loan
+vacant =
+    record {
+      pages = 0;
+      ballooned = 0;
+      lent = 0;
+      asked = 0;
+      turn = 0;
+      spare = 0;
+      uncounted = false;
+    }
+
+-- What is lent to a guest is enough for all that it may use: its pages but for the ballooned ones.
+-- With what it asks for, it is no more than its pages.
+pub record IsSound (s : Loan) : Type 0 where
+  pub enough : s.pages ≤ s.lent + s.ballooned
+  pub within : s.lent + s.asked ≤ s.pages
+  pub inside : s.ballooned ≤ s.pages
+
+-- ---- what may happen to a guest
+
+-- A guest comes: none of its pages has a frame, as if all were in its balloon, and it asks for all.
+abbrev pub may_arrive : ℕ → Loan → Bool
+may_arrive pages s = (s.pages == 0) && nat_lt 0 pages
+
+abbrev pub arrived : ℕ → ℕ → Loan → Loan
+arrived pages turn s =
+    if may_arrive pages s
+    then record {
+      pages = pages;
+      ballooned = pages;
+      lent = 0;
+      asked = pages;
+      turn = turn;
+      spare = 0;
+      uncounted = false;
+    }
+    else s
+
+-- Pages joined its balloon and lost their frames: they are no longer lent to it.
+abbrev pub may_give : ℕ → Loan → Bool
+may_give pages s = not s.uncounted && nat_le pages s.lent && nat_le (s.ballooned + pages) s.pages
+
+abbrev pub gave : ℕ → Loan → Loan
+gave pages s =
+    if may_give pages s
+    then record s { ballooned = s.ballooned + pages; lent = s.lent - pages }
+    else s
+
+-- A deflate request is pending: the guest asks for its pages. One ask of a guest is pending at a
+-- time.
+abbrev pub may_ask : ℕ → Loan → Bool
+may_ask pages s = (s.asked == 0) && nat_lt 0 pages && nat_le (s.lent + pages) s.pages
+
+abbrev pub asking : ℕ → ℕ → Loan → Loan
+asking pages turn s = if may_ask pages s then record s { asked = pages; turn = turn } else s
+
+-- A reset is pending, in place of all requests: the guest asks for all pages that aren't lent to
+-- it.
+abbrev pub may_reset : Loan → Bool
+may_reset s = nat_lt s.lent s.pages
+
+abbrev pub resetting : ℕ → Loan → Loan
+resetting turn s = if may_reset s then record s { asked = s.pages - s.lent; turn = turn } else s
+
+-- What it asks for is lent to it.
+abbrev pub granted : Loan → Loan
+granted s = record s { lent = s.lent + s.asked; asked = 0; turn = 0 }
+
+-- Pages left its balloon, for which enough was lent before.
+abbrev pub may_take : ℕ → Loan → Bool
+may_take pages s = nat_le pages s.ballooned && nat_le (s.pages + pages) (s.lent + s.ballooned)
+
+abbrev pub took : ℕ → Loan → Loan
+took pages s = if may_take pages s then record s { ballooned = s.ballooned - pages } else s
+
+-- Its balloon counts no longer: it uses ballooned pages without an ask, or never agreed to ask. All
+-- its pages are lent to it from now on. (A guest that wasn't let in yet uses none.)
+abbrev pub may_uncount : Loan → Bool
+may_uncount s = nat_lt 0 s.lent
+
+abbrev pub uncounted : Loan → Loan
+uncounted s =
+    if may_uncount s
+    then record s { ballooned = 0; lent = s.pages; asked = 0; turn = 0; uncounted = true }
+    else s
+
+-- Its balloon counts again, as after a restart.
+abbrev pub recounted : Loan → Loan
+recounted s = record s { uncounted = false }
+
+-- Its statistics say that it can spare this many pages, ballooned ones included.
+abbrev pub figured : ℕ → Loan → Loan
+figured pages s = record s { spare = pages }

@@ -1,0 +1,28 @@
+//! A host that lends its frames to guests, and never more than it has. Each guest has what is lent
+//! to it; a guest that wants more waits in turn until there is room.
+#![tactic(auto)]
+
+mod asking;
+mod event;
+mod laws;
+mod lending;
+mod line;
+mod loan;
+#[cfg(test)]
+mod tests;
+
+pub use asking::{
+    ask_targets, can_spare, needs_into, room_for_all_is_room_for_one, short_is_exact,
+    targets_make_room,
+};
+pub use event::Event;
+pub use laws::{
+    each_has_what_it_may_use, never_more_than_the_budget, never_more_than_the_frames,
+    nobody_is_overtaken, the_first_is_granted, turns_stay_apart,
+};
+pub use lending::{
+    arrive, ask, figure, give, grant, grant_next, happen, leave, may_grant, recount, reset, run,
+    take, uncount,
+};
+pub use line::{first_in_line, owed};
+pub use loan::Loan;

@@ -1,0 +1,181 @@
+//! What a guest has, may hold and waits for.
+
+ghost use Rattle.std.specs.Prelude.{◌≡◌, ◌+◌, ◌^◌, ◌<◌};
+ghost use Rattle.vb_lender.specs.Loans.{vacant, may_arrive, arrived, may_give, gave, may_ask};
+ghost use Rattle.vb_lender.specs.Loans.{asking, may_reset, resetting, granted, may_take, took};
+ghost use Rattle.vb_lender.specs.Loans.{may_uncount, uncounted, recounted, figured};
+
+/// What a guest has, may hold and waits for, in pages. Any numbers may be passed.
+#[repr(C)]
+#[derive(Clone, Copy, Debug, Default, PartialEq, Eq)]
+pub struct Loan {
+    /// Its memory; 0 where no guest is there.
+    pub pages: u32,
+    /// In its balloon, with no frames.
+    pub ballooned: u32,
+    /// How many frames it may hold: its entitlement, for the kernel to enforce.
+    pub lent: u32,
+    /// How many it waits for.
+    pub asked: u32,
+    /// Its turn among those that wait; 0 where it doesn't.
+    pub turn: u64,
+    /// How many it can spare, by its last statistics, ballooned ones included.
+    pub spare: u32,
+    /// Its balloon doesn't count.
+    pub uncounted: bool,
+}
+
+impl Loan {
+    /// The loan of a place where no guest is.
+    pub fn vacant() -> Loan
+        ensures { result ≡ vacant }
+    {
+        Loan {
+            pages: 0,
+            ballooned: 0,
+            lent: 0,
+            asked: 0,
+            turn: 0,
+            spare: 0,
+            uncounted: false,
+        }
+    }
+
+    /// A guest comes, and asks for all its pages.
+    pub(crate) fn arrive(&mut self, pages: u32, turn: u64) -> bool
+        ensures done { result ≡ may_arrive pages self.old }
+        ensures value { self.new ≡ arrived pages turn self.old }
+    {
+        if self.pages != 0 || pages == 0 {
+            return false;
+        }
+        *self = Loan {
+            pages,
+            ballooned: pages,
+            lent: 0,
+            asked: pages,
+            turn,
+            spare: 0,
+            uncounted: false,
+        };
+        true
+    }
+
+    /// Whether this many pages that were lent to it can join its balloon.
+    fn may_give(&self, pages: u32) -> bool
+        ensures { result ≡ may_give pages self.now }
+    {
+        !self.uncounted
+            && pages <= self.lent
+            && u64::from(self.ballooned) + u64::from(pages) <= u64::from(self.pages)
+    }
+
+    /// Pages joined its balloon.
+    pub(crate) fn give(&mut self, pages: u32) -> bool
+        ensures done { result ≡ may_give pages self.old }
+        ensures value { self.new ≡ gave pages self.old }
+    {
+        if !self.may_give(pages) {
+            return false;
+        }
+        self.ballooned += pages;
+        self.lent -= pages;
+        true
+    }
+
+    /// Whether it may ask for this many pages.
+    fn may_ask(&self, pages: u32) -> bool
+        ensures { result ≡ may_ask pages self.now }
+    {
+        self.asked == 0
+            && pages > 0
+            && u64::from(self.lent) + u64::from(pages) <= u64::from(self.pages)
+    }
+
+    /// A deflate request for this many pages is pending.
+    pub(crate) fn ask(&mut self, pages: u32, turn: u64) -> bool
+        ensures done { result ≡ may_ask pages self.old }
+        ensures value { self.new ≡ asking pages turn self.old }
+    {
+        if !self.may_ask(pages) {
+            return false;
+        }
+        self.asked = pages;
+        self.turn = turn;
+        true
+    }
+
+    /// A reset is pending.
+    pub(crate) fn reset(&mut self, turn: u64) -> bool
+        ensures done { result ≡ may_reset self.old }
+        ensures value { self.new ≡ resetting turn self.old }
+    {
+        if self.lent >= self.pages {
+            return false;
+        }
+        self.asked = self.pages - self.lent;
+        self.turn = turn;
+        true
+    }
+
+    /// What it asks for is lent to it.
+    pub(crate) fn grant(&mut self)
+        requires { self.old.lent + self.old.asked < 2 ^ 32 }
+        ensures { self.new ≡ granted self.old }
+    {
+        self.lent += self.asked;
+        self.asked = 0;
+        self.turn = 0;
+    }
+
+    /// Whether this many pages of its balloon are lent to it.
+    fn may_take(&self, pages: u32) -> bool
+        ensures { result ≡ may_take pages self.now }
+    {
+        pages <= self.ballooned
+            && u64::from(self.pages) + u64::from(pages)
+                <= u64::from(self.lent) + u64::from(self.ballooned)
+    }
+
+    /// Pages left its balloon.
+    pub(crate) fn take(&mut self, pages: u32) -> bool
+        ensures done { result ≡ may_take pages self.old }
+        ensures value { self.new ≡ took pages self.old }
+    {
+        if !self.may_take(pages) {
+            return false;
+        }
+        self.ballooned -= pages;
+        true
+    }
+
+    /// Its balloon counts no longer.
+    pub(crate) fn uncount(&mut self) -> bool
+        ensures done { result ≡ may_uncount self.old }
+        ensures value { self.new ≡ uncounted self.old }
+    {
+        if self.lent == 0 {
+            return false;
+        }
+        self.ballooned = 0;
+        self.lent = self.pages;
+        self.asked = 0;
+        self.turn = 0;
+        self.uncounted = true;
+        true
+    }
+
+    /// Its balloon counts again.
+    pub(crate) fn recount(&mut self)
+        ensures { self.new ≡ recounted self.old }
+    {
+        self.uncounted = false;
+    }
+
+    /// It can spare this many pages.
+    pub(crate) fn figure(&mut self, pages: u32)
+        ensures { self.new ≡ figured pages self.old }
+    {
+        self.spare = pages;
+    }
+}

@@ -1,0 +1,152 @@
+//! A host of three places, event by event.
+
+ghost use Rattle.std.specs.Prelude.{◌≤◌};
+
+use crate::{Event, Loan, ask_targets, first_in_line, grant_next, happen, owed, reset, take};
+use vb_balance::{GuestNeed, NoTargets, Short};
+
+/// What happens, how many pages are lent then, and which guest is the first that waits.
+type Row = (Event, u128, Option<usize>);
+
+static ROWS: [Row; 24] = [
+    (
+        Event::Arrives {
+            guest: 0,
+            pages: 60,
+        },
+        0,
+        Some(0),
+    ),
+    (
+        Event::Arrives {
+            guest: 0,
+            pages: 60,
+        },
+        0,
+        Some(0),
+    ),
+    (Event::Grants { guest: 0 }, 60, None),
+    (
+        Event::Takes {
+            guest: 0,
+            pages: 60,
+        },
+        60,
+        None,
+    ),
+    // A second guest finds no room, and waits.
+    (
+        Event::Arrives {
+            guest: 1,
+            pages: 60,
+        },
+        60,
+        Some(1),
+    ),
+    (Event::Grants { guest: 1 }, 60, Some(1)),
+    (
+        Event::Gives {
+            guest: 0,
+            pages: 19,
+        },
+        41,
+        Some(1),
+    ),
+    (Event::Grants { guest: 1 }, 41, Some(1)),
+    (Event::Gives { guest: 0, pages: 1 }, 40, Some(1)),
+    (Event::Grants { guest: 1 }, 100, None),
+    (
+        Event::Takes {
+            guest: 1,
+            pages: 60,
+        },
+        100,
+        None,
+    ),
+    // No guest asks for more than its balloon has.
+    (Event::Asks { guest: 1, pages: 1 }, 100, None),
+    (
+        Event::Asks {
+            guest: 0,
+            pages: 21,
+        },
+        100,
+        None,
+    ),
+    (
+        Event::Asks {
+            guest: 0,
+            pages: 10,
+        },
+        100,
+        Some(0),
+    ),
+    (Event::Grants { guest: 0 }, 100, Some(0)),
+    // A smaller ask after it doesn't pass it.
+    (Event::Gives { guest: 1, pages: 5 }, 95, Some(0)),
+    (Event::Asks { guest: 1, pages: 2 }, 95, Some(0)),
+    (Event::Grants { guest: 1 }, 95, Some(0)),
+    // A lower budget takes effect as pages come back.
+    (Event::Budget { frames: 90 }, 95, Some(0)),
+    (
+        Event::Gives {
+            guest: 1,
+            pages: 14,
+        },
+        81,
+        Some(0),
+    ),
+    (Event::Grants { guest: 0 }, 81, Some(0)),
+    (Event::Gives { guest: 1, pages: 1 }, 80, Some(0)),
+    (Event::Grants { guest: 0 }, 90, Some(1)),
+    (Event::Leaves { guest: 0 }, 40, Some(1)),
+];
+
+/// The first row after which something else holds.
+fn first_other_row(frames: &mut u32, loans: &mut [Loan]) -> Option<usize> {
+    for (at, (event, lent, first)) in ROWS.iter().enumerate() {
+        happen(frames, loans, *event);
+        if owed(loans) != *lent || first_in_line(loans) != *first {
+            return Some(at);
+        }
+    }
+    None
+}
+
+#[test]
+fn a_day_of_a_host(rt: HostRuntime) {
+    let mut frames = 100;
+    let mut loans = [Loan::vacant(); 3];
+    let row = first_other_row(&mut frames, &mut loans);
+    assert!(rt; row == None && frames == 90);
+    assert!(rt; grant_next(frames, &mut loans) == Some(1) && owed(&loans) == 42);
+    assert!(rt; reset(&mut loans, 1) && grant_next(frames, &mut loans) == Some(1));
+    assert!(rt; take(&mut loans, 1, 20) && owed(&loans) == 60 && loans[1].ballooned == 0);
+}
+
+/// A guest with some of its pages lent to it, that asks for some and can spare some.
+fn guest(pages: u32, lent: u32, asked: u32, spare: u32) -> Loan
+    requires { lent ≤ pages }
+{
+    Loan {
+        pages,
+        ballooned: pages - lent,
+        lent,
+        asked,
+        turn: 1,
+        spare,
+        uncounted: false,
+    }
+}
+
+#[test]
+fn others_are_asked_for_what_is_waited_for(rt: HostRuntime) {
+    let mut needs = [GuestNeed::default(); 2];
+    let mut targets = [0; 2];
+    // 100 frames: the second waits for 60 more, and the first can spare 40 of its 60.
+    let loans = [guest(60, 60, 0, 40), guest(60, 0, 60, 0)];
+    let answer = ask_targets(100, &loans, &mut needs, &mut targets);
+    assert!(rt; answer == Ok(()) && targets == [20, 0]);
+    let short = ask_targets(70, &loans, &mut needs, &mut targets);
+    assert!(rt; short == Err(NoTargets::Short(Short { missing: 10 })) && targets == [40, 0]);
+}

@@ -1,0 +1,14 @@
+pub mod Bare
+pub mod Counting
+pub mod Roomy
+pub mod Room
+pub mod Loans
+pub mod Stay
+pub mod Balloons
+pub mod Called
+pub mod Lent
+pub mod Beside
+mod TieFacts
+mod CountFacts
+mod BesideFacts
+mod LawFacts
