@@ -69,8 +69,7 @@ class Qemu(unittest.TestCase):
     def setUp(self):
         folder = tempfile.TemporaryDirectory(prefix="test-vhost-user-")
         self.addCleanup(folder.cleanup)
-        self.folder, kit = folder.name, linux_kit.Qemu(folder.name)
-        modules = glob.glob(os.path.join(kit.root, "lib/modules/*/kernel/drivers/virtio/virtio*.ko"))
+        self.folder, kit = folder.name, linux_kit.Emulator(folder.name)
         balloon = next(it for it in modules if it.endswith("/virtio_balloon.ko"))
         path = os.path.join(self.folder, "virtio_balloon.ko")
         with open(path, "wb") as module:
