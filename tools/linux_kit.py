@@ -157,7 +157,8 @@ class Emulator:
         self.installed = shutil.which("qemu-system-x86_64")
         self.root = fetch("kernel", kernel_packages) if self.installed else fetch("qemu", qemu_packages)
         self.modules = glob.glob(os.path.join(self.root, "lib/modules/*/kernel/drivers/virtio/virtio*.ko"))
-        self.initramfs = make_initramfs(folder, busybox_of(fetch_uml()), self.modules)
+        self.busybox = busybox_of(fetch_uml())
+        self.initramfs = make_initramfs(folder, self.busybox, self.modules)
 
     def program(self):
         """Returns QEMU, with the folders of a fetched one's files."""
