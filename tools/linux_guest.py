@@ -103,6 +103,10 @@ class Backend:
             return None
 
 
+class Unbound(Fault):
+    """A guest boots, and its driver has no device."""
+
+
 class Guest:
     """Linux as a process of the host, and its console."""
 
@@ -115,15 +119,15 @@ class Guest:
         self.lines = Lines(self.process.stdout, "the guest")
 
     def boot(self):
-        """Waits until its driver is loaded."""
+        """Waits until its driver is loaded, and drives its device."""
         end, said = time.monotonic() + BOOT_LIMIT, []
-        while not said or not said[-1].startswith("READY"):
+        while not said or not said[-1].startswith(("READY", "UNBOUND")):
             try:
                 said.append(self.lines.next(end))
             except Fault as fault:
                 raise Fault(f"{fault} at its boot: {' / '.join(said[-3:])}") from None
         if said[-1] != "READY":
-            raise Fault(f"the guest boots, but its driver doesn't load: {' / '.join(said[-3:])}")
+            raise Unbound(f"the guest boots, but its driver has no device: {said[-1].partition(' ')[2]}")
         self.held = self.memory_file()
 
     def memory_file(self):

@@ -1,14 +1,18 @@
-"""Fetches and makes what a guest under User Mode Linux or QEMU needs: nothing is installed."""
+"""Makes what a guest under User Mode Linux or QEMU needs: its backend, its first files and its command."""
 
 import glob
 import os
+import re
 import shutil
 import socket
 import stat
 import subprocess
+import sys
 
-ROOT = os.path.dirname(os.path.dirname(os.path.realpath(__file__)))
-CACHE = os.path.join(ROOT, ".cache", "linux")
+from linux_packages import (
+    ROOT, Fault, Missing, busybox_of, fetch, fetch_uml, kernel_packages, last_line, libc_of, need, one_of, qemu_packages,
+)
+
 MONITOR = os.path.join(ROOT, "monitor")
 HEADERS = os.path.join(ROOT, "crates/vb_c")
 LIBRARY = os.path.join(ROOT, "crates", "vb_c", "out", "libvb_c.a")
@@ -37,85 +41,22 @@ WRONG_WRAPPED = {
     "vhost_user_balloon": (
         "event_signal", "ring_end", "message_answer", "message_wants_answer", "message_tell", "memory_remove", "rings_forget",
         "memory_of_user", "statistics_room", "memory_clear", "backend_tell_change", "backend_serve_pending",
+        "slots_forget",
     ),
     "vhost_user_host": ("vb_targets", "vb_spare", "vb_needs_targets"),
 }
 
+# The last QEMU whose PCI proxy works.
+LAST_QEMU = 10
+
 # A guest's command line, whatever it runs under.
 KERNEL_WORDS = ("rdinit=/init", "panic=-1", "loglevel=1")
-
-
-class Fault(Exception):
-    """Why a run came to nothing, in one line."""
-
-
-class Missing(Fault):
-    """What the machine lacks, and how to get it."""
 
 
 def demand(condition, words):
     """Ends the run with these words where the condition doesn't hold."""
     if not condition:
         raise Fault(words)
-
-
-def need(program, package):
-    """Returns the path of a program, or says which package has it."""
-    path = shutil.which(program)
-    if not path:
-        raise Missing(f"{program} isn't there: apt-get install {package}")
-    return path
-
-
-def last_line(text):
-    """Returns the last line that says something."""
-    return next((it.strip() for it in reversed(text.splitlines()) if it.strip()), "")
-
-
-def fetch(name, packages):
-    """Returns a folder of the cache with these packages unpacked; `packages` says which, the first time."""
-    root = os.path.join(CACHE, name)
-    if os.path.isdir(root):
-        return root
-    need("apt-get", "apt"), need("dpkg-deb", "dpkg")
-    part = f"{root}.{os.getpid()}"
-    os.makedirs(part)
-    try:
-        wanted = packages()
-        ran = subprocess.run(["apt-get", "download", *wanted], cwd=part, capture_output=True, text=True)
-        archives = glob.glob(os.path.join(part, "*.deb"))
-        if ran.returncode != 0 or len(archives) < len(wanted):
-            raise Missing(f"apt-get download {wanted[0]} ..: {last_line(ran.stderr)}: apt-get update, on Debian 12 for amd64")
-        for archive in archives:
-            subprocess.run(["dpkg-deb", "-x", archive, part], check=True)
-            os.remove(archive)
-        os.rename(part, root)
-    except OSError:
-        if not os.path.isdir(root):
-            raise
-        # Another run has fetched them meanwhile.
-    finally:
-        shutil.rmtree(part, ignore_errors=True)
-    return root
-
-
-def kernel_packages():
-    """Returns the package with the kernel of a guest under QEMU."""
-    said = subprocess.run(["apt-cache", "depends", "linux-image-cloud-amd64"], capture_output=True, text=True).stdout
-    kernels = [it.split()[1] for it in said.splitlines() if "Depends: linux-image" in it]
-    if not kernels:
-        raise Missing("apt-cache knows no linux-image-cloud-amd64, whose kernel a guest of QEMU boots: apt-get update, on amd64")
-    return kernels[:1]
-
-
-def qemu_packages():
-    """Returns the packages with QEMU, what it wants besides, and a kernel for it."""
-    words = ["apt-get", "install", "-s", "--no-install-recommends", "qemu-system-x86"]
-    ran = subprocess.run(words, capture_output=True, text=True)
-    packages = [it.split()[1] for it in ran.stdout.splitlines() if it.startswith("Inst ")]
-    if not packages:
-        raise Missing(f"qemu-system-x86_64 isn't installed, and apt-get finds none to fetch: {last_line(ran.stderr) or 'apt-get update'}")
-    return [*packages, *kernel_packages()]
 
 
 def core_of(reference=False):
@@ -183,10 +124,12 @@ class Uml:
     backend = "vhost_user_balloon"
     kernel_words = ()
 
-    def __init__(self, folder):
-        self.root = fetch("uml", lambda: ["user-mode-linux", "busybox-static"])
-        modules = glob.glob(os.path.join(self.root, "usr/lib/uml/modules/*/kernel/drivers/virtio/virtio_balloon.ko"))
-        self.initramfs = make_initramfs(folder, os.path.join(self.root, "bin/busybox"), modules)
+    def __init__(self, folder, suite=None):
+        self.root, with_libc = fetch_uml(suite), os.path.join(os.path.dirname(__file__), "linux_with_libc.py")
+        kernel = os.path.join(self.root, "usr/bin/linux.uml")
+        self.program = [sys.executable, with_libc, *libc_of(self.root), kernel] if suite else [kernel]
+        module = one_of(self.root, "usr/lib/uml/modules/*/kernel/drivers/virtio/virtio_balloon.ko")
+        self.initramfs = make_initramfs(folder, busybox_of(self.root), [module])
 
     def connect(self, folder):
         """Returns what the backend and the guest are told of each other, and their files: none here."""
@@ -196,9 +139,8 @@ class Uml:
     def words(self, folder, memory, path):
         """Returns the guest's command."""
         enough_room(memory)
-        kernel = os.path.join(self.root, "usr/bin/linux.uml")
         consoles = ("con=null", "con0=fd:0,fd:1", f"uml_dir={folder}/uml")
-        return [kernel, f"mem={memory}M", f"initrd={self.initramfs}", *consoles, f"virtio_uml.device={path}:5", *KERNEL_WORDS,
+        return [*self.program, f"mem={memory}M", f"initrd={self.initramfs}", *consoles, f"virtio_uml.device={path}:5", *KERNEL_WORDS,
                 *self.kernel_words]
 
     def environment(self):
@@ -206,23 +148,17 @@ class Uml:
         return {name: it for name, it in os.environ.items() if name not in ("TMPDIR", "TMP", "TEMP")}
 
 
-class Qemu:
-    """QEMU without KVM: the one that is installed, else one that is fetched. Its device is on PCI, and its messages come by a
-    pair of sockets."""
+class Emulator:
+    """QEMU without KVM, the one that is installed, else one that is fetched; and a machine whose device isn't said."""
 
-    backend = "pci_proxy_balloon"
-    device = "x-pci-proxy-dev"
     kernel_words = ()
 
     def __init__(self, folder):
-        busybox = os.path.join(fetch("uml", lambda: ["user-mode-linux", "busybox-static"]), "bin/busybox")
         self.installed = shutil.which("qemu-system-x86_64")
         self.root = fetch("kernel", kernel_packages) if self.installed else fetch("qemu", qemu_packages)
-        modules = glob.glob(os.path.join(self.root, "lib/modules/*/kernel/drivers/virtio/virtio*.ko"))
-        self.initramfs = make_initramfs(folder, busybox, modules)
-        said = subprocess.run([*self.program(), "-device", "help"], capture_output=True, text=True, env=self.environment())
-        if f'"{self.device}"' not in said.stdout:
-            raise Missing(f"{self.program()[0]} has no {self.device}: {last_line(said.stderr) or 'it is built without'}")
+        self.modules = glob.glob(os.path.join(self.root, "lib/modules/*/kernel/drivers/virtio/virtio*.ko"))
+        self.busybox = busybox_of(fetch_uml())
+        self.initramfs = make_initramfs(folder, self.busybox, self.modules)
 
     def program(self):
         """Returns QEMU, with the folders of a fetched one's files."""
@@ -232,13 +168,16 @@ class Qemu:
         program = os.path.join(self.root, "usr/bin/qemu-system-x86_64")
         return [program, "-L", os.path.join(share, "qemu"), "-L", os.path.join(share, "seabios")]
 
-    def connect(self, _):
-        """Returns what the backend and the guest are told of each other, and their files."""
-        ends = socket.socketpair()
-        return tuple((str(it.fileno()), (it,)) for it in ends)
+    def demand_device(self, *names):
+        """Returns the first of these devices that it has."""
+        said = subprocess.run([*self.program(), "-device", "help"], capture_output=True, text=True, env=self.environment())
+        for name in names:
+            if f'"{name}"' in said.stdout:
+                return name
+        raise Missing(f"{self.program()[0]} has no {names[0]}: {last_line(said.stderr) or 'it is built without'}")
 
-    def words(self, _, memory, number):
-        """Returns the guest's command: one processor, which looks for interrupts by itself."""
+    def machine(self, memory):
+        """Returns the guest's command but for the device: one processor, which looks for interrupts by itself."""
         kernel = glob.glob(os.path.join(self.root, "boot/vmlinuz-*"))[0]
         looks = ("console=ttyS0", "irqpoll", "nolapic_timer", "nohz=off")
         return [
@@ -246,7 +185,6 @@ class Qemu:
             "-accel", "tcg", "-smp", "1", "-m", str(memory), "-no-reboot", "-serial", "stdio",
             "-object", f"memory-backend-memfd,id=memory,size={memory}M,share=on", "-machine", "q35,memory-backend=memory",
             "-kernel", kernel, "-initrd", self.initramfs, "-append", " ".join((*looks, *KERNEL_WORDS, *self.kernel_words)),
-            "-device", f"{self.device},id=balloon,fd={number}",
         ]
 
     def environment(self):
@@ -257,4 +195,43 @@ class Qemu:
         return {**os.environ, "LD_LIBRARY_PATH": ":".join(folders)}
 
 
+def demand_old_qemu():
+    """Says where the QEMU that is installed ends by a signal as soon as a driver reaches a device of the PCI proxy."""
+    path = shutil.which("qemu-system-x86_64")
+    said = subprocess.run([path, "--version"], capture_output=True, text=True).stdout if path else ""
+    found = re.search(r"version (\d+)\.[\d.]+", said)
+    if found and int(found[1]) > LAST_QEMU:
+        raise Missing(f"{path} is of {found[0]}, whose {Qemu.device} ends by a signal: QEMU 7 to {LAST_QEMU} is wanted")
+
+
+class Qemu(Emulator):
+    """The device is on PCI, by QEMU's PCI proxy, and its messages come by a pair of sockets."""
+
+    backend = "pci_proxy_balloon"
+    device = "x-pci-proxy-dev"
+
+    def __init__(self, folder):
+        demand_old_qemu()
+        super().__init__(folder)
+        self.demand_device(self.device)
+
+    def connect(self, _):
+        """Returns what the backend and the guest are told of each other, and their files."""
+        ends = socket.socketpair()
+        return tuple((str(it.fileno()), (it,)) for it in ends)
+
+    def words(self, _, memory, number):
+        """Returns the guest's command."""
+        return [*self.machine(memory), "-device", f"{self.device},id=balloon,fd={number}"]
+
+
 CLIENTS = {"uml": Uml, "qemu": Qemu}
+
+
+def client_of(name, folder, suite=None):
+    """Returns what makes guests of this client, with the packages of this machine's Debian, or of another one."""
+    if suite is None:
+        return CLIENTS[name](folder)
+    if name != "uml":
+        raise Missing("--suite is for User Mode Linux")
+    return Uml(folder, suite)

@@ -29,7 +29,8 @@ HAS_PROTOCOL = 1 << 30
 NO_FILE = 1 << 8
 
 FEATURES, POISON = 0x100000027, 16
-INFLATE, DEFLATE, STATISTICS, REPORT = range(4)
+INFLATE, DEFLATE, STATISTICS, REPORT, KINDLESS = range(5)
+QUEUES = 5
 NEXT, WRITE, INDIRECT = 1, 2, 4
 
 # Each queue has a size of 8 and three pages of a region; buffers begin at page 16 of the first.
@@ -54,10 +55,10 @@ class Client:
         self.files = [os.memfd_create(f"region {it}") for it in range(len(REGIONS))]
         for it in self.files:
             os.write(it, b"\xff" * PAGES_OF_REGION * PAGE)
-        self.available = [0] * 4
+        self.available = [0] * QUEUES
         self.region = 0  # where the rings are
         self.offset = 0  # where each region begins in its file
-        self.kicks, self.calls = [None] * 4, [None] * 4
+        self.kicks, self.calls = [None] * QUEUES, [None] * QUEUES
 
     def connect(self):
         """Comes to the backend, in place of a connection before."""
@@ -67,6 +68,7 @@ class Client:
         self.socket.connect(self.path)
         self.socket.settimeout(LIMIT)
         self.own, self.theirs = socket.socketpair()
+        self.begun = False
 
     def leave(self):
         """Goes, and lets go of all that it had."""
@@ -160,12 +162,34 @@ class Client:
         """Enables a queue, or disables it."""
         return self.send(SET_VRING_ENABLE, struct.pack("<II", number, on))
 
+    def offered(self, request, wanted):
+        """Asks what is offered, all of which has to be there that is wanted; returns that."""
+        (offered,) = struct.unpack("<Q", self.send(request))
+        if wanted & ~offered:
+            raise AssertionError(f"0x{offered:x} is offered, and 0x{wanted:x} wanted: {self.why()}")
+        return wanted
+
+    def begin(self, protocol=UML_PROTOCOL):
+        """Begins a session, with a channel of its own: virtio_uml says so before all else, QEMU once protocol features are
+        negotiated."""
+        if self.begun:
+            self.own.close(), self.theirs.close()
+            self.own, self.theirs = socket.socketpair()
+        says = (lambda *it: self.accepted(*it)) if protocol & REPLY_ACK else (lambda *it: self.send(*it, flags=1))
+        if protocol & BY_MESSAGES:
+            self.send(SET_OWNER, flags=1)
+        self.offered(GET_FEATURES, HAS_PROTOCOL)
+        says(SET_PROTOCOL_FEATURES, struct.pack("<Q", self.offered(GET_PROTOCOL_FEATURES, protocol)))
+        says(SET_BACKEND_REQ_FD, b"", [self.theirs.fileno()])
+        if not protocol & BY_MESSAGES:
+            says(SET_OWNER)
+        self.begun = True
+
     def negotiate(self, features=FEATURES, protocol=UML_PROTOCOL):
-        """Does what comes before memory."""
-        self.send(SET_OWNER, flags=1)
-        self.accepted(SET_PROTOCOL_FEATURES, struct.pack("<Q", protocol))
-        self.accepted(SET_BACKEND_REQ_FD, files=[self.theirs.fileno()])
-        self.accepted(SET_FEATURES, struct.pack("<Q", features | HAS_PROTOCOL))
+        """Does what comes before memory; a session begins once a connection."""
+        if not self.begun:
+            self.begin(protocol)
+        self.accepted(SET_FEATURES, struct.pack("<Q", self.offered(GET_FEATURES, features | HAS_PROTOCOL)))
 
     def start(self, features=FEATURES, queues=4, size=SIZE):
         """Does what virtio_uml and its driver do until the device is ready."""

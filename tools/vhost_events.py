@@ -11,7 +11,7 @@ import time
 import linux_guest
 import vhost_client
 from vhost_client import (
-    BUFFERS, DEFLATE, FEATURES, GET_CONFIG, GET_MAX_MEM_SLOTS, GET_STATUS, INFLATE, NO_FILE, PAGE, PAGES_OF_REGION,
+    BUFFERS, DEFLATE, FEATURES, GET_CONFIG, GET_MAX_MEM_SLOTS, GET_STATUS, INFLATE, KINDLESS, NO_FILE, PAGE, PAGES_OF_REGION,
     QEMU_PROTOCOL, REGIONS, REM_MEM_REG, REPLY_ACK, SET_CONFIG, SET_FEATURES, SET_STATUS, SET_VRING_CALL, SET_VRING_ENABLE,
     SET_VRING_KICK, STATISTICS, STATUS,
 )
@@ -115,6 +115,26 @@ class Events(Lives):
         self.assertEqual(client.backend.ask("ask"), "asked")
         self.assertEqual((client.called(STATISTICS), client.used(STATISTICS)), (1, (1, [(0, 0)])))
 
+    def test_a_queue_without_a_kind_is_set_up_and_never_served(self):
+        client = self.client()
+        client.negotiate(protocol=QEMU_PROTOCOL)
+        client.add_memory()
+        client.place(KINDLESS, base=5)
+        client.give_events(KINDLESS)
+        client.accepted(SET_VRING_ENABLE, struct.pack("<II", KINDLESS, 1))
+        client.post_pages(KINDLESS, [FIRST])
+        self.unserved(client, KINDLESS)
+        self.assertEqual((client.used(KINDLESS)[0], client.counter("status")), (0, 11))
+        client.go_on()
+        self.served(client, INFLATE, [FIRST + 1])
+        self.unserved(client, KINDLESS)
+        self.assertEqual((client.stop_ring(KINDLESS), client.stop_ring(KINDLESS)), (5, 5))
+        client.give_events(KINDLESS)
+        self.unserved(client, KINDLESS)
+        client.accepted(SET_VRING_KICK, word(KINDLESS | NO_FILE))  # one that is to be looked at without a kick
+        self.assertTrue(client.is_at_rest(), "the backend looks at a queue that it never serves")
+        self.assertEqual((client.holes(), client.counter("chains"), client.counter("status")), ([FIRST + 1], 1, 15))
+
     def test_a_kick_before_the_ring_runs(self):
         client = self.client()
         client.negotiate(protocol=QEMU_PROTOCOL)
@@ -129,7 +149,7 @@ class Events(Lives):
 
     def test_rings_that_begin_enabled(self):
         client = self.client()
-        client.send(vhost_client.SET_PROTOCOL_FEATURES, word(QEMU_PROTOCOL & ~STATUS), flags=1)
+        client.begin(QEMU_PROTOCOL & ~STATUS)
         client.accepted(SET_FEATURES, word(FEATURES))
         client.add_memory()
         client.place(INFLATE)
@@ -176,7 +196,7 @@ class Events(Lives):
 
     def test_no_answer_without_the_feature(self):
         client = self.client()
-        client.send(vhost_client.SET_PROTOCOL_FEATURES, word(QEMU_PROTOCOL & ~REPLY_ACK), flags=1)
+        client.begin(QEMU_PROTOCOL & ~REPLY_ACK)
         client.send(SET_STATUS, word(1), flags=1)
         client.socket.sendall(struct.pack("<III", SET_STATUS, 9, 8) + word(3))
         self.assertEqual(client.send(GET_STATUS, flags=1) or client.receive(), (GET_STATUS, word(3)))

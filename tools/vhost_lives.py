@@ -35,7 +35,7 @@ class Lives(Kicked):
 
     def test_features_before_the_status_that_stands_on_them(self):
         client = self.client()
-        client.send(vhost_client.SET_PROTOCOL_FEATURES, word(QEMU_PROTOCOL), flags=1)
+        client.begin(QEMU_PROTOCOL)
         self.assertNotEqual(client.send(SET_STATUS, word(11)), bytes(8))
         self.assertEqual(client.send(GET_STATUS), bytes(8))
 
@@ -121,10 +121,30 @@ class Lives(Kicked):
         self.assertEqual((client.counter("status"), client.counter("actual")), (15, 0))
         self.served(client, INFLATE, [FIRST])
 
+    def test_a_device_that_is_plugged_again(self):
+        client = self.client()
+        client.begin(QEMU_PROTOCOL)
+        files = client.open_files()
+        for stops in (True, True, False):
+            client.start_by_events()
+            self.assertEqual((client.counter("status"), client.counter("actual")), (15, 0))
+            self.served(client, INFLATE, [FIRST, FIRST + 1])
+            client.accepted(SET_CONFIG, struct.pack("<IIII", 4, 4, 0, 77))
+            for number in range(4 * stops):  # as QEMU unplugs it, whose memory and events stay
+                client.accepted(SET_VRING_ENABLE, struct.pack("<II", number, 0))
+                client.stop_ring(number)
+            client.begin(QEMU_PROTOCOL)
+            self.assertEqual((client.send(GET_STATUS), client.counter("status"), client.counter("actual")), (bytes(8), 0, 0))
+            self.assertEqual((client.open_files(), client.mappings()), (files, 0))
+            self.assertNotEqual(client.send(SET_STATUS, word(11)), bytes(8))  # as no features are taken
+        client.start_by_events()
+        self.served(client, INFLATE, [FIRST])
+        self.assertEqual((client.backend.ask("target 3"), client.told()), ("ok", None))
+
     def poisoned(self, *options):
         """Returns a client whose driver said that its free pages hold 0xff, and the word of PAGE_POISON."""
         client = self.client("--features", "100000037", *options)
-        client.negotiate(FEATURES | POISON)
+        client.begin(QEMU_PROTOCOL)
         client.accepted(SET_CONFIG, struct.pack("<IIII", 12, 4, 0, 0xFFFFFFFF))
         client.start_by_events(features=FEATURES | POISON)
         return client
@@ -173,7 +193,7 @@ class Lives(Kicked):
         words = ("--features", "100000037", "--state", client.file("state"))
         client.restart(*words)
         client.connect()
-        client.negotiate(FEATURES | POISON)
+        client.begin(QEMU_PROTOCOL)
         client.accepted(SET_CONFIG, struct.pack("<IIII", 12, 4, 0, 0xFFFFFFFF))
         client.counter("status")
         client.restart(*words, killed=True)

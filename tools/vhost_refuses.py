@@ -122,20 +122,20 @@ class Refuses(unittest.TestCase):
                 self.refused(client, words)
 
     def test_messages(self):
-        body = struct.pack("<II", 9, 0)
+        body = struct.pack("<II", 5, 0)  # the first number that is no queue's
         stands = [REGIONS[0][1] + it * PAGE for it in (3, 5, 4)]
         moved = [[place + (part == it) * PAGE for it, place in enumerate(stands)] for part in range(3)]
         for words, request, body, files in (
             ("message 99 is unknown", 99, b"", 0),
-            ("no queue 9", SET_VRING_NUM, body, 0),
-            ("no queue 9", SET_VRING_ADDR, body + bytes(32), 0),
-            ("no queue 9", SET_VRING_BASE, body, 0),
-            ("no queue 9", GET_VRING_BASE, body, 0),
-            ("no queue 9", SET_VRING_ENABLE, struct.pack("<II", 9, 1), 0),
-            ("no queue 9", SET_VRING_KICK, body, 1),
-            ("no queue 9", SET_VRING_CALL, body, 1),
-            ("no queue 9", SET_VRING_ERR, body, 1),
-            ("no queue 9", VRING_KICK, body, 0),
+            ("no queue 5", SET_VRING_NUM, body, 0),
+            ("no queue 5", SET_VRING_ADDR, body + bytes(32), 0),
+            ("no queue 5", SET_VRING_BASE, body, 0),
+            ("no queue 5", GET_VRING_BASE, body, 0),
+            ("no queue 5", SET_VRING_ENABLE, struct.pack("<II", 5, 1), 0),
+            ("no queue 5", SET_VRING_KICK, body, 1),
+            ("no queue 5", SET_VRING_CALL, body, 1),
+            ("no queue 5", SET_VRING_ERR, body, 1),
+            ("no queue 5", VRING_KICK, body, 0),
             ("queue 1 runs", SET_VRING_NUM, struct.pack("<II", 1, 8), 0),
             ("queue 1 runs", SET_VRING_BASE, struct.pack("<II", 1, 0), 0),
             *(("queue 1 runs, and can't move", SET_VRING_ADDR, struct.pack("<IIQQQQ", 1, 0, *it, 0), 0) for it in moved),

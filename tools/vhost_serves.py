@@ -52,10 +52,10 @@ class Serves(Good):
 
     def test_start(self):
         client = self.client()
+        client.begin(OFFERED)
         self.assertEqual(client.send(GET_FEATURES), struct.pack("<Q", FEATURES | HAS_PROTOCOL))
         self.assertEqual(client.send(GET_PROTOCOL_FEATURES), struct.pack("<Q", OFFERED))
-        client.negotiate(protocol=OFFERED)
-        self.assertEqual(client.send(GET_QUEUE_NUM), struct.pack("<Q", 4))
+        self.assertEqual(client.send(GET_QUEUE_NUM), struct.pack("<Q", 5))
         client.start()
         self.assertEqual(client.counter("status"), 15)
         self.assertEqual(client.counter("end"), REGIONS[1][0] // PAGE + PAGES_OF_REGION)
@@ -137,9 +137,9 @@ class Serves(Good):
             self.assertEqual(client.told(), REPORT)
         client.accepted(SET_CONFIG, struct.pack("<IIII", 4, 4, 0, 6))
         self.assertEqual((client.backend.ask("target 6"), client.backend.ask("ask")), ("ok", "asked"))
-        # 128 pages less 3 and 7; 21 messages until the queues run, 5 kicks and a write; a question gives one more buffer back.
+        # 128 pages less 3 and 7; 24 messages until the queues run, 5 kicks and a write; a question gives one more buffer back.
         self.assertEqual(client.backend.counters(), {
-            "target": 6, "actual": 6, "status": 15, "held_kib": 472, "end": end, "messages": 27, "kicks": 5, "interrupts": 5,
+            "target": 6, "actual": 6, "status": 15, "held_kib": 472, "end": end, "messages": 30, "kicks": 5, "interrupts": 5,
             "told": 1, "chains": 6, "pages": 13, "discarded": 10, "waiting": 0, "skipped": 1, "in_holes": 1, "kept": 0, "marked": 0,
             "unmarked": 0, "inflated": 4, "deflated": 2, "reported": 7, "reports": 2, "statistics": 1, "taken": 0,
         })
@@ -253,6 +253,20 @@ class Serves(Good):
         client.publish(2, 0)
         client.kick(2)
         self.assertEqual((client.told(), client.counter("reported")), (2, 1))
+
+    def test_a_queue_without_a_kind_is_never_served(self):
+        for features, numbers in ((FEATURES, [4]), (0x100000007, [3, 4]), (0x100000021, [3, 4]), (0x100000001, [2, 3, 4])):
+            with self.subTest(features=features):
+                client = self.client()
+                client.start(features, queues=5)
+                for number in numbers:
+                    self.assertEqual(client.post_pages(number, [REGIONS[1][0] // PAGE + number]), bytes(8))
+                client.post_pages(INFLATE, [REGIONS[1][0] // PAGE])
+                self.assertEqual(client.told(), INFLATE)
+                self.assertEqual([client.used(it) for it in numbers], [(0, [])] * len(numbers))
+                self.assertEqual((client.holes(), client.counter("chains")), ([REGIONS[1][0] // PAGE], 1))
+                self.assertEqual([client.enable(it, 0) for it in numbers], [bytes(8)] * len(numbers))
+                self.assertEqual(client.counter("status"), 15)
 
     def test_configuration(self):
         client = self.started()

@@ -32,10 +32,22 @@ enum outcome set_features(struct backend *backend, struct message *message)
     return FAILED;
 }
 
+/* Forgets what was told of the device in an earlier session. */
+static bool end_session(struct backend *backend)
+{
+    rings_forget(backend);
+    rings_close(backend);
+    return rings_reset(backend) && slots_forget(backend);
+}
+
+/* A session begins: where a device is plugged again over one connection, its memory and its queues are told anew. QEMU
+ * negotiates protocol features and hands over its channel before that, so these stay. */
 enum outcome set_owner(struct backend *backend, struct message *message)
 {
-    (void)backend, (void)message;
-    return DONE;
+    (void)message;
+    bool again = backend->told.owned;
+    backend->told.owned = true;
+    return !again || end_session(backend) ? DONE : STOP;
 }
 
 /* What this backend offers. */

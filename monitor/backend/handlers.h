@@ -23,4 +23,7 @@ handler set_vring_enable, vring_kick;
 /* slots.c */
 handler set_mem_table, get_max_mem_slots, add_mem_reg, rem_mem_reg;
 
+/* Takes all regions away; no ring may run. */
+bool slots_forget(struct backend *backend);
+
 #endif

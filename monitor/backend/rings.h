@@ -7,7 +7,9 @@
 #include <poll.h>
 #include <stdint.h>
 
-enum { QUEUES = 4 };
+/* How many queues a client may tell of. Linux from 7.2 on asks for five, whatever features it takes: one for free page hints,
+ * which aren't offered. A queue that the features give no kind never runs. */
+enum { QUEUES = 5 };
 
 /* What a client has told of one queue; addresses are the client's. */
 struct ring {
@@ -25,6 +27,7 @@ struct told {
     uint64_t features;          /* as it sent them, with the bit that says that there are protocol features */
     uint64_t protocol;          /* protocol features */
     uint8_t status;             /* where the client tells it */
+    bool owned;                 /* a session has begun */
     bool negotiated;            /* the device has taken the features */
     bool goes_on;               /* rings have stopped: they go on, or a new life begins */
     uint32_t actual;            /* `actual` of the rings that have stopped */

@@ -18,6 +18,13 @@ static bool use(struct backend *backend)
     return rings_hold(backend) && (!backend->admit || backend->admit(backend));
 }
 
+bool slots_forget(struct backend *backend)
+{
+    bool had = backend->memory.count > 0;
+    memory_clear(&backend->memory);
+    return !had || use(backend);
+}
+
 enum outcome set_mem_table(struct backend *backend, struct message *message)
 {
     struct files *files = &message->files;

@@ -68,7 +68,7 @@ void pci_write_configuration(struct virtio_pci *pci, uint32_t at, uint32_t value
 /* The queue that is selected, or NULL. */
 static struct pci_queue *selected(struct virtio_pci *pci)
 {
-    if (pci->queue_select < QUEUES && vb_kind(device_of(pci), pci->queue_select) < VB_NO_KIND)
+    if (pci->queue_select < PCI_QUEUES && vb_kind(device_of(pci), pci->queue_select) < VB_NO_KIND)
         return &pci->queues[pci->queue_select];
     return NULL;
 }
@@ -98,7 +98,7 @@ static uint64_t read_common(struct virtio_pci *pci, uint64_t at)
     case ACCEPT_SELECT: return pci->accept_select;
     case ACCEPTED: return pci->accept_select < 2 ? pci->accepted[pci->accept_select] : 0;
     case MSIX: return NO_MSIX;
-    case NUMBER_OF_QUEUES: return QUEUES;
+    case NUMBER_OF_QUEUES: return PCI_QUEUES;
     case STATUS: return device_of(pci)->status;
     case GENERATION: return pci->generation;
     case QUEUE_SELECT: return pci->queue_select;
@@ -122,7 +122,7 @@ uint64_t pci_read(struct virtio_pci *pci, uint64_t at, uint32_t length)
 static void forget(struct virtio_pci *pci)
 {
     memset(pci->queues, 0, sizeof pci->queues);
-    for (unsigned i = 0; i < QUEUES; i++)
+    for (unsigned i = 0; i < PCI_QUEUES; i++)
         pci->queues[i].size = VB_MAX_QUEUE_SIZE;
     memset(pci->accepted, 0, sizeof pci->accepted);
     pci->backend->pending = 0;
@@ -131,7 +131,7 @@ static void forget(struct virtio_pci *pci)
 /* The status looks at each queue once: what that leaves on one is served later. */
 static void leave_more(struct virtio_pci *pci, const struct balloon_result *result)
 {
-    for (unsigned number = 0; result->more && number < QUEUES; number++)
+    for (unsigned number = 0; result->more && number < PCI_QUEUES; number++)
         if (pci->queues[number].enabled)
             pci->backend->pending |= 1u << number;
 }
@@ -205,7 +205,7 @@ static bool write_common(struct virtio_pci *pci, uint64_t at, uint64_t value)
 static bool notify(struct virtio_pci *pci, uint64_t number)
 {
     pci->backend->counters.kicks++;
-    if (!(device_of(pci)->status & BALLOON_DRIVER_OK) || number >= QUEUES || !pci->queues[number].enabled)
+    if (!(device_of(pci)->status & BALLOON_DRIVER_OK) || number >= PCI_QUEUES || !pci->queues[number].enabled)
         return true;
     return backend_serve(pci->backend, (unsigned)number);
 }

@@ -3,7 +3,8 @@
 #define VIRTIO_PCI_H
 #include "backend.h"
 
-enum { BAR_SIZE = 0x4000, PCI_CONFIGURATION = 256 };
+/* A driver is shown a queue of each kind. */
+enum { BAR_SIZE = 0x4000, PCI_CONFIGURATION = 256, PCI_QUEUES = VB_NO_KIND };
 
 struct pci_queue {
     uint64_t place[3];          /* table, available ring, used ring */
@@ -17,7 +18,7 @@ struct virtio_pci {
     uint8_t isr, generation;
     uint32_t offer_select, accept_select, accepted[2];
     uint16_t queue_select;
-    struct pci_queue queues[QUEUES];
+    struct pci_queue queues[PCI_QUEUES];
 };
 
 /* Fills the configuration space of a PCI function with nothing set. */

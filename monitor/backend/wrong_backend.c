@@ -8,14 +8,14 @@
  *     no-change         a change of the configuration isn't told
  *     keeps-slot        a region that the client takes away stays
  *     reset-keeps       a reset leaves the rings running
+ *     keeps-memory      a session that begins leaves the memory of the one before
  *     first-region      each address of the client counts as one of its first region
  *     many-statistics   all figures that the guest tells are kept, however little room there is
  *     keeps-files       the files of a memory table that another one follows stay open
  *     early-change      a change is told before the driver is ready
  *     no-more           what a long service leaves on a queue isn't served
  */
-#include "backend.h"
-#include "vhost_user.h"
+#include "handlers.h"
 
 #include <stdlib.h>
 
@@ -67,6 +67,11 @@ WRAPPED(void, rings_forget, struct backend *backend)
 {
     if (!is("reset-keeps"))
         __real_rings_forget(backend);
+}
+
+WRAPPED(bool, slots_forget, struct backend *backend)
+{
+    return is("keeps-memory") || __real_slots_forget(backend);
 }
 
 WRAPPED(bool, memory_of_user, const struct guest_memory *memory, uint64_t user, uint64_t *address)
