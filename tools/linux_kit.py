@@ -39,7 +39,7 @@ WRONG_WRAPPED = {
     "vhost_user_balloon": (
         "event_signal", "ring_end", "message_answer", "message_wants_answer", "message_tell", "memory_remove", "rings_forget",
         "memory_of_user", "statistics_room", "memory_clear", "backend_tell_change", "backend_serve_pending", "event_take_kick",
-        "backend_start", "stream_fill", "file_number",
+        "backend_start", "stream_fill", "file_number", "fsync",
     ),
     "vhost_user_host": (
         "vb_targets", "vb_spare", "vb_needs_targets", "counters_taken", "seat_set_target", "policy_decide", "host_changed",

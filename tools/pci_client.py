@@ -26,6 +26,8 @@ LIMIT = 20
 
 def program():
     """Builds the backend once, with the compiler's checks."""
+    if "BACKEND_PROGRAM" in os.environ:
+        return os.environ["BACKEND_PROGRAM"]
     if not hasattr(program, "path"):
         program.folder = tempfile.TemporaryDirectory(prefix="test-pci-proxy-")
         core = linux_kit.core_of()

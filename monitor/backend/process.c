@@ -17,6 +17,17 @@
 /* The most files that may be waited for at once; milliseconds of a rest. */
 enum { MOST_POLLED = 512, REST = 100 };
 
+/* The signals that end the process. */
+static sigset_t ending(void)
+{
+    sigset_t signals;
+    sigemptyset(&signals);
+    sigaddset(&signals, SIGTERM);
+    sigaddset(&signals, SIGINT);
+    sigaddset(&signals, SIGHUP);
+    return signals;
+}
+
 void process_begin(void)
 {
     for (int file = 0; file <= STDERR_FILENO; file++)
@@ -24,6 +35,8 @@ void process_begin(void)
             abort();
     setvbuf(stdout, NULL, _IOLBF, 0);
     signal(SIGPIPE, SIG_IGN);
+    sigset_t signals = ending();
+    sigprocmask(SIG_BLOCK, &signals, NULL);
 }
 
 bool process_answers(int count, char **words, const char *name, const char *help)
@@ -49,12 +62,7 @@ void process_allow_files(unsigned wanted)
 
 int process_end(void)
 {
-    sigset_t signals;
-    sigemptyset(&signals);
-    sigaddset(&signals, SIGTERM);
-    sigaddset(&signals, SIGINT);
-    sigaddset(&signals, SIGHUP);
-    sigprocmask(SIG_BLOCK, &signals, NULL);
+    sigset_t signals = ending();
     int file = signalfd(-1, &signals, SFD_CLOEXEC | SFD_NONBLOCK);
     if (file < 0)
         complain("signals can't be waited for: %s", strerror(errno));

@@ -5,7 +5,8 @@
 #include <stdbool.h>
 
 /* Begins a program. Where standard input, output or error is closed, it is /dev/null from now on, so that no other file is taken
- * for it; lines go out as they end; a client that has gone is noticed by what a write answers. */
+ * for it; lines go out as they end; a client that has gone is noticed by what a write answers; signals that end it wait for
+ * process_end. */
 void process_begin(void);
 
 /* Answers --help, by these words, and --version; false where the command line has neither. */

@@ -18,14 +18,16 @@
  *     long-turn         a notice serves as many pages as its chains name
  *     no-ctrunc         files for which a message had no room aren't missed
  *
- * One is right, but for its kernel, which is older than Linux 6.5:
+ * Two are right, but for their machine:
  *
- *     old-kernel        it isn't known of an eventfd whether it is a semaphore
+ *     old-kernel        it isn't known of an eventfd whether it is a semaphore, as before Linux 6.5
+ *     bad-disk          no file can be kept on the disk
  */
 #include "backend.h"
 #include "vhost_user.h"
 
 #include <stdlib.h>
+#include <unistd.h>
 
 static bool is(const char *name)
 {
@@ -142,4 +144,9 @@ WRAPPED(enum stream_state, stream_fill, int socket, void *to, size_t length, siz
 WRAPPED(int, file_number, int file, const char *name)
 {
     return is("old-kernel") ? -1 : __real_file_number(file, name);
+}
+
+WRAPPED(int, fsync, int file)
+{
+    return is("bad-disk") ? (errno = EIO, -1) : __real_fsync(file);
 }
