@@ -67,12 +67,7 @@ class Served(Client):
 
     def is_at_rest(self):
         """Whether the backend takes no processor's time while nobody wants anything of it."""
-        def seconds():
-            with open(f"/proc/{self.backend.process.pid}/stat", encoding="ascii") as stat:
-                return sum(map(int, stat.read().rsplit(")", 1)[1].split()[11:13])) / os.sysconf("SC_CLK_TCK")
-        before = seconds()
-        time.sleep(0.8)
-        return seconds() - before < 0.1
+        return self.backend.is_at_rest()
 
     def open_files(self):
         """Returns how many files the backend has open."""
