@@ -1,6 +1,6 @@
 /* The same balloon on PCI, for QEMU's x-pci-proxy-dev (tried with QEMU 7.2 of Debian 12).
  *
- *     pci_proxy_balloon FD [--features HEX] [--strict] [--keep]
+ *     pci_proxy_balloon FD [--features HEX] [--strict] [--keep] [--lines N]
  *
  * FD is one end of a pair of stream sockets, whose other end QEMU has. All else is as in vhost_user_balloon.c. The
  * driver's own writes of the status, of its features and of its queues' places arrive here.
@@ -12,9 +12,8 @@
 #include "backend/stream.h"
 
 #include <limits.h>
-#include <signal.h>
 #include <stdio.h>
-#include <unistd.h>
+#include <sys/socket.h>
 
 /* Messages of QEMU (its docs/devel/multi-process.rst). */
 enum { SYNC_MEMORY, RETURN, CONFIGURATION_WRITE, CONFIGURATION_READ, BAR_WRITE, BAR_READ, SET_INTERRUPT, DEVICE_RESET };
@@ -36,13 +35,21 @@ struct body {
 
 static struct virtio_pci pci;
 
+/* A message as it comes. */
+static struct {
+    struct head head;
+    struct body body;
+    struct files files;
+    size_t got, got_body;
+} inbox;
+
 /* Interrupts: the status that the guest reads, and then the event. */
 static bool tell(struct backend *backend, int queue)
 {
-    uint64_t one = 1;
+    struct event event = {backend->channel};
     pci.isr |= queue < 0 ? CONFIGURATION_BIT : QUEUE_BIT;
     pci.generation += queue < 0;
-    return backend->channel < 0 || write(backend->channel, &one, sizeof one) == sizeof one;
+    return backend->channel < 0 || event_signal(&event);
 }
 
 /* A guest that polls may pass by an interrupt: it gets another one. */
@@ -58,7 +65,8 @@ static bool answer(struct backend *backend, uint64_t value)
         struct head head;
         uint64_t value;
     } message = {{RETURN, 0, sizeof value}, value};
-    backend->gone = write(backend->socket, &message, sizeof message) != sizeof message;
+    ssize_t sent = send(backend->socket, &message, sizeof message, MSG_DONTWAIT | MSG_NOSIGNAL);
+    backend->gone = sent != sizeof message;
     return !backend->gone;
 }
 
@@ -79,13 +87,13 @@ static bool sync_memory(struct backend *backend, const struct body *body, struct
 
 static bool set_interrupt(struct backend *backend, struct files *files)
 {
+    struct event event = {backend->channel};
     if (files->count == 0)
         return refuse("an interrupt without a file");
-    if (backend->channel >= 0)
-        close(backend->channel);
-    backend->channel = files->numbers[0];
+    bool taken = event_take_call(&event, files->numbers[0]);
+    backend->channel = event.file;
     memmove(files->numbers, files->numbers + 1, --files->count * sizeof files->numbers[0]);
-    return true;
+    return taken || refuse("the file of an interrupt is no eventfd or pipe");
 }
 
 /* A kick is answered before it is served, any other write when it is done. */
@@ -115,33 +123,48 @@ static bool handle(struct backend *backend, int32_t command, const struct body *
     }
 }
 
+/* What has come of the next message. */
+static enum stream_state receive(int socket)
+{
+    enum stream_state state = stream_fill(socket, &inbox.head, sizeof inbox.head, &inbox.got, &inbox.files);
+    if (state != STREAM_WHOLE)
+        return state;
+    if (inbox.head.size > sizeof inbox.body)
+        return STREAM_WRONG;
+    return stream_fill(socket, &inbox.body, inbox.head.size, &inbox.got_body, &inbox.files);
+}
+
 static int serve(struct backend *backend)
 {
-    struct head head;
-    struct body body = {0};
-    struct files files;
-    int got = stream_receive(backend->socket, &head, sizeof head, &files);
-    if (got > 0)
-        got = head.size <= sizeof body.bytes ? stream_read(backend->socket, body.bytes, head.size) : -1;
-    if (got < 0)
-        refuse("the client's bytes are no message");
-    if (got > 0 && !handle(backend, head.command, &body, &files))
-        got = backend->gone ? 0 : -1;
-    files_close(&files);
-    return got;
+    enum stream_state state = receive(backend->socket);
+    if (state == STREAM_WAITS || state == STREAM_GONE)
+        return state == STREAM_WAITS;
+    if (state == STREAM_WRONG)
+        return refuse("the client's bytes are no message"), -1;
+    bool served = inbox.files.lost ? refuse("there is no room for its files")
+                                   : handle(backend, inbox.head.command, &inbox.body, &inbox.files);
+    files_close(&inbox.files);
+    memset(&inbox, 0, sizeof inbox);
+    if (served)
+        return 1;
+    return backend->gone ? 0 : -1;
 }
+
+static const char help[] = "pci_proxy_balloon FD [--features HEX] [--strict] [--keep] [--lines N]";
 
 int main(int count, char **words)
 {
     static struct backend backend;
     static struct options options;
     uint64_t socket;
-    setvbuf(stdout, NULL, _IOLBF, 0);
-    signal(SIGPIPE, SIG_IGN);
+    process_begin();
+    if (process_answers(count, words, "pci_proxy_balloon", help))
+        return 0;
     if (!backend_options(&options, count, words) || !read_number(options.client, 10, INT_MAX, &socket)) {
-        fputs("pci_proxy_balloon FD [--features HEX] [--strict] [--keep]\n", stderr);
+        fprintf(stderr, "%s\n", help);
         return 2;
     }
+    process_allow_files(FILES_OF_PROCESS + FILES_OF_CLIENT);
     if (!backend_start(&backend, &options))
         return 2;
     backend.socket = (int)socket;
@@ -150,6 +173,7 @@ int main(int count, char **words)
     pci_start(&pci, &backend);
     puts("listening");
     int status = backend_run(&backend, serve);
+    files_close(&inbox.files);
     backend_leave(&backend);
     return status;
 }

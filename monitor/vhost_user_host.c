@@ -2,6 +2,7 @@
  * than it has, and their balloons give back what is missing.
  *
  *     vhost_user_host FOLDER --budget MIB [--floor MIB] [--period MS] [--features HEX] [--strict] [--events]
+ *                     [--lines N]
  *
  * It says `ready`, and obeys lines of its standard input. Each is answered by a line on standard output, or by one that
  * says how many follow:
@@ -15,19 +16,17 @@
  *     log                 the decisions since the last `log`: the needs, the targets and why
  *     NAME target PAGES   for one guest, as vhost_user_balloon takes them; the target stands while it serves
  *     NAME counters, NAME ask, NAME statistics
- *     quit                end; so does the end of the input
+ *     quit                end; so do the end of the input, and the signals SIGTERM, SIGINT and SIGHUP
  *
  * Each period (200 ms) it counts what the guests' files hold, and asks each for its statistics. Targets are decided anew
  * where the old ones don't serve any longer: by vb_targets, vb_spare and vb_needs_targets of the library. A guest that breaks a
  * rule or goes ends alone: a line on standard error says so. A guest whose memory has no room beside the others is refused.
  *
- * --floor: what each guest keeps free (12 MiB). --features, --strict, --events: as for vhost_user_balloon.
+ * --floor: what each guest keeps free (12 MiB). --features, --strict, --events, --lines: as for vhost_user_balloon.
  */
 #include "host/host.h"
 
-#include <signal.h>
 #include <stdio.h>
-#include <sys/resource.h>
 
 enum { BALLOON_FEATURES = 0x27, PERIOD = 200, LEAST_PERIOD = 10, FLOOR_MIB = 12 };
 
@@ -38,6 +37,8 @@ static bool read_option(struct host *host, const char *name, const char *word)
     bool pages = !strcmp(name, "--budget") || !strcmp(name, "--floor");
     if (!strcmp(name, "--features"))
         return read_number(word, 16, UINT64_MAX, &host->options.features);
+    if (!strcmp(name, "--lines"))
+        return read_lines(word);
     if (!read_number(word, 10, UINT32_MAX / PAGES_PER_MIB, &number))
         return false;
     if (pages)
@@ -69,29 +70,24 @@ static bool read_options(struct host *host, int count, char **words)
     return host->options.client && host->frames > 0;
 }
 
-/* Each guest may hand over some files: as many as the machine allows. */
-static void allow_files(void)
-{
-    struct rlimit limit;
-    if (!getrlimit(RLIMIT_NOFILE, &limit)) {
-        limit.rlim_cur = limit.rlim_max;
-        setrlimit(RLIMIT_NOFILE, &limit);
-    }
-}
+static const char help[] =
+    "vhost_user_host FOLDER --budget MIB [--floor MIB] [--period MS] [--features HEX] [--strict] [--events] [--lines N]";
 
 int main(int count, char **words)
 {
     static struct host host;
     static struct backend trial;
-    setvbuf(stdout, NULL, _IOLBF, 0);
-    signal(SIGPIPE, SIG_IGN); /* a client that has gone is noticed by what a write answers */
+    process_begin();
+    if (process_answers(count, words, "vhost_user_host", help))
+        return 0;
     if (!read_options(&host, count, words)) {
-        fputs("vhost_user_host FOLDER --budget MIB [--floor MIB] [--period MS] [--features HEX] [--strict] [--events]\n", stderr);
+        fprintf(stderr, "%s\n", help);
         return 2;
     }
-    if (!backend_start(&trial, &host.options))
+    host.end = process_end();
+    if (!backend_start(&trial, &host.options) || host.end < 0)
         return 2;
-    allow_files();
+    process_allow_files(FILES_OF_PROCESS + MOST_GUESTS * (1 + FILES_OF_CLIENT));
     puts("ready");
     int status = host_run(&host);
     while (host.count > 0)

@@ -165,7 +165,7 @@ def longest_path(bench):
 def queues_run(bench):
     """Queues and seats of a host that looks once a minute."""
     longest_path(bench)
-    with bench.town(5, ("--floor", "0", "--period", "60000"), checked=True) as town:
+    with bench.town(5, ("--floor", "0", "--period", "60000", "--lines", "1000"), checked=True) as town:
         client = long_queue(town)
         demand(town.host.ask("a ask") == "nothing", "a guest is asked whose buffer isn't there")
         last_queue_s_kick(client)

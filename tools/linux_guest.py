@@ -83,6 +83,15 @@ class Backend:
         words = self.ask("counters").split()
         return dict(zip(words[0::2], map(int, words[1::2])))
 
+    def is_at_rest(self):
+        """Whether it takes no processor's time while nobody wants anything of it."""
+        def seconds():
+            with open(f"/proc/{self.process.pid}/stat", encoding="ascii") as its:
+                return sum(map(int, its.read().rsplit(")", 1)[1].split()[11:13])) / os.sysconf("SC_CLK_TCK")
+        before = seconds()
+        time.sleep(0.8)
+        return seconds() - before < 0.1
+
     def statistics(self):
         """Returns how often the guest told its statistics, and the last ones by their names."""
         _, count, *words = self.ask("statistics").split()

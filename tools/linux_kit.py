@@ -20,7 +20,9 @@ LIBRARY = os.path.join(ROOT, "crates", "vb_c", "out", "libvb_c.a")
 # The backends' files in monitor: of all, of each, and what a build for tests has besides.
 PARTS = tuple(
     f"backend/{it}"
-    for it in ("backend", "control", "events", "guard", "guest_memory", "kicks", "rings", "statistics", "stream")
+    for it in (
+        "backend", "control", "counters", "events", "guard", "guest_memory", "kicks", "process", "rings", "say", "statistics", "stream",
+    )
 )
 VHOST_PARTS = tuple(
     f"backend/{it}" for it in ("features", "inbox", "messages", "ring_messages", "slots", "vhost_user")
@@ -28,7 +30,7 @@ VHOST_PARTS = tuple(
 CLIENT_PARTS = {
     "vhost_user_balloon": ("backend/loop", "backend/state", *VHOST_PARTS),
     "pci_proxy_balloon": ("backend/loop", "backend/state", "backend/virtio_pci"),
-    "vhost_user_host": (*VHOST_PARTS, *(f"host/{it}" for it in ("journal", "lines", "loop", "policy", "seats"))),
+    "vhost_user_host": (*VHOST_PARTS, *(f"host/{it}" for it in ("journal", "lines", "loop", "marks", "policy", "seats"))),
 }
 AUDIT_PARTS = ("backend/audit", "backend/wrong")
 FLAGS = ("-std=c11", "-O2", "-Wall", "-Wextra", "-Werror")
@@ -40,10 +42,13 @@ WRONG_PARTS = {"vhost_user_balloon": ("backend/wrong_backend",), "vhost_user_hos
 WRONG_WRAPPED = {
     "vhost_user_balloon": (
         "event_signal", "ring_end", "message_answer", "message_wants_answer", "message_tell", "memory_remove", "rings_forget",
-        "memory_of_user", "statistics_room", "memory_clear", "backend_tell_change", "backend_serve_pending",
-        "slots_forget",
+        "memory_of_user", "statistics_room", "memory_clear", "backend_tell_change", "backend_serve_pending", "slots_forget",
+        "event_take_kick", "backend_start", "stream_fill", "file_number", "fsync",
     ),
-    "vhost_user_host": ("vb_targets", "vb_spare", "vb_needs_targets"),
+    "vhost_user_host": (
+        "vb_targets", "vb_spare", "vb_needs_targets", "counters_taken", "seat_set_target", "policy_decide", "host_changed",
+        "marks_follow",
+    ),
 }
 
 # The last QEMU whose PCI proxy works.

@@ -26,6 +26,8 @@ LIMIT = 20
 
 def program():
     """Builds the backend once, with the compiler's checks."""
+    if "BACKEND_PROGRAM" in os.environ:
+        return os.environ["BACKEND_PROGRAM"]
     if not hasattr(program, "path"):
         program.folder = tempfile.TemporaryDirectory(prefix="test-pci-proxy-")
         core = linux_kit.core_of()
@@ -37,11 +39,11 @@ def program():
 class Client:
     """A machine with a guest's memory, and the backend that it talks to."""
 
-    def __init__(self):
+    def __init__(self, *options):
         self.folder = tempfile.TemporaryDirectory(prefix="test-pci-proxy-")
         self.socket, theirs = socket.socketpair()
         self.socket.settimeout(LIMIT)
-        self.backend = linux_guest.Backend(program(), self.folder.name, [str(theirs.fileno()), "--strict"], [theirs.fileno()])
+        self.backend = linux_guest.Backend(program(), self.folder.name, [str(theirs.fileno()), "--strict", *options], [theirs.fileno()])
         theirs.close()
         self.memory, self.interrupt = os.memfd_create("memory"), os.eventfd(0, os.EFD_NONBLOCK)
         os.write(self.memory, bytes(16 * PAGE) + b"\xff" * (PAGES - 16) * PAGE)

@@ -280,3 +280,7 @@ class Client:
         if not select.select([self.calls[number]], [], [], limit)[0]:
             return 0
         return os.eventfd_read(self.calls[number])
+
+    def said(self, number, limit=LIMIT):
+        """Returns the next bytes of a pipe by which a queue is called; none where nothing comes in time."""
+        return os.read(self.calls[number], 8) if select.select([self.calls[number]], [], [], limit)[0] else b""

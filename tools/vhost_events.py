@@ -4,7 +4,6 @@ memory and its answers; those of a device's life are in vhost_lives.py."""
 import os
 import select
 import signal
-import socket
 import struct
 import time
 
@@ -215,25 +214,15 @@ class Events(Lives):
         self.assertEqual((client.counter("status"), client.used(INFLATE)[0]), (15, 1))
         os.close(kick)
 
-    def test_pipes_and_sockets_for_events(self):
+    def test_a_pipe_for_calls(self):
         client = self.started()
-        for ends in (os.pipe(), tuple(it.detach() for it in socket.socketpair())):
-            os.close(client.calls[INFLATE])
-            client.calls[INFLATE], theirs = ends[0], ends[1]
-            client.accepted(SET_VRING_CALL, word(INFLATE), [theirs])
-            os.read(client.calls[INFLATE], 8)
-            client.post_pages(INFLATE, [FIRST])
-            self.assertEqual(os.read(client.calls[INFLATE], 16), word(1))
-            os.close(theirs)
-        for ends in (os.pipe(), tuple(it.detach() for it in socket.socketpair())):
-            client.accepted(SET_VRING_KICK, word(DEFLATE), [ends[0]])
-            client.describe(DEFLATE, 0, BUFFERS, 4)
-            client.publish(DEFLATE, 0)
-            os.write(ends[1], word(1))
-            self.assertEqual(client.called(DEFLATE), 1)
-            os.close(ends[0]), os.close(ends[1])
-            client.counter("kicks")
-            self.assertTrue(client.is_at_rest(), "a kick whose other end has gone isn't let go of")
+        os.close(client.calls[INFLATE])
+        client.calls[INFLATE], theirs = os.pipe()
+        client.accepted(SET_VRING_CALL, word(INFLATE), [theirs])
+        self.assertEqual(client.said(INFLATE), word(1))  # who is called anew may have missed a call
+        client.post_pages(INFLATE, [FIRST])
+        self.assertEqual(client.said(INFLATE), word(1))
+        os.close(theirs)
 
     def test_a_call_for_which_there_is_no_room(self):
         client = self.started()
@@ -243,37 +232,34 @@ class Events(Lives):
         time.sleep(MOMENT)
         self.assertEqual((client.counter("interrupts"), client.used(INFLATE)[0]), (1, 1))
 
-    def test_a_call_to_a_pipe_or_a_socket_that_is_full(self):
+    def test_a_call_to_a_pipe_that_is_full(self):
         client = self.started()
-        for count, ends in enumerate((os.pipe(), tuple(it.detach() for it in socket.socketpair())), 1):
-            os.set_blocking(ends[1], False)
-            try:
-                while os.write(ends[1], bytes(8)):
-                    pass
-            except BlockingIOError:
+        ends = os.pipe()
+        os.set_blocking(ends[1], False)
+        try:
+            while os.write(ends[1], bytes(8)):
                 pass
-            client.accepted(SET_VRING_CALL, word(INFLATE), [ends[1]])
-            os.set_blocking(ends[1], True)
-            client.post_pages(INFLATE, [FIRST])
-            time.sleep(MOMENT)
-            self.assertEqual((client.counter("interrupts"), client.used(INFLATE)[0]), (count, count))
-            client.accepted(SET_VRING_CALL, word(INFLATE | NO_FILE))
-            os.close(ends[0]), os.close(ends[1])
+        except BlockingIOError:
+            pass
+        client.accepted(SET_VRING_CALL, word(INFLATE), [ends[1]])
+        os.set_blocking(ends[1], True)
+        client.post_pages(INFLATE, [FIRST])
+        time.sleep(MOMENT)
+        self.assertEqual((client.counter("interrupts"), client.used(INFLATE)[0]), (1, 1))
+        client.accepted(SET_VRING_CALL, word(INFLATE | NO_FILE))
+        os.close(ends[0]), os.close(ends[1])
 
     def test_one_event_for_the_kicks_of_two_queues(self):
         client = self.started()
-        os.mkfifo(client.file("pipe"))
-        event, pipe = os.eventfd(0, os.EFD_NONBLOCK), os.open(client.file("pipe"), os.O_RDWR)
-        for count, ends in enumerate(((event, event), (pipe, pipe), tuple(it.detach() for it in socket.socketpair())), 1):
-            for number in (INFLATE, DEFLATE):
-                client.accepted(SET_VRING_KICK, word(number), [ends[0]])
-            os.set_blocking(ends[0], True)
-            client.describe(INFLATE, 0, BUFFERS, 4)
-            client.publish(INFLATE, 0)
-            os.write(ends[1], word(1))  # whoever takes it, the other one finds nothing, and doesn't wait
-            self.assertEqual((client.called(INFLATE), client.used(INFLATE)[0], client.counter("kicks")), (1, count, count))
-            for it in set(ends):
-                os.close(it)
+        event = os.eventfd(0, os.EFD_NONBLOCK)
+        for number in (INFLATE, DEFLATE):
+            client.accepted(SET_VRING_KICK, word(number), [event])
+        os.set_blocking(event, True)
+        client.describe(INFLATE, 0, BUFFERS, 4)
+        client.publish(INFLATE, 0)
+        os.eventfd_write(event, 1)  # whoever takes it, the other one finds nothing, and doesn't wait
+        self.assertEqual((client.called(INFLATE), client.used(INFLATE)[0], client.counter("kicks")), (1, 1, 1))
+        os.close(event)
 
     def test_a_kick_that_another_event_follows(self):
         client = self.started()
@@ -296,7 +282,7 @@ class Events(Lives):
         self.assertEqual((client.called(INFLATE), client.used(INFLATE)[0]), (1, 1))
 
     def test_a_channel_that_nobody_reads(self):
-        client = self.started()
+        client = self.started("--lines", "1000")
         for target in range(3000):
             self.assertEqual(client.backend.ask(f"target {target}"), "ok")
         self.assertEqual(client.backend.ask("target 0"), "ok")

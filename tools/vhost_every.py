@@ -71,7 +71,7 @@ class Every(unittest.TestCase):
         cls.folder = tempfile.TemporaryDirectory(prefix="test-vhost-user-")
         program = vhost_served.build(cls.folder.name, "vhost_user_host")
         little = {"ASAN_OPTIONS": "quarantine_size_mb=4"}
-        cls.host = linux_host.Host(program, cls.folder.name, 4096, environment=little)
+        cls.host = linux_host.Host(program, cls.folder.name, 4096, ("--lines", "1000000"), environment=little)
         cls.well = Client(cls.host.add("well"), cls.host.why)
         cls.well.start()
         cls.paths = [cls.host.add(f"seat{it}") for it in range(SEATS)]

@@ -151,6 +151,7 @@ class Refuses(unittest.TestCase):
             ("SET_MEM_TABLE has 296 bytes", SET_MEM_TABLE, struct.pack("<II", 9, 0) + bytes(288), 8),
             ("a memory table of 2 regions with 1 files", SET_MEM_TABLE, struct.pack("<II", 2, 0) + bytes(64), 1),
             ("a memory table of 2 regions with 2 files", SET_MEM_TABLE, struct.pack("<II", 2, 0) + bytes(32), 2),
+            ("SET_MEM_TABLE has 8 files and more", SET_MEM_TABLE, struct.pack("<II", 8, 0) + bytes(256), 9),
             ("can't be mapped", SET_MEM_TABLE, struct.pack("<IIQQQQ", 1, 0, 0, 0, 0, 0), 1),
             ("can't be mapped", SET_MEM_TABLE, struct.pack("<IIQQQQ", 1, 0, 2**64 - PAGE, 2 * PAGE, 0, 0), 1),
             ("can't be mapped", SET_MEM_TABLE, struct.pack("<IIQQQQ", 1, 0, 0, PAGE, 0, 1), 1),
@@ -259,21 +260,19 @@ class Refuses(unittest.TestCase):
                 said = f"refused: {path} is no saved state: it is answered {code}\n"
                 self.assertEqual((ran.returncode, ran.stdout, ran.stderr), (2, "", said))
 
-    def test_states_that_cannot_be_read_or_written(self):
-        for words, target, line in (
-            ("Too many levels of symbolic links", "state", False),
-            ("No space left on device", "/dev/full", True),
-            ("Is a directory", "", True),
+    def test_states_that_cannot_be_read(self):
+        for words, make in (
+            ("Too many levels of symbolic links", lambda path: os.symlink("state", path)),
+            ("Too many levels of symbolic links", lambda path: os.symlink("/dev/null", path)),
+            ("Invalid argument", os.mkfifo),
+            ("Invalid argument", os.mkdir),
         ):
             with self.subTest(words=words), tempfile.TemporaryDirectory() as folder:
                 path = os.path.join(folder, "state")
-                place = f"{path}.part" if line else path
-                os.symlink(target, place) if target else os.mkdir(place)
+                make(path)
                 options = [program(), f"{folder}/socket", "--state", path]
-                ran = subprocess.run(options, input="target 5\n" * line, capture_output=True, text=True, timeout=LIMIT)
-                said = f"vhost_user_balloon: {folder}/socket: Operation canceled\n" * line
-                answers = "listening\nok\n" * line
-                self.assertEqual((ran.returncode, ran.stdout, ran.stderr), (2, answers, f"refused: {path}: {words}\n{said}"))
+                ran = subprocess.run(options, stdin=subprocess.DEVNULL, capture_output=True, text=True, timeout=LIMIT)
+                self.assertEqual((ran.returncode, ran.stdout, ran.stderr), (2, "", f"refused: {path}: {words}\n"))
 
     def test_bytes_that_are_no_message(self):
         client = self.started()

@@ -30,10 +30,10 @@ def build(folder, name="vhost_user_balloon", wrong=False):
 class Served(Client):
     """A client with a backend of its own."""
 
-    def __init__(self, *options):
-        self.folder = tempfile.TemporaryDirectory(prefix="test-vhost-user-")
+    def __init__(self, *options, built=None, environment=None):
+        self.folder, self.lines = tempfile.TemporaryDirectory(prefix="test-vhost-user-"), []
         self.path = os.path.join(self.folder.name, "socket")
-        self.backend = linux_guest.Backend(program(), self.folder.name, [self.path, *options])
+        self.backend = linux_guest.Backend(built or program(), self.folder.name, [self.path, *options], environment=environment)
         super().__init__(self.path, self.backend.why)
 
     def restart(self, *options, killed=False):
@@ -50,12 +50,14 @@ class Served(Client):
         return os.path.join(self.folder.name, name)
 
     def close(self):
-        """Goes; returns the backend's status and what it said last."""
+        """Goes; returns the backend's status and what it said last. `lines` is all that it said."""
         self.socket.close()
         status = self.backend.process.wait(LIMIT)
         self.leave()
         self.backend.process.stdin.close(), self.backend.process.stdout.close()
         said = self.backend.why()
+        with open(self.backend.log, encoding="latin-1") as log:
+            self.lines = log.read().splitlines()
         self.folder.cleanup()
         return status, said
 
@@ -65,12 +67,7 @@ class Served(Client):
 
     def is_at_rest(self):
         """Whether the backend takes no processor's time while nobody wants anything of it."""
-        def seconds():
-            with open(f"/proc/{self.backend.process.pid}/stat", encoding="ascii") as stat:
-                return sum(map(int, stat.read().rsplit(")", 1)[1].split()[11:13])) / os.sysconf("SC_CLK_TCK")
-        before = seconds()
-        time.sleep(0.8)
-        return seconds() - before < 0.1
+        return self.backend.is_at_rest()
 
     def open_files(self):
         """Returns how many files the backend has open."""

@@ -7,33 +7,16 @@
 #include <stdlib.h>
 #include <unistd.h>
 
-const char *served_name;
-
-bool refuse(const char *format, ...)
-{
-    va_list words;
-    va_start(words, format);
-    if (served_name)
-        fprintf(stderr, "refused %s: ", served_name);
-    else
-        fputs("refused: ", stderr);
-    vfprintf(stderr, format, words);
-    fputc('\n', stderr);
-    va_end(words);
-    return false;
-}
-
 void remark(struct backend *backend, const char *format, ...)
 {
+    char line[MOST_REMARK];
     va_list words;
     if (backend->remarks++ >= MOST_REMARKS)
         return;
     va_start(words, format);
-    if (served_name)
-        fprintf(stderr, "%s: ", served_name);
-    vfprintf(stderr, format, words);
-    fputc('\n', stderr);
+    vsnprintf(line, sizeof line, format, words);
     va_end(words);
+    complain("%s", line);
 }
 
 bool read_number(const char *word, int base, uint64_t most, uint64_t *number)
@@ -45,12 +28,12 @@ bool read_number(const char *word, int base, uint64_t most, uint64_t *number)
     return isxdigit((unsigned char)word[0]) && !*end && errno == 0 && *number <= most;
 }
 
-/* How many of these pages left the balloon below its target: the guest took them back by itself. */
-static uint64_t taken_of(const struct balloon *balloon, uint64_t pages)
+bool read_lines(const char *word)
 {
-    uint64_t left = balloon->ballooned ? vb_count_ballooned(balloon->ballooned, balloon->ballooned_words) : UINT64_MAX;
-    uint64_t below = left < balloon->state.device.target ? balloon->state.device.target - left : 0;
-    return below < pages ? below : pages;
+    uint64_t lines;
+    bool read = read_number(word, 10, UINT32_MAX / 2, &lines);
+    most_lines = read ? (unsigned)lines : most_lines;
+    return read;
 }
 
 /* Counts the pages of a request that was served. */
@@ -64,7 +47,6 @@ static void count_pages(void *context, uint32_t kind, const VbRun *runs, uint32_
     backend->counters.deflated += kind == VB_DEFLATE ? pages : 0;
     backend->counters.reported += kind == VB_REPORT ? pages : 0;
     backend->counters.reports += kind == VB_REPORT;
-    backend->counters.taken += kind == VB_DEFLATE ? taken_of(&backend->balloon, pages) : 0;
     audit_pages(backend, kind);
 }
 
@@ -84,6 +66,7 @@ bool backend_start(struct backend *backend, const struct options *options)
     if (balloon_init(&backend->balloon, backend->memory.regions, 0, settings) != VB_OK)
         return refuse("the device can't offer the features 0x%llx", (unsigned long long)options->features);
     backend->balloon.most_chains = MOST_CHAINS;
+    backend->balloon.most_pages = MOST_PAGES;
     backend->balloon.context = backend;
     backend->balloon.on_pages = count_pages;
     backend->balloon.on_statistics = hear_statistics;
@@ -95,7 +78,7 @@ void backend_leave(struct backend *backend)
 {
     rings_close(backend);
     if (backend->channel >= 0)
-        close(backend->channel);
+        file_close(backend->channel);
     backend->channel = -1;
     memory_clear(&backend->memory);
 }
@@ -133,20 +116,6 @@ static const char *rule_words(uint32_t rule)
     return rule < sizeof words / sizeof words[0] ? words[rule] : "an unknown rule";
 }
 
-/* Counts what a result says. */
-static void count_result(struct counters *counters, const struct balloon_result *result)
-{
-    counters->chains += result->chains;
-    counters->pages += result->pages;
-    counters->discarded += result->discarded;
-    counters->waiting += result->waiting;
-    counters->skipped += result->skipped;
-    counters->in_holes += result->in_holes;
-    counters->kept += result->kept;
-    counters->marked += result->marked;
-    counters->unmarked += result->unmarked;
-}
-
 /* Tells of the used buffers of a result. */
 static bool interrupt(struct backend *backend, const struct balloon_result *result)
 {
@@ -161,9 +130,21 @@ static bool interrupt(struct backend *backend, const struct balloon_result *resu
     return true;
 }
 
-bool backend_finish(struct backend *backend, const struct balloon_result *result)
+/* What a queue of this kind has done to the set of ballooned pages: inflates put pages in, deflates take them out. */
+static void count_marks(struct backend *backend, uint32_t kind, uint32_t marked)
 {
-    count_result(&backend->counters, result);
+    uint32_t before = backend->ballooned;
+    if (kind == VB_INFLATE)
+        backend->ballooned += marked;
+    if (kind == VB_DEFLATE)
+        backend->ballooned -= marked;
+    backend->counters.taken += counters_taken(before, backend->ballooned, backend->balloon.state.device.target);
+}
+
+bool backend_finish(struct backend *backend, uint32_t kind, const struct balloon_result *result)
+{
+    counters_add(&backend->counters, result);
+    count_marks(backend, kind, (uint32_t)result->marked);
     if (result->error)
         remark(backend, "%llu pages can't be discarded: %s", (unsigned long long)result->kept, strerror(result->error));
     if (!interrupt(backend, result))
@@ -177,11 +158,12 @@ bool backend_serve(struct backend *backend, unsigned number)
 {
     const struct event *fault = &backend->rings[number].fault;
     audit_before(backend, number);
-    struct balloon_result result = balloon_notify_number(&backend->balloon, number);
+    uint32_t kind = vb_kind(&backend->balloon.state.device, number);
+    struct balloon_result result = balloon_notify(&backend->balloon, kind);
     audit_after(backend, number);
     backend->pending &= ~(1u << number);
     backend->pending |= result.more ? 1u << number : 0;
-    bool served = backend_finish(backend, &result);
+    bool served = backend_finish(backend, kind, &result);
     if (!served && fault->file >= 0)
         event_signal(fault);
     return served;

@@ -3,10 +3,16 @@
 #define BACKEND_H
 #include "guest_memory.h"
 #include "counters.h"
+#include "process.h"
 #include "rings.h"
+#include "say.h"
 
 /* A notice serves so many chains at most: then the other queues and the client have their turn. */
-enum { MOST_TAGS = 16, MOST_REMARKS = 100, MOST_CHAINS = 64 };
+enum { MOST_TAGS = 16, MOST_REMARKS = 100, MOST_REMARK = 256, MOST_CHAINS = 64, MOST_PAGES = 1024 };
+
+/* Files that a client may have opened here: those of its memory and of a message, the events of its queues, its channel, itself;
+ * and those of a process without one. */
+enum { FILES_OF_CLIENT = MOST_REGIONS + 8 + 3 * QUEUES + 2, FILES_OF_PROCESS = 8 };
 
 struct options {
     const char *client;         /* the client's socket: a name, or a number */
@@ -26,6 +32,7 @@ struct backend {
     uint32_t figure_count;
     uint32_t pending;           /* bit 1 << number: more stands on this queue */
     uint32_t seen;              /* what `actual` was when it was last looked at */
+    uint32_t ballooned;         /* the pages in the balloon's set */
     int socket, channel;        /* the client's, and the one on which it is told things; -1: none */
     int listener;               /* where the client comes while `socket` is -1 */
     const struct options *options;
@@ -36,21 +43,20 @@ struct backend {
     /* Whether the host has room for the memory that was handed over, else says why not; or NULL: it always has. */
     bool (*admit)(struct backend *backend);
     bool gone;                  /* the client doesn't take answers any longer */
+    bool ended;                 /* a signal has told the process to end */
+    bool rests;                 /* no file was left for a client that came: it isn't looked for until the next look */
     unsigned remarks;           /* what was said of it, at most MOST_REMARKS lines */
 };
 
-/* Whose client is served just now, for what is said of it; NULL where there is one client alone. */
-extern const char *served_name;
-
-/* Says on standard error why the guest isn't served any longer; returns false. */
-bool refuse(const char *format, ...) __attribute__((format(printf, 1, 2)));
-
-/* Says something of a client that goes on being served, on standard error; but not for ever. */
+/* Says something of a client that goes on being served; but not for ever. */
 void remark(struct backend *backend, const char *format, ...) __attribute__((format(printf, 2, 3)));
 
 /* Reads a word of digits, of base 10, or of base 16 with 0x before them or without; false where it is another word, or where
  * the number is more than `most`. */
 bool read_number(const char *word, int base, uint64_t most, uint64_t *number);
+
+/* Reads how many lines are said of a client in a second; false where it is no number. */
+bool read_lines(const char *word);
 
 /* Reads the words that follow a program's name; false where it doesn't know one. */
 bool backend_options(struct options *options, int count, char **words);
@@ -80,8 +86,9 @@ void backend_look(struct backend *backend);
 /* Tells the driver of a change of its configuration. */
 void backend_tell_change(struct backend *backend);
 
-/* Does what a result says: interrupts, and counts; false where the guest's bytes broke a rule. */
-bool backend_finish(struct backend *backend, const struct balloon_result *result);
+/* Does what a result of a queue of this kind says: interrupts, and counts; false where the guest's bytes broke a rule. Where
+ * there is a set, no other queue may have been looked at. */
+bool backend_finish(struct backend *backend, uint32_t kind, const struct balloon_result *result);
 
 /* Keeps what the guest told of itself: of more than MOST_TAGS figures, the first ones. */
 void statistics_keep(struct backend *backend, const VbStatistic *figures, uint32_t count);

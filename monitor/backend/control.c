@@ -52,7 +52,7 @@ static bool ask(struct backend *backend)
         struct balloon_result result = balloon_ask_statistics(&backend->balloon);
         audit_after(backend, number);
         puts(result.code == VB_OK ? "asked" : "nothing");
-        return backend_finish(backend, &result);
+        return backend_finish(backend, VB_STATISTICS, &result);
     }
     puts("nothing");
     return true;

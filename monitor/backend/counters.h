@@ -16,4 +16,12 @@ struct counters {
     COUNTERS(COUNTER_FIELD)
 };
 
+struct balloon_result;
+
+/* Counts what a result says. */
+void counters_add(struct counters *counters, const struct balloon_result *result);
+
+/* How many of the pages that left the balloon did so below its target: the guest took them back by itself. */
+uint64_t counters_taken(uint32_t before, uint32_t after, uint32_t target);
+
 #endif

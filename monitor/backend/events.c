@@ -1,39 +1,46 @@
 #define _GNU_SOURCE
 #include "events.h"
 
+#include "process.h"
+#include "say.h"
+
 #include <errno.h>
 #include <fcntl.h>
 #include <poll.h>
 #include <signal.h>
 #include <stdint.h>
-#include <sys/socket.h>
+#include <stdio.h>
+#include <string.h>
 #include <sys/stat.h>
 #include <sys/time.h>
 #include <sys/uio.h>
 #include <unistd.h>
 
-/* An eventfd is a file of no type. Microseconds after which a call is broken off that was to come back at once. */
-enum { NO_TYPE = 0, MOMENT = 1000 };
+/* Microseconds after which a call is broken off that was to come back at once. TRIES: a look at an eventfd is made anew where
+ * somebody else has read it meanwhile. */
+enum { MOMENT = 1000, TRIES = 4 };
 
 void event_close(struct event *event)
 {
     if (event->file >= 0)
-        close(event->file);
+        file_close(event->file);
     *event = NO_EVENT;
 }
 
-bool event_take(struct event *event, int file)
+/* Whether a file is an eventfd, by its name in /proc: a file that has a path begins with a slash there. */
+static bool is_eventfd(int file)
+{
+    static const char name[] = "anon_inode:[eventfd]";
+    char path[32], target[sizeof name];
+    snprintf(path, sizeof path, "/proc/self/fd/%d", file);
+    ssize_t length = readlink(path, target, sizeof target);
+    return length == (ssize_t)sizeof name - 1 && !memcmp(target, name, sizeof name - 1);
+}
+
+static bool is_pipe(int file)
 {
     struct stat its;
-    event_close(event);
-    bool known = !fstat(file, &its)
-        && ((its.st_mode & S_IFMT) == NO_TYPE || S_ISFIFO(its.st_mode) || S_ISSOCK(its.st_mode));
-    if (!known || fcntl(file, F_SETFL, fcntl(file, F_GETFL) | O_NONBLOCK) != 0) {
-        close(file);
-        return false;
-    }
-    *event = (struct event){file, S_ISSOCK(its.st_mode)};
-    return true;
+    return !fstat(file, &its) && S_ISFIFO(its.st_mode);
 }
 
 /* Whether a call that was refused would have had to wait. */
@@ -42,11 +49,11 @@ static bool would_wait(void)
     return errno == EAGAIN || errno == EWOULDBLOCK || errno == EINTR;
 }
 
-/* Whether a file has something to read, or its end; or room to be written to. */
-static bool is_ready(int file, short how)
+/* Whether a file has room to be written to. */
+static bool has_room(int file)
 {
-    struct pollfd its = {file, how, 0};
-    return poll(&its, 1, 0) > 0 && (its.revents & (how | POLLHUP));
+    struct pollfd its = {file, POLLOUT, 0};
+    return poll(&its, 1, 0) > 0 && (its.revents & (POLLOUT | POLLERR | POLLHUP));
 }
 
 static void break_off(int number)
@@ -54,59 +61,105 @@ static void break_off(int number)
     (void)number;
 }
 
-/* Breaks off whatever waits from now on, again and again, until `moment_ends`: by a signal. */
-static void moment_begins(void)
+/* Breaks off whatever waits from now on, again and again, until `moment_ends`: by a signal. False where it can't. */
+static bool moment_begins(void)
 {
     static const struct itimerval soon = {{0, MOMENT}, {0, MOMENT}};
     static bool prepared;
     struct sigaction action = {.sa_handler = break_off};
     if (!prepared)
         prepared = sigaction(SIGALRM, &action, NULL) == 0;
-    if (prepared)
-        setitimer(ITIMER_REAL, &soon, NULL);
+    return prepared && setitimer(ITIMER_REAL, &soon, NULL) == 0;
 }
 
 static void moment_ends(void)
 {
     static const struct itimerval never;
-    setitimer(ITIMER_REAL, &never, NULL);
+    if (setitimer(ITIMER_REAL, &never, NULL))
+        complain("a timer doesn't end: %s", strerror(errno));
 }
 
-/* Reads without waiting, whatever the other end has made of the file's flags, or reads of it meanwhile. */
-static ssize_t read_now(const struct event *event, void *to, size_t length)
+/* Writes a number without waiting, whatever the other end has made of the file's flags, or writes meanwhile: 1; 0 where there
+ * is no room; -1 at a fault. */
+static int write_now(int file, uint64_t number)
 {
-    struct iovec part = {to, length};
-    if (event->is_socket)
-        return recv(event->file, to, length, MSG_DONTWAIT);
-    ssize_t got = preadv2(event->file, &part, 1, -1, RWF_NOWAIT);
-    if (got >= 0 || errno != EOPNOTSUPP)
-        return got;
-    if (!is_ready(event->file, POLLIN))
-        return errno = EAGAIN, -1;
-    moment_begins();
-    got = read(event->file, to, length);
+    if (!has_room(file))
+        return 0;
+    if (!moment_begins())
+        return -1;
+    ssize_t put = write(file, &number, sizeof number);
+    int outcome = put > 0 ? 1 : would_wait() ? 0 : -1;
     moment_ends();
-    return got;
+    return outcome;
+}
+
+/* Reads an eventfd without waiting, whatever the other end has made of its flags, or reads meanwhile: 1; 0 where there is
+ * nothing; -1 at a fault. */
+static int read_now(int file, uint64_t *number)
+{
+    struct iovec part = {number, sizeof *number};
+    ssize_t got = preadv2(file, &part, 1, -1, RWF_NOWAIT);
+    return got > 0 ? 1 : got < 0 && would_wait() ? 0 : -1;
+}
+
+/* Whether a read of an eventfd takes all that was told, and not one of it: it has two more when it is read, and gets back what it
+ * had. */
+static bool reads_all(int file)
+{
+    for (unsigned i = 0; i < TRIES; i++) {
+        uint64_t number, more = write_now(file, 2) > 0 ? 2 : 0;
+        int got = read_now(file, &number);
+        if (got < 0 || (got > 0 && number < 2))
+            return false;
+        if (got > 0)
+            return number == more || write_now(file, number - more) >= 0;
+    }
+    return false;
+}
+
+/* Whether an eventfd has nothing more to read once it was read. Before Linux 6.5 only a trial shows it. */
+static bool comes_to_rest(int file)
+{
+    int semaphore = file_number(file, "eventfd-semaphore:");
+    return semaphore < 0 ? reads_all(file) : semaphore == 0;
+}
+
+/* Takes a file that doesn't block, in place of the one before. */
+static bool take(struct event *event, int file, bool known)
+{
+    event_close(event);
+    if (!known) {
+        file_close(file);
+        return false;
+    }
+    event->file = file;
+    return true;
+}
+
+/* Whether a file doesn't block any longer. */
+static bool unblock(int file)
+{
+    int flags = fcntl(file, F_GETFL);
+    return flags >= 0 && fcntl(file, F_SETFL, flags | O_NONBLOCK) == 0;
+}
+
+bool event_take_kick(struct event *event, int file)
+{
+    return take(event, file, is_eventfd(file) && unblock(file) && comes_to_rest(file));
+}
+
+bool event_take_call(struct event *event, int file)
+{
+    return take(event, file, (is_eventfd(file) || is_pipe(file)) && unblock(file));
 }
 
 int event_read(const struct event *event)
 {
-    uint64_t count;
-    ssize_t got = read_now(event, &count, sizeof count);
-    if (got < 0)
-        return would_wait() ? 0 : -1;
-    return got > 0 ? 1 : -1;
+    uint64_t number;
+    return read_now(event->file, &number);
 }
 
 bool event_signal(const struct event *event)
 {
-    uint64_t one = 1;
-    if (event->is_socket)
-        return send(event->file, &one, sizeof one, MSG_DONTWAIT | MSG_NOSIGNAL) > 0 || would_wait();
-    if (!is_ready(event->file, POLLOUT))
-        return true;
-    moment_begins(); /* what others write meanwhile may leave no room */
-    bool told = write(event->file, &one, sizeof one) > 0 || would_wait();
-    moment_ends();
-    return told;
+    return write_now(event->file, 1) >= 0;
 }

@@ -1,5 +1,8 @@
 #include "guest_memory.h"
 
+#include "process.h"
+#include "say.h"
+
 #include <linux/magic.h>
 #include <sys/stat.h>
 #include <sys/vfs.h>
@@ -7,8 +10,9 @@
 
 static void unmap(const struct balloon_region *region)
 {
-    munmap(region->host, region->length);
-    close(region->fd);
+    if (munmap(region->host, region->length))
+        complain("%llu bytes of memory can't be unmapped: %s", (unsigned long long)region->length, strerror(errno));
+    file_close(region->fd);
 }
 
 void memory_clear(struct guest_memory *memory)
@@ -51,25 +55,54 @@ static bool has_bytes(int file, const struct region_place *place)
     return !fstat(file, &its) && S_ISREG(its.st_mode) && place->offset + place->size <= (uint64_t)its.st_size;
 }
 
-/* Bytes of the pages of a file of large pages; 0 where it has none. */
-static uint64_t page_size_of(int file)
+/* Whether nobody but the kernel is waited for at an access: memory without a disk, or a plain file on a disk of its own. A file
+ * of FUSE, or one of another machine, has its pages when somebody else likes. */
+static bool is_at_hand(const struct statfs *its)
+{
+    static const unsigned long known[] = {
+        TMPFS_MAGIC, HUGETLBFS_MAGIC, RAMFS_MAGIC, EXT4_SUPER_MAGIC, XFS_SUPER_MAGIC, BTRFS_SUPER_MAGIC, F2FS_SUPER_MAGIC};
+    for (unsigned i = 0; i < sizeof known / sizeof known[0]; i++)
+        if ((unsigned long)its->f_type == known[i])
+            return true;
+    complain("a region's file is on a file system of type 0x%lx, whose pages may have to be waited for", (unsigned long)its->f_type);
+    return false;
+}
+
+/* Whether a region is whole pages of its file, which are large in one of hugetlbfs: `page_size`, else 0. */
+static bool is_whole(const struct region_place *place, const struct statfs *its, uint64_t *page_size)
+{
+    *page_size = its->f_type == HUGETLBFS_MAGIC ? (uint64_t)its->f_bsize : 0;
+    if (*page_size == 0 || (place->size | place->offset) % *page_size == 0)
+        return true;
+    complain("a region of %llu bytes isn't whole pages of %llu", (unsigned long long)place->size, (unsigned long long)*page_size);
+    return false;
+}
+
+/* Maps a region's file, which can't be cut off from now on where it is a memfd that lets itself be sealed; MAP_FAILED where it
+ * can't. */
+static uint8_t *map(const struct region_place *place, int file, uint64_t *page_size)
 {
     struct statfs its;
-    return !fstatfs(file, &its) && its.f_type == HUGETLBFS_MAGIC ? (uint64_t)its.f_bsize : 0;
+    if (fstatfs(file, &its) || !is_at_hand(&its) || !is_whole(place, &its, page_size))
+        return MAP_FAILED;
+    fcntl(file, F_ADD_SEALS, F_SEAL_SHRINK);
+    if (!has_bytes(file, place))
+        return MAP_FAILED;
+    return mmap(NULL, place->size, PROT_READ | PROT_WRITE, MAP_SHARED, file, (off_t)place->offset);
 }
 
 bool memory_add(struct guest_memory *memory, struct region_place place, int file)
 {
     uint8_t *at = MAP_FAILED;
-    if (is_range(&place) && has_room(memory, &place) && has_bytes(file, &place))
-        at = mmap(NULL, place.size, PROT_READ | PROT_WRITE, MAP_SHARED, file, (off_t)place.offset);
+    uint64_t page_size = 0;
+    if (is_range(&place) && has_room(memory, &place))
+        at = map(&place, file, &page_size);
     if (at == MAP_FAILED) {
-        close(file);
+        file_close(file);
         return false;
     }
     memory->user[memory->count] = place.user;
-    memory->regions[memory->count++] =
-        (struct balloon_region){place.guest, place.size, at, file, place.offset, page_size_of(file)};
+    memory->regions[memory->count++] = (struct balloon_region){place.guest, place.size, at, file, place.offset, page_size};
     return true;
 }
 

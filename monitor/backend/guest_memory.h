@@ -19,8 +19,9 @@ struct guest_memory {
 /* Unmaps all regions and closes their files. */
 void memory_clear(struct guest_memory *memory);
 
-/* Maps one more region. Takes the file; false where it can't be mapped: it isn't whole pages, it wraps, there is one
- * at these addresses of the guest or of the client, its file ends before, or there are MOST_REGIONS. */
+/* Maps one more region. Takes the file; false where it can't be mapped: it isn't whole pages of its file, it wraps, there is one
+ * at these addresses of the guest or of the client, its file ends before, or isn't a memfd, one of tmpfs or hugetlbfs, or a plain
+ * file; or there are MOST_REGIONS. */
 bool memory_add(struct guest_memory *memory, struct region_place place, int file);
 
 /* Unmaps the region of this place, wherever it begins in its file; false where there is none. */

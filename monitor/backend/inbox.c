@@ -1,18 +1,6 @@
 #include "inbox.h"
 
-#include <errno.h>
-
-/* Where the next bytes go, and how many are wanted. */
-static uint8_t *place_for(struct inbox *inbox, size_t *wanted)
-{
-    size_t head = sizeof inbox->head;
-    if (inbox->got < head) {
-        *wanted = head - inbox->got;
-        return (uint8_t *)inbox->head + inbox->got;
-    }
-    *wanted = head + inbox->message.size - inbox->got;
-    return inbox->message.body + (inbox->got - head);
-}
+enum { HEAD = sizeof ((struct inbox *)0)->head };
 
 /* Takes note of a head that is there whole; false where no message begins so. */
 static bool read_head(struct inbox *inbox)
@@ -23,24 +11,16 @@ static bool read_head(struct inbox *inbox)
     return inbox->message.size <= MOST_BODY;
 }
 
-enum inbox_state inbox_read(int socket, struct inbox *inbox)
+enum stream_state inbox_read(int socket, struct inbox *inbox)
 {
-    for (;;) {
-        size_t wanted;
-        uint8_t *at = place_for(inbox, &wanted);
-        ssize_t got = stream_part(socket, at, wanted, &inbox->message.files);
-        if (got < 0 && errno == EINTR)
-            continue;
-        if (got < 0)
-            return errno == EAGAIN || errno == EWOULDBLOCK ? INBOX_WAITS : INBOX_WRONG;
-        if (got == 0)
-            return INBOX_GONE;
-        inbox->got += (size_t)got;
-        if (inbox->got == sizeof inbox->head && !read_head(inbox))
-            return INBOX_WRONG;
-        if (inbox->got >= sizeof inbox->head && inbox->got == sizeof inbox->head + inbox->message.size) {
-            inbox->got = 0;
-            return INBOX_WHOLE;
-        }
-    }
+    struct message *message = &inbox->message;
+    enum stream_state state = stream_fill(socket, inbox->head, HEAD, &inbox->got, &message->files);
+    if (state != STREAM_WHOLE)
+        return state;
+    if (!read_head(inbox))
+        return STREAM_WRONG;
+    state = stream_fill(socket, message->body, message->size, &inbox->got_body, &message->files);
+    if (state == STREAM_WHOLE)
+        inbox->got = inbox->got_body = 0;
+    return state;
 }

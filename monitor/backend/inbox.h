@@ -6,13 +6,11 @@
 struct inbox {
     struct message message;     /* the last whole one, until the next one begins */
     uint32_t head[3];
-    size_t got;                 /* bytes of the next one */
+    size_t got, got_body;       /* bytes of the next one's head, and of its body */
 };
-
-enum inbox_state { INBOX_WRONG = -1, INBOX_GONE, INBOX_WHOLE, INBOX_WAITS };
 
 /* Reads what has come of a message on a socket that doesn't block. A whole one is in `message` then; WRONG where the
  * bytes are none. */
-enum inbox_state inbox_read(int socket, struct inbox *inbox);
+enum stream_state inbox_read(int socket, struct inbox *inbox);
 
 #endif

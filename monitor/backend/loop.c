@@ -8,13 +8,14 @@
 
 enum { BALLOON_FEATURES = 0x27, LOOK_EVERY = 1000, IDLE_EVERY = 50, POLL_EVERY = 10 };
 
-/* What is waited for, in this order: the client, the control pipe, the queues' kicks. */
-enum { CLIENT, PIPE, KICKS, FILES = KICKS + QUEUES };
+/* What is waited for, in this order: the client, the control pipe, the signals that end it, the queues' kicks. */
+enum { CLIENT, PIPE, END, KICKS, FILES = KICKS + QUEUES };
 
 struct loop {
     struct backend *backend;
     int (*serve)(struct backend *backend);
     int64_t look;               /* when the next look is */
+    int end;                    /* process_end */
     struct control_line line;
 };
 
@@ -23,6 +24,8 @@ static bool read_option(struct options *options, const char *name, const char *w
 {
     if (!strcmp(name, "--features"))
         return read_number(word, 16, UINT64_MAX, &options->features);
+    if (!strcmp(name, "--lines"))
+        return read_lines(word);
     if (strcmp(name, "--state"))
         return false;
     options->state = word;
@@ -81,11 +84,29 @@ static int serve(struct loop *loop, const struct pollfd files[FILES])
     int served = files[CLIENT].revents ? loop->serve(loop->backend) : 1;
     if (served > 0 && files[PIPE].revents)
         served = control_read(&loop->line, obey, loop->backend);
-    if (served <= 0)
-        return served;
+    loop->backend->ended = files[END].revents;
+    if (served <= 0 || loop->backend->ended)
+        return served < 0 ? -1 : 0;
     bool good = rings_kicked(loop->backend, files + KICKS) && rings_look(loop->backend)
-        && backend_serve_pending(loop->backend) && state_save(loop->backend);
+        && backend_serve_pending(loop->backend) && state_save(loop->backend, false);
     return good ? 1 : -1;
+}
+
+/* The file on which a client, or what it sends, comes; -1: none is looked at. */
+static int client_of(const struct backend *backend)
+{
+    if (backend->socket >= 0)
+        return backend->socket;
+    return backend->rests ? -1 : backend->listener;
+}
+
+/* Once in a while: reminds the driver, and tries again what couldn't be done. */
+static bool look(struct loop *loop)
+{
+    backend_look(loop->backend);
+    loop->backend->rests = false;
+    loop->look = now() + LOOK_EVERY;
+    return state_save(loop->backend, true);
 }
 
 /* Waits for something to do, and does it. */
@@ -94,29 +115,20 @@ static int once(void *what)
     struct loop *loop = what;
     struct backend *backend = loop->backend;
     struct pollfd files[FILES] = {
-        [CLIENT] = {backend->socket >= 0 ? backend->socket : backend->listener, POLLIN, 0},
-        [PIPE] = {STDIN_FILENO, POLLIN, 0},
-    };
+        [CLIENT] = {client_of(backend), POLLIN, 0}, [PIPE] = {STDIN_FILENO, POLLIN, 0}, [END] = {loop->end, POLLIN, 0}};
     rings_wait(backend, files + KICKS);
-    int found = poll(files, FILES, patience(loop));
-    if (found < 0)
-        return 1;
+    int found = poll_some(files, FILES, patience(loop));
     if (found == 0 && backend->idle)
         backend->idle(backend);
     int served = serve(loop, files);
-    if (served > 0 && now() >= loop->look) {
-        backend_look(backend);
-        loop->look = now() + LOOK_EVERY;
-    }
-    return served;
+    return served > 0 && now() >= loop->look && !look(loop) ? -1 : served;
 }
 
 int backend_run(struct backend *backend, int (*serve)(struct backend *backend))
 {
-    struct loop loop = {.backend = backend, .serve = serve, .look = now() + LOOK_EVERY};
-    int served;
-    do
+    struct loop loop = {.backend = backend, .serve = serve, .look = now() + LOOK_EVERY, .end = process_end()};
+    int served = loop.end < 0 ? -1 : 1;
+    while (served > 0)
         served = guard(once, &loop);
-    while (served > 0);
     return served < 0;
 }

@@ -71,7 +71,8 @@ enum outcome get_vring_base(struct backend *backend, struct message *message)
 }
 
 /* Takes the file that comes beside the number of a queue, or lets go of the one before where there is none. */
-static bool take_event(const struct message *message, struct event *event, struct files *files)
+static bool take_event(const struct message *message, struct event *event, struct files *files,
+                       bool (*take)(struct event *event, int file), const char *what)
 {
     uint64_t word = message_u64(message, 0);
     unsigned number = word & NUMBER_OF_EVENT;
@@ -80,14 +81,24 @@ static bool take_event(const struct message *message, struct event *event, struc
                       (unsigned long long)word);
     if (word & NO_FILE)
         return event_close(event), true;
-    return event_take(event, files->numbers[--files->count]) || refuse("a file of queue %u is no event", number);
+    return take(event, files->numbers[--files->count]) || refuse("a file of queue %u is no %s", number, what);
+}
+
+static bool take_kick(const struct message *message, struct event *event, struct files *files)
+{
+    return take_event(message, event, files, event_take_kick, "eventfd that a read empties");
+}
+
+static bool take_call(const struct message *message, struct event *event, struct files *files)
+{
+    return take_event(message, event, files, event_take_call, "eventfd or pipe");
 }
 
 /* A kick without a file asks for a ring that is looked at without a kick. */
 enum outcome set_vring_kick(struct backend *backend, struct message *message)
 {
     struct ring *ring = ring_of(backend, message_u64(message, 0) & NUMBER_OF_EVENT);
-    if (!ring || !take_event(message, &ring->kick, &message->files))
+    if (!ring || !take_kick(message, &ring->kick, &message->files))
         return STOP;
     ring->polled = ring->kick.file < 0;
     ring->started = true;
@@ -99,7 +110,7 @@ enum outcome set_vring_kick(struct backend *backend, struct message *message)
 enum outcome set_vring_call(struct backend *backend, struct message *message)
 {
     struct ring *ring = ring_of(backend, message_u64(message, 0) & NUMBER_OF_EVENT);
-    if (!ring || !take_event(message, &ring->call, &message->files))
+    if (!ring || !take_call(message, &ring->call, &message->files))
         return STOP;
     if (ring->runs && ring->call.file >= 0)
         event_signal(&ring->call);
@@ -109,7 +120,7 @@ enum outcome set_vring_call(struct backend *backend, struct message *message)
 enum outcome set_vring_err(struct backend *backend, struct message *message)
 {
     struct ring *ring = ring_of(backend, message_u64(message, 0) & NUMBER_OF_EVENT);
-    return ring && take_event(message, &ring->fault, &message->files) ? DONE : STOP;
+    return ring && take_call(message, &ring->fault, &message->files) ? DONE : STOP;
 }
 
 /* Where kicks are messages, no file says that a ring is to start. */

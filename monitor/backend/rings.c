@@ -25,14 +25,17 @@ static VbQueue *queue_of(struct backend *backend, uint32_t kind)
     return kind < VB_NO_KIND ? queues[kind] : NULL;
 }
 
-/* Writes the status; false where the device refuses it, or what the guest has posted before. */
-static bool write_status(struct backend *backend, uint8_t status)
+/* Writes the status, while no queue is there but one of this kind; false where the device refuses it, or what the guest has posted
+ * before. */
+static bool write_status(struct backend *backend, uint8_t status, uint32_t kind)
 {
     struct balloon_result result;
     uint32_t answer = balloon_write_status(&backend->balloon, status, &result);
     if (answer != 0)
         return refuse("status %u is answered %u", status, answer);
-    return backend_finish(backend, &result);
+    if (status == 0 && backend->balloon.ballooned)
+        backend->ballooned = 0;
+    return backend_finish(backend, kind, &result);
 }
 
 void configuration_write(struct balloon *balloon, uint32_t offset, uint32_t number)
@@ -54,7 +57,7 @@ static bool rest(struct backend *backend)
         backend->told.actual = balloon->state.device.actual;
     }
     balloon->ballooned = NULL;
-    bool written = write_status(backend, 0);
+    bool written = write_status(backend, 0, VB_NO_KIND);
     balloon->ballooned = set;
     configuration_write(balloon, POISON_AT, poison);
     return written;
@@ -64,13 +67,14 @@ bool rings_reset(struct backend *backend)
 {
     backend->told.goes_on = backend->told.negotiated = false;
     backend->told.status = 0;
-    return write_status(backend, 0);
+    return write_status(backend, 0, VB_NO_KIND);
 }
 
 uint32_t rings_negotiate(struct backend *backend, uint64_t features)
 {
     struct balloon_result result;
-    if (!rest(backend) || !write_status(backend, ACKNOWLEDGE) || !write_status(backend, DRIVER))
+    if (!rest(backend) || !write_status(backend, ACKNOWLEDGE, VB_NO_KIND)
+        || !write_status(backend, DRIVER, VB_NO_KIND))
         return UINT32_MAX;
     backend->told.features = features;
     uint32_t answer = balloon_negotiate(&backend->balloon, features & ~HAS_PROTOCOL_FEATURES);
@@ -148,7 +152,7 @@ static void begin_life(struct backend *backend, uint16_t position)
     if (position > 0)
         configuration_write(balloon, ACTUAL_AT, backend->told.actual);
     else if (balloon->ballooned)
-        memset(balloon->ballooned, 0, balloon->ballooned_words * sizeof balloon->ballooned[0]);
+        memset(balloon->ballooned, 0, balloon->ballooned_words * sizeof balloon->ballooned[0]), backend->ballooned = 0;
 }
 
 /* Starts a ring, and serves what stands there. */
@@ -168,7 +172,7 @@ static bool start(struct backend *backend, unsigned number)
     if (position > 0 && !backend->tell(backend, (int)number)) /* who was served last may not have been told of it */
         return refuse("the client can't be told of a used buffer");
     /* The status looks at each queue once, which may leave more than a notice serves. */
-    return (backend_is_ready(backend) || write_status(backend, DRIVER_OK)) && backend_serve(backend, number);
+    return (backend_is_ready(backend) || write_status(backend, DRIVER_OK, kind)) && backend_serve(backend, number);
 }
 
 /* Stops a ring. */

@@ -1,25 +1,12 @@
 #define _GNU_SOURCE
 #include "stream.h"
 
+#include "process.h"
+
 #include <errno.h>
 #include <string.h>
 #include <sys/socket.h>
 #include <unistd.h>
-
-int stream_read(int socket, void *to, size_t length)
-{
-    uint8_t *at = to;
-    while (length > 0) {
-        ssize_t got = read(socket, at, length);
-        if (got < 0 && errno == EINTR)
-            continue;
-        if (got <= 0)
-            return got < 0 && errno != ECONNRESET ? -1 : 0;
-        at += got;
-        length -= (size_t)got;
-    }
-    return 1;
-}
 
 /* Keeps the files of one part of what came beside the bytes; those for which there is no room are closed. */
 static void keep_files(struct files *files, const struct cmsghdr *part)
@@ -32,7 +19,7 @@ static void keep_files(struct files *files, const struct cmsghdr *part)
         if (files->count < MOST_FILES) {
             files->numbers[files->count++] = file;
         } else {
-            close(file);
+            file_close(file);
             files->lost = true;
         }
     }
@@ -47,7 +34,7 @@ ssize_t stream_part(int socket, void *to, size_t length, struct files *files)
     struct iovec part = {to, length};
     struct msghdr header = {
         .msg_iov = &part, .msg_iovlen = 1, .msg_control = &control, .msg_controllen = sizeof control.bytes};
-    ssize_t got = recvmsg(socket, &header, MSG_CMSG_CLOEXEC);
+    ssize_t got = recvmsg(socket, &header, MSG_CMSG_CLOEXEC | MSG_DONTWAIT);
     if (got < 0)
         return errno == ECONNRESET ? 0 : -1;
     files->lost |= (header.msg_flags & MSG_CTRUNC) != 0;
@@ -57,20 +44,25 @@ ssize_t stream_part(int socket, void *to, size_t length, struct files *files)
     return got;
 }
 
-int stream_receive(int socket, void *to, size_t length, struct files *files)
+enum stream_state stream_fill(int socket, void *to, size_t length, size_t *got, struct files *files)
 {
-    files->count = 0;
-    files->lost = false;
-    ssize_t got = stream_part(socket, to, length, files);
-    if (got <= 0)
-        return (int)got;
-    return stream_read(socket, (uint8_t *)to + got, length - (size_t)got);
+    while (*got < length) {
+        ssize_t part = stream_part(socket, (uint8_t *)to + *got, length - *got, files);
+        if (part < 0 && errno == EINTR)
+            continue;
+        if (part < 0)
+            return errno == EAGAIN || errno == EWOULDBLOCK ? STREAM_WAITS : STREAM_WRONG;
+        if (part == 0)
+            return STREAM_GONE;
+        *got += (size_t)part;
+    }
+    return STREAM_WHOLE;
 }
 
 void files_close(struct files *files)
 {
     for (unsigned i = 0; i < files->count; i++)
-        close(files->numbers[i]);
+        file_close(files->numbers[i]);
     files->count = 0;
     files->lost = false;
 }

@@ -14,15 +14,14 @@ struct files {
     bool lost;                  /* more came than there is room for, and were closed */
 };
 
+enum stream_state { STREAM_WRONG = -1, STREAM_GONE, STREAM_WHOLE, STREAM_WAITS };
+
 /* Reads some of these bytes, and adds the files that come beside them: how many bytes; 0 where the stream has ended; -1,
- * with errno. */
+ * with errno. It waits for nobody. */
 ssize_t stream_part(int socket, void *to, size_t length, struct files *files);
 
-/* Reads so many bytes: 1; 0 where the stream ends before; -1 at a fault. */
-int stream_read(int socket, void *to, size_t length);
-
-/* Reads a message's first bytes, and the files that come with them. */
-int stream_receive(int socket, void *to, size_t length, struct files *files);
+/* Reads on until this many bytes are there, of which there are `got` already; WAITS where the rest hasn't come yet. */
+enum stream_state stream_fill(int socket, void *to, size_t length, size_t *got, struct files *files);
 
 /* Closes the files that nobody took. */
 void files_close(struct files *files);

@@ -150,7 +150,7 @@ static bool write_status(struct virtio_pci *pci, uint8_t status)
         answer = balloon_write_status(&pci->backend->balloon, status, &result);
     if (answer == 0) {
         leave_more(pci, &result);
-        return backend_finish(pci->backend, &result);
+        return backend_finish(pci->backend, VB_NO_KIND, &result);
     }
     remark(pci->backend, "the driver's status %u is answered %u", status, answer);
     return true;

@@ -14,10 +14,20 @@
  *     keeps-files       the files of a memory table that another one follows stay open
  *     early-change      a change is told before the driver is ready
  *     no-more           what a long service leaves on a queue isn't served
+ *     any-kick          any file is taken for a kick
+ *     keeps-kick        the file of a kick that another one follows stays open
+ *     long-turn         a notice serves as many pages as its chains name
+ *     no-ctrunc         files for which a message had no room aren't missed
+ *
+ * Two are right, but for their machine:
+ *
+ *     old-kernel        it isn't known of an eventfd whether it is a semaphore, as before Linux 6.5
+ *     bad-disk          no file can be kept on the disk
  */
 #include "handlers.h"
 
 #include <stdlib.h>
+#include <unistd.h>
 
 static bool is(const char *name)
 {
@@ -108,4 +118,40 @@ WRAPPED(void, backend_tell_change, struct backend *backend)
 WRAPPED(bool, backend_serve_pending, struct backend *backend)
 {
     return is("no-more") || __real_backend_serve_pending(backend);
+}
+
+WRAPPED(bool, event_take_kick, struct event *event, int file)
+{
+    if (is("keeps-kick"))
+        *event = NO_EVENT;
+    if (!is("any-kick"))
+        return __real_event_take_kick(event, file);
+    event_close(event);
+    *event = (struct event){file};
+    return true;
+}
+
+WRAPPED(bool, backend_start, struct backend *backend, const struct options *options)
+{
+    bool started = __real_backend_start(backend, options);
+    if (is("long-turn"))
+        backend->balloon.most_pages = UINT32_MAX;
+    return started;
+}
+
+WRAPPED(enum stream_state, stream_fill, int socket, void *to, size_t length, size_t *got, struct files *files)
+{
+    enum stream_state state = __real_stream_fill(socket, to, length, got, files);
+    files->lost = files->lost && !is("no-ctrunc");
+    return state;
+}
+
+WRAPPED(int, file_number, int file, const char *name)
+{
+    return is("old-kernel") ? -1 : __real_file_number(file, name);
+}
+
+WRAPPED(int, fsync, int file)
+{
+    return is("bad-disk") ? (errno = EIO, -1) : __real_fsync(file);
 }

@@ -14,14 +14,20 @@ enum {
     PAGES_PER_MIB = 256,
 };
 
+/* Pages from `first` to before `end`. */
+struct span { uint64_t first, end; };
+
 /* A guest's place on the host, which it may leave and come back to. */
 struct seat {
     struct backend backend;     /* the device of the client that is there; first, as its hooks get it */
     struct host *host;
+    struct speaker speaker;     /* for what is said of its clients */
     char name[MOST_NAME], path[MOST_PATH];
     int listener;               /* where its client comes */
     struct inbox inbox;
     uint64_t *set;              /* the pages in its balloon */
+    struct span spans[MOST_REGIONS];    /* of its memory, from the lowest one on */
+    unsigned span_count;
     uint32_t pages;             /* of its memory; 0 until it has handed it over */
     uint32_t ballooned;         /* pages in its balloon now */
     /* What its last statistics came to: the pages it called free, and those that were ballooned then. */
@@ -59,6 +65,8 @@ struct host {
     unsigned count;
     uint32_t frames, floor;     /* pages: the budget, and what each guest is to keep free */
     int64_t period;             /* milliseconds */
+    int64_t rests_until;        /* clients aren't taken before this, as there was no file left for one */
+    int end;                    /* has something to read once a signal tells the host to end */
     bool anew;                  /* the guests, the budget or the floor have changed */
     enum reason reason;         /* which of them */
     bool news;                  /* what the guests can spare may have changed */
@@ -109,6 +117,15 @@ void seat_remind(struct seat *seat);
 /* Whether somebody is there, and whether its driver is ready. */
 bool seat_is_taken(const struct seat *seat);
 bool seat_is_ready(const struct seat *seat);
+
+/* ---- marks.c */
+
+/* Takes the marks of pages out of its guest's set that weren't memory before, or aren't now, and makes the set as large as memory
+ * that ends at this page; false where it can't. */
+bool marks_follow(struct seat *seat, uint64_t end);
+
+/* Nothing is in the balloon, and there is no set. */
+void marks_end(struct seat *seat);
 
 /* ---- policy.c */
 

@@ -74,7 +74,7 @@ static void remove_named(struct host *host, const char *name)
 /* A line for one guest, as its backend takes it. */
 static void guest_line(struct seat *seat, const char *line)
 {
-    served_name = seat->name;
+    speaker_begins(&seat->speaker);
     if (!seat_is_taken(seat))
         puts("error: nobody is there");
     else if (!strcmp(line, "ask"))
@@ -83,7 +83,7 @@ static void guest_line(struct seat *seat, const char *line)
         control_obey(&seat->backend, line);
     else
         puts("error: quit is for all guests");
-    served_name = NULL;
+    speaker_ends();
 }
 
 /* A line that begins with a guest's name. */

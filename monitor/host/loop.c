@@ -58,8 +58,16 @@ static int obey(void *host, const char *line)
     return host_line(host, line);
 }
 
-/* What is waited for: the control pipe, and of each seat its socket and the kicks of its queues. */
-enum { OF_SEAT = 1 + QUEUES, MOST_FILES_OF_ALL = 1 + MOST_GUESTS * OF_SEAT };
+/* What is waited for: the control pipe, the signals that end it, and of each seat its socket and the kicks of its queues. */
+enum { PIPE, END, SEATS, OF_SEAT = 1 + QUEUES, MOST_FILES_OF_ALL = SEATS + MOST_GUESTS * OF_SEAT };
+
+/* The file on which a seat's client, or what it sends, comes; -1: none is looked at. */
+static int client_of(const struct seat *seat, bool rests)
+{
+    if (seat_is_taken(seat))
+        return seat->backend.socket;
+    return rests ? -1 : seat->listener;
+}
 
 /* Whether a seat has something to do without being told. */
 static bool has_work(const struct seat *seat)
@@ -70,21 +78,21 @@ static bool has_work(const struct seat *seat)
 /* Waits until something has come, at most so long. */
 static void wait_for(struct host *host, struct pollfd *files, int64_t left)
 {
-    nfds_t count = 1 + host->count * OF_SEAT;
-    files[0] = (struct pollfd){STDIN_FILENO, POLLIN, 0};
+    int64_t rest = host->rests_until - host_now();
+    files[PIPE] = (struct pollfd){STDIN_FILENO, POLLIN, 0};
+    files[END] = (struct pollfd){host->end, POLLIN, 0};
+    left = rest > 0 && rest < left ? rest : left;
     for (unsigned i = 0; i < host->count; i++) {
         struct seat *seat = host->seats[i];
-        struct pollfd *its = files + 1 + i * OF_SEAT;
-        its[0] = (struct pollfd){seat_is_taken(seat) ? seat->backend.socket : seat->listener, POLLIN, 0};
+        struct pollfd *its = files + SEATS + i * OF_SEAT;
+        its[0] = (struct pollfd){client_of(seat, rest > 0), POLLIN, 0};
         rings_wait(&seat->backend, its + 1);
         if (seat->backend.pending)
             left = 0;
         else if (has_work(seat) && left > POLL_EVERY)
             left = POLL_EVERY;
     }
-    if (poll(files, count, left < 0 ? 0 : (int)left) < 0)
-        for (nfds_t i = 0; i < count; i++)
-            files[i].revents = 0;
+    poll_some(files, SEATS + host->count * OF_SEAT, left < 0 ? 0 : (int)left);
 }
 
 /* Whether a kick has come. */
@@ -101,7 +109,7 @@ static void serve(struct host *host, const struct pollfd *files)
 {
     for (unsigned i = 0; i < host->count; i++) {
         struct seat *seat = host->seats[i];
-        const struct pollfd *its = files + 1 + i * OF_SEAT;
+        const struct pollfd *its = files + SEATS + i * OF_SEAT;
         if (its[0].revents && !seat_is_taken(seat))
             seat_accept(seat);
         else if (its[0].revents)
@@ -121,7 +129,7 @@ int host_run(struct host *host)
     for (bool asks = true;;) {
         wait_for(host, files, next - host_now());
         serve(host, files);
-        if (files[0].revents && control_read(&line, obey, host) <= 0)
+        if (files[END].revents || (files[PIPE].revents && control_read(&line, obey, host) <= 0))
             return 0;
         if (host->news)
             policy_decide(host);

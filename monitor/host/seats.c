@@ -12,6 +12,9 @@
 /* Memory of a guest may end here: 64 GiB, for whose pages there is a set. */
 static const uint64_t MOST_SET = UINT64_C(1) << 24;
 
+/* Milliseconds without new clients, once there was no file left for one. */
+enum { REST = 1000 };
+
 bool seat_is_taken(const struct seat *seat)
 {
     return seat->backend.socket >= 0;
@@ -37,7 +40,6 @@ static void seat_clear(struct seat *seat)
     memset(&seat->inbox, 0, sizeof seat->inbox);
     rings_clear(&seat->backend);
     seat->backend.socket = seat->backend.channel = -1;
-    seat->set = NULL;
     seat->pages = seat->ballooned = seat->free = seat->silent = seat->told_at = 0;
     seat->heard = seat->taken = 0;
     seat->known = false;
@@ -51,30 +53,14 @@ static void leave(struct seat *seat)
     if (seat->pages > 0)
         host_changed(host, BY_GUESTS);
     host->counters.gone++;
-    close(backend->socket);
+    speaker_begins(&seat->speaker);
+    file_close(backend->socket);
     backend_leave(backend);
     files_close(&seat->inbox.message.files);
-    free(seat->set);
+    marks_end(seat);
     seat_clear(seat);
-    fprintf(stderr, "gone %s\n", seat->name);
-}
-
-/* Makes a set of so many words, unless there is one, which keeps the pages that it has; false where it can't. */
-static bool make_set(struct seat *seat, size_t words)
-{
-    struct balloon *balloon = &seat->backend.balloon;
-    size_t before = seat->set ? balloon->ballooned_words : 0;
-    if (before == words)
-        return true;
-    uint64_t *set = calloc(words, sizeof *set);
-    if (!set)
-        return false;
-    if (seat->set)
-        memcpy(set, seat->set, (before < words ? before : words) * sizeof *set);
-    free(seat->set);
-    balloon->ballooned_words = words;
-    balloon->ballooned = seat->set = set;
-    return true;
+    say_gone();
+    speaker_ends();
 }
 
 /* The hook for the memory that a client hands over: whether its frames suffice, and a set for its pages. */
@@ -89,7 +75,7 @@ static bool admit(struct backend *backend)
         seat->host->counters.refused++;
         return false;
     }
-    if (!make_set(seat, (end + 63) / 64))
+    if (!marks_follow(seat, end))
         return refuse("there is no memory for the set of its pages");
     if (pages != seat->pages)
         host_changed(seat->host, BY_GUESTS);
@@ -100,11 +86,16 @@ static bool admit(struct backend *backend)
 
 void seat_accept(struct seat *seat)
 {
+    struct host *host = seat->host;
     int client = accept4(seat->listener, NULL, NULL, SOCK_CLOEXEC | SOCK_NONBLOCK);
+    if (client < 0 && errno != EAGAIN && errno != ECONNABORTED && errno != EINTR) {
+        complain("%s can't come: %s", seat->name, strerror(errno));
+        host->rests_until = host_now() + REST;
+    }
     if (client < 0)
         return;
     seat_clear(seat);
-    backend_start(&seat->backend, &seat->host->options);
+    backend_start(&seat->backend, &host->options);
     seat->backend.tell = client_tell;
     seat->backend.admit = admit;
     seat->backend.socket = client;
@@ -129,8 +120,9 @@ static bool listen_at(struct seat *seat)
         return false;
     if (!bind(seat->listener, (struct sockaddr *)&address, sizeof address) && !listen(seat->listener, 1))
         return true;
-    close(seat->listener);
-    return false;
+    int why = errno;
+    file_close(seat->listener);
+    return errno = why, false;
 }
 
 /* Whether a guest may have this name: letters, digits, dashes and underscores. */
@@ -152,6 +144,7 @@ const char *seat_add(struct host *host, const char *name)
         return strerror(ENOMEM);
     strcpy(seat->name, name);
     seat->host = host;
+    seat->speaker.name = seat->name;
     seat->backend.socket = -1;
     int length = snprintf(seat->path, sizeof seat->path, "%s/%s", host->options.client, name);
     if (length >= (int)sizeof seat->path || !listen_at(seat)) {
@@ -172,7 +165,7 @@ void seat_remove(struct host *host, struct seat *seat)
     host->count--;
     memmove(host->seats + number, host->seats + number + 1, (host->count - number) * sizeof host->seats[0]);
     remove_socket(seat->path);
-    close(seat->listener);
+    file_close(seat->listener);
     free(seat);
 }
 
@@ -181,8 +174,7 @@ static void take_note(struct seat *seat)
 {
     const struct backend *backend = &seat->backend;
     const struct counters *counters = &backend->counters;
-    if (seat->set)
-        seat->ballooned = (uint32_t)vb_count_ballooned(seat->set, backend->balloon.ballooned_words);
+    seat->ballooned = backend->ballooned;
     if (counters->statistics != seat->heard) {
         seat->heard = counters->statistics;
         seat->silent = 0;
@@ -197,9 +189,9 @@ static void take_note(struct seat *seat)
 /* Does something with its guest's memory, and notes what came of it. */
 static bool serve(struct seat *seat, int (*act)(void *), void *what)
 {
-    served_name = seat->name;
+    speaker_begins(&seat->speaker);
     int served = guard(act, what);
-    served_name = NULL;
+    speaker_ends();
     if (served <= 0) {
         leave(seat);
         return false;
@@ -212,10 +204,10 @@ static bool serve(struct seat *seat, int (*act)(void *), void *what)
 static int receive(void *what)
 {
     struct seat *seat = what;
-    enum inbox_state state = inbox_read(seat->backend.socket, &seat->inbox);
-    if (state == INBOX_WAITS || state == INBOX_GONE)
-        return state == INBOX_WAITS;
-    if (state == INBOX_WRONG)
+    enum stream_state state = inbox_read(seat->backend.socket, &seat->inbox);
+    if (state == STREAM_WAITS || state == STREAM_GONE)
+        return state == STREAM_WAITS;
+    if (state == STREAM_WRONG)
         return refuse("the client's bytes are no message"), -1;
     if (message_serve(&seat->backend, &seat->inbox.message))
         return 1;
@@ -232,7 +224,7 @@ static int ask(void *what)
 {
     struct seat *seat = what;
     struct balloon_result result = balloon_ask_statistics(&seat->backend.balloon);
-    return backend_finish(&seat->backend, &result) ? 1 : -1;
+    return backend_finish(&seat->backend, VB_STATISTICS, &result) ? 1 : -1;
 }
 
 /* Kicks that have come. */
@@ -271,9 +263,9 @@ bool seat_ask(struct seat *seat)
 /* Tells its guest of a change of its configuration. */
 static void tell_change(struct seat *seat)
 {
-    served_name = seat->name;
+    speaker_begins(&seat->speaker);
     backend_tell_change(&seat->backend);
-    served_name = NULL;
+    speaker_ends();
 }
 
 void seat_set_target(struct seat *seat, uint32_t pages)

@@ -1,0 +1,74 @@
+#define _GNU_SOURCE
+#include "say.h"
+
+#include <stdarg.h>
+#include <stdio.h>
+#include <string.h>
+#include <time.h>
+
+enum { MOST_BYTES = 512, MOST_LINES = 20 };
+
+static struct speaker nobody;
+struct speaker *speaker = &nobody;
+unsigned most_lines = MOST_LINES;
+
+void speaker_begins(struct speaker *whose)
+{
+    speaker = whose;
+}
+
+void speaker_ends(void)
+{
+    speaker = &nobody;
+}
+
+/* Whether one more line may be said in this second. */
+static bool may_speak(void)
+{
+    struct timespec time;
+    clock_gettime(CLOCK_MONOTONIC, &time);
+    if (time.tv_sec != speaker->second)
+        speaker->lines = 0;
+    speaker->second = time.tv_sec;
+    return speaker->lines++ < most_lines;
+}
+
+/* Says a line: how it begins, whose it is, and the words; what is too long is cut. */
+static void say(const char *begin, const char *between, const char *words)
+{
+    char line[MOST_BYTES];
+    const char *name = speaker->name ? speaker->name : "";
+    if (may_speak())
+        snprintf(line, sizeof line - 1, "%s%s%s%s", begin, name, between, words);
+    else if (speaker->lines == most_lines + 1)
+        snprintf(line, sizeof line - 1, "%s%sfurther lines of this second are left out", name, *name ? ": " : "");
+    else
+        return;
+    fputs(strcat(line, "\n"), stderr);
+}
+
+bool refuse(const char *format, ...)
+{
+    char line[MOST_BYTES];
+    va_list words;
+    va_start(words, format);
+    vsnprintf(line, sizeof line, format, words);
+    va_end(words);
+    say(speaker->name ? "refused " : "refused", ": ", line);
+    return false;
+}
+
+void complain(const char *format, ...)
+{
+    char line[MOST_BYTES];
+    va_list words;
+    va_start(words, format);
+    vsnprintf(line, sizeof line, format, words);
+    va_end(words);
+    say("", speaker->name ? ": " : "", line);
+}
+
+void say_gone(void)
+{
+    say("gone ", "", "");
+}

@@ -1,0 +1,33 @@
+/* What is said on standard error: whole lines, of which each client has only some in a second. */
+#ifndef SAY_H
+#define SAY_H
+#include <stdbool.h>
+#include <stdint.h>
+
+/* Whose lines they are. */
+struct speaker {
+    const char *name;           /* NULL where there is one client alone */
+    int64_t second;             /* in which `lines` were said */
+    unsigned lines;
+};
+
+/* Whose client is served just now, for what is said of it. */
+extern struct speaker *speaker;
+
+/* Somebody is served, and then nobody by name. */
+void speaker_begins(struct speaker *whose);
+void speaker_ends(void);
+
+/* Lines that are said of a client in a second; one more says that others are left out. */
+extern unsigned most_lines;
+
+/* Says why the client isn't served any longer; returns false. */
+bool refuse(const char *format, ...) __attribute__((format(printf, 1, 2)));
+
+/* Says something while all goes on. */
+void complain(const char *format, ...) __attribute__((format(printf, 1, 2)));
+
+/* Says that a client has gone. */
+void say_gone(void);
+
+#endif

@@ -1,0 +1,161 @@
+"""Tests of a backend as a process: its standard files, the signals that end it, the files that it may open, and the one that
+keeps its state."""
+
+import os
+import resource
+import signal
+import stat
+import subprocess
+import tempfile
+import time
+
+import linux_guest
+import linux_kit
+import vhost_served
+from vhost_client import INFLATE, LIMIT, PAGE, PAGES_OF_REGION, SIZE, Client
+from vhost_kicked import FIRST, Kicked
+from vhost_served import Served, program
+
+# What a saved state has.
+STATE_BYTES = 191
+
+
+def state_of(path):
+    """Returns the bytes of a file."""
+    with open(path, "rb") as file:
+        return file.read()
+
+
+class Process(Kicked):
+    """What doesn't come from the client."""
+
+    def started_by(self, closed):
+        """Returns the process of a backend that has this standard file closed, and a client of it."""
+        folder = tempfile.TemporaryDirectory(prefix="test-vhost-user-")
+        self.addCleanup(folder.cleanup)
+        path = os.path.join(folder.name, "socket")
+        words = ["sh", "-c", f'exec "$0" "$@" {closed}', program(), path]
+        backend = subprocess.Popen(words, stdin=subprocess.PIPE, stdout=subprocess.PIPE, stderr=subprocess.PIPE)
+        self.addCleanup(lambda: [it.close() for it in (backend.stdin, backend.stdout, backend.stderr)])
+        self.addCleanup(backend.kill)
+        end = time.monotonic() + LIMIT
+        while not os.path.exists(path):
+            self.assertLess(time.monotonic(), end, "the backend doesn't listen")
+        return backend, Client(path)
+
+    def test_standard_files_that_are_closed(self):
+        for number, closed in ((1, ">&-"), (2, "2>&-")):
+            backend, client = self.started_by(closed)
+            client.start_by_events()
+            self.assertEqual(os.readlink(f"/proc/{backend.pid}/fd/{number}"), "/dev/null")
+            for it in client.files:
+                os.lseek(it, 0, os.SEEK_SET)  # where one who writes to it would
+            client.publish(INFLATE, SIZE)
+            client.kick(INFLATE)
+            self.assertEqual(backend.wait(LIMIT), 1)
+            self.assertEqual([os.fstat(it).st_size for it in client.files], 2 * [PAGES_OF_REGION * PAGE])
+            self.assertEqual([os.lseek(it, 0, os.SEEK_CUR) for it in client.files], [0, 0])
+            client.leave()
+
+    def test_a_standard_input_that_is_closed(self):
+        with tempfile.TemporaryDirectory() as folder:
+            words = ["sh", "-c", 'exec "$0" "$@" <&-', program(), f"{folder}/socket"]
+            ran = subprocess.run(words, capture_output=True, text=True, timeout=LIMIT)
+            self.assertEqual((ran.returncode, ran.stderr), (2, f"vhost_user_balloon: {folder}/socket: Operation canceled\n"))
+
+    def test_signals_end_it_and_remove_the_socket(self):
+        for number in (signal.SIGTERM, signal.SIGINT, signal.SIGHUP):
+            with tempfile.TemporaryDirectory() as folder:
+                backend = linux_guest.Backend(program(), folder, [f"{folder}/socket"])
+                backend.process.send_signal(number)
+                self.assertEqual((backend.process.wait(LIMIT), os.listdir(folder), backend.why()), (0, ["backend.log"], ""))
+                backend.process.stdout.close(), backend.process.stdin.close()
+            client = Served()
+            client.start_by_events()
+            client.backend.process.send_signal(number)
+            self.assertEqual(client.backend.process.wait(LIMIT), 0)
+            self.assertEqual((sorted(os.listdir(client.folder.name)), client.close()), (["backend.log"], (0, "")))
+
+    def test_help_and_version(self):
+        with open(os.path.join(linux_kit.ROOT, "VERSION"), encoding="ascii") as file:
+            version = file.read().strip()
+        for words, said in ((["--help"], "vhost_user_balloon SOCKET ["), (["--version"], f"vhost_user_balloon {version}\n"),
+                            (["socket", "--help"], "vhost_user_balloon SOCKET [")):
+            ran = subprocess.run([program(), *words], stdin=subprocess.DEVNULL, capture_output=True, text=True, timeout=LIMIT)
+            self.assertEqual((ran.returncode, ran.stderr, ran.stdout[: len(said)]), (0, "", said))
+
+    def test_no_file_is_left_for_a_client(self):
+        client = self.client()
+        client.restart()
+        client.counter("status")  # once it waits, all that it opens by itself is open
+        process = client.backend.process.pid
+        soft, hard = resource.prlimit(process, resource.RLIMIT_NOFILE)
+        resource.prlimit(process, resource.RLIMIT_NOFILE, (client.open_files(), hard))
+        client.connect()
+        self.assertTrue(client.is_at_rest(), "no file is left, and the backend looks again and again")
+        self.assertEqual(client.backend.why(), "a client can't be taken: Too many open files")
+        resource.prlimit(process, resource.RLIMIT_NOFILE, (soft, hard))
+        client.start_by_events()
+        self.served(client, INFLATE, [FIRST])
+        os.truncate(client.backend.log, 0)
+
+    def test_few_files_are_allowed(self):
+        words = ["sh", "-c", 'ulimit -n 20; exec "$0" "$@"', program(), "/nowhere/socket"]
+        ran = subprocess.run(words, stdin=subprocess.DEVNULL, capture_output=True, text=True, timeout=LIMIT)
+        self.assertIn(" files may be wanted, and 20 may be open (RLIMIT_NOFILE)\n", ran.stderr)
+
+    def test_no_file_is_left_for_memory(self):
+        client = Served()
+        client.negotiate()
+        resource.prlimit(client.backend.process.pid, resource.RLIMIT_NOFILE, (client.open_files() + 1,) * 2)
+        with self.assertRaises((AssertionError, ConnectionResetError)):
+            client.hand_over_memory()
+        self.assertEqual(client.close(), (1, "refused: SET_MEM_TABLE has 1 files and more"))
+
+    def target(self, client, pages):
+        """Sets a target, and waits until what follows is served."""
+        self.assertEqual((client.backend.ask(f"target {pages}"), client.counter("target"), client.counter("target")), ("ok", pages, pages))
+
+    def test_a_link_in_the_place_of_a_state(self):
+        client = self.client()
+        state, other = client.file("state"), client.file("other")
+        with open(other, "wb") as file:
+            file.write(b"here")
+        client.restart("--state", state)
+        for name in (f"{state}.part", state):
+            if os.path.lexists(name):
+                os.remove(name)
+            os.symlink(other, name)
+            self.target(client, 5 + len(name))
+            self.assertEqual((state_of(other), len(state_of(state)), os.path.islink(state)), (b"here", STATE_BYTES, False))
+            self.assertEqual(stat.S_IMODE(os.stat(state).st_mode), 0o600)
+        client.connect()
+
+    def test_a_state_that_cannot_be_written(self):
+        client = Served()
+        state = client.file("state")
+        client.restart("--state", state)
+        self.target(client, 5)
+        before = state_of(state)
+        os.mkdir(f"{state}.part")
+        for pages in (6, 7, 8):
+            self.target(client, pages)
+        self.assertEqual((client.backend.why(), state_of(state)), (f"{state} isn't written: Is a directory", before))
+        client.connect()
+        client.start_by_events()
+        self.served(client, INFLATE, [FIRST])
+        self.assertTrue(client.is_at_rest(), "a state can't be written, and the backend tries again and again")
+        os.rmdir(f"{state}.part")
+        end = time.monotonic() + LIMIT
+        while state_of(state) == before:
+            self.assertLess(time.monotonic(), end, "a state isn't written once it can be")
+        client.counter("target")
+        status, _ = client.close()
+        self.assertEqual((status, client.lines), (0, [f"{state} isn't written: Is a directory", f"{state} is written again"]))
+
+    def test_a_state_that_the_disk_does_not_keep(self):
+        with tempfile.TemporaryDirectory(prefix="test-vhost-user-") as folder:
+            client = Served("--state", f"{folder}/state", built=vhost_served.build(folder, wrong=True), environment={"BACKEND_WRONG": "bad-disk"})
+            self.target(client, 5)
+            self.assertFalse(os.path.exists(f"{folder}/state"), "what the disk may not keep is in the place of what it keeps")
+            self.assertEqual(client.close(), (0, f"{folder}/state isn't written: Input/output error"))
