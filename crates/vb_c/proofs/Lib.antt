@@ -7,7 +7,6 @@ mod CodeFacts
 mod CallFacts
 mod AnswerFacts
 mod OverFacts
-mod OtherFieldFacts
 mod SavingFacts
 mod PhaseFacts
 mod RefusalFacts

@@ -1,8 +1,21 @@
 -- What lines of a script for guests on threads say, and what they make together, worked out.
+<<<<<<< HEAD
 use Rattle.std.proofs.Common.{◌≡◌, List, [], ◌∷◌, Some, None, codes, map, refl}
 use Rattle.std.specs.Prelude.{Option, replicate}
+||||||| 2b21ddbc
+use Rattle.std.proofs.Common.{◌≡◌, List, [], ◌∷◌, Some, None, codes, refl}
+=======
+use Rattle.std.proofs.Common.{◌≡◌, ℕ, List, [], ◌∷◌, Some, None, codes, refl, arith}
+>>>>>>> h/threads
 use Rattle.vb_model.specs.declared.calls.Call.TheVariants.{Alloc, Inflate, Reap, Stats}
+<<<<<<< HEAD
 use Rattle.vb_script.{specs.declared.lines.Pace.TheVariants.{Immediate, Paced}, specs.Plans.{Made, Plan, calls_in, plan_of}}
+||||||| 2b21ddbc
+use Rattle.vb_script.{specs.declared.lines.Pace.TheVariants.{Immediate, Paced}, specs.Plans.plan_of}
+=======
+use Rattle.vb_script.specs.declared.lines.Pace.TheVariants.{Immediate, Paced}
+use Rattle.vb_script.specs.Plans.{Made, calls_in, plan_of}
+>>>>>>> h/threads
 use Rattle.vb_script.{specs.declared.threads.ThreadsLine.ThreadsLine, specs.Threads.threads}
 use Rattle.vb_script.specs.declared.threads.ThreadsLine.TheVariants.{Plug, Rounds, Cpu, Call}
 use Rattle.vb_script.{specs.Names.{form_of, threads_form_of}, specs.Words.{number_of, words_of}}
@@ -171,3 +184,27 @@ other_processor : plan_of
     ≡ None
 unfolding plan_of
 other_processor = refl
+
+-- ---- a processor that was chosen makes all calls up to the next choice
+
+abbrev made : ℕ → ℕ → Made
+made guest cpu = record { guest = guest; cpu = cpu; call = Stats }
+
+-- on either guest, whatever stands between; and those before the first choice are processor 0's
+chosen : calls_in (Call 0 Stats ∷ Call 1 Stats ∷ Cpu 2 ∷ Call 0 Stats ∷ Plug 64 8 1 ∷ Call 1 Stats
+    ∷ Rounds 16 3 ∷ Call 0 Stats ∷ Cpu 3 ∷ Cpu 1 ∷ Call 0 Stats ∷ Call 0 Stats ∷ [])
+    ≡ made 0 0 ∷ made 1 0 ∷ made 0 2 ∷ made 1 2 ∷ made 0 2 ∷ made 0 1 ∷ made 0 1 ∷ []
+chosen = refl
+
+-- not for one call only
+not_once : calls_in (Cpu 1 ∷ Call 0 Stats ∷ Call 0 Stats ∷ []) ≡ made 0 1 ∷ made 0 0 ∷ [] → ⊥
+not_once e = grind (arith, e)
+
+-- so a call on a guest that hasn't the processor makes no plan, behind one on a guest that has it
+still_chosen : plan_of (record {
+  frames = 64;
+  spares = Paced ∷ Paced ∷ [];
+  events = Plug 64 8 2 ∷ Plug 64 8 1 ∷ Cpu 1 ∷ Call 0 Stats ∷ Call 1 Stats ∷ [];
+}) ≡ None
+unfolding plan_of
+still_chosen = refl
