@@ -21,7 +21,7 @@ pub data Access : Type 0 where
   WriteNumber : (at : Spot) (number : ℕ) → Access
   WriteWord : (at : Spot) (word : ℕ) → Access
 
--- These accesses, in this order, make one memory of another, where `goes` says what each one may make.
+-- These accesses, in this order, make one memory of another: `goes` says what each one may make.
 abbrev pub Steps : {S : Type 0} → (S → Access → S → Type 0) → S → List Access → S → Type 0
 Steps {S} goes old [] new = new ≡ old
 Steps {S} goes old (x ∷ xs) new = (next : S) × goes old x next × Steps goes next xs new

@@ -1,21 +1,9 @@
 -- What lines of a script for guests on threads say, and what they make together, worked out.
-<<<<<<< HEAD
-use Rattle.std.proofs.Common.{◌≡◌, List, [], ◌∷◌, Some, None, codes, map, refl}
+use Rattle.std.proofs.Common.{◌≡◌, ℕ, List, [], ◌∷◌, Some, None, codes, map, refl, arith}
 use Rattle.std.specs.Prelude.{Option, replicate}
-||||||| 2b21ddbc
-use Rattle.std.proofs.Common.{◌≡◌, List, [], ◌∷◌, Some, None, codes, refl}
-=======
-use Rattle.std.proofs.Common.{◌≡◌, ℕ, List, [], ◌∷◌, Some, None, codes, refl, arith}
->>>>>>> h/threads
 use Rattle.vb_model.specs.declared.calls.Call.TheVariants.{Alloc, Inflate, Reap, Stats}
-<<<<<<< HEAD
-use Rattle.vb_script.{specs.declared.lines.Pace.TheVariants.{Immediate, Paced}, specs.Plans.{Made, Plan, calls_in, plan_of}}
-||||||| 2b21ddbc
-use Rattle.vb_script.{specs.declared.lines.Pace.TheVariants.{Immediate, Paced}, specs.Plans.plan_of}
-=======
 use Rattle.vb_script.specs.declared.lines.Pace.TheVariants.{Immediate, Paced}
-use Rattle.vb_script.specs.Plans.{Made, calls_in, plan_of}
->>>>>>> h/threads
+use Rattle.vb_script.specs.Plans.{Made, Plan, calls_in, plan_of}
 use Rattle.vb_script.{specs.declared.threads.ThreadsLine.ThreadsLine, specs.Threads.threads}
 use Rattle.vb_script.specs.declared.threads.ThreadsLine.TheVariants.{Plug, Rounds, Cpu, Call}
 use Rattle.vb_script.{specs.Names.{form_of, threads_form_of}, specs.Words.{number_of, words_of}}
@@ -111,20 +99,12 @@ a_plan :
 unfolding plan_of
 a_plan = refl
 
--- a processor is chosen for all calls up to the next choice, of whichever guest
-abbrev chosen_once : List ThreadsLine
-chosen_once = Cpu 1 ∷ Call 0 Stats ∷ Call 0 (Reap 0) ∷ Call 1 Stats ∷ Call 0 (Inflate 4) ∷ []
-
-chosen_for_all : map (λ (m : Made). m.cpu) (calls_in chosen_once) ∷ map (λ (m : Made). m.guest) (calls_in chosen_once) ∷ []
-    ≡ (1 ∷ 1 ∷ 1 ∷ 1 ∷ []) ∷ (0 ∷ 0 ∷ 1 ∷ 0 ∷ []) ∷ []
-chosen_for_all = refl
-
 -- each guest has at most four processors, and each call is by one that is there
-abbrev plan_behind_one : List ThreadsLine → Option Plan
-plan_behind_one lines =
+abbrev plan_after_one : List ThreadsLine → Option Plan
+plan_after_one lines =
     plan_of (record { frames = 64; spares = Paced ∷ Paced ∷ Paced ∷ []; events = Plug 64 8 1 ∷ lines })
 
-each_of_them : map plan_behind_one ((Plug 64 8 5 ∷ []) ∷ (Call 0 Stats ∷ Call 1 Stats ∷ [])
+each_of_them : map plan_after_one ((Plug 64 8 5 ∷ []) ∷ (Call 0 Stats ∷ Call 1 Stats ∷ [])
     ∷ (Call 1 Stats ∷ Call 0 Stats ∷ []) ∷ (Call 0 Stats ∷ Cpu 1 ∷ Call 0 Stats ∷ []) ∷ [])
     ≡ replicate 4 None
 unfolding plan_of
@@ -190,7 +170,7 @@ other_processor = refl
 abbrev made : ℕ → ℕ → Made
 made guest cpu = record { guest = guest; cpu = cpu; call = Stats }
 
--- on either guest, whatever stands between; and those before the first choice are processor 0's
+-- on either guest, whatever lines are between; and those before the first choice are processor 0's
 chosen : calls_in (Call 0 Stats ∷ Call 1 Stats ∷ Cpu 2 ∷ Call 0 Stats ∷ Plug 64 8 1 ∷ Call 1 Stats
     ∷ Rounds 16 3 ∷ Call 0 Stats ∷ Cpu 3 ∷ Cpu 1 ∷ Call 0 Stats ∷ Call 0 Stats ∷ [])
     ≡ made 0 0 ∷ made 1 0 ∷ made 0 2 ∷ made 1 2 ∷ made 0 2 ∷ made 0 1 ∷ made 0 1 ∷ []
@@ -200,7 +180,7 @@ chosen = refl
 not_once : calls_in (Cpu 1 ∷ Call 0 Stats ∷ Call 0 Stats ∷ []) ≡ made 0 1 ∷ made 0 0 ∷ [] → ⊥
 not_once e = grind (arith, e)
 
--- so a call on a guest that hasn't the processor makes no plan, behind one on a guest that has it
+-- so a call on a guest that hasn't the processor makes no plan after one on a guest that has it
 still_chosen : plan_of (record {
   frames = 64;
   spares = Paced ∷ Paced ∷ [];

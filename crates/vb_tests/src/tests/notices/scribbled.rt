@@ -139,25 +139,24 @@ impl<R: Abort> LiveMemory for Scribbled<'_, R> {
     ghost use Rattle.vb_monitor.specs.Accesses.{ReadWord, CopyBytes, Acquire, Release, Full};
     ghost use Rattle.vb_monitor.specs.Accesses.{TellPages, TellFigures, Discard, WriteNumber};
     ghost use Rattle.vb_monitor.specs.Accesses.{WriteWord};
-
     ghost use Rattle.std.specs.Prelude.{List};
     ghost use Rattle.vb_monitor.specs.Accesses.{Access};
 
     ghost goes = { λ old access new.
-      (λ (log : List Entry → List Access).
+        (λ (log : List Entry → List Access).
         log new.trace.items ≡ log old.trace.items ++ access ∷ [])
-      (map (elim [
-        | Word at answer ↦ ReadWord at answer
-        | Bytes at bytes ↦ CopyBytes at bytes.items
-        | AcquireFence ↦ Acquire
-        | ReleaseFence ↦ Release
-        | FullFence ↦ Full
-        | Pages kind runs named ↦ TellPages kind runs.items named
-        | Figures figures ↦ TellFigures figures.items
-        | Discarded cut ↦ Discard cut
-        | NumberWritten at number ↦ WriteNumber at number
-        | WordWritten at word ↦ WriteWord at word
-      ])) };
+        (map (elim [
+          | Word at answer ↦ ReadWord at answer
+          | Bytes at bytes ↦ CopyBytes at bytes.items
+          | AcquireFence ↦ Acquire
+          | ReleaseFence ↦ Release
+          | FullFence ↦ Full
+          | Pages kind runs named ↦ TellPages kind runs.items named
+          | Figures figures ↦ TellFigures figures.items
+          | Discarded cut ↦ Discard cut
+          | NumberWritten at number ↦ WriteNumber at number
+          | WordWritten at word ↦ WriteWord at word
+        ])) };
 
     fn word(&mut self, at: Spot) -> u16 {
         let low = self.take_byte(at.offset);
