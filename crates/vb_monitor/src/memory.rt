@@ -8,9 +8,9 @@ use crate::{Cut, Spot};
 use vb_core::{Kind, Named, Run, Statistic};
 
 /// Memory that a notice goes over, and the caller's hooks. An implementation says by `goes` which
-/// memory an access, with its answer, may make of which. A running guest may write its memory at any
-/// moment, so of its memory the answers are open: two reads of one spot may differ. Each spot lies
-/// within one of the monitor's regions.
+/// memory an access, with its answer, may make of which. A running guest may write its memory at
+/// any moment, so of its memory the answers are open: two reads of one spot may differ. Each spot
+/// lies within one of the monitor's regions.
 pub trait LiveMemory {
     ghost goes: { Self → Access → Self → Type 0 };
 
