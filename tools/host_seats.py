@@ -96,6 +96,19 @@ def region(client, number, request):
     client.accepted(request, client.region_body(number), client.files[number : number + 1] if request == ADD_MEM_REG else ())
 
 
+def plugged_again(town, client):
+    """A guest whose device is plugged again has no pages until it hands over its memory anew."""
+    client.negotiate(protocol=OFFERED)
+    client.add_memory()
+    for number in range(4):
+        client.place(number)
+    rings_of(client, 1)
+    client.post_pages(INFLATE, [PAGES])
+    becomes(town, {"pages": 128, "ready": 1, "ballooned": 1})
+    client.begin(OFFERED)
+    becomes(town, {"here": 1, "pages": 0, "ready": 0, "ballooned": 0, "held_kib": 0})
+
+
 def memory_by_regions(town, client):
     """A guest's pages are those of its regions; the set of ballooned ones grows with them, and keeps what it has."""
     client.negotiate(protocol=OFFERED)
@@ -105,11 +118,11 @@ def memory_by_regions(town, client):
     rings_of(client, 1)
     becomes(town, {"pages": 64, "ready": 1})
     client.post_pages(INFLATE, [REGIONS[0][0] // PAGE + 63])
-    becomes(town, {"ballooned": 1, "inflated": 1})
+    becomes(town, {"ballooned": 1, "inflated": 2})
     region(client, 1, ADD_MEM_REG)
     becomes(town, {"pages": 128, "ballooned": 1})
     client.post_pages(INFLATE, [PAGES + 63])
-    becomes(town, {"ballooned": 2, "inflated": 2})
+    becomes(town, {"ballooned": 2, "inflated": 3})
     region(client, 1, REM_MEM_REG)
     becomes(town, {"pages": 64, "ballooned": 1})
     region(client, 1, ADD_MEM_REG)
@@ -169,6 +182,7 @@ def seats_run(bench):
         becomes(town, nothing)
         # Who comes next begins with nothing; it never tells its statistics.
         second = Client(path, town.host.why)
+        plugged_again(town, second)
         memory_by_regions(town, second)
         becomes(town, {"answers": 0, "spare": 1, "statistics": 0, "target": 0})
         third = Client(town.host.add("b"), town.host.why)
@@ -193,7 +207,7 @@ def seats_run(bench):
         eventually(lambda: town.host.counters()["refused"] == 2, "a guest without room grows", 5)
         demand(town.host.why_of("b") == "refused b: no room for 128 pages: 63 are missing", town.host.why_of("b"))
         counters = town.host.counters()
-        demand([counters[it] for it in ("admitted", "refused", "gone")] == [4, 2, 3], f"4 came in, 2 of 5 were refused: {counters}")
+        demand([counters[it] for it in ("admitted", "refused", "gone")] == [5, 2, 3], f"4 came in, one twice, 2 of 5 were refused: {counters}")
         demand(check_decisions(town) > 0, "nothing was decided")
         for it in (second, third, fourth, fifth):
             it.leave()

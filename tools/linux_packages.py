@@ -46,8 +46,6 @@ def apt_of(suite):
     machine's own where none is named."""
     if suite is None:
         return None
-    if not suite.isalnum():
-        raise Missing(f"{suite!r} is no name of a Debian: bookworm, trixie or sid")
     folder = os.path.join(CACHE, f"apt-{suite}")
     os.makedirs(os.path.join(folder, "lists", "partial"), exist_ok=True)
     files = {
@@ -71,6 +69,8 @@ def apt_of(suite):
 def fetch(name, packages, suite=None):
     """Returns a folder of the cache with these packages of this machine's Debian unpacked, or of another one; `packages` says
     which, the first time."""
+    if suite is not None and not suite.isalnum():
+        raise Missing(f"{suite!r} is no name of a Debian: bookworm, trixie or sid")
     root = os.path.join(CACHE, f"{name}-{suite}" if suite else name)
     if os.path.isdir(root):
         return root

@@ -168,6 +168,45 @@ class Lives(Kicked):
         client.accepted(SET_CONFIG, struct.pack("<IIII", 12, 4, 0, 0))
         self.reported(client, FIRST + 2, 0)
 
+    def write_whole(self, client, *words):
+        """Writes the whole configuration, as QEMU from 11 on does at each write of the driver; returns whether it is taken."""
+        return client.send(SET_CONFIG, struct.pack("<IIIIIII", 0, 16, 0, *words)) == bytes(8)
+
+    def configuration(self, client):
+        """Returns the words of the configuration."""
+        return struct.unpack("<IIIIIII", client.send(GET_CONFIG, struct.pack("<III", 0, 16, 0) + bytes(16)))[3:]
+
+    def test_the_whole_configuration_at_once(self):
+        client = self.started()
+        self.assertEqual((client.backend.ask("target 258"), client.told()), ("ok", None))
+        self.assertTrue(self.write_whole(client, 0xAAAAAAAA, 77, 0xBBBBBBBB, 0xCCCCCCCC))
+        self.assertEqual((client.counter("actual"), client.counter("target")), (77, 258))
+        self.assertEqual(self.configuration(client), (258, 77, 0, 0))
+        client = self.poisoned()
+        self.assertTrue(self.write_whole(client, 9, 78, 9, 0x11223344))
+        self.assertEqual(self.configuration(client), (0, 78, 0, 0x11223344))
+        self.reported(client, FIRST, 1)
+        self.assertTrue(self.write_whole(client, 0, 0, 0, 0))
+        self.assertEqual(self.configuration(client), (0, 0, 0, 0))
+        self.reported(client, FIRST + 1, 0)
+
+    def test_a_part_of_the_configuration(self):
+        client = self.poisoned()
+        actual, poison, neither = (0x07060504, 0xFFFFFFFF), (0, 0x0F0E0D0C), (0, 0xFFFFFFFF)
+        both = (actual[0], poison[1])
+        # Where a write begins, how many bytes it has, and `actual` and poison_val after it: refused where it covers neither.
+        for offset, size, wanted in (
+            (4, 4, actual), (0, 8, actual), (4, 8, actual), (0, 15, actual), (3, 12, actual), (12, 4, poison), (8, 8, poison),
+            (5, 11, poison), (0, 16, both), (4, 12, both), (0, 4, neither), (8, 4, neither), (0, 0, neither), (4, 3, neither),
+            (0, 7, neither), (5, 7, neither), (5, 10, neither), (13, 3, neither), (6, 6, neither),
+        ):
+            with self.subTest(offset=offset, size=size):
+                for at, word in ((4, 0), (12, 0xFFFFFFFF)):
+                    client.accepted(SET_CONFIG, struct.pack("<IIII", at, 4, 0, word))
+                body = struct.pack("<III", offset, size, 0) + bytes(range(offset, offset + size))
+                self.assertEqual(client.send(SET_CONFIG, body) == bytes(8), wanted != neither)
+                self.assertEqual(self.configuration(client)[1::2], wanted)
+
     def test_poison_val_is_there_only_where_it_is_offered(self):
         client = self.started()
         self.assertNotEqual(client.send(SET_CONFIG, struct.pack("<IIII", 12, 4, 0, 7)), bytes(8))

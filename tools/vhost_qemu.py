@@ -140,6 +140,8 @@ class Qemu(unittest.TestCase):
         """Asks for a balloon of so many MiB, and demands that it is there."""
         self.backend.ask(f"target {mib * PAGES_PER_MIB}")
         self.wait(lambda now: now["inflated"] - now["deflated"] == mib * PAGES_PER_MIB, TARGET_LIMIT)
+        if self.device != DISK:
+            self.wait(lambda now: now["actual"] == now["target"], TARGET_LIMIT)
 
     def statistics(self):
         """Asks the guest for its statistics, and returns them."""
@@ -189,3 +191,5 @@ class Qemu(unittest.TestCase):
         counters = backend.counters()
         self.assertEqual([counters[it] for it in ("skipped", "in_holes", "kept")], [0, 0, 0])
         self.assertEqual(backend.why(), "")
+        if self.device != DISK:
+            self.assertEqual(self.said(), "")
