@@ -35,6 +35,9 @@ struct body {
 
 static struct virtio_pci pci;
 
+/* The guest's interrupt. */
+static struct event line = {-1, false};
+
 /* A message as it comes. */
 static struct {
     struct head head;
@@ -46,10 +49,10 @@ static struct {
 /* Interrupts: the status that the guest reads, and then the event. */
 static bool tell(struct backend *backend, int queue)
 {
-    struct event event = {backend->channel};
+    (void)backend;
     pci.isr |= queue < 0 ? CONFIGURATION_BIT : QUEUE_BIT;
     pci.generation += queue < 0;
-    return backend->channel < 0 || event_signal(&event);
+    return line.file < 0 || event_signal(&line);
 }
 
 /* A guest that polls may pass by an interrupt: it gets another one. */
@@ -85,15 +88,13 @@ static bool sync_memory(struct backend *backend, const struct body *body, struct
         || refuse("the guest's memory doesn't end");
 }
 
-static bool set_interrupt(struct backend *backend, struct files *files)
+static bool set_interrupt(struct files *files)
 {
-    struct event event = {backend->channel};
     if (files->count == 0)
         return refuse("an interrupt without a file");
-    bool taken = event_take_call(&event, files->numbers[0]);
-    backend->channel = event.file;
+    bool taken = event_take_call(&line, files->numbers[0]);
     memmove(files->numbers, files->numbers + 1, --files->count * sizeof files->numbers[0]);
-    return taken || refuse("the file of an interrupt is no eventfd or pipe");
+    return taken || refuse("the file of an interrupt is no eventfd, pipe or socket of a stream");
 }
 
 /* A kick is answered before it is served, any other write when it is done. */
@@ -111,7 +112,7 @@ static bool handle(struct backend *backend, int32_t command, const struct body *
     uint32_t at = body->configuration.at, length = body->configuration.length;
     switch (command) {
     case SYNC_MEMORY: return sync_memory(backend, body, files);
-    case SET_INTERRUPT: return set_interrupt(backend, files);
+    case SET_INTERRUPT: return set_interrupt(files);
     case CONFIGURATION_READ: return answer(backend, pci_read_configuration(&pci, at, length));
     case CONFIGURATION_WRITE:
         pci_write_configuration(&pci, at, body->configuration.value, length);
@@ -174,6 +175,7 @@ int main(int count, char **words)
     puts("listening");
     int status = backend_run(&backend, serve);
     files_close(&inbox.files);
+    event_close(&line);
     backend_leave(&backend);
     return status;
 }

@@ -13,6 +13,7 @@ int main(void)
 {
     alarm(60);
     test_steps();
+    test_settings();
     test_requests();
     test_notices();
     test_discards();

@@ -173,7 +173,7 @@ static struct good good_message(uint32_t request, uint64_t number)
     case SET_VRING_ADDR: return (struct good){request, 40, {number, at, at + 2 * PAGE, at + PAGE, 0}, {0}, 0};
     case SET_VRING_KICK: return (struct good){request, 8, {number}, {one_in(64) ? PIPE : EVENT}, 1};
     case SET_VRING_CALL:
-    case SET_VRING_ERR: return (struct good){request, 8, {number}, {(unsigned)(EVENT + chance(one_in(64) ? 3 : 2))}, 1};
+    case SET_VRING_ERR: return (struct good){request, 8, {number}, {(unsigned)(EVENT + chance(3))}, 1};
     case SET_VRING_ENABLE: return (struct good){request, 8, {two(number, !one_in(8))}, {0}, 0};
     case VRING_KICK: return (struct good){request, 8, {number}, {0}, 0};
     case GET_CONFIG: return (struct good){request, 20, {two(0, 8), 0}, {0}, 0};

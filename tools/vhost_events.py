@@ -4,6 +4,7 @@ memory and its answers; those of a device's life are in vhost_lives.py."""
 import os
 import select
 import signal
+import socket
 import struct
 import time
 
@@ -214,15 +215,16 @@ class Events(Lives):
         self.assertEqual((client.counter("status"), client.used(INFLATE)[0]), (15, 1))
         os.close(kick)
 
-    def test_a_pipe_for_calls(self):
+    def test_pipes_and_sockets_for_calls(self):
         client = self.started()
-        os.close(client.calls[INFLATE])
-        client.calls[INFLATE], theirs = os.pipe()
-        client.accepted(SET_VRING_CALL, word(INFLATE), [theirs])
-        self.assertEqual(client.said(INFLATE), word(1))  # who is called anew may have missed a call
-        client.post_pages(INFLATE, [FIRST])
-        self.assertEqual(client.said(INFLATE), word(1))
-        os.close(theirs)
+        for ends in (os.pipe(), tuple(it.detach() for it in socket.socketpair())):
+            os.close(client.calls[INFLATE])
+            client.calls[INFLATE], theirs = ends
+            client.accepted(SET_VRING_CALL, word(INFLATE), [theirs])
+            self.assertEqual(client.said(INFLATE), word(1))  # who is called anew may have missed a call
+            client.post_pages(INFLATE, [FIRST])
+            self.assertEqual(client.said(INFLATE), word(1))
+            os.close(theirs)
 
     def test_a_call_for_which_there_is_no_room(self):
         client = self.started()
@@ -232,22 +234,22 @@ class Events(Lives):
         time.sleep(MOMENT)
         self.assertEqual((client.counter("interrupts"), client.used(INFLATE)[0]), (1, 1))
 
-    def test_a_call_to_a_pipe_that_is_full(self):
+    def test_a_call_to_a_pipe_or_a_socket_that_is_full(self):
         client = self.started()
-        ends = os.pipe()
-        os.set_blocking(ends[1], False)
-        try:
-            while os.write(ends[1], bytes(8)):
+        for count, ends in enumerate((os.pipe(), tuple(it.detach() for it in socket.socketpair())), 1):
+            os.set_blocking(ends[1], False)
+            try:
+                while os.write(ends[1], bytes(8)):
+                    pass
+            except BlockingIOError:
                 pass
-        except BlockingIOError:
-            pass
-        client.accepted(SET_VRING_CALL, word(INFLATE), [ends[1]])
-        os.set_blocking(ends[1], True)
-        client.post_pages(INFLATE, [FIRST])
-        time.sleep(MOMENT)
-        self.assertEqual((client.counter("interrupts"), client.used(INFLATE)[0]), (1, 1))
-        client.accepted(SET_VRING_CALL, word(INFLATE | NO_FILE))
-        os.close(ends[0]), os.close(ends[1])
+            client.accepted(SET_VRING_CALL, word(INFLATE), [ends[1]])
+            os.set_blocking(ends[1], True)
+            client.post_pages(INFLATE, [FIRST])
+            time.sleep(MOMENT)
+            self.assertEqual((client.counter("interrupts"), client.used(INFLATE)[0]), (count, count))
+            client.accepted(SET_VRING_CALL, word(INFLATE | NO_FILE))
+            os.close(ends[0]), os.close(ends[1])
 
     def test_one_event_for_the_kicks_of_two_queues(self):
         client = self.started()

@@ -102,12 +102,13 @@ class Tenants(Kicked):
                 self.assertEqual(client.close(), (0, ""))
                 os.close(event)
 
-    def test_a_call_that_is_no_eventfd_and_no_pipe(self):
+    def test_a_call_of_another_sort(self):
         for request in (SET_VRING_CALL, SET_VRING_ERR):
-            for file in (*(it.detach() for it in socket.socketpair()), timer(), os.open("/dev/null", os.O_RDWR)):
+            sockets = socket.socket(socket.AF_INET), socket.socket(socket.AF_UNIX, socket.SOCK_DGRAM)
+            for file in (*(it.detach() for it in sockets), timer(), os.open("/dev/null", os.O_RDWR)):
                 client = self.begun()
                 client.send(request, word(INFLATE), [file], flags=1)
-                self.refused(client, "a file of queue 0 is no eventfd or pipe")
+                self.refused(client, "a file of queue 0 is no eventfd, pipe or socket of a stream")
                 os.close(file)
 
     def test_a_channel_of_another_sort(self):

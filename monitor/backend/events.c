@@ -11,6 +11,7 @@
 #include <stdint.h>
 #include <stdio.h>
 #include <string.h>
+#include <sys/socket.h>
 #include <sys/stat.h>
 #include <sys/time.h>
 #include <sys/uio.h>
@@ -35,6 +36,14 @@ static bool is_eventfd(int file)
     snprintf(path, sizeof path, "/proc/self/fd/%d", file);
     ssize_t length = readlink(path, target, sizeof target);
     return length == (ssize_t)sizeof name - 1 && !memcmp(target, name, sizeof name - 1);
+}
+
+bool is_stream(int file)
+{
+    int family = 0, type = 0;
+    socklen_t size = sizeof family;
+    return !getsockopt(file, SOL_SOCKET, SO_DOMAIN, &family, &size) && family == AF_UNIX
+        && !getsockopt(file, SOL_SOCKET, SO_TYPE, &type, &size) && type == SOCK_STREAM;
 }
 
 static bool is_pipe(int file)
@@ -132,7 +141,7 @@ static bool take(struct event *event, int file, bool known)
         file_close(file);
         return false;
     }
-    event->file = file;
+    *event = (struct event){file, is_stream(file)};
     return true;
 }
 
@@ -150,7 +159,7 @@ bool event_take_kick(struct event *event, int file)
 
 bool event_take_call(struct event *event, int file)
 {
-    return take(event, file, (is_eventfd(file) || is_pipe(file)) && unblock(file));
+    return take(event, file, (is_eventfd(file) || is_pipe(file) || is_stream(file)) && unblock(file));
 }
 
 int event_read(const struct event *event)
@@ -161,5 +170,8 @@ int event_read(const struct event *event)
 
 bool event_signal(const struct event *event)
 {
-    return write_now(event->file, 1) >= 0;
+    uint64_t one = 1;
+    if (event->is_socket)
+        return send(event->file, &one, sizeof one, MSG_DONTWAIT | MSG_NOSIGNAL) > 0 || would_wait();
+    return write_now(event->file, one) >= 0;
 }

@@ -1,21 +1,26 @@
-/* Files by which two processes tell each other that something has happened: eventfds, and pipes for one way of the two. A file
- * of another sort is refused: its other end, or whoever else has it open, could make this process wait, or never rest. */
+/* Files by which two processes tell each other that something has happened: eventfds, and pipes and sockets for one way of the
+ * two. A file of another sort is refused: its other end, or whoever else has it open, could make this process wait, or never
+ * rest. */
 #ifndef EVENTS_H
 #define EVENTS_H
 #include <stdbool.h>
 
 struct event {
     int file;                   /* -1: none */
+    bool is_socket;
 };
 
-#define NO_EVENT ((struct event){-1})
+#define NO_EVENT ((struct event){-1, false})
+
+/* Whether a file is a stream socket of this machine: a send to one of another sort may wait. */
+bool is_stream(int file);
 
 /* Takes an eventfd that is read here in place of the file before. False where it is no eventfd, or one whose reads don't take all
  * that was told (EFD_SEMAPHORE), and then it is closed. */
 bool event_take_kick(struct event *event, int file);
 
-/* Takes an eventfd or a pipe that is written here in place of the file before; false where it is neither, and then it is
- * closed. */
+/* Takes an eventfd, a pipe or a stream socket that is written here in place of the file before; false where it is another file,
+ * and then it is closed. */
 bool event_take_call(struct event *event, int file);
 
 /* Closes its file, if it has one. */

@@ -2,7 +2,6 @@
 #include "handlers.h"
 
 #include <inttypes.h>
-#include <sys/socket.h>
 
 enum { HEAD_OF_CONFIG = 12, IS_FEATURES_OK = 8 };
 
@@ -77,21 +76,12 @@ enum outcome get_queue_num(struct backend *backend, struct message *message)
     return answer_u64(backend, message, QUEUES);
 }
 
-/* Whether a file is a stream socket of this machine: a send to one that is full, or of another sort, may wait. */
-static bool is_channel(int file)
-{
-    int family = 0, type = 0;
-    socklen_t size = sizeof family;
-    return !getsockopt(file, SOL_SOCKET, SO_DOMAIN, &family, &size) && family == AF_UNIX
-        && !getsockopt(file, SOL_SOCKET, SO_TYPE, &type, &size) && type == SOCK_STREAM;
-}
-
 enum outcome set_channel(struct backend *backend, struct message *message)
 {
     int file = message->files.numbers[--message->files.count];
     if (backend->channel >= 0)
         file_close(backend->channel);
-    backend->channel = is_channel(file) ? file : -1;
+    backend->channel = is_stream(file) ? file : -1;
     if (backend->channel >= 0)
         return DONE;
     file_close(file);

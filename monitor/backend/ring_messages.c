@@ -91,7 +91,7 @@ static bool take_kick(const struct message *message, struct event *event, struct
 
 static bool take_call(const struct message *message, struct event *event, struct files *files)
 {
-    return take_event(message, event, files, event_take_call, "eventfd or pipe");
+    return take_event(message, event, files, event_take_call, "eventfd, pipe or socket of a stream");
 }
 
 /* A kick without a file asks for a ring that is looked at without a kick. */

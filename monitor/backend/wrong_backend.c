@@ -127,7 +127,7 @@ WRAPPED(bool, event_take_kick, struct event *event, int file)
     if (!is("any-kick"))
         return __real_event_take_kick(event, file);
     event_close(event);
-    *event = (struct event){file};
+    *event = (struct event){file, false};
     return true;
 }
 
