@@ -6,7 +6,10 @@ pub mod Grants
 pub mod Shares
 pub mod Turns
 pub mod Apart
+pub mod Zips
+pub mod ByClass
 mod LoanFacts
 mod LineFacts
 mod HostFacts
 mod AskingFacts
+mod ClassFacts

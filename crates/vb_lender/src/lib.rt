@@ -3,11 +3,13 @@
 #![tactic(auto)]
 
 mod asking;
+mod classes;
 mod event;
 mod laws;
 mod lending;
 mod line;
 mod loan;
+mod terms;
 #[cfg(test)]
 mod tests;
 
@@ -15,6 +17,7 @@ pub use asking::{
     ask_targets, can_spare, needs_into, room_for_all_is_room_for_one, short_is_exact,
     targets_make_room,
 };
+pub use classes::{ask_by_class, class_targets_make_room, least_stays, one_class_is_balances_own};
 pub use event::Event;
 pub use laws::{
     each_has_what_it_may_use, never_more_than_the_budget, never_more_than_the_frames,
@@ -26,3 +29,4 @@ pub use lending::{
 };
 pub use line::{first_in_line, owed};
 pub use loan::Loan;
+pub use terms::{Share, Terms};

@@ -2,7 +2,10 @@
 
 ghost use Rattle.std.specs.Prelude.{◌≤◌};
 
-use crate::{Event, Loan, ask_targets, first_in_line, grant_next, happen, owed, reset, take};
+use crate::{
+    Event, Loan, Share, Terms, ask_by_class, ask_targets, first_in_line, grant_next, happen, owed,
+    reset, take,
+};
 use vb_balance::{GuestNeed, NoTargets, Short};
 
 /// What happens, how many pages are lent then, and which guest is the first that waits.
@@ -149,4 +152,27 @@ fn others_are_asked_for_what_is_waited_for(rt: HostRuntime) {
     assert!(rt; answer == Ok(()) && targets == [20, 0]);
     let short = ask_targets(70, &loans, &mut needs, &mut targets);
     assert!(rt; short == Err(NoTargets::Short(Short { missing: 10 })) && targets == [40, 0]);
+}
+
+#[test]
+fn a_lower_priority_gives_first_and_keeps_its_least(rt: HostRuntime) {
+    let mut shares = [Share::default(); 3];
+    let mut needs = [GuestNeed::default(); 3];
+    let mut targets = [0; 3];
+    // 180 pages: the third waits for 60, the second gives 50 first, and the first keeps 30.
+    let loans = [
+        guest(60, 60, 0, 40),
+        guest(60, 60, 0, 50),
+        guest(60, 0, 60, 0),
+    ];
+    let terms = [terms(30, 7), terms(0, 2), terms(0, 9)];
+    let answer = ask_by_class(120, &loans, &terms, &mut shares, &mut needs, &mut targets);
+    assert!(rt; answer == Ok(()) && targets == [10, 50, 0]);
+    let short = ask_by_class(90, &loans, &terms, &mut shares, &mut needs, &mut targets);
+    assert!(rt; short == Err(NoTargets::Short(Short { missing: 10 })) && targets == [30, 50, 0]);
+}
+
+/// Terms of a guest.
+fn terms(least: u32, priority: u32) -> Terms {
+    Terms { least, priority }
 }

@@ -1,0 +1,239 @@
+//! What guests are asked to give by class: those of a lower priority give all that they can before
+//! one of a higher priority gives any.
+
+ghost use Rattle.std.specs.Prelude.{◌≡◌, ℕ, ◌+◌, ◌-◌, ◌*◌, ◌<◌, ◌≤◌, ◌^◌, List, length, map, min};
+ghost use Rattle.std.specs.Prelude.{slice_index, sum_by};
+ghost use Rattle.std.specs.List.{AllByRecursion};
+ghost use Rattle.vb_model.specs.Balance.{AreTargets, missing, shortage};
+ghost use Rattle.vb_lender.specs.declared.loan.Loan.{Loan};
+ghost use Rattle.vb_lender.specs.declared.terms.Share.{Share};
+ghost use Rattle.vb_lender.specs.declared.terms.Terms.{Terms};
+ghost use Rattle.vb_lender.specs.Classes.{AreClassTargets, AsksByClass, IsLastClass, all_below};
+ghost use Rattle.vb_lender.specs.Classes.{alone};
+ghost use Rattle.vb_lender.specs.Classes.{most_priority, shares_of, spare_below, spared_below};
+ghost use Rattle.vb_lender.specs.Classes.{whole};
+ghost use Rattle.vb_lender.specs.Lending.{AreSound, owed, value_at};
+ghost use Rattle.vb_lender.specs.Targets.{HasReached, need, waited};
+
+use crate::terms::shares_into;
+use crate::{Loan, Share, Terms};
+use vb_balance::{GuestNeed, NoTargets, targets_into};
+
+/// How many pages more than frames there are.
+fn missing(shares: &[Share], frames: u32) -> u128
+    ensures { result ≡ missing (map whole shares.now) frames }
+{
+    let mut pages: u128 = 0;
+    for share in shares {
+        pages += u128::from(share.pages);
+    }
+    pages.saturating_sub(u128::from(frames))
+}
+
+/// What a guest can give, if it is of this priority or a lower one.
+fn spare_to(share: &Share, priority: u32) -> u32
+    ensures value { result ≡ spare_below (priority + 1) share.now }
+    ensures small { result ≤ 4294967295 }
+{
+    let share = *share;
+    if share.priority <= priority {
+        share.spare
+    } else {
+        0
+    }
+}
+
+/// How many pages the guests of this priority and lower ones can give together.
+fn spared_to(shares: &[Share], priority: u32) -> u128
+    ensures { result ≡ spared_below shares.now (priority + 1) }
+{
+    let mut pages: u128 = 0;
+    for share in shares {
+        pages += u128::from(spare_to(share, priority));
+    }
+    pages
+}
+
+/// The highest priority.
+fn most_priority(shares: &[Share]) -> u32
+    ensures { result ≡ most_priority shares.now }
+{
+    let mut most = 0;
+    for share in shares {
+        if share.priority > most {
+            most = share.priority;
+        }
+    }
+    most
+}
+
+/// The priority of the class in which what is missing runs out.
+fn last_class(shares: &[Share], lack: u128) -> u32
+    requires { lack ≤ sum_by (λ s. s.spare) shares.now }
+    ensures { IsLastClass shares.now lack result }
+{
+    let mut low = 0;
+    let mut high = most_priority(shares);
+    while low < high {
+        let middle = low + (high - low) / 2;
+        if spared_to(shares, middle) >= lack {
+            high = middle;
+        } else {
+            low = middle + 1;
+        }
+    }
+    low
+}
+
+/// What a guest has and can give, of whatever priority.
+fn whole(share: &Share) -> GuestNeed
+    ensures { result ≡ whole share.now }
+{
+    GuestNeed {
+        pages: share.pages,
+        spare: share.spare,
+    }
+}
+
+/// What a guest has and can give, where this class gives and lower ones have given.
+fn alone(share: &Share, priority: u32) -> GuestNeed
+    ensures { result ≡ alone priority share.now }
+{
+    if share.priority < priority {
+        GuestNeed {
+            pages: share.pages.saturating_sub(share.spare),
+            spare: 0,
+        }
+    } else if share.priority == priority {
+        whole(share)
+    } else {
+        GuestNeed {
+            pages: share.pages,
+            spare: 0,
+        }
+    }
+}
+
+/// What each guest has and can give, of whatever priority.
+fn wholes_into(shares: &[Share], needs: &mut [GuestNeed])
+    requires { length needs.old ≡ length shares.now }
+    ensures { needs.new ≡ map whole shares.now }
+{
+    for place in 0..shares.len() {
+        needs[place] = whole(&shares[place]);
+    }
+}
+
+/// What each guest has and can give, where this class gives and lower ones have given.
+fn alone_into(shares: &[Share], priority: u32, needs: &mut [GuestNeed])
+    requires { length needs.old ≡ length shares.now }
+    ensures { needs.new ≡ map (alone priority) shares.now }
+{
+    for place in 0..shares.len() {
+        needs[place] = alone(&shares[place], priority);
+    }
+}
+
+/// Asks each guest for all that it can give.
+fn spares_into(shares: &[Share], targets: &mut [u32])
+    requires { length targets.old ≡ length shares.now }
+    ensures { targets.new ≡ map (λ s. s.spare) shares.now }
+{
+    for place in 0..shares.len() {
+        targets[place] = shares[place].spare;
+    }
+}
+
+/// Asks each guest of a lower priority for all that it can give.
+#[tactic(auto, using(crate::proofs::Zips::below_set, crate::proofs::Zips::below_same))]
+fn give_all_below(shares: &[Share], priority: u32, targets: &mut [u32])
+    requires { length targets.old ≡ length shares.now }
+    ensures { targets.new ≡ all_below priority shares.now targets.old }
+{
+    for place in 0..shares.len() {
+        let share = &shares[place];
+        if share.priority < priority {
+            targets[place] = share.spare;
+        }
+    }
+}
+
+/// Sets targets by class where the guests can give as much as they lack.
+fn set_by_class(frames: u32, shares: &[Share], needs: &mut [GuestNeed], targets: &mut [u32])
+    requires needs { length needs.old ≡ length shares.now }
+    requires targets { length targets.old ≡ length shares.now }
+    requires within { AllByRecursion (λ s. s.spare ≤ s.pages) shares.now }
+    requires enough { shortage (map whole shares.now) frames ≡ 0 }
+    ensures { AreClassTargets shares.now frames targets.new }
+{
+    let priority = last_class(shares, missing(shares, frames));
+    alone_into(shares, priority, needs);
+    let _set = targets_into(needs, frames, targets);
+    give_all_below(shares, priority, targets);
+}
+
+/// Puts a target for each guest into `targets`, by the guests' terms, so that there is room for all
+/// that guests wait for once the others have their targets in their balloons: no guest is asked for
+/// so much that fewer than its least pages stay to it, and guests of a lower priority are asked for
+/// all that they can give before one of a higher priority is asked for any. `Short` where all that
+/// the guests can give is too little: then each is asked for all that it can give. What `shares`
+/// and `needs` have before doesn't matter.
+pub fn ask_by_class(
+    frames: u32,
+    loans: &[Loan],
+    terms: &[Terms],
+    shares: &mut [Share],
+    needs: &mut [GuestNeed],
+    targets: &mut [u32],
+) -> Result<(), NoTargets>
+    requires terms { length terms.now ≡ length loans.now }
+    requires shares { length shares.old ≡ length loans.now }
+    requires needs { length needs.old ≡ length loans.now }
+    requires targets { length targets.old ≡ length loans.now }
+    ensures { AsksByClass frames (shares_of loans.now terms.now) targets.new result }
+{
+    shares_into(loans, terms, shares);
+    wholes_into(shares, needs);
+    match targets_into(needs, frames, targets) {
+        Ok(()) => {
+            set_by_class(frames, shares, needs, targets);
+            Ok(())
+        }
+        Err(why) => {
+            spares_into(shares, targets);
+            Err(why)
+        }
+    }
+}
+
+/// With one class, targets by class are those of `vb_balance`, and with no least pages they are
+/// over the same needs.
+pub fn one_class_is_balances_own()
+    ensures to { (frames : ℕ) (shares : List Share) (targets : List ℕ) (priority : ℕ) →
+        AllByRecursion (λ s. s.priority ≡ priority) shares →
+        AreClassTargets shares frames targets → AreTargets (map whole shares) frames targets }
+    ensures from { (frames : ℕ) (shares : List Share) (targets : List ℕ) (priority : ℕ) →
+        AllByRecursion (λ s. s.priority ≡ priority) shares →
+        AreTargets (map whole shares) frames targets → AreClassTargets shares frames targets }
+    ensures needs { (loans : List Loan) (terms : List Terms) → length terms ≡ length loans →
+        AllByRecursion (λ t. t.least ≡ 0) terms →
+        map whole (shares_of loans terms) ≡ map need loans }
+{}
+
+/// A guest that is asked for its target keeps its least pages, or all where it has fewer.
+pub fn least_stays()
+    ensures { (frames i : ℕ) (loans : List Loan) (terms : List Terms) (targets : List ℕ) →
+        length terms ≡ length loans → AreClassTargets (shares_of loans terms) frames targets →
+        i < length loans →
+        slice_index targets i + min (slice_index (map (λ t. t.least) terms) i)
+        (value_at (λ s. s.pages) loans i) ≤ value_at (λ s. s.pages) loans i }
+{}
+
+/// Where each guest that doesn't wait has its target by class in its balloon, there is room for all
+/// that the others wait for.
+pub fn class_targets_make_room()
+    ensures { (frames : ℕ) (loans : List Loan) (terms : List Terms) (targets : List ℕ) →
+        AreSound loans → length terms ≡ length loans →
+        AreClassTargets (shares_of loans terms) frames targets → HasReached loans targets →
+        owed loans + waited loans ≤ frames }
+{}
