@@ -1,6 +1,6 @@
 -- Courses that are not safe: bytes that change with a page's frame, and reads and writes of pages at
 -- any place that leave its bytes aside.
-use Rattle.std.proofs.Common.{List, [], false, inl, inr, refl, true, ℕ, ◌∷◌, ◌≡◌}
+use Rattle.std.proofs.Common.{[], inl, inr, refl, ℕ, ◌∷◌}
 use Rattle.std.specs.Prelude.{None, Option, Some}
 use Rattle.vb_model.proofs.SafeFacts.{SameBytes, SameFrame, goes, one_byte, with_byte}
 use Rattle.vb_model.specs.{Courses.Course, Histories.IsSafeCourse}

@@ -1,10 +1,10 @@
 -- Which blocks a report names, what each of them is to the device, and which may be given back,
 -- worked out.
-use Rattle.std.proofs.Common.{◌≡◌, ◌++◌, true, false, List, [], ◌∷◌, map, refl, arith, ℕ}
-use Rattle.std.specs.Prelude.{replicate, All}
-use Rattle.vb_model.specs.Pages.{Block, block_at}
+use Rattle.std.proofs.Common.{◌≡◌, ◌++◌, true, false, [], ◌∷◌, map, refl, arith, ℕ}
+use Rattle.std.specs.Prelude.{replicate}
+use Rattle.vb_model.specs.Pages.{block_at}
 use Rattle.vb_pages.specs.{PageState.{PageState, HasRoomIn}, declared.block.FreeBlock.FreeBlock}
-use Rattle.vb_report.specs.Blocks.{HaveRoom, block_of, blocks_to_report, pieces_of}
+use Rattle.vb_report.specs.Blocks.{HaveRoom, blocks_to_report, pieces_of}
 
 -- ---- which blocks
 

@@ -53,6 +53,20 @@ begun cpu s is = grind (arith, is)
 own_calls : IsScript 0 (Alloc 0 1 ∷ Stats ∷ []) × IsScript 3 []
 own_calls = (refl, refl)
 
+-- each of two, also the first one; a place past the end is no end; and each call may stand there
+first_of_two : (AllEnded (script (Stats ∷ []) 0 ∷ script [] 0 ∷ []) → ⊥)
+    × (AllEnded (script (Stats ∷ []) 2 ∷ []) → ⊥) × (AreBegun (script (Stats ∷ []) 1 ∷ script [] 0 ∷ []) → ⊥)
+    × (IsScript 1 (Stats ∷ Alloc 0 1 ∷ []) → ⊥)
+first_of_two = (
+  λ are. omega (arith, are 0 (script (Stats ∷ []) 0) refl),
+  λ are. omega (arith, are 0 (script (Stats ∷ []) 2) refl),
+  λ are. omega (arith, (are 0 (script (Stats ∷ []) 1) refl).0),
+  λ is. (let wrong : false ≡ true = is in absurd cc),
+)
+
+past_the_end : (p : Past) → p.scripts ≡ script (Stats ∷ []) 2 ∷ [] → HasEnded 0 p → ⊥
+past_the_end p has is = omega (arith, is (script (Stats ∷ []) 2) (rw has refl))
+
 -- also a processor that there is none of
 of_past_that_ended : (p : Past) → p.scripts ≡ script (Stats ∷ []) 0 ∷ script (Stats ∷ []) 1 ∷ []
     → HasEnded 1 p × HasEnded 2 p
@@ -70,12 +84,21 @@ its_scripts : (calls : Vec Call Global) → calls.items ≡ Stats ∷ []
     → AreScripts (script (Stats ∷ []) 1 ∷ []) (calls ∷ [])
 its_scripts calls has = (refl, λ cpu s own is given. grind (arith, has, is, given))
 
+-- the second one's calls
+second_is_another : (first calls : Vec Call Global)
+    → AreScripts (script [] 0 ∷ script (Stats ∷ []) 0 ∷ []) (first ∷ calls ∷ [])
+    → calls.items ≡ Stats ∷ []
+second_is_another first calls are = sym (are.1 1 _ calls refl refl)
+
 all_hushed : AreHushed (replicate 9 true)
 all_hushed n lt = grind (arith, lt)
 
 -- one of the services that may find something to do
 hushed : AreHushed (replicate 8 true) → ⊥
 hushed are = let wrong : false ≡ true = are 8 (omega arith) in cc
+
+first_may_find_something : AreHushed (false ∷ replicate 8 true) → ⊥
+first_may_find_something are = let wrong : false ≡ true = are 0 (omega arith) in cc
 
 aside : (IsAside (Processor 0 1) → ⊥) × IsAside Starter × IsAside (Worker 0) × IsAside Balancer
 aside = (λ is. is, tt, tt, tt)
@@ -128,6 +151,15 @@ follows p = (
   λ is. (let wrong : [] ≡ Stats ∷ [] = is 0 (script (Stats ∷ Alloc 0 1 ∷ []) 1) refl in absurd cc),
   λ is. (let wrong : Alloc 0 1 ∷ [] ≡ Stats ∷ [] = is 0 (script (Stats ∷ Alloc 0 1 ∷ []) 1) refl in absurd cc),
 )
+
+-- the second processor's, too
+second_follows : (p : Past) → Follows (record p {
+  guest = 2;
+  history = Called (Processor 2 1) (Alloc 0 1) [] Done ∷ [];
+  scripts = script [] 0 ∷ script (Stats ∷ []) 1 ∷ [];
+}) → ⊥
+second_follows p is =
+    let wrong : Alloc 0 1 ∷ [] ≡ Stats ∷ [] = is 1 (script (Stats ∷ []) 1) refl in absurd cc
 
 -- what is noted of a processor's next call, and of a service
 next : (reply : Reply) (old new : Past) → NotesNext 1 reply old new

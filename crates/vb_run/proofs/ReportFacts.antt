@@ -133,6 +133,16 @@ different_frames : (first second : GuestReport) → first.frames.items ≡ 3 ∷
     → second.frames.items ≡ 8 ∷ [] → AreApart (first ∷ second ∷ [])
 different_frames first second a b frame = grind arith
 
+frame_of_first_and_third : (first second third : GuestReport) → first.frames.items ≡ 3 ∷ []
+    → second.frames.items ≡ [] → third.frames.items ≡ 8 ∷ 3 ∷ []
+    → AreApart (first ∷ second ∷ third ∷ []) → ⊥
+frame_of_first_and_third first second third a b c apart =
+    let l : ((0 + times 3 first.frames.items) + times 3 second.frames.items)
+    + times 3 third.frames.items ≤ 1 = apart 3 in
+    let d : times 3 first.frames.items ≡ 1 = ap (times 3) a in
+    let e : times 3 third.frames.items ≡ 1 = ap (times 3) c in
+    omega (arith, l, d, e)
+
 -- ---- a guest's report: guest 1, and balances that leave 16 pages
 
 -- what no such report has

@@ -7,7 +7,7 @@ use Rattle.vb_model.specs.Orderly.{IsOrderly}
 use Rattle.vb_model.specs.Requests.{Request, Requests, no_requests, NoBuffer, BufferPosted}
 use Rattle.vb_model.specs.declared.calls.Call.TheVariants.{Take, Work, Finish, Ask, SetTarget}
 use Rattle.vb_model.specs.declared.negotiation.TheConstants.{OFFERED_FEATURES}
-use Rattle.vb_model.specs.declared.replies.Refusal.TheVariants.{NotReady, NotTaken}
+use Rattle.vb_model.specs.declared.replies.Refusal.{Refusal, TheVariants.{NotReady, NotTaken}}
 use Rattle.vb_model.specs.declared.replies.Reply.TheVariants.{Done, Taken, Empty, Worked, Idle}
 use Rattle.vb_model.specs.declared.replies.Reply.TheVariants.{Finished, Asked, Refused}
 use Rattle.vb_run.specs.Services.{services, found_nothing, IsServed, is_waiting, IsTended, IsQuiet}
@@ -36,6 +36,10 @@ replies_to_a_worker : map found_nothing (Empty ∷ Idle ∷ Refused NotReady ∷
     ∷ Taken 0 ∷ Worked 16 true ∷ Worked 16 false ∷ Finished 0 ∷ Asked ∷ Done ∷ [])
     ≡ true ∷ true ∷ true ∷ true ∷ false ∷ false ∷ false ∷ false ∷ false ∷ false ∷ []
 replies_to_a_worker = refl
+
+-- each refusal, for want of a frame or of memory too
+refusals_to_a_worker : (refusal : Refusal) → found_nothing (Refused refusal) ≡ true
+refusals_to_a_worker refusal = refl
 
 -- ---- what waits for the device
 

@@ -13,6 +13,11 @@ counts : map (λ n. backing_of n (Some (guest (Some 5 ∷ Some 7 ∷ [])) ∷ No
     (4 ∷ 5 ∷ 6 ∷ 7 ∷ []) ≡ 0 ∷ 1 ∷ 1 ∷ 2 ∷ []
 counts = refl
 
+-- each page of one guest counts
+twice_of_one : map (λ n. backing_at n (Some (guest (Some 5 ∷ None ∷ Some 5 ∷ Some 6 ∷ [])))) (5 ∷ 6 ∷ [])
+    ≡ 2 ∷ 1 ∷ []
+twice_of_one = refl
+
 nobody_has_none : backing_at 5 None ≡ 0
 nobody_has_none = refl
 
@@ -50,3 +55,7 @@ one_too_few spares = spares.1
 
 another_order : AreSpares Spare (1 ∷ 0 ∷ []) (false ∷ true ∷ []) → ⊥
 another_order spares = omega (arith, spares.0)
+
+-- the second is of its pace, too
+second_of_another_pace : AreSpares Spare (1 ∷ 1 ∷ []) (true ∷ false ∷ []) → ⊥
+second_of_another_pace spares = omega (arith, spares.1.0)

@@ -1,12 +1,12 @@
 -- Which worlds a host is one of, worked out.
-use Rattle.std.proofs.Common.{◌≡◌, ◌↔◌, ◌≤◌, ℕ, Bool, true, false, List, [], ◌∷◌, refl, arith}
+use Rattle.std.proofs.Common.{◌≡◌, ◌↔◌, ◌≤◌, ℕ, zero, suc, Bool, true, false, List, [], ◌∷◌, refl, arith}
 use Rattle.std.specs.Prelude.{Option, Some, None, replicate}
 use Rattle.std.specs.declared.{alloc.Global.Global, dyn_box.DynBox.DynBox}
-use Rattle.slab.specs.Slab.{Slab}
-use Rattle.vb_model.specs.{Guest.{Guest, fresh}, World.{World as Model, made}}
+use Rattle.slab.specs.Slab.{Slab, get}
+use Rattle.vb_model.specs.{Guest.{Guest, fresh}, World.{World as Model, guest_at, made}}
 use Rattle.{vb_ram.specs.{Pages.Pages, Part.Part}, vb_slot.specs.Spare.IsSpare}
 use Rattle.vb_slot.specs.Stands.{Stands}
-use Rattle.vb_world.specs.{Hosts.{IsHost, IsWorld, spare_as}, declared.world.World.World}
+use Rattle.vb_world.specs.{Hosts.{IsHost, IsWorld, StandsAt, spare_as}, declared.world.World.World}
 
 abbrev guest : List (Option ℕ) → Guest
 guest frames = record (fresh (record { pages = 4; queue_size = 8; processors = 1; paced = false }) 0)
@@ -55,6 +55,69 @@ no_host = (
   λ is. (let wrong : false ≡ true = is.spares.0 in absurd cc),
   λ is. is.spares,
 )
+
+-- ---- two guests, frame 1 of two behind a page of the second
+
+abbrev of_two : List (Option ℕ) → List (Option ℕ) → Model
+of_two first second = record {
+  frames = 2;
+  guests = Some (guest first) ∷ Some (guest second) ∷ [];
+  spares = [];
+  vacated = None;
+}
+
+abbrev both_slots : Slab ℕ
+both_slots = slots (Some 0 ∷ Some 0 ∷ []) 2 8
+
+two_guests : IsOf both_slots (false ∷ true ∷ []) [] (of_two [] (None ∷ Some 1 ∷ []))
+two_guests = record {
+  guests = λ n. grind arith;
+  count = refl;
+  few = omega arith;
+  room = omega arith;
+  next = tt;
+  frames = refl;
+  backed = λ frame. grind arith;
+  spares = tt;
+}
+
+-- a slot for another second guest; a frame behind two pages of one, or one of each; and one behind a
+-- page that the host hasn't
+not_of_two : (IsOf (slots (Some 0 ∷ Some 5 ∷ []) 2 8) (false ∷ true ∷ []) [] (of_two [] (Some 1 ∷ [])) → ⊥)
+    × (IsOf both_slots (false ∷ true ∷ []) [] (of_two [] (Some 1 ∷ Some 1 ∷ [])) → ⊥)
+    × (IsOf both_slots (false ∷ true ∷ []) [] (of_two (Some 1 ∷ []) (Some 1 ∷ [])) → ⊥)
+    × (IsOf both_slots (false ∷ true ∷ []) [] (of_two (Some 7 ∷ []) (Some 1 ∷ [])) → ⊥)
+not_of_two = (
+  λ is. omega (arith, is.guests 1),
+  λ is. omega (arith, is.backed 1),
+  λ is. omega (arith, is.backed 1),
+  λ is. omega (arith, is.backed 7),
+)
+
+-- eight guests are as many as a host has
+eight : IsOf (slots (replicate 8 (Some 0)) 8 8) [] []
+    (record { frames = 0; guests = replicate 8 (Some (guest [])); spares = []; vacated = None })
+eight = record {
+  guests = stand;
+  count = refl;
+  few = omega arith;
+  room = omega arith;
+  next = tt;
+  frames = refl;
+  backed = λ frame. grind arith;
+  spares = tt;
+} where
+  stand : (n : ℕ) → StandsAt Stand (get (slots (replicate 8 (Some 0)) 8 8) n)
+      (guest_at (replicate 8 (Some (guest []))) n)
+  stand zero = refl
+  stand (suc zero) = refl
+  stand (suc (suc zero)) = refl
+  stand (suc (suc (suc zero))) = refl
+  stand (suc (suc (suc (suc zero)))) = refl
+  stand (suc (suc (suc (suc (suc zero))))) = refl
+  stand (suc (suc (suc (suc (suc (suc zero)))))) = refl
+  stand (suc (suc (suc (suc (suc (suc (suc zero))))))) = refl
+  stand (suc (suc (suc (suc (suc (suc (suc (suc n)))))))) = tt
 
 -- nine guests are too many for any host
 nine : (slab : Slab ℕ) (out : List Bool) → IsOf slab out []
