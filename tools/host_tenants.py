@@ -28,18 +28,30 @@ MOST_SET = 1 << 36
 
 
 def served(client, number, pages):
-    """Has a request of these pages served."""
-    client.post_pages(number, pages)
+    """Has a request of these pages served, whose buffer is beside the rings."""
+    buffer = REGIONS[client.region][0] + 16 * PAGE
+    client.write(buffer, struct.pack(f"<{len(pages)}I", *pages))
+    client.describe(number, 0, buffer, 4 * len(pages))
+    client.publish(number, 0), client.kick(number)
     end = time.monotonic() + LIMIT
     while client.told() != number:
         demand(time.monotonic() < end, "a request isn't served")
 
 
-def marks_by_chance(town, client):
-    """What is in the balloon, beside a set that is kept here: pages go in, out, in again, and with their region."""
-    chance, ballooned, here = random.Random("marks"), set(), {0, 1}
-    for _ in range(300):
-        pages = chance.sample(OF_REGION[0][48:] if here == {0} else [*OF_REGION[0][48:], *OF_REGION[1]], chance.randint(1, 12))
+def marks_by_chance(town, kept):
+    """What is in the balloon, beside a set that is kept here: pages go in, out, in again, and with their region; the other one, where
+    the rings are, stays."""
+    client = Client(f"{town.host.folder}/a", town.host.why)
+    client.region, other = kept, 1 - kept
+    client.negotiate(protocol=OFFERED)
+    for number in (0, 1):
+        region(client, number, ADD_MEM_REG)
+    for number in range(4):
+        client.place(number)
+    rings_of(client, 1)
+    chance, ballooned, here = random.Random(f"marks {kept}"), set(), True
+    for _ in range(150):
+        pages = chance.sample([*OF_REGION[kept][48:], *(OF_REGION[other] if here else ())], chance.randint(1, 12))
         what = chance.randrange(5)
         if what < 2:
             served(client, INFLATE, pages)
@@ -48,11 +60,13 @@ def marks_by_chance(town, client):
             served(client, DEFLATE, pages)
             ballooned -= set(pages)
         else:
-            region(client, 1, REM_MEM_REG if 1 in here else ADD_MEM_REG)
-            here ^= {1}
-            ballooned -= set(OF_REGION[1])
+            region(client, other, REM_MEM_REG if here else ADD_MEM_REG)
+            here = not here
+            ballooned -= set(OF_REGION[other])
         seen = town.host.guests()["a"]
-        demand((seen["ballooned"], seen["pages"]) == (len(ballooned), 64 * len(here)), f"{len(ballooned)} pages are in the balloon: {seen}")
+        demand((seen["ballooned"], seen["pages"]) == (len(ballooned), 64 * (1 + here)), f"{len(ballooned)} pages are in the balloon: {seen}")
+    client.leave()
+    becomes(town, {"here": 0, "ballooned": 0})
     return len(ballooned)
 
 
@@ -110,19 +124,11 @@ def marks_run(bench):
     os.makedirs(f"{bench.folder}/uncounted", exist_ok=True)
     demand(not counts_anew(bench), "a host counts a guest's whole set")
     with bench.town(1024, ("--floor", "0", "--period", "60000"), checked=True) as town:
-        client = Client(town.host.add("a"), town.host.why)
-        client.negotiate(protocol=OFFERED)
-        for number in (0, 1):
-            region(client, number, ADD_MEM_REG)
-        for number in range(4):
-            client.place(number)
-        rings_of(client, 1)
-        left = marks_by_chance(town, client)
-        client.leave()
-        becomes(town, {"here": 0, "ballooned": 0})
+        town.host.add("a")
+        left = [marks_by_chance(town, kept) for kept in (0, 1)]
         memory_that_stays(town)
         set_of_a_large_memory(town)
-    return f"300 steps, {left} pages left in the balloon"
+    return f"300 steps, {left} pages left in the balloons"
 
 
 def one_place_left(one, other):
