@@ -1,6 +1,6 @@
-/* A balloon device over guest memory that lies in regions with holes. The library behind vb.h decides which access is made, where,
- * in which order, and what it means. This file obeys it, and is all that touches guest memory: it tests no bound and makes no sum,
- * since numbers come from the library. A monitor calls balloon_calls.h. Include this file first, or define _GNU_SOURCE. */
+/* A balloon device over guest memory that lies in regions with holes. The library of vb.h decides which access a notice makes, where,
+ * in which order, and what it means. This file obeys it, and makes them all. It tests no bound, since numbers come from the library:
+ * it adds an offset to where a region is mapped. A monitor calls balloon_calls.h. Include this file first, or define _GNU_SOURCE. */
 #ifndef BALLOON_H
 #define BALLOON_H
 #ifndef _GNU_SOURCE

@@ -6,6 +6,7 @@ import shutil
 import subprocess
 
 from linux_kit import ROOT, Fault, last_line
+from release_marks import gate_of
 
 # What the Rust crate has for tests in C, which aren't installed.
 TESTS_IN_C = "ctests/"
@@ -46,40 +47,43 @@ def listed(folder):
 
 
 def copy_listed(folder, path):
-    """Copies a folder of the tree."""
+    """Copies a folder of the tree, but empty files: tools/conform takes what isn't there for empty."""
     for name in listed(folder):
-        if not name.startswith(TESTS_IN_C):
+        if not name.startswith(TESTS_IN_C) and os.path.getsize(os.path.join(ROOT, folder, name)):
             copy(os.path.join(ROOT, folder, name), os.path.join(path, name))
+
+
+def settle(root, date):
+    """Gives each file and folder below a root one date, and modes that hang on no mask."""
+    for folder, _, names in os.walk(root, topdown=False):
+        for name in names:
+            path = os.path.join(folder, name)
+            os.chmod(path, 0o755 if os.access(path, os.X_OK) else 0o644)
+            os.utime(path, (date, date))
+        os.chmod(folder, 0o755)
+        os.utime(folder, (date, date))
 
 
 class Tree:
     """What all of a release is made of."""
 
     def __init__(self, gate):
-        self.version = read("VERSION").strip()
+        changed = said(["git", "status", "--porcelain"], cwd=ROOT).splitlines()
+        if changed:
+            raise Fault(f"the tree isn't that of a commit, of which a release is made: {changed[0].strip()}")
+        self.number = read("VERSION").strip()
         self.commit = said(["git", "rev-parse", "HEAD"], cwd=ROOT).strip()
         self.date = int(said(["git", "log", "-1", "--format=%ct"], cwd=ROOT))
-        changed = said(["git", "status", "--porcelain", "--untracked-files=no"], cwd=ROOT).strip()
-        if changed:
-            raise Fault("the tree has changes that aren't committed: a release is made of a commit")
-        self.gate = last_line(read_outside(gate)) if gate else "not given"
-        if gate and not re.search(r"\b\d+ passed, 0 failed", self.gate):
-            raise Fault(f"{gate} doesn't end with what a passed gate says: {self.gate}")
+        self.gate = gate_of(gate, listed(".")) if gate else ""
+        # What a release without the gate's last line is called, in names of files and as a Debian package.
+        self.name = self.number if gate else f"{self.number}-unproved"
+        self.debian = self.number if gate else f"{self.number}~unproved"
 
     def filled(self, text, prefix="", libdir=""):
         """Returns a template's text for this release."""
-        for name, value in (("VERSION", self.version), ("PREFIX", prefix), ("LIBDIR", libdir)):
+        for name, value in (("VERSION", self.number), ("PREFIX", prefix), ("LIBDIR", libdir)):
             text = text.replace(f"@{name}@", value)
         return text
-
-
-def read_outside(path):
-    """Returns the text of a file that isn't one of the tree."""
-    try:
-        with open(path, encoding="utf-8", errors="replace") as file:
-            return file.read()
-    except OSError as error:
-        raise Fault(f"{path}: {error.strerror}") from error
 
 
 def contracts():
@@ -95,20 +99,24 @@ def contracts():
     return found
 
 
-def proved(tree):
-    """Returns the text of PROVED."""
+UNPROVED = """unproved: no gate's last line was given. The kit had proved what it built, libvb.a and vb_sim; no proof from nothing, no test
+and no must-fail edit was tried for this release"""
+
+
+def proved(tree, others):
+    """Returns the text of PROVED, where a release has these others besides the library and vb_sim."""
     kit = said(["rt", "version"]).strip()
     lines = [
-        f"Bigvasta {tree.version}",
+        f"Bigvasta {tree.name}",
         "",
         f"commit: {tree.commit}",
         f"kit: {kit}",
-        f"gate: {tree.gate}",
+        f"gate: {tree.gate or UNPROVED}",
         "",
         "Each function of the crates that has a body is proved to meet its contract. Public functions with a clause that says",
         "what they give or leave:",
         *contracts(),
         "",
-        "Not proved: balloon.h, balloon_calls.h, vhost_user_balloon, the Rust crate round the library, the compilers, the C library.",
+        f"Not proved: {', '.join(others)}; the compilers and the C library, which are trusted.",
     ]
     return "\n".join(lines) + "\n"

@@ -2,8 +2,10 @@
 //! `vb`.
 
 use std::env;
-use std::path::{Path, PathBuf};
+use std::path::PathBuf;
 use std::process::Command;
+
+include!("version.rs");
 
 /// The folder that pkg-config has for the library, where it is installed.
 fn installed() -> Option<PathBuf> {
@@ -15,6 +17,7 @@ fn installed() -> Option<PathBuf> {
 
 fn main() {
     let here = PathBuf::from(env::var("CARGO_MANIFEST_DIR").expect("cargo sets it"));
+    tell_version(&here);
     let built = here.join("../../crates/vb_c/out/libvb_c.a");
     let given = env::var("VB_LIB").ok().map(PathBuf::from);
     let library = given.or_else(|| if built.exists() { None } else { installed() }).unwrap_or(built);

@@ -3,8 +3,8 @@
 //! `parse` reads a text to a `Script`: a host's frames, its spare devices, and events in order.
 //! `parse_threads` reads one to a `ThreadsScript`: a host's frames, and guests whose processors
 //! have a list of calls each.
-//! `docs/RULES.md`, "Scripts", has the rules of the format; `vb_reply` writes the lines that the
-//! events are answered with. Who answers them is no matter here.
+//! `docs/SCRIPTS.md` has the rules of the format; `vb_reply` writes the lines that the events are
+//! answered with. Who answers them is no matter here.
 #![tactic(auto)]
 
 mod events;

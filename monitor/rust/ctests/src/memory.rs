@@ -1,4 +1,6 @@
 //! Guest memory that a test in C has mapped.
+// Versions of `vm-memory` differ in how an iterator of regions is named.
+#![allow(unknown_lints, unexpected_cfgs, refining_impl_trait)]
 
 use crate::Mapped;
 use std::fs::File;
@@ -6,7 +8,9 @@ use std::io;
 use std::os::unix::io::FromRawFd;
 use std::sync::atomic::Ordering;
 use vb_balloon::Cut;
-use vm_memory::guest_memory::{Error, GuestMemoryIterator, Result};
+#[cfg(names_the_iterator)]
+use vm_memory::guest_memory::GuestMemoryIterator;
+use vm_memory::guest_memory::{Error, Result};
 use vm_memory::{
     AtomicAccess, Bytes, FileOffset, GuestAddress, GuestMemory, GuestMemoryRegion, GuestUsize, MemoryRegionAddress,
     VolatileSlice,
@@ -137,14 +141,18 @@ impl Memory {
     }
 }
 
+/// Their iterator, which `vm-memory` wants to have named before 0.16.
+#[cfg(names_the_iterator)]
 pub struct Regions;
 
+#[cfg(names_the_iterator)]
 impl<'a> GuestMemoryIterator<'a, Region> for Regions {
     type Iter = std::slice::Iter<'a, Region>;
 }
 
 impl GuestMemory for Memory {
     type R = Region;
+    #[cfg(names_the_iterator)]
     type I = Regions;
 
     fn num_regions(&self) -> usize {

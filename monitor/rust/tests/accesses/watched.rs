@@ -1,4 +1,6 @@
 //! Memory and a monitor that write down what is asked of them, in order.
+// Versions of `vm-memory` differ in how an iterator of regions is named.
+#![allow(unknown_lints, unexpected_cfgs, refining_impl_trait)]
 
 use std::cell::RefCell;
 use std::io;
@@ -6,7 +8,9 @@ use std::rc::Rc;
 use std::sync::atomic::Ordering;
 use std::sync::Arc;
 use vb_balloon::{Cut, Kind, LiveMemory, Monitor, Region, Run, Spot, Unreachable};
-use vm_memory::guest_memory::{GuestMemoryIterator, Result as Answer};
+use vm_memory::guest_memory::Result as Answer;
+#[cfg(names_the_iterator)]
+use vm_memory::guest_memory::GuestMemoryIterator;
 use vm_memory::{
     AtomicAccess, Bytes, FileOffset, GuestAddress, GuestMemory, GuestMemoryRegion, GuestRegionMmap, GuestUsize,
     MemoryRegionAddress, VolatileSlice,
@@ -118,14 +122,18 @@ pub struct Memory {
     pub regions: Vec<Watched>,
 }
 
+/// Their iterator, which `vm-memory` wants to have named before 0.16.
+#[cfg(names_the_iterator)]
 pub struct Regions;
 
+#[cfg(names_the_iterator)]
 impl<'a> GuestMemoryIterator<'a, Watched> for Regions {
     type Iter = std::slice::Iter<'a, Watched>;
 }
 
 impl GuestMemory for Memory {
     type R = Watched;
+    #[cfg(names_the_iterator)]
     type I = Regions;
 
     fn num_regions(&self) -> usize {
