@@ -145,3 +145,23 @@ no_words written said = (
   λ is. grind (arith, is),
   λ is. grind (arith, is),
 )
+
+-- where a run is asked for, each of its ends is one of the command's, which has no other with status 1
+abbrev RunEnds : List ℕ → List ℕ → ℕ → Type 0
+RunEnds written said status =
+    Ends RunsSafely (Some []) (Some (codes "a")) (Some written) (Some (codes "b")) (Some said) status
+
+run_ends : (words : Words) (written said : List ℕ) (status : ℕ) → asked_by words ≡ Some Run
+    → RunEnds written said status → Command words written said status
+run_ends words written said status run ends =
+    inl (subst (λ (asked : Option Asked). EndsAs asked (Some []) (Some (codes "a")) (Some written)
+    (Some (codes "b")) (Some said) status) (sym run) ends)
+
+ends_by_run : (words : Words) (written said : List ℕ) → asked_by words ≡ Some Run
+    → Command words written said 1 → RunEnds written said 1
+ends_by_run words written said run (inl ends) =
+    subst (λ (asked : Option Asked). EndsAs asked (Some []) (Some (codes "a")) (Some written)
+    (Some (codes "b")) (Some said) 1) run ends
+ends_by_run words written said run (inr (Refused, given, keeps, inl (wrong, says))) = absurd (omega (arith, wrong))
+ends_by_run words written said run (inr (NoRoom, given, keeps, inl (wrong, says))) = absurd (omega (arith, wrong))
+ends_by_run words written said run (inr (fault, given, keeps, inr wrong)) = absurd (omega (arith, wrong))

@@ -4,6 +4,7 @@ use Rattle.std.proofs.Common.{refl, sym, ap, arith, inl, inr}
 use Rattle.std.specs.{Fmt.digits, List.flat_map, Prelude.{Option, Some, None, Result, Ok, Err}}
 use Rattle.vb_model.specs.declared.calls.Event.{TheVariants.{Frames as CountFrames}}
 use Rattle.vb_model.specs.declared.replies.Reply.{Reply, TheVariants.{Frames, Idle}}
+use Rattle.vb_model.specs.{Run.Steps, Safe.Safe, World.World}
 use Rattle.vb_reply.specs.Replies.{line_of}
 use Rattle.vb_script.specs.declared.lines.Pace.TheVariants.{Immediate, Paced}
 use Rattle.vb_script.specs.{Texts.{Said, script_of, told_in}, Words.number_of, Names.{form_of, pace_of}}
@@ -40,6 +41,12 @@ runs reply is = grind arith
 
 not_got : (a b : Reply) → (Get [] → ⊥) × (Get (a ∷ b ∷ []) → ⊥)
 not_got a b = (λ is. grind arith, λ is. grind arith)
+
+-- they are a run's from its host on, each state of which is safe
+safely : (replies : List Reply) → Get replies
+    → (after : List World) × Steps (host_of said) said.events replies after
+    × Safe (host_of said) said.events replies after
+safely replies (last, run) = (run.after, run.steps, run.safe)
 
 -- a bad line none at all, and nothing no reply
 others_got : (MayGet RunsSafely (Err 3) [] → ⊥) × MayGet RunsSafely (Ok None) []
