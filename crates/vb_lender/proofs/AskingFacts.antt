@@ -5,6 +5,7 @@ use Rattle.vb_model.specs.Balance.{Need, spare_at}
 use Rattle.vb_balance.specs.declared.need.NoTargets.{NoTargets}
 use Rattle.vb_balance.specs.declared.need.NoTargets.TheVariants.{Short}
 use Rattle.vb_lender.specs.declared.loan.Loan.{Loan}
+use Rattle.vb_lender.specs.declared.loan.WaitingLine.TheVariants.{First}
 use Rattle.vb_lender.specs.Targets.{AsksFor, HasReached, can_spare, kept, need, waited}
 
 -- a guest of 60 pages: what is lent to it, what it asks for, and what it can spare
@@ -17,6 +18,7 @@ loan lent asked spare = record {
   turn = 1;
   spare = spare;
   uncounted = false;
+  line = First;
 }
 
 -- of one that waits what stays in its balloon, whatever its statistics said; of one that doesn't

@@ -5,6 +5,7 @@ use Rattle.vb_model.specs.Balance.{Need, AreTargets, spare_at}
 use Rattle.vb_balance.specs.declared.need.NoTargets.{NoTargets}
 use Rattle.vb_balance.specs.declared.need.NoTargets.TheVariants.{Short}
 use Rattle.vb_lender.specs.declared.loan.Loan.{Loan}
+use Rattle.vb_lender.specs.declared.loan.WaitingLine.TheVariants.{First}
 use Rattle.vb_lender.specs.declared.terms.Share.{Share}
 use Rattle.vb_lender.specs.declared.terms.Terms.{Terms}
 use Rattle.vb_lender.specs.Classes.{AreClassTargets, AsksByClass, GivesFirst, IsLastClass, all_below, alone, most_priority, priority_at, share_of, shares_of, spare_below, spared_below, whole}
@@ -18,6 +19,7 @@ loan lent asked spare = record {
   turn = 1;
   spare = spare;
   uncounted = false;
+  line = First;
 }
 
 abbrev terms : ℕ → ℕ → Terms

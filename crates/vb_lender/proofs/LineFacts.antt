@@ -3,11 +3,12 @@ use Rattle.std.proofs.Common.{◌≡◌, ◌⊎◌, inl, inr, ℕ, zero, suc, �
 use Rattle.std.specs.List.{AllByRecursion}
 use Rattle.vb_lender.specs.declared.event.Event.TheVariants.{Arrives, Leaves, Gives, Asks, Resets, Grants, Takes, Uncounts, Recounts, Figures, Budget}
 use Rattle.vb_lender.specs.declared.loan.Loan.{Loan}
-use Rattle.vb_lender.specs.Loans.{vacant, granted, may_give, may_reset}
+use Rattle.vb_lender.specs.declared.loan.WaitingLine.TheVariants.{First, Second}
+use Rattle.vb_lender.specs.Loans.{arrived, granted, may_give, may_reset, resetting, uncounted, vacant}
 use Rattle.vb_lender.specs.Lending.{Lending, AreSound, IsOrdinary, NeverLowers, asked_at, comes_at}
 use Rattle.vb_lender.specs.Lending.{each_at, happens, has_turn, is_first, last_turn, lent_at}
-use Rattle.vb_lender.specs.Lending.{may_grant, next_turn, owed, run, test_at, turn_at, value_at}
-use Rattle.vb_lender.specs.Line.{AreApart, GrantsNext, IsAfter, IsFirst, KeepsAsk, KeepsCount}
+use Rattle.vb_lender.specs.Lending.{may_grant, next_turn, rank, rank_at, owed, run, test_at, turn_at, value_at}
+use Rattle.vb_lender.specs.Line.{GrantsNext, IsAfter, IsFirst, IsInFirstLine, KeepsOut}
 
 -- a guest of 60 pages: how many are lent to it, what it asks for and its turn
 abbrev loan : ℕ → ℕ → ℕ → Loan
@@ -19,6 +20,7 @@ loan lent asked turn = record {
   turn = turn;
   spare = 9;
   uncounted = false;
+  line = First;
 }
 
 -- the third came first, the first after it, and the second doesn't wait
@@ -64,7 +66,7 @@ first = refl
 
 is_the_first : IsFirst line 2
 is_the_first = record { waits = omega arith; before_all = λ i. by i } where
-  by : (i : ℕ) → 0 < asked_at line i → 4 ≤ turn_at line i
+  by : (i : ℕ) → 0 < asked_at line i → 4 ≤ rank_at line i
   by zero w = omega arith
   by (suc zero) w = absurd (omega arith)
   by (suc (suc zero)) w = omega arith
@@ -126,3 +128,48 @@ not_granted = (
   none : ((n : ℕ) → asked_at line n ≡ 0) ⊎ ((n : ℕ) × IsFirst line n × (140 < 135 + asked_at line n)) → ⊥
   none (inl nobody) = let e : asked_at line 2 ≡ 0 = nobody 2 in omega (arith, e)
   none (inr one) = omega (arith, only one.0 one.1, one.2)
+
+-- ---- two lines
+
+-- a newcomer in the second line, that came at this turn
+abbrev newcomer : ℕ → Loan
+newcomer turn = record (loan 0 60 turn) { ballooned = 60; line = Second }
+
+ranks : rank (loan 40 10 7) ∷ rank (newcomer 7) ∷ rank_at (newcomer 7 ∷ []) 0 ∷ rank_at [] 0 ∷ [] ≡ 7 ∷ 18446744073709551623
+    ∷ 18446744073709551623 ∷ 0 ∷ []
+ranks = refl
+
+-- the newcomer came first, and both others after it; the second waits in the first line
+abbrev two : List Loan
+two = newcomer 1 ∷ loan 40 10 7 ∷ newcomer 9 ∷ []
+
+-- it is the first nevertheless; of the newcomers the earlier one
+first_of_two : is_first two 0 ∷ is_first two 1 ∷ is_first two 2 ∷ is_first (newcomer 1 ∷ loan 40 0 7 ∷ newcomer 9 ∷ []) 0
+    ∷ is_first (newcomer 1 ∷ loan 40 0 7 ∷ newcomer 9 ∷ []) 2 ∷ [] ≡ false ∷ true ∷ false ∷ true ∷ false ∷ []
+first_of_two = refl
+
+-- so it passes the newcomer: granted though that one came before and still waits
+passes : lent_at (happens (record { frames = 60; loans = two }) (Grants 1)).loans 1 ≡ 50
+passes = refl
+
+lines : IsInFirstLine two 1 × (IsInFirstLine two 0 → ⊥) × IsInFirstLine two 3
+lines = (refl, λ e. omega (arith, e), refl)
+
+after_of_two : IsAfter two 1 0 × IsAfter two 0 2 × (IsAfter two 0 1 → ⊥)
+after_of_two = (inr (omega arith), inr (omega arith), by) where
+  by : IsAfter two 0 1 → ⊥
+  by (inl e) = let none : asked_at two 1 ≡ 0 = e in omega (arith, none)
+  by (inr l) = let less : rank_at two 0 < rank_at two 1 = l in omega (arith, less)
+
+-- once it is granted its pages, a newcomer is one no longer, nor where its balloon is uncounted
+runs : ((granted (newcomer 1)).line ≡ First) × ((uncounted (record (newcomer 1) { lent = 1 })).line ≡ First)
+    × ((resetting 5 (newcomer 1)).line ≡ Second) × ((arrived 60 Second 5 vacant).line ≡ Second)
+runs = (refl, refl, refl, refl)
+
+-- asks, resets and newcomers of the guest itself come to the first line
+keeps_out : KeepsOut 1 (Arrives 1 60 Second) × KeepsOut 1 (Asks 0 1) × KeepsOut 1 (Grants 1) × KeepsOut 1 (Arrives 0 60 First)
+    × KeepsOut 1 (Resets 0)
+keeps_out = (tt, λ e. absurd (omega (arith, e)), tt, λ e. absurd (omega (arith, e)), λ e. absurd (omega (arith, e)))
+
+keeps_out_not : (KeepsOut 1 (Arrives 1 60 First) → ⊥) × (KeepsOut 1 (Asks 1 1) → ⊥) × (KeepsOut 1 (Resets 1) → ⊥)
+keeps_out_not = (λ k. k refl, λ k. k refl, λ k. k refl)

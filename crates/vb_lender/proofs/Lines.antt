@@ -4,27 +4,27 @@ use Rattle.std.proofs.lemmas.Bool.Decides.{nat_tests}
 use Rattle.std.specs.List.{list_all}
 use Rattle.std.proofs.lemmas.List.Folds.{list_all_at}
 use Rattle.vb_lender.specs.declared.loan.Loan.{Loan}
-use Rattle.vb_lender.specs.Lending.{asked_at, turn_at, comes_at, is_first}
+use Rattle.vb_lender.specs.Lending.{asked_at, rank, rank_at, comes_at, is_first}
 use Rattle.vb_lender.specs.Line.{IsFirst, FirstBelow}
 use Rattle.vb_lender.proofs.Places.{value_there, value_is}
 
 -- what holds of each number below a limit, where it holds at the limit too
-turn_below : (xs : List Loan) (turn limit : ℕ) → ((k : ℕ) → k < limit → 0 < asked_at xs k → turn ≤ turn_at xs k) → (0 < asked_at xs limit → turn ≤ turn_at xs limit)
-    → (k : ℕ) → k < limit + 1 → 0 < asked_at xs k → turn ≤ turn_at xs k
-turn_below xs turn limit below here = below_more (λ k. 0 < asked_at xs k → turn ≤ turn_at xs k) limit below here
+turn_below : (xs : List Loan) (least limit : ℕ) → ((k : ℕ) → k < limit → 0 < asked_at xs k → least ≤ rank_at xs k) → (0 < asked_at xs limit → least ≤ rank_at xs limit)
+    → (k : ℕ) → k < limit + 1 → 0 < asked_at xs k → least ≤ rank_at xs k
+turn_below xs least limit below here = below_more (λ k. 0 < asked_at xs k → least ≤ rank_at xs k) limit below here
 
 pub first_same : (xs : List Loan) (place : ℕ) (first : Option ℕ) → asked_at xs place ≡ 0 → FirstBelow xs place first → FirstBelow xs (place + 1) first
 first_same xs place None e h = below_more (λ k. asked_at xs k ≡ 0) place h e
-first_same xs place (Some n) e h = (omega (arith, h.0), h.1, turn_below xs (turn_at xs n) place h.2 (λ w. absurd (omega arith)))
+first_same xs place (Some n) e h = (omega (arith, h.0), h.1, turn_below xs (rank_at xs n) place h.2 (λ w. absurd (omega arith)))
 
 pub first_new : (xs : List Loan) (place : ℕ) → 0 < asked_at xs place → FirstBelow xs place None → FirstBelow xs (place + 1) (Some place)
-first_new xs place w h = (omega arith, w, turn_below xs (turn_at xs place) place (λ k l v. absurd (omega (arith, h k l))) (λ _. omega arith))
+first_new xs place w h = (omega arith, w, turn_below xs (rank_at xs place) place (λ k l v. absurd (omega (arith, h k l))) (λ _. omega arith))
 
-pub first_earlier : (xs : List Loan) (place n : ℕ) → 0 < asked_at xs place → turn_at xs place < turn_at xs n → FirstBelow xs place (Some n) → FirstBelow xs (place + 1) (Some place)
-first_earlier xs place n w l h = (omega arith, w, turn_below xs (turn_at xs place) place (λ k b v. omega (arith, h.2 k b v)) (λ _. omega arith))
+pub first_earlier : (xs : List Loan) (place n : ℕ) → 0 < asked_at xs place → rank_at xs place < rank_at xs n → FirstBelow xs place (Some n) → FirstBelow xs (place + 1) (Some place)
+first_earlier xs place n w l h = (omega arith, w, turn_below xs (rank_at xs place) place (λ k b v. omega (arith, h.2 k b v)) (λ _. omega arith))
 
-pub first_stays : (xs : List Loan) (place n : ℕ) → turn_at xs n ≤ turn_at xs place → FirstBelow xs place (Some n) → FirstBelow xs (place + 1) (Some n)
-first_stays xs place n l h = (omega (arith, h.0), h.1, turn_below xs (turn_at xs n) place h.2 (λ _. l))
+pub first_stays : (xs : List Loan) (place n : ℕ) → rank_at xs n ≤ rank_at xs place → FirstBelow xs place (Some n) → FirstBelow xs (place + 1) (Some n)
+first_stays xs place n l h = (omega (arith, h.0), h.1, turn_below xs (rank_at xs n) place h.2 (λ _. l))
 
 none_or : (xs : List Loan) (n : ℕ) (b : Bool) → nat_lt 0 (asked_at xs n) ≡ b → (0 < asked_at xs n → asked_at xs n ≡ 0) → asked_at xs n ≡ 0
 none_or xs n true e h = h (grind (arith, nat_tests))
@@ -40,9 +40,9 @@ first_of_all xs limit (Some n) l h = (h.0, record { waits = h.1; before_all = λ
 
 -- ---- the test and what it says
 
--- a guest that comes at a turn doesn't wait before it
-comes_facts : (turn : ℕ) (s : Loan) → comes_at turn s ≡ true → 0 < s.asked → turn ≤ s.turn
-comes_facts turn s e w = grind (arith, nat_tests)
+-- a guest that comes at a rank doesn't wait before it
+comes_facts : (least : ℕ) (s : Loan) → comes_at least s ≡ true → 0 < s.asked → least ≤ rank s
+comes_facts least s e w = grind (arith, nat_tests)
 
 and_left : (a b : Bool) → (a && b) ≡ true → a ≡ true
 and_left true b e = refl
@@ -56,17 +56,17 @@ and_both : (a b : Bool) → a ≡ true → b ≡ true → (a && b) ≡ true
 and_both true b e f = f
 and_both false b e f = e
 
-all_come : (turn : ℕ) (xs : List Loan) → list_all (comes_at turn) xs ≡ true → (i : ℕ) → 0 < asked_at xs i → turn ≤ turn_at xs i
-all_come turn [] e i w = absurd (omega arith)
-all_come turn (x ∷ xs) e zero w = comes_facts turn x (and_left (comes_at turn x) (list_all (comes_at turn) xs) e) w
-all_come turn (x ∷ xs) e (suc i) w = all_come turn xs (and_right (comes_at turn x) (list_all (comes_at turn) xs) e) i w
+all_come : (least : ℕ) (xs : List Loan) → list_all (comes_at least) xs ≡ true → (i : ℕ) → 0 < asked_at xs i → least ≤ rank_at xs i
+all_come least [] e i w = absurd (omega arith)
+all_come least (x ∷ xs) e zero w = comes_facts least x (and_left (comes_at least x) (list_all (comes_at least) xs) e) w
+all_come least (x ∷ xs) e (suc i) w = all_come least xs (and_right (comes_at least x) (list_all (comes_at least) xs) e) i w
 
-comes_from : (turn : ℕ) (s : Loan) → (0 < s.asked → turn ≤ s.turn) → comes_at turn s ≡ true
-comes_from turn s h = grind (arith, nat_tests)
+comes_from : (least : ℕ) (s : Loan) → (0 < s.asked → least ≤ rank s) → comes_at least s ≡ true
+comes_from least s h = grind (arith, nat_tests)
 
-come_all : (turn : ℕ) (xs : List Loan) → ((i : ℕ) → 0 < asked_at xs i → turn ≤ turn_at xs i) → list_all (comes_at turn) xs ≡ true
-come_all turn [] h = refl
-come_all turn (x ∷ xs) h = and_both (comes_at turn x) (list_all (comes_at turn) xs) (comes_from turn x (h zero)) (come_all turn xs (λ i. h (suc i)))
+come_all : (least : ℕ) (xs : List Loan) → ((i : ℕ) → 0 < asked_at xs i → least ≤ rank_at xs i) → list_all (comes_at least) xs ≡ true
+come_all least [] h = refl
+come_all least (x ∷ xs) h = and_both (comes_at least x) (list_all (comes_at least) xs) (comes_from least x (h zero)) (come_all least xs (λ i. h (suc i)))
 
 waits_by : (a : ℕ) → nat_lt 0 a ≡ true → 0 < a
 waits_by a e = grind (arith, nat_tests)
@@ -74,22 +74,22 @@ waits_by a e = grind (arith, nat_tests)
 pub first_is : (xs : List Loan) (n : ℕ) → is_first xs n ≡ true → IsFirst xs n
 first_is xs n e = record {
   waits = waits_by (asked_at xs n) (and_left (nat_lt 0 (asked_at xs n)) _ e);
-  before_all = all_come (turn_at xs n) xs (and_right (nat_lt 0 (asked_at xs n)) _ e);
+  before_all = all_come (rank_at xs n) xs (and_right (nat_lt 0 (asked_at xs n)) _ e);
 }
 
 by_waits : (a : ℕ) → 0 < a → nat_lt 0 a ≡ true
 by_waits a h = grind (arith, nat_tests)
 
 pub is_the_first : (xs : List Loan) (n : ℕ) → IsFirst xs n → is_first xs n ≡ true
-is_the_first xs n h = and_both (nat_lt 0 (asked_at xs n)) _ (by_waits (asked_at xs n) h.waits) (come_all (turn_at xs n) xs h.before_all)
+is_the_first xs n h = and_both (nat_lt 0 (asked_at xs n)) _ (by_waits (asked_at xs n) h.waits) (come_all (rank_at xs n) xs h.before_all)
 
 -- ---- the test as code makes it
 
 same_test : (a b t u : ℕ) (xs : List Loan) → a ≡ b → t ≡ u → (nat_lt 0 a && list_all (comes_at t) xs) ≡ (nat_lt 0 b && list_all (comes_at u) xs)
 same_test a b t u xs e f = ap (λ k. nat_lt 0 k && list_all (comes_at t) xs) e ∙ ap (λ k. nat_lt 0 b && list_all (comes_at k) xs) f
 
-first_is_at : (xs : List Loan) (n : ℕ) (d : Loan) → n < length xs → is_first xs n ≡ (nat_lt 0 (get_or xs n d).asked && list_all (comes_at (get_or xs n d).turn) xs)
-first_is_at xs n d h = same_test _ _ _ _ xs (value_is (λ s. s.asked) n xs d h) (value_is (λ s. s.turn) n xs d h)
+first_is_at : (xs : List Loan) (n : ℕ) (d : Loan) → n < length xs → is_first xs n ≡ (nat_lt 0 (get_or xs n d).asked && list_all (comes_at (rank (get_or xs n d))) xs)
+first_is_at xs n d h = same_test _ _ _ _ xs (value_is (λ s. s.asked) n xs d h) (value_is rank n xs d h)
 
 not_waiting : (a : ℕ) (b : Bool) → a ≡ 0 → (nat_lt 0 a && b) ≡ false
 not_waiting a b e = rw e refl
@@ -105,8 +105,10 @@ waits_not_zero (suc a) h = by_waits (suc a) (omega arith)
 pub first_idle : (xs : List Loan) (n : ℕ) (d : Loan) → n < length xs → (get_or xs n d).asked ≡ 0 → false ≡ is_first xs n
 first_idle xs n d h e = sym (first_is_at xs n d h ∙ not_waiting _ _ e)
 
-pub first_passed : (xs : List Loan) (n i : ℕ) (d : Loan) → n < length xs → i < length xs → comes_at (get_or xs n d).turn (get_or xs i d) ≡ false → false ≡ is_first xs n
-first_passed xs n i d h j e = sym (first_is_at xs n d h ∙ none_comes (nat_lt 0 (get_or xs n d).asked) _ (list_all_at (comes_at (get_or xs n d).turn) xs i d j e))
+pub first_passed : (xs : List Loan) (n i own : ℕ) (d : Loan) → n < length xs → i < length xs → own ≡ rank (get_or xs n d) → comes_at own (get_or xs i d) ≡ false → false ≡ is_first xs n
+first_passed xs n i own d h j same e =
+    sym (first_is_at xs n d h ∙ none_comes (nat_lt 0 (get_or xs n d).asked) _ (list_all_at (comes_at (rank (get_or xs n d))) xs i d j (ap (λ (k : ℕ). comes_at k (get_or xs i d)) (sym same) ∙ e)))
 
-pub first_is_there : (xs : List Loan) (n : ℕ) (d : Loan) → n < length xs → ((get_or xs n d).asked ≡ 0 → ⊥) → list_all (comes_at (get_or xs n d).turn) xs ≡ true → true ≡ is_first xs n
-first_is_there xs n d h w e = sym (first_is_at xs n d h ∙ and_both _ _ (waits_not_zero _ w) e)
+pub first_is_there : (xs : List Loan) (n own : ℕ) (d : Loan) → n < length xs → ((get_or xs n d).asked ≡ 0 → ⊥) → own ≡ rank (get_or xs n d) → list_all (comes_at own) xs ≡ true → true ≡ is_first xs n
+first_is_there xs n own d h w same e =
+    sym (first_is_at xs n d h ∙ and_both _ _ (waits_not_zero _ w) (ap (λ (k : ℕ). list_all (comes_at k) xs) (sym same) ∙ e))

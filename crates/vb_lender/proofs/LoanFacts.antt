@@ -1,6 +1,7 @@
 -- Worked facts of one loan: what each event makes of it, and where an event changes nothing.
 use Rattle.std.proofs.Common.{◌≡◌, ℕ, ◌≤◌, Bool, true, false, List, [], ◌∷◌, map, refl, arith}
 use Rattle.vb_lender.specs.declared.loan.Loan.{Loan}
+use Rattle.vb_lender.specs.declared.loan.WaitingLine.TheVariants.{First}
 use Rattle.vb_lender.specs.Loans.{vacant, IsSound, may_arrive, arrived, may_give, gave, may_ask}
 use Rattle.vb_lender.specs.Loans.{asking, may_reset, resetting, granted, may_take, took}
 use Rattle.vb_lender.specs.Loans.{may_uncount, uncounted, recounted, figured}
@@ -15,6 +16,7 @@ loan ballooned lent asked = record {
   turn = 3;
   spare = 9;
   uncounted = false;
+  line = First;
 }
 
 abbrev without_count : Loan → Loan
@@ -39,7 +41,7 @@ not_sound = (
 
 -- ---- a guest comes, and goes
 
-comes : arrived 8 5 vacant ≡ record {
+comes : arrived 8 First 5 vacant ≡ record {
   pages = 8;
   ballooned = 8;
   lent = 0;
@@ -47,6 +49,7 @@ comes : arrived 8 5 vacant ≡ record {
   turn = 5;
   spare = 0;
   uncounted = false;
+  line = First;
 }
 comes = refl
 
@@ -55,7 +58,7 @@ comes_not : may_arrive 8 (loan 20 40 0) ∷ may_arrive 0 vacant ∷ may_arrive 1
     ∷ false ∷ true ∷ []
 comes_not = refl
 
-stays_as_it_was : (arrived 8 5 (loan 20 40 0) ≡ loan 20 40 0) × (arrived 0 5 vacant ≡ vacant)
+stays_as_it_was : (arrived 8 First 5 (loan 20 40 0) ≡ loan 20 40 0) × (arrived 0 First 5 vacant ≡ vacant)
 stays_as_it_was = (refl, refl)
 
 -- ---- pages join its balloon: no more than are lent, nor than there are

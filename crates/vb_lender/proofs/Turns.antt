@@ -1,22 +1,21 @@
 -- No guest that waits is overtaken.
-use Rattle.std.proofs.Common.{◌≡◌, ◌≢◌, ◌⊎◌, inl, inr, ℕ, zero, suc, ◌<◌, ◌≤◌, Bool, true, false, nat_lt, if◌then◌else◌, List, [], ◌∷◌, ◌==◌, subst, refl, arith}
+use Rattle.std.proofs.Common.{◌≡◌, ◌≢◌, ◌⊎◌, inl, inr, ℕ, zero, suc, ◌<◌, ◌≤◌, Bool, true, false, nat_lt, if◌then◌else◌, List, [], ◌∷◌, ◌==◌, subst, refl, ap, sym, ◌+◌, ◌∙◌, arith}
 use Rattle.std.specs.Prelude.{⊤}
 use Rattle.std.proofs.lemmas.Bool.Decides.{nat_tests}
 use Rattle.std.specs.List.{AllByRecursion}
 use Rattle.vb_lender.specs.declared.loan.Loan.{Loan}
+use Rattle.vb_lender.specs.declared.loan.WaitingLine.{WaitingLine}
+use Rattle.vb_lender.specs.declared.loan.WaitingLine.TheVariants.{First, Second}
 use Rattle.vb_lender.specs.declared.event.Event.{Event}
 use Rattle.vb_lender.specs.declared.event.Event.TheVariants.{Arrives, Leaves, Gives, Asks, Resets, Grants, Takes, Uncounts, Recounts, Figures, Budget}
 use Rattle.vb_lender.specs.Loans.{vacant, may_arrive, arrived, may_give, gave, may_ask, asking, resetting, granted, may_take, took, uncounted, recounted, figured}
-use Rattle.vb_lender.specs.Lending.{Lending, asked_at, turn_at, lent_at, value_at, last_turn, next_turn, has_turn, may_grant, each_at, happens, run}
-use Rattle.vb_lender.specs.Line.{IsAfter, KeepsAsk, KeepsCount}
+use Rattle.vb_lender.specs.Lending.{Lending, asked_at, turn_at, rank, rank_at, line_start, lent_at, value_at, last_turn, next_turn, has_turn, may_grant, each_at, happens, run}
+use Rattle.vb_lender.specs.Line.{IsAfter, IsInFirstLine, KeepsAsk, KeepsCount, KeepsOut}
 use Rattle.vb_lender.proofs.Places.{value_elsewhere, value_same, value_less}
 use Rattle.vb_lender.proofs.Grants.{granted_by}
 
 abbrev asked : Loan → ℕ
 asked s = s.asked
-
-abbrev turn : Loan → ℕ
-turn s = s.turn
 
 abbrev lent : Loan → ℕ
 lent s = s.lent
@@ -41,12 +40,12 @@ less_lists : (v : Loan → ℕ) (i : ℕ) (b : Bool) (xs ys : List Loan) → (b 
 less_lists v i true xs ys e = e refl
 less_lists v i false xs ys e = omega arith
 
--- an event that keeps guest i's ask keeps its turn
+-- an event that keeps guest i's ask keeps its rank
 keeps : (v : Loan → ℕ) (l : Lending) (e : Event) (i : ℕ) → KeepsAsk i e
     → ((k : ℕ) (s : Loan) → v (gave k s) ≡ v s) → ((k : ℕ) (s : Loan) → v (took k s) ≡ v s)
     → ((s : Loan) → v (recounted s) ≡ v s) → ((k : ℕ) (s : Loan) → v (figured k s) ≡ v s)
     → value_at v (happens l e).loans i ≡ value_at v l.loans i
-keeps v l (Arrives n k) i h g t r f = same_lists v i (has_turn l.loans) l.loans _ (value_elsewhere v n (arrived k (next_turn l.loans)) l.loans i h)
+keeps v l (Arrives n k line) i h g t r f = same_lists v i (has_turn l.loans) l.loans _ (value_elsewhere v n (arrived k line (next_turn l.loans)) l.loans i h)
 keeps v l (Leaves n) i h g t r f = value_elsewhere v n (λ _. vacant) l.loans i h
 keeps v l (Gives n k) i h g t r f = value_same v n (gave k) l.loans i (g k)
 keeps v l (Asks n k) i h g t r f = same_lists v i (has_turn l.loans) l.loans _ (value_elsewhere v n (asking k (next_turn l.loans)) l.loans i h)
@@ -61,8 +60,14 @@ keeps v l (Budget frames) i h g t r f = refl
 pub keeps_asked : (l : Lending) (e : Event) (i : ℕ) → KeepsAsk i e → asked_at (happens l e).loans i ≡ asked_at l.loans i
 keeps_asked l e i h = keeps asked l e i h (λ k s. same_either asked (may_give k s) s _ refl) (λ k s. same_either asked (may_take k s) s _ refl) (λ s. refl) (λ k s. refl)
 
-pub keeps_turn : (l : Lending) (e : Event) (i : ℕ) → KeepsAsk i e → turn_at (happens l e).loans i ≡ turn_at l.loans i
-keeps_turn l e i h = keeps turn l e i h (λ k s. same_either turn (may_give k s) s _ refl) (λ k s. same_either turn (may_take k s) s _ refl) (λ s. refl) (λ k s. refl)
+pub keeps_rank : (l : Lending) (e : Event) (i : ℕ) → KeepsAsk i e → rank_at (happens l e).loans i ≡ rank_at l.loans i
+keeps_rank l e i h = keeps rank l e i h (λ k s. same_either rank (may_give k s) s _ refl) (λ k s. same_either rank (may_take k s) s _ refl) (λ s. refl) (λ k s. refl)
+
+abbrev start : Loan → ℕ
+start s = line_start s.line
+
+keeps_line : (l : Lending) (e : Event) (i : ℕ) → KeepsAsk i e → value_at start (happens l e).loans i ≡ value_at start l.loans i
+keeps_line l e i h = keeps start l e i h (λ k s. same_either start (may_give k s) s _ refl) (λ k s. same_either start (may_take k s) s _ refl) (λ s. refl) (λ k s. refl)
 
 -- ---- a guest that comes now comes after all
 
@@ -71,9 +76,28 @@ turn_before [] i = omega arith
 turn_before (x ∷ xs) zero = omega arith
 turn_before (x ∷ xs) (suc i) = omega (arith, turn_before xs i)
 
--- it doesn't wait, or later than at this turn
+-- in either line its rank is no more than the latest turn there
+start_small : (s : Loan) → start s ≤ 18446744073709551616
+start_small s = by s.line where
+  by : (line : WaitingLine) → line_start line ≤ 18446744073709551616
+  by First = omega arith
+  by Second = omega arith
+
+rank_before : (xs : List Loan) (i : ℕ) → (rank_at xs i ≡ value_at start xs i + turn_at xs i) × (value_at start xs i ≤ 18446744073709551616)
+rank_before [] i = (refl, omega arith)
+rank_before (x ∷ xs) zero = (refl, start_small x)
+rank_before (x ∷ xs) (suc i) = rank_before xs i
+
+-- it doesn't wait, or later than at this rank
 abbrev Late : ℕ → Loan → Type 0
-Late t s = (s.asked ≡ 0) ⊎ (t < s.turn)
+Late t s = (s.asked ≡ 0) ⊎ (t < rank s)
+
+-- an ask of guest j that comes by the event comes later than at this rank
+abbrev ComesLater : ℕ → Lending → Event → ℕ → Type 0
+ComesLater t l (Arrives n k line) j = n ≡ j → t < line_start line + next_turn l.loans
+ComesLater t l (Asks n k) j = n ≡ j → t < next_turn l.loans
+ComesLater t l (Resets n) j = n ≡ j → t < next_turn l.loans
+ComesLater t l _ j = ⊤
 
 -- what holds of the guest at a place, if there is one
 abbrev At : (Loan → Type 0) → List Loan → ℕ → Type 0
@@ -81,12 +105,12 @@ At P [] n = ⊤
 At P (s ∷ xs) zero = P s
 At P (s ∷ xs) (suc n) = At P xs n
 
-at_kept : (P : Loan → Type 0) (n : ℕ) (f : Loan → Loan) (xs : List Loan) (j : ℕ) → ((s : Loan) → P s → P (f s)) → At P xs j → At P (each_at n f xs) j
+at_kept : (P : Loan → Type 0) (n : ℕ) (f : Loan → Loan) (xs : List Loan) (j : ℕ) → (n ≡ j → (s : Loan) → P s → P (f s)) → At P xs j → At P (each_at n f xs) j
 at_kept P n f [] j h a = a
-at_kept P zero f (x ∷ xs) zero h a = h x a
+at_kept P zero f (x ∷ xs) zero h a = h refl x a
 at_kept P zero f (x ∷ xs) (suc j) h a = a
 at_kept P (suc n) f (x ∷ xs) zero h a = a
-at_kept P (suc n) f (x ∷ xs) (suc j) h a = at_kept P n f xs j h a
+at_kept P (suc n) f (x ∷ xs) (suc j) h a = at_kept P n f xs j (λ e. h (ap (λ k. suc k) e)) a
 
 at_lists : (P : Loan → Type 0) (j : ℕ) (b : Bool) (xs ys : List Loan) → At P ys j → At P xs j → At P (if b then ys else xs) j
 at_lists P j true xs ys a c = a
@@ -96,27 +120,55 @@ late_either : (t : ℕ) (b : Bool) (s u : Loan) → Late t u → Late t s → La
 late_either t true s u a c = a
 late_either t false s u a c = c
 
--- an event leaves a guest late that is late, where the turn has been given
-late_after : (t : ℕ) (l : Lending) (e : Event) (j : ℕ) → t ≤ last_turn l.loans → At (Late t) l.loans j → At (Late t) (happens l e).loans j
-late_after t l (Arrives n k) j h a = at_lists (Late t) j (has_turn l.loans) l.loans _ (at_kept (Late t) n (arrived k (next_turn l.loans)) l.loans j (λ s p. late_either t (may_arrive k s) s _ (inr (omega arith)) p) a) a
-late_after t l (Leaves n) j h a = at_kept (Late t) n (λ _. vacant) l.loans j (λ s p. inl refl) a
-late_after t l (Gives n k) j h a = at_kept (Late t) n (gave k) l.loans j (λ s p. late_either t (may_give k s) s _ p p) a
-late_after t l (Asks n k) j h a = at_lists (Late t) j (has_turn l.loans) l.loans _ (at_kept (Late t) n (asking k (next_turn l.loans)) l.loans j (λ s p. late_either t (may_ask k s) s _ (inr (omega arith)) p) a) a
-late_after t l (Resets n) j h a = at_lists (Late t) j (has_turn l.loans) l.loans _ (at_kept (Late t) n (resetting (next_turn l.loans)) l.loans j (λ s p. late_either t (nat_lt s.lent s.pages) s _ (inr (omega arith)) p) a) a
-late_after t l (Grants n) j h a = at_lists (Late t) j (may_grant l n) l.loans _ (at_kept (Late t) n granted l.loans j (λ s p. inl refl) a) a
-late_after t l (Takes n k) j h a = at_kept (Late t) n (took k) l.loans j (λ s p. late_either t (may_take k s) s _ p p) a
-late_after t l (Uncounts n) j h a = at_kept (Late t) n uncounted l.loans j (λ s p. late_either t (nat_lt 0 s.lent) s _ (inl refl) p) a
-late_after t l (Recounts n) j h a = at_kept (Late t) n recounted l.loans j (λ s p. p) a
-late_after t l (Figures n k) j h a = at_kept (Late t) n (figured k) l.loans j (λ s p. p) a
+-- an event leaves a guest late that is late, where an ask that comes by it comes later
+late_after : (t : ℕ) (l : Lending) (e : Event) (j : ℕ) → ComesLater t l e j → At (Late t) l.loans j → At (Late t) (happens l e).loans j
+late_after t l (Arrives n k line) j h a = at_lists (Late t) j (has_turn l.loans) l.loans _ (at_kept (Late t) n (arrived k line (next_turn l.loans)) l.loans j (λ e s p. late_either t (may_arrive k s) s _ (inr (h e)) p) a) a
+late_after t l (Leaves n) j h a = at_kept (Late t) n (λ _. vacant) l.loans j (λ e s p. inl refl) a
+late_after t l (Gives n k) j h a = at_kept (Late t) n (gave k) l.loans j (λ e s p. late_either t (may_give k s) s _ p p) a
+late_after t l (Asks n k) j h a = at_lists (Late t) j (has_turn l.loans) l.loans _ (at_kept (Late t) n (asking k (next_turn l.loans)) l.loans j (λ e s p. late_either t (may_ask k s) s _ (inr (let less = h e in omega (arith, less))) p) a) a
+late_after t l (Resets n) j h a = at_lists (Late t) j (has_turn l.loans) l.loans _ (at_kept (Late t) n (resetting (next_turn l.loans)) l.loans j (λ e s p. late_either t (nat_lt s.lent s.pages) s _ (inr (let less = h e in omega (arith, less))) p) a) a
+late_after t l (Grants n) j h a = at_lists (Late t) j (may_grant l n) l.loans _ (at_kept (Late t) n granted l.loans j (λ e s p. inl refl) a) a
+late_after t l (Takes n k) j h a = at_kept (Late t) n (took k) l.loans j (λ e s p. late_either t (may_take k s) s _ p p) a
+late_after t l (Uncounts n) j h a = at_kept (Late t) n uncounted l.loans j (λ e s p. late_either t (nat_lt 0 s.lent) s _ (inl refl) p) a
+late_after t l (Recounts n) j h a = at_kept (Late t) n recounted l.loans j (λ e s p. p) a
+late_after t l (Figures n k) j h a = at_kept (Late t) n (figured k) l.loans j (λ e s p. p) a
 late_after t l (Budget frames) j h a = a
 
+-- what comes now comes later than all in the first line; and in the second one later than all
+later_than_first : (l : Lending) (e : Event) (i j : ℕ) → IsInFirstLine l.loans i → ComesLater (rank_at l.loans i) l e j
+later_than_first l (Arrives n k line) i j first = λ same. let r = (rank_before l.loans i).0 in omega (arith, r, first, turn_before l.loans i)
+later_than_first l (Leaves n) i j first = tt
+later_than_first l (Gives n k) i j first = tt
+later_than_first l (Asks n k) i j first = λ same. let r = (rank_before l.loans i).0 in omega (arith, r, first, turn_before l.loans i)
+later_than_first l (Resets n) i j first = λ same. let r = (rank_before l.loans i).0 in omega (arith, r, first, turn_before l.loans i)
+later_than_first l (Grants n) i j first = tt
+later_than_first l (Takes n k) i j first = tt
+later_than_first l (Uncounts n) i j first = tt
+later_than_first l (Recounts n) i j first = tt
+later_than_first l (Figures n k) i j first = tt
+later_than_first l (Budget frames) i j first = tt
+
+later_than_all : (l : Lending) (e : Event) (i j : ℕ) → KeepsOut j e → ComesLater (rank_at l.loans i) l e j
+later_than_all l (Arrives n k First) i j out = λ same. absurd (out (sym same))
+later_than_all l (Arrives n k Second) i j out = λ same. let r = rank_before l.loans i in omega (arith, r.0, r.1, turn_before l.loans i)
+later_than_all l (Leaves n) i j out = tt
+later_than_all l (Gives n k) i j out = tt
+later_than_all l (Asks n k) i j out = λ same. absurd (out (sym same))
+later_than_all l (Resets n) i j out = λ same. absurd (out (sym same))
+later_than_all l (Grants n) i j out = tt
+later_than_all l (Takes n k) i j out = tt
+later_than_all l (Uncounts n) i j out = tt
+later_than_all l (Recounts n) i j out = tt
+later_than_all l (Figures n k) i j out = tt
+later_than_all l (Budget frames) i j out = tt
+
 -- in the words of places
-late_at : (t : ℕ) (xs : List Loan) (j : ℕ) → (asked_at xs j ≡ 0) ⊎ (t < turn_at xs j) → At (Late t) xs j
+late_at : (t : ℕ) (xs : List Loan) (j : ℕ) → (asked_at xs j ≡ 0) ⊎ (t < rank_at xs j) → At (Late t) xs j
 late_at t [] j h = tt
 late_at t (x ∷ xs) zero h = h
 late_at t (x ∷ xs) (suc j) h = late_at t xs j h
 
-at_late : (t : ℕ) (xs : List Loan) (j : ℕ) → At (Late t) xs j → (asked_at xs j ≡ 0) ⊎ (t < turn_at xs j)
+at_late : (t : ℕ) (xs : List Loan) (j : ℕ) → At (Late t) xs j → (asked_at xs j ≡ 0) ⊎ (t < rank_at xs j)
 at_late t [] j a = inl refl
 at_late t (x ∷ xs) zero a = a
 at_late t (x ∷ xs) (suc j) a = at_late t xs j a
@@ -140,7 +192,7 @@ grant_lends l n j h = less_lists lent j (may_grant l n) l.loans _ (λ e. elsewhe
 
 -- no event lends more to a guest that comes after one that waits
 lends_after : (l : Lending) (e : Event) (i j : ℕ) → KeepsCount j e → 0 < asked_at l.loans i → IsAfter l.loans i j → lent_at (happens l e).loans j ≤ lent_at l.loans j
-lends_after l (Arrives n k) i j o w h = less_lists lent j (has_turn l.loans) l.loans _ (λ _. value_less lent n (arrived k (next_turn l.loans)) l.loans j (λ s. less_either lent (may_arrive k s) s _ (omega arith)))
+lends_after l (Arrives n k line) i j o w h = less_lists lent j (has_turn l.loans) l.loans _ (λ _. value_less lent n (arrived k line (next_turn l.loans)) l.loans j (λ s. less_either lent (may_arrive k s) s _ (omega arith)))
 lends_after l (Leaves n) i j o w h = value_less lent n (λ _. vacant) l.loans j (λ s. omega arith)
 lends_after l (Gives n k) i j o w h = value_less lent n (gave k) l.loans j (λ s. less_either lent (may_give k s) s _ (omega arith))
 lends_after l (Asks n k) i j o w h = less_lists lent j (has_turn l.loans) l.loans _ (λ _. value_less lent n (asking k (next_turn l.loans)) l.loans j (λ s. less_either lent (may_ask k s) s _ (omega arith)))
@@ -153,12 +205,38 @@ lends_after l (Figures n k) i j o w h = value_less lent n (figured k) l.loans j 
 lends_after l (Budget frames) i j o w h = omega arith
 
 -- a guest that comes after another does so while the ask is pending
-stays_after : (l : Lending) (e : Event) (i j : ℕ) → KeepsAsk i e → IsAfter l.loans i j → IsAfter (happens l e).loans i j
-stays_after l e i j k h = rw (keeps_turn l e i k) (at_late (turn_at l.loans i) (happens l e).loans j (late_after (turn_at l.loans i) l e j (turn_before l.loans i) (late_at (turn_at l.loans i) l.loans j h)))
+stays_after : (l : Lending) (e : Event) (i j : ℕ) → KeepsAsk i e → ComesLater (rank_at l.loans i) l e j → IsAfter l.loans i j → IsAfter (happens l e).loans i j
+stays_after l e i j k later h = rw (keeps_rank l e i k) (at_late (rank_at l.loans i) (happens l e).loans j (late_after (rank_at l.loans i) l e j later (late_at (rank_at l.loans i) l.loans j h)))
 
-pub run_after : (l : Lending) (events : List Event) (i j : ℕ) → 0 < asked_at l.loans i → IsAfter l.loans i j
+pub run_after : (l : Lending) (events : List Event) (i j : ℕ) → 0 < asked_at l.loans i → IsInFirstLine l.loans i → IsAfter l.loans i j
     → AllByRecursion (KeepsAsk i) events → AllByRecursion (KeepsCount j) events → lent_at (run events l).loans j ≤ lent_at l.loans j
-run_after l [] i j w h k o = omega arith
-run_after l (e ∷ events) i j w h k o =
-    let rest = run_after (happens l e) events i j (omega (arith, keeps_asked l e i k.0, w)) (stays_after l e i j k.0 h) k.1 o.1 in
+run_after l [] i j w first h k o = omega arith
+run_after l (e ∷ events) i j w first h k o =
+    let rest = run_after (happens l e) events i j (omega (arith, keeps_asked l e i k.0, w)) (keeps_line l e i k.0 ∙ first)
+    (stays_after l e i j k.0 (later_than_first l e i j first) h) k.1 o.1 in
     omega (arith, rest, lends_after l e i j o.0 w h)
+
+pub run_out : (l : Lending) (events : List Event) (i j : ℕ) → 0 < asked_at l.loans i → IsAfter l.loans i j
+    → AllByRecursion (KeepsAsk i) events → AllByRecursion (KeepsCount j) events → AllByRecursion (KeepsOut j) events
+    → lent_at (run events l).loans j ≤ lent_at l.loans j
+run_out l [] i j w h k o out = omega arith
+run_out l (e ∷ events) i j w h k o out =
+    let rest = run_out (happens l e) events i j (omega (arith, keeps_asked l e i k.0, w))
+    (stays_after l e i j k.0 (later_than_all l e i j out.0) h) k.1 o.1 out.1 in
+    omega (arith, rest, lends_after l e i j o.0 w h)
+
+-- ---- which rank is before which
+
+pub before_means : (s t : Loan) → t.turn < 18446744073709551616 → rank s < rank t
+    → ((s.line ≡ First) × (t.line ≡ Second)) ⊎ ((s.line ≡ t.line) × (s.turn < t.turn))
+before_means s t later less = by s.line t.line less where
+  by : (a b : WaitingLine) → line_start a + s.turn < line_start b + t.turn → ((a ≡ First) × (b ≡ Second)) ⊎ ((a ≡ b) × (s.turn < t.turn))
+  by First First l = inr (refl, omega (arith, l))
+  by First Second l = inl (refl, refl)
+  by Second First l = absurd (omega (arith, l, later))
+  by Second Second l = inr (refl, omega (arith, l))
+
+pub means_before : (s t : Loan) → s.turn < 18446744073709551616
+    → ((s.line ≡ First) × (t.line ≡ Second)) ⊎ ((s.line ≡ t.line) × (s.turn < t.turn)) → rank s < rank t
+means_before s t small (inl lines) = omega (arith, ap line_start lines.0, ap line_start lines.1, small)
+means_before s t small (inr same) = omega (arith, ap line_start same.0, same.1)

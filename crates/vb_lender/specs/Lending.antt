@@ -8,6 +8,8 @@ use Rattle.vb_lender.specs.declared.event.Event.TheVariants.{Arrives, Leaves, Gi
 use Rattle.vb_lender.specs.declared.event.Event.TheVariants.{Grants, Takes, Uncounts, Recounts}
 use Rattle.vb_lender.specs.declared.event.Event.TheVariants.{Figures, Budget}
 use Rattle.vb_lender.specs.declared.loan.Loan.{Loan}
+use Rattle.vb_lender.specs.declared.loan.WaitingLine.{WaitingLine}
+use Rattle.vb_lender.specs.declared.loan.WaitingLine.TheVariants.{First, Second}
 use Rattle.vb_lender.specs.Loans.{vacant, IsSound, arrived, gave, asking, resetting, granted, took}
 use Rattle.vb_lender.specs.Loans.{uncounted, recounted, figured}
 
@@ -53,13 +55,25 @@ last_turn (s ∷ loans) = max s.turn (last_turn loans)
 abbrev pub next_turn : List Loan → ℕ
 next_turn loans = last_turn loans + 1
 
--- the guest doesn't wait, or not before this turn
+-- The rank of a guest among those that wait: in the first line its turn, and in the second one
+-- after all turns that there are.
+abbrev pub line_start : WaitingLine → ℕ
+line_start First = 0
+line_start Second = 18446744073709551616
+
+abbrev pub rank : Loan → ℕ
+rank s = line_start s.line + s.turn
+
+abbrev pub rank_at : List Loan → ℕ → ℕ
+rank_at loans n = value_at rank loans n
+
+-- the guest doesn't wait, or not before this rank
 abbrev pub comes_at : ℕ → Loan → Bool
-comes_at turn s = if nat_lt 0 s.asked then nat_le turn s.turn else true
+comes_at first s = if nat_lt 0 s.asked then nat_le first (rank s) else true
 
 -- guest n waits, and no other waits before it
 abbrev pub is_first : List Loan → ℕ → Bool
-is_first loans n = nat_lt 0 (asked_at loans n) && list_all (comes_at (turn_at loans n)) loans
+is_first loans n = nat_lt 0 (asked_at loans n) && list_all (comes_at (rank_at loans n)) loans
 
 -- guest n is the first that waits, and there is room for what it asks for
 abbrev pub may_grant : Lending → ℕ → Bool
@@ -81,7 +95,7 @@ abbrev pub queued : ℕ → (ℕ → Loan → Loan) → List Loan → List Loan
 queued n f loans = if has_turn loans then each_at n (f (next_turn loans)) loans else loans
 
 abbrev pub happens : Lending → Event → Lending
-happens l (Arrives n pages) = record l { loans = queued n (arrived pages) l.loans }
+happens l (Arrives n pages line) = record l { loans = queued n (arrived pages line) l.loans }
 happens l (Leaves n) = record l { loans = each_at n (λ _. vacant) l.loans }
 happens l (Gives n pages) = record l { loans = each_at n (gave pages) l.loans }
 happens l (Asks n pages) = record l { loans = queued n (asking pages) l.loans }

@@ -6,20 +6,21 @@ use Rattle.vb_lender.specs.declared.event.Event.{Event}
 use Rattle.vb_lender.specs.declared.event.Event.TheVariants.{Arrives, Leaves, Asks, Resets, Grants}
 use Rattle.vb_lender.specs.declared.event.Event.TheVariants.{Uncounts, Budget}
 use Rattle.vb_lender.specs.Loans.{granted}
-use Rattle.vb_lender.specs.Lending.{owed, asked_at, turn_at, each_at}
+use Rattle.vb_lender.specs.declared.loan.WaitingLine.TheVariants.{First}
+use Rattle.vb_lender.specs.Lending.{owed, asked_at, turn_at, rank_at, each_at, line_start, value_at}
 
 -- guest n waits, and no other waits before it
 pub record IsFirst (loans : List Loan) (n : ℕ) : Type 0 where
   pub waits : 0 < asked_at loans n
-  pub before_all : (i : ℕ) → 0 < asked_at loans i → turn_at loans n ≤ turn_at loans i
+  pub before_all : (i : ℕ) → 0 < asked_at loans i → rank_at loans n ≤ rank_at loans i
 
 -- guest j doesn't wait, or not as early as guest i
 abbrev pub IsAfter : List Loan → ℕ → ℕ → Type 0
-IsAfter loans i j = (asked_at loans j ≡ 0) ⊎ (turn_at loans i < turn_at loans j)
+IsAfter loans i j = (asked_at loans j ≡ 0) ⊎ (rank_at loans i < rank_at loans j)
 
 -- the event leaves an ask of guest i pending
 abbrev pub KeepsAsk : ℕ → Event → Type 0
-KeepsAsk i (Arrives n pages) = i ≢ n
+KeepsAsk i (Arrives n pages line) = i ≢ n
 KeepsAsk i (Leaves n) = i ≢ n
 KeepsAsk i (Asks n pages) = i ≢ n
 KeepsAsk i (Resets n) = i ≢ n
@@ -31,6 +32,17 @@ KeepsAsk i _ = ⊤
 abbrev pub KeepsCount : ℕ → Event → Type 0
 KeepsCount j (Uncounts n) = j ≢ n
 KeepsCount j _ = ⊤
+
+-- guest i waits in the first line
+abbrev pub IsInFirstLine : List Loan → ℕ → Type 0
+IsInFirstLine loans i = value_at (λ s. line_start s.line) loans i ≡ 0
+
+-- no ask of guest j comes to the first line
+abbrev pub KeepsOut : ℕ → Event → Type 0
+KeepsOut j (Arrives n pages First) = j ≢ n
+KeepsOut j (Asks n pages) = j ≢ n
+KeepsOut j (Resets n) = j ≢ n
+KeepsOut j _ = ⊤
 
 -- no two guests that wait have the same turn
 abbrev pub AreApart : List Loan → Type 0
@@ -59,4 +71,4 @@ abbrev pub FirstBelow : List Loan → ℕ → Option ℕ → Type 0
 FirstBelow loans limit first = MatchOption first
     ((k : ℕ) → k < limit → asked_at loans k ≡ 0)
     (λ n. (n < limit) × (0 < asked_at loans n)
-    × ((k : ℕ) → k < limit → 0 < asked_at loans k → turn_at loans n ≤ turn_at loans k))
+    × ((k : ℕ) → k < limit → 0 < asked_at loans k → rank_at loans n ≤ rank_at loans k))

@@ -3,6 +3,8 @@
 use Rattle.std.specs.Prelude.{ℕ, ◌+◌, ◌-◌, ◌≤◌, Bool, true, false, not, ◌&&◌, ◌==◌, nat_lt, nat_le}
 use Rattle.std.specs.Prelude.{if◌then◌else◌}
 use Rattle.vb_lender.specs.declared.loan.Loan.{Loan}
+use Rattle.vb_lender.specs.declared.loan.WaitingLine.{WaitingLine}
+use Rattle.vb_lender.specs.declared.loan.WaitingLine.TheVariants.{First}
 
 -- the loan of a place where no guest is
 abbrev pub vacant : Loan
@@ -15,6 +17,7 @@ vacant =
       turn = 0;
       spare = 0;
       uncounted = false;
+      line = First;
     }
 
 -- What is lent to a guest is enough for all that it may use: its pages but for the ballooned ones.
@@ -26,12 +29,13 @@ pub record IsSound (s : Loan) : Type 0 where
 
 -- ---- what may happen to a guest
 
--- A guest comes: none of its pages has a frame, as if all were in its balloon, and it asks for all.
+-- A guest comes: none of its pages has a frame, as if all were in its balloon, and it asks for all,
+-- in this line.
 abbrev pub may_arrive : ℕ → Loan → Bool
 may_arrive pages s = (s.pages == 0) && nat_lt 0 pages
 
-abbrev pub arrived : ℕ → ℕ → Loan → Loan
-arrived pages turn s =
+abbrev pub arrived : ℕ → WaitingLine → ℕ → Loan → Loan
+arrived pages line turn s =
     if may_arrive pages s
     then record {
       pages = pages;
@@ -41,6 +45,7 @@ arrived pages turn s =
       turn = turn;
       spare = 0;
       uncounted = false;
+      line = line;
     }
     else s
 
@@ -70,9 +75,9 @@ may_reset s = nat_lt s.lent s.pages
 abbrev pub resetting : ℕ → Loan → Loan
 resetting turn s = if may_reset s then record s { asked = s.pages - s.lent; turn = turn } else s
 
--- What it asks for is lent to it.
+-- What it asks for is lent to it, and then it is no newcomer.
 abbrev pub granted : Loan → Loan
-granted s = record s { lent = s.lent + s.asked; asked = 0; turn = 0 }
+granted s = record s { lent = s.lent + s.asked; asked = 0; turn = 0; line = First }
 
 -- Pages left its balloon, for which enough was lent before.
 abbrev pub may_take : ℕ → Loan → Bool
@@ -89,7 +94,14 @@ may_uncount s = nat_lt 0 s.lent
 abbrev pub uncounted : Loan → Loan
 uncounted s =
     if may_uncount s
-    then record s { ballooned = 0; lent = s.pages; asked = 0; turn = 0; uncounted = true }
+    then record s {
+      ballooned = 0;
+      lent = s.pages;
+      asked = 0;
+      turn = 0;
+      uncounted = true;
+      line = First;
+    }
     else s
 
 -- Its balloon counts again, as after a restart.

@@ -1,11 +1,15 @@
 //! What holds over every list of events.
 
-ghost use Rattle.std.specs.Prelude.{◌≡◌, ℕ, ◌+◌, ◌<◌, ◌≤◌, List, max};
+ghost use Rattle.std.specs.Prelude.{◌≡◌, ◌⊎◌, ℕ, ◌+◌, ◌<◌, ◌≤◌, ◌^◌, List, max};
 ghost use Rattle.std.specs.List.{AllByRecursion};
-ghost use Rattle.vb_lender.specs.Lending.{Lending, owed, asked_at, lent_at, each_at, happens, run};
+ghost use Rattle.vb_lender.specs.Lending.{Lending, rank, owed, asked_at, lent_at, each_at, happens};
+ghost use Rattle.vb_lender.specs.Lending.{run};
 ghost use Rattle.vb_lender.specs.Lending.{IsOrdinary, NeverLowers, AreSound};
 ghost use Rattle.vb_lender.specs.Loans.{granted};
-ghost use Rattle.vb_lender.specs.Line.{IsFirst, IsAfter, KeepsAsk, KeepsCount, AreApart};
+ghost use Rattle.vb_lender.specs.Line.{IsFirst, IsAfter, IsInFirstLine, KeepsAsk, KeepsCount};
+ghost use Rattle.vb_lender.specs.Line.{KeepsOut, AreApart};
+ghost use Rattle.vb_lender.specs.declared.loan.Loan.{Loan};
+ghost use Rattle.vb_lender.specs.declared.loan.WaitingLine.TheVariants.{First, Second};
 ghost use Rattle.vb_lender.specs.declared.event.Event.{Event};
 ghost use Rattle.vb_lender.specs.declared.event.Event.TheVariants.{Grants};
 
@@ -30,11 +34,13 @@ pub fn each_has_what_it_may_use()
         AreSound (run events l).loans }
 {}
 
-/// No guest that waits is overtaken: as long as its ask is pending, no guest is lent more that
-/// doesn't wait, or waits after it, nor one that comes later; but for one whose balloon ceases to
-/// count.
+/// No guest that waits in the first line is overtaken: as long as its ask is pending, no guest is
+/// lent more that doesn't wait, or waits after it, nor one that comes later; but for one whose
+/// balloon ceases to count. Where no guest arrives in the second line, that is each guest that
+/// waits.
 pub fn nobody_is_overtaken()
     ensures { (l : Lending) (events : List Event) (i j : ℕ) → 0 < asked_at l.loans i →
+        IsInFirstLine l.loans i →
         IsAfter l.loans i j → AllByRecursion (KeepsAsk i) events →
         AllByRecursion (KeepsCount j) events →
         lent_at (run events l).loans j ≤ lent_at l.loans j }
@@ -53,4 +59,24 @@ pub fn the_first_is_granted()
 pub fn turns_stay_apart()
     ensures { (l : Lending) (events : List Event) → AreApart l.loans →
         AreApart (run events l).loans }
+{}
+
+/// A guest that waits in the second line is overtaken by asks in the first line alone: as long as
+/// its ask is pending, no guest is lent more that doesn't wait, or waits after it, and that doesn't
+/// come to the first line; but for one whose balloon ceases to count.
+pub fn only_the_first_line_passes()
+    ensures { (l : Lending) (events : List Event) (i j : ℕ) → 0 < asked_at l.loans i →
+        IsAfter l.loans i j → AllByRecursion (KeepsAsk i) events →
+        AllByRecursion (KeepsCount j) events → AllByRecursion (KeepsOut j) events →
+        lent_at (run events l).loans j ≤ lent_at l.loans j }
+{}
+
+/// Of two guests that wait, one comes before the other just where it waits in the first line and
+/// the other in the second, or both wait in one line and its turn is earlier.
+pub fn lines_order_the_asks()
+    ensures means { (s t : Loan) → t.turn < 2 ^ 64 → rank s < rank t →
+        ((s.line ≡ First) × (t.line ≡ Second)) ⊎ ((s.line ≡ t.line) × (s.turn < t.turn)) }
+    ensures holds { (s t : Loan) → s.turn < 2 ^ 64 →
+        ((s.line ≡ First) × (t.line ≡ Second)) ⊎ ((s.line ≡ t.line) × (s.turn < t.turn)) →
+        rank s < rank t }
 {}

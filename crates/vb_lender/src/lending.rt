@@ -10,20 +10,20 @@ ghost use Rattle.vb_lender.specs.Line.{GrantsNext, IsOfLoans};
 ghost use Rattle.vb_lender.specs.declared.event.Event.TheVariants.{Grants};
 
 use crate::line::{first_in_line, is_first, next_turn, owed};
-use crate::{Event, Loan};
+use crate::{Event, Loan, WaitingLine};
 
-/// A guest of this many pages comes to a vacant place, and waits until all of them are lent to it.
-/// `false` where the place isn't vacant or isn't there, for no pages, and where no turn is left;
-/// then nothing is changed.
+/// A guest of this many pages comes to a vacant place, and waits in a line until all of them are
+/// lent to it. `false` where the place isn't vacant or isn't there, for no pages, and where no turn
+/// is left; then nothing is changed.
 #[tactic(auto, using(crate::proofs::Places::at_places))]
-pub fn arrive(loans: &mut [Loan], guest: usize, pages: u32) -> bool
+pub fn arrive(loans: &mut [Loan], guest: usize, pages: u32, line: WaitingLine) -> bool
     ensures heard { result ≡ (has_turn loans.old && test_at (may_arrive pages) loans.old guest) }
-    ensures loans { loans.new ≡ queued guest (arrived pages) loans.old }
+    ensures loans { loans.new ≡ queued guest (arrived pages line) loans.old }
 {
     if let Some(turn) = next_turn(loans)
         && guest < loans.len()
     {
-        return loans[guest].arrive(pages, turn);
+        return loans[guest].arrive(pages, line, turn);
     }
     false
 }
@@ -193,8 +193,8 @@ fn change(loans: &mut [Loan], event: Event)
         (happens (record { frames = frames; loans = loans.old }) event).loans }
 {
     match event {
-        Event::Arrives { guest, pages } => {
-            arrive(loans, guest, pages);
+        Event::Arrives { guest, pages, line } => {
+            arrive(loans, guest, pages, line);
         }
         Event::Leaves { guest } => leave(loans, guest),
         Event::Gives { guest, pages } => {

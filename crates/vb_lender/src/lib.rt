@@ -20,13 +20,14 @@ pub use asking::{
 pub use classes::{ask_by_class, class_targets_make_room, least_stays, one_class_is_balances_own};
 pub use event::Event;
 pub use laws::{
-    each_has_what_it_may_use, never_more_than_the_budget, never_more_than_the_frames,
-    nobody_is_overtaken, the_first_is_granted, turns_stay_apart,
+    each_has_what_it_may_use, lines_order_the_asks, never_more_than_the_budget,
+    never_more_than_the_frames, nobody_is_overtaken, only_the_first_line_passes,
+    the_first_is_granted, turns_stay_apart,
 };
 pub use lending::{
     arrive, ask, figure, give, grant, grant_next, happen, leave, may_grant, recount, reset, run,
     take, uncount,
 };
 pub use line::{first_in_line, owed};
-pub use loan::Loan;
+pub use loan::{Loan, WaitingLine};
 pub use terms::{Share, Terms};

@@ -3,10 +3,13 @@
 ghost use Rattle.std.specs.Prelude.{◌≡◌, ℕ, ◌+◌, ◌*◌, ◌<◌, ◌≤◌, length, if◌then◌else◌, Some, None};
 ghost use Rattle.std.specs.Prelude.{MatchOption};
 ghost use Rattle.vb_lender.specs.Lending.{owed, last_turn, next_turn, has_turn, asked_at, turn_at};
-ghost use Rattle.vb_lender.specs.Lending.{comes_at, is_first};
+ghost use Rattle.vb_lender.specs.Lending.{comes_at, is_first, rank};
 ghost use Rattle.vb_lender.specs.Line.{IsFirst, FirstBelow};
 
-use crate::Loan;
+use crate::{Loan, WaitingLine};
+
+/// The first rank in the second line.
+const SECOND_LINE: u128 = 1 << 64;
 
 /// What is lent to all guests together.
 pub fn owed(loans: &[Loan]) -> u128
@@ -45,11 +48,23 @@ pub(crate) fn next_turn(loans: &[Loan]) -> Option<u64>
     }
 }
 
-/// Whether a guest doesn't wait, or not before this turn.
-fn comes_at(loan: &Loan, turn: u64) -> bool
-    ensures { result ≡ comes_at turn loan.now }
+/// The rank of a guest among those that wait: its turn, after all turns where it waits in the
+/// second line.
+fn rank(loan: &Loan) -> u128
+    ensures { result ≡ rank loan.now }
 {
-    loan.asked == 0 || turn <= loan.turn
+    let turn = u128::from(loan.turn);
+    match loan.line {
+        WaitingLine::First => turn,
+        WaitingLine::Second => SECOND_LINE + turn,
+    }
+}
+
+/// Whether a guest doesn't wait, or not before this rank.
+fn comes_at(loan: &Loan, rank_of_first: u128) -> bool
+    ensures { result ≡ comes_at rank_of_first loan.now }
+{
+    loan.asked == 0 || rank_of_first <= rank(loan)
 }
 
 /// Whether a guest waits, and no other before it.
@@ -61,9 +76,9 @@ pub(crate) fn is_first(loans: &[Loan], guest: usize) -> bool
     if first.asked == 0 {
         return false;
     }
-    let turn = first.turn;
+    let own = rank(first);
     for loan in loans {
-        if !comes_at(loan, turn) {
+        if !comes_at(loan, own) {
             return false;
         }
     }
@@ -83,8 +98,9 @@ fn earlier(loans: &[Loan], first: Option<usize>, place: usize) -> Option<usize>
     match first {
         None => Some(place),
         Some(other) => {
-            let before = &loans[other];
-            if loan.turn < before.turn {
+            let before = rank(&loans[other]);
+            let own = rank(loan);
+            if own < before {
                 Some(place)
             } else {
                 Some(other)

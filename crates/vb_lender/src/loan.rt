@@ -5,6 +5,18 @@ ghost use Rattle.vb_lender.specs.Loans.{vacant, may_arrive, arrived, may_give, g
 ghost use Rattle.vb_lender.specs.Loans.{asking, may_reset, resetting, granted, may_take, took};
 ghost use Rattle.vb_lender.specs.Loans.{may_uncount, uncounted, recounted, figured};
 
+/// In which of two lines a guest waits. Those of the first come before all of the
+/// second, and those of one in order of arrival.
+#[repr(u8)]
+#[derive(Clone, Copy, Debug, Default, PartialEq, Eq)]
+pub enum WaitingLine {
+    /// Of guests that run, and of all where a host has one line.
+    #[default]
+    First,
+    /// Of newcomers, until they are granted their pages, where a host has two lines.
+    Second,
+}
+
 /// What a guest has, may hold and waits for, in pages. Any numbers may be passed.
 #[repr(C)]
 #[derive(Clone, Copy, Debug, Default, PartialEq, Eq)]
@@ -23,6 +35,8 @@ pub struct Loan {
     pub spare: u32,
     /// Its balloon doesn't count.
     pub uncounted: bool,
+    /// The line in which it waits.
+    pub line: WaitingLine,
 }
 
 impl Loan {
@@ -38,13 +52,14 @@ impl Loan {
             turn: 0,
             spare: 0,
             uncounted: false,
+            line: WaitingLine::First,
         }
     }
 
     /// A guest comes, and asks for all its pages.
-    pub(crate) fn arrive(&mut self, pages: u32, turn: u64) -> bool
+    pub(crate) fn arrive(&mut self, pages: u32, line: WaitingLine, turn: u64) -> bool
         ensures done { result ≡ may_arrive pages self.old }
-        ensures value { self.new ≡ arrived pages turn self.old }
+        ensures value { self.new ≡ arrived pages line turn self.old }
     {
         if self.pages != 0 || pages == 0 {
             return false;
@@ -57,6 +72,7 @@ impl Loan {
             turn,
             spare: 0,
             uncounted: false,
+            line,
         };
         true
     }
@@ -126,6 +142,7 @@ impl Loan {
         self.lent += self.asked;
         self.asked = 0;
         self.turn = 0;
+        self.line = WaitingLine::First;
     }
 
     /// Whether this many pages of its balloon are lent to it.
@@ -162,6 +179,7 @@ impl Loan {
         self.asked = 0;
         self.turn = 0;
         self.uncounted = true;
+        self.line = WaitingLine::First;
         true
     }
 

@@ -3,8 +3,8 @@
 ghost use Rattle.std.specs.Prelude.{◌≤◌};
 
 use crate::{
-    Event, Loan, Share, Terms, ask_by_class, ask_targets, first_in_line, grant_next, happen, owed,
-    reset, take,
+    Event, Loan, Share, Terms, WaitingLine, arrive, ask, ask_by_class, ask_targets, first_in_line,
+    grant_next, happen, owed, reset, take,
 };
 use vb_balance::{GuestNeed, NoTargets, Short};
 
@@ -16,6 +16,7 @@ static ROWS: [Row; 24] = [
         Event::Arrives {
             guest: 0,
             pages: 60,
+            line: WaitingLine::First,
         },
         0,
         Some(0),
@@ -24,6 +25,7 @@ static ROWS: [Row; 24] = [
         Event::Arrives {
             guest: 0,
             pages: 60,
+            line: WaitingLine::First,
         },
         0,
         Some(0),
@@ -42,6 +44,7 @@ static ROWS: [Row; 24] = [
         Event::Arrives {
             guest: 1,
             pages: 60,
+            line: WaitingLine::First,
         },
         60,
         Some(1),
@@ -139,6 +142,7 @@ fn guest(pages: u32, lent: u32, asked: u32, spare: u32) -> Loan
         turn: 1,
         spare,
         uncounted: false,
+        line: WaitingLine::First,
     }
 }
 
@@ -175,4 +179,15 @@ fn a_lower_priority_gives_first_and_keeps_its_least(rt: HostRuntime) {
 /// Terms of a guest.
 fn terms(least: u32, priority: u32) -> Terms {
     Terms { least, priority }
+}
+
+#[test]
+fn a_deflate_passes_a_newcomer_in_the_second_line(rt: HostRuntime) {
+    // 60 of 64 frames are lent, and the newcomer would need 64.
+    let mut loans = [guest(70, 60, 0, 0), Loan::vacant()];
+    assert!(rt; arrive(&mut loans, 1, 64, WaitingLine::Second) && ask(&mut loans, 0, 4));
+    assert!(rt; first_in_line(&loans) == Some(0));
+    assert!(rt; grant_next(64, &mut loans) == Some(0) && owed(&loans) == 64);
+    assert!(rt; first_in_line(&loans) == Some(1) && grant_next(127, &mut loans) == None);
+    assert!(rt; grant_next(128, &mut loans) == Some(1) && owed(&loans) == 128);
 }

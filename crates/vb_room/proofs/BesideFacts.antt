@@ -13,6 +13,7 @@ use Rattle.vb_model.specs.HostEvents.{WorldStep}
 use Rattle.vb_model.specs.World.{World, made}
 use Rattle.vb_lender.specs.declared.event.Event.TheVariants.{Arrives, Asks, Budget, Figures, Gives, Grants, Leaves, Recounts, Resets, Takes, Uncounts}
 use Rattle.vb_lender.specs.declared.loan.Loan.{Loan}
+use Rattle.vb_lender.specs.declared.loan.WaitingLine.TheVariants.{First}
 use Rattle.vb_lender.specs.Loans.{vacant}
 use Rattle.vb_lender.specs.Lending.{Lending, owed}
 use Rattle.vb_room.proofs.CountFacts.{busy}
@@ -84,8 +85,8 @@ free_to_happen = (tt, tt)
 abbrev both : List (Option Guest) → ℕ → List Loan → Both
 both guests frames loans = record { world = world guests; lending = record { frames = frames; loans = loans } }
 
-comes_and_goes : LoanIsAsked (Arrives 1 64) (both (Some some ∷ []) 9 []) × LoanIsAsked (Leaves 1) (both (Some some ∷ []) 9 [])
-    × (LoanIsAsked (Arrives 0 64) (both (Some some ∷ []) 9 []) → ⊥) × (LoanIsAsked (Leaves 0) (both (Some some ∷ []) 9 []) → ⊥)
+comes_and_goes : LoanIsAsked (Arrives 1 64 First) (both (Some some ∷ []) 9 []) × LoanIsAsked (Leaves 1) (both (Some some ∷ []) 9 [])
+    × (LoanIsAsked (Arrives 0 64 First) (both (Some some ∷ []) 9 []) → ⊥) × (LoanIsAsked (Leaves 0) (both (Some some ∷ []) 9 []) → ⊥)
 comes_and_goes = (refl, refl, λ a. absurd cc, λ a. absurd cc)
 
 -- the device has three ballooned pages, of which the loan knows one
@@ -127,7 +128,7 @@ asks = (tt, λ a. let l : 64 ≤ 63 = a in absurd (omega arith), λ a. let e : 4
 -- ---- a run: a guest of 64 pages arrives, is granted them, takes them and is plugged in
 
 abbrev arrived : Loan
-arrived = record { pages = 64; ballooned = 64; lent = 0; asked = 64; turn = 1; spare = 0; uncounted = false }
+arrived = record { pages = 64; ballooned = 64; lent = 0; asked = 64; turn = 1; spare = 0; uncounted = false; line = First }
 
 abbrev pub at_first : Both
 at_first = opened 100 (true ∷ []) 80 1
@@ -148,7 +149,7 @@ plugged = record {
 }
 
 abbrev pub first_moves : List Move
-first_moves = Lends (Arrives 0 64) ∷ Lends (Grants 0) ∷ Lends (Takes 0 64) ∷ Plays plug (Plugged 0) ∷ []
+first_moves = Lends (Arrives 0 64 First) ∷ Lends (Grants 0) ∷ Lends (Takes 0 64) ∷ Plays plug (Plugged 0) ∷ []
 
 abbrev pub first_states : List Both
 first_states = with_loan arrived ∷ with_loan granted ∷ with_loan taken ∷ plugged ∷ []
@@ -158,12 +159,12 @@ first_guest = (refl, (refl, refl), (tt, (refl, refl), (tt, (refl, refl), ((refl,
 
 -- not without its pages, nor with fewer states than events, or more
 no_guest_unasked : (BothSteps (with_loan granted) (Plays plug (Plugged 0) ∷ []) (plugged ∷ []) → ⊥)
-    × (BothSteps at_first (Lends (Arrives 0 64) ∷ []) [] → ⊥) × (BothSteps at_first [] (at_first ∷ []) → ⊥)
+    × (BothSteps at_first (Lends (Arrives 0 64 First) ∷ []) [] → ⊥) × (BothSteps at_first [] (at_first ∷ []) → ⊥)
 no_guest_unasked = (λ s. let e : 64 ≡ 0 = s.0.1 in omega (arith, e), λ s. s, λ s. s)
 
 -- an event of one leaves the other, and is that one's
 steps_not : (BothStep at_first (Plays CountFrames (Frames 0 100)) (with_loan arrived) → ⊥)
-    × (BothStep at_first (Lends (Arrives 0 64)) plugged → ⊥) × (BothStep at_first (Lends (Arrives 0 63)) (with_loan arrived) → ⊥)
+    × (BothStep at_first (Lends (Arrives 0 64 First)) plugged → ⊥) × (BothStep at_first (Lends (Arrives 0 63 First)) (with_loan arrived) → ⊥)
     × (BothStep at_first (Plays CountFrames (Frames 1 99)) at_first → ⊥)
 steps_not = (
   λ s. let e : 64 ≡ 0 = ap (λ (l : Lending). pages_at l.loans 0) s.1 in omega (arith, e),

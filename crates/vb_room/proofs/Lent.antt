@@ -83,8 +83,8 @@ gives n k xs w fits have m g at = elim (cases_eq m n) [
 ]
 
 pub lends_have : (b : Both) (e : LoanEvent) → LoanIsAsked e b → HaveLoans b.lending.loans b.world → HaveLoans (happens b.lending e).loans b.world
-lends_have b (Arrives n k) asked have = have_if (has_turn b.lending.loans) b.lending.loans _ b.world
-    (no_guest_there n (arrived k (next_turn b.lending.loans)) b.lending.loans b.world asked have) have
+lends_have b (Arrives n k line) asked have = have_if (has_turn b.lending.loans) b.lending.loans _ b.world
+    (no_guest_there n (arrived k line (next_turn b.lending.loans)) b.lending.loans b.world asked have) have
 lends_have b (Leaves n) asked have = no_guest_there n (λ _. vacant) b.lending.loans b.world asked have
 lends_have b (Gives n k) asked have = gives n k b.lending.loans b.world asked have
 lends_have b (Asks n k) asked have = loan_events_leave_loans b.lending (Asks n k) b.world tt have
@@ -108,7 +108,7 @@ ordinary_within l e frames o h = record {
 }
 
 pub lends_within : (b : Both) (e : LoanEvent) → LoanIsAsked e b → IsWithin b.lending b.world.frames → IsWithin (happens b.lending e) b.world.frames
-lends_within b (Arrives n k) asked h = ordinary_within b.lending (Arrives n k) b.world.frames tt h
+lends_within b (Arrives n k line) asked h = ordinary_within b.lending (Arrives n k line) b.world.frames tt h
 lends_within b (Leaves n) asked h = ordinary_within b.lending (Leaves n) b.world.frames tt h
 lends_within b (Gives n k) asked h = ordinary_within b.lending (Gives n k) b.world.frames tt h
 lends_within b (Asks n k) asked h = ordinary_within b.lending (Asks n k) b.world.frames tt h

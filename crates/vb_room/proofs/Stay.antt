@@ -55,7 +55,7 @@ have_if true xs ys w a c = a
 have_if false xs ys w a c = c
 
 pub loan_events_leave_loans : LoanEventsLeaveLoans
-loan_events_leave_loans l (Arrives n k) w o h = absurd o
+loan_events_leave_loans l (Arrives n k line) w o h = absurd o
 loan_events_leave_loans l (Leaves n) w o h = absurd o
 loan_events_leave_loans l (Gives n k) w o h = absurd o
 loan_events_leave_loans l (Asks n k) w o h = have_if (has_turn l.loans) l.loans _ w

@@ -5,6 +5,7 @@ use Rattle.vb_model.specs.declared.calls.Call.TheVariants.{Reset, Scribble, Writ
 use Rattle.vb_model.specs.Guest.{Config, Guest, fresh}
 use Rattle.vb_model.specs.World.{World}
 use Rattle.vb_lender.specs.declared.loan.Loan.{Loan}
+use Rattle.vb_lender.specs.declared.loan.WaitingLine.TheVariants.{First}
 use Rattle.vb_lender.specs.declared.event.Event.TheVariants.{Arrives, Asks, Budget, Figures, Gives, Grants, Leaves, Recounts, Resets, Takes, Uncounts}
 use Rattle.vb_room.specs.Room.{HoldsNoneBallooned, all_may_hold, is_scribble, may_hold}
 use Rattle.vb_room.specs.Tie.{HaveLoans, IsLoanOf, KeepsBalloons, LowersNone, counted}
@@ -65,6 +66,7 @@ loan pages ballooned = record {
   turn = 0;
   spare = 0;
   uncounted = false;
+  line = First;
 }
 
 -- a loan may call fewer pages ballooned than the device does
@@ -127,5 +129,5 @@ keeps : KeepsBalloons (Asks 0 1) × KeepsBalloons (Resets 0) × KeepsBalloons (G
     × KeepsBalloons (Figures 0 1) × KeepsBalloons (Budget 1)
 keeps = (tt, tt, tt, tt, tt, tt, tt, tt)
 
-keeps_not : (KeepsBalloons (Arrives 0 1) → ⊥) × (KeepsBalloons (Leaves 0) → ⊥) × (KeepsBalloons (Gives 0 1) → ⊥)
+keeps_not : (KeepsBalloons (Arrives 0 1 First) → ⊥) × (KeepsBalloons (Leaves 0) → ⊥) × (KeepsBalloons (Gives 0 1) → ⊥)
 keeps_not = (λ k. k, λ k. k, λ k. k)

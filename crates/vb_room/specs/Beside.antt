@@ -65,7 +65,7 @@ EventIsAsked event reply w loans = ⊤
 -- finished. A balloon is uncounted where there is room for all its pages (else the guest has to
 -- go), and a budget is set that is enough for what is lent, and that the host has.
 abbrev pub LoanIsAsked : LoanEvent → Both → Type 0
-LoanIsAsked (Arrives n pages) b = guest_at b.world.guests n ≡ None
+LoanIsAsked (Arrives n pages line) b = guest_at b.world.guests n ≡ None
 LoanIsAsked (Leaves n) b = guest_at b.world.guests n ≡ None
 LoanIsAsked (Gives n pages) b = (g : Guest) → guest_at b.world.guests n ≡ Some g
     → ballooned_at b.lending.loans n + pages ≤ counted g

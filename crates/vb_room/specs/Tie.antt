@@ -56,7 +56,7 @@ EventsLeaveLoans = (w : World) (event : Event) (reply : Reply) (v : World) (loan
 
 -- asks, resets, grants, takes, uncounting, figures and budgets
 abbrev pub KeepsBalloons : LoanEvent → Type 0
-KeepsBalloons (Arrives n pages) = ⊥
+KeepsBalloons (Arrives n pages line) = ⊥
 KeepsBalloons (Leaves n) = ⊥
 KeepsBalloons (Gives n pages) = ⊥
 KeepsBalloons _ = ⊤
