@@ -14,4 +14,5 @@ mod reading;
 mod refused;
 mod replay;
 mod rows;
+mod sizes;
 mod watch;

@@ -2,6 +2,7 @@
 //! guest a lock: a gate holds one thread up until another has come somewhere, which it does while
 //! the first one stands still. Of each run its notes are as they must be.
 
+mod bells;
 mod locks;
 mod threads;
 
@@ -174,6 +175,12 @@ fn check_all<R: Threads + Wait + Clock + Sync + Abort>(
 fn each_actor_has_its_thread_and_each_guest_its_lock(rt: HostRuntime) -> Result<(), Fail> {
     check_all(&rt, rt.alloc(), &threads::ROWS)?;
     check_all(&rt, rt.alloc(), &locks::ROWS)?;
+    Ok(())
+}
+
+#[test]
+fn each_ring_has_a_pass_after_it(rt: HostRuntime) -> Result<(), Fail> {
+    check_all(&rt, rt.alloc(), &bells::ROWS)?;
     Ok(())
 }
 
