@@ -24,6 +24,7 @@ void see_pages(void *context, uint32_t kind, const VbRun *runs, uint32_t count);
 int fail_at_700(void *context, const struct balloon_region *region, uint64_t from, uint64_t length);
 
 void test_steps(void);
+void test_queues(void);
 void test_requests(void);
 void test_notices(void);
 void test_discards(void);
