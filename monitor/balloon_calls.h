@@ -155,6 +155,23 @@ static inline uint32_t balloon_place(struct balloon *balloon, uint32_t kind, uin
     return vb_place_over(&balloon->state, balloon->places, balloon->region_count, kind, table, avail, used, size);
 }
 
+/* Starts a queue at an index, before or after DRIVER_OK, and stops it: as vb_start_queue, and as vb_stop_queue. */
+static inline uint32_t balloon_start_queue(struct balloon *balloon, uint32_t kind, VbQueueStart at)
+{
+    return vb_start_queue(&balloon->state, balloon->places, balloon->region_count, kind, at);
+}
+
+static inline uint32_t balloon_stop_queue(struct balloon *balloon, uint32_t kind, uint16_t *next)
+{
+    return vb_stop_queue(&balloon->state, kind, next);
+}
+
+/* Forgets the buffer of statistics that is held: VB_OK, or VB_NOTHING where none is. */
+static inline uint32_t balloon_forget_held(struct balloon *balloon)
+{
+    return vb_forget_held(&balloon->state);
+}
+
 /* The driver writes the status: 0, or why it is refused (vb_write_status). At DRIVER_OK each queue is looked at, as
  * Linux fills its statistics buffer before and kicks it once; `result` says what that came to. */
 static inline uint32_t balloon_write_status(struct balloon *balloon, uint8_t status, struct balloon_result *result)

@@ -74,7 +74,7 @@ static const struct { unsigned state; size_t at; int bytes; uint64_t value; } IM
     { 7, RINGS_AT, 8, 0xfffff0 + (8ull << 20) }, { 7, RINGS_AT, 8, UINT64_MAX - 15 }, { 7, RINGS_AT + 24, 2, 0 },
     { 7, RINGS_AT + 24, 2, 1 }, { 7, RINGS_AT + 24, 2, 63 }, { 7, RINGS_AT + 24, 2, 512 },
     { 7, RINGS_AT + RING_BYTES, 8, 1 }, { 7, RINGS_AT + 2 * RING_BYTES, 8, 1 }, { 7, RINGS_AT + 3 * RING_BYTES, 8, 1 },
-    { 5, RINGS_AT + 26, 2, 1 }, { 5, RINGS_AT + 3 * RING_BYTES + 28, 2, 1 }, { 5, 54, 4, 1 }, { 0, RINGS_AT + 26, 2, 1 },
+    { 2, RINGS_AT + 26, 2, 1 }, { 2, RINGS_AT + 28, 2, 1 }, { 5, 54, 4, 1 }, { 0, RINGS_AT + 26, 2, 1 },
     { 7, 24, 8, 1ull << 32 | 0x27 },            /* poison_val where PAGE_POISON isn't offered */
     { 0, 38, 8, 1ull << 32 }, { 0, 54, 4, 1 }, { 0, RINGS_AT + 2 * RING_BYTES + 24, 2, 64 }, { 3, 38, 8, 1 },
     { 7, 20 + 16, 1, 0 },       /* nothing is changed: the one row that has to be restored */

@@ -9,6 +9,9 @@ uint32_t balloon_init(struct balloon *balloon, const struct balloon_region *regi
 uint32_t balloon_set_regions(struct balloon *balloon, const struct balloon_region *regions, size_t count);
 uint32_t balloon_negotiate(struct balloon *balloon, uint64_t features);
 uint32_t balloon_place(struct balloon *balloon, uint32_t kind, uint64_t table, uint64_t avail, uint64_t used, uint16_t size);
+uint32_t balloon_start_queue(struct balloon *balloon, uint32_t kind, VbQueueStart at);
+uint32_t balloon_stop_queue(struct balloon *balloon, uint32_t kind, uint16_t *next);
+uint32_t balloon_forget_held(struct balloon *balloon);
 uint32_t balloon_write_status(struct balloon *balloon, uint8_t status, struct balloon_result *result);
 struct balloon_result balloon_notify(struct balloon *balloon, uint32_t kind);
 struct balloon_result balloon_notify_number(struct balloon *balloon, uint32_t number);

@@ -4,6 +4,7 @@
 
 /* What other languages declare of vb.h has to have these sizes (rust/src/raw/structs.rs). */
 _Static_assert(sizeof(VbSettings) == 24 && sizeof(VbQueue) == 32 && sizeof(VbDevice) == 176, "a device's state");
+_Static_assert(sizeof(VbQueueStart) == 32, "where a queue starts");
 _Static_assert(sizeof(VbPiece) == 16 && sizeof(VbRun) == 8 && sizeof(VbStatistic) == 16, "lists");
 _Static_assert(sizeof(VbChain) == 20 && sizeof(VbNamed) == 24 && sizeof(VbFigures) == 12, "answers");
 _Static_assert(sizeof(VbUsed) == 40, "what is written");
@@ -14,6 +15,7 @@ int main(void)
     alarm(60);
     test_steps();
     test_settings();
+    test_queues();
     test_requests();
     test_notices();
     test_discards();

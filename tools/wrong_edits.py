@@ -120,6 +120,9 @@ WRONG = [
     ("any status empties the set", CALLS, "if (then & VB_EMPTY && balloon->ballooned)", "if (answer == 0 && balloon->ballooned)"),
     ("a target passed by is no matter", CALLS, "device.actual != balloon->state.device.target;", "device.actual < balloon->state.device.target;"),
     ("room to save taken for granted", CALLS, "balloon->state.held, out, room);", "balloon->state.held, out, VB_STATE_BYTES);"),
+    ("a queue that starts in a hole", CALLS, "vb_start_queue(&balloon->state, balloon->places, balloon->region_count, kind, at)", "vb_start_queue(&balloon->state, &(VbRegion){ 0, 1ull << 40, 0 }, 1, kind, at)"),
+    ("a queue that starts at 0", CALLS, "balloon->region_count, kind, at);", "balloon->region_count, kind, (VbQueueStart){ at.table, at.avail, at.used, at.size, 0 });"),
+    ("the index of a queue that stops forgotten", CALLS, "vb_stop_queue(&balloon->state, kind, next);", "vb_stop_queue(&balloon->state, kind, &(uint16_t){ *next });"),
     ("no acquire fence", OBEY, "self.memory.fence(Ordering::Acquire);", ""),
     ("no release fence", OBEY, "        self.memory.fence(Ordering::Release);\n", ""),
     ("no full fence", OBEY, "self.memory.fence(Ordering::SeqCst);", ""),
@@ -189,4 +192,6 @@ WRONG = [
     ("one queue's failed access forgotten", SERVED, "Refusal::Broken(_) | Refusal::Unreachable", "Refusal::Broken(_)"),
     ("a question over the old regions", BALLOON, "        memory.regions(&mut self.regions);\n        raw::ask", "        if self.regions.is_empty() {\n            memory.regions(&mut self.regions);\n        }\n        raw::ask"),
     ("a set of whole words alone", BALLOON, "(pages / 64 + u64::from(pages % 64 != 0))", "(pages / 64)"),
+    ("a queue that starts in a hole", BALLOON, "raw::vb_start_queue(state, regions.as_ptr(), regions.len(), kind as u32, at)", "raw::vb_start_queue(state, [raw::Region { guest: 0, length: 1 << 40 * regions.len().min(1), in_file: 0 }].as_ptr(), 1, kind as u32, at)"),
+    ("the index of a queue that stops forgotten", BALLOON, "raw::OK => Ok(next),", "raw::OK => Ok(next & 0),"),
 ]

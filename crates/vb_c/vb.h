@@ -1,10 +1,10 @@
 /* Bigvasta: what a traditional memory balloon device (VIRTIO 1.1, 5.5) decides, proved for any bytes.
  *
- * The library keeps nothing: a device is one plain struct in the caller's memory, which may be copied; vb_save
- * makes bytes of it that another version or machine reads. It allocates nothing, touches no guest memory and discards nothing: it
- * reads private copies that the caller makes, and answers what is to be done. Any argument gets an answer
- * or a named refusal, but that a pointer with a length must point to that many elements (or the length is
- * 0), and that one call at a time works on a device.
+ * The library keeps nothing: a device is one plain struct in the caller's memory, which may be copied, and which calls alone write;
+ * vb_save makes bytes of it that another version or machine reads. It allocates nothing, touches no guest memory and discards
+ * nothing: it reads private copies that the caller makes, and answers what is to be done. Any argument gets an answer or a named
+ * refusal, but that a pointer with a length must point to that many elements (or the length is 0), and that one call at a time works
+ * on a device.
  *
  * Numbers of pages count pages of 4096 bytes from the start of guest memory.
  */
@@ -20,9 +20,8 @@ extern "C" {
 #define VB_ASSERT(what) _Static_assert(what, #what)
 #endif
 
-/* The version of this header. Until 1.0.0 the second number changes with each change that a caller may have to follow,
- * else the third one. vb_version says the library's: it has to be VB_VERSION_NUMBER, or to differ in the third number
- * alone. */
+/* The version of this header. Until 1.0.0 the second number changes with each change that a caller may have to follow, else the
+ * third one. vb_version says the library's: it has to be VB_VERSION_NUMBER, or to differ in the third number alone. */
 #define VB_VERSION "0.1.0"
 #define VB_VERSION_NUMBER 0x000100u     /* 65536 times the first number, 256 times the second, and the third */
 
@@ -30,7 +29,7 @@ enum {                          /* answers: `code` */
     VB_OK = 0,
     VB_NOTHING = 1,             /* no chain is available */
     VB_BROKEN = 2,              /* the guest's bytes break a rule (`rule`); DEVICE_NEEDS_RESET is set now */
-    VB_NOT_READY = 3,           /* DRIVER_OK isn't set, or FAILED is */
+    VB_NOT_READY = 3,           /* DRIVER_OK isn't set (vb_start_queue: FEATURES_OK isn't), or FAILED is */
     VB_NEEDS_RESET = 4,         /* a rule was broken before */
     VB_NO_QUEUE = 5,            /* no queue of that kind, or not with the negotiated features */
     VB_MISPLACED = 6,           /* the queue has no place, or copies don't have its size */
@@ -55,8 +54,7 @@ enum { VB_F_PAGE_POISON = 16 };    /* a feature: the driver says in poison_val w
 typedef struct {
     uint64_t memory_end;        /* bytes: where guest memory ends, from 8192 on and below 2^44; the last part of a page
                                    doesn't count. Holes below it are the caller's. */
-    uint64_t offered;           /* features: of bits 0, 1, 2, 4 (VB_F_PAGE_POISON), 5 and 32; bit 32 (VERSION_1) is among
-                                   them */
+    uint64_t offered;           /* features: of bits 0, 1, 2, 4 (VB_F_PAGE_POISON), 5 and 32, with bit 32 (VERSION_1) */
     uint32_t reserved_pages;    /* pages at the start that no request may name; none: 0 */
     uint8_t needs_must_tell;    /* unless 0: FEATURES_OK is refused without MUST_TELL_HOST */
     uint8_t skips_bad_pages;    /* unless 0: a page number past the end, or of a reserved page, is skipped and counted;
@@ -104,6 +102,8 @@ typedef struct { VbCut cut; uint64_t waiting; } VbLarge;
 
 /* A device, and 1 more than the head of the statistics buffer that it holds until new ones are asked for; none: 0. */
 typedef struct { VbDevice device; uint32_t held; } VbBalloon;
+/* Where a queue starts, with how many of its chains were taken and given back until now, modulo 65,536. */
+typedef struct { uint64_t table, avail, used; uint16_t size, next; } VbQueueStart;
 
 enum {                          /* what is to be done: `what` of a notice, in this order; other bits are the library's */
     VB_TELL_PAGES = 1,          /* the first `runs` of the room were given up, are asked back, or are free */
@@ -158,43 +158,33 @@ typedef struct {
 } VbRoom;
 
 /* What the library was compiled to have: on every machine that it is for, structs are as here. */
-VB_ASSERT(sizeof(VbSettings) == 24 && offsetof(VbSettings, offered) == 8 && offsetof(VbSettings, reserved_pages) == 16
-          && offsetof(VbSettings, needs_must_tell) == 20 && offsetof(VbSettings, skips_bad_pages) == 21);
-VB_ASSERT(sizeof(VbQueue) == 32 && offsetof(VbQueue, avail) == 8 && offsetof(VbQueue, used) == 16
-          && offsetof(VbQueue, size) == 24 && offsetof(VbQueue, next_avail) == 26 && offsetof(VbQueue, next_used) == 28);
-VB_ASSERT(sizeof(VbDevice) == 176 && offsetof(VbDevice, settings) == 0 && offsetof(VbDevice, features) == 24
-          && offsetof(VbDevice, target) == 32 && offsetof(VbDevice, actual) == 36 && offsetof(VbDevice, inflate) == 40
-          && offsetof(VbDevice, deflate) == 72 && offsetof(VbDevice, statistics) == 104
-          && offsetof(VbDevice, report) == 136 && offsetof(VbDevice, poison) == 168 && offsetof(VbDevice, status) == 172);
-VB_ASSERT(sizeof(VbPiece) == 16 && offsetof(VbPiece, length) == 8 && offsetof(VbPiece, writable) == 12);
-VB_ASSERT(sizeof(VbRun) == 8 && offsetof(VbRun, count) == 4);
-VB_ASSERT(sizeof(VbStatistic) == 16 && offsetof(VbStatistic, value) == 8);
-VB_ASSERT(sizeof(VbChain) == 20 && offsetof(VbChain, rule) == 4 && offsetof(VbChain, head) == 8
-          && offsetof(VbChain, pieces) == 12 && offsetof(VbChain, bytes) == 16);
-VB_ASSERT(sizeof(VbNamed) == 24 && offsetof(VbNamed, rule) == 4 && offsetof(VbNamed, head) == 8
-          && offsetof(VbNamed, runs) == 12 && offsetof(VbNamed, pages) == 16 && offsetof(VbNamed, skipped) == 20);
-VB_ASSERT(sizeof(VbFigures) == 12 && offsetof(VbFigures, rule) == 4 && offsetof(VbFigures, count) == 8);
-VB_ASSERT(sizeof(VbUsed) == 40 && offsetof(VbUsed, element_at) == 8 && offsetof(VbUsed, index_at) == 16
-          && offsetof(VbUsed, id) == 24 && offsetof(VbUsed, length) == 28 && offsetof(VbUsed, index) == 32);
-VB_ASSERT(sizeof(VbMarked) == 16 && offsetof(VbMarked, pages) == 8);
-VB_ASSERT(sizeof(VbNeed) == 8 && offsetof(VbNeed, spare) == 4);
-VB_ASSERT(sizeof(VbTargets) == 16 && offsetof(VbTargets, missing) == 8);
-VB_ASSERT(sizeof(VbRegion) == 24 && offsetof(VbRegion, length) == 8 && offsetof(VbRegion, in_file) == 16);
-VB_ASSERT(sizeof(VbSpot) == 16 && offsetof(VbSpot, offset) == 8);
-VB_ASSERT(sizeof(VbCut) == 32 && offsetof(VbCut, offset) == 8 && offsetof(VbCut, in_file) == 16
-          && offsetof(VbCut, length) == 24);
-VB_ASSERT(sizeof(VbLarge) == 40 && offsetof(VbLarge, waiting) == 32);
-VB_ASSERT(sizeof(VbBalloon) == 184 && offsetof(VbBalloon, held) == 176);
-VB_ASSERT(sizeof(VbNotice) == 200 && offsetof(VbNotice, at) == 8 && offsetof(VbNotice, length) == 24
-          && offsetof(VbNotice, runs) == 32 && offsetof(VbNotice, figures) == 44 && offsetof(VbNotice, kept) == 52
-          && offsetof(VbNotice, id_at) == 56
-          && offsetof(VbNotice, id) == 104 && offsetof(VbNotice, used_index) == 112
-          && offsetof(VbNotice, number) == 120 && offsetof(VbNotice, in_file) == 136
-          && offsetof(VbNotice, code) == 152 && offsetof(VbNotice, chains_left) == 172
-          && offsetof(VbNotice, given) == 186 && offsetof(VbNotice, phase) == 189 && offsetof(VbNotice, keeps) == 190
-          && offsetof(VbNotice, published) == 192);
-VB_ASSERT(sizeof(VbRoom) == 16992 && offsetof(VbRoom, bytes) == 4096 && offsetof(VbRoom, runs) == 5120
-          && offsetof(VbRoom, figures) == 7168 && offsetof(VbRoom, cuts) == 8800);
+#define VB_HAS(type, size) (sizeof(Vb##type) == (size))
+#define VB_AT(type, field, at) (offsetof(Vb##type, field) == (at))
+VB_ASSERT(VB_HAS(Settings, 24) && VB_AT(Settings, offered, 8) && VB_AT(Settings, reserved_pages, 16)
+          && VB_AT(Settings, needs_must_tell, 20) && VB_AT(Settings, skips_bad_pages, 21) && VB_HAS(Queue, 32)
+          && VB_AT(Queue, avail, 8) && VB_AT(Queue, used, 16) && VB_AT(Queue, size, 24) && VB_AT(Queue, next_avail, 26)
+          && VB_AT(Queue, next_used, 28) && VB_HAS(QueueStart, 32) && VB_AT(QueueStart, avail, 8) && VB_AT(QueueStart, used, 16)
+          && VB_AT(QueueStart, size, 24) && VB_AT(QueueStart, next, 26) && VB_HAS(Device, 176) && VB_AT(Device, settings, 0)
+          && VB_AT(Device, features, 24) && VB_AT(Device, target, 32) && VB_AT(Device, actual, 36) && VB_AT(Device, inflate, 40)
+          && VB_AT(Device, deflate, 72) && VB_AT(Device, statistics, 104) && VB_AT(Device, report, 136)
+          && VB_AT(Device, poison, 168) && VB_AT(Device, status, 172) && VB_HAS(Balloon, 184) && VB_AT(Balloon, held, 176));
+VB_ASSERT(VB_HAS(Piece, 16) && VB_AT(Piece, length, 8) && VB_AT(Piece, writable, 12) && VB_HAS(Run, 8) && VB_AT(Run, count, 4)
+          && VB_HAS(Statistic, 16) && VB_AT(Statistic, value, 8) && VB_HAS(Chain, 20) && VB_AT(Chain, rule, 4)
+          && VB_AT(Chain, head, 8) && VB_AT(Chain, pieces, 12) && VB_AT(Chain, bytes, 16) && VB_HAS(Named, 24)
+          && VB_AT(Named, rule, 4) && VB_AT(Named, head, 8) && VB_AT(Named, runs, 12) && VB_AT(Named, pages, 16)
+          && VB_AT(Named, skipped, 20) && VB_HAS(Figures, 12) && VB_AT(Figures, rule, 4) && VB_AT(Figures, count, 8)
+          && VB_HAS(Used, 40) && VB_AT(Used, element_at, 8) && VB_AT(Used, index_at, 16) && VB_AT(Used, id, 24)
+          && VB_AT(Used, length, 28) && VB_AT(Used, index, 32) && VB_HAS(Marked, 16) && VB_AT(Marked, pages, 8)
+          && VB_HAS(Need, 8) && VB_AT(Need, spare, 4) && VB_HAS(Targets, 16) && VB_AT(Targets, missing, 8));
+VB_ASSERT(VB_HAS(Region, 24) && VB_AT(Region, length, 8) && VB_AT(Region, in_file, 16) && VB_HAS(Spot, 16)
+          && VB_AT(Spot, offset, 8) && VB_HAS(Cut, 32) && VB_AT(Cut, offset, 8) && VB_AT(Cut, in_file, 16)
+          && VB_AT(Cut, length, 24) && VB_HAS(Large, 40) && VB_AT(Large, waiting, 32) && VB_HAS(Room, 16992)
+          && VB_AT(Room, bytes, 4096) && VB_AT(Room, runs, 5120) && VB_AT(Room, figures, 7168) && VB_AT(Room, cuts, 8800)
+          && VB_HAS(Notice, 200) && VB_AT(Notice, at, 8) && VB_AT(Notice, length, 24) && VB_AT(Notice, runs, 32)
+          && VB_AT(Notice, figures, 44) && VB_AT(Notice, kept, 52) && VB_AT(Notice, id_at, 56) && VB_AT(Notice, id, 104)
+          && VB_AT(Notice, used_index, 112) && VB_AT(Notice, number, 120) && VB_AT(Notice, in_file, 136)
+          && VB_AT(Notice, code, 152) && VB_AT(Notice, chains_left, 172) && VB_AT(Notice, given, 186)
+          && VB_AT(Notice, phase, 189) && VB_AT(Notice, keeps, 190) && VB_AT(Notice, published, 192));
 
 /* The version of the library, as VB_VERSION_NUMBER. */
 uint32_t vb_version(void);
@@ -208,17 +198,17 @@ void vb_set_target(VbDevice *device, uint32_t pages);
 uint32_t vb_write_status(VbDevice *device, uint8_t status);
 /* The driver writes its features (again: the last write counts): 0 accepted, 2 not at status 3, 3 not offered. */
 uint32_t vb_negotiate(VbDevice *device, uint64_t features);
-/* The kind of the queue of this number: they are numbered without gaps, by the negotiated features. */
+/* The kind of the queue of this number: they are numbered without gaps, by the negotiated features, or by those of a driver. */
 uint32_t vb_kind(const VbDevice *device, uint32_t number);
+uint32_t vb_kind_of(uint64_t features, uint32_t number);
 /* Gives a queue its place, behind vb_negotiate: VB_OK; VB_NO_QUEUE for no kind; VB_BAD_ARGUMENT once DRIVER_OK is set;
  * VB_NO_QUEUE where the negotiated features leave it out; VB_MISPLACED where size is no power of two from 2 to 256, or a
  * part isn't aligned (16, 2, 4) or doesn't end within memory. */
 uint32_t vb_place(VbDevice *device, uint32_t kind, uint64_t table, uint64_t avail, uint64_t used, uint16_t size);
-/* Reads or writes bytes of the configuration space (VIRTIO 1.1, 5.5.4), little-endian: num_pages at 0, actual at 4, and
- * poison_val at 12 where PAGE_POISON is offered (VIRTIO 1.2, 5.5.4). All other bytes read as 0. A write of any length at any
- * offset writes actual, and poison_val where PAGE_POISON is offered, each where it covers all 4 of its bytes, as QEMU hands over
- * all 16 for each field; all other bytes are ignored. VB_OK; or VB_BAD_ARGUMENT where it covers neither, and then nothing is
- * changed. */
+/* Reads or writes bytes of the configuration space (VIRTIO 1.1, 5.5.4), little-endian: num_pages at 0, actual at 4, and poison_val at
+ * 12 where PAGE_POISON is offered (VIRTIO 1.2, 5.5.4). All other bytes read as 0. A write of any length at any offset writes actual,
+ * and poison_val where that is offered, each where it covers all 4 of its bytes, as QEMU hands over all 16 for each field; all other
+ * bytes are ignored. VB_OK; or VB_BAD_ARGUMENT where it covers neither, and then nothing is changed. */
 void vb_read_config(const VbDevice *device, uint32_t offset, uint8_t *out, size_t length);
 uint32_t vb_write_config(VbDevice *device, uint32_t offset, const uint8_t *bytes, size_t length);
 /* 1 where the pages of a report keep what is in them: the driver negotiated PAGE_POISON, and poison_val isn't 0. A notice
@@ -280,6 +270,17 @@ uint32_t vb_set_regions(VbBalloon *balloon, const VbRegion *regions, size_t coun
 /* vb_place over these regions: also VB_MISPLACED where a part of the queue lies in a hole. */
 uint32_t vb_place_over(VbBalloon *balloon, const VbRegion *regions, size_t count, uint32_t kind, uint64_t table,
                        uint64_t avail, uint64_t used, uint16_t size);
+/* For a backend or a migration: starts a queue over these regions at `at.next`, in place of what it was before. The chains before
+ * that index were given back, and none is taken; of the queue of statistics, the held buffer is forgotten. It may start from
+ * FEATURES_OK on, when a driver sets its queues up (VIRTIO 1.1, 3.1.1), also beside queues that run. VB_OK, or refused as is said at
+ * the end (VB_MISPLACED as by vb_place_over), and then nothing is changed. */
+uint32_t vb_start_queue(VbBalloon *balloon, const VbRegion *regions, size_t count, uint32_t kind, VbQueueStart at);
+/* Stops a queue, at any status: it has no place any longer, and of the queue of statistics, the held buffer is forgotten. `next` gets
+ * the index at which it was: where it starts there, a chain that was taken and not given back stands again. VB_OK; VB_NO_QUEUE for no
+ * kind; VB_MISPLACED where it has no place; then nothing is changed, and `next` is 0. */
+uint32_t vb_stop_queue(VbBalloon *balloon, uint32_t kind, uint16_t *next);
+/* Forgets the held buffer, which isn't given back: VB_OK, or VB_NOTHING where none is held. */
+uint32_t vb_forget_held(VbBalloon *balloon);
 /* vb_write_status, and `then` gets what is to be done then: bits VB_LOOK, each queue is to be looked at (vb_begin), and
  * VB_EMPTY, the set of ballooned pages is empty now. 0 where it is refused. A reset forgets the held buffer. */
 uint32_t vb_set_status(VbBalloon *balloon, uint8_t status, uint32_t *then);
@@ -327,22 +328,22 @@ VbLarge vb_large_pages(const VbDevice *device, const VbRegion *region, uint64_t 
  * 0: no statistics say so); at most its pages that aren't reserved. */
 uint32_t vb_spare(uint32_t pages, uint32_t ballooned, uint32_t free_pages, uint32_t free_known, uint32_t floor,
                   uint32_t reserved);
-/* Puts a target for each guest into `targets`, in the order of the needs, so that this many frames suffice: what is
- * missing is given by the guests of most spare first, and of these by the first in order, by each at most its spare.
- * However many guests there are, it looks at each need at most 37 times. VB_OK; VB_BAD_ARGUMENT where room isn't count;
- * VB_SHORT where all that they can spare together is too little by `missing` pages (2^64 - 1 where it is more); then no
- * target is changed. */
+/* Puts a target for each guest into `targets`, in the order of the needs, so that this many frames suffice: what is missing is
+ * given by the guests of most spare first, and of these by the first in order, by each at most its spare. However many guests
+ * there are, it looks at each need at most 37 times. VB_OK; VB_BAD_ARGUMENT where room isn't count; VB_SHORT where all that they
+ * can spare together is too little by `missing` pages (2^64 - 1 where it is more); then no target is changed. */
 VbTargets vb_targets(const VbNeed *needs, size_t count, uint32_t frames, uint32_t *targets, size_t room);
 /* 1 where targets that were set before no longer serve: there isn't one for each guest, or together they are less than
  * what is missing, or a guest is asked for more than it can spare. Else 0: they may stay, so that targets don't swing. */
 uint32_t vb_needs_targets(const uint32_t *old_targets, size_t old_count, const VbNeed *needs, size_t count,
                           uint32_t frames);
 
-/* Refusals of the calls on a device are tested in this order: VB_NO_QUEUE for a kind that the call isn't for,
- * VB_BAD_ARGUMENT, VB_NOT_READY, VB_NEEDS_RESET, VB_NO_QUEUE for a feature, VB_MISPLACED; then VB_BROKEN, VB_NOTHING or
- * VB_OK. */
+/* Refusals of the calls on a device or a balloon are tested in this order: VB_NO_QUEUE for a kind that the call isn't for,
+ * VB_BAD_ARGUMENT, VB_NOT_READY, VB_NEEDS_RESET, VB_NO_QUEUE for a feature, VB_MISPLACED; then VB_BROKEN, VB_NOTHING or VB_OK. */
 
 #undef VB_ASSERT
+#undef VB_HAS
+#undef VB_AT
 #ifdef __cplusplus
 }
 #endif

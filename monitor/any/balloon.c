@@ -12,6 +12,26 @@ static bool same_balloon(const VbBalloon *one, const VbBalloon *other)
     return same(&one->device, &other->device) && one->held == other->held;
 }
 
+/* A start, a stop and a forgotten buffer, as the plain ones; a refusal leaves all as it was. */
+static void call_queues(VbBalloon *balloon, VbBalloon *twin, const VbRegion *regions, size_t count)
+{
+    VbQueueStart start = { any() % (24 << 20) & ~UINT64_C(15), any() % (24 << 20) & ~UINT64_C(1), any() % (24 << 20) & ~UINT64_C(3),
+                           (uint16_t)(once_in(4) ? any_number() : 2u << any() % 8), (uint16_t)any_number() };
+    const VbBalloon before = *balloon;
+    uint32_t kind = once_in(16) ? (uint32_t)any_number() : any() % 4;
+    uint16_t next = 7, why = 7;
+    if (once_in(8))
+        start.table = any_number();
+    uint32_t code = vb_start_queue(balloon, regions, count, kind, start);
+    EXPECT(code == reference_start_queue(twin, regions, count, kind, start) && same_balloon(balloon, twin));
+    EXPECT(code == VB_OK || same_balloon(balloon, &before));
+    answers[code]++;
+    code = vb_stop_queue(balloon, kind, &next);
+    EXPECT(code == reference_stop_queue(twin, kind, &why) && next == why && same_balloon(balloon, twin));
+    EXPECT(once_in(2) || (vb_forget_held(balloon) == reference_forget_held(twin) && same_balloon(balloon, twin)));
+    EXPECT(vb_kind_of(start.table, kind) == reference_kind_of(start.table, kind));
+}
+
 void call_over(void)
 {
     VbBalloon before = any_balloon(), balloon = before, twin = before;
@@ -37,6 +57,7 @@ void call_over(void)
     EXPECT(same_balloon(&balloon, &twin));
     EXPECT(code == VB_OK || same_balloon(&balloon, &before));
     answers[code]++;
+    call_queues(&balloon, &twin, regions, count);
     uint8_t status = (uint8_t)any_number();
     EXPECT(vb_set_status(&balloon, status, &then) == reference_set_status(&twin, status, &why) && then == why);
     EXPECT(same_balloon(&balloon, &twin));

@@ -4,24 +4,17 @@
 /* The statuses of a driver that starts (VIRTIO 1.1, 2.1). */
 enum { ACKNOWLEDGE = 1, DRIVER = 3, FEATURES_OK = 11, DRIVER_OK = 15, FAILED_BIT = 128 };
 
-static VbDevice *device_of(struct backend *backend)
-{
-    return &backend->balloon.state.device;
-}
-
 /* The kind of the queue of this number, by the features that the client has told; VB_NO_KIND where they have none. */
 static uint32_t kind_of(const struct backend *backend, unsigned number)
 {
-    VbDevice device = backend->balloon.state.device;
-    device.features = backend->told.features & ~HAS_PROTOCOL_FEATURES;
-    return vb_kind(&device, number);
+    return vb_kind_of(backend->told.features & ~HAS_PROTOCOL_FEATURES, number);
 }
 
 /* The device's own queue of this kind, or NULL. */
-static VbQueue *queue_of(struct backend *backend, uint32_t kind)
+static const VbQueue *queue_of(const struct backend *backend, uint32_t kind)
 {
-    VbDevice *device = device_of(backend);
-    VbQueue *queues[] = {&device->inflate, &device->deflate, &device->statistics, &device->report};
+    const VbDevice *device = &backend->balloon.state.device;
+    const VbQueue *queues[] = {&device->inflate, &device->deflate, &device->statistics, &device->report};
     return kind < VB_NO_KIND ? queues[kind] : NULL;
 }
 
@@ -38,10 +31,10 @@ static bool write_status(struct backend *backend, uint8_t status, uint32_t kind)
     return backend_finish(backend, kind, &result);
 }
 
-void configuration_write(struct balloon *balloon, uint32_t offset, uint32_t number)
+void configuration_write(VbDevice *device, uint32_t offset, uint32_t number)
 {
     uint8_t bytes[4] = {(uint8_t)number, (uint8_t)(number >> 8), (uint8_t)(number >> 16), (uint8_t)(number >> 24)};
-    balloon_write_config(balloon, offset, bytes, sizeof bytes);
+    vb_write_config(device, offset, bytes, sizeof bytes);
 }
 
 /* No ring runs any longer. The rings may go on where they were, so `actual` and the set of pages in the balloon stay
@@ -59,7 +52,7 @@ static bool rest(struct backend *backend)
     balloon->ballooned = NULL;
     bool written = write_status(backend, 0, VB_NO_KIND);
     balloon->ballooned = set;
-    configuration_write(balloon, POISON_AT, poison);
+    configuration_write(&balloon->state.device, POISON_AT, poison);
     return written;
 }
 
@@ -109,36 +102,21 @@ bool rings_run(const struct backend *backend)
     return false;
 }
 
-/* Gives a queue a place in guest addresses. A queue may start beside others that run. */
-static bool place(struct backend *backend, unsigned number, VbQueue *at)
+/* Where a queue starts, in guest addresses: it goes on after what was used, so what was taken and not used is served again, as
+ * requests are served in order. */
+static bool find_start(struct backend *backend, unsigned number, VbQueueStart *at)
 {
     const struct ring *ring = &backend->rings[number];
-    VbDevice *device = device_of(backend);
     if (ring->size > VB_MAX_QUEUE_SIZE)
         return refuse("queue %u has %u entries", number, ring->size);
+    at->size = (uint16_t)ring->size;
     if (!memory_of_user(&backend->memory, ring->table, &at->table)
         || !memory_of_user(&backend->memory, ring->avail, &at->avail)
-        || !memory_of_user(&backend->memory, ring->used, &at->used))
+        || !memory_of_user(&backend->memory, ring->used, &at->used)
+        || !memory_word(&backend->memory, at->used + 2, &at->next))
         return refuse("queue %u isn't in the guest's memory", number);
-    uint8_t status = device->status;
-    device->status = FEATURES_OK;
-    uint32_t kind = kind_of(backend, number);
-    uint32_t code = balloon_place(&backend->balloon, kind, at->table, at->avail, at->used, (uint16_t)ring->size);
-    device->status = status;
-    return code == VB_OK || refuse("the place of queue %u is answered %u", number, code);
-}
-
-/* A ring goes on after what was used: what was taken and not used is served again, as requests are served in order. */
-static bool go_on(struct backend *backend, unsigned number, const VbQueue *at)
-{
-    const struct ring *ring = &backend->rings[number];
-    VbQueue *queue = queue_of(backend, kind_of(backend, number));
-    uint16_t used;
-    if (!memory_word(&backend->memory, at->used + 2, &used))
-        return refuse("queue %u isn't in the guest's memory", number);
-    if (ring->based && (ring->base > UINT16_MAX || (uint16_t)(ring->base - used) > ring->size))
-        return refuse("queue %u goes on at %u, and its used index is %u", number, ring->base, used);
-    queue->next_avail = queue->next_used = used;
+    if (ring->based && (ring->base > UINT16_MAX || (uint16_t)(ring->base - at->next) > ring->size))
+        return refuse("queue %u goes on at %u, and its used index is %u", number, ring->base, at->next);
     return true;
 }
 
@@ -150,7 +128,7 @@ static void begin_life(struct backend *backend, uint16_t position)
         return;
     backend->told.goes_on = false;
     if (position > 0)
-        configuration_write(balloon, ACTUAL_AT, backend->told.actual);
+        configuration_write(&balloon->state.device, ACTUAL_AT, backend->told.actual);
     else if (balloon->ballooned)
         memset(balloon->ballooned, 0, balloon->ballooned_words * sizeof balloon->ballooned[0]), backend->ballooned = 0;
 }
@@ -159,34 +137,32 @@ static void begin_life(struct backend *backend, uint16_t position)
 static bool start(struct backend *backend, unsigned number)
 {
     struct ring *ring = &backend->rings[number];
-    VbQueue at = {0};
-    if (device_of(backend)->status < FEATURES_OK && rings_negotiate(backend, backend->told.features) != 0)
+    VbQueueStart at = {0};
+    if (backend->balloon.state.device.status < FEATURES_OK && rings_negotiate(backend, backend->told.features) != 0)
         return refuse("the features aren't taken again");
-    if (!place(backend, number, &at) || !go_on(backend, number, &at))
+    if (!find_start(backend, number, &at))
         return false;
-    uint32_t kind = kind_of(backend, number);
-    uint16_t position = queue_of(backend, kind)->next_used;
+    uint32_t kind = kind_of(backend, number), code = balloon_start_queue(&backend->balloon, kind, at);
+    if (code != VB_OK)
+        return refuse("the place of queue %u is answered %u", number, code);
     ring->runs = true;
     if (kind == VB_INFLATE)
-        begin_life(backend, position);
-    if (position > 0 && !backend->tell(backend, (int)number)) /* who was served last may not have been told of it */
+        begin_life(backend, at.next);
+    if (at.next > 0 && !backend->tell(backend, (int)number)) /* who was served last may not have been told of it */
         return refuse("the client can't be told of a used buffer");
     /* The status looks at each queue once, which may leave more than a notice serves. */
     return (backend_is_ready(backend) || write_status(backend, DRIVER_OK, kind)) && backend_serve(backend, number);
 }
 
-/* Stops a ring. */
+/* Stops a ring, and notes at which index; 0 where the device was reset before. */
 static void stop(struct backend *backend, unsigned number)
 {
     struct ring *ring = &backend->rings[number];
-    uint32_t kind = kind_of(backend, number);
-    VbQueue *queue = queue_of(backend, kind);
+    uint16_t next;
     if (!ring->runs)
         return;
-    ring->base = queue->next_used;
-    memset(queue, 0, sizeof *queue);
-    if (kind == VB_STATISTICS)
-        backend->balloon.state.held = 0;
+    balloon_stop_queue(&backend->balloon, kind_of(backend, number), &next);
+    ring->base = next;
     backend->pending &= ~(1u << number);
     ring->runs = false;
 }

@@ -3,6 +3,7 @@
 #ifndef RINGS_H
 #define RINGS_H
 #include "events.h"
+#include "vb.h"
 
 #include <poll.h>
 #include <stdint.h>
@@ -34,10 +35,9 @@ struct told {
 };
 
 struct backend;
-struct balloon;
 
-/* Puts a number into the device's configuration as a driver does; a field that isn't offered takes none. */
-void configuration_write(struct balloon *balloon, uint32_t offset, uint32_t number);
+/* Puts a number into a device's configuration as a driver does; a field that isn't offered takes none. */
+void configuration_write(VbDevice *device, uint32_t offset, uint32_t number);
 enum { ACTUAL_AT = 4, POISON_AT = 12 };
 
 /* No client has told anything. */

@@ -44,7 +44,7 @@ bool state_load(struct backend *backend)
     if (code != VB_OK)
         return refuse("%s is no saved state: it is answered %u", path, code);
     balloon_set_target(&backend->balloon, device.target);
-    configuration_write(&backend->balloon, POISON_AT, device.poison);
+    configuration_write(&backend->balloon.state.device, POISON_AT, device.poison);
     backend->told.actual = device.actual;
     backend->told.goes_on = true;
     return true;
@@ -55,7 +55,7 @@ static uint32_t make_bytes(const struct backend *backend, uint8_t bytes[VB_STATE
 {
     VbDevice device = backend->balloon.state.device;
     if (backend->told.goes_on)
-        device.actual = backend->told.actual;
+        configuration_write(&device, ACTUAL_AT, backend->told.actual);
     return vb_save(&device, backend->balloon.state.held, bytes, VB_STATE_BYTES);
 }
 

@@ -96,6 +96,19 @@ uint32_t vb_place_over(VbBalloon *of, const VbRegion *places, size_t count, uint
     return any_answer(places, count);
 }
 
+uint32_t vb_start_queue(VbBalloon *of, const VbRegion *places, size_t count, uint32_t kind, VbQueueStart at)
+{
+    return any_answer(places, count);
+}
+
+uint32_t vb_stop_queue(VbBalloon *of, uint32_t kind, uint16_t *next)
+{
+    *next = (uint16_t)any_u32();
+    return any_u32();
+}
+
+uint32_t vb_forget_held(VbBalloon *of) { return any_u32(); }
+
 uint32_t vb_restore_over(VbBalloon *of, const VbRegion *places, size_t count, const uint8_t *bytes, size_t length)
 {
     return any_answer(places, count);
@@ -109,6 +122,7 @@ uint32_t vb_set_status(VbBalloon *of, uint8_t status, uint32_t *then)
 
 uint32_t vb_negotiate(VbDevice *device, uint64_t features) { return any_u32(); }
 uint32_t vb_kind(const VbDevice *device, uint32_t number) { return ANY_UP_TO(VB_NO_KIND); }
+uint32_t vb_kind_of(uint64_t features, uint32_t number) { return ANY_UP_TO(VB_NO_KIND); }
 uint32_t vb_write_config(VbDevice *device, uint32_t offset, const uint8_t *bytes, size_t length) { return any_u32(); }
 void vb_read_config(const VbDevice *device, uint32_t offset, uint8_t *out, size_t length) { }
 void vb_set_target(VbDevice *device, uint32_t pages) { device->target = pages; }

@@ -4,6 +4,7 @@
 #include "vb.h"
 
 uint32_t reference_kind(const VbDevice *, uint32_t);
+uint32_t reference_kind_of(uint64_t, uint32_t);
 uint32_t reference_place(VbDevice *, uint32_t, uint64_t, uint64_t, uint64_t, uint16_t);
 uint32_t reference_write_status(VbDevice *, uint8_t);
 uint32_t reference_write_config(VbDevice *, uint32_t, const uint8_t *, size_t);
@@ -25,5 +26,8 @@ uint32_t reference_go_on(VbNotice *, VbBalloon *, const VbRegion *, size_t, VbRo
 uint32_t reference_new_over(VbBalloon *, VbSettings, const VbRegion *, size_t);
 uint32_t reference_set_regions(VbBalloon *, const VbRegion *, size_t);
 uint32_t reference_place_over(VbBalloon *, const VbRegion *, size_t, uint32_t, uint64_t, uint64_t, uint64_t, uint16_t);
+uint32_t reference_start_queue(VbBalloon *, const VbRegion *, size_t, uint32_t, VbQueueStart);
+uint32_t reference_stop_queue(VbBalloon *, uint32_t, uint16_t *);
+uint32_t reference_forget_held(VbBalloon *);
 uint32_t reference_set_status(VbBalloon *, uint8_t, uint32_t *);
 #endif

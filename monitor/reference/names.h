@@ -6,6 +6,7 @@
 #define vb_write_status reference_write_status
 #define vb_negotiate reference_negotiate
 #define vb_kind reference_kind
+#define vb_kind_of reference_kind_of
 #define vb_place reference_place
 #define vb_read_config reference_read_config
 #define vb_write_config reference_write_config
@@ -31,6 +32,9 @@
 #define vb_new_over reference_new_over
 #define vb_set_regions reference_set_regions
 #define vb_place_over reference_place_over
+#define vb_start_queue reference_start_queue
+#define vb_stop_queue reference_stop_queue
+#define vb_forget_held reference_forget_held
 #define vb_set_status reference_set_status
 #define vb_restore_over reference_restore_over
 #define vb_may_tell reference_may_tell

@@ -1,14 +1,16 @@
 /* Where queues stand, and what calls are refused for by status, features and place, in plain C, a part of reference.c. */
 
-uint32_t vb_kind(const VbDevice *device, uint32_t number)
+uint32_t vb_kind_of(uint64_t features, uint32_t number)
 {
-    bool statistics = device->features & STATS_VQ, report = device->features & REPORTING;
+    bool statistics = features & STATS_VQ, report = features & REPORTING;
     if (number < 2)
         return number;
     if (number == 2 && statistics)
         return VB_STATISTICS;
     return report && number == 2u + statistics ? VB_REPORT : VB_NO_KIND;
 }
+
+uint32_t vb_kind(const VbDevice *device, uint32_t number) { return vb_kind_of(device->features, number); }
 
 static VbQueue *queue_of(VbDevice *device, uint32_t kind)
 {
@@ -53,18 +55,23 @@ uint32_t vb_place(VbDevice *device, uint32_t kind, uint64_t table, uint64_t avai
     return VB_OK;
 }
 
-/* What a call is refused for by the status, the features and the queue's place. */
-static uint32_t refusal(const VbDevice *device, uint32_t kind, const VbQueue *queue)
+/* What a call is refused for by the status, in which a bit has to be set, the features and the queue's place. */
+static uint32_t refusal_at(const VbDevice *device, uint8_t bit, uint32_t kind, const VbQueue *queue)
 {
     if (are_impossible(&device->settings))
         return VB_BAD_ARGUMENT;
-    if (!(device->status & DRIVER_OK) || (device->status & FAILED))
+    if (!(device->status & bit) || (device->status & FAILED))
         return VB_NOT_READY;
     if (device->status & NEEDS_RESET)
         return VB_NEEDS_RESET;
     if (lacks_feature(device, kind))
         return VB_NO_QUEUE;
     return has_no_place(device, queue) ? VB_MISPLACED : VB_OK;
+}
+
+static uint32_t refusal(const VbDevice *device, uint32_t kind, const VbQueue *queue)
+{
+    return refusal_at(device, DRIVER_OK, kind, queue);
 }
 
 static uint32_t ring_refusal(const VbDevice *device, uint32_t kind, const VbQueue *queue, size_t avail, size_t table)

@@ -90,6 +90,45 @@ uint32_t vb_place_over(VbBalloon *balloon, const VbRegion *regions, size_t count
     return code;
 }
 
+uint32_t vb_start_queue(VbBalloon *balloon, const VbRegion *regions, size_t count, uint32_t kind, VbQueueStart at)
+{
+    VbQueue *queue = queue_of(&balloon->device, kind);
+    const VbQueue started = { at.table, at.avail, at.used, at.size, at.next, at.next };
+    if (!queue)
+        return VB_NO_QUEUE;
+    uint32_t code = refusal_at(&balloon->device, FEATURES_OK, kind, &started);
+    if (code == VB_OK && !holds_queue(regions, count, &started))
+        return VB_MISPLACED;
+    if (code != VB_OK)
+        return code;
+    *queue = started;
+    if (kind == VB_STATISTICS)
+        balloon->held = 0;
+    return VB_OK;
+}
+
+uint32_t vb_stop_queue(VbBalloon *balloon, uint32_t kind, uint16_t *next)
+{
+    VbQueue *queue = queue_of(&balloon->device, kind);
+    *next = 0;
+    if (!queue)
+        return VB_NO_QUEUE;
+    if (queue->size == 0)
+        return VB_MISPLACED;
+    *next = queue->next_used;
+    memset(queue, 0, sizeof *queue);
+    if (kind == VB_STATISTICS)
+        balloon->held = 0;
+    return VB_OK;
+}
+
+uint32_t vb_forget_held(VbBalloon *balloon)
+{
+    uint32_t held = balloon->held;
+    balloon->held = 0;
+    return held ? VB_OK : VB_NOTHING;
+}
+
 uint32_t vb_set_status(VbBalloon *balloon, uint8_t status, uint32_t *then)
 {
     uint8_t before = balloon->device.status;

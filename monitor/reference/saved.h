@@ -82,7 +82,7 @@ static bool is_ring(const VbDevice *device, uint32_t kind)
     placing.status = 0;
     placing.features = device->status & DRIVER ? device->settings.offered : 0;
     return vb_place(&placing, kind, queue.table, queue.avail, queue.used, queue.size) == VB_OK
-        && (!moved || ((device->status & DRIVER_OK) && !lacks_feature(device, kind)));
+        && (!moved || ((device->status & FEATURES_OK) && !lacks_feature(device, kind)));
 }
 
 /* Whether calls lead to this device, with this buffer of statistics held. */

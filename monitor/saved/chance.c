@@ -58,6 +58,22 @@ static void any_request(uint32_t kind)
     }
 }
 
+/* Where the driver's rings are, or one of its addresses away; at the index that it published, or at any. */
+static VbQueueStart any_start(uint32_t kind)
+{
+    uint16_t next = chance(4) ? guest.published[kind] : (uint16_t)chance(65536);
+    return (VbQueueStart){ table_of(kind) + 8 * (chance(8) == 0), avail_of(kind), used_of(kind), 64, next };
+}
+
+static void any_stop(uint32_t kind)
+{
+    uint16_t next;
+    if (chance(8) == 0)
+        balloon_forget_held(&guest.balloon);
+    else if (balloon_stop_queue(&guest.balloon, kind, &next) == VB_OK && chance(4))
+        balloon_start_queue(&guest.balloon, kind, (VbQueueStart){ table_of(kind), avail_of(kind), used_of(kind), 64, next });
+}
+
 /* One call of a driver, or of a host, by chance. */
 static void any_step(void)
 {
@@ -66,7 +82,7 @@ static void any_step(void)
     struct balloon *balloon = &guest.balloon;
     struct balloon_result result;
     uint32_t kind = chance(4);
-    switch (chance(11)) {
+    switch (chance(13)) {
     case 0: balloon_write_status(balloon, statuses[chance(5) * (chance(4) > 0) + chance(2) * chance(8)], &result); break;
     case 1: balloon_write_status(balloon, (uint8_t)(balloon->state.device.status | 1u << chance(8)), &result); break;
     case 2: balloon_negotiate(balloon, features[chance(8)]); break;
@@ -77,6 +93,8 @@ static void any_step(void)
     case 7: balloon_notify(balloon, kind); break;
     case 8: balloon_ask_statistics(balloon); break;
     case 9: balloon_write_config(balloon, 4 * chance(5), (const uint8_t[]){ (uint8_t)chance(3), 0, 0, 0 }, 4); break;
+    case 10: balloon_start_queue(balloon, kind, any_start(kind)); break;
+    case 11: any_stop(kind); break;
     default: vb_use(&balloon->state.device, kind, chance(70)); break;
     }
 }

@@ -14,7 +14,7 @@ static void a_device_moves(void)
     make_memory(&other, 0);
     EXPECT(balloon_init(&other.balloon, other.regions, 2, REFUSES) == VB_OK);
     memcpy(other.regions[0].host, guest.regions[0].host, LOW_MIB * MIB);
-    memcpy(&other.balloon.state, &guest.balloon.state, sizeof other.balloon.state);
+    other.balloon.state = guest.balloon.state;
     other.size = guest.size;
     memcpy(other.published, guest.published, sizeof other.published);
     name_pages(&other, VB_DEFLATE, pages, 1);

@@ -12,6 +12,7 @@ mod PhaseFacts
 mod RefusalFacts
 mod RegisterFacts
 mod LeftFacts
+mod QueueFacts
 mod HandingFacts
 mod BeginFacts
 mod ServingFacts

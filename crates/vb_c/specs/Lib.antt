@@ -8,4 +8,5 @@ pub mod Saving
 pub mod Notices
 pub mod Serving
 pub mod Places
+pub mod Queues
 pub mod Served

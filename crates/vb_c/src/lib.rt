@@ -9,6 +9,7 @@ mod marks;
 mod notice;
 mod phases;
 mod places;
+mod queues;
 mod registers;
 mod requests;
 mod saving;

@@ -73,13 +73,20 @@ pub extern "C" fn vb_negotiate(device: &mut Device, features: u64) -> u32
     number_in(device.negotiate(features))
 }
 
+/// The kind of the queue of this number, with these features.
+#[unsafe(no_mangle)]
+pub extern "C" fn vb_kind_of(features: u64, number: u32) -> u32
+    ensures { result ≡ code_of_kind (kind_of features number) }
+{
+    code_of_kind(Kind::of_number(Features::from_bits_retain(features), number))
+}
+
 /// The kind of the queue of this number.
 #[unsafe(no_mangle)]
 pub extern "C" fn vb_kind(device: &Device, number: u32) -> u32
     ensures { result ≡ code_of_kind (kind_of device.now.features number) }
 {
-    let features = Features::from_bits_retain(device.features);
-    code_of_kind(Kind::of_number(features, number))
+    vb_kind_of(device.features, number)
 }
 
 /// Gives a queue its place.

@@ -18,6 +18,7 @@ mod NextFacts
 mod NameFacts
 mod FitFacts
 mod ConfigFacts
+mod StartFacts
 mod RunFacts
 mod SavedFacts
 mod DenialFacts

@@ -102,14 +102,14 @@ moved : map has_moved (no_ring ∷ ring 0 ∷ ring 5 ∷ record (ring 0) { next_
     ≡ false ∷ false ∷ true ∷ true ∷ []
 moved = refl
 
--- queues of inflates: at any step, and moved only once the driver is done
+-- queues of inflates: at any step, and moved only once features are agreed on
 inflates : map (is_ring Inflate) (at_step 0 0 ∷ record (at_step 0 0) { inflate = ring 0 }
-    ∷ record (at_step 11 0x100000001) { inflate = ring 0 }
-    ∷ record (at_step 15 0x100000001) { inflate = ring 5 } ∷ []) ≡ true ∷ true ∷ true ∷ true ∷ []
+    ∷ record (at_step 11 0x100000001) { inflate = ring 0 } ∷ record (at_step 11 0x100000001) { inflate = ring 5 }
+    ∷ record (at_step 15 0x100000001) { inflate = ring 5 } ∷ []) ≡ true ∷ true ∷ true ∷ true ∷ true ∷ []
 unfolding lib.Count.ones
 inflates = refl
 
-not_inflates : map (is_ring Inflate) (record (at_step 11 0x100000001) { inflate = ring 5 }
+not_inflates : map (is_ring Inflate) (record (at_step 3 0x100000001) { inflate = ring 5 }
     ∷ record (at_step 15 0x100000001) { inflate = record (ring 0) { table = 0x10008 } }
     ∷ record (at_step 15 0x100000001) { inflate = record (ring 0) { size = 63 } }
     ∷ record (at_step 15 0x100000001) { inflate = record (ring 0) { used = 0xffffe0 } }
@@ -126,11 +126,12 @@ unfolding lib.Count.ones
 statistics = refl
 
 not_statistics : is_ring Statistics (record (at_step 1 0) { statistics = ring 0 })
+    ∷ is_ring Statistics (record (at_step 11 0x100000001) { statistics = ring 5 })
     ∷ is_ring Statistics (record (at_step 15 0x100000001) { statistics = ring 5 }) ∷ is_ring Report
     (record (at_step 15 0x100000001) {
       report = ring 0;
       settings = record settings { offered = 0x100000003 };
-    }) ∷ [] ≡ false ∷ false ∷ false ∷ []
+    }) ∷ [] ≡ false ∷ false ∷ false ∷ false ∷ []
 unfolding lib.Count.ones
 not_statistics = refl
 

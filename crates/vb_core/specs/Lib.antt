@@ -3,6 +3,7 @@ pub mod Settings
 pub mod Rings
 pub mod Kinds
 pub mod Devices
+pub mod Starting
 pub mod Next
 pub mod Using
 pub mod Statuses

@@ -51,7 +51,7 @@ is_blank r =
     (r.table == 0) && (r.avail == 0) && (r.used == 0) && (r.size == 0) && (r.next_avail == 0)
     && (r.next_used == 0)
 
--- a chain was taken, or given back
+-- a chain was taken, or given back, or the queue started at another index than 0
 abbrev pub has_moved : Virtqueue → Bool
 has_moved r = not (r.next_avail == 0) || not (r.next_used == 0)
 
@@ -59,15 +59,15 @@ has_moved r = not (r.next_avail == 0) || not (r.next_used == 0)
 abbrev pub offered_so_far : Device → ℕ
 offered_so_far d = if contains d.status driver then d.settings.offered else 0
 
--- The queue has no place; or it has one, which its features allowed once, and chains were taken and
--- given back only once the driver was done, and with the features that it has then.
+-- The queue has no place; or it has one, which its features allowed once, and it has moved only
+-- once features were agreed on (VIRTIO 1.1, 3.1.1), and with those.
 abbrev pub is_ring : Kind → Device → Bool
 is_ring kind d =
     is_blank (ring_of kind d)
     || has_place d.settings.memory_end (ring_of kind d)
     && not (lacks_feature (offered_so_far d) (queue_of kind))
     && (not (has_moved (ring_of kind d))
-    || contains d.status driver_ok && not (lacks_feature d.features (queue_of kind)))
+    || contains d.status features_ok && not (lacks_feature d.features (queue_of kind)))
 
 -- The head of a statistics buffer that was taken is one of its queue's.
 abbrev pub is_held : Saved → Bool

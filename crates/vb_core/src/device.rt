@@ -118,7 +118,7 @@ impl Device {
     }
 
     /// Whether the features that were negotiated leave a kind's queue out.
-    fn lacks(&self, kind: Kind) -> bool
+    pub(crate) fn lacks(&self, kind: Kind) -> bool
         ensures { result ≡ lacks_feature self.now.features (queue_of kind) }
     {
         lacks_feature(kind.queue(), Features::from_bits_retain(self.features))

@@ -47,7 +47,7 @@ impl Virtqueue {
             && self.next_used == 0
     }
 
-    /// Whether a chain was taken, or given back.
+    /// Whether a chain was taken, or given back, or the queue started at another index than 0.
     fn has_moved(&self) -> bool
         ensures { result ≡ has_moved self.now }
     {
@@ -94,7 +94,7 @@ impl Device {
         let queue = kind.queue();
         let lacked = lacks_feature(queue, Features::from_bits_retain(self.offered_so_far()));
         let lacks = lacks_feature(queue, Features::from_bits_retain(self.features));
-        let may_move = self.has(Status::DRIVER_OK) && !lacks;
+        let may_move = self.has(Status::FEATURES_OK) && !lacks;
         let placed = ring.has_place(self.settings.memory_end) && !lacked;
         ring.is_blank() || placed && (!ring.has_moved() || may_move)
     }

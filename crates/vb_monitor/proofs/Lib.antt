@@ -25,6 +25,7 @@ mod PlaceFacts
 mod LieFacts
 mod BalloonFacts
 mod RestoreFacts
+mod StartFacts
 pub mod TurnEnds
 pub mod TurnLemmas
 pub mod NamedLemmas

@@ -12,7 +12,7 @@ use Rattle.vb_monitor.proofs.{PlaceLemmas.same_page, Samples.{Same, two, ring, s
 in_page : (b a : ℕ) → b / 4096 ≡ a / 4096 → is_memory two a ≡ true → is_memory two b ≡ true
 in_page b a e there = same_page two b a e ∙ there
 
-in_low_pages : HasMemory two ring
+pub in_low_pages : HasMemory two ring
 in_low_pages = record {
   table = λ b from to. in_page b 0 (omega (arith, to)) refl;
   avail = λ b from to. in_page b 0x100 (omega (arith, from, to)) refl;

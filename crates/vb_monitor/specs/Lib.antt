@@ -15,6 +15,7 @@ pub mod Touched
 pub mod Balloons
 pub mod Order
 pub mod Places
+pub mod Queues
 pub mod Counts
 pub mod SoFar
 pub mod Turns

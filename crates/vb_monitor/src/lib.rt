@@ -20,6 +20,7 @@ mod outcome;
 mod parts;
 mod pieces;
 mod placing;
+mod queues;
 mod regions;
 mod room;
 mod rows;

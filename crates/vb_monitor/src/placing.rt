@@ -81,7 +81,7 @@ fn has_memory(regions: &[Region], ring: &Virtqueue) -> bool
 }
 
 /// Whether a queue has no place, or one that is memory.
-fn lies(regions: &[Region], ring: &Virtqueue) -> bool
+pub(crate) fn lies(regions: &[Region], ring: &Virtqueue) -> bool
     ensures yes { result ≡ true → Lies regions.now ring.now }
     ensures no { result ≡ false → ¬ Lies regions.now ring.now }
 {

@@ -3,7 +3,7 @@
 use crate::obey::{Hands, LiveMemory, Monitor};
 use crate::settings::{features, refusal, Denied, Kind, Refusal, Settings};
 use crate::state::{state_error, State, StateError};
-use crate::{raw, Served, PAGE};
+use crate::{raw, QueueStart, Served, PAGE};
 
 /// A balloon device. Guests may write to their memory during any call.
 pub struct Balloon {
@@ -202,6 +202,40 @@ impl Balloon {
             raw::OK => Ok(()),
             code => Err(refusal(code, 0)),
         }
+    }
+
+    /// Starts a queue at an index, in place of what it was before, from FEATURES_OK on: the chains before the index were given
+    /// back, and none is taken. With the queue of statistics, the held buffer is forgotten.
+    ///
+    /// # Errors
+    /// As vb_start_queue; nothing is changed.
+    pub fn start_queue(&mut self, memory: &dyn LiveMemory, kind: Kind, at: QueueStart) -> Result<(), Refusal> {
+        let (state, regions) = self.look_at(memory);
+        // SAFETY: the pointers are of a `&mut` and of a slice with its length.
+        match unsafe { raw::vb_start_queue(state, regions.as_ptr(), regions.len(), kind as u32, at) } {
+            raw::OK => Ok(()),
+            code => Err(refusal(code, 0)),
+        }
+    }
+
+    /// Stops a queue, at any status, which has no place any longer: the index at which it was, where a chain that was taken and
+    /// not given back stands. With the queue of statistics, the held buffer is forgotten.
+    ///
+    /// # Errors
+    /// `Misplaced` where it has no place; nothing is changed.
+    pub fn stop_queue(&mut self, kind: Kind) -> Result<u16, Refusal> {
+        let mut next = 0;
+        // SAFETY: the pointers are of two `&mut`.
+        match unsafe { raw::vb_stop_queue(&mut self.state.0, kind as u32, &mut next) } {
+            raw::OK => Ok(next),
+            code => Err(refusal(code, 0)),
+        }
+    }
+
+    /// Forgets the buffer of statistics that is held, which isn't given back; whether one was.
+    pub fn forget_held(&mut self) -> bool {
+        // SAFETY: the pointer is of a `&mut`.
+        unsafe { raw::vb_forget_held(&mut self.state.0) == raw::OK }
     }
 
     /// The driver reads its configuration space.

@@ -13,7 +13,7 @@ mod state;
 
 pub use balloon::Balloon;
 pub use obey::{Cut, LiveMemory, Monitor, Run, Spot, Statistic, Unreachable};
-pub use raw::Region;
+pub use raw::{QueueStart, Region};
 pub use served::Served;
 pub use settings::{features, Denied, Kind, Refusal, Settings};
 pub use state::{State, StateError, STATE_BYTES};

@@ -49,6 +49,7 @@ extern "C" {
     pub fn vb_set_target(device: *mut Device, pages: u32);
     pub fn vb_negotiate(device: *mut Device, features: u64) -> u32;
     pub fn vb_kind(device: *const Device, number: u32) -> u32;
+    fn vb_kind_of(features: u64, number: u32) -> u32;
     pub fn vb_read_config(device: *const Device, offset: u32, out: *mut u8, length: usize);
     pub fn vb_write_config(device: *mut Device, offset: u32, bytes: *const u8, length: usize) -> u32;
     fn vb_large_pages(
@@ -76,6 +77,15 @@ extern "C" {
         used: u64,
         size: u16,
     ) -> u32;
+    pub fn vb_start_queue(
+        balloon: *mut Balloon,
+        regions: *const Region,
+        count: usize,
+        kind: u32,
+        at: QueueStart,
+    ) -> u32;
+    pub fn vb_stop_queue(balloon: *mut Balloon, kind: u32, next: *mut u16) -> u32;
+    pub fn vb_forget_held(balloon: *mut Balloon) -> u32;
     pub fn vb_restore_over(
         balloon: *mut Balloon,
         regions: *const Region,
@@ -118,6 +128,12 @@ impl Balloon {
         // SAFETY: the pointer is of a `&`.
         unsafe { vb_keeps_reports(&self.device) != 0 }
     }
+}
+
+/// The kind of the queue of this number, with these features.
+pub fn kind_of(features: u64, number: u32) -> u32 {
+    // SAFETY: it has no pointers.
+    unsafe { vb_kind_of(features, number) }
 }
 
 /// Puts the pages of runs into a set, or takes them out.

@@ -26,6 +26,11 @@ impl Kind {
     /// All of them.
     pub const ALL: [Kind; 4] = [Kind::Inflate, Kind::Deflate, Kind::Statistics, Kind::Report];
 
+    /// What the queue of this number is for, with these features: queues are numbered without gaps.
+    pub fn of_number(features: u64, number: u32) -> Option<Kind> {
+        Kind::of(raw::kind_of(features, number))
+    }
+
     /// The kind of this number of vb.h.
     pub(crate) fn of(number: u32) -> Option<Kind> {
         Kind::ALL.get(number as usize).copied()

@@ -9,7 +9,8 @@ mod memory;
 use memory::Memory;
 use std::io;
 use std::os::raw::{c_int, c_void};
-use vb_balloon::{Balloon, Cut, Denied, Kind, LiveMemory, Monitor, Refusal, Run, Served, Settings, State, StateError, Statistic};
+use vb_balloon::{Balloon, Cut, Denied, Kind, LiveMemory, Monitor, QueueStart, Refusal, Run, Served, Settings};
+use vb_balloon::{State, StateError, Statistic};
 
 const OK: u32 = 0;
 const NOTHING: u32 = 1;
@@ -247,6 +248,28 @@ pub unsafe extern "C" fn balloon_place(it: &mut Struct, kind: u32, table: u64, a
         None => NO_QUEUE,
         Some(&kind) => it.run(|balloon, memory, _| code_of(balloon.place(memory, kind, table, avail, used, size))),
     }
+}
+
+#[no_mangle]
+pub unsafe extern "C" fn balloon_start_queue(it: &mut Struct, kind: u32, at: QueueStart) -> u32 {
+    match Kind::ALL.get(kind as usize) {
+        None => NO_QUEUE,
+        Some(&kind) => it.run(|balloon, memory, _| code_of(balloon.start_queue(memory, kind, at))),
+    }
+}
+
+#[no_mangle]
+pub unsafe extern "C" fn balloon_stop_queue(it: &mut Struct, kind: u32, next: &mut u16) -> u32 {
+    *next = 0;
+    match Kind::ALL.get(kind as usize) {
+        None => NO_QUEUE,
+        Some(&kind) => code_of(it.run(|balloon, _, _| balloon.stop_queue(kind)).map(|index| *next = index)),
+    }
+}
+
+#[no_mangle]
+pub unsafe extern "C" fn balloon_forget_held(it: &mut Struct) -> u32 {
+    if it.run(|balloon, _, _| balloon.forget_held()) { OK } else { NOTHING }
 }
 
 #[no_mangle]

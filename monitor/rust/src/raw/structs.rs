@@ -28,6 +28,18 @@ pub struct Queue {
     pub next_used: u16,
 }
 
+/// Where a queue starts: guest addresses of its parts, how many descriptors it has, and how many of its chains were taken and
+/// given back until now, modulo 65,536.
+#[repr(C)]
+#[derive(Clone, Copy, Debug, Default, PartialEq, Eq)]
+pub struct QueueStart {
+    pub table: u64,
+    pub avail: u64,
+    pub used: u64,
+    pub size: u16,
+    pub next: u16,
+}
+
 #[repr(C)]
 #[derive(Clone, Copy, Default)]
 pub struct Device {
@@ -193,6 +205,7 @@ macro_rules! layout {
 
 layout!(Settings, 24, memory_end at 0, offered at 8, reserved_pages at 16, needs_must_tell at 20, skips_bad_pages at 21);
 layout!(Queue, 32, table at 0, avail at 8, used at 16, size at 24, next_avail at 26, next_used at 28);
+layout!(QueueStart, 32, table at 0, avail at 8, used at 16, size at 24, next at 26);
 layout!(Device, 176, settings.memory_end at 0, features at 24, target at 32, actual at 36, inflate.table at 40);
 layout!(Device, 176, deflate.table at 72, statistics.table at 104, report.table at 136, poison at 168, status at 172);
 layout!(Run, 8, first at 0, count at 4);

@@ -4,5 +4,6 @@ mod calls;
 mod failing;
 mod guest;
 mod memory;
+mod queues;
 mod scribbles;
 mod states;
