@@ -8,7 +8,7 @@ use Rattle.vb_lender.specs.Loans.{arrived, granted, may_give, may_reset, resetti
 use Rattle.vb_lender.specs.Lending.{Lending, AreSound, IsOrdinary, NeverLowers, asked_at, comes_at}
 use Rattle.vb_lender.specs.Lending.{each_at, happens, has_turn, is_first, last_turn, lent_at}
 use Rattle.vb_lender.specs.Lending.{may_grant, next_turn, rank, rank_at, owed, run, test_at, turn_at, value_at}
-use Rattle.vb_lender.specs.Line.{GrantsNext, IsAfter, IsFirst, IsInFirstLine, KeepsOut}
+use Rattle.vb_lender.specs.Line.{FirstBelow, GrantsNext, IsAfter, IsFirst, IsInFirstLine, KeepsOut}
 
 -- a guest of 60 pages: how many are lent to it, what it asks for and its turn
 abbrev loan : ℕ → ℕ → ℕ → Loan
@@ -173,3 +173,27 @@ keeps_out = (tt, λ e. absurd (omega (arith, e)), tt, λ e. absurd (omega (arith
 
 keeps_out_not : (KeepsOut 1 (Arrives 1 60 First) → ⊥) × (KeepsOut 1 (Asks 1 1) → ⊥) × (KeepsOut 1 (Resets 1) → ⊥)
 keeps_out_not = (λ k. k refl, λ k. k refl, λ k. k refl)
+
+-- ---- the first that waits of those below a number
+
+below : FirstBelow line 0 None × FirstBelow line 2 (Some 0) × FirstBelow line 3 (Some 2)
+below = ((λ k l. absurd (omega (arith, l))), (omega arith, omega arith, first_two), (omega arith, omega arith, all_three)) where
+  first_two : (k : ℕ) → k < 2 → 0 < asked_at line k → 7 ≤ rank_at line k
+  first_two zero l w = omega arith
+  first_two (suc zero) l w = absurd (omega (arith, w))
+  first_two (suc (suc k)) l w = absurd (omega (arith, l))
+
+  all_three : (k : ℕ) → k < 3 → 0 < asked_at line k → 4 ≤ rank_at line k
+  all_three zero l w = omega arith
+  all_three (suc zero) l w = absurd (omega (arith, w))
+  all_three (suc (suc zero)) l w = omega arith
+  all_three (suc (suc (suc k))) l w = absurd (omega (arith, l))
+
+below_not : (FirstBelow line 3 None → ⊥) × (FirstBelow line 3 (Some 0) → ⊥) × (FirstBelow line 2 (Some 2) → ⊥)
+    × (FirstBelow line 3 (Some 1) → ⊥)
+below_not = (
+  λ f. let e : asked_at line 0 ≡ 0 = f 0 (omega arith) in omega (arith, e),
+  λ f. let e : 7 ≤ 4 = f.2 2 (omega arith) (omega arith) in absurd (omega arith),
+  λ f. let e : 2 < 2 = f.0 in absurd (omega arith),
+  λ f. let e : 0 < 0 = f.1 in absurd (omega arith),
+)
