@@ -71,4 +71,5 @@ pub mod StillFound
 pub mod StillAnswers
 pub mod StillLaws
 pub mod StillReports
+mod StillReadFacts
 mod StillFacts
