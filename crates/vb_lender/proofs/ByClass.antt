@@ -1,5 +1,5 @@
 -- Targets of the class in which what is missing runs out, with all that lower ones give, are targets by class.
-use Rattle.std.proofs.Common.{◌≡◌, ◌≢◌, ◌⊎◌, inl, inr, ℕ, zero, suc, ◌+◌, ◌-◌, ◌<◌, ◌≤◌, min, if◌then◌else◌, Bool, true, false, nat_lt, ◌==◌, List, [], ◌∷◌, length, map, sum, sum_by, slice_index, refl, ap, sym, subst, Result, ◌∙◌, arith}
+use Rattle.std.proofs.Common.{◌≡◌, ◌⊎◌, inl, inr, ℕ, zero, suc, ◌+◌, ◌-◌, ◌<◌, ◌≤◌, min, if◌then◌else◌, Bool, true, false, nat_lt, ◌==◌, List, [], ◌∷◌, length, map, sum, sum_by, slice_index, refl, ap, sym, subst, Result, ◌∙◌, arith}
 use Rattle.std.proofs.lemmas.Bool.{cases_lt, cases_order}
 use Rattle.std.proofs.lemmas.Bool.Decides.{nat_tests}
 use Rattle.std.proofs.lemmas.List.Sums.{sum_by-cons}

@@ -1,7 +1,6 @@
 -- Worked facts of what guests are asked to give by class.
-use Rattle.std.proofs.Common.{◌≡◌, ◌⊎◌, inl, inr, ℕ, zero, suc, ◌+◌, ◌-◌, ◌<◌, ◌≤◌, ◌^◌, Bool, true, false, List, [], ◌∷◌, map, sum_by, slice_index, length, Result, Ok, Err, refl, ap, arith}
-use Rattle.std.specs.List.{AllByRecursion}
-use Rattle.vb_model.specs.Balance.{Need, AreTargets, spare_at}
+use Rattle.std.proofs.Common.{◌≡◌, inl, inr, ℕ, zero, suc, ◌-◌, ◌<◌, ◌≤◌, false, List, [], ◌∷◌, map, slice_index, Result, Ok, Err, refl, ap, arith}
+use Rattle.vb_model.specs.Balance.{spare_at}
 use Rattle.vb_balance.specs.declared.need.NoTargets.{NoTargets}
 use Rattle.vb_balance.specs.declared.need.NoTargets.TheVariants.{Short}
 use Rattle.vb_lender.specs.declared.loan.Loan.{Loan}

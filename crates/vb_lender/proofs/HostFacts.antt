@@ -1,13 +1,11 @@
 -- Worked facts of what happens to a host, and of which events the promises speak of.
-use Rattle.std.proofs.Common.{◌≡◌, ◌≢◌, ℕ, zero, suc, ◌≤◌, Bool, true, false, List, [], ◌∷◌, refl, arith}
-use Rattle.std.specs.Prelude.{⊤}
+use Rattle.std.proofs.Common.{◌≡◌, ◌≢◌, ℕ, zero, suc, ◌≤◌, true, false, [], ◌∷◌, refl, arith}
 use Rattle.std.specs.List.{AllByRecursion}
-use Rattle.vb_lender.specs.declared.event.Event.{Event}
 use Rattle.vb_lender.specs.declared.event.Event.TheVariants.{Arrives, Leaves, Gives, Asks, Resets, Grants}
 use Rattle.vb_lender.specs.declared.event.Event.TheVariants.{Takes, Uncounts, Recounts, Figures, Budget}
 use Rattle.vb_lender.specs.declared.loan.Loan.{Loan}
 use Rattle.vb_lender.specs.declared.loan.WaitingLine.TheVariants.{First}
-use Rattle.vb_lender.specs.Loans.{vacant, IsSound}
+use Rattle.vb_lender.specs.Loans.{vacant}
 use Rattle.vb_lender.specs.Lending.{Lending, AreSound, IsOrdinary, NeverLowers, happens, run}
 use Rattle.vb_lender.specs.Line.{AreApart, KeepsAsk, KeepsCount, IsOfLoans}
 

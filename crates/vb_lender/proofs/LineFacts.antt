@@ -1,13 +1,12 @@
 -- Worked facts of a line of guests, of grants, and of what happens to a host.
 use Rattle.std.proofs.Common.{◌≡◌, ◌⊎◌, inl, inr, ℕ, zero, suc, ◌+◌, ◌<◌, ◌≤◌, true, false, List, [], ◌∷◌, Some, None, refl, ap, subst, arith}
-use Rattle.std.specs.List.{AllByRecursion}
-use Rattle.vb_lender.specs.declared.event.Event.TheVariants.{Arrives, Leaves, Gives, Asks, Resets, Grants, Takes, Uncounts, Recounts, Figures, Budget}
+use Rattle.vb_lender.specs.declared.event.Event.TheVariants.{Arrives, Asks, Resets, Grants}
 use Rattle.vb_lender.specs.declared.loan.Loan.{Loan}
 use Rattle.vb_lender.specs.declared.loan.WaitingLine.TheVariants.{First, Second}
 use Rattle.vb_lender.specs.Loans.{arrived, granted, may_give, may_reset, resetting, uncounted, vacant}
-use Rattle.vb_lender.specs.Lending.{Lending, AreSound, IsOrdinary, NeverLowers, asked_at, comes_at}
+use Rattle.vb_lender.specs.Lending.{Lending, asked_at, comes_at}
 use Rattle.vb_lender.specs.Lending.{each_at, happens, has_turn, is_first, last_turn, lent_at}
-use Rattle.vb_lender.specs.Lending.{may_grant, next_turn, rank, rank_at, owed, run, test_at, turn_at, value_at}
+use Rattle.vb_lender.specs.Lending.{may_grant, next_turn, rank, rank_at, owed, test_at, turn_at}
 use Rattle.vb_lender.specs.Line.{FirstBelow, GrantsNext, IsAfter, IsFirst, IsInFirstLine, KeepsOut}
 
 -- a guest of 60 pages: how many are lent to it, what it asks for and its turn
