@@ -4,13 +4,16 @@
 #![tactic(auto)]
 
 mod answers;
+mod bits;
 mod chains;
+mod kinds;
 mod marks;
 mod notice;
 mod phases;
 mod places;
 mod registers;
 mod requests;
+mod rules;
 mod saving;
 mod serving;
 mod sharing;
