@@ -16,7 +16,7 @@ static uint32_t broken_rule(const VbDevice *device, uint16_t size, const Descrip
     if (it->flags & 4)
         return INDIRECT;
     if (it->address > end || it->length > end - it->address)
-        return OUT_OF_MEMORY;
+        return OUT_OF_RAM;
     if (writing && !(it->flags & 2))
         return WRONG_DIRECTION;
     if ((it->flags & 1) && it->next >= size)

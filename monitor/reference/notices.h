@@ -68,7 +68,7 @@ static uint32_t look(const Call *call)
     if (code != VB_OK)
         return end(call, code);
     if (!find_spot(call, call->queue->avail + 2, 2, &call->notice->at))
-        return fail(call, OUT_OF_MEMORY);
+        return fail(call, OUT_OF_RAM);
     return wait_for(call, AT_INDEX, VB_READ);
 }
 
@@ -87,7 +87,7 @@ static uint32_t next_chain(const Call *call)
     }
     notice->chains_left--;
     if (!find_spot(call, call->queue->avail + 4 + 2 * (call->queue->next_avail % call->queue->size), 2, &notice->at))
-        return fail(call, OUT_OF_MEMORY);
+        return fail(call, OUT_OF_RAM);
     return wait_for(call, AT_ENTRY, VB_ACQUIRE);
 }
 
@@ -109,7 +109,7 @@ static uint32_t ask_row(const Call *call, uint16_t number)
     if (!find_spot(call, address, SIXTEEN * (uint64_t)many, &notice->at)) {
         many = 1;
         if (!find_spot(call, address, SIXTEEN, &notice->at))
-            return fail(call, OUT_OF_MEMORY);
+            return fail(call, OUT_OF_RAM);
     }
     notice->length = SIXTEEN * many;
     notice->into = 0;
@@ -146,7 +146,7 @@ static uint32_t ask_part(const Call *call)
         if (notice->from > VB_MAX_BYTES || length > VB_MAX_BYTES - notice->from)
             return fail(call, BAD_LENGTH);
         if (!find_spot(call, piece.address + (notice->flag ? first : 0), length, &notice->at))
-            return fail(call, OUT_OF_MEMORY);
+            return fail(call, OUT_OF_RAM);
         notice->length = length;
         notice->into = (uint32_t)notice->from;
         return wait_for(call, AT_PART, VB_COPY);

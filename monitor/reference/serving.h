@@ -10,7 +10,7 @@ static uint32_t give_back(const Call *call)
         return end(call, used.code);
     if (!find_spot(call, used.element_at, 4, &notice->id_at) || !find_spot(call, used.element_at + 4, 4, &notice->length_at)
         || !find_spot(call, used.index_at, 2, &notice->index_at))
-        return fail(call, OUT_OF_MEMORY);
+        return fail(call, OUT_OF_RAM);
     notice->id = used.id;
     notice->used_length = used.length;
     notice->used_index = used.index;
