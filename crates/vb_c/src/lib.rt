@@ -4,7 +4,9 @@
 #![tactic(auto)]
 
 mod answers;
+mod bits;
 mod chains;
+mod kinds;
 mod marks;
 mod notice;
 mod phases;
@@ -12,6 +14,7 @@ mod places;
 mod queues;
 mod registers;
 mod requests;
+mod rules;
 mod saving;
 mod serving;
 mod sharing;
