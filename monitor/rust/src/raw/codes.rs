@@ -6,7 +6,7 @@ pub const OK: u32 = 0;
 pub const NOTHING: u32 = 1;
 /// The guest's bytes break a rule (`rule`); DEVICE_NEEDS_RESET is set now.
 pub const BROKEN: u32 = 2;
-/// DRIVER_OK isn't set (vb_start_queue: FEATURES_OK isn't), or FAILED is
+/// DRIVER_OK isn't set (vb_start_queue: FEATURES_OK isn't), or FAILED is.
 pub const NOT_READY: u32 = 3;
 /// A rule was broken before.
 pub const NEEDS_RESET: u32 = 4;
