@@ -76,7 +76,7 @@ static bool answer(struct backend *backend, uint64_t value)
 /* The guest's memory has changed; it is one table, and a file for each entry. */
 static bool sync_memory(struct backend *backend, const struct body *body, struct files *files)
 {
-    struct region_place places[TABLE_ENTRIES];
+    struct region_place places[TABLE_ENTRIES] = {0};
     unsigned count = files->count;
     for (unsigned i = 0; i < count; i++)
         places[i] = (struct region_place){

@@ -143,9 +143,12 @@ class Registers(unittest.TestCase):
         client.write(DEVICE + 4, 0x05060708)
         for at, length, value in ((0, 1, 4), (1, 2, 0x0203), (3, 4, 0x06070801), (0, 8, 0x0506070801020304), (4, 4, 0x05060708), (8, 8, 0)):
             self.assertEqual(client.read(DEVICE + at, length), value, (at, length))
-        for at, length in ((0, 4), (4, 2), (3, 4), (4, 8), (8, 4), (12, 4)):
+        for at, length in ((0, 4), (4, 2), (3, 4), (8, 4), (12, 4)):
             client.write(DEVICE + at, 9, length)
             self.assertEqual(client.read(DEVICE, 8), 0x0506070801020304, (at, length))
+        for at, value, actual in ((4, 9, 9), (0, 0x0708090a00000005, 0x0708090a)):  # covered whole, beside what isn't written
+            client.write(DEVICE + at, value, 8)
+            self.assertEqual(client.read(DEVICE, 8), actual << 32 | 0x01020304, (at, value))
 
     def test_interrupts(self):
         client = self.client

@@ -1,9 +1,8 @@
 """Requests of a run on threads that are refused, and its threads, for tools/refuse-memory: by the program and by its tests."""
 
-import itertools
 import sys
 
-from refuse_program import WANT
+from refuse_program import WANT, Run
 from refuse_scripts import GUESTS
 
 # What the test of want of memory says that a run left.
@@ -28,6 +27,14 @@ def is_whole(run):
     return run.status == 0 and not run.errors and said == guests and run.replies[-1:] == ["disjoint"]
 
 
+def count_wrong(what, runs, is_right):
+    """Names each of these runs that was answered wrongly, by its number from 1 on and what it said; returns how many."""
+    wrong = [(number, run) for number, run in enumerate(runs, 1) if not is_right(run)]
+    for number, run in wrong:
+        print(f"WRONG: {what} {number}: status {run.status}: {run.errors.strip()}")
+    return len(wrong)
+
+
 def walk_threads(proved):
     """Refuses each request of a run on threads, and each thread; returns how many were answered wrongly."""
     lines, words = threads_script(), ("threads",)
@@ -47,7 +54,8 @@ def walk_threads(proved):
     unmade = [proved.run(lines, words=words, thread=it) for it in range(1, THREADS + 1)]
     ended = sum(it.is_refused_at_first() for it in unmade)
     print(f"| {ended} threads | status 3, `run: memory` |")
-    return len(runs) - short - answered - unasked + THREADS - ended
+    wrong = count_wrong("request", [it for _, it in runs], lambda it: it.is_refused_at_first() or is_whole(it))
+    return wrong + count_wrong("thread", unmade, Run.is_refused_at_first)
 
 
 def what_is_left(run):
@@ -72,7 +80,5 @@ def walk_tests(proved):
     print(f"| {left.count(REPORT)} requests, or none | a report, whose histories replay, and no frame is out |")
     print(f"| {left.count(NO_RUN)} requests | they are the test's own, beside the run |")
     print(f"| {ended} threads | `Memory`, and no frame is out |")
-    for what, run in [*zip(itertools.count(1), runs), *((f"thread {it + 1}", run) for it, run in enumerate(unmade))]:
-        if what_is_left(run) is None:
-            print(f"WRONG: {what}: {run.errors.strip()}")
-    return left.count(None) + THREADS - ended
+    wrong = count_wrong("request of the test", runs, what_is_left)
+    return wrong + count_wrong("thread of the test", unmade, lambda it: what_is_left(it) == NO_REPORT)

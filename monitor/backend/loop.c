@@ -10,6 +10,7 @@ enum { BALLOON_FEATURES = 0x27, LOOK_EVERY = 1000, IDLE_EVERY = 50, POLL_EVERY =
 
 /* What is waited for, in this order: the client, the control pipe, the signals that end it, the queues' kicks. */
 enum { CLIENT, PIPE, END, KICKS, FILES = KICKS + QUEUES };
+_Static_assert((int)FILES <= (int)MOST_POLLED, "files of a backend");
 
 struct loop {
     struct backend *backend;

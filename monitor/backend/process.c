@@ -14,8 +14,8 @@
 #include <sys/signalfd.h>
 #include <unistd.h>
 
-/* The most files that may be waited for at once; milliseconds of a rest. */
-enum { MOST_POLLED = 512, REST = 100 };
+/* Milliseconds of a rest. */
+enum { REST = 100 };
 
 /* The signals that end the process. */
 static sigset_t ending(void)

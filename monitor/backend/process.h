@@ -19,8 +19,11 @@ void process_allow_files(unsigned wanted);
  * can't be one. */
 int process_end(void);
 
-/* As poll, for files of which some may be -1, whatever RLIMIT_NOFILE is. Where it can't wait, which is said, it comes back after
- * a while, and nothing has come. */
+/* The most files that poll_some waits for at once. */
+enum { MOST_POLLED = 512 };
+
+/* As poll, for at most MOST_POLLED files of which some may be -1, whatever RLIMIT_NOFILE is. Where it can't wait, which is said,
+ * it comes back after a while, and nothing has come. */
 int poll_some(struct pollfd *files, nfds_t count, int limit);
 
 /* The number that the kernel has of an open file by this name (/proc/self/fdinfo); -1 where it has none. */

@@ -60,6 +60,7 @@ static int obey(void *host, const char *line)
 
 /* What is waited for: the control pipe, the signals that end it, and of each seat its socket and the kicks of its queues. */
 enum { PIPE, END, SEATS, OF_SEAT = 1 + QUEUES, MOST_FILES_OF_ALL = SEATS + MOST_GUESTS * OF_SEAT };
+_Static_assert((int)MOST_FILES_OF_ALL <= (int)MOST_POLLED, "files of a host");
 
 /* The file on which a seat's client, or what it sends, comes; -1: none is looked at. */
 static int client_of(const struct seat *seat, bool rests)
