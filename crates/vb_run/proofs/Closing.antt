@@ -1,22 +1,21 @@
 -- From what the locks kept to the report.
-use Rattle.std.proofs.Common.{All, Bool, List, None, Some, [], ap, arith, false, length, map, refl}
-use Rattle.std.proofs.Common.{slice_get, subst, suc, sym, zero, ℕ, ◌<◌, ◌∙◌, ◌∷◌, ◌≡◌}
-use Rattle.std.{proofs.lemmas.{List.length-map, Option.slice_get_within}, specs.Prelude.{not, ◌&&◌}}
-use Rattle.{std.specs.Prelude.◌==◌, vb_ram.specs.declared.config.Config.Config as Sizes}
-use Rattle.vb_model.{proofs.Histories.history_is_safe, specs.{Guest.Guest, GuestRun.IsHistory}}
-use Rattle.vb_model.specs.declared.calls.{Actor.TheVariants.{Balancer, Processor}, Call.Call}
+use Rattle.std.proofs.Common.{All, Bool, List, None, Some, [], ap, arith, length, map, refl}
+use Rattle.std.proofs.Common.{slice_get, subst, suc, sym, true, zero, ℕ, ◌<◌, ◌∙◌, ◌∷◌, ◌≡◌, ◌↔◌}
+use Rattle.std.proofs.lemmas.{List.length-map, List.Folds.list_all-append}
+use Rattle.std.{proofs.lemmas.Option.slice_get_within, specs.List.list_all}
+use Rattle.{vb_model.proofs.Histories.history_is_safe, vb_ram.specs.declared.config.Config.{Config as Sizes}}
+use Rattle.vb_model.specs.{Guest.Guest, GuestRun.{Entry, IsHistory}}
+use Rattle.vb_model.specs.declared.calls.Actor.TheVariants.{Balancer, Processor}
+use Rattle.vb_model.specs.declared.{calls.Call.Call, replies.Reply.Reply}
 use Rattle.vb_run.proofs.{Lists.{some_same, take_whole}, Noted.{balancers, replied, scripts_alike}}
 use Rattle.vb_run.{proofs.Tended.served, specs.{Entries.{calls_by, entries_by}, Notes.history_of}}
-use Rattle.vb_run.specs.Past.{AllEnded, AreHushed, AreScripts, IsKept, Past, scripts_in}
-use Rattle.vb_run.specs.{Plans.config_of, Reports.{AreApart, IsGuestReport, IsReport, IsRound}}
-use Rattle.vb_run.specs.{Reports.{frames_behind, history_in}, Rounds.{Rounded, round_entries}}
-use Rattle.vb_run.specs.{Services.services, declared.plan.{GuestPlan.GuestPlan, Plan.Plan}}
+use Rattle.vb_run.specs.Past.{AllEnded, AreHushed, AreScripts, IsKept, IsSame, Past, scripts_in}
+use Rattle.vb_run.specs.{Plans.config_of, Services.services}
+use Rattle.vb_run.specs.Reports.{AreApart, IsGuestReport, IsPlanned, IsReport, IsRound}
+use Rattle.vb_run.specs.Reports.{frames_behind, history_in}
+use Rattle.vb_run.specs.Rounds.{Rounded, is_of_round, round_entries, target_entries}
+use Rattle.vb_run.specs.declared.{note.Note.Note, plan.{GuestPlan.GuestPlan, Plan.Plan}}
 use Rattle.vb_run.specs.declared.report.{GuestReport.GuestReport, Report.Report}
-
--- configurations that aren't told apart are the same
-pub same_config : (a b : Sizes) → not ((a.pages == b.pages) && ((a.queue_size == b.queue_size)
-    && (a.processors == b.processors))) ≡ false → a ≡ b
-same_config a b e = grind arith
 
 none_some : {Y : Type 0} (y : Y) → None ≡ Some y → ⊥
 none_some y h = cc
@@ -34,41 +33,94 @@ few_services n call at = slice_get_within services n call at
 
 pub closes : (Is : Guest → Type 0) (own : List ℕ) (p : Past) (floor guest : ℕ) (plan : GuestPlan)
     (paced : Bool) (rounds : List Rounded) (report : GuestReport) (k : IsKept Is own p)
-    → p.guest ≡ guest → p.sizes ≡ plan.config → p.paced ≡ paced → AreHushed p.quiet
-    → AreScripts p.scripts plan.scripts.items → AllEnded p.scripts
-    → entries_by Balancer (history_of guest [] report.history.items)
-    ≡ round_entries floor guest rounds
+    → IsPlanned floor guest plan paced rounds p → AreHushed p.quiet → AllEnded p.scripts
     → history_of p.guest (scripts_in p.scripts) report.history.items ≡ p.history
     → ((g : Guest) → Is g → report.frames.items ≡ frames_behind g)
     → IsGuestReport floor guest plan paced rounds report
-closes Is own p floor guest plan paced rounds report k is sizes pace quiet scripts ended balanced
-    noted frames =
+closes Is own p floor guest plan paced rounds report k of_plan quiet ended noted frames =
     let calls = map (λ v. v.items) plan.scripts.items in
     let history : history_in guest plan report ≡ p.history =
     ap (λ (l : List (List Call)). history_of guest l report.history.items)
-    (scripts_alike p.scripts plan.scripts.items scripts)
-    ∙ ap (λ (g : ℕ). history_of g (scripts_in p.scripts) report.history.items) (sym is) ∙ noted in
+    (scripts_alike p.scripts plan.scripts.items of_plan.scripts)
+    ∙ ap (λ (g : ℕ). history_of g (scripts_in p.scripts) report.history.items)
+    (sym of_plan.number) ∙ noted in
     let run : IsHistory (config_of plan.config paced) 0 (history_in guest plan report) k.now =
-    rw history (subst (λ (b : Bool). IsHistory (config_of plan.config b) 0 p.history k.now) pace
-    (subst (λ (s : Sizes). IsHistory (config_of s p.paced) 0 p.history k.now) sizes k.run)) in
+    rw history (subst (λ (b : Bool). IsHistory (config_of plan.config b) 0 p.history k.now)
+    of_plan.pace (subst (λ (s : Sizes). IsHistory (config_of s p.paced) 0 p.history k.now)
+    of_plan.sizes k.run)) in
     record {
       last = k.now;
       safe = history_is_safe (config_of plan.config paced) 0 (history_in guest plan report) k.now run;
-      made = rw (history, sym is, sym scripts.0) k.made;
+      made = rw (history, sym of_plan.number, sym of_plan.scripts.0) k.made;
       plays = λ cpu own here.
-          let s = there p.scripts plan.scripts.items cpu own scripts.0 here in (
+          let s = there p.scripts plan.scripts.items cpu own of_plan.scripts.0 here in (
             ap (calls_by (Processor guest cpu)) history
-                ∙ ap (λ (g : ℕ). calls_by (Processor g cpu) p.history) (sym is)
+                ∙ ap (λ (g : ℕ). calls_by (Processor g cpu) p.history) (sym of_plan.number)
                 ∙ k.follows cpu s.0 s.1
                 ∙ take_whole s.0.calls s.0.place (ended cpu s.0 s.1)
-                ∙ scripts.1 cpu s.0 own s.1 here,
+                ∙ of_plan.scripts.1 cpu s.0 own s.1 here,
             replied guest cpu calls report.history.items,
           );
-      balanced = balancers guest calls report.history.items ∙ balanced;
+      balanced = ap (entries_by Balancer) history ∙ of_plan.balanced;
       served = served k.now k.tended
           (λ n call at. k.hushed n call (quiet n (few_services n call at)) at);
       frames = frames k.now k.stands;
     }
+
+-- What is of a plan stays so where the guest is the same, and the balancer's entries are.
+pub still_planned : (floor guest : ℕ) (plan : GuestPlan) (paced : Bool) (rounds : List Rounded)
+    (old new : Past) → IsSame old new
+    → entries_by Balancer new.history ≡ entries_by Balancer old.history
+    → IsPlanned floor guest plan paced rounds old → IsPlanned floor guest plan paced rounds new
+still_planned floor guest plan paced rounds old new is balanced of_plan = record {
+  number = is.guest ∙ of_plan.number;
+  sizes = is.sizes ∙ of_plan.sizes;
+  pace = is.paced ∙ of_plan.pace;
+  scripts = rw is.scripts of_plan.scripts;
+  balanced = balanced ∙ of_plan.balanced;
+}
+
+-- ---- whether a history is planned: the entries of rounds are found where they are
+
+targets_pass : (guest : ℕ) (answer : Reply) → list_all is_of_round (target_entries guest answer) ≡ true
+targets_pass guest answer = grind arith
+
+rounds_pass : (floor guest : ℕ) (rounds : List Rounded)
+    → list_all is_of_round (round_entries floor guest rounds) ≡ true
+rounds_pass floor guest [] = refl
+rounds_pass floor guest (r ∷ rs) = grind (
+  arith,
+  list_all-append is_of_round (target_entries guest r.answer) (round_entries floor guest rs),
+  targets_pass guest r.answer,
+  rounds_pass floor guest rs,
+)
+
+pub is_planned : (made : Bool) (floor guest : ℕ) (plan : GuestPlan) (paced : Bool)
+    (rounds : List Rounded) (expected : List Entry) (scripts : List (List Call))
+    (notes : List Note) (p : Past)
+    → (p.guest ≡ guest) × (p.paced ≡ paced) × (p.sizes ≡ plan.config)
+    → AreScripts p.scripts plan.scripts.items → p.history ≡ history_of p.guest scripts notes
+    → expected ≡ round_entries floor guest rounds
+    → ((made ≡ true) ↔ ((entries_by Balancer (history_of guest [] notes) ≡ expected)
+    × (list_all is_of_round expected ≡ true)))
+    → (made ≡ true) ↔ IsPlanned floor guest plan paced rounds p
+is_planned made floor guest plan paced rounds expected scripts notes p (is, pace, sizes) of_plan
+    noted wanted has =
+    let own : entries_by Balancer p.history ≡ entries_by Balancer (history_of guest [] notes) =
+    ap (entries_by Balancer) noted ∙ balancers p.guest scripts notes
+    ∙ ap (λ (g : ℕ). entries_by Balancer (history_of g [] notes)) is in (
+      λ e. record {
+        number = is;
+        sizes = sizes;
+        pace = pace;
+        scripts = of_plan;
+        balanced = own ∙ (has.0 e).0 ∙ wanted;
+      },
+      λ planned. has.1 (
+        sym own ∙ planned.balanced ∙ sym wanted,
+        ap (list_all is_of_round) wanted ∙ rounds_pass floor guest rounds,
+      ),
+    )
 
 -- what stands at a place of a list that was mapped
 mapped_at : {X Y : Type 0} (f : X → Y) (xs : List X) (n : ℕ) (y : Y)

@@ -15,3 +15,4 @@ mod ServiceFacts
 mod ReportFacts
 mod MadeFacts
 mod PastFacts
+mod PlannedFacts

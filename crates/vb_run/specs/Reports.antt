@@ -12,6 +12,7 @@ use Rattle.vb_run.specs.declared.plan.Plan.{Plan}
 use Rattle.vb_run.specs.declared.plan.GuestPlan.{GuestPlan}
 use Rattle.vb_run.specs.declared.report.GuestReport.{GuestReport}
 use Rattle.vb_run.specs.declared.report.Report.{Report}
+use Rattle.vb_run.specs.Past.{Past, AreScripts}
 use Rattle.vb_run.specs.Plans.{config_of}
 use Rattle.vb_run.specs.Entries.{calls_by, replies_by, entries_by}
 use Rattle.vb_run.specs.Made.{AreMade}
@@ -35,6 +36,16 @@ Plays guest plan report =
     → (calls_by (Processor guest cpu) (history_in guest plan report) ≡ calls.items)
     × (replies_by (Processor guest cpu) (history_in guest plan report)
     ≡ replies_in cpu report.history.items)
+
+-- What a lock kept is of the guest of this number and plan, on a device that is, or isn't, paced,
+-- and the balancer's entries are those of these rounds.
+pub record IsPlanned (floor guest : ℕ) (plan : GuestPlan) (paced : Bool)
+    (rounds : List Rounded) (p : Past) : Type 0 where
+  pub number : p.guest ≡ guest
+  pub sizes : p.sizes ≡ plan.config
+  pub pace : p.paced ≡ paced
+  pub scripts : AreScripts p.scripts plan.scripts.items
+  pub balanced : entries_by Balancer p.history ≡ round_entries floor guest rounds
 
 -- of the guest that was plugged in at this place, on a device that is, or isn't, paced
 pub record IsGuestReport (floor guest : ℕ) (plan : GuestPlan) (paced : Bool)

@@ -1,7 +1,7 @@
 //! What a guest's lock keeps.
 
 ghost use Rattle.std.specs.Prelude.{◌≡◌, ◌<◌, ◌≤◌, ℕ, true, false, List, [], ◌∷◌, ◌++◌};
-ghost use Rattle.std.specs.Prelude.{slice_index_or, IfOk, OnOk, Some, IfSome, IfNone};
+ghost use Rattle.std.specs.Prelude.{◌↔◌, slice_index_or, IfOk, OnOk, Err, Some, IfSome, IfNone};
 ghost use Rattle.std.specs.Prelude.{MatchBool, MatchOption, slice_set};
 ghost use Rattle.vb_model.specs.declared.calls.Actor.TheVariants.{Balancer};
 ghost use Rattle.vb_model.specs.declared.calls.Call.TheVariants.{SetTarget};
@@ -13,14 +13,15 @@ ghost use Rattle.vb_model.specs.declared.replies.Reply.{Reply as AnyReply};
 ghost use Rattle.vb_run.specs.Past.{Past, IsKept, IsSame, AreBegun, AreHushed, HasEnded, Notes};
 ghost use Rattle.vb_run.specs.Past.{NotesNext, NotesService, just_started};
 ghost use Rattle.vb_run.specs.Plans.{config_of};
-ghost use Rattle.vb_run.specs.Reports.{IsGuestReport, frames_behind};
+ghost use Rattle.vb_run.specs.Entries.{entries_by};
+ghost use Rattle.vb_run.specs.Reports.{IsGuestReport, IsPlanned, frames_behind};
 ghost use Rattle.vb_run.specs.Services.{found_nothing};
 
 use crate::audit::{expected_of, has_made};
 use crate::note::{Caller, Note};
 use crate::plan::GuestPlan;
 use crate::report::{GuestReport, Stop};
-use crate::room::{claims_in, make_room};
+use crate::room::{claims_in, make_room, room_for};
 use crate::round::Round;
 use crate::script::{Script, all_ended, are_of};
 use crate::served::{SERVICES, found_nothing, service};
@@ -33,9 +34,6 @@ use vb_model::negotiation::OFFERED_FEATURES;
 use vb_model::{Call, Claim, Reply};
 use vb_ram::Config;
 use vb_slot::GuestSlot;
-
-/// Entries that have room however short the scripts are.
-const FEW_ENTRIES: usize = 64;
 
 /// A guest with its history, and the scripts of its processors.
 #[derive(Drop)]
@@ -81,24 +79,6 @@ impl<S: GuestSlot, L: AsSlice<Call> + Drop> Model for Kept<S, L> {
     }) };
 }
 
-/// How many calls the scripts have.
-fn count_calls<L: AsSlice<Call> + Drop>(scripts: &[Script<L>]) -> usize {
-    let mut count: usize = 0;
-    for script in scripts {
-        count = count.saturating_add(script.len());
-    }
-    count
-}
-
-/// How many entries have room from the start, where the scripts have so many calls: as many again
-/// for the worker and the balancer, since a history that grows is copied while its guest waits, and
-/// room that isn't used takes no memory.
-fn room_for(calls: usize) -> usize
-    ensures { 1 ≤ result }
-{
-    calls.saturating_mul(2).saturating_add(FEW_ENTRIES)
-}
-
 impl<S: GuestSlot, L: AsSlice<Call> + Drop> Kept<S, L> {
     /// Starts a guest that was just plugged in, on a device that is, or isn't, paced.
     pub fn start(
@@ -117,7 +97,7 @@ impl<S: GuestSlot, L: AsSlice<Call> + Drop> Kept<S, L> {
     {
         let mut slot = slot;
         let mut history = Vec::new(alloc);
-        history.reserve(room_for(count_calls(scripts.as_slice())))?;
+        history.reserve(room_for(scripts.as_slice()))?;
         let mut room = Vec::new(alloc);
         make_room(&mut room)?;
         let call = Call::Init {
@@ -264,6 +244,8 @@ impl<S: GuestSlot, L: AsSlice<Call> + Drop> Kept<S, L> {
     fn drain<R: Wait>(&mut self, rt: &R, alloc: Global) -> Result<(), AllocError>
         ensures same { IsSame self.old self.new }
         ensures quiet { OnOk result (AreHushed self.new.quiet) }
+        ensures balanced { OnOk result
+            (entries_by Balancer self.new.history ≡ entries_by Balancer self.old.history) }
     {
         for _ in rt.forever() {
             let Some(number) = self.next_service() else {
@@ -275,16 +257,39 @@ impl<S: GuestSlot, L: AsSlice<Call> + Drop> Kept<S, L> {
     }
 
     /// Whether it is the guest of this number and size, on a device of this pace.
-    #[tactic(auto, using(crate::proofs::Closing::same_config))]
     fn is_guest(&self, guest: u32, paced: bool, sizes: Config) -> bool
-        ensures guest { result ≡ true → self.now.guest ≡ guest }
-        ensures paced { result ≡ true → self.now.paced ≡ paced }
-        ensures sizes { result ≡ true → self.now.sizes ≡ sizes }
+        ensures { (result ≡ true) ↔ ((self.now.guest ≡ guest) × (self.now.paced ≡ paced)
+            × (self.now.sizes ≡ sizes)) }
     {
         self.guest == guest && self.paced == paced && self.sizes == sizes
     }
 
-    /// Ends the run of a guest: its report, if what its lock kept is the plan's and the rounds'.
+    /// Whether this is kept of the plan's guest, and the balancer's entries are those of these
+    /// rounds. Refused for want of memory alone.
+    fn is_planned(
+        &self,
+        alloc: Global,
+        guest: u32,
+        paced: bool,
+        plan: &GuestPlan,
+        floor: u32,
+        rounds: &[Round],
+    ) -> Result<bool, AllocError>
+        ensures { IfOk result (λ is. (is ≡ true)
+            ↔ IsPlanned floor guest plan.now paced rounds.now self.now) }
+    {
+        if !self.is_guest(guest, paced, plan.config) {
+            return Ok(false);
+        }
+        if !are_of(self.scripts.as_slice(), plan.scripts.as_slice()) {
+            return Ok(false);
+        }
+        let expected = expected_of(alloc, floor, guest, rounds)?;
+        Ok(has_made(guest, self.history.as_slice(), expected.as_slice()))
+    }
+
+    /// Ends the run of a guest: its report, if what its lock kept is the plan's and the rounds', or
+    /// else `Audit`. Where memory was refused, now or while threads ran, `Memory`.
     pub fn close<R: Wait>(
         self,
         rt: &R,
@@ -297,20 +302,15 @@ impl<S: GuestSlot, L: AsSlice<Call> + Drop> Kept<S, L> {
     ) -> Result<GuestReport, Stop>
         ensures report { IfOk result (IsGuestReport floor guest plan.now paced rounds.now) }
         ensures whole { IfOk result (λ _. self.short ≡ false) }
+        ensures audit { result ≡ Err Stop.Audit → (self.short ≡ false)
+            × (IsPlanned floor guest plan.now paced rounds.now self → ⊥) }
     {
         let mut kept = self;
         kept.drain(rt, alloc)?;
-        if !kept.is_guest(guest, paced, plan.config) {
-            return Err(Stop::Audit);
-        }
-        if !are_of(kept.scripts.as_slice(), plan.scripts.as_slice()) {
-            return Err(Stop::Audit);
-        }
         if kept.short || !all_ended(kept.scripts.as_slice()) {
             return Err(Stop::Memory);
         }
-        let expected = expected_of(alloc, floor, guest, rounds)?;
-        if !has_made(guest, kept.history.as_slice(), expected.as_slice()) {
+        if !kept.is_planned(alloc, guest, paced, plan, floor, rounds)? {
             return Err(Stop::Audit);
         }
         let frames = frames_of(alloc, &kept.slot)?;
