@@ -14,6 +14,7 @@ pub const NEEDS_RESET: u32 = 4;
 pub const NO_QUEUE: u32 = 5;
 pub const MISPLACED: u32 = 6;
 pub const BAD_ARGUMENT: u32 = 7;
+pub const SHORT: u32 = 8;
 pub const BAD_LENGTH: u32 = 9;
 pub const NOT_A_STATE: u32 = 10;
 pub const OTHER_VERSION: u32 = 11;
