@@ -48,10 +48,10 @@ VB_ASSERT(sizeof(VbTerms) == 8 && offsetof(VbTerms, priority) == 4);
 VB_ASSERT(sizeof(VbShare) == 12 && offsetof(VbShare, spare) == 4 && offsetof(VbShare, priority) == 8);
 
 /* What happens to a guest: VB_OK where it has its effect; VB_BAD_ARGUMENT where guest isn't below count, or it doesn't fit, as is
- * said of each, and then nothing is changed. No other guest's loan is changed. What comes to a line
- * doesn't fit either while a guest has the last turn, 2^64 - 1; turns begin anew once nobody waits. */
+ * said of each, and then nothing is changed. No other guest's loan is changed. What comes to a line doesn't fit either while a guest
+ * has the last turn, 2^64 - 1; turns begin anew once nobody waits. */
 
-/* A guest of so many pages comes: none has a frame, as if all were in its balloon, and it asks for all, in the line of this number.
+/* A guest of this many pages comes: none has a frame, as if all were in its balloon, and it asks for all, in the line of this number.
  * Doesn't fit: no pages, or a place that isn't vacant. */
 uint32_t vb_loan_arrive(VbLoan *loans, size_t count, size_t guest, uint32_t pages, uint16_t line);
 /* A guest has gone, and its memory with it: nothing is lent to it, and its place is vacant. */
@@ -59,7 +59,7 @@ uint32_t vb_loan_leave(VbLoan *loans, size_t count, size_t guest);
 /* Pages joined its balloon and lost their frames: ballooned + pages, lent - pages. Doesn't fit: its balloon doesn't count, fewer are
  * lent to it, or more would be in its balloon than it has. */
 uint32_t vb_loan_give(VbLoan *loans, size_t count, size_t guest, uint32_t pages);
-/* A deflate request for so many pages is pending: it asks for them, after all that wait in its line. Doesn't fit: no pages, more
+/* A deflate request for this many pages is pending: it asks for them, after all that wait in its line. Doesn't fit: no pages, more
  * than aren't lent to it, or it waits already. */
 uint32_t vb_loan_ask(VbLoan *loans, size_t count, size_t guest, uint32_t pages);
 /* A reset is pending, in place of all requests: it asks for all pages that aren't lent to it, after all that wait in its line; what
@@ -73,7 +73,7 @@ uint32_t vb_loan_take(VbLoan *loans, size_t count, size_t guest, uint32_t pages)
 uint32_t vb_loan_uncount(VbLoan *loans, size_t count, size_t guest);
 /* Its balloon counts again, as in a new life. */
 uint32_t vb_loan_recount(VbLoan *loans, size_t count, size_t guest);
-/* It can spare so many pages, those in its balloon included (vb_spare). */
+/* It can spare this many pages, those in its balloon included (vb_spare). */
 uint32_t vb_loan_figure(VbLoan *loans, size_t count, size_t guest, uint32_t pages);
 
 /* Lends to the first guest that waits what it asks for, where that and what is lent to all are no more than these frames: VB_OK and
@@ -88,8 +88,8 @@ uint64_t vb_loan_owed(const VbLoan *loans, size_t count);
  * can spare; VB_BAD_ARGUMENT where rooms aren't count: then nothing is changed. Of `needs` nothing is kept. */
 VbTargets vb_loan_targets(uint32_t frames, const VbLoan *loans, size_t count, VbNeed *needs, size_t needs_room,
                           uint32_t *targets, size_t targets_room);
-/* The same by terms: no guest is asked for so much that fewer than its least pages stay to it, and those of a lower priority are
- * asked for all that they can give before one of a higher priority is asked for any. Of `shares` and `needs` nothing is kept. */
+/* The same by terms: its least pages stay to each guest, as far as it has them, and those of a lower priority are asked for all that
+ * they can give before one of a higher priority is asked for any. Of `shares` and `needs` nothing is kept. */
 VbTargets vb_loan_class_targets(uint32_t frames, const VbLoan *loans, size_t count, const VbTerms *terms, size_t terms_count,
                                 VbShare *shares, size_t shares_room, VbNeed *needs, size_t needs_room,
                                 uint32_t *targets, size_t targets_room);

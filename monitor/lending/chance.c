@@ -60,7 +60,7 @@ static uint32_t any_frames(const struct day *day)
     return chance_in(pages < UINT32_MAX - 20 ? (uint32_t)pages + 20 : UINT32_MAX);
 }
 
-/* What a host does next of such a guest: it lets it in, gives back what was granted, or hears it. */
+/* What may well happen next to a guest with this loan, so that events fit. */
 static enum kind likely_kind(const VbLoan *loan)
 {
     static const enum kind heard[] = { GIVE, ASK, ASK, ASK, ASK, RESET };

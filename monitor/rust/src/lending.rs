@@ -67,7 +67,7 @@ pub enum Line {
 pub enum NoTargets {
     /// A list has not as many places as there are loans; nothing is written.
     OtherLength,
-    /// All that guests can give is too little by so many pages; each is asked for all that it can give.
+    /// All that guests can give is too little by this many pages; each is asked for all that it can give.
     Short(u64),
 }
 
@@ -126,7 +126,7 @@ extern "C" {
     ) -> Targets;
 }
 
-/// A guest of so many pages comes to a vacant place, and asks for all of them in a line.
+/// A guest of this many pages comes to a vacant place, and asks for all of them in a line.
 pub fn arrive(loans: &mut [Loan], guest: usize, pages: u32, line: Line) -> bool {
     // SAFETY: the pointer is of a slice with its length.
     unsafe { vb_loan_arrive(loans.as_mut_ptr(), loans.len(), guest, pages, line as u16) == OK }
@@ -144,7 +144,7 @@ pub fn give(loans: &mut [Loan], guest: usize, pages: u32) -> bool {
     unsafe { vb_loan_give(loans.as_mut_ptr(), loans.len(), guest, pages) == OK }
 }
 
-/// A deflate request for so many pages is pending.
+/// A deflate request for this many pages is pending.
 pub fn ask(loans: &mut [Loan], guest: usize, pages: u32) -> bool {
     // SAFETY: the pointer is of a slice with its length.
     unsafe { vb_loan_ask(loans.as_mut_ptr(), loans.len(), guest, pages) == OK }
@@ -174,7 +174,7 @@ pub fn recount(loans: &mut [Loan], guest: usize) -> bool {
     unsafe { vb_loan_recount(loans.as_mut_ptr(), loans.len(), guest) == OK }
 }
 
-/// A guest can spare so many pages, those in its balloon included.
+/// A guest can spare this many pages, those in its balloon included.
 pub fn figure(loans: &mut [Loan], guest: usize, pages: u32) -> bool {
     // SAFETY: the pointer is of a slice with its length.
     unsafe { vb_loan_figure(loans.as_mut_ptr(), loans.len(), guest, pages) == OK }
