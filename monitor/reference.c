@@ -3,6 +3,7 @@
 #ifdef REFERENCE_NAMES
 #include "reference/names.h"
 #endif
+#include "ring_layout.h"
 #include "vb.h"
 #include <stdbool.h>
 #include <string.h>

@@ -41,14 +41,14 @@ class Refuses(unittest.TestCase):
         far = REGIONS[1][0] + PAGES_OF_REGION * PAGE
         # By its rule: what is said of it, the head, and the descriptors (number, address, length, flags, next).
         chains = {
-            1: ("a head that is no descriptor", SIZE, []),
-            2: ("a next descriptor that is none", 0, [(0, BUFFERS, 4, NEXT, SIZE)]),
-            3: ("a chain that is too long", 0, [(0, BUFFERS, 4, NEXT, 1), (1, BUFFERS, 4, NEXT, 0)]),
+            1: ("the head is no descriptor of the queue", SIZE, []),
+            2: ("a next field names no descriptor of the queue", 0, [(0, BUFFERS, 4, NEXT, SIZE)]),
+            3: ("the chain is longer than the queue", 0, [(0, BUFFERS, 4, NEXT, 1), (1, BUFFERS, 4, NEXT, 0)]),
             4: ("an indirect descriptor", 0, [(0, BUFFERS, 16, INDIRECT, 0)]),
-            5: ("a buffer of the wrong direction", 0, [(0, BUFFERS, 4, WRITE, 0)]),
-            6: ("a buffer that isn't in memory", 0, [(0, far, 4, 0, 0)]),
-            8: ("a bad length", 0, [(0, BUFFERS, 5, 0, 0)]),
-            9: ("a page that isn't there", 0, [(0, BUFFERS, 4, 0, 0)]),
+            5: ("a piece has the wrong direction", 0, [(0, BUFFERS, 4, WRITE, 0)]),
+            6: ("a buffer is out of guest memory", 0, [(0, far, 4, 0, 0)]),
+            8: ("a length that the queue doesn't take", 0, [(0, BUFFERS, 5, 0, 0)]),
+            9: ("no such page", 0, [(0, BUFFERS, 4, 0, 0)]),
         }
         for rule, (words, head, descriptors) in chains.items():
             with self.subTest(rule=rule):
@@ -59,7 +59,7 @@ class Refuses(unittest.TestCase):
                 client.publish(INFLATE, head)
                 # The kick is answered well: what it leads to comes after that.
                 self.assertEqual(client.kick(INFLATE), bytes(8))
-                self.refused(client, f"the guest's bytes have {words} (rule {rule})")
+                self.refused(client, f"the guest's bytes break a rule: {words} (rule {rule})")
 
     def test_what_was_served_before_a_fault_is_told(self):
         client = self.started()
@@ -74,7 +74,7 @@ class Refuses(unittest.TestCase):
         client = self.started()
         client.publish(INFLATE, 0, SIZE + 1)
         client.kick(INFLATE)
-        self.refused(client, "an available index that jumps (rule 7)")
+        self.refused(client, "the available index has jumped (rule 7)")
 
     def test_buffer_in_the_hole(self):
         client = self.started()

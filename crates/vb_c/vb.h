@@ -25,8 +25,9 @@ extern "C" {
 #define VB_VERSION "0.1.0"
 #define VB_VERSION_NUMBER 0x000100u     /* 65536 times the first number, 256 times the second, and the third */
 
+/* tools/list-codes: numbers, from here */
 enum {                          /* answers: `code` */
-    VB_OK = 0,
+    VB_OK = 0,                  /* what was asked for is done */
     VB_NOTHING = 1,             /* no chain is available */
     VB_BROKEN = 2,              /* the guest's bytes break a rule (`rule`); DEVICE_NEEDS_RESET is set now */
     VB_NOT_READY = 3,           /* DRIVER_OK isn't set (vb_start_queue: FEATURES_OK isn't), or FAILED is */
@@ -34,21 +35,34 @@ enum {                          /* answers: `code` */
     VB_NO_QUEUE = 5,            /* no queue of that kind, or not with the negotiated features */
     VB_MISPLACED = 6,           /* the queue has no place, or copies don't have its size */
     VB_BAD_ARGUMENT = 7,        /* too little room, a head that is no descriptor, settings out of range */
-    VB_SHORT = 8,               /* the guests can't spare enough (vb_targets) */
-    VB_BAD_LENGTH = 9,          /* of a saved state: more or fewer bytes than it has (vb_save: less room) */
+    VB_SHORT = 8,               /* the guests can't spare enough (`vb_targets`) */
+    VB_BAD_LENGTH = 9,          /* of a saved state: more or fewer bytes than it has (`vb_save`: less room) */
     VB_NOT_A_STATE = 10,        /* the bytes don't begin as a saved state does */
     VB_OTHER_VERSION = 11,      /* of the format of saved states */
     VB_BAD_SUM = 12,            /* the bytes aren't those that were saved */
     VB_IMPOSSIBLE = 13,         /* no calls lead to a device like that */
 };
-enum {                          /* kinds of queues, whatever their numbers are */
-    VB_INFLATE = 0, VB_DEFLATE = 1, VB_STATISTICS = 2, VB_REPORT = 3, VB_NO_KIND = 4,
-};
-/* Rules (of VB_BROKEN): 1 bad head, 2 bad next, 3 chain too long, 4 indirect, 5 wrong direction,
- * 6 out of memory, 7 available index jumps, 8 bad length, 9 bad page, 10 reserved page. */
-
+enum { VB_INFLATE = 0, VB_DEFLATE = 1, VB_STATISTICS = 2, VB_REPORT = 3, VB_NO_KIND = 4 };    /* kinds of queues */
+/* Rules of VB_BROKEN: 1 the head is no descriptor of the queue; 2 a next field names no descriptor of the queue; 3 the
+ * chain is longer than the queue; 4 an indirect descriptor; 5 a piece has the wrong direction; 6 a buffer is out of
+ * guest memory; 7 the available index has jumped; 8 a length that the queue doesn't take; 9 no such page; 10 a reserved
+ * page. */
 enum { VB_MAX_QUEUE_SIZE = 256, VB_MAX_PIECES = 256, VB_MAX_RUNS = 256, VB_MAX_BYTES = 1024, VB_MAX_FIGURES = 102,
        VB_MAX_CUTS = 256, VB_STATE_BYTES = 191 };
+enum {                          /* what is to be done: `what` of a notice, in this order; other bits are the library's */
+    VB_TELL_PAGES = 1,          /* the first `runs` of the room were given up, are asked back, or are free */
+    VB_TELL_FIGURES = 2,        /* the first `figures` of the room are what the guest says */
+    VB_DISCARD = 4,             /* give the bytes of the first `cuts` of the room back to the machine */
+    VB_GIVE_BACK = 8,           /* write `id` to `id_at` and `used_length` to `length_at` (32 bits each), then a release
+                                   fence, then `used_index` to `index_at` (16 bits, by one access) */
+    VB_ACQUIRE = 16,            /* an acquire fence */
+    VB_FULL_FENCE = 32,         /* a full fence */
+    VB_READ = 64,               /* read the word of 16 bits that is `at`, by one access: that is the answer */
+    VB_COPY = 128,              /* copy `length` bytes that are `at` to `bytes + into` of the room, each read once: one or
+                                   up to 32 descriptors of a queue's table (16 bytes each), or bytes of a chain's piece */
+};
+enum { VB_LOOK = 1, VB_EMPTY = 2 };    /* what a write of the status asks for */
+/* tools/list-codes: numbers, to here */
 enum { VB_F_PAGE_POISON = 16 };    /* a feature: the driver says in poison_val what its free pages hold (VIRTIO 1.2, 5.5.3) */
 
 typedef struct {
@@ -104,20 +118,6 @@ typedef struct { VbCut cut; uint64_t waiting; } VbLarge;
 typedef struct { VbDevice device; uint32_t held; } VbBalloon;
 /* Where a queue starts, with how many of its chains were taken and given back until now, modulo 65,536. */
 typedef struct { uint64_t table, avail, used; uint16_t size, next; } VbQueueStart;
-
-enum {                          /* what is to be done: `what` of a notice, in this order; other bits are the library's */
-    VB_TELL_PAGES = 1,          /* the first `runs` of the room were given up, are asked back, or are free */
-    VB_TELL_FIGURES = 2,        /* the first `figures` of the room are what the guest says */
-    VB_DISCARD = 4,             /* give the bytes of the first `cuts` of the room back to the machine */
-    VB_GIVE_BACK = 8,           /* write `id` to id_at and `used_length` to length_at (32 bits each), then a release fence,
-                                   then `used_index` to index_at (16 bits, by one access) */
-    VB_ACQUIRE = 16,            /* an acquire fence */
-    VB_FULL_FENCE = 32,         /* a full fence */
-    VB_READ = 64,               /* read the word of 16 bits that stands `at`, by one access: that is the answer */
-    VB_COPY = 128,              /* copy `length` bytes that stand `at` to bytes + into of the room, each read once: one or up
-                                   to 32 descriptors of a queue's table (16 bytes each), or bytes of a chain's piece */
-};
-enum { VB_LOOK = 1, VB_EMPTY = 2 };     /* what a write of the status asks for */
 
 /* A notice: what is to be done next. Fields that `what` doesn't speak of mean nothing. All of them are the library's to
  * write. Each place lies within its region: region < count, and offset + length (2, 4 or as said) <= regions[region].length;

@@ -1,6 +1,7 @@
 /* Looks at a device while it serves, from the guest's bytes alone. It reads rings and requests by itself, in order of
  * the positions on the ring, as the device serves them. */
 #include "audit.h"
+#include "../ring_layout.h"
 #include "wrong.h"
 
 #include <inttypes.h>
@@ -83,8 +84,8 @@ void audit_before(struct backend *backend, unsigned number)
     wrong_memory = &backend->memory;
     if (!queue)
         return;
-    audit.used = word_at(backend, queue->used + 2);
-    audit.available = word_at(backend, queue->avail + 2);
+    audit.used = word_at(backend, queue->used + RING_INDEX_AT);
+    audit.available = word_at(backend, queue->avail + RING_INDEX_AT);
 }
 
 /* Whether the entry at this position of the used ring is the one at this position of the available ring. */
@@ -92,8 +93,8 @@ static void check_entry(struct backend *backend, unsigned number, const VbQueue 
 {
     uint32_t entry[2];
     unsigned at = position % queue->size;
-    uint16_t head = word_at(backend, queue->avail + 4 + 2 * at);
-    read_guest(backend, queue->used + 4 + 8 * at, entry, sizeof entry);
+    uint16_t head = word_at(backend, queue->avail + RING_HEADER_SIZE + AVAIL_ENTRY_SIZE * at);
+    read_guest(backend, queue->used + RING_HEADER_SIZE + USED_ELEMENT_SIZE * at, entry, sizeof entry);
     audit.entries++;
     if (entry[0] != head)
         fault("queue %u: used entry %u has id %" PRIu32 ", and %u was taken", number, position, entry[0], head);
@@ -106,7 +107,7 @@ void audit_after(struct backend *backend, unsigned number)
     const VbQueue *queue = queue_at(backend, number);
     if (!queue)
         return;
-    uint16_t used = word_at(backend, queue->used + 2), available = word_at(backend, queue->avail + 2);
+    uint16_t used = word_at(backend, queue->used + RING_INDEX_AT), available = word_at(backend, queue->avail + RING_INDEX_AT);
     uint16_t given = (uint16_t)(used - audit.used), stood = (uint16_t)(audit.available - audit.used);
     bool keeps = vb_kind(&backend->balloon.state.device, number) == VB_STATISTICS;
     audit.services++;
@@ -162,10 +163,10 @@ void audit_use(void)
     audit.telling = NULL;
     if (!queue || kind == VB_DEFLATE)
         return;
-    unsigned position = word_at(backend, queue->used + 2) % queue->size;
-    uint16_t next = word_at(backend, queue->avail + 4 + 2 * position);
+    unsigned position = word_at(backend, queue->used + RING_INDEX_AT) % queue->size;
+    uint16_t next = word_at(backend, queue->avail + RING_HEADER_SIZE + AVAIL_ENTRY_SIZE * position);
     for (unsigned i = 0; (piece.flags & 1) && i < queue->size; i++) {
-        read_guest(backend, queue->table + 16 * (uint64_t)(next % queue->size), &piece, sizeof piece);
+        read_guest(backend, queue->table + DESCRIPTOR_SIZE * (uint64_t)(next % queue->size), &piece, sizeof piece);
         if (kind == VB_INFLATE)
             name_numbers(backend, &piece);
         else

@@ -109,11 +109,20 @@ void backend_look(struct backend *backend)
 static const char *rule_words(uint32_t rule)
 {
     static const char *const words[] = {
-        "no rule", "a head that is no descriptor", "a next descriptor that is none", "a chain that is too long",
-        "an indirect descriptor", "a buffer of the wrong direction", "a buffer that isn't in memory",
-        "an available index that jumps", "a bad length", "a page that isn't there", "a reserved page",
+        /* tools/list-codes: rules, from here */
+        [1] = "the head is no descriptor of the queue",
+        [2] = "a next field names no descriptor of the queue",
+        [3] = "the chain is longer than the queue",
+        [4] = "an indirect descriptor",
+        [5] = "a piece has the wrong direction",
+        [6] = "a buffer is out of guest memory",
+        [7] = "the available index has jumped",
+        [8] = "a length that the queue doesn't take",
+        [9] = "no such page",
+        [10] = "a reserved page",
+        /* tools/list-codes: rules, to here */
     };
-    return rule < sizeof words / sizeof words[0] ? words[rule] : "an unknown rule";
+    return rule < sizeof words / sizeof words[0] && words[rule] ? words[rule] : "no rule that is known";
 }
 
 /* Tells of the used buffers of a result. */
@@ -150,7 +159,7 @@ bool backend_finish(struct backend *backend, uint32_t kind, const struct balloon
     if (!interrupt(backend, result))
         return false;
     if (result->code == VB_BROKEN)
-        return refuse("the guest's bytes have %s (rule %u)", rule_words(result->rule), result->rule);
+        return refuse("the guest's bytes break a rule: %s (rule %u)", rule_words(result->rule), result->rule);
     return result->code == VB_OK || result->code == VB_NOTHING || refuse("a request is answered %u", result->code);
 }
 

@@ -1,4 +1,5 @@
 #include "backend.h"
+#include "../ring_layout.h"
 #include "vhost_user.h"
 
 /* The statuses of a driver that starts (VIRTIO 1.1, 2.1). */
@@ -113,7 +114,7 @@ static bool find_start(struct backend *backend, unsigned number, VbQueueStart *a
     if (!memory_of_user(&backend->memory, ring->table, &at->table)
         || !memory_of_user(&backend->memory, ring->avail, &at->avail)
         || !memory_of_user(&backend->memory, ring->used, &at->used)
-        || !memory_word(&backend->memory, at->used + 2, &at->next))
+        || !memory_word(&backend->memory, at->used + RING_INDEX_AT, &at->next))
         return refuse("queue %u isn't in the guest's memory", number);
     if (ring->based && (ring->base > UINT16_MAX || (uint16_t)(ring->base - at->next) > ring->size))
         return refuse("queue %u goes on at %u, and its used index is %u", number, ring->base, at->next);
@@ -188,9 +189,9 @@ static bool holds(struct backend *backend, unsigned number)
     return memory_of_user(&backend->memory, ring->table, &table) && table == queue->table
         && memory_of_user(&backend->memory, ring->avail, &avail) && avail == queue->avail
         && memory_of_user(&backend->memory, ring->used, &used) && used == queue->used
-        && memory_holds(&backend->memory, table, 16u * queue->size)
-        && memory_holds(&backend->memory, avail, 6 + 2u * queue->size)
-        && memory_holds(&backend->memory, used, 6 + 8u * queue->size);
+        && memory_holds(&backend->memory, table, DESCRIPTOR_SIZE * queue->size)
+        && memory_holds(&backend->memory, avail, RING_META_SIZE + AVAIL_ENTRY_SIZE * queue->size)
+        && memory_holds(&backend->memory, used, RING_META_SIZE + USED_ELEMENT_SIZE * queue->size);
 }
 
 bool rings_hold(struct backend *backend)

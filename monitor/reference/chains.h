@@ -4,7 +4,7 @@ typedef struct { uint64_t address; uint32_t length; uint16_t flags, next; } Desc
 
 static Descriptor descriptor_at(const uint8_t *table, uint32_t number)
 {
-    const uint8_t *at = table + 16 * (size_t)number;
+    const uint8_t *at = table + DESCRIPTOR_SIZE * (size_t)number;
     return (Descriptor){ little(at, 8), (uint32_t)little(at + 8, 4), (uint16_t)little(at + 12, 2),
                          (uint16_t)little(at + 14, 2) };
 }
@@ -16,7 +16,7 @@ static uint32_t broken_rule(const VbDevice *device, uint16_t size, const Descrip
     if (it->flags & 4)
         return INDIRECT;
     if (it->address > end || it->length > end - it->address)
-        return OUT_OF_MEMORY;
+        return OUT_OF_RAM;
     if (writing && !(it->flags & 2))
         return WRONG_DIRECTION;
     if ((it->flags & 1) && it->next >= size)
@@ -48,12 +48,12 @@ static uint32_t walk(const VbDevice *device, uint16_t size, const uint8_t *table
 /* The head that stands next: VB_OK, VB_NOTHING, or VB_BROKEN where the index jumps (VIRTIO 1.1, 2.6.6). */
 static uint32_t next_head(const VbQueue *queue, const uint8_t *avail, uint32_t *head)
 {
-    uint16_t ahead = (uint16_t)(little(avail + 2, 2) - queue->next_avail);
+    uint16_t ahead = (uint16_t)(little(avail + RING_INDEX_AT, RING_WORD_SIZE) - queue->next_avail);
     if (ahead == 0)
         return VB_NOTHING;
     if (ahead > queue->size)
         return VB_BROKEN;
-    *head = (uint32_t)little(avail + 4 + 2 * (queue->next_avail % queue->size), 2);
+    *head = (uint32_t)little(avail + RING_HEADER_SIZE + AVAIL_ENTRY_SIZE * (queue->next_avail % queue->size), AVAIL_ENTRY_SIZE);
     return VB_OK;
 }
 

@@ -1,7 +1,7 @@
 /* Notices of vb.h in plain C, a part of reference.c: a look at a queue, and a chain. As much at once as the order of the bits
  * allows, as the library has it; and one thing at a time where it explains what the library says (REFERENCE_NAMES). */
 
-enum { SIXTEEN = 16, MOST_IN_ROW = 32 };
+enum { MOST_IN_ROW = 32 };
 #ifdef REFERENCE_NAMES
 enum { GROUPS = false, MOST_AT_ONCE = 1 };
 #else
@@ -48,7 +48,7 @@ static uint32_t stop(const Call *call, uint32_t code)
 static uint32_t end(const Call *call, uint32_t code)
 {
     call->notice->code = code;
-    if (!call->notice->given || !find_spot(call, call->queue->avail, 2, &call->notice->at))
+    if (!call->notice->given || !find_spot(call, call->queue->avail, RING_WORD_SIZE, &call->notice->at))
         return stop(call, code);
     return wait_for(call, AT_FLAGS, VB_FULL_FENCE);
 }
@@ -67,8 +67,8 @@ static uint32_t look(const Call *call)
     uint32_t code = refusal(&call->balloon->device, call->notice->kind, call->queue);
     if (code != VB_OK)
         return end(call, code);
-    if (!find_spot(call, call->queue->avail + 2, 2, &call->notice->at))
-        return fail(call, OUT_OF_MEMORY);
+    if (!find_spot(call, call->queue->avail + RING_INDEX_AT, RING_WORD_SIZE, &call->notice->at))
+        return fail(call, OUT_OF_RAM);
     return wait_for(call, AT_INDEX, VB_READ);
 }
 
@@ -86,8 +86,10 @@ static uint32_t next_chain(const Call *call)
         return end(call, VB_NOTHING);
     }
     notice->chains_left--;
-    if (!find_spot(call, call->queue->avail + 4 + 2 * (call->queue->next_avail % call->queue->size), 2, &notice->at))
-        return fail(call, OUT_OF_MEMORY);
+    const VbQueue *queue = call->queue;
+    uint64_t entry = queue->avail + RING_HEADER_SIZE + AVAIL_ENTRY_SIZE * (queue->next_avail % queue->size);
+    if (!find_spot(call, entry, AVAIL_ENTRY_SIZE, &notice->at))
+        return fail(call, OUT_OF_RAM);
     return wait_for(call, AT_ENTRY, VB_ACQUIRE);
 }
 
@@ -104,14 +106,14 @@ static uint32_t after_index(const Call *call, uint16_t index)
 static uint32_t ask_row(const Call *call, uint16_t number)
 {
     VbNotice *notice = call->notice;
-    const uint64_t address = call->queue->table + SIXTEEN * (uint64_t)number;
+    const uint64_t address = call->queue->table + DESCRIPTOR_SIZE * (uint64_t)number;
     uint32_t left = (uint32_t)call->queue->size - number, many = notice->count == 0 ? 1 : left < MOST_IN_ROW ? left : MOST_IN_ROW;
-    if (!find_spot(call, address, SIXTEEN * (uint64_t)many, &notice->at)) {
+    if (!find_spot(call, address, DESCRIPTOR_SIZE * (uint64_t)many, &notice->at)) {
         many = 1;
-        if (!find_spot(call, address, SIXTEEN, &notice->at))
-            return fail(call, OUT_OF_MEMORY);
+        if (!find_spot(call, address, DESCRIPTOR_SIZE, &notice->at))
+            return fail(call, OUT_OF_RAM);
     }
-    notice->length = SIXTEEN * many;
+    notice->length = DESCRIPTOR_SIZE * many;
     notice->into = 0;
     notice->number = number;
     notice->from = many;
@@ -146,7 +148,7 @@ static uint32_t ask_part(const Call *call)
         if (notice->from > VB_MAX_BYTES || length > VB_MAX_BYTES - notice->from)
             return fail(call, BAD_LENGTH);
         if (!find_spot(call, piece.address + (notice->flag ? first : 0), length, &notice->at))
-            return fail(call, OUT_OF_MEMORY);
+            return fail(call, OUT_OF_RAM);
         notice->length = length;
         notice->into = (uint32_t)notice->from;
         return wait_for(call, AT_PART, VB_COPY);

@@ -35,8 +35,10 @@ static bool misplaced(const VbDevice *device, uint64_t address, uint64_t alignme
 static bool has_no_place(const VbDevice *device, const VbQueue *queue)
 {
     uint16_t size = queue->size;
-    return size < 2 || size > VB_MAX_QUEUE_SIZE || (size & (size - 1)) || misplaced(device, queue->table, 16, 16u * size)
-        || misplaced(device, queue->avail, 2, 6 + 2u * size) || misplaced(device, queue->used, 4, 6 + 8u * size);
+    return size < 2 || size > VB_MAX_QUEUE_SIZE || (size & (size - 1))
+        || misplaced(device, queue->table, TABLE_ALIGNMENT, (uint64_t)DESCRIPTOR_SIZE * size)
+        || misplaced(device, queue->avail, AVAIL_ALIGNMENT, RING_META_SIZE + (uint64_t)AVAIL_ENTRY_SIZE * size)
+        || misplaced(device, queue->used, USED_ALIGNMENT, RING_META_SIZE + (uint64_t)USED_ELEMENT_SIZE * size);
 }
 
 uint32_t vb_place(VbDevice *device, uint32_t kind, uint64_t table, uint64_t avail, uint64_t used, uint16_t size)
@@ -77,7 +79,7 @@ static uint32_t refusal(const VbDevice *device, uint32_t kind, const VbQueue *qu
 static uint32_t ring_refusal(const VbDevice *device, uint32_t kind, const VbQueue *queue, size_t avail, size_t table)
 {
     uint32_t code = refusal(device, kind, queue);
-    if (code == VB_OK && (avail != 4 + 2u * queue->size || table != 16u * queue->size))
+    if (code == VB_OK && (avail != RING_HEADER_SIZE + (size_t)AVAIL_ENTRY_SIZE * queue->size || table != (size_t)DESCRIPTOR_SIZE * queue->size))
         return VB_MISPLACED;
     return code;
 }

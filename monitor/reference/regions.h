@@ -73,9 +73,9 @@ static bool holds_bytes(const VbRegion *regions, size_t count, uint64_t address,
 static bool holds_queue(const VbRegion *regions, size_t count, const VbQueue *queue)
 {
     uint64_t size = queue->size;
-    return size == 0 || (holds_bytes(regions, count, queue->table, 16 * size)
-                         && holds_bytes(regions, count, queue->avail, 6 + 2 * size)
-                         && holds_bytes(regions, count, queue->used, 6 + 8 * size));
+    return size == 0 || (holds_bytes(regions, count, queue->table, DESCRIPTOR_SIZE * size)
+                         && holds_bytes(regions, count, queue->avail, RING_META_SIZE + AVAIL_ENTRY_SIZE * size)
+                         && holds_bytes(regions, count, queue->used, RING_META_SIZE + USED_ELEMENT_SIZE * size));
 }
 
 uint32_t vb_place_over(VbBalloon *balloon, const VbRegion *regions, size_t count, uint32_t kind, uint64_t table, uint64_t avail,

@@ -120,8 +120,8 @@ VbUsed vb_use(VbDevice *device, uint32_t kind, uint32_t head)
     used.code = head >= queue->size ? VB_BAD_ARGUMENT : refusal(device, kind, queue);
     if (used.code != VB_OK)
         return used;
-    used.element_at = queue->used + 4 + 8 * (uint64_t)(queue->next_used % queue->size);
-    used.index_at = queue->used + 2;
+    used.element_at = queue->used + RING_HEADER_SIZE + USED_ELEMENT_SIZE * (uint64_t)(queue->next_used % queue->size);
+    used.index_at = queue->used + RING_INDEX_AT;
     used.id = head;
     used.index = ++queue->next_used;
     return used;

@@ -8,9 +8,10 @@ static uint32_t give_back(const Call *call)
     VbUsed used = vb_use(&call->balloon->device, notice->kind, notice->head);
     if (used.code != VB_OK)
         return end(call, used.code);
-    if (!find_spot(call, used.element_at, 4, &notice->id_at) || !find_spot(call, used.element_at + 4, 4, &notice->length_at)
-        || !find_spot(call, used.index_at, 2, &notice->index_at))
-        return fail(call, OUT_OF_MEMORY);
+    if (!find_spot(call, used.element_at, USED_FIELD_SIZE, &notice->id_at)
+        || !find_spot(call, used.element_at + USED_LENGTH_AT, USED_FIELD_SIZE, &notice->length_at)
+        || !find_spot(call, used.index_at, RING_WORD_SIZE, &notice->index_at))
+        return fail(call, OUT_OF_RAM);
     notice->id = used.id;
     notice->used_length = used.length;
     notice->used_index = used.index;
@@ -126,7 +127,7 @@ static uint32_t step(const Call *call, uint16_t answer)
     case AT_INDEX: return after_index(call, answer);
     case AT_ENTRY: return wait_for(call, AT_WORD, VB_READ);
     case AT_WORD: return after_entry(call, answer);
-    case AT_DESCRIPTOR: return notice->from <= VB_MAX_BYTES / SIXTEEN ? after_row(call) : stop(call, VB_BAD_ARGUMENT);
+    case AT_DESCRIPTOR: return notice->from <= VB_MAX_BYTES / DESCRIPTOR_SIZE ? after_row(call) : stop(call, VB_BAD_ARGUMENT);
     case AT_PART: return after_part(call);
     case AT_TOLD: case AT_CUT: return ask_cut(call);
     case AT_FIGURES: return end(call, VB_NOTHING);

@@ -4,28 +4,51 @@ ghost use Rattle.std.specs.Prelude.{◌≡◌};
 ghost use Rattle.vb_c.specs.Codes.{code_of, rule_in, kind_of_code, code_of_kind};
 ghost use Rattle.vb_c.specs.Answers.{chain_of, named_of, reported_of, figures_of, used_of};
 
+use crate::kinds::{DEFLATE, INFLATE, NO_KIND, REPORT, STATISTICS};
 use vb_core::{Denial, Kind, Named, NextChain, Reported, UsedEntry};
 use vb_request::rule_of;
 
-/// What an answer is.
+/// What was asked for is done.
 pub(crate) const OK: u32 = 0;
 
+/// No chain is available.
 pub(crate) const NOTHING: u32 = 1;
 
-const BROKEN: u32 = 2;
+/// The guest's bytes break a rule (`rule`); DEVICE_NEEDS_RESET is set now.
+pub(crate) const BROKEN: u32 = 2;
 
-const NOT_READY: u32 = 3;
+/// DRIVER_OK isn't set (vb_start_queue: FEATURES_OK isn't), or FAILED is.
+pub(crate) const NOT_READY: u32 = 3;
 
-const NEEDS_RESET: u32 = 4;
+/// A rule was broken before.
+pub(crate) const NEEDS_RESET: u32 = 4;
 
+/// No queue of that kind, or not with the negotiated features.
 pub(crate) const NO_QUEUE: u32 = 5;
 
+/// The queue has no place, or copies don't have its size.
 pub(crate) const MISPLACED: u32 = 6;
 
+/// Too little room, a head that is no descriptor, settings out of range.
 pub(crate) const BAD_ARGUMENT: u32 = 7;
 
-/// The kind of no queue.
-pub(crate) const NO_KIND: u32 = 4;
+/// The guests can't spare enough (`vb_targets`).
+pub(crate) const SHORT: u32 = 8;
+
+/// Of a saved state: more or fewer bytes than it has (`vb_save`: less room).
+pub(crate) const BAD_LENGTH: u32 = 9;
+
+/// The bytes don't begin as a saved state does.
+pub(crate) const NOT_A_STATE: u32 = 10;
+
+/// Of the format of saved states.
+pub(crate) const OTHER_VERSION: u32 = 11;
+
+/// The bytes aren't those that were saved.
+pub(crate) const BAD_SUM: u32 = 12;
+
+/// No calls lead to a device like that.
+pub(crate) const IMPOSSIBLE: u32 = 13;
 
 /// A chain that stands next.
 #[repr(C)]
@@ -100,10 +123,10 @@ pub(crate) fn kind_of_code(code: u32) -> Option<Kind>
     ensures { result ≡ kind_of_code code }
 {
     match code {
-        0 => Some(Kind::Inflate),
-        1 => Some(Kind::Deflate),
-        2 => Some(Kind::Statistics),
-        3 => Some(Kind::Report),
+        INFLATE => Some(Kind::Inflate),
+        DEFLATE => Some(Kind::Deflate),
+        STATISTICS => Some(Kind::Statistics),
+        REPORT => Some(Kind::Report),
         _ => None,
     }
 }
@@ -113,10 +136,10 @@ pub(crate) fn code_of_kind(kind: Option<Kind>) -> u32
     ensures { result ≡ code_of_kind kind }
 {
     match kind {
-        Some(Kind::Inflate) => 0,
-        Some(Kind::Deflate) => 1,
-        Some(Kind::Statistics) => 2,
-        Some(Kind::Report) => 3,
+        Some(Kind::Inflate) => INFLATE,
+        Some(Kind::Deflate) => DEFLATE,
+        Some(Kind::Statistics) => STATISTICS,
+        Some(Kind::Report) => REPORT,
         None => NO_KIND,
     }
 }

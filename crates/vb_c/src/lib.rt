@@ -4,7 +4,9 @@
 #![tactic(auto)]
 
 mod answers;
+mod bits;
 mod chains;
+mod kinds;
 mod lending;
 mod marks;
 mod notice;
@@ -13,6 +15,7 @@ mod places;
 mod queues;
 mod registers;
 mod requests;
+mod rules;
 mod saving;
 mod serving;
 mod sharing;

@@ -6,7 +6,14 @@ ghost use Rattle.vb_c.specs.Codes.{fault_of, why_of, kind_of_code};
 ghost use Rattle.vb_c.specs.Notices.{tally_of, walk_of, place_of, discarding_of, cut_of_notice};
 ghost use Rattle.vb_c.specs.Notices.{part_of, phase_of, notice_of};
 
-use crate::answers::kind_of_code;
+use crate::answers::{
+    BAD_ARGUMENT, BROKEN, MISPLACED, NEEDS_RESET, NO_QUEUE, NOT_READY, kind_of_code,
+};
+use crate::bits::{ACQUIRE, FULL_FENCE, READ};
+use crate::rules::{
+    BAD_HEAD, BAD_LENGTH, BAD_NEXT, BAD_PAGE, INDEX_JUMP, INDIRECT, OUT_OF_RAM, RESERVED_PAGE,
+    TOO_LONG, WRONG_DIRECTION,
+};
 use vb_chain::{ChainFault, DESCRIPTOR_SIZE};
 use vb_core::{ChainPiece, Denial, Run, Statistic};
 use vb_monitor::{
@@ -15,16 +22,13 @@ use vb_monitor::{
 };
 
 /// The available index is read.
-pub(crate) const READ_INDEX: u32 = 64;
+pub(crate) const READ_INDEX: u32 = READ;
 
 /// Behind an acquire fence the entry is read.
-pub(crate) const READ_ENTRY: u32 = 16 + 64;
+pub(crate) const READ_ENTRY: u32 = ACQUIRE + READ;
 
 /// Behind a full fence the flags are read.
-pub(crate) const READ_FLAGS: u32 = 32 + 64;
-
-/// Bytes are copied.
-pub(crate) const COPY: u32 = 128;
+pub(crate) const READ_FLAGS: u32 = FULL_FENCE + READ;
 
 /// What a notice waits for: nothing, since it has ended.
 pub(crate) const ENDED: u8 = 0;
@@ -102,16 +106,16 @@ fn fault_of(rule: u32) -> Option<ChainFault>
     ensures { result ≡ fault_of rule }
 {
     match rule {
-        1 => Some(ChainFault::BadHead),
-        2 => Some(ChainFault::BadNext),
-        3 => Some(ChainFault::TooLong),
-        4 => Some(ChainFault::Indirect),
-        5 => Some(ChainFault::WrongDirection),
-        6 => Some(ChainFault::OutOfRam),
-        7 => Some(ChainFault::IndexJump),
-        8 => Some(ChainFault::BadLength),
-        9 => Some(ChainFault::BadPage),
-        10 => Some(ChainFault::ReservedPage),
+        BAD_HEAD => Some(ChainFault::BadHead),
+        BAD_NEXT => Some(ChainFault::BadNext),
+        TOO_LONG => Some(ChainFault::TooLong),
+        INDIRECT => Some(ChainFault::Indirect),
+        WRONG_DIRECTION => Some(ChainFault::WrongDirection),
+        OUT_OF_RAM => Some(ChainFault::OutOfRam),
+        INDEX_JUMP => Some(ChainFault::IndexJump),
+        BAD_LENGTH => Some(ChainFault::BadLength),
+        BAD_PAGE => Some(ChainFault::BadPage),
+        RESERVED_PAGE => Some(ChainFault::ReservedPage),
         _ => None,
     }
 }
@@ -121,15 +125,15 @@ fn why_of(code: u32, rule: u32) -> Option<Denial>
     ensures { result ≡ why_of code rule }
 {
     match code {
-        2 => match fault_of(rule) {
+        BROKEN => match fault_of(rule) {
             Some(fault) => Some(Denial::Broken(fault)),
             None => None,
         },
-        3 => Some(Denial::NotReady),
-        4 => Some(Denial::NeedsReset),
-        5 => Some(Denial::NoQueue),
-        6 => Some(Denial::Misplaced),
-        7 => Some(Denial::BadArgument),
+        NOT_READY => Some(Denial::NotReady),
+        NEEDS_RESET => Some(Denial::NeedsReset),
+        NO_QUEUE => Some(Denial::NoQueue),
+        MISPLACED => Some(Denial::Misplaced),
+        BAD_ARGUMENT => Some(Denial::BadArgument),
         _ => None,
     }
 }

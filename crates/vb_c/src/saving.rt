@@ -3,7 +3,7 @@
 ghost use Rattle.std.specs.Prelude.{◌≡◌};
 ghost use Rattle.vb_c.specs.Saving.{code_of_state, Saves, Restores};
 
-use crate::answers::OK;
+use crate::answers::{BAD_LENGTH, BAD_SUM, IMPOSSIBLE, NOT_A_STATE, OK, OTHER_VERSION};
 use vb_core::{Device, Saved, StateDenial};
 
 /// The version of the library: 0.1.0, as 65,536 times the first number, 256 times the second, and
@@ -15,11 +15,11 @@ pub(crate) fn code_of_state(denial: StateDenial) -> u32
     ensures { result ≡ code_of_state denial }
 {
     match denial {
-        StateDenial::BadLength => 9,
-        StateDenial::NotAState => 10,
-        StateDenial::OtherVersion => 11,
-        StateDenial::BadSum => 12,
-        StateDenial::Impossible => 13,
+        StateDenial::BadLength => BAD_LENGTH,
+        StateDenial::NotAState => NOT_A_STATE,
+        StateDenial::OtherVersion => OTHER_VERSION,
+        StateDenial::BadSum => BAD_SUM,
+        StateDenial::Impossible => IMPOSSIBLE,
     }
 }
 

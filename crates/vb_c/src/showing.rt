@@ -11,25 +11,14 @@ ghost use Rattle.vb_c.specs.Notices.{why_code, asked_bits, answer_bits, SameElse
 ghost use Rattle.vb_c.specs.Notices.{HasEnded};
 
 use crate::answers::{NOTHING, OK, code_of, code_of_kind, rule_in};
+use crate::bits::{COPY, DISCARD, GIVE_BACK, TELL_FIGURES, TELL_PAGES};
 use crate::notice::{
-    COPY, CUTS, DESCRIPTOR, ENDED, ENTRY, FLAGS, INDEX, PART, READ_ENTRY, READ_FLAGS, READ_INDEX,
+    CUTS, DESCRIPTOR, ENDED, ENTRY, FLAGS, INDEX, PART, READ_ENTRY, READ_FLAGS, READ_INDEX,
     VbNotice,
 };
 use vb_chain::DESCRIPTOR_SIZE;
 use vb_core::Denial;
 use vb_monitor::{Asked, Cut, Discarding, NextWord, Notice, Phase, Place, Spot, Tally, Told, Walk};
-
-/// Pages are told.
-const TELL_PAGES: u32 = 1;
-
-/// Figures are told.
-const TELL_FIGURES: u32 = 2;
-
-/// Parts of runs are discarded.
-const DISCARD: u32 = 4;
-
-/// A used element is written.
-const GIVE_BACK: u32 = 8;
 
 /// The code of what a notice came to.
 fn end_code(why: Option<Denial>, tally: Tally) -> u32

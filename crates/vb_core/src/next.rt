@@ -10,9 +10,9 @@ ghost use Rattle.vb_core.specs.Next.{ReadsNext, NextBy};
 
 use crate::copies::{Copies, LAYOUT};
 use crate::{Denial, Device, Kind, Virtqueue};
-use vb_chain::{Chain, ChainFault, Piece};
+use vb_chain::{Chain, ChainFault, DESCRIPTOR_SIZE, Piece};
 use vb_request::{request_length, statistics_length};
-use vb_ring::Queue;
+use vb_ring::{AVAIL_ENTRY_SIZE, Queue, RING_HEADER_SIZE};
 
 /// A part of guest memory that a chain gives to the device, as plain data.
 #[repr(C)]
@@ -42,7 +42,9 @@ pub struct NextChain {
 pub(crate) fn are_copies(size: u16, avail: &[u8], table: &[u8]) -> bool
     ensures { result ≡ are_copies size (length avail.now) (length table.now) }
 {
-    avail.len() == 4 + 2 * usize::from(size) && table.len() == 16 * usize::from(size)
+    let entries = AVAIL_ENTRY_SIZE as usize * usize::from(size);
+    avail.len() == RING_HEADER_SIZE as usize + entries
+        && table.len() == DESCRIPTOR_SIZE * usize::from(size)
 }
 
 /// Takes the next chain out of a memory of the copies; answers its head. The ring isn't changed.

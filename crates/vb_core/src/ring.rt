@@ -4,7 +4,11 @@ ghost use Rattle.std.specs.Prelude.{◌≡◌, ◌+◌, ◌*◌, ◌%◌, ◌<�
 ghost use Rattle.vb_core.specs.Rings.{no_ring, is_size, is_part, has_place, used_entry};
 ghost use Rattle.vb_core.specs.Rings.{with_taken, with_used};
 
-use vb_ring::{MAX_QUEUE_SIZE, MIN_QUEUE_SIZE};
+use vb_chain::DESCRIPTOR_SIZE;
+use vb_ring::{
+    AVAIL_ALIGNMENT, AVAIL_ENTRY_SIZE, MAX_QUEUE_SIZE, MIN_QUEUE_SIZE, RING_HEADER_SIZE,
+    RING_INDEX_AT, RING_META_SIZE, TABLE_ALIGNMENT, USED_ALIGNMENT, USED_ELEMENT_SIZE,
+};
 
 /// A queue's ring as the device has it: where its parts lie, by addresses of guest memory, and how
 /// far the device is (VIRTIO 1.1, 2.6).
@@ -93,9 +97,24 @@ impl Virtqueue {
     {
         let size = u64::from(self.size);
         is_size(self.size)
-            && is_part(end, self.table, 16, 16 * size)
-            && is_part(end, self.avail, 2, 6 + 2 * size)
-            && is_part(end, self.used, 4, 6 + 8 * size)
+            && is_part(
+                end,
+                self.table,
+                TABLE_ALIGNMENT,
+                DESCRIPTOR_SIZE as u64 * size,
+            )
+            && is_part(
+                end,
+                self.avail,
+                AVAIL_ALIGNMENT,
+                RING_META_SIZE + AVAIL_ENTRY_SIZE * size,
+            )
+            && is_part(
+                end,
+                self.used,
+                USED_ALIGNMENT,
+                RING_META_SIZE + USED_ELEMENT_SIZE * size,
+            )
     }
 
     /// Counts the next chain as taken.
@@ -122,8 +141,8 @@ impl Virtqueue {
     {
         let place = place_in_ring(self.next_used, self.size);
         UsedEntry {
-            element_at: self.used + 4 + 8 * u64::from(place),
-            index_at: self.used + 2,
+            element_at: self.used + RING_HEADER_SIZE + USED_ELEMENT_SIZE * u64::from(place),
+            index_at: self.used + RING_INDEX_AT,
             id: head,
             length: 0,
             index: self.next_used.wrapping_add(1),

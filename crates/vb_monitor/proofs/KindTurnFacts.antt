@@ -1,6 +1,6 @@
 -- What comes in its turn of a kind's own queue, worked out: all others stand elsewhere, have fewer
 -- descriptors, and have gone on farther. Of a list the last access stands first.
-use Rattle.std.proofs.Common.{◌≡◌, refl, true, false, ℕ, List, [], ◌∷◌}
+use Rattle.std.proofs.Common.{◌≡◌, refl, true, false, List, [], ◌∷◌}
 use Rattle.vb_request.specs.{Request.numbers_of}
 use Rattle.vb_chain.specs.declared.pieces.Piece.{Piece}
 use Rattle.vb_core.specs.declared.kinds.Kind.TheVariants.{Inflate, Deflate, Report}

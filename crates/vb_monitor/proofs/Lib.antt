@@ -72,4 +72,5 @@ pub mod StillFound
 pub mod StillAnswers
 pub mod StillLaws
 pub mod StillReports
+mod StillReadFacts
 mod StillFacts

@@ -1,6 +1,6 @@
 -- How much room a notice has for what it copies, names and discards, and how far a region's file may
 -- reach.
-use Rattle.std.proofs.Common.{◌≡◌, ℕ, [], ◌∷◌, refl}
+use Rattle.std.proofs.Common.{◌≡◌, [], ◌∷◌, refl}
 use Rattle.vb_monitor.specs.declared.{orders.TheConstants.MAX_CUTS, regions.TheConstants.FILE_LIMIT}
 use Rattle.vb_monitor.specs.declared.room.TheConstants.{MAX_PIECES, MAX_BYTES, ROW_DESCRIPTORS}
 use Rattle.vb_monitor.specs.declared.room.TheConstants.{MAX_RUNS, MAX_FIGURES}

@@ -1,8 +1,9 @@
 -- What is answered to copies of memory that stays as it is, and what is refused.
-use Rattle.vb_monitor.{proofs.StillFound.{ByFound, ends_so}, specs.Chains.{CopiesBy, ServesPieces}}
+use Rattle.vb_monitor.proofs.StillFound.{ByFound, ends_so}
+use Rattle.vb_monitor.{specs.Chains.{CopiesBy, ServesPieces}}
 use Rattle.vb_monitor.{specs.declared.outcome.Tally.Tally, specs.Machine.{next_chain, serves}}
-use Rattle.vb_monitor.{specs.Accesses.Access, specs.Giving.Then, specs.Still.{Behind, DoesAs}}
-use Rattle.vb_monitor.specs.Ends.{Whole}
+use Rattle.vb_monitor.{specs.Accesses.Access, specs.Giving.Then, specs.Ends.Whole}
+use Rattle.vb_monitor.specs.Still.{AfterReads, DoesAs}
 use Rattle.vb_core.specs.Next.{piece_in, pieces_in, is_read, length_of, next_denial, told}
 use Rattle.vb_core.specs.Next.{are_copies, buffer_of, answer_of, answer_to, after_fault}
 use Rattle.vb_core.{specs.declared.kinds.Kind.Kind, specs.declared.device.Denial.TheVariants.Broken}
@@ -22,20 +23,22 @@ use Rattle.vb_ring.specs.declared.device.Taken.{Taken}
 
 -- ---- what is answered
 
-pub served_broken : (kind : Kind) (w : Whole) (next : Then) (d : Device) (t : Tally) (head : ℕ)
+pub served_broken : (still : List Access → Type 0) (kind : Kind) (w : Whole) (next : Then)
+    (d : Device) (t : Tally) (head : ℕ)
     (pieces : List Piece) (f : ChainFault) (log : List Access) → is_read kind ≡ true →
-    t.given ≡ false → length_of kind pieces ≡ Err f → ServesPieces kind w next d t head pieces log →
-    (w.outcome.why ≡ Some (Broken f)) × (w.device ≡ needing_reset d)
-served_broken Inflate w next d t head pieces f log read none e h =
-    ends_so t.given w (needing_reset d) t (Some (Broken f)) false log none
+    t.given ≡ false → still log → length_of kind pieces ≡ Err f →
+    ServesPieces kind w next d t head pieces log →
+    (w.outcome.why ≡ Some (Broken f)) × (w.device ≡ needing_reset d) × still []
+served_broken still Inflate w next d t head pieces f log read none stays e h =
+    ends_so still t.given w (needing_reset d) t (Some (Broken f)) false log none stays
     (subst (λ (o : Result ℕ ChainFault). CopiesBy o w next d t head pieces log) e h)
-served_broken Deflate w next d t head pieces f log read none e h =
-    ends_so t.given w (needing_reset d) t (Some (Broken f)) false log none
+served_broken still Deflate w next d t head pieces f log read none stays e h =
+    ends_so still t.given w (needing_reset d) t (Some (Broken f)) false log none stays
     (subst (λ (o : Result ℕ ChainFault). CopiesBy o w next d t head pieces log) e h)
-served_broken Statistics w next d t head pieces f log read none e h =
-    ends_so t.given w (needing_reset d) t (Some (Broken f)) false log none
+served_broken still Statistics w next d t head pieces f log read none stays e h =
+    ends_so still t.given w (needing_reset d) t (Some (Broken f)) false log none stays
     (subst (λ (o : Result ℕ ChainFault). CopiesBy o w next d t head pieces log) e h)
-served_broken Report w next d t head pieces f log read none e h = absurd cc
+served_broken still Report w next d t head pieces f log read none stays e h = absurd cc
 
 pub flag_back : (b : Bool) → not (one_if b == 0) ≡ b
 flag_back true = refl
@@ -51,41 +54,48 @@ buffers_back [] = refl
 buffers_back (p ∷ ps) = ap (λ (q : Piece). q ∷ map piece_in (map buffer_of ps)) (piece_back p)
     ∙ ap (λ (qs : List Piece). p ∷ qs) (buffers_back ps)
 
-pub by_length : (w : Whole) (d : Device) (t : Tally) (taken : Taken) (buffers : List ChainPiece)
+pub by_length : (still : List Access → Type 0) (w : Whole) (d : Device) (t : Tally)
+    (taken : Taken) (buffers : List ChainPiece)
     (o : Result ℕ ChainFault) (log : List Access)
     → is_read w.kind ≡ true → t.given ≡ false → length_of w.kind taken.chain ≡ o
     → (IsOk (answer_of taken o) → take (length taken.chain) buffers ≡ map buffer_of taken.chain)
-    → Behind (serves w t d taken.head taken.chain) log
-    → DoesAs (told (answer_of taken o)) buffers w t (after_fault (answer_of taken o) d) log
-by_length w d t taken buffers (Err f) log read none e are h =
-    served_broken w.kind w (next_chain w t) d t taken.head taken.chain f h.rest read none e h.is
-by_length w d t taken buffers (Ok bytes) log read none e are h =
+    → AfterReads still (serves w t d taken.head taken.chain) log
+    → DoesAs still (told (answer_of taken o)) buffers w t (after_fault (answer_of taken o) d) log
+by_length still w d t taken buffers (Err f) log read none e are h =
+    served_broken still w.kind w (next_chain w t) d t taken.head taken.chain f h.rest read none
+    h.still_so e h.is
+by_length still w d t taken buffers (Ok bytes) log read none e are h =
     let same : pieces_in (take (length taken.chain) buffers) ≡ taken.chain =
     ap (λ (bs : List ChainPiece). pieces_in bs) (are refl) ∙ buffers_back taken.chain in
-    subst (λ (ps : List Piece). Behind (serves w t d taken.head ps) log) (sym same) h
+    subst (λ (ps : List Piece). AfterReads still (serves w t d taken.head ps) log) (sym same) h
 
-pub by_found : (w : Whole) (d : Device) (t : Tally) (found : Result (Option Taken) ChainFault)
+pub by_found : (still : List Access → Type 0) (w : Whole) (d : Device) (t : Tally) (found : Result
+    (Option Taken) ChainFault)
     (buffers : List ChainPiece) (log : List Access) → is_read w.kind ≡ true → t.given ≡ false →
     ((taken : Taken) → found ≡ Ok (Some taken) → IsOk (answer_to w.kind found) →
-    take (length taken.chain) buffers ≡ map buffer_of taken.chain) → ByFound found w d t log →
-    DoesAs (told (answer_to w.kind found)) buffers w t (after_fault (answer_to w.kind found) d) log
-by_found w d t (Err f) buffers log read none are h = h
-by_found w d t (Ok None) buffers log read none are h = h
-by_found w d t (Ok (Some taken)) buffers log read none are h =
-    by_length w d t taken buffers (length_of w.kind taken.chain) log read none refl (are taken refl) h
+    take (length taken.chain) buffers ≡ map buffer_of taken.chain) → ByFound still found w d t log →
+    DoesAs still (told (answer_to w.kind found)) buffers w t (after_fault
+    (answer_to w.kind found) d) log
+by_found still w d t (Err f) buffers log read none are h = h
+by_found still w d t (Ok None) buffers log read none are h = h
+by_found still w d t (Ok (Some taken)) buffers log read none are h =
+    by_length still w d t taken buffers (length_of w.kind taken.chain) log read none refl
+    (are taken refl) h
 
-pub as_answered : (w : Whole) (d d3 : Device) (t : Tally) (found : Result (Option Taken) ChainFault)
+pub as_answered : (still : List Access → Type 0) (w : Whole) (d d3 : Device) (t : Tally)
+    (found : Result (Option Taken) ChainFault)
     (answer : Result (Option NextChain) ChainFault) (result : Result (Option NextChain) Denial)
     (buffers : List ChainPiece) (log : List Access) → is_read w.kind ≡ true → t.given ≡ false
     → answer ≡ answer_to w.kind found → ((taken : Taken) → found ≡ Ok (Some taken) → IsOk answer →
     take (length taken.chain) buffers ≡ map buffer_of taken.chain) → result ≡ told answer
-    → d3 ≡ after_fault answer d → ByFound found w d t log → DoesAs result buffers w t d3 log
-as_answered w d d3 t found answer result buffers log read none e are is after h =
-    subst (λ (o : Result (Option NextChain) Denial). DoesAs o buffers w t d3 log)
+    → d3 ≡ after_fault answer d → ByFound still found w d t log →
+    DoesAs still result buffers w t d3 log
+as_answered still w d d3 t found answer result buffers log read none e are is after h =
+    subst (λ (o : Result (Option NextChain) Denial). DoesAs still o buffers w t d3 log)
     (sym (is ∙ ap (λ (o : Result (Option NextChain) ChainFault). told o) e))
-    (subst (λ (x : Device). DoesAs (told (answer_to w.kind found)) buffers w t x log)
+    (subst (λ (x : Device). DoesAs still (told (answer_to w.kind found)) buffers w t x log)
     (sym (after ∙ ap (λ (o : Result (Option NextChain) ChainFault). after_fault o d) e))
-    (by_found w d t found buffers log read none
+    (by_found still w d t found buffers log read none
     (subst (λ (o : Result (Option NextChain) ChainFault). (taken : Taken) →
     found ≡ Ok (Some taken) → IsOk o →
     take (length taken.chain) buffers ≡ map buffer_of taken.chain) e are) h))

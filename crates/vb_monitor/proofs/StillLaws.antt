@@ -29,17 +29,19 @@ use Rattle.vb_monitor.specs.Notices.{HeadBy, EntryAt, TakesChain, AfterIndex, In
 use Rattle.vb_monitor.specs.Notices.{TakesUnlessSpent, TakesNext, with_chains, fresh, Serves}
 use Rattle.vb_monitor.specs.Notices.{with_published, ServesPublished}
 use Rattle.vb_monitor.specs.{Machine.{whole, next_chain, serves}}
-use Rattle.vb_monitor.specs.Still.{Stays, IsMapped, avail_copy, table_copy, DoesAs, index_in}
+use Rattle.vb_monitor.specs.Still.{IsMapped, avail_copy, table_copy, index_in}
+use Rattle.vb_monitor.specs.Still.{StaysUntil, DoesAs}
 use Rattle.vb_monitor.specs.Still.{as_read}
-use Rattle.vb_monitor.proofs.{StillBytes.{shown, word_shown, descriptor_shown}, StillWalk.in_memory}
-use Rattle.vb_monitor.proofs.StillWalk.{Walk, walks, none_shows}
+use Rattle.vb_monitor.proofs.StillBytes.{shown, word_shown, descriptor_shown}
+use Rattle.vb_monitor.proofs.StillWalk.{in_memory, Walk, walks, none_shows}
 use Rattle.vb_monitor.proofs.StillFound.{ByFound, one_more, ends_so, found_by, tests_alike, offset_so, offset_fits, chain_found}
 use Rattle.vb_monitor.proofs.StillAnswers.{as_answered, refused_alike, two_pages}
 
 -- ---- what is found in copies
 
 -- the queue is one, and its copies are those of memory
-pub record IsShown (byte : ℕ → ℕ) (w : Whole) (d : Device) (found : Result (Option Taken) ChainFault) :
+pub record IsShown (byte : ℕ → ℕ) (w : Whole) (d : Device) (found : Result
+    (Option Taken) ChainFault) :
     Type 0 where
   pub size : IsSize (ring_of w.kind d).size
   pub two : 2 ≤ memory_pages d.settings
@@ -54,7 +56,8 @@ agree : (byte : ℕ → ℕ) (w : Whole) (d : Device) (found : Result (Option Ta
     IsShown byte w d found → Agree (ring_of w.kind d).size (in_memory byte (ring_of w.kind d).table)
     (descriptor_at (memory byte w d) 0)
 agree byte w d found is i lt =
-    sym (descriptor_shown byte (ring_of w.kind d) (memory_pages d.settings) i is.two is.size.most lt)
+    sym (descriptor_shown byte (ring_of w.kind d) (memory_pages d.settings) i is.two is.size.most
+    lt)
 
 pub same_end : (byte : ℕ → ℕ) (w : Whole) (d : Device) → memory_end d ≡ end_of (memory byte w d)
 same_end byte w d = ap (λ (n : ℕ). 4096 * n) (sym (copies_count (memory_pages d.settings)
@@ -90,19 +93,24 @@ pieces_found byte w d found head pieces is e gives =
 
 -- ---- the chain of a head
 
-walked : (byte : ℕ → ℕ) (w : Whole) (d : Device) (t : Tally)
+walked : (onward : List Access → Type 0) (byte : ℕ → ℕ) (w : Whole) (d : Device) (t : Tally)
     (found : Result (Option Taken) ChainFault) (head : ℕ) (log : List Access) →
     IsShown byte w d found → t.given ≡ false → Next byte w d ≡ Ok (Some head) →
-    Walk w d t (serves w t d head) (in_memory byte (ring_of w.kind d).table)
-    (ring_of w.kind d).size (memory_end d) head log → ByFound found w d t log
-walked byte w d t found head log is none e (inl h) =
-    subst (λ (o : Result (Option Taken) ChainFault). ByFound o w d t log)
+    Walk (StaysUntil onward byte w.regions) w d t (serves w t d head) (in_memory byte
+    (ring_of w.kind d).table)
+    (ring_of w.kind d).size (memory_end d) head log → ByFound
+    (StaysUntil onward byte w.regions) found w d t log
+walked onward byte w d t found head log is none e (inl h) =
+    subst (λ (o : Result (Option Taken) ChainFault). ByFound
+    (StaysUntil onward byte w.regions) o w d t log)
     (sym (pieces_found byte w d found head h.pieces is e h.gives))
-    (record { read = h.read; rest = h.rest; all = h.all; is = h.serves })
-walked byte w d t found head log is none e (inr h) =
-    subst (λ (o : Result (Option Taken) ChainFault). ByFound o w d t log)
+    (record { read = h.read; rest = h.rest; all = h.all; is = h.serves; still_so = h.still_so })
+walked onward byte w d t found head log is none e (inr h) =
+    subst (λ (o : Result (Option Taken) ChainFault). ByFound
+    (StaysUntil onward byte w.regions) o w d t log)
     (sym (fault_found byte w d found head h.fault is e h.gives))
-    (ends_so t.given w (needing_reset d) t (Some (Broken h.fault)) false h.rest none h.breaks)
+    (ends_so (StaysUntil onward byte w.regions) t.given w (needing_reset d) t (Some
+    (Broken h.fault)) false h.rest none h.still_so h.breaks)
 
 lt_false : (a b : ℕ) → nat_lt a b ≡ false → b ≤ a
 lt_false a b e = grind (arith, nat_tests)
@@ -110,26 +118,30 @@ lt_false a b e = grind (arith, nat_tests)
 lt_true : (a b : ℕ) → nat_lt a b ≡ true → a < b
 lt_true a b e = grind (arith, nat_tests)
 
-by_head : (byte : ℕ → ℕ) (w : Whole) (d : Device) (t : Tally)
+by_head : (onward : List Access → Type 0) (byte : ℕ → ℕ) (w : Whole) (d : Device) (t : Tally)
     (found : Result (Option Taken) ChainFault) (head : ℕ) (below : Bool) (log : List Access) →
     IsShown byte w d found → t.given ≡ false → Next byte w d ≡ Ok (Some head) →
-    nat_lt head (descriptors (ring_of w.kind d)) ≡ below → Stays byte w.regions log →
-    HeadBy below w (next_chain w t) d t head log → ByFound found w d t log
-by_head byte w d t found head false log is none e f stays h =
+    nat_lt head (descriptors (ring_of w.kind d)) ≡ below → StaysUntil onward byte w.regions log →
+    HeadBy below w (next_chain w t) d t head log → ByFound
+    (StaysUntil onward byte w.regions) found w d t log
+by_head onward byte w d t found head false log is none e f stays h =
     let past : (ring_of w.kind d).size ≤ head =
     let far : descriptors (ring_of w.kind d) ≤ head = lt_false head _ f in
     omega (arith, far, size_so (ring_of w.kind d) is.size) in
-    subst (λ (o : Result (Option Taken) ChainFault). ByFound o w d t log)
+    subst (λ (o : Result (Option Taken) ChainFault). ByFound
+    (StaysUntil onward byte w.regions) o w d t log)
     (sym (fault_found byte w d found head BadHead is e (inl (record { past = past; is = refl }))))
-    (ends_so t.given w (needing_reset d) t (Some (Broken BadHead)) false log none h)
-by_head byte w d t found head true log is none e f stays h =
+    (ends_so (StaysUntil onward byte w.regions) t.given w (needing_reset d) t (Some
+    (Broken BadHead)) false log none stays h)
+by_head onward byte w d t found head true log is none e f stays h =
     let r = ring_of w.kind d in
     let same : r.size ≡ descriptors r = size_so r is.size in
     let below : head < r.size =
     let near : head < descriptors r = lt_true head _ f in omega (arith, near, same) in
     let some : 0 < r.size = omega (arith, below) in
-    walked byte w d t found head log is none e
-    (walks r.size byte w d t (serves w t d head) r.size head (head ∷ []) 0 head no_row false [] log
+    walked onward byte w d t found head log is none e
+    (walks r.size onward byte w d t (serves w t d head) r.size head
+    (head ∷ []) 0 head no_row false [] log
     (none_shows byte r.table) same is.mapped.descriptors (omega arith) some below
     (walked_init (in_memory byte r.table) r.size (memory_end d) head below) stays
     (subst (λ (n : ℕ). Follows n w d t (serves w t d head) no_row head false [] log)
@@ -137,25 +149,28 @@ by_head byte w d t found head true log is none e f stays h =
 
 -- ---- the entry and the index
 
-by_entry : (byte : ℕ → ℕ) (w : Whole) (d : Device) (t : Tally)
+by_entry : (onward : List Access → Type 0) (byte : ℕ → ℕ) (w : Whole) (d : Device) (t : Tally)
     (found : Result (Option Taken) ChainFault) (o : Option Spot) (log : List Access) →
     IsShown byte w d found → t.given ≡ false →
     ((head : ℕ) → head ≡ field 2 (memory byte w d) 1 (entry_offset (ring_of w.kind d)) →
     Next byte w d ≡ Ok (Some head)) →
     spot w.regions ((ring_of w.kind d).avail + entry_offset (ring_of w.kind d)) 2 ≡ o → o ≢ None →
-    Stays byte w.regions log → EntryAt w (next_chain w t) d t o log → ByFound found w d t log
-by_entry byte w d t found None log is none next e mapped stays h = absurd (mapped refl)
-by_entry byte w d t found (Some at) log is none next e mapped stays h =
+    StaysUntil onward byte w.regions log → EntryAt w (next_chain w t) d t o log →
+    ByFound (StaysUntil onward byte w.regions) found w d t log
+by_entry onward byte w d t found None log is none next e mapped stays h = absurd (mapped refl)
+by_entry onward byte w d t found (Some at) log is none next e mapped stays h =
     let r = ring_of w.kind d in
-    let all : Stays byte w.regions (Acquire ∷ ReadWord at h.head ∷ h.rest) =
-    subst (λ (l : List Access). Stays byte w.regions l) h.asks stays in
+    let all : StaysUntil onward byte w.regions (Acquire ∷ ReadWord at h.head ∷ h.rest) =
+    subst (λ (l : List Access). StaysUntil onward byte w.regions l) h.asks stays in
     let head : h.head ≡ field 2 (memory byte w d) 1 (entry_offset r) =
     all.1.0 (r.avail + entry_offset r) e
     ∙ sym (word_shown byte r (memory_pages d.settings) (entry_offset r) is.two is.size.most
     (offset_fits r is.size.least)) in
-    one_more found w d t Acquire (ReadWord at h.head ∷ h.rest) log h.asks
-    (one_more found w d t (ReadWord at h.head) h.rest (ReadWord at h.head ∷ h.rest) refl
-    (by_head byte w d t found h.head (nat_lt h.head (descriptors r)) h.rest is none
+    one_more (StaysUntil onward byte w.regions) found w d t Acquire
+    (ReadWord at h.head ∷ h.rest) log h.asks
+    (one_more (StaysUntil onward byte w.regions) found w d t (ReadWord at h.head) h.rest
+    (ReadWord at h.head ∷ h.rest) refl
+    (by_head onward byte w d t found h.head (nat_lt h.head (descriptors r)) h.rest is none
     (next h.head head) refl all.1.1 h.goes_on))
 
 next_is : (byte : ℕ → ℕ) (w : Whole) (d : Device) (found : Result (Option Taken) ChainFault)
@@ -180,22 +195,28 @@ unspent : (w : Whole) (d : Device) (t : Tally) (n : ℕ) (log : List Access) →
 unspent w d t n log e h = subst (λ (b : Bool). TakesUnlessSpent b w
     (next_chain w (with_chains n t)) d (with_chains n t) log) e h
 
-by_index : (byte : ℕ → ℕ) (w : Whole) (d : Device) (t : Tally) (n : ℕ)
+by_index : (onward : List Access → Type 0) (byte : ℕ → ℕ) (w : Whole) (d : Device) (t : Tally)
+    (n : ℕ)
     (found : Result (Option Taken) ChainFault) (o : Result Bool ChainFault) (log : List Access)
     → IsShown byte w d found → t.given ≡ false → (t.pages == 0) ≡ false
     → Next byte w d ≡ found_by o (field 2 (memory byte w d) 1 (entry_offset (ring_of w.kind d)))
-    → Stays byte w.regions log → AfterIndex o w (TakesNext (suc n) w d t) d t log
-    → ByFound found w d (with_chains n t) log
-by_index byte w d t n found (Err f) log is none some e stays h =
-    subst (λ (x : Result (Option Taken) ChainFault). ByFound x w d (with_chains n t) log)
+    → StaysUntil onward byte w.regions log → AfterIndex o w (TakesNext (suc n) w d t) d t log
+    → ByFound (StaysUntil onward byte w.regions) found w d (with_chains n t) log
+by_index onward byte w d t n found (Err f) log is none some e stays h =
+    subst (λ (x : Result (Option Taken) ChainFault). ByFound
+    (StaysUntil onward byte w.regions) x w d (with_chains n t) log)
     (sym (is.pops.jump f refl e))
-    (ends_so t.given w (needing_reset d) t (Some (Broken f)) false log none h)
-by_index byte w d t n found (Ok false) log is none some e stays h =
-    subst (λ (x : Result (Option Taken) ChainFault). ByFound x w d (with_chains n t) log)
-    (sym (is.pops.none refl e)) (ends_so t.given w d t None false log none h)
-by_index byte w d t n found (Ok true) log is none some e stays h =
+    (ends_so (StaysUntil onward byte w.regions) t.given w (needing_reset d) t (Some
+    (Broken f)) false log none stays h)
+by_index onward byte w d t n found (Ok false) log is none some e stays h =
+    subst (λ (x : Result (Option Taken) ChainFault). ByFound
+    (StaysUntil onward byte w.regions) x w d (with_chains n t) log)
+    (sym (is.pops.none refl e)) (ends_so (StaysUntil onward byte w.regions) t.given w d t None false
+    log none stays h)
+by_index onward byte w d t n found (Ok true) log is none some e stays h =
     let r = ring_of w.kind d in
-    by_entry byte w d (with_chains n t) found (spot w.regions (r.avail + entry_offset r) 2) log is
+    by_entry onward byte w d (with_chains n t) found (spot w.regions
+    (r.avail + entry_offset r) 2) log is
     none (λ head same. e ∙ ap (λ (n : ℕ). Ok (Some n)) (sym same)) refl is.mapped.entry stays
     (unspent w d t n log some h)
 
@@ -203,43 +224,54 @@ by_index byte w d t n found (Ok true) log is none some e stays h =
 abbrev pub left_then : (ℕ → ℕ) → Whole → Device → Tally → ℕ → Tally
 left_then byte w d t n = with_chains n (with_published (index_in byte (ring_of w.kind d)) t)
 
-pub by_place : (byte : ℕ → ℕ) (w : Whole) (d : Device) (t : Tally) (n : ℕ)
+pub by_place : (onward : List Access → Type 0) (byte : ℕ →
+    ℕ) (w : Whole) (d : Device) (t : Tally) (n : ℕ)
     (found : Result (Option Taken) ChainFault) (o : Option Spot) (log : List Access) →
     IsShown byte w d found → t.given ≡ false → (t.pages == 0) ≡ false →
-    spot w.regions ((ring_of w.kind d).avail + 2) 2 ≡ o → o ≢ None → Stays byte w.regions log →
-    IndexAt w (ServesPublished (suc n) w) d t o log → ByFound found w d (left_then byte w d t n) log
-by_place byte w d t n found None log is none some e mapped stays h = absurd (mapped refl)
-by_place byte w d t n found (Some at) log is none some e mapped stays h =
+    spot w.regions ((ring_of w.kind d).avail + 2) 2 ≡ o → o ≢ None →
+    StaysUntil onward byte w.regions log →
+    IndexAt w (ServesPublished (suc n) w) d t o log → ByFound
+    (StaysUntil onward byte w.regions) found w d (left_then byte w d t n) log
+by_place onward byte w d t n found None log is none some e mapped stays h = absurd (mapped refl)
+by_place onward byte w d t n found (Some at) log is none some e mapped stays h =
     let r = ring_of w.kind d in
-    let all : Stays byte w.regions (ReadWord at h.index ∷ h.rest) =
-    subst (λ (l : List Access). Stays byte w.regions l) h.asks stays in
+    let all : StaysUntil onward byte w.regions (ReadWord at h.index ∷ h.rest) =
+    subst (λ (l : List Access). StaysUntil onward byte w.regions l) h.asks stays in
     let read : h.index ≡ index_in byte r = all.0 (r.avail + 2) e in
     let index : h.index ≡ field 2 (memory byte w d) 1 2 = read
     ∙ sym (word_shown byte r (memory_pages d.settings) 2 is.two is.size.most (omega arith)) in
-    subst (λ (i : ℕ). ByFound found w d (with_chains n (with_published i t)) log) read
-    (one_more found w d (with_chains n (with_published h.index t)) (ReadWord at h.index) h.rest log
-    h.asks (by_index byte w d (with_published h.index t) n found (stands r h.index) h.rest is none
+    subst (λ (i : ℕ). ByFound (StaysUntil onward byte w.regions) found w d (with_chains n
+    (with_published i t)) log) read
+    (one_more (StaysUntil onward byte w.regions) found w d (with_chains n
+    (with_published h.index t)) (ReadWord at h.index) h.rest log
+    h.asks (by_index onward byte w d (with_published h.index t) n found
+    (stands r h.index) h.rest is none
     some (next_is byte w d found h.index is index) all.1 h.goes_on))
 
 -- ---- the whole
 
-looks_as : (byte : ℕ → ℕ) (w : Whole) (d d3 : Device) (t : Tally) (n room : ℕ)
+looks_as : (onward : List Access → Type 0) (byte : ℕ → ℕ) (w : Whole) (d d3 : Device) (t : Tally)
+    (n room : ℕ)
     (buffers : List ChainPiece) (result : Result (Option NextChain) Denial) (o : Option Denial)
     (log : List Access) → is_read w.kind ≡ true → IsMapped w.regions (ring_of w.kind d) →
     (ring_of w.kind d).size ≤ room → t.given ≡ false → (t.pages == 0) ≡ false →
-    queue_denial w.kind d ≡ o → Stays byte w.regions log →
+    queue_denial w.kind d ≡ o → StaysUntil onward byte w.regions log →
     NextBy w.kind (avail_copy byte (ring_of w.kind d)) (table_copy byte (ring_of w.kind d)) room
     buffers d d3 result → LooksBy o w (ServesPublished (suc n) w) d t log →
-    DoesAs result buffers w (left_then byte w d t n) d3 log
-looks_as byte w d d3 t n room buffers result (Some why) log read mapped fits none some e stays next h =
+    DoesAs (StaysUntil onward byte w.regions) result buffers w (left_then byte w d t n) d3 log
+looks_as onward byte w d d3 t n room buffers result (Some why) log read mapped fits none some e
+    stays next h =
     let r = ring_of w.kind d in
     let x = next.denied why (refused_alike w.kind _ _ room d read fits
     (length-map-range_with_len byte r.avail (4 + 2 * r.size))
     (length-map-range_with_len byte r.table (16 * r.size)) ∙ e) in
-    let y = ends_so t.given w d t (Some why) false log none h in
-    subst (λ (o : Result (Option NextChain) Denial). DoesAs o buffers w (left_then byte w d t n) d3
-    log) (sym x.0) (y.0, y.1 ∙ sym x.1)
-looks_as byte w d d3 t n room buffers result None log read mapped fits none some e stays next h =
+    let y = ends_so (StaysUntil onward byte w.regions) t.given w d t
+    (Some why) false log none stays h in
+    subst (λ (o : Result (Option NextChain) Denial). DoesAs
+    (StaysUntil onward byte w.regions) o buffers w (left_then byte w d t n) d3
+    log) (sym x.0) (y.0, y.1 ∙ sym x.1, y.2)
+looks_as onward byte w d d3 t n room buffers result None log read mapped fits none some e stays next
+    h =
     let r = ring_of w.kind d in
     let (answer, reads, is, after) = next.reads (refused_alike w.kind _ _ room d read fits
     (length-map-range_with_len byte r.avail (4 + 2 * r.size))
@@ -251,24 +283,29 @@ looks_as byte w d d3 t n room buffers result None log read mapped fits none some
       mapped = mapped;
       pops = reads.pops;
     } in
-    as_answered w d d3 (left_then byte w d t n) reads.found answer result buffers log read none
+    as_answered (StaysUntil onward byte w.regions) w d d3
+    (left_then byte w d t n) reads.found answer result buffers log read none
     reads.answer reads.pieces_are is after
-    (by_place byte w d t n reads.found (spot w.regions (r.avail + 2) 2) log shown_so none some refl
+    (by_place onward byte w d t n reads.found (spot w.regions
+    (r.avail + 2) 2) log shown_so none some refl
     mapped.index stays h)
 
-pub serves_as : (byte : ℕ → ℕ) (regions : List Region) (kind : Kind) (budget : Budget) (n room : ℕ)
+pub serves_as : (onward : List Access → Type 0) (byte : ℕ →
+    ℕ) (regions : List Region) (kind : Kind) (budget : Budget) (n room : ℕ)
     (d1 d2 d3 : Device) (outcome : Outcome) (log : List Access) (buffers : List ChainPiece)
     (answer : Result (Option NextChain) Denial) → is_read kind ≡ true → budget.chains ≡ suc n →
     (budget.pages == 0) ≡ false → IsMapped regions (ring_of kind d1) →
-    (ring_of kind d1).size ≤ room → Stays byte regions log →
+    (ring_of kind d1).size ≤ room → StaysUntil onward byte regions log →
     NextBy kind (avail_copy byte (ring_of kind d1)) (table_copy byte (ring_of kind d1)) room buffers
     d1 d3 answer → Serves regions kind budget d1 d2 outcome log →
-    DoesAs answer buffers (whole regions kind d2 outcome)
+    DoesAs (StaysUntil onward byte regions) answer buffers (whole regions kind d2 outcome)
     (as_read n budget (index_in byte (ring_of kind d1))) d3 log
-serves_as byte regions kind budget n room d1 d2 d3 outcome log buffers answer read chains some
+serves_as onward byte regions kind budget n room d1 d2 d3 outcome log buffers answer read chains
+    some
     mapped fits stays next h =
     let w = whole regions kind d2 outcome in
-    looks_as byte w d1 d3 (fresh budget) n room buffers answer (queue_denial kind d1) log read
+    looks_as onward byte w d1 d3 (fresh budget) n room buffers answer
+    (queue_denial kind d1) log read
     mapped fits refl some refl stays next
     (subst (λ (m : ℕ). LooksBy (queue_denial kind d1) w (ServesPublished m w) d1 (fresh budget)
     log) chains h)

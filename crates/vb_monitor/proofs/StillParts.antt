@@ -15,12 +15,14 @@ use Rattle.vb_monitor.specs.{Accesses.CopyBytes, Ends.Whole, Pieces.{first_part,
 use Rattle.vb_monitor.specs.Pieces.{unless_empty, parts_of, all_parts, fits_behind, PartAt, PartBy}
 use Rattle.vb_monitor.specs.{Pieces.CopiesParts, Chains.{AfterBytes, ServesPieces, CopiesBy}}
 use Rattle.vb_monitor.specs.{Giving.Then, Machine.{next_chain, serves, served}, Still.bytes_from}
-use Rattle.vb_monitor.specs.Still.{bytes_of, ArePartsMapped, Holds, Stays, Behind}
+use Rattle.vb_monitor.specs.Still.{bytes_of, ArePartsMapped, Holds}
+use Rattle.vb_monitor.specs.Still.{StaysUntil, AfterReads}
 use Rattle.vb_monitor.proofs.StillWalk.{copied_as}
 
 -- ---- bytes in a row
 
-split : (byte : ℕ → ℕ) (k m a : ℕ) → bytes_from byte a (k + m) ≡ bytes_from byte a k ++ bytes_from byte (a + k) m
+split : (byte : ℕ → ℕ) (k m a : ℕ) → bytes_from byte a (k + m) ≡ bytes_from byte a k ++ bytes_from
+    byte (a + k) m
 split byte zero m a =
     let none : zero + m ≡ m = omega arith in
     let here : a ≡ a + zero = omega arith in
@@ -87,19 +89,24 @@ fits so_far here rest part long room =
     let le : length so_far + part.length ≤ MAX_BYTES = omega (arith, all, both, long, room) in
     grind (arith, nat_tests)
 
-copied : (byte : ℕ → ℕ) (w : Whole) (does : List ℕ → List Access → Type 0) (d : Device) (t : Tally)
+copied : (onward : List Access → Type 0) (byte : ℕ → ℕ) (w : Whole) (does : List ℕ → List Access →
+    Type 0) (d : Device) (t : Tally)
     (part : Part) (parts : List Part) (so_far : List ℕ) (o : Option Spot) (log : List Access)
     (on : (now : List ℕ) (l : List Access) → length (now ++ parts_bytes byte parts) ≤ MAX_BYTES →
-    Stays byte w.regions l → CopiesParts w does d t parts now l →
-    Behind (does (now ++ parts_bytes byte parts)) l)
+    StaysUntil onward byte w.regions l → CopiesParts w does d t parts now l →
+    AfterReads (StaysUntil onward byte w.regions) (does (now ++ parts_bytes byte parts)) l)
     → spot w.regions (part.address + part.plus) part.length ≡ o
     → o ≢ None → length (so_far ++ (part_bytes byte part ++ parts_bytes byte parts)) ≤ MAX_BYTES
-    → Stays byte w.regions log → PartAt w (CopiesParts w does d t parts) d t part so_far o log
-    → Behind (does (so_far ++ (part_bytes byte part ++ parts_bytes byte parts))) log
-copied byte w does d t part parts so_far None log on e mapped room stays h = absurd (mapped refl)
-copied byte w does d t part parts so_far (Some at) log on e mapped room stays h =
-    let all : Holds byte w.regions (CopyBytes at h.bytes) × Stays byte w.regions h.rest =
-    subst (λ (l : List Access). Stays byte w.regions l) h.asks stays in
+    → StaysUntil onward byte w.regions log → PartAt w (CopiesParts w does d t parts) d t part so_far
+    o log
+    → AfterReads (StaysUntil onward byte w.regions) (does (so_far ++
+    (part_bytes byte part ++ parts_bytes byte parts))) log
+copied onward byte w does d t part parts so_far None log on e mapped room stays h = absurd
+    (mapped refl)
+copied onward byte w does d t part parts so_far (Some at) log on e mapped room stays h =
+    let all : Holds byte w.regions (CopyBytes at h.bytes) × StaysUntil onward byte w.regions h.rest
+    =
+    subst (λ (l : List Access). StaysUntil onward byte w.regions l) h.asks stays in
     let same : h.bytes ≡ part_bytes byte part =
     copied_as byte w.regions (part.address + part.plus) part.length at h.bytes all.0 e h.long in
     let joined : (so_far ++ part_bytes byte part) ++ parts_bytes byte parts ≡
@@ -113,60 +120,69 @@ copied byte w does d t part parts so_far (Some at) log on e mapped room stays h 
       rest = behind.rest;
       all = h.asks ∙ ap (λ (l : List Access). CopyBytes at h.bytes ∷ l) behind.all;
       is = subst (λ (l : List ℕ). does l behind.rest) joined behind.is;
+      still_so = behind.still_so;
     }
 
-copies : (byte : ℕ → ℕ) (w : Whole) (does : List ℕ → List Access → Type 0) (d : Device) (t : Tally)
+copies : (onward : List Access → Type 0) (byte : ℕ → ℕ) (w : Whole) (does : List ℕ → List Access →
+    Type 0) (d : Device) (t : Tally)
     (parts : List Part) (so_far : List ℕ) (log : List Access) → ArePartsMapped w.regions parts
-    → length (so_far ++ parts_bytes byte parts) ≤ MAX_BYTES → Stays byte w.regions log
-    → CopiesParts w does d t parts so_far log → Behind (does (so_far ++ parts_bytes byte parts)) log
-copies byte w does d t [] so_far log mapped room stays h = record {
+    → length (so_far ++ parts_bytes byte parts) ≤ MAX_BYTES → StaysUntil onward byte w.regions log
+    → CopiesParts w does d t parts so_far log → AfterReads (StaysUntil onward byte w.regions)
+    (does (so_far ++ parts_bytes byte parts)) log
+copies onward byte w does d t [] so_far log mapped room stays h = record {
   read = [];
   rest = log;
   all = refl;
   is = subst (λ (l : List ℕ). does l log) (sym (append-nil so_far)) h;
+  still_so = stays;
 }
-copies byte w does d t (part ∷ parts) so_far log mapped room stays h =
+copies onward byte w does d t (part ∷ parts) so_far log mapped room stays h =
     let long : length (part_bytes byte part) ≡ part.length =
     length-map-range_with_len byte (part.address + part.plus) part.length in
     let room_so : fits_behind so_far part ≡ true =
     fits so_far (part_bytes byte part) (parts_bytes byte parts) part long room in
-    copied byte w does d t part parts so_far _ log
-    (λ now l. copies byte w does d t parts now l mapped.1) refl mapped.0 room stays
+    copied onward byte w does d t part parts so_far _ log
+    (λ now l. copies onward byte w does d t parts now l mapped.1) refl mapped.0 room stays
     (subst (λ (b : Bool). PartBy b w (CopiesParts w does d t parts) d t part so_far log) room_so h)
 
 -- ---- a chain
 
-read_whole : (byte : ℕ → ℕ) (w : Whole) (does : List ℕ → List Access → Type 0) (d : Device)
+read_whole : (onward : List Access → Type 0) (byte : ℕ → ℕ) (w : Whole) (does : List ℕ →
+    List Access → Type 0) (d : Device)
     (t : Tally) (pieces : List Piece) (log : List Access) →
     ArePartsMapped w.regions (all_parts pieces) → length (bytes_of byte pieces) ≤ MAX_BYTES →
-    Stays byte w.regions log → CopiesParts w does d t (all_parts pieces) [] log →
-    Behind (does (bytes_of byte pieces)) log
-read_whole byte w does d t pieces log mapped room stays h =
+    StaysUntil onward byte w.regions log → CopiesParts w does d t (all_parts pieces) [] log →
+    AfterReads (StaysUntil onward byte w.regions) (does (bytes_of byte pieces)) log
+read_whole onward byte w does d t pieces log mapped room stays h =
     let same : parts_bytes byte (all_parts pieces) ≡ bytes_of byte pieces = all_bytes byte pieces in
-    subst (λ (l : List ℕ). Behind (does l) log) same
-    (copies byte w does d t (all_parts pieces) [] log mapped
+    subst (λ (l : List ℕ). AfterReads (StaysUntil onward byte w.regions) (does l) log) same
+    (copies onward byte w does d t (all_parts pieces) [] log mapped
     (subst (λ (l : List ℕ). length l ≤ MAX_BYTES) (sym same) room) stays h)
 
-by_kind : (byte : ℕ → ℕ) (kind : Kind) (w : Whole) (next : Then) (d : Device) (t : Tally) (head : ℕ)
+by_kind : (onward : List Access → Type 0) (byte : ℕ → ℕ) (kind : Kind) (w : Whole) (next : Then)
+    (d : Device) (t : Tally) (head : ℕ)
     (pieces : List Piece) (n : ℕ) (log : List Access) → is_read kind ≡ true → length_of kind pieces
     ≡ Ok n → ArePartsMapped w.regions (all_parts pieces) → length (bytes_of byte pieces) ≤ MAX_BYTES
-    → Stays byte w.regions log → ServesPieces kind w next d t head pieces log
-    → Behind (AfterBytes w.kind w next d t head (bytes_of byte pieces)) log
-by_kind byte Inflate w next d t head pieces n log read e mapped room stays h =
-    read_whole byte w (AfterBytes w.kind w next d t head) d t pieces log mapped room stays
+    → StaysUntil onward byte w.regions log → ServesPieces kind w next d t head pieces log
+    → AfterReads (StaysUntil onward byte w.regions) (AfterBytes w.kind w next d t head
+    (bytes_of byte pieces)) log
+by_kind onward byte Inflate w next d t head pieces n log read e mapped room stays h =
+    read_whole onward byte w (AfterBytes w.kind w next d t head) d t pieces log mapped room stays
     (subst (λ (o : Result ℕ ChainFault). CopiesBy o w next d t head pieces log) e h)
-by_kind byte Deflate w next d t head pieces n log read e mapped room stays h =
-    read_whole byte w (AfterBytes w.kind w next d t head) d t pieces log mapped room stays
+by_kind onward byte Deflate w next d t head pieces n log read e mapped room stays h =
+    read_whole onward byte w (AfterBytes w.kind w next d t head) d t pieces log mapped room stays
     (subst (λ (o : Result ℕ ChainFault). CopiesBy o w next d t head pieces log) e h)
-by_kind byte Statistics w next d t head pieces n log read e mapped room stays h =
-    read_whole byte w (AfterBytes w.kind w next d t head) d t pieces log mapped room stays
+by_kind onward byte Statistics w next d t head pieces n log read e mapped room stays h =
+    read_whole onward byte w (AfterBytes w.kind w next d t head) d t pieces log mapped room stays
     (subst (λ (o : Result ℕ ChainFault). CopiesBy o w next d t head pieces log) e h)
-by_kind byte Report w next d t head pieces n log read e mapped room stays h = absurd cc
+by_kind onward byte Report w next d t head pieces n log read e mapped room stays h = absurd cc
 
-pub served_by_bytes : (byte : ℕ → ℕ) (w : Whole) (t : Tally) (d : Device) (head : ℕ)
+pub served_by_bytes : (onward : List Access → Type 0) (byte : ℕ →
+    ℕ) (w : Whole) (t : Tally) (d : Device) (head : ℕ)
     (pieces : List Piece) (n : ℕ) (log : List Access) → is_read w.kind ≡ true →
     length_of w.kind pieces ≡ Ok n → ArePartsMapped w.regions (all_parts pieces) →
-    length (bytes_of byte pieces) ≤ MAX_BYTES → Stays byte w.regions log →
-    serves w t d head pieces log → Behind (served w t d head (bytes_of byte pieces)) log
-served_by_bytes byte w t d head pieces n log read e mapped room stays h =
-    by_kind byte w.kind w (next_chain w t) d t head pieces n log read e mapped room stays h
+    length (bytes_of byte pieces) ≤ MAX_BYTES → StaysUntil onward byte w.regions log →
+    serves w t d head pieces log → AfterReads (StaysUntil onward byte w.regions)
+    (served w t d head (bytes_of byte pieces)) log
+served_by_bytes onward byte w t d head pieces n log read e mapped room stays h =
+    by_kind onward byte w.kind w (next_chain w t) d t head pieces n log read e mapped room stays h

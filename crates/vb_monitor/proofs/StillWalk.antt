@@ -15,14 +15,16 @@ use Rattle.vb_monitor.specs.Chains.{descriptor_of, descriptors, memory_end, tabl
 use Rattle.vb_monitor.specs.Chains.{TableRow, row_of, no_row, in_row, unless_apart, so_many_behind}
 use Rattle.vb_monitor.specs.Chains.{DescriptorBy, GoesOn, AfterDescriptor, RowAt, FollowsBy}
 use Rattle.vb_monitor.{proofs.TableRowLemmas.{first_in_row, in_row_is, none_in_none}}
-use Rattle.vb_monitor.specs.Still.{bytes_from, Holds, Stays}
+use Rattle.vb_monitor.specs.Still.{bytes_from, Holds}
+use Rattle.vb_monitor.specs.Still.{StaysUntil}
 
 -- the descriptors that memory has from an address on
 abbrev pub in_memory : (ℕ → ℕ) → ℕ → ℕ → Descriptor
 in_memory byte table i = descriptor_of (bytes_from byte (table + 16 * i) 16)
 
 -- the whole chain is served, behind what was read
-pub record IsWhole (whole : List Piece → List Access → Type 0) (d : ℕ → Descriptor)
+pub record IsWhole (still : List Access → Type 0) (whole : List Piece → List Access →
+    Type 0) (d : ℕ → Descriptor)
     (q end head : ℕ) (log : List Access) : Type 0 where
   pub pieces : List Piece
   pub read : List Access
@@ -30,32 +32,38 @@ pub record IsWhole (whole : List Piece → List Access → Type 0) (d : ℕ → 
   pub all : log ≡ read ++ rest
   pub gives : ChainGives d q end head pieces
   pub serves : whole pieces rest
+  pub still_so : still rest
 
 -- or the first fault ends the notice
-pub record IsBroken (w : Whole) (d : Device) (t : Tally) (ds : ℕ → Descriptor) (q end head : ℕ) :
+pub record IsBroken (still : List Access → Type 0) (w : Whole) (d : Device) (t : Tally) (ds : ℕ →
+    Descriptor) (q end head : ℕ) :
     Type 0 where
   pub fault : ChainFault
   pub rest : List Access
   pub gives : FaultGives ds q end head fault
   pub breaks : Breaks w d t fault rest
+  pub still_so : still rest
 
-abbrev pub Walk : Whole → Device → Tally → (List Piece → List Access → Type 0) →
-    (ℕ → Descriptor) → ℕ → ℕ → ℕ → List Access → Type 0
-Walk w d t whole ds q end head log = IsWhole whole ds q end head log ⊎ IsBroken w d t ds q end head
+abbrev pub Walk : (List Access → Type 0) → Whole → Device → Tally →
+    (List Piece → List Access → Type 0) → (ℕ → Descriptor) → ℕ → ℕ → ℕ → List Access → Type 0
+Walk still w d t whole ds q end head log =
+    IsWhole still whole ds q end head log ⊎ IsBroken still w d t ds q end head
 
 -- behind one more access
-further : (w : Whole) (d : Device) (t : Tally) (whole : List Piece → List Access → Type 0)
+further : (still : List Access → Type 0) (w : Whole) (d : Device) (t : Tally) (whole : List Piece →
+    List Access → Type 0)
     (ds : ℕ → Descriptor) (q end head : ℕ) (x : Access) (rest log : List Access) → log ≡ x ∷ rest →
-    Walk w d t whole ds q end head rest → Walk w d t whole ds q end head log
-further w d t whole ds q end head x rest log e (inl h) = inl (record {
+    Walk still w d t whole ds q end head rest → Walk still w d t whole ds q end head log
+further still w d t whole ds q end head x rest log e (inl h) = inl (record {
   pieces = h.pieces;
   read = x ∷ h.read;
   rest = h.rest;
   all = e ∙ ap (λ (l : List Access). x ∷ l) h.all;
   gives = h.gives;
   serves = h.serves;
+  still_so = h.still_so;
 })
-further w d t whole ds q end head x rest log e (inr h) = inr h
+further still w d t whole ds q end head x rest log e (inr h) = inr h
 
 -- ---- a step
 
@@ -66,7 +74,11 @@ both false b e f = absurd cc
 -- a descriptor that breaks no rule and goes on names one of the table, and there is room for it
 next_below : (q end : ℕ) (writing : Bool) (k : ℕ) (x : Descriptor) →
     first_fault q end writing k x ≡ None → has_next x ≡ true → (x.next < q) × (k + 1 < q)
-next_below q end writing k x e more = (grind (arith, nat_tests, both), grind (arith, nat_tests, both))
+next_below q end writing k x e more = (
+  grind (arith, nat_tests, both),
+  grind
+      (arith, nat_tests, both),
+)
 
 first_alone : (q end : ℕ) (writing : Bool) (k : ℕ) (x : Descriptor) → k < q →
     table_fault q end writing k x ≡ first_fault q end writing k x
@@ -87,7 +99,8 @@ copied_as byte regions a len at bytes holds e long =
 
 -- ---- rows
 
-from_on : (byte : ℕ → ℕ) (a i n : ℕ) → drop i (bytes_from byte a (i + n)) ≡ bytes_from byte (a + i) n
+from_on : (byte : ℕ → ℕ) (a i n : ℕ) → drop i (bytes_from byte a (i + n)) ≡ bytes_from byte
+    (a + i) n
 from_on byte a zero n =
     let none : zero + n ≡ n = omega arith in
     let same : a ≡ a + zero = omega arith in
@@ -131,28 +144,34 @@ row_shows byte table number behind bytes e = record {
 -- ---- the walk
 
 -- what a walk that goes on comes to: `follows` from the next descriptor on, once i were visited
-abbrev Onward : (ℕ → ℕ) → Whole → Device → Tally → (List Piece → List Access → Type 0) →
+abbrev Onward : (List Access → Type 0) → (ℕ → ℕ) → Whole → Device → Tally → (List Piece →
+    List Access → Type 0) →
     (ℕ → Bool → List Piece → List Access → Type 0) → (ℕ → Descriptor) → ℕ → ℕ → ℕ → ℕ → Type 0
-Onward byte w d t whole follows ds q end head i =
+Onward onward byte w d t whole follows ds q end head i =
     (path : List ℕ) (index : ℕ) (writing : Bool) (pieces : List Piece) (log : List Access) → i < q
-    → index < q → Walked ds q end head path i index writing pieces → Stays byte w.regions log
-    → follows index writing pieces log → Walk w d t whole ds q end head log
+    → index < q → Walked ds q end head path i index writing pieces →
+    StaysUntil onward byte w.regions log
+    → follows index writing pieces log → Walk (StaysUntil onward byte w.regions) w d t whole ds q
+    end head log
 
-goes : (byte : ℕ → ℕ) (w : Whole) (d : Device) (t : Tally)
+goes : (onward : List Access → Type 0) (byte : ℕ → ℕ) (w : Whole) (d : Device) (t : Tally)
     (whole : List Piece → List Access → Type 0)
     (follows : ℕ → Bool → List Piece → List Access → Type 0) (ds : ℕ → Descriptor) (q end head : ℕ)
     (path : List ℕ) (i index : ℕ) (writing : Bool) (pieces : List Piece) (log : List Access)
-    (on : Onward byte w d t whole follows ds q end head (i + 1)) (more : Bool) → i < q
+    (on : Onward onward byte w d t whole follows ds q end head (i + 1)) (more : Bool) → i < q
     → Walked ds q end head path i index writing pieces → first_fault q end writing i (ds index)
-    ≡ None → has_next (ds index) ≡ more → Stays byte w.regions log
-    → GoesOn more follows whole writing (ds index) pieces log → Walk w d t whole ds q end head log
-goes byte w d t whole follows ds q end head path i index writing pieces log on true lt walked e f
+    ≡ None → has_next (ds index) ≡ more → StaysUntil onward byte w.regions log
+    → GoesOn more follows whole writing (ds index) pieces log →
+    Walk (StaysUntil onward byte w.regions) w d t whole ds q end head log
+goes onward byte w d t whole follows ds q end head path i index writing pieces log on true lt walked
+    e f
     stays h =
     let below = next_below q end writing i (ds index) e f in
     on (path ++ (ds index).next ∷ []) (ds index).next (writing || is_writable (ds index))
     (pieces ++ piece_of (ds index) ∷ []) log below.1 below.0
     (walked_more ds q end head path i index writing pieces walked e f) stays h
-goes byte w d t whole follows ds q end head path i index writing pieces log on false lt walked e f
+goes onward byte w d t whole follows ds q end head path i index writing pieces log on false lt
+    walked e f
     stays h = inl (record {
       pieces = pieces ++ piece_of (ds index) ∷ [];
       read = [];
@@ -160,40 +179,48 @@ goes byte w d t whole follows ds q end head path i index writing pieces log on f
       all = refl;
       gives = walked_chain ds q end head path i index writing pieces walked lt e f;
       serves = h;
+      still_so = stays;
     })
 
-by_fault : (byte : ℕ → ℕ) (w : Whole) (d : Device) (t : Tally)
+by_fault : (onward : List Access → Type 0) (byte : ℕ → ℕ) (w : Whole) (d : Device) (t : Tally)
     (whole : List Piece → List Access → Type 0)
     (follows : ℕ → Bool → List Piece → List Access → Type 0) (ds : ℕ → Descriptor) (q end head : ℕ)
     (path : List ℕ) (i index : ℕ) (writing : Bool) (pieces : List Piece) (log : List Access)
-    (on : Onward byte w d t whole follows ds q end head (i + 1)) (o : Option ChainFault) → i < q
+    (on : Onward onward byte w d t whole follows ds q end head (i + 1)) (o : Option ChainFault) →
+    i < q
     → Walked ds q end head path i index writing pieces → first_fault q end writing i (ds index) ≡ o
-    → Stays byte w.regions log → DescriptorBy o w d t follows whole writing (ds index) pieces log
-    → Walk w d t whole ds q end head log
-by_fault byte w d t whole follows ds q end head path i index writing pieces log on (Some f) lt
+    → StaysUntil onward byte w.regions log → DescriptorBy o w d t follows whole writing
+    (ds index) pieces log
+    → Walk (StaysUntil onward byte w.regions) w d t whole ds q end head log
+by_fault onward byte w d t whole follows ds q end head path i index writing pieces log on
+    (Some f) lt
     walked e stays h = inr (record {
       fault = f;
       rest = log;
       gives = walked_fault ds q end head path i index writing pieces f walked e;
       breaks = h;
+      still_so = stays;
     })
-by_fault byte w d t whole follows ds q end head path i index writing pieces log on None lt walked e
-    stays h = goes byte w d t whole follows ds q end head path i index writing pieces log on
+by_fault onward byte w d t whole follows ds q end head path i index writing pieces log on None lt
+    walked e
+    stays h = goes onward byte w d t whole follows ds q end head path i index writing pieces log on
     (has_next (ds index)) lt walked e refl stays h
 
 -- what a descriptor says that is the one that memory has
-after : (byte : ℕ → ℕ) (w : Whole) (d : Device) (t : Tally)
+after : (onward : List Access → Type 0) (byte : ℕ → ℕ) (w : Whole) (d : Device) (t : Tally)
     (whole : List Piece → List Access → Type 0)
     (follows : ℕ → Bool → List Piece → List Access → Type 0) (q head : ℕ) (path : List ℕ)
     (i index : ℕ) (writing : Bool) (pieces : List Piece) (bytes : List ℕ) (log : List Access)
-    (on : Onward byte w d t whole follows (in_memory byte (ring_of w.kind d).table) q
+    (on : Onward onward byte w d t whole follows (in_memory byte (ring_of w.kind d).table) q
     (memory_end d) head (i + 1)) → q ≡ descriptors (ring_of w.kind d) → i < q →
     descriptor_of bytes ≡ in_memory byte (ring_of w.kind d).table index →
     Walked (in_memory byte (ring_of w.kind d).table) q (memory_end d) head path i index writing
-    pieces → Stays byte w.regions log →
+    pieces → StaysUntil onward byte w.regions log →
     AfterDescriptor w d t follows whole writing pieces bytes log →
-    Walk w d t whole (in_memory byte (ring_of w.kind d).table) q (memory_end d) head log
-after byte w d t whole follows q head path i index writing pieces bytes log on is lt same walked
+    Walk (StaysUntil onward byte w.regions) w d t whole (in_memory byte
+    (ring_of w.kind d).table) q (memory_end d) head log
+after onward byte w d t whole follows q head path i index writing pieces bytes log on is lt same
+    walked
     stays h =
     let ds = in_memory byte (ring_of w.kind d).table in
     let end = memory_end d in
@@ -204,7 +231,7 @@ after byte w d t whole follows q head path i index writing pieces bytes log on i
     ∙ (ap (λ (n : ℕ). table_fault q end writing n (descriptor_of bytes)) k
     ∙ (ap (λ (x : Descriptor). table_fault q end writing i x) same
     ∙ first_alone q end writing i (ds index) lt)) in
-    by_fault byte w d t whole follows ds q end head path i index writing pieces log on
+    by_fault onward byte w d t whole follows ds q end head path i index writing pieces log on
     _ lt walked refl stays
     (subst (λ (x : Descriptor). DescriptorBy (first_fault q end writing i (ds index)) w d t follows
     whole writing x pieces log) same
@@ -212,38 +239,46 @@ after byte w d t whole follows q head path i index writing pieces bytes log on i
     (descriptor_of bytes) pieces log) fault h))
 
 -- a row is copied, which is what memory has there
-abbrev Rows : (ℕ → ℕ) → Whole → Device → Tally → (List Piece → List Access → Type 0) →
+abbrev Rows : (List Access → Type 0) → (ℕ → ℕ) → Whole → Device → Tally → (List Piece →
+    List Access → Type 0) →
     (TableRow → ℕ → Bool → List Piece → List Access → Type 0) → ℕ → ℕ → ℕ → Type 0
-Rows byte w d t whole follows q head i =
+Rows onward byte w d t whole follows q head i =
     (row : TableRow) → Shows byte (ring_of w.kind d).table row →
-    Onward byte w d t whole (follows row) (in_memory byte (ring_of w.kind d).table) q
+    Onward onward byte w d t whole (follows row) (in_memory byte (ring_of w.kind d).table) q
     (memory_end d) head i
 
-row_at : (byte : ℕ → ℕ) (w : Whole) (d : Device) (t : Tally)
+row_at : (onward : List Access → Type 0) (byte : ℕ → ℕ) (w : Whole) (d : Device) (t : Tally)
     (whole : List Piece → List Access → Type 0)
     (follows : TableRow → ℕ → Bool → List Piece → List Access → Type 0) (q head : ℕ)
     (path : List ℕ) (i index behind : ℕ) (writing : Bool) (pieces : List Piece)
-    (log : List Access) (on : Rows byte w d t whole follows q head (i + 1)) (o : Option Spot) →
+    (log : List Access) (on : Rows onward byte w d t whole follows q head (i + 1))
+    (o : Option Spot) →
     q ≡ descriptors (ring_of w.kind d) →
     spot w.regions ((ring_of w.kind d).table + 16 * index) (16 * (behind + 1)) ≡ o → o ≢ None →
     i < q →
     Walked (in_memory byte (ring_of w.kind d).table) q (memory_end d) head path i index writing
-    pieces → Stays byte w.regions log →
+    pieces → StaysUntil onward byte w.regions log →
     RowAt w d t follows whole index behind writing pieces o log →
-    Walk w d t whole (in_memory byte (ring_of w.kind d).table) q (memory_end d) head log
-row_at byte w d t whole follows q head path i index behind writing pieces log on None is e mapped
+    Walk (StaysUntil onward byte w.regions) w d t whole (in_memory byte
+    (ring_of w.kind d).table) q (memory_end d) head log
+row_at onward byte w d t whole follows q head path i index behind writing pieces log on None is e
+    mapped
     lt walked stays h = absurd (mapped refl)
-row_at byte w d t whole follows q head path i index behind writing pieces log on
+row_at onward byte w d t whole follows q head path i index behind writing pieces log on
     (Some at) is e mapped lt walked stays h =
     let table = (ring_of w.kind d).table in
     let row = row_of index h.bytes in
-    let both : Holds byte w.regions (CopyBytes at h.bytes) × Stays byte w.regions h.rest =
-    subst (λ (l : List Access). Stays byte w.regions l) h.asks stays in
+    let both : Holds byte w.regions (CopyBytes at h.bytes) × StaysUntil onward byte w.regions h.rest
+    =
+    subst (λ (l : List Access). StaysUntil onward byte w.regions l) h.asks stays in
     let shows : Shows byte table row = row_shows byte table index behind h.bytes
-    (copied_as byte w.regions (table + 16 * index) (16 * (behind + 1)) at h.bytes both.0 e h.long) in
-    further w d t whole (in_memory byte table) q (memory_end d) head (CopyBytes at h.bytes) h.rest
+    (copied_as byte w.regions (table + 16 * index) (16 *
+    (behind + 1)) at h.bytes both.0 e h.long) in
+    further (StaysUntil onward byte w.regions) w d t whole (in_memory byte table) q
+    (memory_end d) head (CopyBytes at h.bytes) h.rest
     log h.asks
-    (after byte w d t whole (follows row) q head path i index writing pieces (take 16 h.bytes)
+    (after onward byte w d t whole (follows row) q head path i index writing pieces
+    (take 16 h.bytes)
     h.rest (on row shows) is lt
     (shows.alike index (take 16 h.bytes) (first_in_row index h.bytes behind h.long)) walked both.1
     h.goes_on)
@@ -259,42 +294,51 @@ row_mapped regions a many None e mapped = mapped
 row_mapped regions a many (Some at) e mapped =
     λ f. absurd (is_some at (sym e ∙ f))
 
-row_by : (byte : ℕ → ℕ) (w : Whole) (d : Device) (t : Tally)
+row_by : (onward : List Access → Type 0) (byte : ℕ → ℕ) (w : Whole) (d : Device) (t : Tally)
     (whole : List Piece → List Access → Type 0)
     (follows : TableRow → ℕ → Bool → List Piece → List Access → Type 0) (q head : ℕ)
     (path : List ℕ) (i index : ℕ) (row : TableRow) (writing : Bool) (pieces : List Piece)
-    (log : List Access) (on : Rows byte w d t whole follows q head (i + 1))
+    (log : List Access) (on : Rows onward byte w d t whole follows q head (i + 1))
     (o : Option (List ℕ)) → in_row row index ≡ o → Shows byte (ring_of w.kind d).table row →
     q ≡ descriptors (ring_of w.kind d) →
     spot w.regions ((ring_of w.kind d).table + 16 * index) 16 ≢ None → i < q →
     Walked (in_memory byte (ring_of w.kind d).table) q (memory_end d) head path i index writing
-    pieces → Stays byte w.regions log →
+    pieces → StaysUntil onward byte w.regions log →
     FollowsBy o w d t follows whole row index writing pieces log →
-    Walk w d t whole (in_memory byte (ring_of w.kind d).table) q (memory_end d) head log
-row_by byte w d t whole follows q head path i index row writing pieces log on None e shows is
+    Walk (StaysUntil onward byte w.regions) w d t whole (in_memory byte
+    (ring_of w.kind d).table) q (memory_end d) head log
+row_by onward byte w d t whole follows q head path i index row writing pieces log on None e shows is
     mapped lt walked stays h =
-    row_at byte w d t whole follows q head path i index _ writing pieces log on _ is refl
+    row_at onward byte w d t whole follows q head path i index _ writing pieces log on _ is refl
     (row_mapped w.regions _ (so_many_behind (descriptors (ring_of w.kind d)) index pieces) _ refl
     mapped) lt walked stays h
-row_by byte w d t whole follows q head path i index row writing pieces log on (Some bytes) e shows
+row_by onward byte w d t whole follows q head path i index row writing pieces log on
+    (Some bytes) e shows
     is mapped lt walked stays h =
-    after byte w d t whole (follows row) q head path i index writing pieces bytes log
+    after onward byte w d t whole (follows row) q head path i index writing pieces bytes log
     (on row shows) is lt (shows.alike index bytes e) walked stays h
 
 -- where so many more descriptors fit the table, i were visited, and this one is next
-pub walks : (n : ℕ) (byte : ℕ → ℕ) (w : Whole) (d : Device) (t : Tally)
+pub walks : (n : ℕ) (onward : List Access → Type 0) (byte : ℕ →
+    ℕ) (w : Whole) (d : Device) (t : Tally)
     (whole : List Piece → List Access → Type 0) (q head : ℕ) (path : List ℕ) (i index : ℕ)
     (row : TableRow) (writing : Bool) (pieces : List Piece) (log : List Access) →
     Shows byte (ring_of w.kind d).table row → q ≡ descriptors (ring_of w.kind d)
     → ((k : ℕ) → k < q → spot w.regions ((ring_of w.kind d).table + 16 * k) 16 ≢ None)
     → n + i ≡ q → i < q → index < q
     → Walked (in_memory byte (ring_of w.kind d).table) q (memory_end d) head path i index writing
-    pieces → Stays byte w.regions log → Follows n w d t whole row index writing pieces log
-    → Walk w d t whole (in_memory byte (ring_of w.kind d).table) q (memory_end d) head log
-walks zero byte w d t whole q head path i index row writing pieces log shows is mapped sum lt below
+    pieces → StaysUntil onward byte w.regions log → Follows n w d t whole row index writing pieces
+    log
+    → Walk (StaysUntil onward byte w.regions) w d t whole (in_memory byte
+    (ring_of w.kind d).table) q (memory_end d) head log
+walks zero onward byte w d t whole q head path i index row writing pieces log shows is mapped sum lt
+    below
     walked stays h = absurd (omega (arith, sum, lt))
-walks (suc n) byte w d t whole q head path i index row writing pieces log shows is mapped sum lt
-    below walked stays h = row_by byte w d t whole (Follows n w d t whole) q head path i index row
+walks (suc n) onward byte w d t whole q head path i index row writing pieces log shows is mapped sum
+    lt
+    below walked stays h = row_by onward byte w d t whole
+    (Follows n w d t whole) q head path i index row
     writing pieces log (λ row2 shows2 path2 index2 writing2 pieces2 log2.
-    walks n byte w d t whole q head path2 (i + 1) index2 row2 writing2 pieces2 log2 shows2 is mapped
+    walks n onward byte w d t whole q head path2 (i + 1) index2 row2 writing2 pieces2 log2 shows2 is
+    mapped
     (omega (arith, sum))) _ refl shows is (mapped index below) lt walked stays h

@@ -14,6 +14,7 @@ use crate::regions::find;
 use crate::{Phase, Region, Step, Tally};
 use vb_chain::ChainFault;
 use vb_core::{Denial, Device, Kind};
+use vb_ring::RING_WORD_SIZE;
 
 /// The bit of the flags by which a driver wants no interrupt (VIRTIO 1.1, 2.6.7).
 const NO_INTERRUPT: u16 = 1;
@@ -58,7 +59,7 @@ pub fn end(
     if !tally.given {
         return stop(tally, why, false, more);
     }
-    match find(regions, device.ring(kind).avail, 2) {
+    match find(regions, device.ring(kind).avail, RING_WORD_SIZE) {
         None => stop(tally, why, false, more),
         Some(at) => Step {
             tally,

@@ -14,6 +14,7 @@ use crate::regions::find_from;
 use crate::{Phase, Region, Spot, Step, Tally};
 use vb_chain::ChainFault;
 use vb_core::{Device, Kind, UsedEntry};
+use vb_ring::{RING_WORD_SIZE, USED_ELEMENT_SIZE, USED_FIELD_SIZE, USED_LENGTH_AT};
 
 /// Where a used element goes (VIRTIO 1.1, 2.6.8).
 #[repr(C)]
@@ -32,11 +33,11 @@ pub struct UsedSpots {
 fn used_spots(regions: &[Region], entry: &UsedEntry) -> Option<UsedSpots>
     ensures { result ≡ used_spots regions.now entry.now }
 {
-    match find_from(regions, entry.element_at, 0, 4) {
+    match find_from(regions, entry.element_at, 0, USED_FIELD_SIZE) {
         None => None,
-        Some(id) => match find_from(regions, entry.element_at, 4, 4) {
+        Some(id) => match find_from(regions, entry.element_at, USED_LENGTH_AT, USED_FIELD_SIZE) {
             None => None,
-            Some(length) => match find_from(regions, entry.index_at, 0, 2) {
+            Some(length) => match find_from(regions, entry.index_at, 0, RING_WORD_SIZE) {
                 None => None,
                 Some(index) => Some(UsedSpots { id, length, index }),
             },
@@ -55,10 +56,10 @@ fn put_first(regions: &[Region], entry: &UsedEntry, spots: &mut UsedSpots) -> bo
         return false;
     }
     let region = &regions[0];
-    if !region.holds(entry.element_at, 8) {
+    if !region.holds(entry.element_at, USED_ELEMENT_SIZE) {
         return false;
     }
-    if !region.holds(entry.index_at, 2) {
+    if !region.holds(entry.index_at, RING_WORD_SIZE) {
         return false;
     }
     let offset = entry.element_at - region.guest;
@@ -66,7 +67,7 @@ fn put_first(regions: &[Region], entry: &UsedEntry, spots: &mut UsedSpots) -> bo
         id: Spot { region: 0, offset },
         length: Spot {
             region: 0,
-            offset: offset + 4,
+            offset: offset + USED_LENGTH_AT,
         },
         index: Spot {
             region: 0,

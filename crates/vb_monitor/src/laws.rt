@@ -38,9 +38,9 @@ ghost use Rattle.vb_monitor.specs.declared.room.TheConstants.{MAX_BYTES};
 ghost use Rattle.vb_monitor.specs.Ends.{Whole};
 ghost use Rattle.vb_monitor.specs.Pieces.{all_parts};
 ghost use Rattle.vb_monitor.specs.Machine.{whole, serves, served};
-ghost use Rattle.vb_monitor.specs.Still.{Stays, IsMapped, avail_copy, table_copy, DoesAs};
-ghost use Rattle.vb_monitor.specs.Still.{Behind, ReportsAs, bytes_of, ArePartsMapped, index_in};
-ghost use Rattle.vb_monitor.specs.Still.{as_read};
+ghost use Rattle.vb_monitor.specs.Still.{StaysUntil, IsMapped, avail_copy, table_copy, DoesAs};
+ghost use Rattle.vb_monitor.specs.Still.{AreThese, AfterReads, ReportsAs, bytes_of, index_in};
+ghost use Rattle.vb_monitor.specs.Still.{ArePartsMapped, as_read};
 ghost use Rattle.vb_monitor.specs.Giving.{after_use};
 ghost use Rattle.vb_core.specs.Using.{use_denial};
 
@@ -167,46 +167,50 @@ pub fn a_chain_that_is_given_back_leaves_its_queue_open()
         queue_denial kind (after_use kind d) ≡ None }
 {}
 
-/// Where memory stays as it is, a notice does what `vb_core`'s `next` answers to private copies of
-/// its queue: it refuses what that refuses, ends where nothing stands there, and breaks the rule
-/// that the copies break; or it serves the chain of that head, by just those pieces. So what may be
-/// said of copies holds of notices too.
+/// Where memory stays as it is while a notice reads of it, the notice does what `vb_core`'s `next`
+/// answers to private copies of its queue: it refuses what that refuses, ends where nothing is
+/// there, and breaks the rule that the copies break; or it serves the chain of that head, by just
+/// those pieces. So what may be said of copies holds of notices too. From the first access on that
+/// is no read memory may change: the accesses from that one on are `rest`, whatever they read.
 pub fn a_notice_does_what_is_answered_to_copies()
-    ensures { (byte : ℕ → ℕ) (regions : List Region) (kind : Kind) (budget : Budget) (n room : ℕ)
-        (d1 d2 d3 : Device) (outcome : Outcome) (log : List Access) (buffers : List ChainPiece)
-        (answer : Result (Option NextChain) Denial) → is_read kind ≡ true →
-        budget.chains ≡ suc n → (budget.pages == 0) ≡ false →
+    ensures { (rest : List Access) (byte : ℕ → ℕ) (regions : List Region) (kind : Kind)
+        (budget : Budget) (n room : ℕ) (d1 d2 d3 : Device) (outcome : Outcome) (log : List Access)
+        (buffers : List ChainPiece) (answer : Result (Option NextChain) Denial) →
+        is_read kind ≡ true → budget.chains ≡ suc n → (budget.pages == 0) ≡ false →
         IsMapped regions (ring_of kind d1) → (ring_of kind d1).size ≤ room →
-        Stays byte regions log →
+        StaysUntil (AreThese rest) byte regions log →
         NextBy kind (avail_copy byte (ring_of kind d1)) (table_copy byte (ring_of kind d1)) room
         buffers d1 d3 answer → Serves regions kind budget d1 d2 outcome log →
-        DoesAs answer buffers (whole regions kind d2 outcome) (as_read n budget
-        (index_in byte (ring_of kind d1))) d3 log }
+        DoesAs (StaysUntil (AreThese rest) byte regions) answer buffers
+        (whole regions kind d2 outcome) (as_read n budget (index_in byte (ring_of kind d1))) d3
+        log }
 {}
 
-/// Where memory stays as it is, a notice of reports does what `vb_core`'s `report` answers to
-/// private copies of its queue: it refuses what that refuses, ends where nothing stands there, and
-/// breaks the rule that the copies break, so that the device needs a reset; or it tells just those
-/// pages, as those runs, with the same device.
+/// Where memory stays as it is while a notice of reports reads of it, the notice does what
+/// `vb_core`'s `report` answers to private copies of its queue: it refuses what that refuses, ends
+/// where nothing is there, and breaks the rule that the copies break, so that the device needs a
+/// reset; or it tells just those pages, as those runs, with the same device.
 pub fn a_notice_reports_what_is_answered_to_copies()
-    ensures { (byte : ℕ → ℕ) (regions : List Region) (budget : Budget) (n room : ℕ)
-        (d1 d2 d3 : Device) (outcome : Outcome) (log : List Access) (runs : List Run)
-        (answer : Result (Option Reported) Denial) → budget.chains ≡ suc n →
+    ensures { (rest : List Access) (byte : ℕ → ℕ) (regions : List Region)
+        (budget : Budget) (n room : ℕ) (d1 d2 d3 : Device) (outcome : Outcome) (log : List Access)
+        (runs : List Run) (answer : Result (Option Reported) Denial) → budget.chains ≡ suc n →
         (budget.pages == 0) ≡ false → IsMapped regions (ring_of Report d1) →
-        MAX_REPORT_PIECES ≤ room → Stays byte regions log →
+        MAX_REPORT_PIECES ≤ room → StaysUntil (AreThese rest) byte regions log →
         ReportsBy (avail_copy byte (ring_of Report d1)) (table_copy byte (ring_of Report d1)) room
         runs d1 d3 answer → Serves regions Report budget d1 d2 outcome log →
-        ReportsAs answer runs (whole regions Report d2 outcome) (as_read n budget
-        (index_in byte (ring_of Report d1))) d3 log }
+        ReportsAs (StaysUntil (AreThese rest) byte regions) answer runs
+        (whole regions Report d2 outcome) (as_read n budget (index_in byte (ring_of Report d1))) d3
+        log }
 {}
 
-/// Where memory stays as it is, a chain of pieces that lie in it is served by the bytes that they
-/// have there: what a request names, or a buffer of statistics tells, is what `vb_core`'s `name`
-/// and `statistics` say of them.
+/// Where memory stays as it is while a chain's bytes are read, a chain of pieces that lie in it is
+/// served by the bytes that they have there: what a request names, or a buffer of statistics tells,
+/// is what `vb_core`'s `name` and `statistics` say of them.
 pub fn a_chain_is_served_by_its_bytes()
-    ensures { (byte : ℕ → ℕ) (w : Whole) (t : Tally) (d : Device) (head : ℕ)
-        (pieces : List Piece) (n : ℕ) (log : List Access) → is_read w.kind ≡ true →
+    ensures { (rest : List Access) (byte : ℕ → ℕ) (w : Whole) (t : Tally) (d : Device)
+        (head : ℕ) (pieces : List Piece) (n : ℕ) (log : List Access) → is_read w.kind ≡ true →
         length_of w.kind pieces ≡ Ok n → ArePartsMapped w.regions (all_parts pieces) →
-        length (bytes_of byte pieces) ≤ MAX_BYTES → Stays byte w.regions log →
-        serves w t d head pieces log → Behind (served w t d head (bytes_of byte pieces)) log }
+        length (bytes_of byte pieces) ≤ MAX_BYTES → StaysUntil (AreThese rest) byte w.regions log →
+        serves w t d head pieces log → AfterReads (StaysUntil (AreThese rest) byte w.regions)
+        (served w t d head (bytes_of byte pieces)) log }
 {}

@@ -16,15 +16,16 @@ use crate::walk::{ask_first, descriptors};
 use crate::{Phase, Region, Step, Tally};
 use vb_chain::ChainFault;
 use vb_core::{Device, Kind, Virtqueue, place_in_ring};
+use vb_ring::{AVAIL_ENTRY_SIZE, RING_HEADER_SIZE, RING_INDEX_AT, RING_WORD_SIZE};
 
 /// Where the entry stands that is taken next, behind the available ring's begin.
 pub(crate) fn entry_offset(ring: &Virtqueue) -> u64
     ensures { result ≡ entry_offset ring.now }
 {
     if ring.size == 0 {
-        return 4;
+        return RING_HEADER_SIZE;
     }
-    4 + 2 * u64::from(place_in_ring(ring.next_avail, ring.size))
+    RING_HEADER_SIZE + AVAIL_ENTRY_SIZE * u64::from(place_in_ring(ring.next_avail, ring.size))
 }
 
 /// Whether a chain stands there by this index.
@@ -53,7 +54,12 @@ pub(crate) fn look(device: &mut Device, regions: &[Region], kind: Kind, tally: T
 {
     match device.queue_denial(kind) {
         Some(why) => end(device, regions, kind, tally, Some(why), false),
-        None => match find_from(regions, device.ring(kind).avail, 2, 2) {
+        None => match find_from(
+            regions,
+            device.ring(kind).avail,
+            RING_INDEX_AT,
+            RING_WORD_SIZE,
+        ) {
             None => fail(device, regions, kind, tally, ChainFault::OutOfRam),
             Some(at) => Step {
                 tally,
@@ -75,7 +81,7 @@ fn ask_entry(device: &mut Device, regions: &[Region], kind: Kind, tally: Tally) 
         of_chains regions.now tally.chains + of_chain regions.now }
 {
     let ring = device.ring(kind);
-    match find_from(regions, ring.avail, entry_offset(&ring), 2) {
+    match find_from(regions, ring.avail, entry_offset(&ring), AVAIL_ENTRY_SIZE) {
         None => fail(device, regions, kind, tally, ChainFault::OutOfRam),
         Some(at) => Step {
             tally,

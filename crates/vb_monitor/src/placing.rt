@@ -13,7 +13,9 @@ ghost use Rattle.vb_monitor.specs.Places.{balloon_over, ending_with, may_be_memo
 
 use crate::regions::{PAGE_BYTES, find};
 use crate::{Balloon, Region};
+use vb_chain::DESCRIPTOR_SIZE;
 use vb_core::{Denial, Device, Kind, MEMORY_LIMIT, Saved, Settings, StateDenial, Virtqueue};
+use vb_ring::{AVAIL_ENTRY_SIZE, RING_META_SIZE, USED_ELEMENT_SIZE};
 
 /// Why a balloon isn't restored over regions.
 #[derive(Clone, Copy, Debug, PartialEq, Eq)]
@@ -75,9 +77,17 @@ fn has_memory(regions: &[Region], ring: &Virtqueue) -> bool
     ensures no { result ≡ false → ¬ HasMemory regions.now ring.now }
 {
     let size = u64::from(ring.size);
-    are_memory(regions, ring.table, 16 * size)
-        && are_memory(regions, ring.avail, 6 + 2 * size)
-        && are_memory(regions, ring.used, 6 + 8 * size)
+    are_memory(regions, ring.table, DESCRIPTOR_SIZE as u64 * size)
+        && are_memory(
+            regions,
+            ring.avail,
+            RING_META_SIZE + AVAIL_ENTRY_SIZE * size,
+        )
+        && are_memory(
+            regions,
+            ring.used,
+            RING_META_SIZE + USED_ELEMENT_SIZE * size,
+        )
 }
 
 /// Whether a queue has no place, or one that is memory.

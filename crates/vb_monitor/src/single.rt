@@ -30,6 +30,7 @@ use crate::{Place, Region, Spot, Walk};
 use vb_chain::{DESCRIPTOR_SIZE, Descriptor};
 use vb_core::{ChainPiece, Device, Kind};
 use vb_request::is_request_length;
+use vb_ring::{RING_INDEX_AT, RING_WORD_SIZE};
 
 /// Where the index is read when a queue is looked at: the queue is served, and its index is guest
 /// memory.
@@ -43,7 +44,12 @@ pub fn index_to_look(device: &Device, regions: &[Region], kind: Kind) -> Option<
 {
     match device.queue_denial(kind) {
         Some(_) => None,
-        None => find_from(regions, device.ring(kind).avail, 2, 2),
+        None => find_from(
+            regions,
+            device.ring(kind).avail,
+            RING_INDEX_AT,
+            RING_WORD_SIZE,
+        ),
     }
 }
 

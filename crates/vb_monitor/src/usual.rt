@@ -16,7 +16,9 @@ use crate::looks::{entry_offset, stands};
 use crate::regions::{find, find_first, find_from};
 use crate::walk::descriptors;
 use crate::{Region, Spot, Tally};
+use vb_chain::DESCRIPTOR_SIZE;
 use vb_core::{Device, Kind};
+use vb_ring::{AVAIL_ENTRY_SIZE, RING_WORD_SIZE};
 
 /// A word that is read next, and where.
 #[derive(Clone, Copy, Debug)]
@@ -44,7 +46,7 @@ pub fn word_after(device: &Device, regions: &[Region], kind: Kind, tally: Tally)
             if tally.chains == 0 || tally.pages == 0 {
                 return None;
             }
-            match find_first(regions, ring.avail, entry_offset(&ring), 2) {
+            match find_first(regions, ring.avail, entry_offset(&ring), AVAIL_ENTRY_SIZE) {
                 None => None,
                 Some(at) => Some(NextWord::Entry(at)),
             }
@@ -53,7 +55,7 @@ pub fn word_after(device: &Device, regions: &[Region], kind: Kind, tally: Tally)
             if !tally.given {
                 return None;
             }
-            match find(regions, ring.avail, 2) {
+            match find(regions, ring.avail, RING_WORD_SIZE) {
                 None => None,
                 Some(at) => Some(NextWord::Flags(at)),
             }
@@ -76,7 +78,8 @@ pub fn descriptor_after(device: &Device, regions: &[Region], kind: Kind, head: u
     if head >= descriptors(&ring) {
         return None;
     }
-    match find_from(regions, ring.table, 16 * u64::from(head), 16) {
+    let length = DESCRIPTOR_SIZE as u64;
+    match find_from(regions, ring.table, length * u64::from(head), length) {
         None => None,
         Some(at) => Some(at),
     }

@@ -23,7 +23,7 @@ use crate::regions::{PAGE_BYTES, find_from};
 use crate::room::{MAX_BYTES, MAX_FIGURES, MAX_PIECES, MAX_RUNS, ROW_DESCRIPTORS};
 use crate::rows::{RowEnd, RowWalk, ring_fault, row_bytes, walk_row};
 use crate::{Phase, Region, Step, Tally, Walk};
-use vb_chain::{ChainFault, Descriptor};
+use vb_chain::{ChainFault, DESCRIPTOR_SIZE, Descriptor};
 use vb_core::{ChainPiece, Device, Kind, Run, Statistic, Virtqueue};
 use vb_model::limits::MAX_QUEUE_SIZE;
 
@@ -60,14 +60,15 @@ fn ask_row(device: &mut Device, regions: &[Region], kind: Kind, tally: Tally, wa
         of_chains regions.now tally.chains + (once_copied regions.now walk.count + 1) }
 {
     let table = device.ring(kind).table;
-    let start = 16 * u64::from(walk.first);
-    if let Some(at) = find_from(regions, table, start, 16 * (u64::from(walk.behind) + 1)) {
+    let length = DESCRIPTOR_SIZE as u64;
+    let start = length * u64::from(walk.first);
+    if let Some(at) = find_from(regions, table, start, length * (u64::from(walk.behind) + 1)) {
         return Step {
             tally,
             phase: Phase::AwaitsDescriptor { at, walk },
         };
     }
-    match find_from(regions, table, start, 16) {
+    match find_from(regions, table, start, length) {
         None => fail(device, regions, kind, tally, ChainFault::OutOfRam),
         Some(at) => Step {
             tally,

@@ -16,18 +16,7 @@ use vb_status::{Features, Status};
 pub fn rule_of(fault: ChainFault) -> u32
     ensures { result ≡ rule_of fault }
 {
-    match fault {
-        ChainFault::BadHead => 1,
-        ChainFault::BadNext => 2,
-        ChainFault::TooLong => 3,
-        ChainFault::Indirect => 4,
-        ChainFault::WrongDirection => 5,
-        ChainFault::OutOfRam => 6,
-        ChainFault::IndexJump => 7,
-        ChainFault::BadLength => 8,
-        ChainFault::BadPage => 9,
-        ChainFault::ReservedPage => 10,
-    }
+    fault as u32
 }
 
 /// The answer to a chain with a fault: `Broken`, with the number of the rule.

@@ -5,9 +5,24 @@ ghost use Rattle.vb_ring.specs.Layout.{Fits, IsInside, IsBacked};
 ghost use Rattle.vb_ring.specs.Entries.{next_entry, next_id};
 ghost use Rattle.vb_ring.specs.Calls.{PutsAvail, PutsUsed};
 
+use crate::format::{
+    AVAIL_ENTRY_SIZE, RING_HEADER_SIZE, RING_INDEX_AT, USED_ELEMENT_SIZE, USED_LENGTH_AT,
+};
 use crate::{Layout, RingBroken};
 use vb_chain::ChainFault;
 use vb_ram::{GuestBytes, read_u16, read_u32, write_u16, write_u32};
+
+/// The same as lengths of memory: where the index and the first entry of a ring are, how long an
+/// entry of each ring is, and where the length of a used one is.
+const INDEX_AT: usize = RING_INDEX_AT as usize;
+
+const ENTRIES_AT: usize = RING_HEADER_SIZE as usize;
+
+const AVAIL_ENTRY: usize = AVAIL_ENTRY_SIZE as usize;
+
+const USED_ELEMENT: usize = USED_ELEMENT_SIZE as usize;
+
+const LENGTH_AT: usize = USED_LENGTH_AT as usize;
 
 /// Puts a head into the available ring, after `next` others.
 pub fn put_avail<G: GuestBytes>(ram: &mut G, layout: Layout, size: u16, next: u16, head: u16)
@@ -21,10 +36,10 @@ pub fn put_avail<G: GuestBytes>(ram: &mut G, layout: Layout, size: u16, next: u1
     write_u16(
         ram,
         ring.page,
-        start + 4 + 2 * usize::from(next % size),
+        start + ENTRIES_AT + AVAIL_ENTRY * usize::from(next % size),
         head,
     );
-    write_u16(ram, ring.page, start + 2, next.wrapping_add(1));
+    write_u16(ram, ring.page, start + INDEX_AT, next.wrapping_add(1));
 }
 
 /// The head that stands after the `taken` ones, if there is one.
@@ -40,11 +55,15 @@ pub fn next_avail<G: GuestBytes>(
 {
     let ring = layout.avail;
     let start = usize::from(ring.offset);
-    let ahead = read_u16(ram, ring.page, start + 2).wrapping_sub(taken);
+    let ahead = read_u16(ram, ring.page, start + INDEX_AT).wrapping_sub(taken);
     if ahead == 0 {
         Ok(None)
     } else if ahead <= size {
-        Ok(Some(read_u16(ram, ring.page, start + 4 + 2 * usize::from(taken % size))))
+        Ok(Some(read_u16(
+            ram,
+            ring.page,
+            start + ENTRIES_AT + AVAIL_ENTRY * usize::from(taken % size),
+        )))
     } else {
         Err(ChainFault::IndexJump)
     }
@@ -66,10 +85,10 @@ pub fn put_used<G: GuestBytes>(
 {
     let ring = layout.used;
     let start = usize::from(ring.offset);
-    let place = start + 4 + 8 * usize::from(next % size);
+    let place = start + ENTRIES_AT + USED_ELEMENT * usize::from(next % size);
     write_u32(ram, ring.page, place, u32::from(head));
-    write_u32(ram, ring.page, place + 4, len);
-    write_u16(ram, ring.page, start + 2, next.wrapping_add(1));
+    write_u32(ram, ring.page, place + LENGTH_AT, len);
+    write_u16(ram, ring.page, start + INDEX_AT, next.wrapping_add(1));
 }
 
 /// The id that stands after the `seen` ones, if there is one; at most `most` may stand there.
@@ -86,11 +105,15 @@ pub fn next_used<G: GuestBytes>(
 {
     let ring = layout.used;
     let start = usize::from(ring.offset);
-    let ahead = read_u16(ram, ring.page, start + 2).wrapping_sub(seen);
+    let ahead = read_u16(ram, ring.page, start + INDEX_AT).wrapping_sub(seen);
     if ahead == 0 {
         Ok(None)
     } else if ahead <= most {
-        Ok(Some(read_u32(ram, ring.page, start + 4 + 8 * usize::from(seen % size))))
+        Ok(Some(read_u32(
+            ram,
+            ring.page,
+            start + ENTRIES_AT + USED_ELEMENT * usize::from(seen % size),
+        )))
     } else {
         Err(RingBroken::IndexAhead)
     }

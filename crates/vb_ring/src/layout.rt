@@ -3,6 +3,7 @@
 ghost use Rattle.std.specs.Prelude.{◌≡◌};
 ghost use Rattle.vb_ring.specs.Layout.{area_at, layout_of, IsSize, Fits};
 
+use crate::format::{AVAIL_ENTRY_SIZE, RING_META_SIZE, USED_ALIGNMENT};
 use vb_chain::DESCRIPTOR_SIZE;
 use vb_model::limits;
 use vb_ram::PAGE_SIZE;
@@ -63,7 +64,10 @@ impl Layout {
         ensures fits { Fits result size }
     {
         let avail = DESCRIPTOR_SIZE as u16 * size;
-        let used = (avail + (6 + 2 * size)).next_multiple_of(4);
+        let entries = AVAIL_ENTRY_SIZE as u16 * size;
+        let used = (avail + (RING_META_SIZE as u16 + entries)).next_multiple_of(
+            USED_ALIGNMENT as u16,
+        );
         Layout {
             table: u32::from(page),
             avail: area_at(page, avail),

@@ -1,28 +1,18 @@
 -- How many pages count as ballooned after each call.
-use Rattle.std.proofs.Common.{Bool, List, [], ap, arith, cond, false, inl, inr, length, refl, replicate, subst, suc, sym, true, zero, ℕ, ◌+◌, ◌-◌, ◌∙◌, ◌∷◌, ◌<◌, ◌≤◌, ◌≡◌, ◌≢◌, ◌⊎◌}
+use Rattle.std.proofs.Common.{Bool, List, [], ap, arith, cond, false, inl, inr, length, refl, replicate, subst, suc, sym, true, zero, ℕ, ◌+◌, ◌∙◌, ◌∷◌, ◌<◌, ◌≤◌, ◌≡◌}
 use Rattle.std.proofs.lemmas.Bool.{eqb-true}
-use Rattle.std.specs.Prelude.{MatchOption, None, Option, Some, count_by, not, slice_get, ◌==◌, ◌&&◌, ◌||◌}
-use Rattle.vb_model.proofs.Cases.{by_kind, match_cases}
-use Rattle.vb_model.proofs.Changes.{same_some, effect, Effect, Same, Is_aimed, Has_called, Is_new, Is_gone, Is_plugged}
+use Rattle.std.specs.Prelude.{None, Some, count_by, not, slice_get, ◌==◌, ◌&&◌, ◌||◌}
+use Rattle.vb_model.proofs.Cases.{match_cases}
 use Rattle.vb_model.proofs.Counts.{inside}
-use Rattle.vb_model.proofs.Performed.{Performed, honest_case}
 use Rattle.vb_model.proofs.Tables.{count_by-cons}
 use Rattle.vb_model.specs.Device.{TakesBuffer, TakesRequest, ReturnsBuffer, Works, settled, used, visited, next_page}
-use Rattle.vb_model.specs.Driver.{Fills, Reaps, claim_refusal}
-use Rattle.vb_model.specs.FirstRefusal.{first_refusal}
-use Rattle.vb_model.specs.Guest.{Guest, ballooned_count, is_ballooned, must_tell_host, requests, tells_host, with_requests}
-use Rattle.vb_model.specs.Life.{Negotiates, feature_causes}
-use Rattle.vb_model.specs.Refusals.{refusal_of}
-use Rattle.vb_model.specs.Requests.{BufferDone, BufferPosted, BufferTaken, Deflating, Inflating, Kind, Reporting_free, Request, Requests, StatisticsBuffer, kind_of_queue}
-use Rattle.vb_model.specs.Rogue.{GuestStep}
-use Rattle.vb_model.specs.Step.{HonestStep}
+use Rattle.vb_model.specs.Driver.{Fills, Reaps}
+use Rattle.vb_model.specs.Guest.{Guest, ballooned_count, is_ballooned, must_tell_host, tells_host, with_requests}
+use Rattle.vb_model.specs.Requests.{BufferDone, BufferPosted, BufferTaken, Deflating, Inflating, Kind, Reporting_free, Request, Requests, StatisticsBuffer}
 use Rattle.vb_model.specs.Tests.{each_from, is_in, one_if}
 use Rattle.vb_model.specs.declared.calls.Call.{Call}
-use Rattle.vb_model.specs.declared.calls.Call.TheVariants.{Alloc, Ask, Deflate, Finish, Free, Inflate, Init, Oom, Read, Reap, Report, Reset, Scribble, SetTarget, Stats, Sweep, Take, Work, Write}
-use Rattle.vb_model.specs.declared.calls.Claim.{Claim}
 use Rattle.vb_model.specs.declared.replies.Reply.{Reply}
-use Rattle.vb_room.proofs.Bare.{IsBare, init_idle}
-use Rattle.vb_room.specs.Counts.{CountsSo, finish_puts_in, finish_takes_out, pages_of_request, puts_in, takes_out}
+use Rattle.vb_room.specs.Counts.{CountsSo, pages_of_request}
 use Rattle.vb_room.specs.Tie.{counted}
 
 -- ---- flags that are set or cleared at pages

@@ -1,18 +1,17 @@
 -- A host that asks its lender first covers each of its guests.
-use Rattle.std.proofs.Common.{Bool, List, [], ap, arith, cond, false, inl, inr, length, refl, replicate, subst, suc, sym, true, zero, ℕ, ◌+◌, ◌++◌, ◌-◌, ◌∙◌, ◌∷◌, ◌<◌, ◌≤◌, ◌≡◌, ◌⊎◌}
+use Rattle.std.proofs.Common.{Bool, List, [], ap, arith, false, inl, inr, length, refl, replicate, subst, suc, sym, zero, ℕ, ◌+◌, ◌++◌, ◌∙◌, ◌∷◌, ◌≤◌, ◌≡◌, ◌⊎◌}
 use Rattle.std.proofs.lemmas.List.Sums.{sum_by-cons}
 use Rattle.std.specs.Prelude.{None, Option, Some, filter_map, slice_get, sum_by}
 use Rattle.vb_model.proofs.Cases.{match_cases}
 use Rattle.vb_model.proofs.RunLaws.{last_world-push, steps-push}
-use Rattle.vb_model.proofs.Wanting.{needed_pages_bare, no_frame_exact}
-use Rattle.vb_model.specs.Driver.{given}
+use Rattle.vb_model.proofs.Wanting.{no_frame_exact}
 use Rattle.vb_model.specs.Guest.{Guest, backed_count}
 use Rattle.vb_model.specs.HostEvents.{Happens, PlugsIn, WorldStep, after_balance, Calls}
 use Rattle.vb_model.specs.HostRefusals.{world_causes}
 use Rattle.vb_model.specs.Life.{after_restart}
 use Rattle.vb_model.specs.FirstRefusal.{first_refusal}
 use Rattle.vb_model.specs.Rogue.{pages_to_back}
-use Rattle.vb_model.specs.Run.{History, Run, Steps, last_world, states}
+use Rattle.vb_model.specs.Run.{History, Run, last_world, states}
 use Rattle.vb_model.specs.World.{World, guest_at, made, put_guest}
 use Rattle.vb_model.specs.declared.calls.Call.{Call}
 use Rattle.vb_model.specs.declared.calls.Event.{Event}
@@ -28,11 +27,11 @@ use Rattle.vb_lender.proofs.Sounds.{sound_after, vacant_sound}
 use Rattle.vb_room.proofs.Counting.{wanted_more}
 use Rattle.vb_room.proofs.Lent.{IsWithin, lends_have, lends_within, plays_have, value_of}
 use Rattle.vb_room.proofs.Loans.{lent_enough}
-use Rattle.vb_room.proofs.Room.{Known, holds_all, holds_any_at, holds_call, known_at, wanted}
+use Rattle.vb_room.proofs.Room.{Known, holds_all, holds_any_at, holds_call, known_at}
 use Rattle.vb_room.proofs.Roomy.{AllRoomy, roomy_in_runs}
 use Rattle.vb_room.specs.Beside.{AskingFirstSuffices, AsksFirst, Both, BothStep, BothSteps, IsCovered, Lends, Move, Plays, ballooned_at, opened}
-use Rattle.vb_room.specs.Room.{is_scribble, may_hold}
-use Rattle.vb_room.specs.Tie.{HaveLoans, IsLoanOf}
+use Rattle.vb_room.specs.Room.{is_scribble}
+use Rattle.vb_room.specs.Tie.{HaveLoans}
 
 -- ---- the world of a state is one of a run
 

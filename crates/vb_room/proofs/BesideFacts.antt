@@ -1,6 +1,6 @@
 -- Worked facts of a host beside its lender: what it makes sure of before each event.
-use Rattle.std.proofs.Common.{◌≡◌, ◌⊎◌, inl, inr, ℕ, zero, suc, ◌+◌, ◌-◌, ◌≤◌, Bool, true, false, List, [], ◌∷◌, ◌++◌, replicate, refl, ap, subst, sym, ◌∙◌, arith}
-use Rattle.std.specs.Prelude.{None, Option, Some, ⊤}
+use Rattle.std.proofs.Common.{◌≡◌, inl, inr, ℕ, ◌-◌, ◌≤◌, true, false, List, [], ◌∷◌, ◌++◌, replicate, refl, ap, subst, arith}
+use Rattle.std.specs.Prelude.{None, Option, Some}
 use Rattle.vb_model.specs.declared.calls.Call.TheVariants.{Finish, Reset, Scribble, Work, Write}
 use Rattle.vb_model.specs.declared.calls.Claim.TheVariants.{GaveNoFrame}
 use Rattle.vb_model.specs.declared.calls.Event.{Event}
@@ -10,12 +10,12 @@ use Rattle.vb_model.specs.declared.replies.Refusal.TheVariants.{NoFrame, NoMemor
 use Rattle.vb_model.specs.declared.replies.Reply.TheVariants.{Done, Frames, Plugged, Refused}
 use Rattle.vb_model.specs.Guest.{Guest, fresh}
 use Rattle.vb_model.specs.HostEvents.{WorldStep}
-use Rattle.vb_model.specs.World.{World, made}
+use Rattle.vb_model.specs.World.{World}
 use Rattle.vb_lender.specs.declared.event.Event.TheVariants.{Arrives, Asks, Budget, Figures, Gives, Grants, Leaves, Recounts, Resets, Takes, Uncounts}
 use Rattle.vb_lender.specs.declared.loan.Loan.{Loan}
 use Rattle.vb_lender.specs.declared.loan.WaitingLine.TheVariants.{First}
 use Rattle.vb_lender.specs.Loans.{vacant}
-use Rattle.vb_lender.specs.Lending.{Lending, owed}
+use Rattle.vb_lender.specs.Lending.{Lending}
 use Rattle.vb_room.proofs.CountFacts.{busy}
 use Rattle.vb_room.proofs.TieFacts.{config, loan, rogue, some, world}
 use Rattle.vb_room.specs.Beside.{AsksFirst, Both, BothStep, BothSteps, EventIsAsked, IsCovered, Lends, LoanIsAsked, Move, Plays, ballooned_at, opened, pages_at}

@@ -1,30 +1,28 @@
 -- Each call, whatever it is answered, leaves as many pages that count as the table says.
-use Rattle.std.proofs.Common.{Bool, List, [], ap, arith, cond, false, inl, inr, refl, subst, sym, true, zero, suc, ℕ, ◌+◌, ◌∙◌, ◌∷◌, ◌≤◌, ◌≡◌, ◌≢◌, ◌⊎◌}
-use Rattle.std.specs.Prelude.{MatchOption, None, Option, Some, count_by, length, not, slice_get, ◌&&◌}
+use Rattle.std.proofs.Common.{Bool, List, ap, arith, cond, false, inl, inr, refl, subst, sym, true, ℕ, ◌+◌, ◌∙◌, ◌≤◌, ◌≡◌, ◌≢◌}
+use Rattle.std.specs.Prelude.{None, Option, Some, count_by, length, not, slice_get, ◌&&◌}
 use Rattle.vb_model.proofs.Cases.{by_kind, match_cases}
 use Rattle.vb_model.proofs.Changes.{Effect, Has_called, Is_aimed, Is_gone, Is_new, Is_plugged, Same, effect, same_some}
 use Rattle.vb_model.proofs.Outcomes.{begun}
 use Rattle.vb_model.proofs.Performed.{Performed, honest_case}
 use Rattle.vb_model.specs.Device.{settled, used}
-use Rattle.vb_model.specs.Driver.{Scribbled, claim_refusal}
+use Rattle.vb_model.specs.Driver.{claim_refusal}
 use Rattle.vb_model.specs.FirstRefusal.{first_refusal}
-use Rattle.vb_model.specs.Guest.{Guest, is_ballooned, requests, tells_host}
+use Rattle.vb_model.specs.Guest.{Guest, requests, tells_host}
 use Rattle.vb_model.specs.HostEvents.{WorldStep}
 use Rattle.vb_model.specs.Life.{feature_causes}
 use Rattle.vb_model.specs.Refusals.{refusal_of}
 use Rattle.vb_model.specs.Requests.{Deflating, Inflating, Kind, Reporting_free, Request, kind_of_queue}
 use Rattle.vb_model.specs.Rogue.{GuestStep}
-use Rattle.vb_model.specs.Run.{states}
-use Rattle.vb_model.specs.Step.{HonestStep}
 use Rattle.vb_model.specs.World.{World, guest_at}
 use Rattle.vb_model.specs.declared.calls.Call.{Call}
 use Rattle.vb_model.specs.declared.calls.Call.TheVariants.{Alloc, Ask, Deflate, Finish, Free, Inflate, Init, Oom, Read, Reap, Report, Reset, Scribble, SetTarget, Stats, Sweep, Take, Work, Write}
 use Rattle.vb_model.specs.declared.calls.Claim.{Claim}
 use Rattle.vb_model.specs.declared.calls.Event.TheVariants.{Guest as OnGuest}
 use Rattle.vb_model.specs.declared.replies.Reply.{Reply}
-use Rattle.vb_room.proofs.Balloons.{SameBalloon, beside_requests, by_flags, cleared, clears, counted_few, counted_rogue, fills_same, inside_few, itself, no_flag, no_flags, reaps_same, returns_same, same_by, same_so, set_more, set_no_less, takes_buffer_same, takes_same, with_same, works_same}
+use Rattle.vb_room.proofs.Balloons.{SameBalloon, by_flags, clears, counted_few, counted_rogue, fills_same, inside_few, itself, no_flag, no_flags, reaps_same, returns_same, same_by, same_so, set_more, set_no_less, takes_buffer_same, takes_same, works_same}
 use Rattle.vb_room.proofs.Bare.{AllBare, IsBare, in_runs, init_idle}
-use Rattle.vb_room.specs.Counts.{CallsCountSo, CountsSo, finish_puts_in, finish_takes_out, pages_of_request, puts_in, takes_out}
+use Rattle.vb_room.specs.Counts.{CallsCountSo, CountsSo, finish_puts_in, finish_takes_out, pages_of_request}
 use Rattle.vb_room.specs.Tie.{counted}
 
 -- ---- a finish

@@ -1,9 +1,9 @@
 -- Worked facts of what each call puts into a balloon and takes out of it.
-use Rattle.std.proofs.Common.{◌≡◌, ℕ, ◌+◌, ◌≤◌, Bool, true, false, List, [], ◌∷◌, ◌++◌, map, replicate, refl, arith}
+use Rattle.std.proofs.Common.{◌≡◌, ℕ, ◌≤◌, true, List, [], ◌∷◌, map, replicate, refl, arith}
 use Rattle.vb_model.specs.declared.calls.Call.{Call}
 use Rattle.vb_model.specs.declared.calls.Call.TheVariants.{Alloc, Ask, Deflate, Finish, Free, Inflate, Init, Oom, Read, Reap, Report, Reset, Scribble, SetTarget, Stats, Sweep, Take, Work, Write}
 use Rattle.vb_model.specs.Device.{settled}
-use Rattle.vb_model.specs.Guest.{Guest, fresh}
+use Rattle.vb_model.specs.Guest.{Guest}
 use Rattle.vb_model.specs.Life.{after_reset}
 use Rattle.vb_model.specs.Requests.{Deflating, Inflating, Reporting_free, Request, no_requests}
 use Rattle.vb_room.proofs.TieFacts.{rogue, some, untold}

@@ -1,21 +1,20 @@
 -- What each law says of one case of its own.
-use Rattle.std.proofs.Common.{◌≡◌, ◌⊎◌, inl, inr, ℕ, ◌+◌, ◌≤◌, Bool, true, false, List, [], ◌∷◌, refl, arith}
-use Rattle.std.specs.Prelude.{None, Option, Some, slice_get}
-use Rattle.vb_model.specs.declared.calls.Call.{Call}
-use Rattle.vb_model.specs.declared.calls.Call.TheVariants.{Finish, Scribble, Work, Write}
+use Rattle.std.proofs.Common.{◌≡◌, inl, inr, ◌≤◌, true, List, [], ◌∷◌, refl, arith}
+use Rattle.std.specs.Prelude.{None, Some, slice_get}
+use Rattle.vb_model.specs.declared.calls.Call.TheVariants.{Scribble, Work, Write}
 use Rattle.vb_model.specs.declared.calls.Event.TheVariants.{Frames as CountFrames, Guest as OnGuest}
 use Rattle.vb_model.specs.declared.replies.Refusal.TheVariants.{NoFrame}
 use Rattle.vb_model.specs.declared.replies.Reply.TheVariants.{Done, Frames, Refused}
 use Rattle.vb_model.specs.Guest.{Guest, frame_of, is_ballooned, tells_host}
 use Rattle.vb_model.specs.HostEvents.{WorldStep}
-use Rattle.vb_model.specs.Run.{History, Run, guest_in, states}
+use Rattle.vb_model.specs.Run.{History, Run, states}
 use Rattle.vb_model.specs.Safe.{IsHonest}
 use Rattle.vb_model.specs.World.{World, guest_at}
 use Rattle.vb_lender.specs.declared.event.Event.TheVariants.{Takes}
 use Rattle.vb_lender.specs.declared.loan.Loan.{Loan}
 use Rattle.vb_lender.specs.Lending.{AreSound, Lending, happens, owed}
-use Rattle.vb_room.proofs.BesideFacts.{at_first, first_moves, first_guest, first_states, plugged}
-use Rattle.vb_room.specs.Beside.{AskingFirstSuffices, ballooned_at}
+use Rattle.vb_room.proofs.BesideFacts.{first_moves, first_guest, first_states, plugged}
+use Rattle.vb_room.specs.Beside.{AskingFirstSuffices}
 use Rattle.vb_room.specs.Counts.{CallsCountSo}
 use Rattle.vb_room.specs.Room.{BalloonsAreBare, NoneLacksAFrame, all_may_hold}
 use Rattle.vb_room.specs.Tie.{EventsLeaveLoans, HaveLoans, LoanEventsLeaveLoans, LoansSuffice, LowersNone, counted}

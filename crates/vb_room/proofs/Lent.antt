@@ -1,30 +1,26 @@
 -- What a host and its lender keep, where the host asks first.
-use Rattle.std.proofs.Common.{Bool, List, [], ap, arith, cond, false, inl, inr, length, refl, replicate, subst, suc, sym, true, zero, ℕ, ◌+◌, ◌++◌, ◌-◌, ◌∙◌, ◌∷◌, ◌<◌, ◌≤◌, ◌≡◌, ◌≢◌, ◌⊎◌, max, if◌then◌else◌}
+use Rattle.std.proofs.Common.{Bool, List, [], ap, arith, false, inl, inr, refl, subst, suc, sym, true, zero, ℕ, ◌+◌, ◌-◌, ◌∙◌, ◌∷◌, ◌<◌, ◌≤◌, ◌≡◌, ◌≢◌, if◌then◌else◌}
 use Rattle.std.proofs.lemmas.Bool.{cases_eq}
-use Rattle.std.specs.Prelude.{None, Option, Some, slice_get}
-use Rattle.vb_model.proofs.Cases.{match_cases}
+use Rattle.std.specs.Prelude.{None, Some, slice_get}
 use Rattle.vb_model.proofs.Changes.{Change, New, Restarted, Retargeted, Stepped, Untouched, changes}
 use Rattle.vb_model.proofs.Fates.{configurations_kept}
 use Rattle.vb_model.specs.Guest.{Config, Guest}
 use Rattle.vb_model.specs.HostEvents.{WorldStep}
-use Rattle.vb_model.specs.World.{World, guest_at, made}
+use Rattle.vb_model.specs.World.{World, guest_at}
 use Rattle.vb_model.specs.declared.calls.Event.{Event}
-use Rattle.vb_model.specs.declared.calls.Event.TheVariants.{Guest as OnGuest, Plug, Restart}
+use Rattle.vb_model.specs.declared.calls.Event.TheVariants.{Plug}
 use Rattle.vb_model.specs.declared.replies.Reply.{Reply}
-use Rattle.vb_model.specs.declared.replies.Reply.TheVariants.{Plugged}
 use Rattle.vb_lender.specs.declared.event.Event.{Event as LoanEvent}
 use Rattle.vb_lender.specs.declared.event.Event.TheVariants.{Arrives, Asks, Budget, Figures, Gives, Grants, Leaves, Recounts, Resets, Takes, Uncounts}
 use Rattle.vb_lender.specs.declared.loan.Loan.{Loan}
-use Rattle.vb_lender.specs.Loans.{arrived, gave, may_give, uncounted, vacant}
-use Rattle.vb_lender.specs.Lending.{AreSound, Lending, each_at, happens, has_turn, next_turn, owed, value_at, IsOrdinary}
-use Rattle.vb_lender.proofs.Sounds.{sound_after}
+use Rattle.vb_lender.specs.Loans.{arrived, gave, may_give, vacant}
+use Rattle.vb_lender.specs.Lending.{Lending, each_at, happens, has_turn, next_turn, owed, value_at, IsOrdinary}
 use Rattle.vb_lender.proofs.Sums.{frames_stay, lends_no_more}
 use Rattle.vb_room.proofs.Bare.{AllBare}
 use Rattle.vb_room.proofs.Called.{step_so}
-use Rattle.vb_room.proofs.Roomy.{Comes, comes}
+use Rattle.vb_room.proofs.Roomy.{comes}
 use Rattle.vb_room.proofs.Stay.{loan_events_leave_loans}
 use Rattle.vb_room.specs.Beside.{EventIsAsked, LoanIsAsked, ballooned_at, pages_at, Both}
-use Rattle.vb_room.specs.Counts.{takes_out}
 use Rattle.vb_room.specs.Tie.{HaveLoans, IsLoanOf, counted}
 
 -- ---- numbers at a place of a list of loans

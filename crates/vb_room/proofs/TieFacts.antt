@@ -1,6 +1,6 @@
 -- Worked facts of what guests may hold, and of loans that are theirs or not.
-use Rattle.std.proofs.Common.{◌≡◌, ℕ, zero, suc, ◌+◌, ◌≤◌, Bool, true, false, List, [], ◌∷◌, ◌++◌, replicate, refl, ap, subst, sym, ◌∙◌, arith}
-use Rattle.std.specs.Prelude.{None, Option, Some, slice_get}
+use Rattle.std.proofs.Common.{◌≡◌, ℕ, zero, suc, ◌≤◌, true, false, List, [], ◌∷◌, ◌++◌, replicate, refl, ap, subst, sym, ◌∙◌, arith}
+use Rattle.std.specs.Prelude.{None, Option, Some}
 use Rattle.vb_model.specs.declared.calls.Call.TheVariants.{Reset, Scribble, Write}
 use Rattle.vb_model.specs.Guest.{Config, Guest, fresh}
 use Rattle.vb_model.specs.World.{World}

@@ -1,5 +1,5 @@
 -- What each call may put into the balloon of a guest, and take out of it, of the pages that count.
-use Rattle.std.specs.Prelude.{◌≡◌, ℕ, ◌+◌, ◌≤◌, Bool, List, Option, Some, None, slice_get, length}
+use Rattle.std.specs.Prelude.{◌≡◌, ℕ, ◌+◌, ◌≤◌, Bool, List, Option, Some, slice_get, length}
 use Rattle.std.specs.Prelude.{option_map, unwrap_or}
 use Rattle.vb_model.specs.declared.calls.Call.{Call}
 use Rattle.vb_model.specs.declared.calls.Call.TheVariants.{Finish, Reset, Scribble}

@@ -1,44 +1,13 @@
 //! vb.h: its numbers and calls. Each call requires what vb.h says of pointers with lengths, and nothing else; the safe ones
 //! here take slices, which have that.
 
+// All of the header's numbers, whether this crate needs them or not.
+#[allow(dead_code)]
+mod codes;
 mod structs;
 
+pub use codes::*;
 pub use structs::*;
-
-/// Numbers of the answers of vb.h.
-pub const OK: u32 = 0;
-pub const NOTHING: u32 = 1;
-pub const BROKEN: u32 = 2;
-pub const NOT_READY: u32 = 3;
-pub const NEEDS_RESET: u32 = 4;
-pub const NO_QUEUE: u32 = 5;
-pub const MISPLACED: u32 = 6;
-pub const BAD_ARGUMENT: u32 = 7;
-pub const SHORT: u32 = 8;
-pub const BAD_LENGTH: u32 = 9;
-pub const NOT_A_STATE: u32 = 10;
-pub const OTHER_VERSION: u32 = 11;
-pub const BAD_SUM: u32 = 12;
-
-/// What is to be done: bits of a notice, in this order.
-pub const TELL_PAGES: u32 = 1;
-pub const TELL_FIGURES: u32 = 2;
-pub const DISCARD: u32 = 4;
-pub const GIVE_BACK: u32 = 8;
-pub const ACQUIRE: u32 = 16;
-pub const FULL_FENCE: u32 = 32;
-pub const READ: u32 = 64;
-pub const COPY: u32 = 128;
-
-/// What a write of the status asks for: look at each queue; the set of ballooned pages is empty.
-pub const LOOK: u32 = 1;
-pub const EMPTY: u32 = 2;
-
-/// The most descriptors of a queue.
-pub const MAX_QUEUE_SIZE: u32 = 256;
-
-/// Bytes of a saved state.
-pub const STATE_BYTES: usize = 191;
 
 /// The version of vb.h that this is written for, as `VB_VERSION_NUMBER`.
 pub const VERSION: u32 = 0x00_0100;

@@ -16,10 +16,10 @@ pub mod features {
 /// What a queue is for.
 #[derive(Clone, Copy, Debug, PartialEq, Eq)]
 pub enum Kind {
-    Inflate = 0,
-    Deflate = 1,
-    Statistics = 2,
-    Report = 3,
+    Inflate = raw::INFLATE as isize,
+    Deflate = raw::DEFLATE as isize,
+    Statistics = raw::STATISTICS as isize,
+    Report = raw::REPORT as isize,
 }
 
 impl Kind {

@@ -1,11 +1,6 @@
 //! The structs of vb.h, whose layout is looked at where this compiles.
 
-/// What a room has.
-const MAX_PIECES: usize = 256;
-const MAX_RUNS: usize = 256;
-const MAX_BYTES: usize = 1024;
-const MAX_FIGURES: usize = 102;
-const MAX_CUTS: usize = 256;
+use super::codes::{MAX_BYTES, MAX_CUTS, MAX_FIGURES, MAX_PIECES, MAX_RUNS};
 
 #[repr(C)]
 #[derive(Clone, Copy, Default)]

@@ -1,4 +1,4 @@
-use Rattle.std.proofs.Common.{arith, ap, subst, sym, ℕ}
+use Rattle.std.proofs.Common.{arith, subst, ℕ}
 use Rattle.vb_lender.specs.Classes.{IsLastClass}
 use Rattle.vb_lender.proofs.ByClass.{enough_spare, set_targets}
 use Rattle.vb_lender.proofs.classes.set_by_class.Goals as goal
