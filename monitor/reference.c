@@ -14,6 +14,7 @@
 #include "reference/requests.h"
 #include "reference/saved.h"
 #include "reference/targets.h"
+#include "reference/lending.h"
 #include "reference/regions.h"
 #include "reference/set.h"
 #include "reference/notices.h"

@@ -322,7 +322,7 @@ uint64_t vb_count_ballooned(const uint64_t *set, size_t words);
 VbLarge vb_large_pages(const VbDevice *device, const VbRegion *region, uint64_t page_size, const VbCut *part,
                        const uint64_t *set, size_t words);
 
-/* For a host of several guests, which has fewer frames than they have pages together: what to ask each of them for. */
+/* For a host of several guests with fewer frames than they have pages: what to ask each of them for. vb_lending.h lends no more. */
 
 /* How many pages a guest can spare: those in the balloon, and the free ones above the floor (none where free_known is
  * 0: no statistics say so); at most its pages that aren't reserved. */

@@ -38,4 +38,17 @@
 #define vb_set_status reference_set_status
 #define vb_restore_over reference_restore_over
 #define vb_may_tell reference_may_tell
+#define vb_loan_arrive reference_loan_arrive
+#define vb_loan_leave reference_loan_leave
+#define vb_loan_give reference_loan_give
+#define vb_loan_ask reference_loan_ask
+#define vb_loan_reset reference_loan_reset
+#define vb_loan_take reference_loan_take
+#define vb_loan_uncount reference_loan_uncount
+#define vb_loan_recount reference_loan_recount
+#define vb_loan_figure reference_loan_figure
+#define vb_loan_grant reference_loan_grant
+#define vb_loan_owed reference_loan_owed
+#define vb_loan_targets reference_loan_targets
+#define vb_loan_class_targets reference_loan_class_targets
 #endif

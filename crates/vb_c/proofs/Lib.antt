@@ -13,6 +13,7 @@ mod RefusalFacts
 mod RegisterFacts
 mod LeftFacts
 mod QueueFacts
+mod LendingFacts
 mod HandingFacts
 mod BeginFacts
 mod ServingFacts

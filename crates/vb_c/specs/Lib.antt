@@ -9,4 +9,5 @@ pub mod Notices
 pub mod Serving
 pub mod Places
 pub mod Queues
+pub mod Lending
 pub mod Served

@@ -1,12 +1,13 @@
-//! `vb_core` and `vb_monitor` for C: `vb.h` says what each call is for. Each export takes any
-//! argument, and answers by a code; the device is one plain struct in the caller's memory, and
-//! nothing is allocated.
+//! `vb_core`, `vb_monitor` and `vb_lender` for C: `vb.h` and `vb_lending.h` say what each call is
+//! for. Each export takes any argument, and answers by a code; the device is one plain struct in
+//! the caller's memory, and nothing is allocated.
 #![tactic(auto)]
 
 mod answers;
 mod bits;
 mod chains;
 mod kinds;
+mod lending;
 mod marks;
 mod notice;
 mod phases;

@@ -16,7 +16,7 @@ pub struct VbTargets {
 }
 
 /// Targets that are set, or why they aren't.
-fn targets_of(answer: Result<(), NoTargets>) -> VbTargets
+pub(crate) fn targets_of(answer: Result<(), NoTargets>) -> VbTargets
     ensures { result ≡ targets_of answer }
 {
     let (code, missing) = match answer {

@@ -1,11 +1,10 @@
 -- Worked facts of what guests are asked to give.
-use Rattle.std.proofs.Common.{◌≡◌, ℕ, zero, suc, ◌-◌, ◌<◌, ◌≤◌, true, false, List, [], ◌∷◌, map, Result, Ok, Err, refl, ap, arith}
+use Rattle.std.proofs.Common.{◌≡◌, ℕ, zero, suc, ◌-◌, ◌<◌, ◌≤◌, List, [], ◌∷◌, map, Result, Ok, Err, refl, ap, arith}
 use Rattle.std.specs.Prelude.{slice_index}
 use Rattle.vb_model.specs.Balance.{spare_at}
 use Rattle.vb_balance.specs.declared.need.NoTargets.{NoTargets}
 use Rattle.vb_balance.specs.declared.need.NoTargets.TheVariants.{Short}
 use Rattle.vb_lender.specs.declared.loan.Loan.{Loan}
-use Rattle.vb_lender.specs.declared.loan.WaitingLine.TheVariants.{First}
 use Rattle.vb_lender.specs.Targets.{AsksFor, HasReached, can_spare, kept, need, waited}
 
 -- a guest of 60 pages: what is lent to it, what it asks for, and what it can spare
@@ -17,17 +16,17 @@ loan lent asked spare = record {
   asked = asked;
   turn = 1;
   spare = spare;
-  uncounted = false;
-  line = First;
+  uncounted = 0;
+  line = 0;
 }
 
 -- of one that waits what stays in its balloon, whatever its statistics said; of one that doesn't
 -- what these said, at most its pages; and of one whose balloon doesn't count nothing
 spares : map can_spare (loan 20 15 9 ∷ loan 20 40 9 ∷ loan 50 0 9 ∷ loan 50 0 61
-    ∷ record (loan 60 0 9) { uncounted = true } ∷ []) ≡ 25 ∷ 0 ∷ 9 ∷ 60 ∷ 0 ∷ []
+    ∷ record (loan 60 0 9) { uncounted = 1 } ∷ []) ≡ 25 ∷ 0 ∷ 9 ∷ 60 ∷ 0 ∷ []
 spares = refl
 
-keeps : map kept (loan 20 15 9 ∷ loan 50 0 9 ∷ record (loan 60 0 9) { uncounted = true } ∷ []) ≡ 35
+keeps : map kept (loan 20 15 9 ∷ loan 50 0 9 ∷ record (loan 60 0 9) { uncounted = 1 } ∷ []) ≡ 35
     ∷ 51 ∷ 60 ∷ []
 keeps = refl
 

@@ -259,7 +259,7 @@ from_balance frames shares targets p h are = record {
   in_order i j l m some (inr same) = are.in_order i j (omega (arith, l, as_many whole shares)) (omega (arith, m, as_many whole shares)) some same.1
 
 can_less : (s : Loan) → can_spare s ≤ s.pages
-can_less s = by (nat_lt 0 s.asked) s.uncounted where
+can_less s = by (nat_lt 0 s.asked) (nat_lt 0 s.uncounted) where
   by : (b c : Bool) → (if b then s.pages - (s.lent + s.asked) else (if c then 0 else min s.spare s.pages)) ≤ s.pages
   by true c = omega arith
   by false true = omega arith

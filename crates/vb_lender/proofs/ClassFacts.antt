@@ -1,10 +1,9 @@
 -- Worked facts of what guests are asked to give by class.
-use Rattle.std.proofs.Common.{◌≡◌, inl, inr, ℕ, zero, suc, ◌-◌, ◌<◌, ◌≤◌, false, List, [], ◌∷◌, map, slice_index, Result, Ok, Err, refl, ap, arith}
+use Rattle.std.proofs.Common.{◌≡◌, inl, inr, ℕ, zero, suc, ◌-◌, ◌<◌, ◌≤◌, List, [], ◌∷◌, map, slice_index, Result, Ok, Err, refl, ap, arith}
 use Rattle.vb_model.specs.Balance.{spare_at}
 use Rattle.vb_balance.specs.declared.need.NoTargets.{NoTargets}
 use Rattle.vb_balance.specs.declared.need.NoTargets.TheVariants.{Short}
 use Rattle.vb_lender.specs.declared.loan.Loan.{Loan}
-use Rattle.vb_lender.specs.declared.loan.WaitingLine.TheVariants.{First}
 use Rattle.vb_lender.specs.declared.terms.Share.{Share}
 use Rattle.vb_lender.specs.declared.terms.Terms.{Terms}
 use Rattle.vb_lender.specs.Classes.{AreClassTargets, AsksByClass, GivesFirst, IsLastClass, all_below, alone, most_priority, priority_at, share_of, shares_of, spare_below, spared_below, whole}
@@ -17,8 +16,8 @@ loan lent asked spare = record {
   asked = asked;
   turn = 1;
   spare = spare;
-  uncounted = false;
-  line = First;
+  uncounted = 0;
+  line = 0;
 }
 
 abbrev terms : ℕ → ℕ → Terms

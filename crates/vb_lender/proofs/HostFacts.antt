@@ -1,5 +1,5 @@
 -- Worked facts of what happens to a host, and of which events the promises speak of.
-use Rattle.std.proofs.Common.{◌≡◌, ◌≢◌, ℕ, zero, suc, ◌≤◌, true, false, [], ◌∷◌, refl, arith}
+use Rattle.std.proofs.Common.{◌≡◌, ◌≢◌, ℕ, zero, suc, ◌≤◌, [], ◌∷◌, refl, arith}
 use Rattle.std.specs.List.{AllByRecursion}
 use Rattle.vb_lender.specs.declared.event.Event.TheVariants.{Arrives, Leaves, Gives, Asks, Resets, Grants}
 use Rattle.vb_lender.specs.declared.event.Event.TheVariants.{Takes, Uncounts, Recounts, Figures, Budget}
@@ -18,8 +18,8 @@ loan ballooned lent asked turn = record {
   asked = asked;
   turn = turn;
   spare = 0;
-  uncounted = false;
-  line = First;
+  uncounted = 0;
+  line = 0;
 }
 
 -- of two guests one is there, with 10 of its pages in its balloon
@@ -35,8 +35,8 @@ each : (happens (host 90 vacant) (Arrives 1 60 First) ≡ host 90 (loan 60 0 60 
     × (happens (host 90 (loan 10 50 3 4)) (Resets 1) ≡ host 90 (loan 10 50 10 5))
     × (happens (host 110 (loan 60 0 60 1)) (Grants 1) ≡ host 110 (loan 60 60 0 0))
     × (happens (host 90 (loan 10 55 0 0)) (Takes 1 5) ≡ host 90 (loan 5 55 0 0))
-    × (happens (host 90 (loan 10 50 5 1)) (Uncounts 1) ≡ host 90 (record (loan 0 60 0 0) { uncounted = true }))
-    × (happens (host 90 (record (loan 0 60 0 0) { uncounted = true })) (Recounts 1) ≡ host 90 (loan 0 60 0 0))
+    × (happens (host 90 (loan 10 50 5 1)) (Uncounts 1) ≡ host 90 (record (loan 0 60 0 0) { uncounted = 1 }))
+    × (happens (host 90 (record (loan 0 60 0 0) { uncounted = 1 })) (Recounts 1) ≡ host 90 (loan 0 60 0 0))
     × (happens (host 90 (loan 10 50 0 0)) (Figures 1 7) ≡ host 90 (record (loan 10 50 0 0) { spare = 7 }))
     × (happens (host 90 vacant) (Budget 70) ≡ host 70 vacant)
 each = (refl, refl, refl, refl, refl, refl, refl, refl, refl, refl, refl)

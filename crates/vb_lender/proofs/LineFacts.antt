@@ -18,8 +18,8 @@ loan lent asked turn = record {
   asked = asked;
   turn = turn;
   spare = 9;
-  uncounted = false;
-  line = First;
+  uncounted = 0;
+  line = 0;
 }
 
 -- the third came first, the first after it, and the second doesn't wait
@@ -132,7 +132,7 @@ not_granted = (
 
 -- a newcomer in the second line, that came at this turn
 abbrev newcomer : ℕ → Loan
-newcomer turn = record (loan 0 60 turn) { ballooned = 60; line = Second }
+newcomer turn = record (loan 0 60 turn) { ballooned = 60; line = 1 }
 
 ranks : rank (loan 40 10 7) ∷ rank (newcomer 7) ∷ rank_at (newcomer 7 ∷ []) 0 ∷ rank_at [] 0 ∷ [] ≡ 7 ∷ 18446744073709551623
     ∷ 18446744073709551623 ∷ 0 ∷ []
@@ -161,8 +161,8 @@ after_of_two = (inr (omega arith), inr (omega arith), by) where
   by (inr l) = let less : rank_at two 0 < rank_at two 1 = l in omega (arith, less)
 
 -- once it is granted its pages, a newcomer is one no longer, nor where its balloon is uncounted
-runs : ((granted (newcomer 1)).line ≡ First) × ((uncounted (record (newcomer 1) { lent = 1 })).line ≡ First)
-    × ((resetting 5 (newcomer 1)).line ≡ Second) × ((arrived 60 Second 5 vacant).line ≡ Second)
+runs : ((granted (newcomer 1)).line ≡ 0) × ((uncounted (record (newcomer 1) { lent = 1 })).line ≡ 0)
+    × ((resetting 5 (newcomer 1)).line ≡ 1) × ((arrived 60 Second 5 vacant).line ≡ 1)
 runs = (refl, refl, refl, refl)
 
 -- asks, resets and newcomers of the guest itself come to the first line

@@ -1,10 +1,10 @@
 -- Worked facts of one loan: what each event makes of it, and where an event changes nothing.
-use Rattle.std.proofs.Common.{◌≡◌, ℕ, ◌≤◌, true, false, [], ◌∷◌, refl, arith}
+use Rattle.std.proofs.Common.{◌≡◌, ℕ, ◌≤◌, true, false, [], ◌∷◌, map, refl, arith}
 use Rattle.vb_lender.specs.declared.loan.Loan.{Loan}
-use Rattle.vb_lender.specs.declared.loan.WaitingLine.TheVariants.{First}
+use Rattle.vb_lender.specs.declared.loan.WaitingLine.TheVariants.{First, Second}
 use Rattle.vb_lender.specs.Loans.{vacant, IsSound, may_arrive, arrived, may_give, gave, may_ask}
 use Rattle.vb_lender.specs.Loans.{asking, may_reset, resetting, granted, may_take, took}
-use Rattle.vb_lender.specs.Loans.{may_uncount, uncounted, recounted, figured}
+use Rattle.vb_lender.specs.Loans.{may_uncount, uncounted, recounted, figured, line_of, line_number, is_uncounted}
 
 -- a guest of 60 pages: how many are in its balloon, lent to it and asked for
 abbrev loan : ℕ → ℕ → ℕ → Loan
@@ -15,12 +15,12 @@ loan ballooned lent asked = record {
   asked = asked;
   turn = 3;
   spare = 9;
-  uncounted = false;
-  line = First;
+  uncounted = 0;
+  line = 0;
 }
 
 abbrev without_count : Loan → Loan
-without_count s = record s { uncounted = true }
+without_count s = record s { uncounted = 1 }
 
 -- ---- what a guest may use is lent to it
 
@@ -39,6 +39,16 @@ not_sound = (
   λ s. let e : 61 ≤ 60 = s.inside in absurd (omega arith),
 )
 
+-- ---- numbers that anybody may have written: 0 is the first line, and that a balloon counts
+
+lines : (map line_of (0 ∷ 1 ∷ 2 ∷ 65535 ∷ []) ≡ First ∷ Second ∷ Second ∷ Second ∷ [])
+    × (map line_number (First ∷ Second ∷ []) ≡ 0 ∷ 1 ∷ [])
+lines = (refl, refl)
+
+counts_by : map (λ n. is_uncounted (record (loan 20 40 0) { uncounted = n })) (0 ∷ 1 ∷ 2 ∷ 65535 ∷ [])
+    ≡ false ∷ true ∷ true ∷ true ∷ []
+counts_by = refl
+
 -- ---- a guest comes, and goes
 
 comes : arrived 8 First 5 vacant ≡ record {
@@ -48,8 +58,8 @@ comes : arrived 8 First 5 vacant ≡ record {
   asked = 8;
   turn = 5;
   spare = 0;
-  uncounted = false;
-  line = First;
+  uncounted = 0;
+  line = 0;
 }
 comes = refl
 
@@ -67,8 +77,8 @@ gives : (gave 15 (loan 20 40 7) ≡ loan 35 25 7) × (gave 0 (loan 20 40 0) ≡ 
 gives = (refl, refl)
 
 may_give_which : may_give 40 (loan 20 40 0) ∷ may_give 41 (loan 20 40 0) ∷ may_give 40 (loan 20 60 0)
-    ∷ may_give 41 (loan 20 60 0) ∷ may_give 1 (without_count (loan 20 40 0)) ∷ [] ≡ true ∷ false
-    ∷ true ∷ false ∷ false ∷ []
+    ∷ may_give 41 (loan 20 60 0) ∷ may_give 1 (without_count (loan 20 40 0)) ∷ may_give 1 (record (loan 20 40 0) { uncounted = 256 }) ∷ [] ≡ true ∷ false
+    ∷ true ∷ false ∷ false ∷ false ∷ []
 may_give_which = refl
 
 gives_not : (gave 41 (loan 20 40 0) ≡ loan 20 40 0) × (gave 41 (loan 20 60 0) ≡ loan 20 60 0)

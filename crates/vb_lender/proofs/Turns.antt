@@ -8,7 +8,7 @@ use Rattle.vb_lender.specs.declared.loan.WaitingLine.{WaitingLine}
 use Rattle.vb_lender.specs.declared.loan.WaitingLine.TheVariants.{First, Second}
 use Rattle.vb_lender.specs.declared.event.Event.{Event}
 use Rattle.vb_lender.specs.declared.event.Event.TheVariants.{Arrives, Leaves, Gives, Asks, Resets, Grants, Takes, Uncounts, Recounts, Figures, Budget}
-use Rattle.vb_lender.specs.Loans.{vacant, may_arrive, arrived, may_give, gave, may_ask, asking, resetting, granted, may_take, took, uncounted, recounted, figured}
+use Rattle.vb_lender.specs.Loans.{vacant, may_arrive, arrived, may_give, gave, may_ask, asking, resetting, granted, may_take, took, uncounted, recounted, figured, line_of, line_number}
 use Rattle.vb_lender.specs.Lending.{Lending, asked_at, turn_at, rank, rank_at, line_start, lent_at, value_at, last_turn, next_turn, has_turn, may_grant, each_at, happens, run}
 use Rattle.vb_lender.specs.Line.{IsAfter, IsInFirstLine, KeepsAsk, KeepsCount, KeepsOut}
 use Rattle.vb_lender.proofs.Places.{value_elsewhere, value_same, value_less}
@@ -64,7 +64,7 @@ pub keeps_rank : (l : Lending) (e : Event) (i : ℕ) → KeepsAsk i e → rank_a
 keeps_rank l e i h = keeps rank l e i h (λ k s. same_either rank (may_give k s) s _ refl) (λ k s. same_either rank (may_take k s) s _ refl) (λ s. refl) (λ k s. refl)
 
 abbrev start : Loan → ℕ
-start s = line_start s.line
+start s = line_start (line_of s.line)
 
 keeps_line : (l : Lending) (e : Event) (i : ℕ) → KeepsAsk i e → value_at start (happens l e).loans i ≡ value_at start l.loans i
 keeps_line l e i h = keeps start l e i h (λ k s. same_either start (may_give k s) s _ refl) (λ k s. same_either start (may_take k s) s _ refl) (λ s. refl) (λ k s. refl)
@@ -78,7 +78,7 @@ turn_before (x ∷ xs) (suc i) = omega (arith, turn_before xs i)
 
 -- in either line its rank is no more than the latest turn there
 start_small : (s : Loan) → start s ≤ 18446744073709551616
-start_small s = by s.line where
+start_small s = by (line_of s.line) where
   by : (line : WaitingLine) → line_start line ≤ 18446744073709551616
   by First = omega arith
   by Second = omega arith
@@ -94,7 +94,7 @@ Late t s = (s.asked ≡ 0) ⊎ (t < rank s)
 
 -- an ask of guest j that comes by the event comes later than at this rank
 abbrev ComesLater : ℕ → Lending → Event → ℕ → Type 0
-ComesLater t l (Arrives n k line) j = n ≡ j → t < line_start line + next_turn l.loans
+ComesLater t l (Arrives n k line) j = n ≡ j → t < line_start (line_of (line_number line)) + next_turn l.loans
 ComesLater t l (Asks n k) j = n ≡ j → t < next_turn l.loans
 ComesLater t l (Resets n) j = n ≡ j → t < next_turn l.loans
 ComesLater t l _ j = ⊤
@@ -228,8 +228,8 @@ run_out l (e ∷ events) i j w h k o out =
 -- ---- which rank is before which
 
 pub before_means : (s t : Loan) → t.turn < 18446744073709551616 → rank s < rank t
-    → ((s.line ≡ First) × (t.line ≡ Second)) ⊎ ((s.line ≡ t.line) × (s.turn < t.turn))
-before_means s t later less = by s.line t.line less where
+    → ((line_of s.line ≡ First) × (line_of t.line ≡ Second)) ⊎ ((line_of s.line ≡ line_of t.line) × (s.turn < t.turn))
+before_means s t later less = by (line_of s.line) (line_of t.line) less where
   by : (a b : WaitingLine) → line_start a + s.turn < line_start b + t.turn → ((a ≡ First) × (b ≡ Second)) ⊎ ((a ≡ b) × (s.turn < t.turn))
   by First First l = inr (refl, omega (arith, l))
   by First Second l = inl (refl, refl)
@@ -237,6 +237,6 @@ before_means s t later less = by s.line t.line less where
   by Second Second l = inr (refl, omega (arith, l))
 
 pub means_before : (s t : Loan) → s.turn < 18446744073709551616
-    → ((s.line ≡ First) × (t.line ≡ Second)) ⊎ ((s.line ≡ t.line) × (s.turn < t.turn)) → rank s < rank t
+    → ((line_of s.line ≡ First) × (line_of t.line ≡ Second)) ⊎ ((line_of s.line ≡ line_of t.line) × (s.turn < t.turn)) → rank s < rank t
 means_before s t small (inl lines) = omega (arith, ap line_start lines.0, ap line_start lines.1, small)
 means_before s t small (inr same) = omega (arith, ap line_start same.0, same.1)

@@ -11,7 +11,7 @@ use Rattle.vb_lender.specs.declared.loan.Loan.{Loan}
 use Rattle.vb_lender.specs.declared.loan.WaitingLine.{WaitingLine}
 use Rattle.vb_lender.specs.declared.loan.WaitingLine.TheVariants.{First, Second}
 use Rattle.vb_lender.specs.Loans.{vacant, IsSound, arrived, gave, asking, resetting, granted, took}
-use Rattle.vb_lender.specs.Loans.{uncounted, recounted, figured}
+use Rattle.vb_lender.specs.Loans.{uncounted, recounted, figured, line_of}
 
 -- how many frames a host has to lend, and the guests by their numbers
 pub record Lending : Type 0 where
@@ -62,7 +62,7 @@ line_start First = 0
 line_start Second = 18446744073709551616
 
 abbrev pub rank : Loan → ℕ
-rank s = line_start s.line + s.turn
+rank s = line_start (line_of s.line) + s.turn
 
 abbrev pub rank_at : List Loan → ℕ → ℕ
 rank_at loans n = value_at rank loans n

@@ -5,7 +5,7 @@ use Rattle.vb_lender.specs.declared.loan.Loan.{Loan}
 use Rattle.vb_lender.specs.declared.event.Event.{Event}
 use Rattle.vb_lender.specs.declared.event.Event.TheVariants.{Arrives, Leaves, Asks, Resets, Grants}
 use Rattle.vb_lender.specs.declared.event.Event.TheVariants.{Uncounts, Budget}
-use Rattle.vb_lender.specs.Loans.{granted}
+use Rattle.vb_lender.specs.Loans.{granted, line_of}
 use Rattle.vb_lender.specs.declared.loan.WaitingLine.TheVariants.{First}
 use Rattle.vb_lender.specs.Lending.{owed, asked_at, turn_at, rank_at, each_at, line_start, value_at}
 
@@ -35,7 +35,7 @@ KeepsCount j _ = ⊤
 
 -- guest i waits in the first line
 abbrev pub IsInFirstLine : List Loan → ℕ → Type 0
-IsInFirstLine loans i = value_at (λ s. line_start s.line) loans i ≡ 0
+IsInFirstLine loans i = value_at (λ s. line_start (line_of s.line)) loans i ≡ 0
 
 -- no ask of guest j comes to the first line
 abbrev pub KeepsOut : ℕ → Event → Type 0

@@ -1,10 +1,23 @@
 -- What a guest on a host has, may hold and waits for, all in pages, and what each event makes of
 -- it.
-use Rattle.std.specs.Prelude.{ℕ, ◌+◌, ◌-◌, ◌≤◌, Bool, true, false, not, ◌&&◌, ◌==◌, nat_lt, nat_le}
+use Rattle.std.specs.Prelude.{ℕ, zero, suc, ◌+◌, ◌-◌, ◌≤◌, Bool, not, ◌&&◌, ◌==◌, nat_lt, nat_le}
 use Rattle.std.specs.Prelude.{if◌then◌else◌}
 use Rattle.vb_lender.specs.declared.loan.Loan.{Loan}
 use Rattle.vb_lender.specs.declared.loan.WaitingLine.{WaitingLine}
-use Rattle.vb_lender.specs.declared.loan.WaitingLine.TheVariants.{First}
+use Rattle.vb_lender.specs.declared.loan.WaitingLine.TheVariants.{First, Second}
+
+-- the line of a number: 0 is the first one, and any other the second
+abbrev pub line_of : ℕ → WaitingLine
+line_of zero = First
+line_of (suc n) = Second
+
+abbrev pub line_number : WaitingLine → ℕ
+line_number First = 0
+line_number Second = 1
+
+-- any number but 0 says that its balloon doesn't count
+abbrev pub is_uncounted : Loan → Bool
+is_uncounted s = nat_lt 0 s.uncounted
 
 -- the loan of a place where no guest is
 abbrev pub vacant : Loan
@@ -16,8 +29,8 @@ vacant =
       asked = 0;
       turn = 0;
       spare = 0;
-      uncounted = false;
-      line = First;
+      uncounted = 0;
+      line = 0;
     }
 
 -- What is lent to a guest is enough for all that it may use: its pages but for the ballooned ones.
@@ -44,14 +57,15 @@ arrived pages line turn s =
       asked = pages;
       turn = turn;
       spare = 0;
-      uncounted = false;
-      line = line;
+      uncounted = 0;
+      line = line_number line;
     }
     else s
 
 -- Pages joined its balloon and lost their frames: they are no longer lent to it.
 abbrev pub may_give : ℕ → Loan → Bool
-may_give pages s = not s.uncounted && nat_le pages s.lent && nat_le (s.ballooned + pages) s.pages
+may_give pages s =
+    not (is_uncounted s) && nat_le pages s.lent && nat_le (s.ballooned + pages) s.pages
 
 abbrev pub gave : ℕ → Loan → Loan
 gave pages s =
@@ -77,7 +91,7 @@ resetting turn s = if may_reset s then record s { asked = s.pages - s.lent; turn
 
 -- What it asks for is lent to it, and then it is no newcomer.
 abbrev pub granted : Loan → Loan
-granted s = record s { lent = s.lent + s.asked; asked = 0; turn = 0; line = First }
+granted s = record s { lent = s.lent + s.asked; asked = 0; turn = 0; line = 0 }
 
 -- Pages left its balloon, for which enough was lent before.
 abbrev pub may_take : ℕ → Loan → Bool
@@ -99,14 +113,14 @@ uncounted s =
       lent = s.pages;
       asked = 0;
       turn = 0;
-      uncounted = true;
-      line = First;
+      uncounted = 1;
+      line = 0;
     }
     else s
 
 -- Its balloon counts again, as after a restart.
 abbrev pub recounted : Loan → Loan
-recounted s = record s { uncounted = false }
+recounted s = record s { uncounted = 0 }
 
 -- Its statistics say that it can spare this many pages, ballooned ones included.
 abbrev pub figured : ℕ → Loan → Loan

@@ -5,6 +5,7 @@ use Rattle.vb_model.specs.Balance.{Need, AreTargets, shortage}
 use Rattle.vb_balance.specs.declared.need.NoTargets.{NoTargets}
 use Rattle.vb_balance.specs.declared.need.NoTargets.TheVariants.{Short}
 use Rattle.vb_lender.specs.declared.loan.Loan.{Loan}
+use Rattle.vb_lender.specs.Loans.{is_uncounted}
 use Rattle.vb_lender.specs.Lending.{value_at, asked_at, lent_at}
 
 -- What a guest can spare. One that waits spares no more than what stays in its balloon when it has
@@ -12,7 +13,7 @@ use Rattle.vb_lender.specs.Lending.{value_at, asked_at, lent_at}
 abbrev pub can_spare : Loan → ℕ
 can_spare s =
     if nat_lt 0 s.asked then s.pages - (s.lent + s.asked)
-    else (if s.uncounted then 0 else min s.spare s.pages)
+    else (if is_uncounted s then 0 else min s.spare s.pages)
 
 abbrev pub need : Loan → Need
 need s = record { pages = s.pages; spare = can_spare s }

@@ -18,7 +18,7 @@ pub fn can_spare(loan: &Loan) -> u32
         loan.pages
             .saturating_sub(loan.lent)
             .saturating_sub(loan.asked)
-    } else if loan.uncounted {
+    } else if loan.is_uncounted() {
         0
     } else {
         loan.spare.min(loan.pages)

@@ -5,7 +5,7 @@ ghost use Rattle.std.specs.List.{AllByRecursion};
 ghost use Rattle.vb_lender.specs.Lending.{Lending, rank, owed, asked_at, lent_at, each_at, happens};
 ghost use Rattle.vb_lender.specs.Lending.{run};
 ghost use Rattle.vb_lender.specs.Lending.{IsOrdinary, NeverLowers, AreSound};
-ghost use Rattle.vb_lender.specs.Loans.{granted};
+ghost use Rattle.vb_lender.specs.Loans.{granted, line_of};
 ghost use Rattle.vb_lender.specs.Line.{IsFirst, IsAfter, IsInFirstLine, KeepsAsk, KeepsCount};
 ghost use Rattle.vb_lender.specs.Line.{KeepsOut, AreApart};
 ghost use Rattle.vb_lender.specs.declared.loan.Loan.{Loan};
@@ -75,8 +75,10 @@ pub fn only_the_first_line_passes()
 /// the other in the second, or both wait in one line and its turn is earlier.
 pub fn lines_order_the_asks()
     ensures means { (s t : Loan) → t.turn < 2 ^ 64 → rank s < rank t →
-        ((s.line ≡ First) × (t.line ≡ Second)) ⊎ ((s.line ≡ t.line) × (s.turn < t.turn)) }
+        ((line_of s.line ≡ First) × (line_of t.line ≡ Second)) ⊎
+        ((line_of s.line ≡ line_of t.line) × (s.turn < t.turn)) }
     ensures holds { (s t : Loan) → s.turn < 2 ^ 64 →
-        ((s.line ≡ First) × (t.line ≡ Second)) ⊎ ((s.line ≡ t.line) × (s.turn < t.turn)) →
+        ((line_of s.line ≡ First) × (line_of t.line ≡ Second)) ⊎
+        ((line_of s.line ≡ line_of t.line) × (s.turn < t.turn)) →
         rank s < rank t }
 {}

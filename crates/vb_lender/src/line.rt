@@ -54,7 +54,7 @@ fn rank(loan: &Loan) -> u128
     ensures { result ≡ rank loan.now }
 {
     let turn = u128::from(loan.turn);
-    match loan.line {
+    match WaitingLine::of(loan.line) {
         WaitingLine::First => turn,
         WaitingLine::Second => SECOND_LINE + turn,
     }

@@ -3,7 +3,8 @@
 ghost use Rattle.std.specs.Prelude.{◌≡◌, ◌+◌, ◌^◌, ◌<◌};
 ghost use Rattle.vb_lender.specs.Loans.{vacant, may_arrive, arrived, may_give, gave, may_ask};
 ghost use Rattle.vb_lender.specs.Loans.{asking, may_reset, resetting, granted, may_take, took};
-ghost use Rattle.vb_lender.specs.Loans.{may_uncount, uncounted, recounted, figured};
+ghost use Rattle.vb_lender.specs.Loans.{may_uncount, uncounted, recounted, figured, is_uncounted};
+ghost use Rattle.vb_lender.specs.Loans.{line_of, line_number};
 
 /// In which of two lines a guest waits. Those of the first come before all of the
 /// second, and those of one in order of arrival.
@@ -15,6 +16,29 @@ pub enum WaitingLine {
     First,
     /// Of newcomers, until they are granted their pages, where a host has two lines.
     Second,
+}
+
+impl WaitingLine {
+    /// The line of this number: 0 is the first one, and any other the second.
+    pub fn of(number: u16) -> WaitingLine
+        ensures { result ≡ line_of number }
+    {
+        if number == 0 {
+            WaitingLine::First
+        } else {
+            WaitingLine::Second
+        }
+    }
+
+    /// The line's number.
+    pub(crate) fn number(self) -> u16
+        ensures { result ≡ line_number self }
+    {
+        match self {
+            WaitingLine::First => 0,
+            WaitingLine::Second => 1,
+        }
+    }
 }
 
 /// What a guest has, may hold and waits for, in pages. Any numbers may be passed.
@@ -33,10 +57,10 @@ pub struct Loan {
     pub turn: u64,
     /// How many it can spare, by its last statistics, ballooned ones included.
     pub spare: u32,
-    /// Its balloon doesn't count.
-    pub uncounted: bool,
-    /// The line in which it waits.
-    pub line: WaitingLine,
+    /// Unless 0, its balloon doesn't count.
+    pub uncounted: u16,
+    /// The number of the line in which it waits (`WaitingLine::of`).
+    pub line: u16,
 }
 
 impl Loan {
@@ -51,8 +75,8 @@ impl Loan {
             asked: 0,
             turn: 0,
             spare: 0,
-            uncounted: false,
-            line: WaitingLine::First,
+            uncounted: 0,
+            line: 0,
         }
     }
 
@@ -71,17 +95,24 @@ impl Loan {
             asked: pages,
             turn,
             spare: 0,
-            uncounted: false,
-            line,
+            uncounted: 0,
+            line: line.number(),
         };
         true
+    }
+
+    /// Whether its balloon doesn't count.
+    pub(crate) fn is_uncounted(&self) -> bool
+        ensures { result ≡ is_uncounted self.now }
+    {
+        self.uncounted > 0
     }
 
     /// Whether this many pages that were lent to it can join its balloon.
     fn may_give(&self, pages: u32) -> bool
         ensures { result ≡ may_give pages self.now }
     {
-        !self.uncounted
+        !self.is_uncounted()
             && pages <= self.lent
             && u64::from(self.ballooned) + u64::from(pages) <= u64::from(self.pages)
     }
@@ -142,7 +173,7 @@ impl Loan {
         self.lent += self.asked;
         self.asked = 0;
         self.turn = 0;
-        self.line = WaitingLine::First;
+        self.line = 0;
     }
 
     /// Whether this many pages of its balloon are lent to it.
@@ -178,8 +209,8 @@ impl Loan {
         self.lent = self.pages;
         self.asked = 0;
         self.turn = 0;
-        self.uncounted = true;
-        self.line = WaitingLine::First;
+        self.uncounted = 1;
+        self.line = 0;
         true
     }
 
@@ -187,7 +218,7 @@ impl Loan {
     pub(crate) fn recount(&mut self)
         ensures { self.new ≡ recounted self.old }
     {
-        self.uncounted = false;
+        self.uncounted = 0;
     }
 
     /// It can spare this many pages.

@@ -141,8 +141,8 @@ fn guest(pages: u32, lent: u32, asked: u32, spare: u32) -> Loan
         asked,
         turn: 1,
         spare,
-        uncounted: false,
-        line: WaitingLine::First,
+        uncounted: 0,
+        line: 0,
     }
 }
 

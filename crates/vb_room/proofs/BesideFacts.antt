@@ -128,7 +128,7 @@ asks = (tt, λ a. let l : 64 ≤ 63 = a in absurd (omega arith), λ a. let e : 4
 -- ---- a run: a guest of 64 pages arrives, is granted them, takes them and is plugged in
 
 abbrev arrived : Loan
-arrived = record { pages = 64; ballooned = 64; lent = 0; asked = 64; turn = 1; spare = 0; uncounted = false; line = First }
+arrived = record { pages = 64; ballooned = 64; lent = 0; asked = 64; turn = 1; spare = 0; uncounted = 0; line = 0 }
 
 abbrev pub at_first : Both
 at_first = opened 100 (true ∷ []) 80 1

@@ -65,8 +65,8 @@ loan pages ballooned = record {
   asked = 0;
   turn = 0;
   spare = 0;
-  uncounted = false;
-  line = First;
+  uncounted = 0;
+  line = 0;
 }
 
 -- a loan may call fewer pages ballooned than the device does

@@ -177,7 +177,7 @@ impl Room {
 
 /// Bytes that say where they are.
 #[allow(dead_code)] // rustc 1.63 doesn't see its use in constants without a name
-const fn numbered<const N: usize>() -> [u8; N] {
+pub(crate) const fn numbered<const N: usize>() -> [u8; N] {
     let mut bytes = [0; N];
     let mut at = 0;
     while at < N {
@@ -192,11 +192,13 @@ macro_rules! layout {
     ($name:ty, $size:literal, $($($field:ident).+ at $at:literal),+) => {
         const _: () = {
             // SAFETY: the struct has just numbers, and this size, or this doesn't compile.
-            let it: $name = unsafe { std::mem::transmute(numbered::<$size>()) };
+            let it: $name = unsafe { std::mem::transmute($crate::raw::numbered::<$size>()) };
             $(assert!(it.$($field).+.to_ne_bytes()[0] == $at);)+
         };
     };
 }
+
+pub(crate) use layout;
 
 layout!(Settings, 24, memory_end at 0, offered at 8, reserved_pages at 16, needs_must_tell at 20, skips_bad_pages at 21);
 layout!(Queue, 32, table at 0, avail at 8, used at 16, size at 24, next_avail at 26, next_used at 28);

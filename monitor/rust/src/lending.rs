@@ -1,0 +1,252 @@
+//! A host that lends its frames to guests, and never more than it has: the calls of vb_lending.h, over a slice of loans. A guest
+//! is its place in the slice; [`Loan::default`] is a place without a guest. Any numbers may be passed.
+//!
+//! An event answers `false` where it doesn't fit, or there is no such guest: then nothing is changed. The order of effects is the
+//! host's part: the kernel's limit of a guest is lowered once its pages went, and raised to `lent` before they may come.
+
+use crate::raw::{layout, OK, SHORT};
+
+/// What a guest has, may hold and waits for, in pages.
+#[repr(C)]
+#[derive(Clone, Copy, Debug, Default, PartialEq, Eq)]
+pub struct Loan {
+    /// Its memory; 0 where no guest is.
+    pub pages: u32,
+    /// In its balloon, with no frames.
+    pub ballooned: u32,
+    /// How many frames it may hold: its limit.
+    pub lent: u32,
+    /// How many it waits for; 0 where it doesn't wait.
+    pub asked: u32,
+    /// The turn of its ask; 0 where it doesn't wait.
+    pub turn: u64,
+    /// How many it can spare, by [`figure`].
+    pub spare: u32,
+    /// Unless 0, its balloon doesn't count.
+    pub uncounted: u16,
+    /// 0: it waits in the first line; else in the second.
+    pub line: u16,
+}
+
+/// What a guest has, and can spare.
+#[repr(C)]
+#[derive(Clone, Copy, Debug, Default, PartialEq, Eq)]
+pub struct Need {
+    pub pages: u32,
+    pub spare: u32,
+}
+
+/// What the host has agreed with a guest.
+#[repr(C)]
+#[derive(Clone, Copy, Debug, Default, PartialEq, Eq)]
+pub struct Terms {
+    /// How many pages always stay to it, as far as it has them.
+    pub least: u32,
+    /// Guests of a lower priority give first.
+    pub priority: u32,
+}
+
+/// Room that [`targets_by_terms`] needs for a guest.
+#[repr(C)]
+#[derive(Clone, Copy, Debug, Default, PartialEq, Eq)]
+pub struct Share {
+    pub pages: u32,
+    pub spare: u32,
+    pub priority: u32,
+}
+
+/// In which line a newcomer waits: those of the first come before all of the second.
+#[derive(Clone, Copy, Debug, PartialEq, Eq)]
+pub enum Line {
+    First = 0,
+    Second = 1,
+}
+
+/// Why targets don't serve.
+#[derive(Clone, Copy, Debug, PartialEq, Eq)]
+pub enum NoTargets {
+    /// A list has not as many places as there are loans; nothing is written.
+    OtherLength,
+    /// All that guests can give is too little by this many pages; each is asked for all that it can give.
+    Short(u64),
+}
+
+#[repr(C)]
+struct Grant {
+    code: u32,
+    guest: usize,
+}
+
+#[repr(C)]
+struct Targets {
+    code: u32,
+    missing: u64,
+}
+
+layout!(Loan, 32, pages at 0, ballooned at 4, lent at 8, asked at 12, turn at 16, spare at 24, uncounted at 28, line at 30);
+layout!(Need, 8, pages at 0, spare at 4);
+layout!(Terms, 8, least at 0, priority at 4);
+layout!(Share, 12, pages at 0, spare at 4, priority at 8);
+layout!(Grant, 16, code at 0, guest at 8);
+layout!(Targets, 16, code at 0, missing at 8);
+
+extern "C" {
+    fn vb_loan_arrive(loans: *mut Loan, count: usize, guest: usize, pages: u32, line: u16) -> u32;
+    fn vb_loan_leave(loans: *mut Loan, count: usize, guest: usize) -> u32;
+    fn vb_loan_give(loans: *mut Loan, count: usize, guest: usize, pages: u32) -> u32;
+    fn vb_loan_ask(loans: *mut Loan, count: usize, guest: usize, pages: u32) -> u32;
+    fn vb_loan_reset(loans: *mut Loan, count: usize, guest: usize) -> u32;
+    fn vb_loan_take(loans: *mut Loan, count: usize, guest: usize, pages: u32) -> u32;
+    fn vb_loan_uncount(loans: *mut Loan, count: usize, guest: usize) -> u32;
+    fn vb_loan_recount(loans: *mut Loan, count: usize, guest: usize) -> u32;
+    fn vb_loan_figure(loans: *mut Loan, count: usize, guest: usize, pages: u32) -> u32;
+    fn vb_loan_grant(frames: u32, loans: *mut Loan, count: usize) -> Grant;
+    fn vb_loan_owed(loans: *const Loan, count: usize) -> u64;
+    fn vb_loan_targets(
+        frames: u32,
+        loans: *const Loan,
+        count: usize,
+        needs: *mut Need,
+        needs_room: usize,
+        targets: *mut u32,
+        targets_room: usize,
+    ) -> Targets;
+    fn vb_loan_class_targets(
+        frames: u32,
+        loans: *const Loan,
+        count: usize,
+        terms: *const Terms,
+        terms_count: usize,
+        shares: *mut Share,
+        shares_room: usize,
+        needs: *mut Need,
+        needs_room: usize,
+        targets: *mut u32,
+        targets_room: usize,
+    ) -> Targets;
+}
+
+/// A guest of this many pages comes to a vacant place, and asks for all of them in a line.
+pub fn arrive(loans: &mut [Loan], guest: usize, pages: u32, line: Line) -> bool {
+    // SAFETY: the pointer is of a slice with its length.
+    unsafe { vb_loan_arrive(loans.as_mut_ptr(), loans.len(), guest, pages, line as u16) == OK }
+}
+
+/// A guest has gone, and its memory with it.
+pub fn leave(loans: &mut [Loan], guest: usize) -> bool {
+    // SAFETY: the pointer is of a slice with its length.
+    unsafe { vb_loan_leave(loans.as_mut_ptr(), loans.len(), guest) == OK }
+}
+
+/// Pages joined a guest's balloon and lost their frames.
+pub fn give(loans: &mut [Loan], guest: usize, pages: u32) -> bool {
+    // SAFETY: the pointer is of a slice with its length.
+    unsafe { vb_loan_give(loans.as_mut_ptr(), loans.len(), guest, pages) == OK }
+}
+
+/// A deflate request for this many pages is pending.
+pub fn ask(loans: &mut [Loan], guest: usize, pages: u32) -> bool {
+    // SAFETY: the pointer is of a slice with its length.
+    unsafe { vb_loan_ask(loans.as_mut_ptr(), loans.len(), guest, pages) == OK }
+}
+
+/// A reset is pending, in place of all requests; `false` too where all pages are lent to the guest, so that nothing waits.
+pub fn reset(loans: &mut [Loan], guest: usize) -> bool {
+    // SAFETY: the pointer is of a slice with its length.
+    unsafe { vb_loan_reset(loans.as_mut_ptr(), loans.len(), guest) == OK }
+}
+
+/// Pages that were granted are about to leave a guest's balloon.
+pub fn take(loans: &mut [Loan], guest: usize, pages: u32) -> bool {
+    // SAFETY: the pointer is of a slice with its length.
+    unsafe { vb_loan_take(loans.as_mut_ptr(), loans.len(), guest, pages) == OK }
+}
+
+/// A guest's balloon counts no longer: all its pages are lent to it.
+pub fn uncount(loans: &mut [Loan], guest: usize) -> bool {
+    // SAFETY: the pointer is of a slice with its length.
+    unsafe { vb_loan_uncount(loans.as_mut_ptr(), loans.len(), guest) == OK }
+}
+
+/// A guest's balloon counts again.
+pub fn recount(loans: &mut [Loan], guest: usize) -> bool {
+    // SAFETY: the pointer is of a slice with its length.
+    unsafe { vb_loan_recount(loans.as_mut_ptr(), loans.len(), guest) == OK }
+}
+
+/// A guest can spare this many pages, those in its balloon included.
+pub fn figure(loans: &mut [Loan], guest: usize, pages: u32) -> bool {
+    // SAFETY: the pointer is of a slice with its length.
+    unsafe { vb_loan_figure(loans.as_mut_ptr(), loans.len(), guest, pages) == OK }
+}
+
+/// Lends to the first guest that waits what it asks for: which guest. `None` where nobody waits, or there is no room for the
+/// first.
+pub fn grant(frames: u32, loans: &mut [Loan]) -> Option<usize> {
+    // SAFETY: the pointer is of a slice with its length.
+    let said = unsafe { vb_loan_grant(frames, loans.as_mut_ptr(), loans.len()) };
+    (said.code == OK).then_some(said.guest)
+}
+
+/// How many frames are lent to all guests together.
+pub fn owed(loans: &[Loan]) -> u64 {
+    // SAFETY: the pointer is of a slice with its length.
+    unsafe { vb_loan_owed(loans.as_ptr(), loans.len()) }
+}
+
+/// Puts a target for each guest into `targets`, so that there is room for all that is waited for once the others have theirs.
+///
+/// # Errors
+/// `Short`, and then all are asked for what they can spare; `OtherLength`, and then nothing is written.
+pub fn targets(frames: u32, loans: &[Loan], needs: &mut [Need], targets: &mut [u32]) -> Result<(), NoTargets> {
+    // SAFETY: the pointers are of slices with their lengths.
+    answer(unsafe {
+        vb_loan_targets(
+            frames,
+            loans.as_ptr(),
+            loans.len(),
+            needs.as_mut_ptr(),
+            needs.len(),
+            targets.as_mut_ptr(),
+            targets.len(),
+        )
+    })
+}
+
+/// The same by terms: each guest keeps its least pages, and those of a lower priority give all that they can first.
+///
+/// # Errors
+/// As of [`targets`].
+pub fn targets_by_terms(
+    frames: u32,
+    loans: &[Loan],
+    terms: &[Terms],
+    shares: &mut [Share],
+    needs: &mut [Need],
+    targets: &mut [u32],
+) -> Result<(), NoTargets> {
+    // SAFETY: the pointers are of slices with their lengths.
+    answer(unsafe {
+        vb_loan_class_targets(
+            frames,
+            loans.as_ptr(),
+            loans.len(),
+            terms.as_ptr(),
+            terms.len(),
+            shares.as_mut_ptr(),
+            shares.len(),
+            needs.as_mut_ptr(),
+            needs.len(),
+            targets.as_mut_ptr(),
+            targets.len(),
+        )
+    })
+}
+
+fn answer(said: Targets) -> Result<(), NoTargets> {
+    match said.code {
+        OK => Ok(()),
+        SHORT => Err(NoTargets::Short(said.missing)),
+        _ => Err(NoTargets::OtherLength),
+    }
+}

@@ -1,0 +1,103 @@
+//! A host of 100 frames and its guests, by pencil: vb_lending.h over slices.
+
+use vb_balloon::lending::{
+    arrive, ask, figure, give, grant, leave, owed, recount, reset, take, targets, targets_by_terms, uncount, Line,
+    Loan, Need, NoTargets, Share, Terms,
+};
+
+const FRAMES: u32 = 100;
+
+/// Two guests of 60 pages, the second with 20 in its balloon, which are lent all frames, and a vacant place.
+fn host() -> [Loan; 3] {
+    let running = Loan { pages: 60, lent: 60, ..Loan::default() };
+    let given = Loan { pages: 60, ballooned: 20, lent: 40, ..Loan::default() };
+    [running, given, Loan::default()]
+}
+
+#[test]
+fn a_guest_comes_and_is_granted_its_pages_before_it_takes_them() {
+    let mut loans = [Loan::default(); 2];
+    assert!(arrive(&mut loans, 0, 60, Line::First));
+    assert!(!arrive(&mut loans, 0, 60, Line::First), "the place is taken");
+    assert!(!arrive(&mut loans, 2, 60, Line::First), "there is no such place");
+    assert_eq!(loans[0], Loan { pages: 60, ballooned: 60, asked: 60, turn: 1, ..Loan::default() });
+    assert!(!take(&mut loans, 0, 60), "before the grant");
+    assert_eq!(grant(59, &mut loans), None);
+    assert_eq!(grant(60, &mut loans), Some(0));
+    assert!(take(&mut loans, 0, 60));
+    assert_eq!(loans[0], Loan { pages: 60, lent: 60, ..Loan::default() });
+    assert_eq!(owed(&loans), 60);
+    assert!(leave(&mut loans, 0) && !leave(&mut loans, 2));
+    assert_eq!(loans, [Loan::default(); 2]);
+}
+
+#[test]
+fn a_deflate_waits_until_another_guest_gives() {
+    let mut loans = host();
+    assert!(ask(&mut loans, 1, 5));
+    assert!(!ask(&mut loans, 1, 5), "it waits already");
+    assert_eq!(grant(FRAMES, &mut loans), None);
+    assert!(give(&mut loans, 0, 5) && !give(&mut loans, 0, 56));
+    assert_eq!(grant(FRAMES, &mut loans), Some(1));
+    assert!(take(&mut loans, 1, 5) && !take(&mut loans, 1, 1));
+    assert_eq!((loans[1].ballooned, loans[1].lent, owed(&loans)), (15, 45, 100));
+}
+
+#[test]
+fn asks_are_granted_in_order_and_newcomers_of_the_second_line_last() {
+    let mut loans = host();
+    assert!(arrive(&mut loans, 2, 30, Line::Second) && ask(&mut loans, 1, 20));
+    assert!(give(&mut loans, 0, 50));
+    assert_eq!(grant(FRAMES, &mut loans), Some(1));
+    assert_eq!(grant(FRAMES, &mut loans), Some(2));
+    assert_eq!((loans[2].line, grant(FRAMES, &mut loans)), (0, None));
+}
+
+#[test]
+fn a_reset_asks_for_all_that_is_not_lent() {
+    let mut loans = host();
+    assert!(ask(&mut loans, 1, 1) && reset(&mut loans, 1));
+    assert_eq!((loans[1].asked, loans[1].turn), (20, 2));
+    assert!(!reset(&mut loans, 0), "all is lent to it");
+}
+
+#[test]
+fn a_balloon_that_does_not_count_has_all_its_pages_lent() {
+    let mut loans = host();
+    assert!(uncount(&mut loans, 1));
+    assert_eq!((loans[1].ballooned, loans[1].lent, owed(&loans)), (0, 60, 120));
+    assert!(!give(&mut loans, 1, 1));
+    loans[1].uncounted = 256;
+    assert!(!give(&mut loans, 1, 1), "any number but 0 says so");
+    assert!(recount(&mut loans, 1) && give(&mut loans, 1, 1));
+}
+
+#[test]
+fn targets_make_room_for_those_that_wait() {
+    let mut loans = host();
+    let (mut needs, mut set) = ([Need::default(); 3], [7; 3]);
+    assert!(figure(&mut loans, 0, 30) && figure(&mut loans, 1, 25) && ask(&mut loans, 1, 5));
+    assert_eq!(targets(FRAMES, &loans, &mut needs, &mut set), Ok(()));
+    assert_eq!(
+        set,
+        [20, 0, 0],
+        "the first can spare 30, and the second 15 once it has what it waits for: 20 are missing"
+    );
+    assert_eq!(targets(70, &loans, &mut needs, &mut set), Err(NoTargets::Short(5)));
+    assert_eq!(set, [30, 15, 0]);
+    assert_eq!(targets(FRAMES, &loans, &mut needs[..2], &mut set), Err(NoTargets::OtherLength));
+    assert_eq!(targets(FRAMES, &loans, &mut needs, &mut set[..2]), Err(NoTargets::OtherLength));
+    assert_eq!(set, [30, 15, 0]);
+}
+
+#[test]
+fn a_lower_priority_gives_first_and_the_least_stays() {
+    let mut loans = host();
+    let (mut shares, mut needs, mut set) = ([Share::default(); 3], [Need::default(); 3], [7; 3]);
+    let terms = [Terms { least: 35, priority: 1 }, Terms { least: 0, priority: 2 }, Terms::default()];
+    assert!(figure(&mut loans, 0, 30) && figure(&mut loans, 1, 60));
+    assert_eq!(targets_by_terms(90, &loans, &terms, &mut shares, &mut needs, &mut set), Ok(()));
+    assert_eq!(set, [25, 5, 0], "30 are missing: the first gives the 25 that it need not keep");
+    let fewer = targets_by_terms(90, &loans, &terms[..2], &mut shares, &mut needs, &mut set);
+    assert_eq!((fewer, set), (Err(NoTargets::OtherLength), [25, 5, 0]));
+}
