@@ -1,0 +1,4 @@
+pub mod Frames
+pub mod ReadLemmas
+pub mod PremiseLemmas
+pub mod OneLemmas

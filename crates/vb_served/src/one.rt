@@ -1,0 +1,52 @@
+//! One chain of a queue over guest memory.
+
+ghost use Rattle.std.specs.Prelude.{◌≡◌, true};
+ghost use Rattle.vb_core.specs.Name.{is_request};
+ghost use Rattle.vb_core.specs.Devices.{ring_of};
+ghost use Rattle.vb_monitor.specs.Still.{IsMapped};
+ghost use Rattle.vb_served.specs.One.{ServesNext, IsPlain, all_of};
+
+use crate::LooseRam;
+use crate::reading::PAGE_BYTES;
+use vb_core::{ChainPiece, Device, Kind, Run, Statistic};
+use vb_monitor::{Budget, MAX_BYTES, MAX_FIGURES, MAX_PIECES, MAX_RUNS, Outcome, Region, serve};
+
+/// What serves one chain.
+const ONE_CHAIN: Budget = Budget {
+    chains: 1,
+    pages: 1,
+    keeps: false,
+};
+
+/// The region that is all of a memory of so many pages.
+pub fn whole_memory(pages: u32) -> [Region; 1]
+    ensures plain { IsPlain result }
+    ensures all { result ≡ all_of pages }
+{
+    [Region {
+        guest: 0,
+        length: PAGE_BYTES * u64::from(pages),
+        in_file: 0,
+    }]
+}
+
+/// Serves one chain of a queue of requests, if one is there.
+pub fn serve_one(
+    memory: &mut LooseRam,
+    device: &mut Device,
+    regions: &[Region],
+    kind: Kind,
+    pieces: &mut [ChainPiece; MAX_PIECES],
+    bytes: &mut [u8; MAX_BYTES],
+    runs: &mut [Run; MAX_RUNS],
+    figures: &mut [Statistic; MAX_FIGURES],
+) -> Outcome
+    requires request { is_request kind ≡ true }
+    requires plain { IsPlain regions.now }
+    requires mapped { IsMapped regions.now (ring_of kind device.old) }
+    ensures { ServesNext regions.now kind device.old device.new result.why memory.old memory.new }
+{
+    serve(
+        memory, device, regions, kind, ONE_CHAIN, pieces, bytes, runs, figures,
+    )
+}
