@@ -1,4 +1,6 @@
 pub mod Frames
 pub mod ReadLemmas
 pub mod PremiseLemmas
+pub mod WholeMemory
+pub mod MayServe
 pub mod OneLemmas

@@ -1,9 +1,8 @@
 -- One chain that is served over guest memory.
-use Rattle.std.proofs.Common.{◌≡◌, ◌≢◌, ◌∙◌, ap, sym, subst, refl, ℕ, zero, ◌+◌, Bool, true}
-use Rattle.std.proofs.Common.{false, List, [], ◌∷◌, ◌++◌, map, take, Option, Some, None, Result, Ok}
-use Rattle.std.proofs.Common.{Err}
+use Rattle.std.proofs.Common.{◌≡◌, ◌≢◌, ◌∙◌, ap, sym, subst, refl, ℕ, zero, ◌+◌, ◌≤◌, Bool, true, false}
+use Rattle.std.proofs.Common.{List, [], ◌∷◌, ◌++◌, length, map, take, Option, Some, None, Result, Ok, Err}
+use Rattle.std.specs.Prelude.{◌==◌, IsOk}
 use Rattle.std.specs.Int.{w16, w32, from_le_bytes, to_le_bytes}
-use Rattle.std.specs.Prelude.{◌==◌, length}
 use Rattle.vb_chain.specs.declared.fault.ChainFault.{ChainFault}
 use Rattle.vb_request.specs.Request.{bytes_from}
 use Rattle.vb_core.specs.declared.kinds.Kind.{Kind}
@@ -12,39 +11,40 @@ use Rattle.vb_core.specs.declared.ring.UsedEntry.{UsedEntry}
 use Rattle.vb_core.specs.declared.runs.Run.{Run}
 use Rattle.vb_core.specs.declared.name.Named.{Named}
 use Rattle.vb_core.specs.declared.device.Denial.{Denial}
-use Rattle.vb_core.specs.declared.device.Denial.TheVariants.{Broken}
 use Rattle.vb_core.specs.declared.device.Device.{Device}
-use Rattle.vb_core.specs.Name.{is_request}
+use Rattle.vb_core.specs.declared.next.{ChainPiece.ChainPiece, NextChain.NextChain}
+use Rattle.vb_core.specs.Name.{is_request, NamesBy}
 use Rattle.vb_core.specs.Rings.{used_entry}
-use Rattle.vb_core.specs.Devices.{ring_of, needing_reset}
+use Rattle.vb_core.specs.Devices.{ring_of}
 use Rattle.vb_core.specs.Config.{keeps_reports}
-use Rattle.vb_monitor.specs.declared.regions.Region.{Region}
-use Rattle.vb_monitor.specs.declared.regions.Spot.{Spot}
+use Rattle.vb_core.specs.Next.{is_read, pieces_in, NextBy}
+use Rattle.vb_core.specs.Using.{use_denial}
+use Rattle.vb_monitor.specs.declared.regions.{Region.Region, Spot.Spot}
 use Rattle.vb_monitor.specs.declared.cuts.Cut.{Cut}
-use Rattle.vb_monitor.specs.declared.outcome.Tally.{Tally}
-use Rattle.vb_monitor.specs.declared.outcome.Outcome.{Outcome}
+use Rattle.vb_monitor.specs.declared.outcome.{Tally.Tally, Outcome.Outcome, Budget.Budget}
 use Rattle.vb_monitor.specs.Accesses.{Access, ReadWord, CopyBytes, Acquire, Release, Full}
 use Rattle.vb_monitor.specs.Accesses.{TellPages, TellFigures, Discard, WriteNumber, WriteWord}
+use Rattle.vb_monitor.specs.Accesses.{Steps, Makes}
 use Rattle.vb_monitor.specs.Regions.{spot}
 use Rattle.vb_monitor.specs.Ends.{Whole, EndsWhere, FlagsAt}
 use Rattle.vb_monitor.specs.Giving.{GivesBackBy, UsedAt, AfterName, three_spots, after_use}
-use Rattle.vb_monitor.specs.Giving.{cuts_for, is_kept, with_given, spent}
+use Rattle.vb_monitor.specs.Giving.{cuts_for, is_kept, with_given, spent, used_spots}
 use Rattle.vb_monitor.specs.Notices.{Serves, AfterIndex, TakesNext, AfterGiven, ServesPublished, stands}
 use Rattle.vb_monitor.specs.Chains.{AfterBytes}
 use Rattle.vb_monitor.specs.Machine.{next_chain, whole}
-use Rattle.vb_core.specs.Next.{is_read, pieces_in}
-use Rattle.vb_core.specs.declared.next.ChainPiece.{ChainPiece}
-use Rattle.vb_core.specs.declared.next.NextChain.{NextChain}
-use Rattle.vb_monitor.specs.declared.outcome.Budget.{Budget}
-use Rattle.vb_monitor.specs.Still.{bytes_of, IsMapped, index_in, as_read}
-use Rattle.vb_core.specs.Next.{NextBy}
-use Rattle.vb_served.proofs.PremiseLemmas.{has_length, has_room}
-use Rattle.vb_monitor.specs.Accesses.{Steps, Makes}
-use Rattle.vb_served.specs.Store.{Store, After, Puts}
-use Rattle.vb_monitor.specs.Still.{StaysUntil, DoesAs}
-use Rattle.vb_served.specs.One.{byte, Discards, Gives, EndsAs, NamesOne, ServesOne, OneBy}
-use Rattle.vb_served.specs.One.{ServesNext, IsPlain}
+use Rattle.vb_monitor.specs.Still.{bytes_of, index_in, as_read, StaysUntil, DoesAs}
+use Rattle.vb_monitor.specs.Still.{avail_copy, table_copy}
 use Rattle.vb_monitor.proofs.{StillFound.ends_so, StillParts.served_by_bytes, StillLaws.serves_as}
+use Rattle.vb_served.specs.Store.{Store, After, Puts}
+use Rattle.vb_served.specs.One.{byte, Discards, Gives, NamesOne, ServesOne, OneBy, ServesNext}
+use Rattle.vb_served.specs.One.{all_of}
+use Rattle.vb_served.proofs.PremiseLemmas.{is_answered, has_room}
+use Rattle.vb_served.proofs.MayServe.{MayServe, IsOf, may_serve, named_device, ring_mapped, parts_mapped}
+use Rattle.vb_served.proofs.WholeMemory.{plain_all}
+
+-- a place in these regions is an address
+pub record IsPlain (regions : List Region) : Type 0 where
+  pub place : (a len : ℕ) (at : Spot) → spot regions a len ≡ Some at → at.offset ≡ a
 
 -- these accesses make one memory of another
 abbrev pub Between : Store → Store → List Access → Type 0
@@ -62,7 +62,8 @@ stays_so s u regions (ReadWord at answer ∷ xs) plain (t, (e, same), rest) = (
   stays_so s u regions xs plain (from_same s t u xs same rest),
 )
 stays_so s u regions (CopyBytes at answer ∷ xs) plain (t, (e, same), rest) = (
-  λ a f. e ∙ ap (λ (n : ℕ). bytes_from s.mem n (length answer)) (plain.place a (length answer) at f),
+  λ a f. e ∙ ap (λ (n : ℕ). bytes_from s.mem n (length answer)) (plain.place a
+      (length answer) at f),
   stays_so s u regions xs plain (from_same s t u xs same rest),
 )
 stays_so s u regions (Acquire ∷ xs) plain (t, same, rest) =
@@ -95,37 +96,31 @@ flags_so w d t why more (Some at) s u log steps h =
     (last ∙ (again ∙ same), h.then_stops.device, ap (λ (o : Outcome). o.why) h.then_stops.outcome)
 
 index_so : (w : Whole) (d : Device) (t : Tally) (o : Result Bool ChainFault) (s u : Store)
-    (log : List Access) → t.given ≡ true → Steps After s log u →
-    AfterIndex o w (TakesNext zero w d t) d t log → (u ≡ s) × EndsAs o d w.device w.outcome.why
-index_so w d t (Err fault) s u log given steps h =
-    let (same, device, why) = flags_so w (needing_reset d) t (Some (Broken fault)) false
-    (spot w.regions (ring_of w.kind (needing_reset d)).avail 2) s u log steps
-    (subst (λ (b : Bool). EndsWhere b w (needing_reset d) t (Some (Broken fault)) false log) given h)
-    in (same, (device, why))
-index_so w d t (Ok false) s u log given steps h =
-    let (same, device, why) = flags_so w d t None false
-    (spot w.regions (ring_of w.kind d).avail 2) s u log steps
+    (log : List Access) → IsOk o → t.given ≡ true → Steps After s log u →
+    AfterIndex o w (TakesNext zero w d t) d t log →
+    (u ≡ s) × (w.device ≡ d) × (w.outcome.why ≡ None)
+index_so w d t (Err fault) s u log ok given steps h = absurd cc
+index_so w d t (Ok false) s u log ok given steps h =
+    flags_so w d t None false (spot w.regions (ring_of w.kind d).avail 2) s u log steps
     (subst (λ (b : Bool). EndsWhere b w d t None false log) given h)
-    in (same, (device, why))
-index_so w d t (Ok true) s u log given steps h =
-    let (same, device, why) = flags_so w d t None true
-    (spot w.regions (ring_of w.kind d).avail 2) s u log steps
+index_so w d t (Ok true) s u log ok given steps h =
+    flags_so w d t None true (spot w.regions (ring_of w.kind d).avail 2) s u log steps
     (subst (λ (b : Bool). EndsWhere b w d t None true log) given h)
-    in (same, (device, why))
 
 -- a request's kind goes on by the index
 given_so : (kind : Kind) (w : Whole) (d : Device) (t : Tally) (s u : Store) (log : List Access) →
-    is_request kind ≡ true → t.chains ≡ 0 → t.given ≡ true → Steps After s log u →
+    is_request kind ≡ true → t.chains ≡ 0 → t.given ≡ true →
+    IsOk (stands (ring_of w.kind d) t.published) → Steps After s log u →
     AfterGiven kind w (ServesPublished t.chains w) d t log →
-    (u ≡ s) × EndsAs (stands (ring_of w.kind d) t.published) d w.device w.outcome.why
-given_so Inflate w d t s u log is none given steps h =
-    index_so w d t (stands (ring_of w.kind d) t.published) s u log given steps
+    (u ≡ s) × (w.device ≡ d) × (w.outcome.why ≡ None)
+given_so Inflate w d t s u log is none given ok steps h =
+    index_so w d t (stands (ring_of w.kind d) t.published) s u log ok given steps
     (subst (λ (n : ℕ). ServesPublished n w d t log) none h)
-given_so Deflate w d t s u log is none given steps h =
-    index_so w d t (stands (ring_of w.kind d) t.published) s u log given steps
+given_so Deflate w d t s u log is none given ok steps h =
+    index_so w d t (stands (ring_of w.kind d) t.published) s u log ok given steps
     (subst (λ (n : ℕ). ServesPublished n w d t log) none h)
-given_so Statistics w d t s u log is none given steps h = absurd cc
-given_so Report w d t s u log is none given steps h = absurd cc
+given_so Statistics w d t s u log is none given ok steps h = absurd cc
+given_so Report w d t s u log is none given ok steps h = absurd cc
 
 -- ---- discards and the used element
 
@@ -142,22 +137,26 @@ apart s u (cut ∷ cuts) rest (next, lost, more) =
     record { between = on.between; first = (next, lost, on.first); then_so = on.then_so }
 
 -- the chain is given back where its element is guest memory, and the notice ends
-used_so : (w : Whole) (d d2 : Device) (t : Tally) (e : UsedEntry) (a b c : Option Spot) (s u : Store)
+used_so : (w : Whole) (d d2 : Device) (t : Tally) (e : UsedEntry) (a b c : Option Spot)
+    (s u : Store)
     (log : List Access) → is_request w.kind ≡ true → t.chains ≡ 0 → IsPlain w.regions →
     spot w.regions e.element_at 4 ≡ a → spot w.regions (e.element_at + 4) 4 ≡ b →
-    spot w.regions e.index_at 2 ≡ c → three_spots a b c ≢ None → Steps After s log u →
+    spot w.regions e.index_at 2 ≡ c → three_spots a b c ≢ None →
+    IsOk (stands (ring_of w.kind d2) t.published) → Steps After s log u →
     UsedAt w (next_chain w t d2 (with_given t)) d2 t e (three_spots a b c) log →
-    Gives e s u × EndsAs (stands (ring_of w.kind d2) t.published) d2 w.device w.outcome.why
-used_so w d d2 t e None b c s u log is none plain ea eb ec there steps h = absurd (there refl)
-used_so w d d2 t e (Some a) None c s u log is none plain ea eb ec there steps h = absurd (there refl)
-used_so w d d2 t e (Some a) (Some b) None s u log is none plain ea eb ec there steps h =
+    Gives e s u × (w.device ≡ d2) × (w.outcome.why ≡ None)
+used_so w d d2 t e None b c s u log is none plain ea eb ec there ok steps h = absurd (there refl)
+used_so w d d2 t e (Some a) None c s u log is none plain ea eb ec there ok steps h = absurd
+    (there refl)
+used_so w d d2 t e (Some a) (Some b) None s u log is none plain ea eb ec there ok steps h =
     absurd (there refl)
-used_so w d d2 t e (Some a) (Some b) (Some c) s u log is none plain ea eb ec there steps h =
+used_so w d d2 t e (Some a) (Some b) (Some c) s u log is none plain ea eb ec there ok steps h =
     let made : Steps After s (WriteNumber a e.id ∷ WriteNumber b e.length ∷ Release
     ∷ WriteWord c e.index ∷ h.rest) u =
     subst (λ (l : List Access). Steps After s l u) h.asks steps in
     let (s1, put_id, (s2, put_length, (s3, same, (s4, put_index, rest)))) = made in
-    let (last, ends) = given_so w.kind w d2 (with_given t) s4 u h.rest is none refl rest h.goes_on in (
+    let (last, device, ends) = given_so w.kind w d2 (with_given t) s4 u h.rest is none refl ok rest
+    h.goes_on in (
       record {
         with_id = s1;
         with_length = s2;
@@ -170,22 +169,34 @@ used_so w d d2 t e (Some a) (Some b) (Some c) s u log is none plain ea eb ec the
             (subst (λ (n : ℕ). Puts n (to_le_bytes w16 e.index) s3 s4)
             (plain.place e.index_at 2 c ec) put_index));
       },
+      device,
       ends,
     )
 
 -- ---- what was named
 
-by_name : (w : Whole) (d : Device) (t : Tally) (head : ℕ) (runs : List Run) (s u : Store)
-    (answer : Result Named Denial) (log : List Access) → is_request w.kind ≡ true → t.chains ≡ 0 →
-    t.given ≡ false → t.keeps ≡ false → IsPlain w.regions →
+by_name : (w : Whole) (d1 d : Device) (t : Tally) (head : ℕ) (bytes : List ℕ) (runs : List Run)
+    (s u : Store) (answer : Result Named Denial) (log : List Access) → is_request w.kind ≡ true →
+    t.chains ≡ 0 → t.given ≡ false → t.keeps ≡ false → IsPlain w.regions →
+    w.regions ≡ all_of (length s.mem) → MayServe w.regions w.kind d1 head t.published →
+    NamesBy w.kind bytes 256 runs d1 d answer →
     StaysUntil (Between s u) (byte s) w.regions log →
     AfterName w (next_chain w t) d t head runs answer log →
-    NamesOne w.regions w.kind t.published head runs d w.device w.outcome.why s u answer
-by_name w d t head runs s u (Err why) log is none given keeps plain stays h =
+    NamesOne w.kind head runs d w.device w.outcome.why s u answer
+by_name w d1 d t head bytes runs s u (Err why) log is none given keeps plain all may names stays h =
     let (so, device, still) = ends_so (StaysUntil (Between s u) (byte s) w.regions) t.given w d t
     (Some why) false log given stays h in
-    (so, device, still)
-by_name w d t head runs s u (Ok named) log is none given keeps plain stays h = λ open_so mapped.
+    record { ends = so; device = device; memory = still }
+by_name w d1 d t head bytes runs s u (Ok named) log is none given keeps plain all may names stays h
+    =
+    let same_device = named_device w.kind bytes runs d1 d named names in
+    let open_so = subst (λ (x : Device). use_denial w.kind head x ≡ None) (sym same_device)
+    may.open_so in
+    let there_so = subst (λ (x : Device). used_spots w.regions (used_entry
+    (ring_of w.kind x) head) ≢ None)
+    (sym same_device) may.there_so in
+    let ok = subst (λ (x : Device). IsOk (stands (ring_of w.kind (after_use w.kind x)) t.published))
+    (sym same_device) may.goes_on in
     let e = used_entry (ring_of w.kind d) head in
     let cuts = cuts_for w.kind (is_kept w.kind t.keeps (keeps_reports d)) w.regions
     (take named.runs runs) in
@@ -197,16 +208,19 @@ by_name w d t head runs s u (Ok named) log is none given keeps plain stays h = �
     let parts = apart s u cuts h.discards.rest made in
     let gives = subst (λ (o : Option Denial). GivesBackBy o w (next_chain w t) d
     (spent named.pages t) head h.discards.rest) open_so h.discards.gives_back in
-    let (given_back, ends) = used_so w d (after_use w.kind d) (spent named.pages t) e
+    let (given_back, device, ends) = used_so w d (after_use w.kind d) (spent named.pages t) e
     (spot w.regions e.element_at 4) (spot w.regions (e.element_at + 4) 4)
-    (spot w.regions e.index_at 2) parts.between u h.discards.rest is none plain refl refl refl mapped
-    parts.then_so gives in
+    (spot w.regions e.index_at 2) parts.between u h.discards.rest is none plain refl refl refl
+    there_so ok parts.then_so gives in
     record {
       between = parts.between;
-      discards = subst (λ (k : Bool). Discards s (cuts_for w.kind
+      discards = subst (λ (rs : List Region). Discards s (cuts_for w.kind
+          (is_kept w.kind false (keeps_reports d)) rs (take named.runs runs)) parts.between) all
+          (subst (λ (k : Bool). Discards s (cuts_for w.kind
           (is_kept w.kind k (keeps_reports d)) w.regions (take named.runs runs)) parts.between)
-          keeps parts.first;
+          keeps parts.first);
       gives = given_back;
+      device = device;
       ends = ends;
     }
 
@@ -214,28 +228,32 @@ by_name w d t head runs s u (Ok named) log is none given keeps plain stays h = �
 
 by_bytes : (kind : Kind) (w : Whole) (d : Device) (t : Tally) (head : ℕ) (bytes : List ℕ)
     (s u : Store) (log : List Access) → kind ≡ w.kind → is_request kind ≡ true → t.chains ≡ 0 →
-    t.given ≡ false → t.keeps ≡ false → IsPlain w.regions →
+    t.given ≡ false → t.keeps ≡ false → IsPlain w.regions → w.regions ≡ all_of (length s.mem) →
+    MayServe w.regions w.kind d head t.published →
     StaysUntil (Between s u) (byte s) w.regions log →
     AfterBytes kind w (next_chain w t) d t head bytes log →
-    ServesOne w.regions w.kind t.published head bytes d w.device w.outcome.why s u
-by_bytes Inflate w d t head bytes s u log same is none given keeps plain stays h = record {
+    ServesOne w.kind head bytes d w.device w.outcome.why s u
+by_bytes Inflate w d t head bytes s u log same is none given keeps plain all may stays h = record {
   runs = h.runs;
   device = h.device;
   answer = h.answer;
   names = h.names;
-  serves = by_name w h.device t head h.runs s u h.answer log
-      (subst (λ (k : Kind). is_request k ≡ true) same is) none given keeps plain stays h.goes_on;
+  serves = by_name w d h.device t head bytes h.runs s u h.answer log
+      (subst (λ (k : Kind). is_request k ≡ true) same is) none given keeps plain all may h.names
+      stays h.goes_on;
 }
-by_bytes Deflate w d t head bytes s u log same is none given keeps plain stays h = record {
+by_bytes Deflate w d t head bytes s u log same is none given keeps plain all may stays h = record {
   runs = h.runs;
   device = h.device;
   answer = h.answer;
   names = h.names;
-  serves = by_name w h.device t head h.runs s u h.answer log
-      (subst (λ (k : Kind). is_request k ≡ true) same is) none given keeps plain stays h.goes_on;
+  serves = by_name w d h.device t head bytes h.runs s u h.answer log
+      (subst (λ (k : Kind). is_request k ≡ true) same is) none given keeps plain all may h.names
+      stays h.goes_on;
 }
-by_bytes Statistics w d t head bytes s u log same is none given keeps plain stays h = absurd cc
-by_bytes Report w d t head bytes s u log same is none given keeps plain stays h = absurd cc
+by_bytes Statistics w d t head bytes s u log same is none given keeps plain all may stays h = absurd
+    cc
+by_bytes Report w d t head bytes s u log same is none given keeps plain all may stays h = absurd cc
 
 read_so : (kind : Kind) → is_request kind ≡ true → is_read kind ≡ true
 read_so Inflate e = refl
@@ -243,35 +261,49 @@ read_so Deflate e = refl
 read_so Statistics e = absurd cc
 read_so Report e = absurd cc
 
-by_answer : (w : Whole) (d1 d : Device) (t : Tally) (avail table : List ℕ) (room : ℕ)
-    (buffers : List ChainPiece) (s u : Store) (answer : Result (Option NextChain) Denial)
-    (log : List Access) → is_request w.kind ≡ true → t.chains ≡ 0 → t.given ≡ false →
-    t.keeps ≡ false → IsPlain w.regions → NextBy w.kind avail table room buffers d1 d answer →
-    DoesAs (StaysUntil (Between s u) (byte s) w.regions) answer buffers w t d log →
-    OneBy w.regions w.kind t.published buffers d w.device w.outcome.why s u answer
-by_answer w d1 d t avail table room buffers s u (Err why) log is none given keeps plain next h = h
-by_answer w d1 d t avail table room buffers s u (Ok None) log is none given keeps plain next h = h
-by_answer w d1 d t avail table room buffers s u (Ok (Some chain)) log is none given keeps plain next
-    h = λ mapped.
-    let pieces = pieces_in (take chain.pieces buffers) in
-    let long = has_length w.kind avail table room buffers d1 d chain next in
-    let on = served_by_bytes (Between s u) (byte s) w t d chain.head pieces long.bytes h.rest
-    (read_so w.kind is) long.is mapped (has_room (byte s) w.kind pieces long.bytes is long.is)
-    h.still_so h.is in
-    by_bytes w.kind w d t chain.head (bytes_of (byte s) pieces) s u on.rest refl is none given keeps
-    plain on.still_so on.is
+-- a notice of all of memory
+abbrev over : ℕ → Kind → Device → Outcome → Whole
+over n kind d2 outcome = whole (all_of n) kind d2 outcome
 
-pub one_so : (regions : List Region) (kind : Kind) (budget : Budget) (d1 d2 : Device)
+by_answer : (kind : Kind) (d1 d2 d3 : Device) (outcome : Outcome) (t : Tally) (room : ℕ)
+    (buffers : List ChainPiece) (s u : Store) (answer : Result (Option NextChain) Denial)
+    (log : List Access) → is_request kind ≡ true → t.chains ≡ 0 → t.given ≡ false →
+    t.keeps ≡ false → t.published ≡ index_in (byte s) (ring_of kind d1) → IsOf d1 (length s.mem) →
+    (ring_of kind d1).size ≤ room →
+    NextBy kind (avail_copy (byte s) (ring_of kind d1)) (table_copy (byte s) (ring_of kind d1)) room
+    buffers d1 d3 answer →
+    DoesAs (StaysUntil (Between s u) (byte s) (all_of (length s.mem))) answer buffers
+    (over (length s.mem) kind d2 outcome) t d3 log → OneBy kind buffers d3 d2 outcome.why s u answer
+by_answer kind d1 d2 d3 outcome t room buffers s u (Err why) log is none given keeps index of fits
+    next h = record { ends = h.0; device = h.1; memory = h.2 }
+by_answer kind d1 d2 d3 outcome t room buffers s u (Ok None) log is none given keeps index of fits
+    next h = record { ends = h.0; device = h.1; memory = h.2 }
+by_answer kind d1 d2 d3 outcome t room buffers s u (Ok (Some chain)) log is none given keeps index
+    of
+    fits next h =
+    let n = length s.mem in
+    let w = over n kind d2 outcome in
+    let pieces = pieces_in (take chain.pieces buffers) in
+    let known = is_answered (byte s) kind room buffers d1 d3 chain (read_so kind is) fits next in
+    let on = served_by_bytes (Between s u) (byte s) w t d3 chain.head pieces known.bytes h.rest
+    (read_so kind is) known.long (parts_mapped n (byte s) kind buffers d1 d3 chain of known)
+    (has_room (byte s) kind pieces known.bytes is known.long) h.still_so h.is in
+    let may = may_serve n (byte s) kind buffers d1 d3 chain is of known in
+    by_bytes kind w d3 t chain.head (bytes_of (byte s) pieces) s u on.rest refl is none given keeps
+    (record { place = plain_all n }) refl
+    (subst (λ (i : ℕ). MayServe (all_of n) kind d3 chain.head i) (sym index) may) on.still_so on.is
+
+pub one_so : (kind : Kind) (budget : Budget) (d1 d2 : Device)
     (outcome : Outcome) (s u : Store) → is_request kind ≡ true → budget.chains ≡ 1 →
-    (budget.pages == 0) ≡ false → budget.keeps ≡ false → IsPlain regions →
-    IsMapped regions (ring_of kind d1) →
-    Makes After s u (Serves regions kind budget d1 d2 outcome) →
-    ServesNext regions kind d1 d2 outcome.why s u
-one_so regions kind budget d1 d2 outcome s u is chains some keeps plain mapped made =
+    (budget.pages == 0) ≡ false → budget.keeps ≡ false → IsOf d1 (length s.mem) →
+    Makes After s u (Serves (all_of (length s.mem)) kind budget d1 d2 outcome) →
+    ServesNext kind d1 d2 outcome.why s u
+one_so kind budget d1 d2 outcome s u is chains some keeps of made =
     λ buffers d3 room answer fits next.
-    by_answer (whole regions kind d2 outcome) d1 d3
-    (as_read 0 budget (index_in (byte s) (ring_of kind d1))) _ _ room
-    buffers s u answer made.log is refl refl keeps plain next
-    (serves_as (Between s u) (byte s) regions kind budget 0 room d1 d2 d3 outcome made.log buffers
-    answer (read_so kind is) chains some mapped fits (stays_so s u regions made.log plain made.steps)
-    next made.is)
+    let n = length s.mem in
+    by_answer kind d1 d2 d3 outcome (as_read 0 budget (index_in (byte s) (ring_of kind d1))) room
+    buffers s u answer made.log is refl refl keeps refl of fits next
+    (serves_as (Between s u) (byte s) (all_of n) kind budget 0 room d1 d2 d3 outcome made.log
+    buffers
+    answer (read_so kind is) chains some (ring_mapped n kind d1 of) fits
+    (stays_so s u (all_of n) made.log (record { place = plain_all n }) made.steps) next made.is)

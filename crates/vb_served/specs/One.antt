@@ -1,10 +1,9 @@
 -- One chain of a queue is served over guest memory: what becomes of memory and of the device.
-use Rattle.std.specs.Prelude.{◌≡◌, ◌≢◌, ◌≤◌, ◌+◌, ◌*◌, ℕ, Bool, List, [], ◌∷◌, take, Option, Some}
-use Rattle.std.specs.Prelude.{None, Result, Ok, Err, false}
+use Rattle.std.specs.Prelude.{◌≡◌, ◌≤◌, ◌+◌, ◌*◌, ℕ, false, List, [], ◌∷◌, length, take, Option}
+use Rattle.std.specs.Prelude.{Some, None, Result, Ok, Err}
 use Rattle.std.specs.Int.{w16, w32, to_le_bytes}
 use Rattle.vb_model.specs.declared.limits.TheConstants.{MAX_REQUEST_PAGES}
 use Rattle.vb_model.specs.Limits.{page_size}
-use Rattle.vb_chain.specs.declared.fault.ChainFault.{ChainFault}
 use Rattle.vb_request.specs.Request.{byte_of_address}
 use Rattle.vb_core.specs.declared.kinds.Kind.{Kind}
 use Rattle.vb_core.specs.declared.runs.Run.{Run}
@@ -13,22 +12,16 @@ use Rattle.vb_core.specs.declared.ring.UsedEntry.{UsedEntry}
 use Rattle.vb_core.specs.declared.next.ChainPiece.{ChainPiece}
 use Rattle.vb_core.specs.declared.next.NextChain.{NextChain}
 use Rattle.vb_core.specs.declared.device.Denial.{Denial}
-use Rattle.vb_core.specs.declared.device.Denial.TheVariants.{Broken}
 use Rattle.vb_core.specs.declared.device.Device.{Device}
 use Rattle.vb_core.specs.Config.{keeps_reports}
 use Rattle.vb_core.specs.Rings.{used_entry}
-use Rattle.vb_core.specs.Devices.{ring_of, needing_reset}
+use Rattle.vb_core.specs.Devices.{ring_of}
 use Rattle.vb_core.specs.Next.{NextBy, pieces_in}
 use Rattle.vb_core.specs.Name.{NamesBy}
-use Rattle.vb_core.specs.Using.{use_denial}
 use Rattle.vb_monitor.specs.declared.regions.Region.{Region}
-use Rattle.vb_monitor.specs.declared.regions.Spot.{Spot}
 use Rattle.vb_monitor.specs.declared.cuts.Cut.{Cut}
-use Rattle.vb_monitor.specs.Regions.{spot}
-use Rattle.vb_monitor.specs.Giving.{after_use, cuts_for, is_kept, used_spots}
-use Rattle.vb_monitor.specs.Notices.{stands}
-use Rattle.vb_monitor.specs.Pieces.{all_parts}
-use Rattle.vb_monitor.specs.Still.{bytes_of, avail_copy, table_copy, index_in, ArePartsMapped}
+use Rattle.vb_monitor.specs.Giving.{after_use, cuts_for, is_kept}
+use Rattle.vb_monitor.specs.Still.{bytes_of, avail_copy, table_copy}
 use Rattle.vb_monitor.specs.Accesses.{Discard}
 use Rattle.vb_served.specs.Store.{Store, Puts, After}
 
@@ -49,67 +42,57 @@ pub record Gives (e : UsedEntry) (s t : Store) : Type 0 where
   pub long : Puts (e.element_at + 4) (to_le_bytes w32 e.length) with_id with_length
   pub index : Puts e.index_at (to_le_bytes w16 e.index) with_length t
 
--- A notice whose one chain was given back ends, by the index that it read first.
-abbrev pub EndsAs : Result Bool ChainFault → Device → Device → Option Denial → Type 0
-EndsAs (Ok more) d d2 why = (d2 ≡ d) × (why ≡ None)
-EndsAs (Err fault) d d2 why = (d2 ≡ needing_reset d) × (why ≡ Some (Broken fault))
+-- All of a memory of so many pages, as one region in which a place is an address.
+abbrev pub all_of : ℕ → List Region
+all_of pages = record { guest = 0; length = page_size * pages; in_file = 0 } ∷ []
 
 -- The pages that were named lost their frames, where the kind's do, and the chain of this head was
--- given back.
-pub record Settles (regions : List Region) (kind : Kind) (index head : ℕ) (runs : List Run)
-    (d1 d2 : Device) (why : Option Denial) (s t : Store) : Type 0 where
+-- given back: the notice ends then.
+pub record Settles (kind : Kind) (head : ℕ) (runs : List Run) (d1 d2 : Device)
+    (why : Option Denial) (s t : Store) : Type 0 where
   pub between : Store
-  pub discards : Discards s
-      (cuts_for kind (is_kept kind false (keeps_reports d1)) regions runs) between
+  pub discards : Discards s (cuts_for kind (is_kept kind false (keeps_reports d1))
+      (all_of (length s.mem)) runs) between
   pub gives : Gives (used_entry (ring_of kind d1) head) between t
-  pub ends : EndsAs (stands (ring_of kind (after_use kind d1)) index) (after_use kind d1) d2 why
+  pub device : d2 ≡ after_use kind d1
+  pub ends : why ≡ None
 
--- What is made of a chain whose bytes named pages, or broke a rule. Of the chain an element may be
--- given back, and its place is guest memory.
-abbrev pub NamesOne : List Region → Kind → ℕ → ℕ → List Run → Device → Device → Option Denial →
-    Store → Store → Result Named Denial → Type 0
-NamesOne regions kind index head runs d1 d2 why s t (Err fault) =
-    (why ≡ Some fault) × (d2 ≡ d1) × (t ≡ s)
-NamesOne regions kind index head runs d1 d2 why s t (Ok named) =
-    use_denial kind head d1 ≡ None → used_spots regions (used_entry (ring_of kind d1) head) ≢ None →
-    Settles regions kind index head (take named.runs runs) d1 d2 why s t
+-- Nothing is served, for this reason, if there is one, and memory is as before.
+pub record Leaves (d1 d2 : Device) (why reason : Option Denial) (s t : Store) : Type 0 where
+  pub ends : why ≡ reason
+  pub device : d2 ≡ d1
+  pub memory : t ≡ s
+
+-- What is made of a chain whose bytes named pages, or broke a rule.
+abbrev pub NamesOne : Kind → ℕ → List Run → Device → Device → Option Denial → Store → Store →
+    Result Named Denial → Type 0
+NamesOne kind head runs d1 d2 why s t (Err fault) = Leaves d1 d2 why (Some fault) s t
+NamesOne kind head runs d1 d2 why s t (Ok named) =
+    Settles kind head (take named.runs runs) d1 d2 why s t
 
 -- What is made of a chain with these bytes.
-pub record ServesOne (regions : List Region) (kind : Kind) (index head : ℕ) (bytes : List ℕ)
-    (d1 d2 : Device) (why : Option Denial) (s t : Store) : Type 0 where
+pub record ServesOne (kind : Kind) (head : ℕ) (bytes : List ℕ) (d1 d2 : Device)
+    (why : Option Denial) (s t : Store) : Type 0 where
   pub runs : List Run
   pub device : Device
   pub answer : Result Named Denial
   pub names : NamesBy kind bytes MAX_REQUEST_PAGES runs d1 device answer
-  pub serves : NamesOne regions kind index head runs device d2 why s t answer
+  pub serves : NamesOne kind head runs device d2 why s t answer
 
--- What is made of what is answered to copies of the queue. Of a chain the pieces lie in guest
--- memory.
-abbrev pub OneBy : List Region → Kind → ℕ → List ChainPiece → Device → Device → Option Denial →
-    Store → Store → Result (Option NextChain) Denial → Type 0
-OneBy regions kind index buffers d1 d2 why s t (Err fault) =
-    (why ≡ Some fault) × (d2 ≡ d1) × (t ≡ s)
-OneBy regions kind index buffers d1 d2 why s t (Ok None) = (why ≡ None) × (d2 ≡ d1) × (t ≡ s)
-OneBy regions kind index buffers d1 d2 why s t (Ok (Some chain)) =
-    ArePartsMapped regions (all_parts (pieces_in (take chain.pieces buffers))) →
-    ServesOne regions kind index chain.head
-    (bytes_of (byte s) (pieces_in (take chain.pieces buffers))) d1 d2 why s t
+-- What is made of what is answered to copies of the queue.
+abbrev pub OneBy : Kind → List ChainPiece → Device → Device → Option Denial → Store → Store →
+    Result (Option NextChain) Denial → Type 0
+OneBy kind buffers d1 d2 why s t (Err fault) = Leaves d1 d2 why (Some fault) s t
+OneBy kind buffers d1 d2 why s t (Ok None) = Leaves d1 d2 why None s t
+OneBy kind buffers d1 d2 why s t (Ok (Some chain)) =
+    ServesOne kind chain.head (bytes_of (byte s) (pieces_in (take chain.pieces buffers))) d1 d2 why
+    s t
 
--- One chain of a queue is served, if one is there: as is answered to copies of the queue, and
--- by the bytes that memory had before.
-abbrev pub ServesNext : List Region → Kind → Device → Device → Option Denial → Store → Store →
-    Type 0
-ServesNext regions kind d1 d2 why s t =
+-- One chain of a queue is served, if one is there: as is answered to copies of the queue, and by
+-- the bytes that memory had before.
+abbrev pub ServesNext : Kind → Device → Device → Option Denial → Store → Store → Type 0
+ServesNext kind d1 d2 why s t =
     (buffers : List ChainPiece) (d3 : Device) (room : ℕ) (answer : Result (Option NextChain) Denial)
     → (ring_of kind d1).size ≤ room →
     NextBy kind (avail_copy (byte s) (ring_of kind d1)) (table_copy (byte s) (ring_of kind d1)) room
-    buffers d1 d3 answer →
-    OneBy regions kind (index_in (byte s) (ring_of kind d1)) buffers d3 d2 why s t answer
-
--- A place in these regions is an address: there is one region, which begins at 0.
-pub record IsPlain (regions : List Region) : Type 0 where
-  pub place : (a len : ℕ) (at : Spot) → spot regions a len ≡ Some at → at.offset ≡ a
-
--- The one region that is all of a memory of so many pages.
-abbrev pub all_of : ℕ → List Region
-all_of pages = record { guest = 0; length = page_size * pages; in_file = 0 } ∷ []
+    buffers d1 d3 answer → OneBy kind buffers d3 d2 why s t answer

@@ -7,4 +7,4 @@ mod one;
 mod reading;
 
 pub use loose_ram::LooseRam;
-pub use one::{serve_one, whole_memory};
+pub use one::serve_one;

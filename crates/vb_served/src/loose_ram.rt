@@ -55,6 +55,13 @@ fn discard_if_there(ram: &mut Ram, loose: &mut Vec<Frame>, page: u64)
 }
 
 impl LooseRam {
+    /// How many pages there are.
+    pub fn pages(&self) -> u32
+        ensures { result ≡ length self.now.mem }
+    {
+        self.ram.pages()
+    }
+
     /// Reads bytes from an address on.
     fn read(&self, address: u64, out: &mut [u8])
         ensures { out.new ≡ bytes_from self.now.mem address (length out.old) }

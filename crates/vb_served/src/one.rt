@@ -1,10 +1,9 @@
 //! One chain of a queue over guest memory.
 
-ghost use Rattle.std.specs.Prelude.{◌≡◌, true};
+ghost use Rattle.std.specs.Prelude.{◌≡◌, ◌*◌, length, true};
+ghost use Rattle.vb_model.specs.Limits.{page_size};
 ghost use Rattle.vb_core.specs.Name.{is_request};
-ghost use Rattle.vb_core.specs.Devices.{ring_of};
-ghost use Rattle.vb_monitor.specs.Still.{IsMapped};
-ghost use Rattle.vb_served.specs.One.{ServesNext, IsPlain, all_of};
+ghost use Rattle.vb_served.specs.One.{ServesNext, all_of};
 
 use crate::LooseRam;
 use crate::reading::PAGE_BYTES;
@@ -19,9 +18,8 @@ const ONE_CHAIN: Budget = Budget {
 };
 
 /// The region that is all of a memory of so many pages.
-pub fn whole_memory(pages: u32) -> [Region; 1]
-    ensures plain { IsPlain result }
-    ensures all { result ≡ all_of pages }
+fn whole_memory(pages: u32) -> [Region; 1]
+    ensures { result ≡ all_of pages }
 {
     [Region {
         guest: 0,
@@ -30,11 +28,10 @@ pub fn whole_memory(pages: u32) -> [Region; 1]
     }]
 }
 
-/// Serves one chain of a queue of requests, if one is there.
+/// Serves one chain of a queue of requests, if one is there, over the memory that the device is of.
 pub fn serve_one(
     memory: &mut LooseRam,
     device: &mut Device,
-    regions: &[Region],
     kind: Kind,
     pieces: &mut [ChainPiece; MAX_PIECES],
     bytes: &mut [u8; MAX_BYTES],
@@ -42,11 +39,11 @@ pub fn serve_one(
     figures: &mut [Statistic; MAX_FIGURES],
 ) -> Outcome
     requires request { is_request kind ≡ true }
-    requires plain { IsPlain regions.now }
-    requires mapped { IsMapped regions.now (ring_of kind device.old) }
-    ensures { ServesNext regions.now kind device.old device.new result.why memory.old memory.new }
+    requires end { device.old.settings.memory_end ≡ page_size * length memory.old.mem }
+    ensures { ServesNext kind device.old device.new result.why memory.old memory.new }
 {
+    let regions = whole_memory(memory.pages());
     serve(
-        memory, device, regions, kind, ONE_CHAIN, pieces, bytes, runs, figures,
+        memory, device, &regions, kind, ONE_CHAIN, pieces, bytes, runs, figures,
     )
 }
