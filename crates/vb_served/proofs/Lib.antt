@@ -4,3 +4,5 @@ pub mod PremiseLemmas
 pub mod WholeMemory
 pub mod MayServe
 pub mod OneLemmas
+mod StoreFacts
+mod OneFacts
