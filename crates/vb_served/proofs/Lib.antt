@@ -3,6 +3,7 @@ pub mod ReadLemmas
 pub mod PremiseLemmas
 pub mod WholeMemory
 pub mod MayServe
+pub mod MarkLemmas
 pub mod OneLemmas
 mod StoreFacts
 mod OneFacts

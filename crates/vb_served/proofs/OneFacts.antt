@@ -1,5 +1,5 @@
 -- One chain that is served over memory that a device owns, worked out.
-use Rattle.std.proofs.Common.{◌≡◌, ◌∙◌, refl, ap, arith, [], ◌∷◌, length, Option, Some, None, Ok, Err}
+use Rattle.std.proofs.Common.{◌≡◌, ◌∙◌, refl, ap, arith, [], ◌∷◌, length, Option, Some, None, Ok, Err, true, false}
 use Rattle.vb_core.specs.declared.kinds.Kind.TheVariants.{Inflate, Deflate}
 use Rattle.vb_core.specs.declared.{runs.Run.Run, settings.Settings.Settings}
 use Rattle.vb_core.specs.declared.device.{Device.Device, Denial.Denial}
@@ -25,7 +25,15 @@ past_them = refl
 
 one_after_the_other : Discards old (cut 0x2000 0x1000 ∷ cut 0x1000 0x1000 ∷ [])
     (without None (3 ∷ 9 ∷ []))
-one_after_the_other = (without None (3 ∷ 9 ∷ []), (refl, refl), (without None (3 ∷ 9 ∷ []), (refl, refl), refl))
+one_after_the_other = (
+  without None (3 ∷ 9 ∷ []),
+  (refl, refl, refl),
+  (
+    without None (3 ∷ 9 ∷ []),
+    (refl, refl, refl),
+    refl,
+  ),
+)
 
 none_is_discarded : Discards old [] (without None (3 ∷ 9 ∷ [])) → ⊥
 none_is_discarded h = let e : Same 2 1 = ap (λ (s : Store). length s.loose) h in omega arith
@@ -63,14 +71,24 @@ an_inflate why after new h =
     let (next, lost, same) = h.discards in ap (λ (s : Store). s.loose) same ∙ lost.1
 
 a_deflate : (why : Option Denial) (after : Device) (new : Store)
-    (h : Settles Deflate 3 (page_2 ∷ []) ready after why old new) → h.between ≡ old
+    (h : Settles Deflate 3 (page_2 ∷ []) ready after why old new) →
+    h.between ≡ record old { ballooned = false ∷ false ∷ false ∷ [] }
 a_deflate why after new h = h.discards
+
+-- a page is ballooned once its inflate is served
+ballooned_then : (why : Option Denial) (after : Device) (new : Store)
+    (h : Settles Inflate 3 (page_1 ∷ []) ready after why old new) →
+    new.ballooned ≡ false ∷ true ∷ true ∷ []
+ballooned_then why after new h =
+    let (next, lost, same) = h.discards in h.gives.index.ballooned ∙ (h.gives.long.ballooned
+    ∙ (h.gives.id.ballooned ∙ (ap (λ (s : Store). s.ballooned) same ∙ lost.2)))
 
 -- the element is the first of the ring, of this head, and no frame is lost by it
 its_element : (why : Option Denial) (after : Device) (new : Store)
     (h : Settles Inflate 3 [] ready after why old new) → new.loose ≡ 3 ∷ []
 its_element why after new h =
-    h.gives.index.loose ∙ h.gives.long.loose ∙ h.gives.id.loose ∙ ap (λ (s : Store). s.loose) h.discards
+    h.gives.index.loose ∙ h.gives.long.loose ∙ h.gives.id.loose
+    ∙ ap (λ (s : Store). s.loose) h.discards
 
 ends_with_no_reason : (after : Device) (new : Store) →
     Settles Inflate 3 [] ready after (Some NotReady) old new → ⊥

@@ -35,7 +35,7 @@ use Rattle.vb_monitor.specs.Machine.{next_chain, whole}
 use Rattle.vb_monitor.specs.Still.{bytes_of, index_in, as_read, StaysUntil, DoesAs}
 use Rattle.vb_monitor.specs.Still.{avail_copy, table_copy}
 use Rattle.vb_monitor.proofs.{StillFound.ends_so, StillParts.served_by_bytes, StillLaws.serves_as}
-use Rattle.vb_served.specs.Store.{Store, After, Puts}
+use Rattle.vb_served.specs.Store.{Store, After, Puts, with_marks}
 use Rattle.vb_served.specs.One.{byte, Discards, Gives, NamesOne, ServesOne, OneBy, ServesNext}
 use Rattle.vb_served.specs.One.{all_of}
 use Rattle.vb_served.proofs.PremiseLemmas.{is_answered, has_room}
@@ -202,10 +202,11 @@ by_name w d1 d t head bytes runs s u (Ok named) log is none given keeps plain al
     (take named.runs runs) in
     let (s1, same, after_told) = subst (λ (l : List Access). StaysUntil (Between s u) (byte s)
     w.regions l) h.asks stays in
-    let made : Steps After s (map Discard cuts ++ h.discards.rest) u =
-    subst (λ (l : List Access). Steps After s l u) h.discards.asks
-    (from_same s s1 u h.rest same after_told) in
-    let parts = apart s u cuts h.discards.rest made in
+    let marked = with_marks w.kind (take named.runs runs) s in
+    let made : Steps After marked (map Discard cuts ++ h.discards.rest) u =
+    subst (λ (l : List Access). Steps After marked l u) h.discards.asks
+    (from_same marked s1 u h.rest same after_told) in
+    let parts = apart marked u cuts h.discards.rest made in
     let gives = subst (λ (o : Option Denial). GivesBackBy o w (next_chain w t) d
     (spent named.pages t) head h.discards.rest) open_so h.discards.gives_back in
     let (given_back, device, ends) = used_so w d (after_use w.kind d) (spent named.pages t) e
@@ -214,9 +215,9 @@ by_name w d1 d t head bytes runs s u (Ok named) log is none given keeps plain al
     there_so ok parts.then_so gives in
     record {
       between = parts.between;
-      discards = subst (λ (rs : List Region). Discards s (cuts_for w.kind
+      discards = subst (λ (rs : List Region). Discards marked (cuts_for w.kind
           (is_kept w.kind false (keeps_reports d)) rs (take named.runs runs)) parts.between) all
-          (subst (λ (k : Bool). Discards s (cuts_for w.kind
+          (subst (λ (k : Bool). Discards marked (cuts_for w.kind
           (is_kept w.kind k (keeps_reports d)) w.regions (take named.runs runs)) parts.between)
           keeps parts.first);
       gives = given_back;

@@ -23,7 +23,7 @@ use Rattle.vb_monitor.specs.declared.cuts.Cut.{Cut}
 use Rattle.vb_monitor.specs.Giving.{after_use, cuts_for, is_kept}
 use Rattle.vb_monitor.specs.Still.{bytes_of, avail_copy, table_copy}
 use Rattle.vb_monitor.specs.Accesses.{Discard}
-use Rattle.vb_served.specs.Store.{Store, Puts, After}
+use Rattle.vb_served.specs.Store.{Store, Puts, After, with_marks}
 
 -- The bytes of memory, by address.
 abbrev pub byte : Store → ℕ → ℕ
@@ -46,13 +46,13 @@ pub record Gives (e : UsedEntry) (s t : Store) : Type 0 where
 abbrev pub all_of : ℕ → List Region
 all_of pages = record { guest = 0; length = page_size * pages; in_file = 0 } ∷ []
 
--- The pages that were named lost their frames, where the kind's do, and the chain of this head was
--- given back: the notice ends then.
+-- The pages that were named are ballooned, or no more, and lost their frames, where the kind's do;
+-- and the chain of this head was given back: the notice ends then.
 pub record Settles (kind : Kind) (head : ℕ) (runs : List Run) (d1 d2 : Device)
     (why : Option Denial) (s t : Store) : Type 0 where
   pub between : Store
-  pub discards : Discards s (cuts_for kind (is_kept kind false (keeps_reports d1))
-      (all_of (length s.mem)) runs) between
+  pub discards : Discards (with_marks kind runs s)
+      (cuts_for kind (is_kept kind false (keeps_reports d1)) (all_of (length s.mem)) runs) between
   pub gives : Gives (used_entry (ring_of kind d1) head) between t
   pub device : d2 ≡ after_use kind d1
   pub ends : why ≡ None

@@ -3,6 +3,7 @@
 #![tactic(auto)]
 
 mod loose_ram;
+mod marking;
 mod one;
 mod reading;
 

@@ -1,4 +1,4 @@
-//! Guest memory with the frames that its pages lost.
+//! Guest memory with the frames that its pages lost, and the set of those that are ballooned.
 
 ghost use Rattle.std.specs.Prelude.{◌≡◌, ◌+◌, ◌++◌, ◌<◌, ◌≤◌, ◌^◌, is_some, length, vec_capacity};
 ghost use Rattle.std.specs.Prelude.{count_by};
@@ -10,20 +10,24 @@ ghost use Rattle.vb_device.specs.Base.{numbers_of_frames};
 ghost use Rattle.vb_device.specs.Discards.{discarded, frames_behind};
 ghost use Rattle.vb_served.specs.Store.{Puts};
 
+use crate::marking::mark_runs;
 use crate::reading::{PAGE_BYTES, read_across};
 use std::marker::Model;
+use vb_bits::BitSet;
 use vb_core::{Kind, Named, Run, Statistic};
 use vb_device::discard_page;
 use vb_monitor::{Cut, LiveMemory, Spot};
 use vb_ram::{Frame, GuestBytes, Ram};
 
-/// Guest memory, and the frames that its pages lost.
+/// Guest memory, the frames that its pages lost, and which of them are ballooned.
 #[derive(Drop)]
 pub struct LooseRam {
     /// The pages.
     ram: Ram,
     /// Frames that were taken from pages and not handed back yet: there is room for all of them.
     loose: Vec<Frame>,
+    /// The pages that are ballooned.
+    ballooned: BitSet,
 }
 
 impl Model for LooseRam {
@@ -33,7 +37,11 @@ impl Model for LooseRam {
 
     ghost Value = { Store };
 
-    ghost view = { λ s. record { mem = s.ram; loose = numbers_of_frames s.loose.items } };
+    ghost view = { λ s. record {
+      mem = s.ram;
+      loose = numbers_of_frames s.loose.items;
+      ballooned = s.ballooned;
+    } };
 
     ghost invariant = { λ s.
         length s.loose.items + count_by is_some s.ram ≤ vec_capacity s.loose };
@@ -86,6 +94,7 @@ impl LooseRam {
         ensures mem { self.new.mem ≡ discarded (range_with_len first count) self.old.mem }
         ensures loose { self.new.loose ≡ self.old.loose ++
             frames_behind self.old.mem (each_once (range_with_len first count)) }
+        ensures ballooned { self.new.ballooned ≡ self.old.ballooned }
     {
         for k in 0..count {
             discard_if_there(&mut self.ram, &mut self.loose, first + k);
@@ -114,7 +123,13 @@ impl LiveMemory for LooseRam {
 
     fn full(&mut self) {}
 
-    fn tell_pages(&mut self, _kind: Kind, _runs: &[Run], _named: Named) {}
+    fn tell_pages(&mut self, kind: Kind, runs: &[Run], _named: Named) {
+        match kind {
+            Kind::Inflate => mark_runs(&mut self.ballooned, runs, true),
+            Kind::Deflate => mark_runs(&mut self.ballooned, runs, false),
+            Kind::Statistics | Kind::Report => {}
+        }
+    }
 
     fn tell_figures(&mut self, _figures: &[Statistic]) {}
 

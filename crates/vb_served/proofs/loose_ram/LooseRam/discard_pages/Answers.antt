@@ -1,4 +1,4 @@
-use Rattle.std.proofs.Common.{◌≡◌, ◌<◌, ◌+◌, ◌++◌, arith, get_or, subst, sym, length, ℕ, List, take}
+use Rattle.std.proofs.Common.{refl, ◌≡◌, ◌<◌, ◌+◌, ◌++◌, arith, get_or, subst, sym, length, ℕ, List, take}
 use Rattle.std.proofs.lemmas.List.{append-nil, take_all}
 use Rattle.std.proofs.lemmas.List.FromFn.{length-range_with_len, get_or-range_with_len}
 use Rattle.std.specs.List.{range_with_len}
@@ -14,6 +14,7 @@ loop-k-init c = record {
   mem = discarded_none c.self.inside.ram;
   loose = sym (append-nil (numbers_of_frames c.self.inside.loose.items));
   room = c.self.invariant;
+  ballooned = refl;
 }
 
 pub loop-k-preserved : goal.loop-k-preserved
@@ -38,6 +39,7 @@ loop-k-preserved c =
         c.discard_if_there.ensures.capacity,
         c.loop-k.invariant.room,
       );
+      ballooned = c.loop-k.invariant.ballooned;
     }
 
 pub returns-clause-mem : goal.returns-clause-mem
@@ -59,3 +61,7 @@ returns-clause-loose c =
     (subst (λ (ps : List ℕ). numbers_of_frames c.loop-k.self-inside.loose.items ≡
     numbers_of_frames c.self.inside.loose.items ++ frames_behind c.self.inside.ram (each_once ps))
     all c.loop-k.invariant.loose)
+
+pub returns-clause-ballooned : goal.returns-clause-ballooned
+returns-clause-ballooned c = subst (λ (s : Store). c.loop-k.self-inside.ballooned ≡ s.ballooned)
+    c.self.view_is c.loop-k.invariant.ballooned

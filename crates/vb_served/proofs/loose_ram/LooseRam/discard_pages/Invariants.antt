@@ -16,4 +16,5 @@ invariant-loop-k l = record {
       frames_behind l.initial.self-inside.ram (each_once (take l.k (range_with_len l.first l.count)));
   room : length l.self-inside.loose.items + frame_count l.self-inside.ram ≤
       vec_capacity l.self-inside.loose;
+  ballooned : l.self-inside.ballooned ≡ l.initial.self-inside.ballooned;
 }
