@@ -162,7 +162,7 @@ reports_of still byte rs d2 out d t runs (Ok (Some taken)) log is none lt unrefu
     (are taken refl) stays x)
     h
 
-denied_alike : (a t room : ℕ) (d : Device) → MAX_REPORT_PIECES ≤ room →
+pub denied_alike : (a t room : ℕ) (d : Device) → MAX_REPORT_PIECES ≤ room →
     a ≡ 4 + 2 * (ring_of Report d).size → t ≡ 16 * (ring_of Report d).size →
     report_denial a t room d ≡ queue_denial Report d
 denied_alike a t room d fits e f =

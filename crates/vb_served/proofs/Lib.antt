@@ -5,5 +5,6 @@ pub mod WholeMemory
 pub mod MayServe
 pub mod MarkLemmas
 pub mod OneLemmas
+pub mod ReportLemmas
 mod StoreFacts
 mod OneFacts

@@ -5,7 +5,8 @@ use Rattle.std.specs.Prelude.{IsOk, All, nat_lt, nat_le, ◌==◌, if◌then◌e
 use Rattle.std.proofs.lemmas.Bool.Decides.{nat_tests}
 use Rattle.vb_chain.specs.declared.fault.ChainFault.{ChainFault, TheVariants.IndexJump}
 use Rattle.vb_ram.specs.Pages.{field}
-use Rattle.vb_ring.specs.Entries.{ahead}
+use Rattle.vb_ring.specs.Entries.{ahead, next_entry}
+use Rattle.vb_core.specs.Copies.{copied_layout}
 use Rattle.vb_core.specs.declared.kinds.Kind.{Kind}
 use Rattle.vb_core.specs.declared.kinds.Kind.TheVariants.{Inflate, Deflate, Statistics, Report}
 use Rattle.vb_core.specs.declared.ring.Virtqueue.{Virtqueue}
@@ -14,7 +15,7 @@ use Rattle.vb_core.specs.declared.name.Named.{Named}
 use Rattle.vb_core.specs.declared.next.{ChainPiece.ChainPiece, NextChain.NextChain}
 use Rattle.vb_core.specs.declared.device.{Denial.Denial, Device.Device}
 use Rattle.vb_core.specs.declared.settings.{Settings.Settings, TheConstants.MEMORY_LIMIT}
-use Rattle.vb_core.specs.Name.{is_request, NamesBy, name_denial, after_request}
+use Rattle.vb_core.specs.Name.{NamesBy, name_denial, after_request}
 use Rattle.vb_core.specs.Next.{told, pieces_in}
 use Rattle.vb_core.specs.Rings.{used_entry, has_place, with_taken, with_used}
 use Rattle.vb_core.specs.Devices.{ring_of, with_one_taken, queue_denial, call_denial}
@@ -178,32 +179,39 @@ stands_so byte r count index x head few e =
 
 -- ---- all of it
 
-pub may_serve : (n : ℕ) (byte : ℕ → ℕ) (kind : Kind) (buffers : List ChainPiece) (d1 d : Device)
-    (chain : NextChain) → is_request kind ≡ true → IsOf d1 n →
-    IsAnswered byte kind buffers d1 d chain →
-    MayServe (all_of n) kind d chain.head (index_in byte (ring_of kind d1))
-may_serve n byte kind buffers d1 d chain is of known =
-    let r = ring_of kind d1 in
-    let count = memory_pages d1.settings in
-    let few = few_so kind d1 n of known.open_so in
-    let at = ring_lies kind d1 n of known.open_so in
-    let taken = with_one_taken kind d1 in
+-- of a chain that is next, where the queue isn't refused
+pub may_give : (n : ℕ) (byte : ℕ → ℕ) (kind : Kind) (d : Device) (head : ℕ) → IsOf d n →
+    head < (ring_of kind d).size → (ring_of kind d).next_avail < 65536 →
+    next_entry (shown byte (ring_of kind d) (memory_pages d.settings)) copied_layout
+    (ring_of kind d).size (ring_of kind d).next_avail ≡ Ok (Some head) →
+    queue_denial kind d ≡ None → MayServe (all_of n) kind d head (index_in byte (ring_of kind d))
+may_give n byte kind d head of below next_avail next open_so =
+    let r = ring_of kind d in
+    let count = memory_pages d.settings in
+    let few = few_so kind d n of open_so in
+    let at = ring_lies kind d n of open_so in
+    let taken = with_one_taken kind d in
     let word : field 2 (shown byte r count) 1 2 ≡ index_in byte r = word_shown byte r count 2
-    (two_pages d1.settings (open_call kind true true true d1 known.open_so).settings) at.size.most
+    (two_pages d.settings (open_call kind true true true d open_so).settings) at.size.most
     (omega arith) in
     let next_so = subst (λ (i : ℕ). (if ahead i r.next_avail == 0 then Ok None
     else (if nat_le (ahead i r.next_avail) r.size
     then Ok (Some (field 2 (shown byte r count) 1 (0 + 4 + 2 * (r.next_avail % r.size))))
-    else Err IndexJump)) ≡ Ok (Some chain.head)) word known.next in
-    subst (λ (x : Device). MayServe (all_of n) kind x chain.head (index_in byte r))
-    (sym known.device)
-    (record {
-      open_so = used_open kind chain.head d1 _ refl (lt_so chain.head r.size known.head)
-          known.open_so;
-      there_so = subst (λ (q : Virtqueue). used_spots (all_of n) (used_entry q chain.head) ≢ None)
-          (sym (ring_taken kind d1)) (used_there n chain.head (with_taken r) few
+    else Err IndexJump)) ≡ Ok (Some head)) word next in
+    record {
+      open_so = used_open kind head d _ refl (lt_so head r.size below) open_so;
+      there_so = subst (λ (q : Virtqueue). used_spots (all_of n) (used_entry q head) ≢ None)
+          (sym (ring_taken kind d)) (used_there n head (with_taken r) few
           (lies_taken (4096 * n) r at));
       goes_on = subst (λ (q : Virtqueue). IsOk (stands q (index_in byte r)))
-          (sym (ring_used kind taken ∙ ap with_used (ring_taken kind d1)))
-          (stands_so byte r count (index_in byte r) _ chain.head known.next_avail next_so);
-    })
+          (sym (ring_used kind taken ∙ ap with_used (ring_taken kind d)))
+          (stands_so byte r count (index_in byte r) _ head next_avail next_so);
+    }
+
+pub may_serve : (n : ℕ) (byte : ℕ → ℕ) (kind : Kind) (buffers : List ChainPiece) (d1 d : Device)
+    (chain : NextChain) → IsOf d1 n → IsAnswered byte kind buffers d1 d chain →
+    MayServe (all_of n) kind d chain.head (index_in byte (ring_of kind d1))
+may_serve n byte kind buffers d1 d chain of known =
+    subst (λ (x : Device). MayServe (all_of n) kind x chain.head (index_in byte (ring_of kind d1)))
+    (sym known.device) (may_give n byte kind d1 chain.head of known.head known.next_avail known.next
+    known.open_so)

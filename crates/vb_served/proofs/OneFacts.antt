@@ -7,7 +7,8 @@ use Rattle.vb_core.specs.declared.device.Denial.TheVariants.{NotReady, NeedsRese
 use Rattle.vb_core.specs.Devices.{new_device, placed}
 use Rattle.vb_monitor.specs.Regions.{spot}
 use Rattle.vb_served.specs.Store.{Store}
-use Rattle.vb_served.specs.One.{all_of, Discards, Settles, Leaves, NamesOne}
+use Rattle.vb_served.specs.One.{all_of, Discards, Settles, Leaves, NamesOne, ReportBy}
+use Rattle.vb_core.specs.declared.report.Reported.{Reported}
 use Rattle.vb_served.proofs.StoreFacts.{Same, old, cut, without}
 
 -- ---- all of memory
@@ -55,6 +56,7 @@ ready = record (new_device settings) {
   status = 15;
   inflate = placed 0 0x100 0x200 8;
   deflate = placed 0 0x100 0x200 8;
+  report = placed 0 0x100 0x200 8;
 }
 
 abbrev page_2 : Run
@@ -121,3 +123,42 @@ a_frame_is_lost h =
 
 another_device : Leaves ready (record ready { target = 9 }) None None old old → ⊥
 another_device h = let e : Same 9 0 = ap (λ (d : Device). d.target) h.device in omega arith
+
+-- ---- reports
+
+abbrev reported : Reported
+reported = record { head = 3; runs = 1; pages = 1 }
+
+-- the pages of its runs, as many as it has, lose their frames, and aren't ballooned by it
+its_frame_goes : (why : Option Denial) (after : Device) (new : Store)
+    (h : ReportBy (page_2 ∷ page_1 ∷ []) ready after why old new (Ok (Some reported))) →
+    h.between.loose ≡ 3 ∷ 9 ∷ []
+its_frame_goes why after new h =
+    let (next, lost, same) = h.discards in ap (λ (s : Store). s.loose) same ∙ lost.1
+
+it_is_not_ballooned : (why : Option Denial) (after : Device) (new : Store)
+    (h : ReportBy (page_1 ∷ []) ready after why old new (Ok (Some reported))) →
+    new.ballooned ≡ false ∷ false ∷ true ∷ []
+it_is_not_ballooned why after new h =
+    let (next, lost, same) = h.discards in h.gives.index.ballooned ∙ (h.gives.long.ballooned
+    ∙ (h.gives.id.ballooned ∙ (ap (λ (s : Store). s.ballooned) same ∙ lost.2)))
+
+-- a device that keeps the pages of reports discards none of them
+kept : (why : Option Denial) (after : Device) (new : Store)
+    (h : ReportBy (page_2 ∷ []) (record ready { features = 0x100000037; poison = 1 }) after why old
+    new (Ok (Some reported))) → h.between ≡ old
+kept why after new h = h.discards
+
+counts_the_report : (why : Option Denial) (new : Store) →
+    ReportBy (page_2 ∷ []) ready ready why old new (Ok (Some reported)) → ⊥
+counts_the_report why new h =
+    let e : Same 0 1 = ap (λ (d : Device). d.report.next_used) h.device in omega arith
+
+no_report_is_there : ReportBy [] ready ready None old old (Ok None)
+no_report_is_there = record { ends = refl; device = refl; memory = refl }
+
+a_refused_report : ReportBy [] ready ready (Some NotReady) old old (Err NotReady)
+a_refused_report = record { ends = refl; device = refl; memory = refl }
+
+refused_for_another_reason : ReportBy [] ready ready (Some NeedsReset) old old (Err NotReady) → ⊥
+refused_for_another_reason h = let e = h.ends in absurd cc

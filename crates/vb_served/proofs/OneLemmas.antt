@@ -31,13 +31,15 @@ use Rattle.vb_monitor.specs.Giving.{GivesBackBy, UsedAt, AfterName, three_spots,
 use Rattle.vb_monitor.specs.Giving.{cuts_for, is_kept, with_given, spent, used_spots}
 use Rattle.vb_monitor.specs.Notices.{Serves, AfterIndex, TakesNext, AfterGiven, ServesPublished, stands}
 use Rattle.vb_monitor.specs.Chains.{AfterBytes}
+use Rattle.vb_monitor.specs.Served.{goes_on}
+use Rattle.vb_monitor.specs.Giving.{TellsThen}
 use Rattle.vb_monitor.specs.Machine.{next_chain, whole}
 use Rattle.vb_monitor.specs.Still.{bytes_of, index_in, as_read, StaysUntil, DoesAs}
 use Rattle.vb_monitor.specs.Still.{avail_copy, table_copy}
 use Rattle.vb_monitor.proofs.{StillFound.ends_so, StillParts.served_by_bytes, StillLaws.serves_as}
 use Rattle.vb_served.specs.Store.{Store, After, Puts, with_marks}
 use Rattle.vb_served.specs.One.{byte, Discards, Gives, NamesOne, ServesOne, OneBy, ServesNext}
-use Rattle.vb_served.specs.One.{all_of}
+use Rattle.vb_served.specs.One.{all_of, Settles}
 use Rattle.vb_served.proofs.PremiseLemmas.{is_answered, has_room}
 use Rattle.vb_served.proofs.MayServe.{MayServe, IsOf, may_serve, named_device, ring_mapped, parts_mapped}
 use Rattle.vb_served.proofs.WholeMemory.{plain_all}
@@ -109,7 +111,7 @@ index_so w d t (Ok true) s u log ok given steps h =
 
 -- a request's kind goes on by the index
 given_so : (kind : Kind) (w : Whole) (d : Device) (t : Tally) (s u : Store) (log : List Access) →
-    is_request kind ≡ true → t.chains ≡ 0 → t.given ≡ true →
+    goes_on kind ≡ true → t.chains ≡ 0 → t.given ≡ true →
     IsOk (stands (ring_of w.kind d) t.published) → Steps After s log u →
     AfterGiven kind w (ServesPublished t.chains w) d t log →
     (u ≡ s) × (w.device ≡ d) × (w.outcome.why ≡ None)
@@ -120,7 +122,9 @@ given_so Deflate w d t s u log is none given ok steps h =
     index_so w d t (stands (ring_of w.kind d) t.published) s u log ok given steps
     (subst (λ (n : ℕ). ServesPublished n w d t log) none h)
 given_so Statistics w d t s u log is none given ok steps h = absurd cc
-given_so Report w d t s u log is none given ok steps h = absurd cc
+given_so Report w d t s u log is none given ok steps h =
+    index_so w d t (stands (ring_of w.kind d) t.published) s u log ok given steps
+    (subst (λ (n : ℕ). ServesPublished n w d t log) none h)
 
 -- ---- discards and the used element
 
@@ -139,7 +143,7 @@ apart s u (cut ∷ cuts) rest (next, lost, more) =
 -- the chain is given back where its element is guest memory, and the notice ends
 used_so : (w : Whole) (d d2 : Device) (t : Tally) (e : UsedEntry) (a b c : Option Spot)
     (s u : Store)
-    (log : List Access) → is_request w.kind ≡ true → t.chains ≡ 0 → IsPlain w.regions →
+    (log : List Access) → goes_on w.kind ≡ true → t.chains ≡ 0 → IsPlain w.regions →
     spot w.regions e.element_at 4 ≡ a → spot w.regions (e.element_at + 4) 4 ≡ b →
     spot w.regions e.index_at 2 ≡ c → three_spots a b c ≢ None →
     IsOk (stands (ring_of w.kind d2) t.published) → Steps After s log u →
@@ -175,6 +179,50 @@ used_so w d d2 t e (Some a) (Some b) (Some c) s u log is none plain ea eb ec the
 
 -- ---- what was named
 
+-- runs are told, and the chain is given back
+pub by_telling : (w : Whole) (d : Device) (t : Tally) (head pages : ℕ) (runs : List Run)
+    (named : Named) (s u : Store) (log : List Access) → goes_on w.kind ≡ true → t.chains ≡ 0 →
+    t.keeps ≡ false → IsPlain w.regions → w.regions ≡ all_of (length s.mem) →
+    use_denial w.kind head d ≡ None →
+    used_spots w.regions (used_entry (ring_of w.kind d) head) ≢ None →
+    IsOk (stands (ring_of w.kind (after_use w.kind d)) t.published) →
+    StaysUntil (Between s u) (byte s) w.regions log →
+    TellsThen w (next_chain w t) d (spent pages t) head runs named log →
+    Settles w.kind head runs d w.device w.outcome.why s u
+by_telling w d t head pages runs named s u log is none keeps plain all open_so there_so ok stays h =
+    let e = used_entry (ring_of w.kind d) head in
+    let cuts = cuts_for w.kind (is_kept w.kind t.keeps (keeps_reports d)) w.regions runs in
+    let (s1, same, after_told) = subst (λ (l : List Access). StaysUntil (Between s u) (byte s)
+    w.regions l) h.asks stays in
+    let marked = with_marks w.kind runs s in
+    let made : Steps After marked (map Discard cuts ++ h.discards.rest) u =
+    subst (λ (l : List Access). Steps After marked l u) h.discards.asks
+    (from_same marked s1 u h.rest same after_told) in
+    let parts = apart marked u cuts h.discards.rest made in
+    let gives = subst (λ (o : Option Denial). GivesBackBy o w (next_chain w t) d
+    (spent pages t) head h.discards.rest) open_so h.discards.gives_back in
+    let (given_back, device, ends) = used_so w d (after_use w.kind d) (spent pages t) e
+    (spot w.regions e.element_at 4) (spot w.regions (e.element_at + 4) 4)
+    (spot w.regions e.index_at 2) parts.between u h.discards.rest is none plain refl refl refl
+    there_so ok parts.then_so gives in
+    record {
+      between = parts.between;
+      discards = subst (λ (rs : List Region). Discards marked (cuts_for w.kind
+          (is_kept w.kind false (keeps_reports d)) rs runs) parts.between) all
+          (subst (λ (k : Bool). Discards marked (cuts_for w.kind
+          (is_kept w.kind k (keeps_reports d)) w.regions runs) parts.between)
+          keeps parts.first);
+      gives = given_back;
+      device = device;
+      ends = ends;
+    }
+
+on_so : (kind : Kind) → is_request kind ≡ true → goes_on kind ≡ true
+on_so Inflate e = refl
+on_so Deflate e = refl
+on_so Statistics e = absurd cc
+on_so Report e = absurd cc
+
 by_name : (w : Whole) (d1 d : Device) (t : Tally) (head : ℕ) (bytes : List ℕ) (runs : List Run)
     (s u : Store) (answer : Result Named Denial) (log : List Access) → is_request w.kind ≡ true →
     t.chains ≡ 0 → t.given ≡ false → t.keeps ≡ false → IsPlain w.regions →
@@ -190,40 +238,13 @@ by_name w d1 d t head bytes runs s u (Err why) log is none given keeps plain all
 by_name w d1 d t head bytes runs s u (Ok named) log is none given keeps plain all may names stays h
     =
     let same_device = named_device w.kind bytes runs d1 d named names in
-    let open_so = subst (λ (x : Device). use_denial w.kind head x ≡ None) (sym same_device)
-    may.open_so in
-    let there_so = subst (λ (x : Device). used_spots w.regions (used_entry
-    (ring_of w.kind x) head) ≢ None)
-    (sym same_device) may.there_so in
-    let ok = subst (λ (x : Device). IsOk (stands (ring_of w.kind (after_use w.kind x)) t.published))
-    (sym same_device) may.goes_on in
-    let e = used_entry (ring_of w.kind d) head in
-    let cuts = cuts_for w.kind (is_kept w.kind t.keeps (keeps_reports d)) w.regions
-    (take named.runs runs) in
-    let (s1, same, after_told) = subst (λ (l : List Access). StaysUntil (Between s u) (byte s)
-    w.regions l) h.asks stays in
-    let marked = with_marks w.kind (take named.runs runs) s in
-    let made : Steps After marked (map Discard cuts ++ h.discards.rest) u =
-    subst (λ (l : List Access). Steps After marked l u) h.discards.asks
-    (from_same marked s1 u h.rest same after_told) in
-    let parts = apart marked u cuts h.discards.rest made in
-    let gives = subst (λ (o : Option Denial). GivesBackBy o w (next_chain w t) d
-    (spent named.pages t) head h.discards.rest) open_so h.discards.gives_back in
-    let (given_back, device, ends) = used_so w d (after_use w.kind d) (spent named.pages t) e
-    (spot w.regions e.element_at 4) (spot w.regions (e.element_at + 4) 4)
-    (spot w.regions e.index_at 2) parts.between u h.discards.rest is none plain refl refl refl
-    there_so ok parts.then_so gives in
-    record {
-      between = parts.between;
-      discards = subst (λ (rs : List Region). Discards marked (cuts_for w.kind
-          (is_kept w.kind false (keeps_reports d)) rs (take named.runs runs)) parts.between) all
-          (subst (λ (k : Bool). Discards marked (cuts_for w.kind
-          (is_kept w.kind k (keeps_reports d)) w.regions (take named.runs runs)) parts.between)
-          keeps parts.first);
-      gives = given_back;
-      device = device;
-      ends = ends;
-    }
+    by_telling w d t head named.pages (take named.runs runs) named s u log (on_so w.kind is) none
+    keeps plain all
+    (subst (λ (x : Device). use_denial w.kind head x ≡ None) (sym same_device) may.open_so)
+    (subst (λ (x : Device). used_spots w.regions (used_entry (ring_of w.kind x) head) ≢ None)
+    (sym same_device) may.there_so)
+    (subst (λ (x : Device). IsOk (stands (ring_of w.kind (after_use w.kind x)) t.published))
+    (sym same_device) may.goes_on) stays h
 
 -- ---- the whole
 
@@ -289,7 +310,7 @@ by_answer kind d1 d2 d3 outcome t room buffers s u (Ok (Some chain)) log is none
     let on = served_by_bytes (Between s u) (byte s) w t d3 chain.head pieces known.bytes h.rest
     (read_so kind is) known.long (parts_mapped n (byte s) kind buffers d1 d3 chain of known)
     (has_room (byte s) kind pieces known.bytes is known.long) h.still_so h.is in
-    let may = may_serve n (byte s) kind buffers d1 d3 chain is of known in
+    let may = may_serve n (byte s) kind buffers d1 d3 chain of known in
     by_bytes kind w d3 t chain.head (bytes_of (byte s) pieces) s u on.rest refl is none given keeps
     (record { place = plain_all n }) refl
     (subst (λ (i : ℕ). MayServe (all_of n) kind d3 chain.head i) (sym index) may) on.still_so on.is

@@ -2,10 +2,12 @@
 use Rattle.std.specs.Prelude.{◌≡◌, ◌≤◌, ◌+◌, ◌*◌, ℕ, false, List, [], ◌∷◌, length, take, Option}
 use Rattle.std.specs.Prelude.{Some, None, Result, Ok, Err}
 use Rattle.std.specs.Int.{w16, w32, to_le_bytes}
-use Rattle.vb_model.specs.declared.limits.TheConstants.{MAX_REQUEST_PAGES}
+use Rattle.vb_model.specs.declared.limits.TheConstants.{MAX_REQUEST_PAGES, MAX_REPORT_PIECES}
 use Rattle.vb_model.specs.Limits.{page_size}
 use Rattle.vb_request.specs.Request.{byte_of_address}
 use Rattle.vb_core.specs.declared.kinds.Kind.{Kind}
+use Rattle.vb_core.specs.declared.kinds.Kind.TheVariants.{Report}
+use Rattle.vb_core.specs.declared.report.Reported.{Reported}
 use Rattle.vb_core.specs.declared.runs.Run.{Run}
 use Rattle.vb_core.specs.declared.name.Named.{Named}
 use Rattle.vb_core.specs.declared.ring.UsedEntry.{UsedEntry}
@@ -18,6 +20,7 @@ use Rattle.vb_core.specs.Rings.{used_entry}
 use Rattle.vb_core.specs.Devices.{ring_of}
 use Rattle.vb_core.specs.Next.{NextBy, pieces_in}
 use Rattle.vb_core.specs.Name.{NamesBy}
+use Rattle.vb_core.specs.Report.{ReportsBy}
 use Rattle.vb_monitor.specs.declared.regions.Region.{Region}
 use Rattle.vb_monitor.specs.declared.cuts.Cut.{Cut}
 use Rattle.vb_monitor.specs.Giving.{after_use, cuts_for, is_kept}
@@ -96,3 +99,19 @@ ServesNext kind d1 d2 why s t =
     → (ring_of kind d1).size ≤ room →
     NextBy kind (avail_copy (byte s) (ring_of kind d1)) (table_copy (byte s) (ring_of kind d1)) room
     buffers d1 d3 answer → OneBy kind buffers d3 d2 why s t answer
+
+-- What is made of what is answered to copies of the queue of reports.
+abbrev pub ReportBy : List Run → Device → Device → Option Denial → Store → Store →
+    Result (Option Reported) Denial → Type 0
+ReportBy runs d1 d2 why s t (Err fault) = Leaves d1 d2 why (Some fault) s t
+ReportBy runs d1 d2 why s t (Ok None) = Leaves d1 d2 why None s t
+ReportBy runs d1 d2 why s t (Ok (Some found)) =
+    Settles Report found.head (take found.runs runs) d1 d2 why s t
+
+-- One report is served, if one is there, as is answered to copies of its queue.
+abbrev pub ReportsNext : Device → Device → Option Denial → Store → Store → Type 0
+ReportsNext d1 d2 why s t =
+    (runs : List Run) (d3 : Device) (room : ℕ) (answer : Result (Option Reported) Denial) →
+    MAX_REPORT_PIECES ≤ room →
+    ReportsBy (avail_copy (byte s) (ring_of Report d1)) (table_copy (byte s) (ring_of Report d1))
+    room runs d1 d3 answer → ReportBy runs d3 d2 why s t answer

@@ -3,7 +3,8 @@
 ghost use Rattle.std.specs.Prelude.{◌≡◌, ◌*◌, length, true};
 ghost use Rattle.vb_model.specs.Limits.{page_size};
 ghost use Rattle.vb_core.specs.Name.{is_request};
-ghost use Rattle.vb_served.specs.One.{ServesNext, all_of};
+ghost use Rattle.vb_core.specs.declared.kinds.Kind.TheVariants.{Report};
+ghost use Rattle.vb_served.specs.One.{ServesNext, ReportsNext, all_of};
 
 use crate::LooseRam;
 use crate::reading::PAGE_BYTES;
@@ -28,7 +29,8 @@ fn whole_memory(pages: u32) -> [Region; 1]
     }]
 }
 
-/// Serves one chain of a queue of requests, if one is there, over the memory that the device is of.
+/// Serves one chain of a queue, if one is there, over the memory that the device is of. What
+/// becomes of a buffer of statistics is not said.
 pub fn serve_one(
     memory: &mut LooseRam,
     device: &mut Device,
@@ -38,9 +40,11 @@ pub fn serve_one(
     runs: &mut [Run; MAX_RUNS],
     figures: &mut [Statistic; MAX_FIGURES],
 ) -> Outcome
-    requires request { is_request kind ≡ true }
     requires end { device.old.settings.memory_end ≡ page_size * length memory.old.mem }
-    ensures { ServesNext kind device.old device.new result.why memory.old memory.new }
+    ensures request { is_request kind ≡ true →
+        ServesNext kind device.old device.new result.why memory.old memory.new }
+    ensures report { kind ≡ Report →
+        ReportsNext device.old device.new result.why memory.old memory.new }
 {
     let regions = whole_memory(memory.pages());
     serve(
