@@ -253,7 +253,8 @@ by_place onward byte w d t n found (Some at) log is none some e mapped stays h =
 looks_as : (onward : List Access → Type 0) (byte : ℕ → ℕ) (w : Whole) (d d3 : Device) (t : Tally)
     (n room : ℕ)
     (buffers : List ChainPiece) (result : Result (Option NextChain) Denial) (o : Option Denial)
-    (log : List Access) → is_read w.kind ≡ true → IsMapped w.regions (ring_of w.kind d) →
+    (log : List Access) → is_read w.kind ≡ true →
+    (queue_denial w.kind d ≡ None → IsMapped w.regions (ring_of w.kind d)) →
     (ring_of w.kind d).size ≤ room → t.given ≡ false → (t.pages == 0) ≡ false →
     queue_denial w.kind d ≡ o → StaysUntil onward byte w.regions log →
     NextBy w.kind (avail_copy byte (ring_of w.kind d)) (table_copy byte (ring_of w.kind d)) room
@@ -280,7 +281,7 @@ looks_as onward byte w d d3 t n room buffers result None log read mapped fits no
     let shown_so : IsShown byte w d reads.found = record {
       size = placed_size d.settings.memory_end r open_so.place;
       two = two_pages d.settings open_so.settings;
-      mapped = mapped;
+      mapped = mapped e;
       pops = reads.pops;
     } in
     as_answered (StaysUntil onward byte w.regions) w d d3
@@ -288,13 +289,14 @@ looks_as onward byte w d d3 t n room buffers result None log read mapped fits no
     reads.answer reads.pieces_are is after
     (by_place onward byte w d t n reads.found (spot w.regions
     (r.avail + 2) 2) log shown_so none some refl
-    mapped.index stays h)
+    (mapped e).index stays h)
 
 pub serves_as : (onward : List Access → Type 0) (byte : ℕ →
     ℕ) (regions : List Region) (kind : Kind) (budget : Budget) (n room : ℕ)
     (d1 d2 d3 : Device) (outcome : Outcome) (log : List Access) (buffers : List ChainPiece)
     (answer : Result (Option NextChain) Denial) → is_read kind ≡ true → budget.chains ≡ suc n →
-    (budget.pages == 0) ≡ false → IsMapped regions (ring_of kind d1) →
+    (budget.pages == 0) ≡ false → (queue_denial kind d1 ≡ None →
+    IsMapped regions (ring_of kind d1)) →
     (ring_of kind d1).size ≤ room → StaysUntil onward byte regions log →
     NextBy kind (avail_copy byte (ring_of kind d1)) (table_copy byte (ring_of kind d1)) room buffers
     d1 d3 answer → Serves regions kind budget d1 d2 outcome log →

@@ -162,7 +162,7 @@ reports_of still byte rs d2 out d t runs (Ok (Some taken)) log is none lt unrefu
     (are taken refl) stays x)
     h
 
-denied_alike : (a t room : ℕ) (d : Device) → MAX_REPORT_PIECES ≤ room →
+pub denied_alike : (a t room : ℕ) (d : Device) → MAX_REPORT_PIECES ≤ room →
     a ≡ 4 + 2 * (ring_of Report d).size → t ≡ 16 * (ring_of Report d).size →
     report_denial a t room d ≡ queue_denial Report d
 denied_alike a t room d fits e f =
@@ -174,7 +174,8 @@ denied_alike a t room d fits e f =
 looks_as : (onward : List Access → Type 0) (byte : ℕ → ℕ) (rs : List Region) (d2 : Device)
     (out : Outcome) (d d3 : Device) (t : Tally) (n room : ℕ)
     (runs : List Run) (result : Result (Option Reported) Denial) (o : Option Denial)
-    (log : List Access) → IsMapped rs (ring_of Report d) → MAX_REPORT_PIECES ≤ room →
+    (log : List Access) → (queue_denial Report d ≡ None → IsMapped rs (ring_of Report d)) →
+    MAX_REPORT_PIECES ≤ room →
     t.given ≡ false → (t.pages == 0) ≡ false → queue_denial Report d ≡ o →
     StaysUntil onward byte rs log →
     ReportsBy (avail_copy byte (ring_of Report d)) (table_copy byte (ring_of Report d)) room runs d
@@ -207,7 +208,7 @@ looks_as onward byte rs d2 out d d3 t n room runs result None log mapped fits no
     let shown_so : IsShown byte (of_reports rs d2 out) d found = record {
       size = placed_size d.settings.memory_end r open_so.place;
       two = two_pages d.settings open_so.settings;
-      mapped = mapped;
+      mapped = mapped e;
       pops = reads.pops;
     } in
     subst (λ (o : Result (Option Reported) Denial). ReportsAs still o runs w rest d3 log)
@@ -221,14 +222,15 @@ looks_as onward byte rs d2 out d d3 t n room runs result None log mapped fits no
     found ≡ Ok (Some taken) → IsOk o → take (length taken.chain) runs ≡ map run_of taken.chain)
     reads.answer reads.runs_are)
     (by_place onward byte w d t n found (spot rs (r.avail + 2) 2) log shown_so none some refl
-    mapped.index
+    (mapped e).index
     stays h)))
 
 pub reports_as : (onward : List Access → Type 0) (byte : ℕ →
     ℕ) (regions : List Region) (budget : Budget) (n room : ℕ)
     (d1 d2 d3 : Device) (outcome : Outcome) (log : List Access) (runs : List Run)
     (answer : Result (Option Reported) Denial) → budget.chains ≡ suc n → (budget.pages == 0) ≡ false
-    → IsMapped regions (ring_of Report d1) → MAX_REPORT_PIECES ≤ room →
+    → (queue_denial Report d1 ≡ None → IsMapped regions (ring_of Report d1)) →
+    MAX_REPORT_PIECES ≤ room →
     StaysUntil onward byte regions log →
     ReportsBy (avail_copy byte (ring_of Report d1)) (table_copy byte (ring_of Report d1)) room runs
     d1 d3 answer → Serves regions Report budget d1 d2 outcome log →

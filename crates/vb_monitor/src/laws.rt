@@ -167,17 +167,19 @@ pub fn a_chain_that_is_given_back_leaves_its_queue_open()
         queue_denial kind (after_use kind d) ≡ None }
 {}
 
-/// Where memory stays as it is while a notice reads of it, the notice does what `vb_core`'s `next`
-/// answers to private copies of its queue: it refuses what that refuses, ends where nothing is
-/// there, and breaks the rule that the copies break; or it serves the chain of that head, by just
-/// those pieces. So what may be said of copies holds of notices too. From the first access on that
-/// is no read memory may change: the accesses from that one on are `rest`, whatever they read.
+/// Where memory stays as it is while a notice reads of it, and a queue that isn't refused is guest
+/// memory, the notice does what `vb_core`'s `next` answers to private copies of it: it refuses what
+/// that refuses, ends where nothing is there, and breaks the rule that the copies break; or it
+/// serves the chain of that head, by just those pieces. So what may be said of copies holds of
+/// notices too. From the first access on that is no read memory may change: the accesses from that
+/// one on are `rest`, whatever they read.
 pub fn a_notice_does_what_is_answered_to_copies()
     ensures { (rest : List Access) (byte : ℕ → ℕ) (regions : List Region) (kind : Kind)
         (budget : Budget) (n room : ℕ) (d1 d2 d3 : Device) (outcome : Outcome) (log : List Access)
         (buffers : List ChainPiece) (answer : Result (Option NextChain) Denial) →
         is_read kind ≡ true → budget.chains ≡ suc n → (budget.pages == 0) ≡ false →
-        IsMapped regions (ring_of kind d1) → (ring_of kind d1).size ≤ room →
+        (queue_denial kind d1 ≡ None → IsMapped regions (ring_of kind d1)) →
+        (ring_of kind d1).size ≤ room →
         StaysUntil (AreThese rest) byte regions log →
         NextBy kind (avail_copy byte (ring_of kind d1)) (table_copy byte (ring_of kind d1)) room
         buffers d1 d3 answer → Serves regions kind budget d1 d2 outcome log →
@@ -194,7 +196,8 @@ pub fn a_notice_reports_what_is_answered_to_copies()
     ensures { (rest : List Access) (byte : ℕ → ℕ) (regions : List Region)
         (budget : Budget) (n room : ℕ) (d1 d2 d3 : Device) (outcome : Outcome) (log : List Access)
         (runs : List Run) (answer : Result (Option Reported) Denial) → budget.chains ≡ suc n →
-        (budget.pages == 0) ≡ false → IsMapped regions (ring_of Report d1) →
+        (budget.pages == 0) ≡ false →
+        (queue_denial Report d1 ≡ None → IsMapped regions (ring_of Report d1)) →
         MAX_REPORT_PIECES ≤ room → StaysUntil (AreThese rest) byte regions log →
         ReportsBy (avail_copy byte (ring_of Report d1)) (table_copy byte (ring_of Report d1)) room
         runs d1 d3 answer → Serves regions Report budget d1 d2 outcome log →

@@ -1,0 +1,68 @@
+-- Guest memory with the frames that its pages lost, and what each access makes of it.
+use Rattle.std.specs.Prelude.{◌≡◌, ℕ, ◌/◌, ◌%◌, Bool, true, false, List, ◌++◌, length, IsSome, None}
+use Rattle.std.specs.List.{range_with_len}
+use Rattle.std.specs.Int.{w16, w32, from_le_bytes, to_le_bytes}
+use Rattle.vb_model.specs.Limits.{page_size}
+use Rattle.vb_ram.specs.Pages.{Pages, frame_at, Covers, Wrote}
+use Rattle.vb_request.specs.Request.{bytes_from, each_once}
+use Rattle.vb_device.specs.Discards.{discarded, frames_behind, flagged}
+use Rattle.vb_core.specs.declared.kinds.Kind.{Kind}
+use Rattle.vb_core.specs.declared.kinds.Kind.TheVariants.{Inflate, Deflate, Statistics, Report}
+use Rattle.vb_core.specs.declared.runs.Run.{Run}
+use Rattle.vb_core.specs.Runs.{pages_of_runs}
+use Rattle.vb_monitor.specs.declared.cuts.Cut.{Cut}
+use Rattle.vb_monitor.specs.Accesses.{Access, ReadWord, CopyBytes, Acquire, Release, Full}
+use Rattle.vb_monitor.specs.Accesses.{TellPages, TellFigures, Discard, WriteNumber, WriteWord}
+
+-- Guest memory, the numbers of the frames that were taken from its pages and are kept, and which
+-- pages are ballooned.
+pub record Store : Type 0 where
+  pub mem : Pages
+  pub loose : List ℕ
+  pub ballooned : List Bool
+
+-- The pages of a part that is discarded.
+abbrev pub pages_of_cut : Cut → List ℕ
+pages_of_cut cut = range_with_len (cut.offset / page_size) (cut.length / page_size)
+
+-- Bytes were put at an address, where its page has a frame and all of them; elsewhere nothing was.
+pub record Puts (a : ℕ) (bytes : List ℕ) (s t : Store) : Type 0 where
+  pub loose : t.loose ≡ s.loose
+  pub ballooned : t.ballooned ≡ s.ballooned
+  pub put : Covers s.mem (a / page_size) (a % page_size) (length bytes) →
+      IsSome (frame_at s.mem (a / page_size)) →
+      Wrote s.mem t.mem (a / page_size) (a % page_size) bytes
+  pub kept : (¬ (Covers s.mem (a / page_size) (a % page_size) (length bytes))) →
+      t.mem ≡ s.mem
+  pub bare : frame_at s.mem (a / page_size) ≡ None → t.mem ≡ s.mem
+
+-- The flags of the ballooned pages once these runs were told: an inflate's pages are put in, a
+-- deflate's are taken out.
+abbrev pub marked_by : Kind → List Run → List Bool → List Bool
+marked_by Inflate runs flags = flagged (pages_of_runs runs) true flags
+marked_by Deflate runs flags = flagged (pages_of_runs runs) false flags
+marked_by Statistics runs flags = flags
+marked_by Report runs flags = flags
+
+abbrev pub with_marks : Kind → List Run → Store → Store
+with_marks kind runs s = record s { ballooned = marked_by kind runs s.ballooned }
+
+-- What an access makes of memory, which is one region: what is read is what memory has then, as
+-- zeros where a page has no frame; what is told is ballooned, or no more; what is discarded loses
+-- its frames, which are loose then.
+abbrev pub After : Store → Access → Store → Type 0
+After s (ReadWord at answer) t =
+    (answer ≡ from_le_bytes w16 (bytes_from s.mem at.offset 2)) × (t ≡ s)
+After s (CopyBytes at answer) t =
+    (answer ≡ bytes_from s.mem at.offset (length answer)) × (t ≡ s)
+After s Acquire t = t ≡ s
+After s Release t = t ≡ s
+After s Full t = t ≡ s
+After s (TellPages kind runs named) t = t ≡ with_marks kind runs s
+After s (TellFigures figures) t = t ≡ s
+After s (Discard cut) t =
+    (t.mem ≡ discarded (pages_of_cut cut) s.mem)
+    × (t.loose ≡ s.loose ++ frames_behind s.mem (each_once (pages_of_cut cut)))
+    × (t.ballooned ≡ s.ballooned)
+After s (WriteNumber at number) t = Puts at.offset (to_le_bytes w32 number) s t
+After s (WriteWord at word) t = Puts at.offset (to_le_bytes w16 word) s t
