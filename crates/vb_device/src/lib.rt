@@ -19,7 +19,6 @@ mod worked;
 pub use balloon::{BalloonDevice, ImmediateDevice, PacedDevice};
 pub use claimed::Claimed;
 pub use device::Device;
-pub use discarding::discard_page;
 pub use pace::{Immediate, Pace, Paced};
 pub use vb_request::Statistics;
 pub use worked::Worked;
