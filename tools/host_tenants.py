@@ -248,7 +248,7 @@ def ends_by_signals(bench):
             host.add("a"), host.add("b")
             host.process.send_signal(number)
             left = (host.process.wait(LIMIT), os.listdir(folder))
-            demand(left == (0, ["backend.log"]), f"behind signal {number} there are {left}")
+            demand(left == (0, ["backend.log"]), f"after signal {number} there are {left}")
             host.process.stdin.close(), host.process.stdout.close()
     for word, said in (("--help", "vhost_user_host FOLDER --budget MIB"), ("--version", "vhost_user_host ")):
         ran = subprocess.run([program, word], stdin=subprocess.DEVNULL, capture_output=True, text=True, timeout=LIMIT)

@@ -259,7 +259,7 @@ class Events(Lives):
         os.set_blocking(event, True)
         client.describe(INFLATE, 0, BUFFERS, 4)
         client.publish(INFLATE, 0)
-        os.eventfd_write(event, 1)  # whoever takes it, the other one finds nothing, and doesn't wait
+        os.eventfd_write(event, 1)  # one of the two takes it; the other one finds nothing, and doesn't wait
         self.assertEqual((client.called(INFLATE), client.used(INFLATE)[0], client.counter("kicks")), (1, 1, 1))
         os.close(event)
 

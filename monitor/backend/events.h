@@ -1,5 +1,5 @@
 /* Files by which two processes tell each other that something has happened: eventfds, and pipes and sockets for one way of the
- * two. A file of another sort is refused: its other end, or whoever else has it open, could make this process wait, or never
+ * two. A file of another sort is refused: its other end, or another process that has it open, could make this process wait, or never
  * rest. */
 #ifndef EVENTS_H
 #define EVENTS_H

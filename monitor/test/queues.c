@@ -6,7 +6,7 @@ static VbQueueStart there(uint32_t kind, uint16_t size, uint16_t next)
     return (VbQueueStart){ table_of(kind), avail_of(kind), used_of(kind), size, next };
 }
 
-/* The driver's rings after so many requests, each of which was given back. */
+/* The driver's rings after a number of requests, each of which was given back. */
 static void leave_rings(struct guest *guest, uint32_t kind, uint16_t next)
 {
     guest->published[kind] = next;
