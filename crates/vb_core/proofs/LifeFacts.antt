@@ -6,7 +6,7 @@ use Rattle.vb_core.specs.declared.kinds.Kind.{Kind, TheVariants.{Inflate, Deflat
 use Rattle.vb_core.specs.declared.ring.Virtqueue.{Virtqueue}
 use Rattle.vb_core.specs.{Ballooned.{puts_in, pages_with_bits}, Kinds.{queue_of, kinds}, Name.is_request}
 use Rattle.vb_core.specs.Devices.{placed, ring_of, with_ring, with_one_taken, needing_reset}
-use Rattle.vb_core.specs.{Devices.{queue_denial, place_denial}, Next.{is_read, device_end}}
+use Rattle.vb_core.specs.{Devices.{queue_denial, place_denial}, Next.device_end}
 use Rattle.vb_core.specs.Copies.{copied_layout}
 use Rattle.vb_core.{proofs.Examples.{settings, fresh}, specs.Rings.{with_taken, with_used}}
 use lib.Count
@@ -97,9 +97,6 @@ in_order = refl
 
 requests : map is_request all ≡ true ∷ true ∷ false ∷ false ∷ []
 requests = refl
-
-reads : map is_read all ≡ true ∷ true ∷ true ∷ false ∷ []
-reads = refl
 
 puts : map puts_in all ≡ true ∷ false ∷ false ∷ false ∷ []
 puts = refl
