@@ -30,7 +30,7 @@ VHOST_PARTS = tuple(
 CLIENT_PARTS = {
     "vhost_user_balloon": ("backend/loop", "backend/state", *VHOST_PARTS),
     "pci_proxy_balloon": ("backend/loop", "backend/state", "backend/virtio_pci"),
-    "vhost_user_host": (*VHOST_PARTS, *(f"host/{it}" for it in ("journal", "lines", "loop", "marks", "policy", "seats"))),
+    "vhost_user_host": (*VHOST_PARTS, *(f"host/{it}" for it in ("journal", "lines", "loop", "marks", "policy", "seats", "view"))),
 }
 AUDIT_PARTS = ("backend/audit", "backend/wrong")
 FLAGS = ("-std=c11", "-O2", "-Wall", "-Wextra", "-Werror")
