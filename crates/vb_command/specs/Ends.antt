@@ -8,7 +8,8 @@ use Rattle.vb_script.specs.Texts.{Said, script_of}
 use Rattle.vb_command.specs.Faults.{IfBadLine, UnlessStream, status_of}
 use Rattle.vb_command.specs.Plays.{Prints}
 use Rattle.vb_command.specs.declared.fault.ProgramFault.{ProgramFault}
-use Rattle.vb_command.specs.declared.fault.ProgramFault.TheVariants.{BadLine, BadPlan, Memory, Audit}
+use Rattle.vb_command.specs.declared.fault.ProgramFault.TheVariants.{BadLine, BadPlan, Memory}
+use Rattle.vb_command.specs.declared.fault.ProgramFault.TheVariants.{Audit}
 use Rattle.vb_command.specs.declared.fault.ProgramFault.TheVariants.{Stream}
 
 -- what standard error says of a fault

@@ -11,7 +11,8 @@ use Rattle.vb_script.specs.declared.reading.ScriptFault.{ScriptFault}
 use Rattle.vb_script.specs.declared.reading.ScriptFault.TheVariants.{BadLine, Memory}
 use Rattle.vb_command.specs.declared.fault.ProgramFault.{ProgramFault}
 use Rattle.vb_command.specs.declared.fault.ProgramFault.TheVariants.{BadLine as BadLineOf, BadPlan}
-use Rattle.vb_command.specs.declared.fault.ProgramFault.TheVariants.{Memory as NoMemory, Audit, Stream}
+use Rattle.vb_command.specs.declared.fault.ProgramFault.TheVariants.{Memory as NoMemory}
+use Rattle.vb_command.specs.declared.fault.ProgramFault.TheVariants.{Audit, Stream}
 
 abbrev pub fault_of : ScriptFault → ProgramFault
 fault_of (BadLine number) = BadLineOf number

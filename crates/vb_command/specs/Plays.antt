@@ -9,7 +9,8 @@ use Rattle.vb_reply.specs.Replies.{line_of}
 use Rattle.vb_script.specs.Lines.{is_paced}
 use Rattle.vb_script.specs.Texts.{Said}
 use Rattle.vb_command.specs.declared.fault.ProgramFault.{ProgramFault}
-use Rattle.vb_command.specs.declared.fault.ProgramFault.TheVariants.{BadLine, BadPlan, Memory, Audit}
+use Rattle.vb_command.specs.declared.fault.ProgramFault.TheVariants.{BadLine, BadPlan, Memory}
+use Rattle.vb_command.specs.declared.fault.ProgramFault.TheVariants.{Audit}
 use Rattle.vb_command.specs.declared.fault.ProgramFault.TheVariants.{Stream}
 
 -- the host before anything happens: the script's frames, and its spare devices in their order

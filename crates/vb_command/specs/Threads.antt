@@ -16,7 +16,8 @@ use Rattle.vb_command.specs.Ends.{IsWithinBound, Says, fault_line}
 use Rattle.vb_command.specs.Faults.{IfRead, UnlessStream, status_of}
 use Rattle.vb_command.specs.Plans.{IsPlanOf, can_run, lacks_plan, makes_plan}
 use Rattle.vb_command.specs.declared.fault.ProgramFault.{ProgramFault}
-use Rattle.vb_command.specs.declared.fault.ProgramFault.TheVariants.{BadLine, BadPlan, Memory, Audit}
+use Rattle.vb_command.specs.declared.fault.ProgramFault.TheVariants.{BadLine, BadPlan, Memory}
+use Rattle.vb_command.specs.declared.fault.ProgramFault.TheVariants.{Audit}
 use Rattle.vb_command.specs.declared.fault.ProgramFault.TheVariants.{Stream}
 
 -- how many calls all scripts of a guest have

@@ -8,7 +8,8 @@ ghost use Rattle.vb_script.specs.Texts.{begins_with_host, script_of};
 ghost use Rattle.vb_command.specs.Ends.{Ends, IsWithinBound};
 ghost use Rattle.vb_command.specs.Faults.{IfBadLine, UnlessStream};
 ghost use Rattle.vb_command.specs.Plays.{MayGet, Prints, RunsSafely};
-ghost use Rattle.vb_command.specs.declared.fault.ProgramFault.TheVariants.{Memory as NoMemory, Stream};
+ghost use Rattle.vb_command.specs.declared.fault.ProgramFault.TheVariants.{Memory as NoMemory};
+ghost use Rattle.vb_command.specs.declared.fault.ProgramFault.TheVariants.{Stream};
 
 use crate::fault::{ProgramFault, SUCCESS, report};
 use crate::host::Host;

@@ -10,6 +10,9 @@ use std::sync::Wait;
 use std::thread::Threads;
 use vb_command::{ArgumentsFault, Play, run_command, run_script_on};
 
+/// The line in place of command lines where a script isn't for the program's.
+const NO_COMMAND: &str = "-";
+
 /// How often each device of the host `full` finds no memory for its guest.
 static REFUSALS: [u32; 2] = [2, 1];
 
@@ -26,7 +29,7 @@ where
     };
     let script = Script::read(rt, name)?;
     for command in script.commands.lines() {
-        if !is_written_by(rt, &script, command) {
+        if command != NO_COMMAND && !is_written_by(rt, &script, command) {
             return Ok(Some(String::from_str(rt.alloc(), command)?));
         }
     }
@@ -42,7 +45,13 @@ where
         let is_written = match host {
             "leased" => is_written_on(alloc, script, &mut Leasing),
             "listed" => is_written_on(alloc, script, &mut Listing { refusals: &[] }),
-            "full" => is_written_on(alloc, script, &mut Listing { refusals: &REFUSALS }),
+            "full" => is_written_on(
+                alloc,
+                script,
+                &mut Listing {
+                    refusals: &REFUSALS,
+                },
+            ),
             _ => return Err(io::Error::from(io::ErrorKind::InvalidData)),
         };
         if !is_written {

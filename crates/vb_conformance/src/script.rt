@@ -10,7 +10,7 @@ use std::{fs, io};
 #[derive(Drop)]
 pub struct Script {
     /// The command lines that it is run by: a line for each, with the words after the program's
-    /// name.
+    /// name; or the line `-`, by none.
     pub commands: String,
     /// The script itself.
     pub text: Vec<u8>,
