@@ -32,7 +32,7 @@ VHOST_PARTS = tuple(
 CLIENT_PARTS = {
     "vhost_user_balloon": ("guest/loop", "guest/state", *VHOST_PARTS),
     "pci_proxy_balloon": ("guest/loop", "guest/state", "guest/virtio_pci"),
-    "vhost_user_host": (*VHOST_PARTS, *(f"host/{it}" for it in ("journal", "lines", "loop", "marks", "policy", "seats"))),
+    "vhost_user_host": (*VHOST_PARTS, *(f"host/{it}" for it in ("journal", "lines", "loop", "marks", "policy", "seats", "view"))),
 }
 AUDIT_PARTS = ("guest/audit", "../tests/mutants/wrong_device")
 FLAGS = ("-std=c11", "-O2", "-Wall", "-Wextra", "-Werror")

@@ -20,7 +20,7 @@ void process_allow_files(unsigned wanted);
 int process_end(void);
 
 /* The most files that poll_some waits for at once. */
-enum { MOST_POLLED = 512 };
+enum { MOST_POLLED = 1024 };
 
 /* As poll, for at most MOST_POLLED files of which some may be -1, whatever RLIMIT_NOFILE is. Where it can't wait, which is said,
  * it comes back after a while, and nothing has come. */

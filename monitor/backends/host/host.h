@@ -5,6 +5,7 @@
 #include "../guest/backend.h"
 #include "../guest/guard.h"
 #include "../guest/inbox.h"
+#include "extra.h"
 
 enum {
     MOST_GUESTS = 64,
@@ -74,10 +75,9 @@ struct host {
     struct host_counters counters;
     struct decision log[MOST_DECISIONS];        /* the last ones: decision n stands at n % MOST_DECISIONS */
     uint64_t printed;           /* how many decisions `log` has printed or lost */
+    struct host_extra extras[MOST_EXTRAS];
+    unsigned extra_count;
 };
-
-/* The monotonic clock, in milliseconds. */
-int64_t host_now(void);
 
 /* The guests, the budget or the floor have changed: targets are decided anew at the next look. */
 void host_changed(struct host *host, enum reason reason);

@@ -59,8 +59,38 @@ static int obey(void *host, const char *line)
 }
 
 /* What is waited for: the control pipe, the signals that end it, and of each seat its socket and the kicks of its queues. */
-enum { PIPE, END, SEATS, OF_SEAT = 1 + QUEUES, MOST_FILES_OF_ALL = SEATS + MOST_GUESTS * OF_SEAT };
+enum { PIPE, END, SEATS, OF_SEAT = 1 + QUEUES, EXTRAS = SEATS + MOST_GUESTS * OF_SEAT };
+enum { MOST_FILES_OF_ALL = EXTRAS + MOST_EXTRAS * MOST_EXTRA_FILES };
 _Static_assert((int)MOST_FILES_OF_ALL <= (int)MOST_POLLED, "files of a host");
+
+bool host_add_extra(struct host *host, struct host_extra extra)
+{
+    if (host->extra_count == MOST_EXTRAS)
+        return false;
+    host->extras[host->extra_count++] = extra;
+    return true;
+}
+
+/* Adds the files of all extras after `at` others, and notes where each one's begin; returns when one of them wants a turn. */
+static int64_t wait_for_extras(struct host *host, struct pollfd *files, nfds_t *at, nfds_t begins[MOST_EXTRAS + 1])
+{
+    int64_t next = INT64_MAX;
+    for (unsigned i = 0; i < host->extra_count; i++) {
+        const struct host_extra *extra = &host->extras[i];
+        int64_t wants = extra->next ? extra->next(extra->context) : INT64_MAX;
+        begins[i] = *at;
+        *at += extra->files(extra->context, files + *at, MOST_EXTRA_FILES);
+        next = wants < next ? wants : next;
+    }
+    begins[host->extra_count] = *at;
+    return next;
+}
+
+static void serve_extras(struct host *host, const struct pollfd *files, const nfds_t begins[MOST_EXTRAS + 1])
+{
+    for (unsigned i = 0; i < host->extra_count; i++)
+        host->extras[i].serve(host->extras[i].context, host, files + begins[i], (unsigned)(begins[i + 1] - begins[i]));
+}
 
 /* The file on which a seat's client, or what it sends, comes; -1: none is looked at. */
 static int client_of(const struct seat *seat, bool rests)
@@ -77,8 +107,9 @@ static bool has_work(const struct seat *seat)
 }
 
 /* Waits until something has come, at most so long. */
-static void wait_for(struct host *host, struct pollfd *files, int64_t left)
+static void wait_for(struct host *host, struct pollfd *files, nfds_t begins[MOST_EXTRAS + 1], int64_t left)
 {
+    nfds_t count = SEATS + host->count * OF_SEAT;
     int64_t rest = host->rests_until - host_now();
     files[PIPE] = (struct pollfd){STDIN_FILENO, POLLIN, 0};
     files[END] = (struct pollfd){host->end, POLLIN, 0};
@@ -93,7 +124,9 @@ static void wait_for(struct host *host, struct pollfd *files, int64_t left)
         else if (has_work(seat) && left > POLL_EVERY)
             left = POLL_EVERY;
     }
-    poll_some(files, SEATS + host->count * OF_SEAT, left < 0 ? 0 : (int)left);
+    int64_t next = wait_for_extras(host, files, &count, begins) - host_now();
+    left = next < left ? next : left;
+    poll_some(files, count, left < 0 ? 0 : (int)left);
 }
 
 /* Whether a kick has come. */
@@ -125,11 +158,13 @@ static void serve(struct host *host, const struct pollfd *files)
 int host_run(struct host *host)
 {
     struct pollfd files[MOST_FILES_OF_ALL];
+    nfds_t begins[MOST_EXTRAS + 1];
     struct control_line line = {.length = 0};
     int64_t next = host_now() + host->period;
     for (bool asks = true;;) {
-        wait_for(host, files, next - host_now());
+        wait_for(host, files, begins, next - host_now());
         serve(host, files);
+        serve_extras(host, files, begins);
         if (files[END].revents || (files[PIPE].revents && control_read(&line, obey, host) <= 0))
             return 0;
         if (host->news)
