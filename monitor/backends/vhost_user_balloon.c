@@ -19,9 +19,9 @@
  * and a backend that finds one there goes on with its target and its `actual`. --lines: what is said in a second at most (20).
  * --help and --version are answered.
  */
-#include "backend/backend.h"
-#include "backend/inbox.h"
-#include "backend/state.h"
+#include "guest/backend.h"
+#include "guest/inbox.h"
+#include "guest/state.h"
 
 #include <errno.h>
 #include <stdio.h>

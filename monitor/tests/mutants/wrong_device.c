@@ -7,8 +7,8 @@
  *     4  adds two to the used index
  *     5  discards nothing of an inflate
  */
-#include "wrong.h"
-#include "audit.h"
+#include "wrong_device.h"
+#include "../../backends/guest/audit.h"
 
 #include <poll.h>
 #include <stdlib.h>

@@ -1,4 +1,4 @@
-#include "../balloon.h"
+#include "balloon.h"
 
 #include "counters.h"
 

@@ -24,7 +24,7 @@
  *     old-kernel        it isn't known of an eventfd whether it is a semaphore, as before Linux 6.5
  *     bad-disk          no file can be kept on the disk
  */
-#include "handlers.h"
+#include "../../backends/guest/handlers.h"
 
 #include <stdlib.h>
 #include <unistd.h>

@@ -1,8 +1,8 @@
 /* Looks at a device while it serves, from the guest's bytes alone. It reads rings and requests by itself, in order of
  * the positions on the ring, as the device serves them. */
 #include "audit.h"
-#include "../ring_layout.h"
-#include "wrong.h"
+#include "ring_layout.h"
+#include "../../tests/mutants/wrong_device.h"
 
 #include <inttypes.h>
 #include <stdarg.h>

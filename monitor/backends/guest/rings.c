@@ -1,5 +1,5 @@
 #include "backend.h"
-#include "../ring_layout.h"
+#include "ring_layout.h"
 #include "vhost_user.h"
 
 /* The statuses of a driver that starts (VIRTIO 1.1, 2.1). */

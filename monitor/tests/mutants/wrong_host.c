@@ -10,7 +10,7 @@
  *     7  doesn't decide anew when the floor changes
  *     8  a region that comes back has the pages in the balloon that the one before had there
  */
-#include "host.h"
+#include "../../backends/host/host.h"
 
 #include <stdlib.h>
 

@@ -2,9 +2,9 @@
  * host's budget suffices. */
 #ifndef HOST_H
 #define HOST_H
-#include "../backend/backend.h"
-#include "../backend/guard.h"
-#include "../backend/inbox.h"
+#include "../guest/backend.h"
+#include "../guest/guard.h"
+#include "../guest/inbox.h"
 #include "extra.h"
 
 enum {

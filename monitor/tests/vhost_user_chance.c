@@ -7,7 +7,7 @@
  * how often it came. Its status is 1 where the backend can't be reached any longer.
  */
 #define _GNU_SOURCE
-#include "backend/vhost_user.h"
+#include "../backends/guest/vhost_user.h"
 
 #include <errno.h>
 #include <fcntl.h>

@@ -1,7 +1,7 @@
 /* What the parts of lending.c share. */
 #ifndef LENDING_H
 #define LENDING_H
-#include "../reference/calls.h"
+#include "../../reference/calls.h"
 #include <stdbool.h>
 
 enum { MOST_GUESTS = 6 };

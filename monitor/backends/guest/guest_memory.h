@@ -1,7 +1,7 @@
 /* A guest's memory, as a vhost-user client hands it over: regions of files, mapped here. */
 #ifndef GUEST_MEMORY_H
 #define GUEST_MEMORY_H
-#include "../balloon.h"
+#include "balloon.h"
 
 enum { MOST_REGIONS = 32 };
 

@@ -8,8 +8,8 @@
  * QEMU hands interrupts of such a device over to KVM alone. Without KVM the guest has to look by itself: Linux does,
  * with `irqpoll` on its command line.
  */
-#include "backend/virtio_pci.h"
-#include "backend/stream.h"
+#include "guest/virtio_pci.h"
+#include "guest/stream.h"
 
 #include <limits.h>
 #include <stdio.h>

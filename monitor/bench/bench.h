@@ -1,7 +1,7 @@
 /* The bench's sides: a notice through balloon.h and the library, one by hand, and none at all. */
 #ifndef BENCH_H
 #define BENCH_H
-#include "guest.h"
+#include "../tests/guest.h"
 
 /* How often a driver would have been interrupted. */
 extern uint64_t interrupts;

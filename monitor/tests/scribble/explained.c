@@ -1,6 +1,6 @@
 /* Each thing that the library says is explained: the plain implementation says the same of the same answers. */
 #include "scribble.h"
-#include "../reference/calls.h"
+#include "../../reference/calls.h"
 
 /* Calls of the library that are explained: the linker puts the second ones in the place of the first ones. */
 uint32_t __real_vb_begin(VbNotice *, VbBalloon *, const VbRegion *, size_t, VbRoom *, uint32_t, uint32_t, uint32_t, uint32_t);

@@ -2,7 +2,7 @@
 #ifndef ANY_H
 #define ANY_H
 #include "../guest.h"
-#include "../reference/calls.h"
+#include "../../reference/calls.h"
 
 enum { ARENA = 16 * 4096 };
 
