@@ -32,18 +32,18 @@ none_some : (o : Option Refusal) (x : Refusal) → o ≡ None → o ≡ Some x �
 none_some o x a b = cc
 
 -- the first causes decide where one of them holds, and else those behind them do
-first_stands : (causes more : List Cause) (why : Refusal) → first_refusal causes ≡ Some why
+pub first_stands : (causes more : List Cause) (why : Refusal) → first_refusal causes ≡ Some why
     → first_refusal (causes ++ more) ≡ Some why
 first_stands [] more why e = absurd cc
 first_stands (cause ∷ causes) more why e = grind (arith, first_stands causes more why)
 
-first_passes : (causes more : List Cause) → first_refusal causes ≡ None
+pub first_passes : (causes more : List Cause) → first_refusal causes ≡ None
     → first_refusal (causes ++ more) ≡ first_refusal more
 first_passes [] more e = refl
 first_passes (cause ∷ causes) more e = grind (arith, first_passes causes more)
 
 -- what a take is refused for before the taken chains are counted
-abbrev first_causes : ℕ → ℕ → ℕ → List Cause
+abbrev pub first_causes : ℕ → ℕ → ℕ → List Cause
 first_causes q s f = (not (has_chains q) ⇒ NoQueue) ∷ (is_not_ready s ⇒ NotReady)
     ∷ (has_fault s ⇒ NeedsReset) ∷ (lacks_feature f q ⇒ NoQueue) ∷ []
 

@@ -19,7 +19,7 @@ use Rattle.vb_ram.specs.Part.{Part}
 use Rattle.vb_ring.specs.Layout.{IsBacked}
 use Rattle.vb_ring.specs.Calls.{AddsUsedBy}
 use Rattle.vb_device.specs.Queues.{queue_part, with_queue, queue_layout, queue_end}
-use Rattle.vb_device.specs.Conditions.{finish_refusal, ask_refusal, taken_at}
+use Rattle.vb_device.specs.Conditions.{use_refusal, ask_refusal, taken_at}
 use Rattle.vb_device.specs.Discards.{discarded, frames_behind, flagged}
 use Rattle.vb_device.specs.Calls.{without_frames, lost_frames, settled}
 
@@ -78,12 +78,13 @@ taken_out q index pages mem part =
     (record part { loose = with_lost q mem pages part.loose })
 
 -- All of a finish but for the used entry: the request is taken out, its pages are flagged, and
--- nothing is written.
-pub record SettlesBy (q index : ℕ) (m1 m2 : Pages) (p1 p2 : Part)
+-- nothing is written. Its pages are to be visited first, or aren't.
+pub record SettlesBy (visits : Bool) (q index : ℕ) (m1 m2 : Pages) (p1 p2 : Part)
     (result : Result ℕ Refusal) : Type 0 where
-  pub refused : (why : Refusal) → finish_refusal q index p1 ≡ Some why →
+  pub refused : (why : Refusal) → use_refusal visits q index p1 ≡ Some why →
       (result ≡ Err why) × (p2 ≡ p1) × (m2 ≡ m1)
-  pub settled : (r : Request) → finish_refusal q index p1 ≡ None → taken_at q index p1 ≡ Some r →
+  pub settled : (r : Request) → use_refusal visits q index p1 ≡ None →
+      taken_at q index p1 ≡ Some r →
       (result ≡ Ok r.head) × (m2 ≡ without_frames q r.pages m1) ×
       (p2 ≡ settled q r.pages (taken_out q index r.pages m1 p1))
 

@@ -211,9 +211,24 @@ impl<P: Pace> Device for BalloonDevice<P> {
     }
 
     fn finish(&mut self, queue: u32, index: u32) -> Result<u16, Refusal> {
-        let head = self.settle(queue, index)?;
+        let visits = self.paced();
+        let head = self.settle(queue, index, visits)?;
         self.use_chain(queue, head);
         Ok(head)
+    }
+
+    fn serve(&mut self, queue: u32) -> Result<Option<u16>, Refusal> {
+        if let Some(why) = self.serve_refusal(queue) {
+            return Err(why);
+        }
+        match self.take(queue) {
+            Err(why) => Err(why),
+            Ok(None) => Ok(None),
+            Ok(Some(head)) => {
+                self.use_first(queue);
+                Ok(Some(head))
+            }
+        }
     }
 
     fn sweep(&mut self, page: u32) -> Result<bool, Refusal> {

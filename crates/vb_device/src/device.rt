@@ -11,7 +11,7 @@ ghost use Rattle.vb_ram.specs.Pages.{frame_at, Supplied, IsWhole};
 ghost use Rattle.vb_ring.specs.Layout.{IsBacked};
 ghost use Rattle.vb_device.specs.Queues.{queue_layout};
 ghost use Rattle.vb_device.specs.Calls.{IsUnused, attached, TakesBy, WorksBy, FinishesBy};
-ghost use Rattle.vb_device.specs.Calls.{AsksBy, SweepsBy, DetachesBy, PopsLoose};
+ghost use Rattle.vb_device.specs.Calls.{AsksBy, ServesBy, SweepsBy, DetachesBy, PopsLoose};
 ghost use Rattle.vb_device.specs.Calls.{HandsBack, Claims};
 ghost use Rattle.vb_device.specs.Calls.{IsAnswered, PutsBack};
 
@@ -115,6 +115,20 @@ pub trait Device: Port + Drop {
             IsBacked (Self.mem self.old) (queue_layout queue (Self.part self.old)) }
         requires none { (Self.part self.old).loose ≡ [] }
         ensures { FinishesBy queue index (Self.mem self.old) (Self.mem self.new)
+            (Self.part self.old) (Self.part self.new) result };
+
+    /// Serves the next chain that the driver has made available on a queue: takes it, visits each
+    /// of its pages, whatever the device's pace, and uses it; answers its head, or none where no
+    /// chain is available. A buffer of statistics (2) is taken alone, and stays taken.
+    ///
+    /// Refused with `NoQueue`, `NotReady`, `NeedsReset`, `NoQueue` where the queue's feature wasn't
+    /// accepted, and `Busy` where any chain of the queue is taken, tested in this order; then with
+    /// `Broken` as a take is: DEVICE_NEEDS_RESET is set then. Nothing else is changed by a refusal.
+    fn serve(&mut self, queue: u32) -> Result<Option<u16>, Refusal>
+        requires backed { contains (Self.part self.old).status driver_ok ≡ true →
+            IsBacked (Self.mem self.old) (queue_layout queue (Self.part self.old)) }
+        requires none { (Self.part self.old).loose ≡ [] }
+        ensures { ServesBy queue (Self.mem self.old) (Self.mem self.new)
             (Self.part self.old) (Self.part self.new) result };
 
     /// Takes the frame of a ballooned page away; answers whether it had one.

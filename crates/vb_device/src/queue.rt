@@ -1,7 +1,8 @@
 //! A queue: the device's end of its ring, and the chains that were taken.
 
 ghost use Rattle.std.specs.Prelude.{◌≡◌, ◌<◌, ◌≤◌, ◌+◌, [], ◌++◌, ◌∷◌, All, IfNone, IfOk, OnOk};
-ghost use Rattle.std.specs.Prelude.{OnErr, Some, IsTrue, true, false, nat_le, length, slice_get};
+ghost use Rattle.std.specs.Prelude.{OnErr, Some, IsTrue, true, false, nat_le, nat_lt, not, length};
+ghost use Rattle.std.specs.Prelude.{slice_get};
 ghost use Rattle.std.specs.Prelude.{remove, is_some, count_by, vec_capacity};
 ghost use Rattle.vb_model.specs.Requests.{Request};
 ghost use Rattle.vb_device.specs.Base.{numbers_of_frames};
@@ -87,6 +88,13 @@ impl DeviceQueue {
     {
         self.taken.clear();
         self.queue.set_ready(ready);
+    }
+
+    /// Whether no chain is taken.
+    pub(crate) fn is_idle(&self) -> bool
+        ensures { result ≡ not (nat_lt 0 (length self.now.taken)) }
+    {
+        self.taken.as_slice().is_empty()
     }
 
     /// Whether as many chains are taken as may be.

@@ -1,6 +1,6 @@
 -- What the calls on a guest promise of whatever it stands for, and what a write, a keeper and a buffer
 -- are told apart by.
-use Rattle.std.proofs.Common.{◌≡◌, ◌↔◌, ℕ, true, false, List, [], ◌∷◌, refl}
+use Rattle.std.proofs.Common.{◌≡◌, ◌↔◌, true, false, List, [], ◌∷◌, refl}
 use Rattle.std.specs.Prelude.{Bool, Result, Err}
 use Rattle.vb_model.specs.declared.{calls.Call.Call, calls.Claim.Claim, calls.Query.Query}
 use Rattle.vb_model.specs.declared.{replies.Reply.Reply, replies.Refusal.Refusal}

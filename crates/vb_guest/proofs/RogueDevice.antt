@@ -103,7 +103,7 @@ changes_back {size} {n} {p1} {p} changes is =
     record { inflates = after.inflates; reports = after.reports } in
     subst (PartChanges size n p1) (sym (ap handed_back is)) (assumption own)
 
-none_of : (b : Bool) {x : Option ℕ} (frame : ℕ)
+pub none_of : (b : Bool) {x : Option ℕ} (frame : ℕ)
     → (if b then None else x) ≡ Some frame → x ≡ Some frame
 none_of x frame e = grind arith
 

@@ -5,6 +5,7 @@ use Rattle.std.proofs.lemmas.{Bool.{and_parts, cases_lt, true_from_ne_false}, Li
 use Rattle.std.proofs.lemmas.List.{length-map, FromFn.get_or-map-range_with_len}
 use Rattle.std.{proofs.lemmas.{List.FromFn.length-range_with_len, Nat.pow_pos}, specs.Prelude.None}
 use Rattle.{std.specs.Prelude.{Option, Some, nat_lt, slice_get}, vb_model.specs.Life.Negotiates}
+use Rattle.vb_model.proofs.{Deeds.Has_served, Serving.serving_keeps}
 use Rattle.vb_model.proofs.{Cases.{supplied, wholly_free_pages}, Deeds.{Aimed, Allocated, Buffered}}
 use Rattle.vb_model.proofs.Deeds.{Deed, Freed, Has_finished, Has_posted, Has_reaped, Has_scribbled}
 use Rattle.vb_model.proofs.Deeds.{Has_swept, Has_taken, Has_written, Initialised, IsPosting, Stayed}
@@ -147,7 +148,7 @@ kept_work kind page g h = grind (
   orderly_work _ g.report h.reporting,
 )
 
-kept_finish : (kind : Kind) (i : ℕ) (r : Request) (g : Guest) → IsOrderly g
+pub kept_finish : (kind : Kind) (i : ℕ) (r : Request) (g : Guest) → IsOrderly g
     → slice_get (requests kind g).taken i ≡ Some r
     → IsOrderly (settled kind r.pages (used kind i r g))
 kept_finish kind i r g h e =
@@ -225,6 +226,9 @@ order call g claims reply new c h (Visited kind page named other told e) honest 
     subst IsOrderly (sym e) (kept_work kind page g h)
 order call g claims reply new c h (Has_finished kind i r is told e) honest =
     subst IsOrderly (sym e) (kept_finish kind i r g h is)
+order call g claims reply new c h (Has_served kind chains s told) honest = serving_keeps kind
+    IsOrderly (λ x r rest posted o. kept_take kind x r rest o posted)
+    (λ x r is o. kept_finish kind 0 r x o is) (requests kind g).posted 0 g reply new refl s h
 order call g claims reply new c h (Has_swept page flag tells told e) honest =
     subst IsOrderly (sym e) h
 order call g claims reply new c h (Initialised wanted is passed n) honest =

@@ -1,5 +1,6 @@
 -- A refusal changes nothing, but for an initialisation whose features are refused.
 pub use Rattle.vb_model.proofs.Deeds.{is_refused}
+use Rattle.vb_model.proofs.Deeds.{Has_served}
 use Rattle.std.proofs.Common.{Bool, List, [], ap, false, inl, inr, refl, subst, sym, ℕ, ◌∙◌, ◌∷◌}
 use Rattle.std.{proofs.Common.◌≡◌, specs.Prelude.{None, Option, Some}}
 use Rattle.vb_model.proofs.{Cases.{match_cases, supplied}, Deeds.{Aimed, Allocated, Buffered, Deed}}
@@ -60,6 +61,7 @@ refuses call g claims refusal new (Buffered b last has told e) = absurd cc
 refuses call g claims refusal new (Visited kind page named other told e) =
     not_this refusal _ told refl
 refuses call g claims refusal new (Has_finished kind i r is told e) = not_this refusal _ told refl
+refuses call g claims refusal new (Has_served kind chains s told) = not_this refusal _ told refl
 refuses call g claims refusal new (Has_swept page flag tells told e) = not_this refusal _ told refl
 refuses call g claims refusal new (Has_written page offset bytes is passed are none w) =
     not_this refusal _ w.0 refl

@@ -9,6 +9,7 @@ use Rattle.vb_model.specs.declared.calls.Call.{Call}
 use Rattle.vb_model.specs.declared.calls.Call.TheVariants.{Read, Write}
 use Rattle.vb_model.specs.declared.replies.Refusal.TheVariants.{RingBroken, Broken}
 use Rattle.vb_model.specs.declared.replies.Reply.{Reply}
+use Rattle.vb_model.specs.declared.replies.Reply.TheVariants.{Served}
 use Rattle.vb_model.specs.declared.replies.Reply.TheVariants.{Done, ReadBytes, Refused}
 use Rattle.vb_model.specs.Tests.{is_in}
 use Rattle.vb_model.specs.Pages.{place_of, is_place}
@@ -60,6 +61,7 @@ pub record IsSafeCourse (c : Course) : Type 0 where
       → g.actual ≡ given_away g.places g.deflate
   pub not_broken : (i fault : ℕ) (call : Call) (reply : Reply) → IsCall c i call reply
       → (reply ≢ Refused (Broken fault)) × (reply ≢ Refused RingBroken)
+      × ((chains : ℕ) → reply ≢ Served chains (Some fault))
 
 -- The entries lead through states that are safe, from plug on or from a restart, with the target
 -- kept then.

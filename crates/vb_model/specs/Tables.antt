@@ -134,14 +134,23 @@ abbrev pub work_causes : ℕ → List Cause
 work_causes status =
     (is_not_ready status ⇒ NotReady) ∷ (contains status needs_reset ⇒ NeedsReset) ∷ []
 
--- of a take, before guest memory is read, where so many chains of the queue are taken
-abbrev pub take_causes : (q : ℕ) → Negotiated → (taken : ℕ) → List Cause
-take_causes q now taken =
+-- of what takes chains of the queue, before guest memory is read, where it is busy or isn't
+abbrev pub chain_causes : (q : ℕ) → Negotiated → (busy : Bool) → List Cause
+chain_causes q now busy =
     (not (is_some (kind_of_queue q) || (q == STATISTICS_QUEUE)) ⇒ NoQueue)
     ∷ work_causes now.status
     ++ (lacks_feature now.features q ⇒ NoQueue)
-    ∷ (nat_le (if q == STATISTICS_QUEUE then 1 else MAX_OUTSTANDING) taken ⇒ Busy)
+    ∷ (busy ⇒ Busy)
     ∷ []
+
+-- of a take, where so many chains of the queue are taken
+abbrev pub take_causes : (q : ℕ) → Negotiated → (taken : ℕ) → List Cause
+take_causes q now taken =
+    chain_causes q now (nat_le (if q == STATISTICS_QUEUE then 1 else MAX_OUTSTANDING) taken)
+
+-- of a serve, which none may be taken before
+abbrev pub serve_causes : (q : ℕ) → Negotiated → (taken : ℕ) → List Cause
+serve_causes q now taken = chain_causes q now (nat_lt 0 taken)
 
 -- of a finish of this taken request, if there is one
 abbrev pub finish_causes : (q : ℕ) → Negotiated → (paced : Bool) (taken : Option Request)

@@ -170,6 +170,9 @@ pub enum Reply {
     Idle,
     /// The head of the chain that was used.
     Finished { head: u32 },
+    /// How many chains of a queue were served, and which rule, from 1 to 10, the next one breaks,
+    /// if it breaks one.
+    Served { chains: u32, broken: Option<u32> },
     /// The page was swept; whether it had a frame.
     Swept { freed: bool },
     /// The statistics buffer was used.
@@ -223,6 +226,10 @@ impl Reply {
             },
             Reply::Idle => Reply::Idle,
             Reply::Finished { head } => Reply::Finished { head: *head },
+            Reply::Served { chains, broken } => Reply::Served {
+                chains: *chains,
+                broken: *broken,
+            },
             Reply::Swept { freed } => Reply::Swept { freed: *freed },
             Reply::Asked => Reply::Asked,
             Reply::Targets { pages } => Reply::Targets {

@@ -24,7 +24,7 @@ use Rattle.vb_model.specs.declared.replies.Reply.TheVariants.{Posted, Filled, No
 use Rattle.vb_model.specs.declared.replies.Reply.TheVariants.{Taken, Empty, Worked, Idle, Finished}
 use Rattle.vb_model.specs.declared.replies.Reply.TheVariants.{Swept, Asked, Targets, Places, Pages}
 use Rattle.vb_model.specs.declared.replies.Reply.TheVariants.{Balloon, Statistics, Backing, Frames}
-use Rattle.vb_model.specs.declared.replies.Reply.TheVariants.{Refused}
+use Rattle.vb_model.specs.declared.replies.Reply.TheVariants.{Refused, Served}
 
 abbrev pub refusal_text : Refusal → List ℕ
 refusal_text NoGuest = codes "no guest"
@@ -112,6 +112,9 @@ reply_text (Worked page freed) =
     codes "worked " ++ (decimal page ++ (codes " " ++ freed_text freed))
 reply_text Idle = codes "idle"
 reply_text (Finished head) = codes "finished " ++ decimal head
+reply_text (Served chains None) = codes "served " ++ decimal chains
+reply_text (Served chains (Some rule)) =
+    codes "served " ++ (decimal chains ++ (codes " broken C" ++ decimal rule))
 reply_text (Swept freed) = codes "swept " ++ freed_text freed
 reply_text Asked = codes "asked"
 reply_text (Targets pages) = targets_text pages

@@ -139,7 +139,7 @@ pub record SameBalloon (g new : Guest) : Type 0 where
   pub features : new.features ≡ g.features
   pub rogue : new.rogue ≡ g.rogue
 
-same_count : (g new : Guest) → SameBalloon g new → counted new ≡ counted g
+pub same_count : (g new : Guest) → SameBalloon g new → counted new ≡ counted g
 same_count g new s = ap (λ (r : Bool). count_of r new.features new.ballooned) s.rogue
     ∙ (ap (λ (f : ℕ). count_of g.rogue f new.ballooned) s.features
     ∙ ap (λ (flags : List Bool). count_of g.rogue g.features flags) s.flags)

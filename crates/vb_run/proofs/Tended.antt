@@ -55,7 +55,7 @@ takes_quiet : (kind : Kind) (posted : List Request) (g : Guest) (reply : Reply) 
 takes_quiet kind [] g reply new s t = s.1
 takes_quiet kind (r ∷ rest) g reply new s t = found reply _ s.0 refl t
 
--- the device's calls, but for a sweep
+-- the device's calls, but for a serve and a sweep
 abbrev is_service : Call → Bool
 is_service (Take q) = true
 is_service Work = true

@@ -177,6 +177,7 @@ fn of_two(name: TwoNumbers, guest: u32, number: u32) -> Event
         TwoNumbers::Report => on_guest(guest, Call::Report { from: number }),
         TwoNumbers::Reap => on_guest(guest, Call::Reap { queue: number }),
         TwoNumbers::Take => on_guest(guest, Call::Take { queue: number }),
+        TwoNumbers::Serve => on_guest(guest, Call::Serve { queue: number }),
         TwoNumbers::Sweep => on_guest(guest, Call::Sweep { page: number }),
         TwoNumbers::Target => on_guest(guest, Call::SetTarget { pages: number }),
         TwoNumbers::Backing => asking(guest, Query::Backing { page: number }),

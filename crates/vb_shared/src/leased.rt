@@ -126,6 +126,10 @@ impl<D: Device> Device for Leased<D> {
         self.device.finish(queue, index)
     }
 
+    fn serve(&mut self, queue: u32) -> Result<Option<u16>, Refusal> {
+        self.device.serve(queue)
+    }
+
     fn sweep(&mut self, page: u32) -> Result<bool, Refusal> {
         self.device.sweep(page)
     }

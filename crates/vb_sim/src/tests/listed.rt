@@ -243,6 +243,12 @@ impl Device for ListedDevice {
         answer
     }
 
+    fn serve(&mut self, queue: u32) -> Result<Option<u16>, Refusal> {
+        let answer = self.inner.serve(queue);
+        make_anew(&mut self.listed, &self.inner);
+        answer
+    }
+
     fn sweep(&mut self, page: u32) -> Result<bool, Refusal> {
         self.inner.sweep(page)
     }

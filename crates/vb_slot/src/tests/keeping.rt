@@ -250,6 +250,10 @@ impl Device for KeepingDevice {
         self.inner.finish(queue, index)
     }
 
+    fn serve(&mut self, queue: u32) -> Result<Option<u16>, Refusal> {
+        self.inner.serve(queue)
+    }
+
     fn sweep(&mut self, page: u32) -> Result<bool, Refusal> {
         self.inner.sweep(page)
     }

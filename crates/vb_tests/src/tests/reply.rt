@@ -52,6 +52,15 @@ fn requests(rt: HostRuntime) {
 }
 
 #[test]
+fn served_chains(rt: HostRuntime) {
+    let alloc = rt.alloc();
+    let (chains, broken) = (0, None);
+    check(&rt, alloc, Reply::Served { chains, broken }, "served 0");
+    let (chains, broken) = (256, Some(10));
+    check(&rt, alloc, Reply::Served { chains, broken }, "served 256 broken C10");
+}
+
+#[test]
 fn pages_of_the_host(rt: HostRuntime) {
     let alloc = rt.alloc();
     let (page, freed) = (16, true);
