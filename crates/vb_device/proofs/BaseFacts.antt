@@ -2,10 +2,10 @@
 use Rattle.std.proofs.Common.{◌≡◌, ◌↔◌, ℕ, ◌+◌, ◌<◌, ◌≤◌, true, false, List, [], ◌∷◌, map, refl}
 use Rattle.std.proofs.Common.{arith}
 use Rattle.std.specs.Prelude.{Some, None, Result, Ok, Err, IsSome, length, is_some}
-use Rattle.vb_model.specs.declared.replies.{Refusal.Refusal}
-use Rattle.vb_model.specs.declared.replies.Refusal.TheVariants.{NoQueue, NotReady, NeedsReset}
-use Rattle.vb_model.specs.declared.replies.Refusal.TheVariants.{NotTaken, NotWorked}
-use Rattle.vb_model.specs.Tables.{has_chains}
+use Rattle.vb_virtio.specs.declared.refusals.Refusal.{Refusal}
+use Rattle.vb_virtio.specs.declared.refusals.Refusal.TheVariants.{NoQueue, NotReady, NeedsReset}
+use Rattle.vb_virtio.specs.declared.refusals.Refusal.TheVariants.{NotTaken, NotWorked}
+use Rattle.vb_virtio.specs.Queues.{has_chains}
 use Rattle.vb_ram.specs.{Pages.{Pages, frame_at}, Part.{Part, no_part}}
 use Rattle.vb_ring.specs.{Layout.{layout_of, IsBacked}, Calls.AddsUsedBy}
 use Rattle.vb_device.specs.{QueueState.{QueueState, new_queue}}

@@ -1,9 +1,11 @@
 -- A device that keeps frames of its own, round one that keeps none.
 use Rattle.std.specs.Prelude.{◌≡◌, ℕ, ◌==◌, Bool, true, false, List, Option, Some, None, Result, Ok}
 use Rattle.std.{proofs.Common.{arith, ◌∙◌, ap}, specs.Prelude.{Err, if◌then◌else◌, refl}}
-use Rattle.vb_model.specs.{declared.replies.Refusal.{Refusal, TheVariants.Broken}, Tests.flagged}
+use Rattle.vb_virtio.specs.declared.refusals.Refusal.{Refusal}
+use Rattle.vb_virtio.specs.declared.refusals.Refusal.TheVariants.{Broken}
+use Rattle.vb_virtio.specs.Tests.{flagged}
+use Rattle.vb_virtio.specs.Queues.{Request}
 use Rattle.{vb_ram.specs.{Pages.Pages, Part.{Part, QueuePart}}, vb_device.specs.Calls.taking}
-use Rattle.vb_model.specs.Requests.{Request}
 use Rattle.vb_device.specs.Calls.{noting, using, settled, TakeMeans, TakesBy, FinishesBy, Visits}
 use Rattle.vb_device.specs.Calls.{Uses}
 use Rattle.vb_device.specs.{Calls.{WorksBy, AsksBy, DetachesBy}, declared.worked.Worked.Worked}

@@ -1,9 +1,9 @@
 -- A device that keeps frames of its own serves a chain as the one round which it stands.
 use Rattle.std.specs.Prelude.{◌≡◌, ℕ, ◌==◌, Bool, true, false, List, MatchBool, Option, Some, None}
 use Rattle.std.{proofs.Common.ap, specs.Prelude.{Result, Ok, Err}}
-use Rattle.vb_model.specs.declared.layout.TheConstants.{STATISTICS_QUEUE}
-use Rattle.vb_model.specs.declared.replies.Refusal.{Refusal}
-use Rattle.vb_model.specs.Requests.{Request}
+use Rattle.vb_virtio.specs.declared.layout.TheConstants.{STATISTICS_QUEUE}
+use Rattle.vb_virtio.specs.declared.refusals.Refusal.{Refusal}
+use Rattle.vb_virtio.specs.Queues.{Request}
 use Rattle.vb_ram.specs.{Pages.Pages, Part.Part}
 use Rattle.vb_device.specs.Calls.{FollowsTake, ServesBy, Uses}
 use Rattle.vb_device.specs.Conditions.{taken_at}

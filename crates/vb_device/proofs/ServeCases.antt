@@ -1,7 +1,8 @@
 -- What a device that serves one chain may have done: it was refused, it took, or it took and used.
 use Rattle.std.proofs.Common.{◌≡◌, ℕ, Bool, true, false, Option, Some, None, Result, Ok, Err, refl}
 use Rattle.std.specs.Prelude.{MatchBool, ◌==◌}
-use Rattle.vb_model.specs.{Requests.Request, declared.replies.Refusal.Refusal}
+use Rattle.vb_virtio.specs.Queues.{Request}
+use Rattle.vb_virtio.specs.declared.refusals.Refusal.{Refusal}
 use Rattle.vb_ram.specs.{Pages.Pages, Part.Part}
 use Rattle.vb_device.specs.Calls.{FollowsTake, ServesBy, TakesBy, Uses}
 use Rattle.vb_device.specs.Conditions.{serve_refusal, taken_at}

@@ -3,12 +3,14 @@ use Rattle.std.proofs.Common.{◌≡◌, ◌∙◌, ℕ, ◌+◌, ◌%◌, Bool,
 use Rattle.std.proofs.Common.{Option, Some, None, Ok, Err, refl, subst, sym, length}
 use Rattle.std.proofs.lemmas.Bool.{ltb-false}
 use Rattle.std.specs.Prelude.{MatchBool, if◌then◌else◌, ◌==◌, is_none, nat_lt, not, slice_get}
-use Rattle.vb_model.specs.{FirstRefusal.{◌⇒◌, first_refusal}, Layout.ring_page, Requests.Request}
-use Rattle.vb_model.specs.declared.layout.TheConstants.{STATISTICS_QUEUE}
-use Rattle.vb_model.specs.declared.replies.Refusal.{Refusal, TheVariants.{Busy, NeedsReset, NoQueue}}
-use Rattle.vb_model.specs.declared.replies.Refusal.TheVariants.{NotReady, NotTaken, NotWorked}
-use Rattle.vb_model.specs.{Status.{contains, driver_ok}, Tables.{has_chains, has_fault, is_not_ready}}
-use Rattle.vb_model.specs.Tables.{is_queue_of_requests, lacks_feature}
+use Rattle.vb_virtio.specs.FirstRefusal.{◌⇒◌, first_refusal}
+use Rattle.vb_virtio.specs.Layout.{ring_page}
+use Rattle.vb_virtio.specs.Queues.{Request, has_chains, is_queue_of_requests, lacks_feature}
+use Rattle.vb_virtio.specs.declared.layout.TheConstants.{STATISTICS_QUEUE}
+use Rattle.vb_virtio.specs.declared.refusals.Refusal.{Refusal}
+use Rattle.vb_virtio.specs.declared.refusals.Refusal.TheVariants.{Busy, NeedsReset, NoQueue}
+use Rattle.vb_virtio.specs.declared.refusals.Refusal.TheVariants.{NotReady, NotTaken, NotWorked}
+use Rattle.vb_virtio.specs.Status.{contains, driver_ok, has_fault, is_not_ready}
 use Rattle.vb_ram.specs.{Pages.Pages, Part.{Part, QueuePart}}
 use Rattle.{vb_request.specs.Refusals.take_refusal_by, vb_ring.specs.Layout.{IsBacked, layout_of}}
 use Rattle.vb_device.proofs.{Settles.settled_uses, TakesBy.{first_causes, first_passes, first_stands}}
@@ -87,9 +89,11 @@ take_finds q h m1 m2 p1 p2 free takes =
       next_avail = ((queue_part q noted).next_avail + 1) % 65536;
       taken = (queue_part q noted).taken ++ (r ∷ []);
     } in
-    let there : queue_part q p2 ≡ x = ap (queue_part q) is ∙ put_there q x noted in
-    (r, ap (λ (y : QueuePart). slice_get y.taken 0) there
-    ∙ one_taken (queue_part q p1).taken r none.3)
+    let there : queue_part q p2 ≡ x = ap (queue_part q) is ∙ put_there q x noted in (
+      r,
+      ap (λ (y : QueuePart). slice_get y.taken 0) there
+          ∙ one_taken (queue_part q p1).taken r none.3,
+    )
 
 pub ready_to_use : (q h : ℕ) (m1 m2 : Pages) (p1 p2 : Part) → serve_refusal q p1 ≡ None
     → TakesBy q m1 m2 p1 p2 (Ok (Some h)) → (q == STATISTICS_QUEUE) ≡ false

@@ -4,8 +4,9 @@ use Rattle.std.specs.Prelude.{ℕ, ◌+◌, ◌++◌, Bool, true, List, Option, 
 use Rattle.std.proofs.Common.{subst, sym}
 use Rattle.vb_device.specs.Conditions.{taken_at, use_refusal}
 use Rattle.{std.proofs.Common.{arith, ◌∙◌, ap}, vb_ram.specs.{Pages.Pages, Part.{Part, QueuePart}}}
-use Rattle.vb_model.specs.{Requests.Request, Tables.is_queue_of_requests}
-use Rattle.vb_model.specs.declared.replies.Refusal.{Refusal, TheVariants.NoQueue}
+use Rattle.vb_virtio.specs.Queues.{Request, is_queue_of_requests}
+use Rattle.vb_virtio.specs.declared.refusals.Refusal.{Refusal}
+use Rattle.vb_virtio.specs.declared.refusals.Refusal.TheVariants.{NoQueue}
 use Rattle.vb_device.specs.Calls.{lost_frames, without_frames, using}
 use Rattle.vb_device.specs.{Calls.{settled, FinishesBy, Uses}, BaseCalls.{taken_out, UsesChain}}
 use Rattle.vb_device.specs.{BaseCalls.SettlesBy, Queues.{queue_part, with_queue, queue_end}}

@@ -2,18 +2,16 @@
 use Rattle.std.specs.Prelude.{◌≡◌, ℕ, ◌+◌, ◌%◌, ◌<◌, ◌==◌, true, not, List, [], ◌∷◌, ◌++◌}
 use Rattle.std.specs.Prelude.{remove, if◌then◌else◌, Option, Some, None, IsSome, is_some, Bool}
 use Rattle.std.specs.Prelude.{Result, Ok, Err}
-use Rattle.vb_model.specs.declared.layout.TheConstants.{INFLATE_QUEUE, STATISTICS_QUEUE}
-use Rattle.vb_model.specs.declared.layout.TheConstants.{REPORT_QUEUE}
-use Rattle.vb_model.specs.declared.replies.Refusal.{Refusal}
-use Rattle.vb_model.specs.declared.replies.Refusal.TheVariants.{NoQueue}
-use Rattle.vb_model.specs.Status.{contains, driver_ok}
-use Rattle.vb_model.specs.Requests.{Request}
+use Rattle.vb_virtio.specs.declared.layout.TheConstants.{INFLATE_QUEUE, STATISTICS_QUEUE}
+use Rattle.vb_virtio.specs.declared.layout.TheConstants.{REPORT_QUEUE}
+use Rattle.vb_virtio.specs.declared.refusals.Refusal.{Refusal}
+use Rattle.vb_virtio.specs.declared.refusals.Refusal.TheVariants.{NoQueue}
+use Rattle.vb_virtio.specs.Status.{contains, driver_ok, work_causes}
+use Rattle.vb_virtio.specs.Queues.{Request, has_chains, is_queue_of_requests}
+use Rattle.vb_virtio.specs.FirstRefusal.{◌⇒◌, first_refusal}
 use Rattle.vb_model.specs.Device.{visiting, next_page}
 use Rattle.vb_device.specs.declared.worked.Worked.{Worked}
-pub use Rattle.vb_model.specs.FirstRefusal.{refusal_in}
-use Rattle.vb_model.specs.FirstRefusal.{◌⇒◌, first_refusal}
-use Rattle.vb_model.specs.Tables.{has_chains, is_queue_of_requests}
-use Rattle.vb_model.specs.Tables.{work_causes}
+pub use Rattle.vb_virtio.specs.FirstRefusal.{refusal_in}
 use Rattle.vb_ram.specs.Pages.{Pages, frame_at}
 use Rattle.vb_ram.specs.Part.{Part}
 use Rattle.vb_ring.specs.Layout.{IsBacked}

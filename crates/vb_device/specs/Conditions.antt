@@ -1,14 +1,15 @@
 -- What the calls on a device are refused for before they look at guest memory: the tables of the
 -- definitions, with the device's own values.
 use Rattle.std.specs.Prelude.{ℕ, Bool, length, Option, is_some, slice_get}
-use Rattle.vb_model.specs.declared.replies.Refusal.{Refusal}
-use Rattle.vb_model.specs.Requests.{Request}
+use Rattle.vb_virtio.specs.declared.refusals.Refusal.{Refusal}
+use Rattle.vb_virtio.specs.Queues.{Request}
+use Rattle.vb_virtio.specs.FirstRefusal.{first_refusal}
+use Rattle.vb_virtio.specs.Status.{work_causes}
+use Rattle.vb_virtio.specs.declared.layout.TheConstants.{STATISTICS_QUEUE}
 use Rattle.vb_model.specs.Guest.{is_ballooned}
-use Rattle.vb_model.specs.FirstRefusal.{first_refusal}
-use Rattle.vb_model.specs.Tables.{Negotiated, take_causes, serve_causes, work_causes}
+use Rattle.vb_model.specs.Tables.{Negotiated, take_causes, serve_causes}
 use Rattle.vb_model.specs.Tables.{finish_causes}
 use Rattle.vb_model.specs.Tables.{sweep_causes, ask_causes}
-use Rattle.vb_model.specs.declared.layout.TheConstants.{STATISTICS_QUEUE}
 use Rattle.vb_ram.specs.Part.{Part}
 use Rattle.vb_device.specs.Queues.{queue_part}
 

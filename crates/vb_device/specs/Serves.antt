@@ -1,8 +1,8 @@
 -- A device serves the next chain of a queue: it takes the chain, and uses it at once (profile).
 use Rattle.std.specs.Prelude.{◌≡◌, ℕ, ◌==◌, MatchBool, Option, Some, None, Result, Ok, Err}
-use Rattle.vb_model.specs.declared.layout.TheConstants.{STATISTICS_QUEUE}
-use Rattle.vb_model.specs.declared.replies.Refusal.{Refusal}
-use Rattle.vb_model.specs.Requests.{Request}
+use Rattle.vb_virtio.specs.declared.layout.TheConstants.{STATISTICS_QUEUE}
+use Rattle.vb_virtio.specs.declared.refusals.Refusal.{Refusal}
+use Rattle.vb_virtio.specs.Queues.{Request}
 use Rattle.vb_ram.specs.Pages.{Pages}
 use Rattle.vb_ram.specs.Part.{Part}
 use Rattle.vb_device.specs.Conditions.{serve_refusal, taken_at}

@@ -6,7 +6,7 @@ mod status;
 
 ghost use Rattle.std.specs.Prelude.{◌≡◌, [], true, false};
 ghost use Rattle.std.specs.Prelude.{vec_capacity};
-ghost use Rattle.vb_model.specs.declared.limits.TheConstants.{MAX_QUEUE_SIZE};
+ghost use Rattle.vb_virtio.specs.declared.limits.TheConstants.{MAX_QUEUE_SIZE};
 ghost use Rattle.vb_device.specs.Base.{IsPlain, fresh_device};
 ghost use Rattle.vb_device.specs.Calls.{IsUnused};
 
@@ -21,10 +21,10 @@ use std::alloc::{AllocError, Global};
 use std::marker::{Model, PhantomData};
 use vb_bits::BitSet;
 use vb_chain::Chain;
-use vb_model::layout::STATISTICS_QUEUE;
-use vb_model::{Refusal, limits};
 use vb_ram::{Config, Frame, Ram, Shape, SupplyRefused};
 use vb_status::{Features, Status};
+use vb_virtio::layout::STATISTICS_QUEUE;
+use vb_virtio::{Refusal, limits};
 
 /// A device that discards an inflate's pages when it finishes the request.
 pub type ImmediateDevice = BalloonDevice<Immediate>;

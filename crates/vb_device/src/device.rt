@@ -3,10 +3,10 @@
 ghost use Rattle.std.specs.Prelude.{◌≡◌, ◌≤◌, ◌<◌, ℕ, Bool, [], true, false, None, IsSome, IsOk};
 ghost use Rattle.std.specs.Prelude.{OnOk, OnErr, length, replicate, count_by};
 ghost use Rattle.vb_model.specs.declared.calls.Claim.{Claim};
-ghost use Rattle.vb_model.specs.declared.layout.TheConstants.{STATISTICS_QUEUE};
+ghost use Rattle.vb_virtio.specs.declared.layout.TheConstants.{STATISTICS_QUEUE};
 ghost use Rattle.vb_model.specs.Guest.{is_ballooned};
-ghost use Rattle.vb_model.specs.Limits.{is_config};
-ghost use Rattle.vb_model.specs.Status.{contains, driver_ok};
+ghost use Rattle.vb_virtio.specs.Limits.{is_config};
+ghost use Rattle.vb_virtio.specs.Status.{contains, driver_ok};
 ghost use Rattle.vb_ram.specs.Pages.{frame_at, Supplied, IsWhole};
 ghost use Rattle.vb_ring.specs.Layout.{IsBacked};
 ghost use Rattle.vb_device.specs.Queues.{queue_layout};
@@ -17,9 +17,9 @@ ghost use Rattle.vb_device.specs.Calls.{IsAnswered, PutsBack};
 
 use crate::{Claimed, Statistics, Worked};
 use std::alloc::{AllocError, Global};
-use vb_model::Refusal;
 use vb_ram::{Config, Frame, RamFault, SupplyRefused};
 use vb_status::Port;
+use vb_virtio::Refusal;
 
 /// A balloon device with the memory of its guest (VIRTIO 1.1, 5.5). What a driver sees of it is its
 /// `Port`; the calls here are the host's.

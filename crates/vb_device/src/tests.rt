@@ -18,9 +18,9 @@ use crate::{BalloonDevice, Claimed, Device, Pace, Statistics, Worked};
 use bitflags::Flags;
 use std::alloc::Global;
 use std::process::Abort;
-use vb_model::Refusal;
 use vb_ram::{Config, Frame, GuestBytes, Shape};
 use vb_status::{Features, Port, Status};
+use vb_virtio::Refusal;
 
 /// What a host and a driver do with a device.
 #[derive(Clone, Copy)]

@@ -2,15 +2,24 @@
 use Rattle.std.specs.Prelude.{◌≡◌, ℕ, zero, suc, ◌+◌, ◌%◌, ◌<◌, ◌≤◌, true, false, not, remove, ◌++◌}
 use Rattle.std.specs.Prelude.{◌&&◌, ◌==◌, List, [], ◌∷◌, All, Result, Some, None, slice_get, refl}
 use Rattle.{std.proofs.Common.{sym, ◌∙◌, ap, subst, arith, inr}, vb_ram.specs.Pages.Pages}
-use Rattle.vb_model.specs.Requests.{Request, Kind, Inflating, Deflating, Reporting_free, queue_of}
-use Rattle.vb_model.specs.Tables.{is_queue_of_requests, is_not_ready, has_fault, has_unvisited}
-use Rattle.vb_model.specs.{Orderly.{times, IsRequestSound, AllRequestsSound}, Driver.AllDistinct}
-use Rattle.vb_model.specs.declared.replies.{Refusal.TheVariants.NoQueue, Reply.TheVariants.Finished}
-use Rattle.vb_model.specs.declared.{layout.TheConstants.DEFLATE_QUEUE, replies.Reply.Reply}
+use Rattle.vb_virtio.specs.Queues.{Request, Kind, Inflating, Deflating, Reporting_free, queue_of}
+use Rattle.vb_virtio.specs.Queues.{is_queue_of_requests}
+use Rattle.vb_virtio.specs.Status.{is_not_ready, has_fault}
+use Rattle.vb_virtio.specs.Tests.{times, AllDistinct}
+use Rattle.vb_virtio.specs.declared.refusals.Refusal.TheVariants.{NoQueue}
+use Rattle.vb_virtio.specs.declared.layout.TheConstants.{DEFLATE_QUEUE}
+use Rattle.vb_virtio.specs.Layout.{reserved_pages, ring_page}
+use Rattle.vb_virtio.specs.declared.refusals.Refusal.{Refusal}
+use Rattle.vb_virtio.proofs.Distinct.{distinct_once}
+use Rattle.vb_virtio.proofs.Queues.{no_requests_at}
+use Rattle.vb_model.specs.Tables.{has_unvisited}
+use Rattle.vb_model.specs.Orderly.{IsRequestSound, AllRequestsSound}
+use Rattle.vb_model.specs.declared.replies.Reply.TheVariants.{Finished}
+use Rattle.vb_model.specs.declared.replies.Reply.{Reply}
 use Rattle.vb_model.specs.{declared.calls.Call.TheVariants.Finish, Device.{used, settled, Finishes}}
-use Rattle.vb_model.specs.{Layout.{reserved_pages, ring_page}, declared.replies.Refusal.Refusal}
-use Rattle.vb_model.{specs.Refusals.{taken_of, refusal_of}, proofs.Distinct.distinct_once}
-use Rattle.vb_model.{specs.{Guest.{Guest, requests}, Step.Performs}, proofs.Queues.no_requests_at}
+use Rattle.vb_model.specs.Refusals.{taken_of, refusal_of}
+use Rattle.vb_model.specs.Guest.{Guest, requests}
+use Rattle.vb_model.specs.Step.{Performs}
 use Rattle.{vb_ram.specs.Part.{Part, QueuePart}, vb_driver.specs.{State.DriverState, Calls.ring_of}}
 use Rattle.vb_ring.specs.{Layout.{IsSize, layout_of}, Calls.AddsUsedBy, Ends.DeviceEnd}
 use Rattle.vb_device.specs.Calls.{using, without_frames, lost_frames, FinishesBy, Uses, SameFrames}

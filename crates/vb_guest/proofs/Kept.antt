@@ -2,13 +2,17 @@
 use Rattle.std.specs.Prelude.{◌≡◌, ℕ, ◌==◌, ◌&&◌, not, Bool, true, false, List, [], ◌∷◌}
 use Rattle.std.specs.Prelude.{is_none, if◌then◌else◌, Option, Some, None, Result, Ok, Err, refl}
 use Rattle.{std.proofs.Common.{◌∙◌, ap}, vb_ram.specs.{Pages.Pages, Part.{Part, QueuePart}}}
-use Rattle.vb_model.specs.declared.layout.TheConstants.{INFLATE_QUEUE, DEFLATE_QUEUE}
-use Rattle.vb_model.specs.declared.layout.TheConstants.{STATISTICS_QUEUE, REPORT_QUEUE}
-use Rattle.vb_model.specs.declared.replies.Refusal.{Refusal, TheVariants.NoQueue}
-use Rattle.vb_model.specs.declared.replies.Refusal.TheVariants.{NotReady, NeedsReset, NotTaken}
-use Rattle.vb_model.specs.declared.replies.Refusal.TheVariants.{NotWorked, Broken, RingBroken}
-use Rattle.vb_model.specs.{Requests.Request, Refusals.{◌⇒◌, first_refusal}, Tests.flagged}
-use Rattle.vb_model.specs.Tables.{is_queue_of_requests, is_not_ready, has_fault, has_unvisited}
+use Rattle.vb_virtio.specs.declared.layout.TheConstants.{INFLATE_QUEUE, DEFLATE_QUEUE}
+use Rattle.vb_virtio.specs.declared.layout.TheConstants.{STATISTICS_QUEUE, REPORT_QUEUE}
+use Rattle.vb_virtio.specs.declared.refusals.Refusal.{Refusal}
+use Rattle.vb_virtio.specs.declared.refusals.Refusal.TheVariants.{NoQueue, NotReady, NeedsReset}
+use Rattle.vb_virtio.specs.declared.refusals.Refusal.TheVariants.{NotTaken, NotWorked, Broken}
+use Rattle.vb_virtio.specs.declared.refusals.Refusal.TheVariants.{RingBroken}
+use Rattle.vb_virtio.specs.Queues.{Request, is_queue_of_requests}
+use Rattle.vb_virtio.specs.FirstRefusal.{◌⇒◌, first_refusal}
+use Rattle.vb_virtio.specs.Tests.{flagged}
+use Rattle.vb_virtio.specs.Status.{is_not_ready, has_fault}
+use Rattle.vb_model.specs.Tables.{has_unvisited}
 use Rattle.vb_device.specs.Calls.{Uses}
 use Rattle.vb_device.specs.Conditions.{work_refusal, finish_refusal, sweep_refusal}
 use Rattle.vb_device.specs.{Conditions.{ask_refusal, taken_at}, Calls.{TakesBy, TakeMeans, noting}}

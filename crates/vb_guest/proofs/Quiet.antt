@@ -2,8 +2,11 @@
 use Rattle.std.specs.Prelude.{◌≡◌, ◌++◌, ℕ, suc, Bool, List, [], ◌∷◌, Option, None, slice_index_or}
 use Rattle.std.{specs.Prelude.{count_by, length, refl}, proofs.Common.{◌∙◌, sym, ap, arith}}
 use Rattle.{std.proofs.Common.length-append, vb_model.specs.declared.calls.{Claim.Claim}}
-use Rattle.vb_model.specs.{Tests.one_if, Orderly.times, Guest.Guest}
-use Rattle.{vb_model.{specs.Guest.frame_of, proofs.Tables.count_by-cons}, vb_ram.specs.Pages.Pages}
+use Rattle.vb_virtio.specs.Tests.{one_if, times}
+use Rattle.vb_virtio.proofs.Tables.{count_by-cons}
+use Rattle.vb_model.specs.Guest.{Guest}
+use Rattle.vb_model.specs.Guest.{frame_of}
+use Rattle.vb_ram.specs.Pages.{Pages}
 use Rattle.{vb_ram.specs.{Pages.frame_at, Part.Part}, vb_device.specs.Discards.frames_behind}
 use Rattle.{vb_driver.specs.State.DriverState, vb_guest.specs.Exact.KeepsFrames}
 use Rattle.vb_guest.specs.{Stands.{Honest, Rogue, Stands}, Steps.{is_frame, Frees}}

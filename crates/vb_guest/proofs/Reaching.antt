@@ -8,12 +8,16 @@ use Rattle.std.specs.Prelude.{remove}
 use Rattle.vb_model.{proofs.PageSteps.after_take, specs.Device.{settled, used}}
 use Rattle.vb_model.specs.{Guest.with_requests, Requests.{BufferPosted, StatisticsBuffer}}
 use Rattle.vb_guest.specs.Replies.{taken_reply}
-use Rattle.vb_model.specs.{FirstRefusal.{first_refusal}, Guest.requests, Orderly.{times}}
-use Rattle.vb_model.specs.{Refusals.{negotiated, refusal_of, taken_count}, Requests.{Deflating, Inflating}}
-use Rattle.vb_model.specs.{Requests.{Kind, Reporting_free, Request, kind_of_queue}, Rogue.RogueStep}
-use Rattle.vb_model.specs.{Tables.serve_causes, Tests.one_if}
+use Rattle.vb_virtio.specs.FirstRefusal.{first_refusal}
+use Rattle.vb_virtio.specs.Tests.{times, one_if}
+use Rattle.vb_virtio.specs.Queues.{Deflating, Inflating, Kind, Reporting_free, Request}
+use Rattle.vb_virtio.specs.Queues.{kind_of_queue}
+use Rattle.vb_virtio.specs.declared.refusals.Refusal.{Refusal}
+use Rattle.vb_model.specs.Guest.{requests}
+use Rattle.vb_model.specs.Refusals.{negotiated, refusal_of, taken_count}
+use Rattle.vb_model.specs.Rogue.{RogueStep}
+use Rattle.vb_model.specs.Tables.{serve_causes}
 use Rattle.vb_model.specs.declared.{calls.Call.TheVariants.Serve}
-use Rattle.vb_model.specs.declared.replies.Refusal.{Refusal}
 use Rattle.vb_model.specs.declared.replies.Reply.{Reply, TheVariants.{Finished}}
 use Rattle.vb_model.specs.declared.replies.Reply.TheVariants.{Served, Taken}
 use Rattle.vb_ram.specs.{Pages.{Pages, frame_at}, Part.Part}
@@ -188,7 +192,7 @@ more_served q chains left h served kind (r ∷ others) g mid new e free next res
       next.2,
       next.3,
       subst (λ (l : List Request). ServesRequests kind l (chains + 1) mid
-      (Served served.chains served.broken) new) left_so.posted more,
+          (Served served.chains served.broken) new) left_so.posted more,
     )
 
 pub next_of : (q : ℕ) (kind : Kind) (g : Guest) (head : Option ℕ) (mid : Guest)

@@ -5,22 +5,27 @@ use Rattle.std.specs.Prelude.{◌∷◌, ◌++◌, length, All, Option, Some, No
 use Rattle.std.specs.Prelude.{refl, if◌then◌else◌, remove, is_some, is_none, IsOk, bit_or}
 use Rattle.std.proofs.lemmas.{Option.{get_or_from_slice_get, slice_get_within}, List.get_or_past}
 use Rattle.std.proofs.lemmas.{List.Elements.{All-push, All-nil}, Bool.{cases_eq, ne_eqb}}
-use Rattle.{std.proofs.Common.{sym, ◌∙◌, ap, subst, arith, inl, inr}, vb_model.specs.Tests.flagged}
+use Rattle.vb_virtio.specs.Tests.{flagged, times}
+use Rattle.vb_virtio.specs.Status.{is_not_ready, has_fault, contains, driver_ok, failed}
+use Rattle.vb_virtio.specs.Status.{needs_reset}
+use Rattle.vb_virtio.specs.Queues.{has_chains, lacks_feature, is_queue_of_requests, Request}
+use Rattle.vb_virtio.specs.declared.refusals.Refusal.{Refusal}
+use Rattle.vb_virtio.specs.declared.refusals.Refusal.TheVariants.{NoQueue, NotReady, NeedsReset}
+use Rattle.vb_virtio.specs.declared.refusals.Refusal.TheVariants.{Broken, Busy, NotTaken, NotWorked}
+use Rattle.vb_virtio.specs.declared.layout.TheConstants.{INFLATE_QUEUE, DEFLATE_QUEUE}
+use Rattle.vb_virtio.specs.declared.layout.TheConstants.{STATISTICS_QUEUE, REPORT_QUEUE}
+use Rattle.vb_virtio.specs.Limits.{page_size}
+use Rattle.vb_virtio.specs.Layout.{reserved_pages, ring_page}
+use Rattle.vb_virtio.specs.FirstRefusal.{◌⇒◌, first_refusal}
+use Rattle.std.proofs.Common.{sym, ◌∙◌, ap, subst, arith, inl, inr}
 use Rattle.vb_model.specs.{Rogue.target_after, Step.bare_pages, declared.calls.Call.Call}
 use Rattle.vb_model.specs.declared.replies.Reply.{Reply, TheVariants.Finished}
 use Rattle.vb_guest.proofs.Rogues.{IsOther}
-use Rattle.vb_model.specs.Tables.{is_not_ready, has_fault, has_chains, lacks_feature, ask_causes}
-use Rattle.vb_model.specs.Tables.{is_queue_of_requests, has_unvisited, take_causes, finish_causes}
-use Rattle.vb_model.specs.declared.replies.{Refusal.Refusal}
-use Rattle.vb_model.specs.declared.replies.Refusal.TheVariants.{NoQueue, NotReady, NeedsReset}
-use Rattle.vb_model.specs.declared.replies.Refusal.TheVariants.{Broken, Busy, NotTaken, NotWorked}
-use Rattle.vb_model.specs.declared.layout.TheConstants.{INFLATE_QUEUE, DEFLATE_QUEUE}
-use Rattle.vb_model.specs.declared.layout.TheConstants.{STATISTICS_QUEUE, REPORT_QUEUE}
-use Rattle.vb_model.specs.{declared.calls.Call.TheVariants.{Take, Finish, Ask}, Limits.page_size}
+use Rattle.vb_model.specs.Tables.{ask_causes}
+use Rattle.vb_model.specs.Tables.{has_unvisited, take_causes, finish_causes}
+use Rattle.vb_model.specs.declared.calls.Call.TheVariants.{Take, Finish, Ask}
 use Rattle.vb_model.{specs.Guest.{Guest, is_ballooned}, proofs.Wanting.refused_otherwise}
-use Rattle.vb_model.specs.{Status.{contains, driver_ok, failed, needs_reset}, Requests.Request}
-use Rattle.vb_model.specs.{Layout.{reserved_pages, ring_page}, FirstRefusal.{◌⇒◌, first_refusal}}
-use Rattle.{vb_model.specs.Orderly.times, vb_guest.proofs.RogueDriver.{left_same, unchanged_alone}}
+use Rattle.vb_guest.proofs.RogueDriver.{left_same, unchanged_alone}
 use Rattle.{vb_model.proofs.Refusing.is_refused, vb_ram.specs.Part.{Part, QueuePart}}
 use Rattle.{vb_ram.specs.Pages.{Pages, frame_at, number_of}, vb_request.specs.Report.report_request}
 use Rattle.vb_chain.specs.declared.fault.ChainFault.TheVariants.{WrongDirection, BadLength}

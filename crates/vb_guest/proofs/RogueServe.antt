@@ -4,18 +4,21 @@ use Rattle.std.proofs.Common.{Ok, Err, refl, sym, ◌∙◌, ap, subst, arith, i
 use Rattle.std.proofs.{Common.length, lemmas.Bool.MatchBool-at_true}
 use Rattle.vb_model.specs.Step.{HonestStep}
 use Rattle.std.specs.Prelude.{count_by, is_none, not}
-use Rattle.vb_model.specs.{FirstRefusal.{◌⇒◌, first_refusal}, Guest.Guest}
+use Rattle.vb_virtio.specs.FirstRefusal.{◌⇒◌, first_refusal}
+use Rattle.vb_virtio.specs.Tests.{times}
+use Rattle.vb_virtio.specs.Status.{contains, driver_ok, failed, has_fault, is_not_ready}
+use Rattle.vb_virtio.specs.Queues.{has_chains, is_queue_of_requests, lacks_feature}
+use Rattle.vb_virtio.specs.declared.refusals.Refusal.{Refusal}
+use Rattle.vb_virtio.specs.declared.refusals.Refusal.TheVariants.{Broken, Busy, NeedsReset, NoQueue}
+use Rattle.vb_virtio.specs.declared.refusals.Refusal.TheVariants.{NotReady, NotTaken, NotWorked}
+use Rattle.vb_model.specs.Guest.{Guest}
 use Rattle.vb_model.specs.Driver.{AreClaimsFor}
-use Rattle.vb_model.specs.{Guest.{all_backed, frame_of}, Orderly.times}
+use Rattle.vb_model.specs.Guest.{all_backed, frame_of}
 use Rattle.vb_model.specs.Rogue.{GuestStep, IsRogueAfter, LosesFrames, RogueStep, after_refused}
 use Rattle.vb_model.specs.Rogue.{pages_to_back, target_after}
-use Rattle.vb_model.specs.{Status.{contains, driver_ok, failed}, Tables.{has_chains, has_fault}}
-use Rattle.vb_model.specs.Tables.{is_not_ready, is_queue_of_requests, lacks_feature, serve_causes}
+use Rattle.vb_model.specs.Tables.{serve_causes}
 use Rattle.vb_model.proofs.Wanting.{refused_otherwise, wants}
 use Rattle.vb_model.specs.declared.calls.Call.{Call, TheVariants.{Serve, Take}}
-use Rattle.vb_model.specs.declared.replies.Refusal.{Refusal, TheVariants.{Broken, Busy, NeedsReset}}
-use Rattle.vb_model.specs.declared.replies.Refusal.TheVariants.{NoQueue, NotReady}
-use Rattle.vb_model.specs.declared.replies.Refusal.TheVariants.{NotTaken, NotWorked}
 use Rattle.vb_model.specs.declared.replies.Reply.{Reply, TheVariants.{Refused, Served}}
 use Rattle.vb_ram.specs.{Pages.Pages, Part.Part}
 use Rattle.vb_device.proofs.ServeCases.{Did, Not_served, Only_took, Took_and_used, what_it_did}

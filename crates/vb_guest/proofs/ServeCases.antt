@@ -1,8 +1,10 @@
 -- What a device that serves one chain leaves of its own frames and of those behind pages.
 use Rattle.std.proofs.Common.{◌≡◌, ℕ, Bool, true, false, Option, Some, Result, sym, ◌∙◌, ap}
 use Rattle.std.specs.Prelude.{if◌then◌else◌, ◌==◌}
-use Rattle.vb_model.specs.{Requests.Request, Tests.is_in}
-use Rattle.vb_model.specs.declared.{layout.TheConstants.DEFLATE_QUEUE, replies.Refusal.Refusal}
+use Rattle.vb_virtio.specs.Queues.{Request}
+use Rattle.vb_virtio.specs.Tests.{is_in}
+use Rattle.vb_virtio.specs.declared.layout.TheConstants.{DEFLATE_QUEUE}
+use Rattle.vb_virtio.specs.declared.refusals.Refusal.{Refusal}
 use Rattle.vb_ram.specs.{Pages.{Pages, frame_at, number_of, page_at}, Part.Part}
 use Rattle.vb_device.proofs.ServeCases.{Did, Not_served, Only_took, Took_and_used, what_it_did}
 use Rattle.vb_device.specs.{Calls.{ServesBy, Uses}, Discards.discarded}

@@ -2,16 +2,19 @@
 use Rattle.std.proofs.Common.{◌≡◌, ℕ, Bool, true, false, [], ◌∷◌, length, Option, Some, None}
 use Rattle.std.proofs.Common.{refl, sym, ◌∙◌, ap, subst, arith}
 use Rattle.std.specs.Prelude.{◌==◌, drop, if◌then◌else◌, nat_le, nat_lt, not}
-use Rattle.vb_model.proofs.Queues.{IsNoQueue}
+use Rattle.vb_virtio.proofs.Queues.{IsNoQueue}
+use Rattle.vb_virtio.specs.FirstRefusal.{◌⇒◌, first_refusal}
+use Rattle.vb_virtio.specs.Queues.{Deflating, Inflating, Kind, Reporting_free, Request}
+use Rattle.vb_virtio.specs.Queues.{kind_of_queue, queue_of, has_chains, lacks_feature}
+use Rattle.vb_virtio.specs.Status.{has_fault, is_not_ready}
+use Rattle.vb_virtio.specs.declared.refusals.Refusal.{Refusal}
+use Rattle.vb_virtio.specs.declared.refusals.Refusal.TheVariants.{Busy, NotReady, NeedsReset}
+use Rattle.vb_virtio.specs.declared.refusals.Refusal.TheVariants.{NoQueue}
 use Rattle.std.proofs.Common.{List}
-use Rattle.vb_model.specs.{FirstRefusal.{◌⇒◌, first_refusal}, Guest.{Guest, requests}}
-use Rattle.vb_model.specs.Requests.{Deflating, Inflating, Kind, Reporting_free, Request}
-use Rattle.vb_model.specs.Requests.{kind_of_queue, queue_of}
+use Rattle.vb_model.specs.Guest.{Guest, requests}
 use Rattle.vb_model.specs.Refusals.{causes, negotiated, refusal_of, taken_count}
-use Rattle.vb_model.specs.Tables.{has_chains, has_fault, is_not_ready, lacks_feature, serve_causes}
+use Rattle.vb_model.specs.Tables.{serve_causes}
 use Rattle.vb_model.specs.declared.calls.Call.{TheVariants.{Serve, Take}}
-use Rattle.vb_model.specs.declared.replies.{Refusal.Refusal, Refusal.TheVariants.{Busy, NotReady}}
-use Rattle.vb_model.specs.declared.replies.Refusal.TheVariants.{NeedsReset, NoQueue}
 use Rattle.{vb_device.specs.Conditions.serve_refusal, vb_ram.specs.Part.Part}
 use Rattle.vb_device.specs.{Conditions.negotiated as part_negotiated, Queues.queue_part}
 use Rattle.vb_guest.proofs.{Closing.first_holds, Refusing.no_chains}

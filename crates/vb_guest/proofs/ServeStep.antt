@@ -12,14 +12,15 @@ use Rattle.vb_model.specs.{Device.{TakesBuffer, TakesRequest}}
 use Rattle.vb_model.specs.{Device.{settled, used}}
 use Rattle.vb_model.specs.{Guest.{Guest, requests}, Refusals.{refusal_of, taken_count}}
 use Rattle.vb_model.specs.Refusals.{is_taken}
-use Rattle.vb_model.specs.{Requests.{Deflating, Inflating, Kind, Reporting_free, Request, queue_of}}
+use Rattle.vb_virtio.specs.Queues.{Deflating, Inflating, Kind, Reporting_free, Request, queue_of}
+use Rattle.vb_virtio.specs.Queues.{has_chains}
+use Rattle.vb_virtio.specs.Tests.{times}
+use Rattle.vb_virtio.specs.declared.negotiation.TheConstants.{READY_STATUS}
+use Rattle.vb_virtio.specs.declared.refusals.Refusal.{Refusal}
+use Rattle.vb_virtio.specs.declared.refusals.Refusal.TheVariants.{NoQueue}
 use Rattle.vb_model.specs.{Requests.{StatisticsBuffer, BufferPosted}, Rogue.GuestStep}
-use Rattle.vb_model.specs.{Step.{Does, HonestStep}, Tables.{has_chains}}
-use Rattle.vb_model.specs.{Orderly.times}
+use Rattle.vb_model.specs.Step.{Does, HonestStep}
 use Rattle.vb_model.specs.declared.calls.Call.{TheVariants.{Serve, Take}}
-use Rattle.vb_model.specs.declared.negotiation.TheConstants.{READY_STATUS}
-use Rattle.vb_model.specs.declared.replies.{Refusal.Refusal}
-use Rattle.vb_model.specs.declared.replies.Refusal.TheVariants.{NoQueue}
 use Rattle.vb_model.specs.declared.replies.Reply.{Reply, TheVariants.{Empty, Finished, Refused, Taken}}
 use Rattle.vb_ram.specs.{Pages.Pages, Part.Part}
 use Rattle.vb_device.specs.Calls.{FollowsTake, UsesFirst}

@@ -5,15 +5,20 @@ use Rattle.std.proofs.lemmas.Bool.{MatchBool-at_false, MatchBool-at_true, eqb-tr
 use Rattle.std.specs.Prelude.{◌-◌}
 use Rattle.std.specs.Prelude.{MatchBool, MatchOption, ◌==◌, is_some, not, ◌||◌}
 use Rattle.vb_model.specs.{Device.{ServesBuffer, ServesRequests, TakesBuffer}, Guest.{Guest, requests}}
-use Rattle.vb_model.specs.{FirstRefusal.{◌⇒◌, first_refusal}, Orderly.IsOrderly, Refusals.refusal_of}
-use Rattle.vb_model.specs.Requests.{Deflating, Inflating, Kind, Reporting_free, Request, kind_of_queue}
-use Rattle.vb_model.specs.{Rogue.RogueStep, Step.HonestStep, Tables.{has_chains, has_fault}}
-use Rattle.vb_model.specs.Tables.{is_not_ready, lacks_feature}
-use Rattle.vb_model.specs.declared.layout.TheConstants.{STATISTICS_QUEUE}
-use Rattle.vb_model.specs.declared.limits.TheConstants.{MAX_QUEUE_SIZE}
+use Rattle.vb_virtio.specs.FirstRefusal.{◌⇒◌, first_refusal}
+use Rattle.vb_virtio.specs.Queues.{Deflating, Inflating, Kind, Reporting_free, Request}
+use Rattle.vb_virtio.specs.Queues.{kind_of_queue, has_chains, lacks_feature}
+use Rattle.vb_virtio.specs.Status.{has_fault, is_not_ready}
+use Rattle.vb_virtio.specs.declared.layout.TheConstants.{STATISTICS_QUEUE}
+use Rattle.vb_virtio.specs.declared.limits.TheConstants.{MAX_QUEUE_SIZE}
+use Rattle.vb_virtio.specs.declared.refusals.Refusal.{Refusal}
+use Rattle.vb_virtio.specs.declared.refusals.Refusal.TheVariants.{Broken, Busy, NeedsReset, NoQueue}
+use Rattle.vb_virtio.specs.declared.refusals.Refusal.TheVariants.{NotReady}
+use Rattle.vb_model.specs.Orderly.{IsOrderly}
+use Rattle.vb_model.specs.Refusals.{refusal_of}
+use Rattle.vb_model.specs.Rogue.{RogueStep}
+use Rattle.vb_model.specs.Step.{HonestStep}
 use Rattle.vb_model.specs.declared.{calls.Call.TheVariants.Serve, calls.Claim.Claim}
-use Rattle.vb_model.specs.declared.replies.Refusal.{Refusal, TheVariants.{Broken, Busy, NeedsReset}}
-use Rattle.vb_model.specs.declared.replies.Refusal.TheVariants.{NoQueue, NotReady}
 use Rattle.vb_model.specs.declared.replies.Reply.TheVariants.{Empty, Refused, Served, Taken}
 use Rattle.{vb_driver.specs.State.DriverState, vb_ram.specs.{Pages.Pages, Part.Part}}
 use Rattle.vb_guest.proofs.{Closing.{honest_performed, honest_refused}, Moving.{moves_as, moves_then}}
@@ -181,11 +186,13 @@ serves_more q h served g mid new other stands next rest = step_of q (Ok served) 
     let kind = some_kind q g other s.0 in
     let orderly = by_guest stands (λ x. x.orderly)
     (λ r. absurd (let bad = sym r.rogue ∙ (same_rogue q h g mid s ∙ e) in cc)) in
-    honest_performed g (Serve q) [] (Served served.chains served.broken) new s.0
-    (refl, as_kind kind.0 kind.1 (more_served q 0 255 h served kind.0 (requests kind.0 g).posted g
-    mid new kind.1 s.0 (next_of q kind.0 g (Some h) mid kind.1 s)
-    (MatchBool-at_false _ _ (same_rogue q h g mid s ∙ e) rest) (few kind.0 (requests kind.0 g).posted s orderly
-    (next_of q kind.0 g (Some h) mid kind.1 s)))))
+    honest_performed g (Serve q) [] (Served served.chains served.broken) new s.0 (
+      refl,
+      as_kind kind.0 kind.1 (more_served q 0 255 h served kind.0 (requests kind.0 g).posted g
+          mid new kind.1 s.0 (next_of q kind.0 g (Some h) mid kind.1 s)
+          (MatchBool-at_false _ _ (same_rogue q h g mid s ∙ e) rest) (few kind.0 (requests kind.0 g).posted s orderly
+          (next_of q kind.0 g (Some h) mid kind.1 s))),
+    ))
   where
     whole : RestStep q 0 256 served g new
     whole = then_rest q 0 255 h served g mid new next rest

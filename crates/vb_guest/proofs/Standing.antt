@@ -2,7 +2,9 @@
 -- over its supply.
 use Rattle.std.proofs.Common.{◌≡◌, ℕ, ◌+◌, Bool, false, List, [], sym, ◌∙◌, ap, subst, arith}
 use Rattle.vb_model.specs.declared.{calls.{Call.Call, Claim.Claim}, replies.Reply.Reply}
-use Rattle.{vb_model.specs.{Tests.one_if, Guest.Guest, Orderly.times}, vb_ram.specs.Pages.Pages}
+use Rattle.vb_virtio.specs.Tests.{one_if, times}
+use Rattle.vb_model.specs.Guest.{Guest}
+use Rattle.vb_ram.specs.Pages.{Pages}
 use Rattle.{vb_ram.specs.Part.Part, vb_device.specs.Own.has, vb_driver.specs.State.DriverState}
 use Rattle.vb_guest.specs.{Stands.{Honest, Rogue, OwnFrames, Stands, StandsBy}, Steps.backing_count}
 use Rattle.vb_guest.specs.{Steps.{Frees, AreOut, StepsAlone, StepsOver, StepsFreeing}, Supply.supply_of}

@@ -7,8 +7,8 @@ use Rattle.vb_model.specs.declared.calls.Call.TheVariants.{Scribble, Inflate, De
 use Rattle.vb_model.specs.declared.calls.Call.TheVariants.{Stats, Reap, Take, Work, Finish, Sweep}
 use Rattle.vb_model.specs.declared.calls.Call.TheVariants.{Serve, Ask, SetTarget}
 use Rattle.vb_model.specs.declared.calls.Claim.{Claim}
-use Rattle.vb_model.specs.declared.replies.Refusal.{Refusal}
-use Rattle.vb_model.specs.declared.replies.Refusal.TheVariants.{NotHeld}
+use Rattle.vb_virtio.specs.declared.refusals.Refusal.{Refusal}
+use Rattle.vb_virtio.specs.declared.refusals.Refusal.TheVariants.{NotHeld}
 use Rattle.vb_model.specs.declared.replies.Reply.{Reply}
 use Rattle.vb_model.specs.declared.replies.Reply.TheVariants.{Done}
 use Rattle.vb_model.specs.Pages.{place_of, is_used}

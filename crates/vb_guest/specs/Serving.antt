@@ -1,14 +1,14 @@
 -- What a device that serves a queue does to its guest, one chain after the other.
 use Rattle.std.specs.Prelude.{◌≡◌, ℕ, zero, suc, ◌+◌, ◌≤◌, List, [], ◌∷◌, length, Option, Some}
 use Rattle.std.specs.Prelude.{None, Result, Ok, Err, MatchBool, MatchOption, ◌==◌, ◌-◌}
-use Rattle.vb_model.specs.declared.layout.TheConstants.{STATISTICS_QUEUE}
-use Rattle.vb_model.specs.declared.limits.TheConstants.{MAX_QUEUE_SIZE}
+use Rattle.vb_virtio.specs.declared.layout.TheConstants.{STATISTICS_QUEUE}
+use Rattle.vb_virtio.specs.declared.limits.TheConstants.{MAX_QUEUE_SIZE}
+use Rattle.vb_virtio.specs.declared.refusals.Refusal.{Refusal}
+use Rattle.vb_virtio.specs.declared.refusals.Refusal.TheVariants.{Broken}
+use Rattle.vb_virtio.specs.Queues.{Kind, Request, kind_of_queue}
 use Rattle.vb_model.specs.declared.calls.Call.TheVariants.{Serve}
-use Rattle.vb_model.specs.declared.replies.Refusal.{Refusal}
-use Rattle.vb_model.specs.declared.replies.Refusal.TheVariants.{Broken}
 use Rattle.vb_model.specs.declared.replies.Reply.{Reply}
 use Rattle.vb_model.specs.declared.replies.Reply.TheVariants.{Finished, Refused, Served, Taken}
-use Rattle.vb_model.specs.Requests.{Kind, Request, kind_of_queue}
 use Rattle.vb_model.specs.Guest.{Guest, requests}
 use Rattle.vb_model.specs.Device.{Finishes, ServesRequests, TakesBuffer, TakesRequest}
 use Rattle.vb_model.specs.Refusals.{refusal_of}

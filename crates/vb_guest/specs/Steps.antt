@@ -4,10 +4,9 @@ use Rattle.std.specs.Prelude.{None, count_by}
 use Rattle.vb_model.specs.declared.calls.Call.{Call}
 use Rattle.vb_model.specs.declared.calls.Claim.{Claim}
 use Rattle.vb_model.specs.declared.replies.Reply.{Reply}
-use Rattle.vb_model.specs.Tests.{one_if}
+use Rattle.vb_virtio.specs.Tests.{one_if, times}
 use Rattle.vb_model.specs.Guest.{Guest}
 use Rattle.vb_model.specs.Rogue.{GuestStep}
-use Rattle.vb_model.specs.Orderly.{times}
 use Rattle.vb_frames.specs.Out.{is_out, AllAnswered}
 use Rattle.vb_model.specs.Life.{after_restart}
 use Rattle.vb_ram.specs.Pages.{Pages, frame_at}

@@ -10,7 +10,8 @@ use crate::served::Served;
 use std::alloc::AllocError;
 use vb_device::{Statistics, Worked};
 use vb_driver::{Posted, Reaped};
-use vb_model::{BalloonState, Bytes, LastStatistics, PageRuns, Refusal, Reply};
+use vb_model::{BalloonState, Bytes, PageRuns, Reply};
+use vb_virtio::{LastStatistics, Refusal};
 
 pub(crate) fn ready_reply(answer: Result<(), Refusal>) -> Reply
     ensures { result ≡ ready_reply answer }

@@ -1,7 +1,7 @@
 //! The device serves a queue: chain after chain.
 
 ghost use Rattle.std.specs.Prelude.{◌≡◌, ◌≤◌, ◌+◌, true, []};
-ghost use Rattle.vb_model.specs.declared.limits.TheConstants.{MAX_QUEUE_SIZE};
+ghost use Rattle.vb_virtio.specs.declared.limits.TheConstants.{MAX_QUEUE_SIZE};
 ghost use Rattle.vb_driver.specs.State.{DriverState};
 ghost use Rattle.vb_guest.specs.Exact.{KeepsFrames};
 ghost use Rattle.vb_guest.specs.Promises.{EachReaches, EachSteps, SomeGuestOut, moment};
@@ -13,9 +13,10 @@ use crate::frames::return_loose;
 use crate::served::Served;
 use vb_device::Device;
 use vb_frames::FrameKeeper;
-use vb_model::layout::STATISTICS_QUEUE;
-use vb_model::limits::MAX_QUEUE_SIZE;
-use vb_model::{Call, Refusal};
+use vb_model::Call;
+use vb_virtio::Refusal;
+use vb_virtio::layout::STATISTICS_QUEUE;
+use vb_virtio::limits::MAX_QUEUE_SIZE;
 
 /// The device serves the next chain of a queue. Frames that its pages lose go back to where they
 /// came from.

@@ -11,16 +11,23 @@ use Rattle.vb_model.specs.{Determined.Agree, Device.{Finishes, ReturnsBuffer, Ta
 use Rattle.vb_model.specs.{Device.{TakesRequest, Works, next_page}, Driver.{Fills, Posts, Reaps}}
 use Rattle.vb_model.specs.Driver.{Written, after_posting, claim_refusal, pages_needed}
 use Rattle.vb_model.specs.{Driver.stranded_first, Guest.{Guest, requests}, Life.Negotiates}
-use Rattle.vb_model.specs.{Life.{feature_refusal, lacking}, Refusals.{deflate_count, inflate_count}}
-use Rattle.vb_model.specs.{Refusals.{oom_count, refusal_of}, Requests.{BufferTaken, Deflating}}
-use Rattle.vb_model.specs.Requests.{Inflating, IsLeastHead, Kind, NoBuffer, Reporting_free, Request}
-use Rattle.vb_model.specs.Requests.{Requests, StatisticsBuffer, all_requests, headed, kind_of_queue}
+use Rattle.vb_virtio.specs.Status.{feature_refusal}
+use Rattle.vb_virtio.specs.Queues.{Deflating, Inflating, Kind, Reporting_free, Request}
+use Rattle.vb_virtio.specs.Queues.{kind_of_queue}
+use Rattle.vb_virtio.specs.declared.refusals.Refusal.{Refusal}
+use Rattle.vb_model.specs.Life.{lacking}
+use Rattle.vb_model.specs.Refusals.{deflate_count, inflate_count}
+use Rattle.vb_model.specs.Refusals.{oom_count, refusal_of}
+use Rattle.vb_model.specs.Requests.{BufferTaken}
+use Rattle.vb_model.specs.Requests.{IsLeastHead, NoBuffer}
+use Rattle.vb_model.specs.Requests.{Requests, StatisticsBuffer, all_requests, headed}
 use Rattle.vb_model.specs.{Rogue.Scribbled, Step.HonestStep, declared.calls.Call.Call}
 use Rattle.vb_model.specs.declared.calls.Call.TheVariants.{Alloc, Ask, Deflate, Finish, Free}
 use Rattle.vb_model.specs.declared.calls.Call.TheVariants.{Inflate, Init, Oom, Read, Reap, Report}
 use Rattle.vb_model.specs.declared.calls.Call.TheVariants.{Reset, Scribble, SetTarget, Stats, Sweep}
 use Rattle.vb_model.specs.declared.calls.{Call.TheVariants.{Take, Work, Write}, Claim.Claim}
-use Rattle.vb_model.specs.declared.replies.{Refusal.Refusal, Reply.{Reply, TheVariants.Posted}}
+use Rattle.vb_model.specs.declared.replies.Reply.{Reply}
+use Rattle.vb_model.specs.declared.replies.Reply.TheVariants.{Posted}
 use Rattle.vb_model.specs.declared.replies.Reply.TheVariants.{Refused}
 
 -- ---- two choices of one case

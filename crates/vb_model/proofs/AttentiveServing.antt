@@ -4,7 +4,9 @@ use Rattle.std.specs.Prelude.{Some, slice_get}
 use Rattle.vb_model.proofs.{PageSteps.after_take, Serving.serving_keeps}
 use Rattle.vb_model.specs.{Device.visited, Driver.reaped}
 use Rattle.vb_model.specs.{Device.{ServesRequests, settled, used}, Guest.{Guest, requests}}
-use Rattle.vb_model.specs.{Guest.with_requests, HonestRuns.IsAttentive, Requests.{Kind, Request}}
+use Rattle.vb_virtio.specs.Queues.{Kind, Request}
+use Rattle.vb_model.specs.Guest.{with_requests}
+use Rattle.vb_model.specs.HonestRuns.{IsAttentive}
 use Rattle.vb_model.specs.declared.replies.Reply.{Reply}
 
 pub attentive_take : (kind : Kind) (g : Guest) (r : Request) (rest : List Request)

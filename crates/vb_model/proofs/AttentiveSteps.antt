@@ -7,11 +7,17 @@ use Rattle.vb_model.proofs.AttentiveServing.{attentive_reap, attentive_work, ser
 use Rattle.vb_model.proofs.Deeds.{Buffered, Has_finished, Has_reaped, Has_scribbled, Has_taken}
 use Rattle.vb_model.proofs.Deeds.{Initialised, Visited}
 use Rattle.vb_model.specs.{HonestRuns.has_buffer, Requests.StatisticsBuffer}
-use Rattle.vb_model.specs.declared.replies.LastStatistics.{LastStatistics}
+use Rattle.vb_virtio.specs.declared.statistics.LastStatistics.{LastStatistics}
+use Rattle.vb_virtio.specs.Queues.{Kind}
+use Rattle.vb_virtio.specs.Status.{is_up}
 use Rattle.vb_model.proofs.Deeds.{Aimed, Allocated, Deed, Freed, Has_posted, Has_swept, Has_written}
 use Rattle.vb_model.{proofs.Deeds.{Stayed, deed}, specs.Guest.{Guest, with_requests}}
-use Rattle.vb_model.specs.{HonestRuns.IsAttentive, Orderly.IsOrderly, Requests.{Kind, Requests}}
-use Rattle.vb_model.specs.{Step.HonestStep, Tables.is_up, declared.calls.{Call.Call, Claim.Claim}}
+use Rattle.vb_model.specs.HonestRuns.{IsAttentive}
+use Rattle.vb_model.specs.Orderly.{IsOrderly}
+use Rattle.vb_model.specs.Requests.{Requests}
+use Rattle.vb_model.specs.Step.{HonestStep}
+use Rattle.vb_model.specs.declared.calls.Call.{Call}
+use Rattle.vb_model.specs.declared.calls.Claim.{Claim}
 use Rattle.vb_model.specs.declared.{places.Place.Place, replies.Reply.Reply}
 
 -- ---- a ready guest

@@ -7,34 +7,46 @@ use Rattle.std.specs.{List.list_any, Prelude.{MatchOption, None, Some, count_by,
 use Rattle.std.specs.Prelude.{nat_lt, not, slice_get, ◌&&◌}
 use Rattle.vb_model.proofs.{Blocks.reported_distinct, Cases.{Idles, Visits, inflated_pages}}
 use Rattle.vb_model.proofs.Cases.{lent_pages, match_cases, not_refused, reported_pages, supplied}
-use Rattle.vb_model.proofs.{Counts.length-pages_where, Distinct.{distinct_where, inflated_distinct}}
+use Rattle.vb_virtio.proofs.Distinct.{distinct_where}
+use Rattle.vb_virtio.specs.Queues.{is_unvisited, Deflating, Inflating, Kind, Reporting_free}
+use Rattle.vb_virtio.specs.Queues.{Request, kind_of_queue, queue_of}
+use Rattle.vb_virtio.specs.Status.{feature_refusal, is_up}
+use Rattle.vb_virtio.specs.Limits.{max_order, min_reported_order}
+use Rattle.vb_virtio.specs.Tests.{times, is_in, one_if, pages_where}
+use Rattle.vb_virtio.specs.declared.refusals.Refusal.{Refusal}
+use Rattle.vb_virtio.specs.declared.statistics.LastStatistics.{LastStatistics}
+use Rattle.vb_virtio.specs.declared.refusals.Refusal.TheVariants.{NoMemory}
+use Rattle.vb_model.proofs.Counts.{length-pages_where}
+use Rattle.vb_model.proofs.Distinct.{inflated_distinct}
 use Rattle.vb_model.proofs.{PageSteps.{after_take, can_be_given, naming-cons}, Performed.Performed}
 use Rattle.vb_model.{proofs.Performed.honest_case, specs.{Courses.posts_deflate, Device.Works}}
 use Rattle.vb_model.specs.declared.replies.Reply.TheVariants.{Served}
 use Rattle.vb_model.specs.Device.{ServesBuffer, ServesRequests}
-use Rattle.vb_model.specs.Device.{ReturnsBuffer, TakesBuffer, TakesRequest, has_frame, is_unvisited}
+use Rattle.vb_model.specs.Device.{ReturnsBuffer, TakesBuffer, TakesRequest, has_frame}
 use Rattle.vb_model.specs.{Device.{next_page, settled, used, visited}, Driver.{AreClaimsFor, Fills}}
 use Rattle.vb_model.specs.Driver.{Deflates, Reaps, Written, after_free, after_posting, figures}
 use Rattle.vb_model.specs.Driver.{claim_refusal, lowest_lent, pages_needed, reaped, stranded_first}
 use Rattle.vb_model.specs.{Driver.with_block, Guest.{Guest, is_ballooned, requests, tells_host}}
 use Rattle.vb_model.specs.{Guest.{unbacked, with_requests}, HonestRuns.has_buffer, Life.Negotiates}
-use Rattle.vb_model.specs.{Life.{after_reset, feature_refusal, lacking}, Limits.max_order}
-use Rattle.vb_model.specs.{Limits.min_reported_order, Orderly.times, Pages.{Block, is_free}}
+use Rattle.vb_model.specs.Life.{after_reset, lacking}
+use Rattle.vb_model.specs.Pages.{Block, is_free}
 use Rattle.vb_model.specs.Pages.{is_lent, is_same_block, is_wholly_free, pages_of, pages_of_all}
 use Rattle.vb_model.specs.{Pages.{place_of, placed}, Refusals.{causes, deflate_count, oom_count}}
 use Rattle.vb_model.specs.{Refusals.{refusal_of, reported_blocks, room}, Requests.BufferDone}
-use Rattle.vb_model.specs.Requests.{BufferPosted, BufferTaken, Deflating, Inflating, IsLeastHead}
-use Rattle.vb_model.specs.Requests.{Kind, Reporting_free, Request, StatisticsBuffer, kind_of_queue}
-use Rattle.vb_model.specs.{Requests.{names, naming, outstanding, queue_of}, Rogue.Scribbled}
-use Rattle.vb_model.specs.{Step.HonestStep, Tables.is_up, Tests.{is_in, one_if, pages_where}}
+use Rattle.vb_model.specs.Requests.{BufferPosted, BufferTaken, IsLeastHead}
+use Rattle.vb_model.specs.Requests.{StatisticsBuffer}
+use Rattle.vb_model.specs.Requests.{names, naming, outstanding}
+use Rattle.vb_model.specs.Rogue.{Scribbled}
+use Rattle.vb_model.specs.Step.{HonestStep}
 use Rattle.vb_model.specs.declared.calls.Call.{Call, TheVariants.{Alloc, Ask, Deflate, Finish, Oom}}
 use Rattle.vb_model.specs.declared.calls.Call.TheVariants.{Free, Inflate, Init, Read, Reap, Report}
 use Rattle.vb_model.specs.declared.calls.Call.TheVariants.{Reset, Scribble, Serve, SetTarget, Stats}
 use Rattle.vb_model.specs.declared.calls.Call.TheVariants.{Sweep}
 use Rattle.vb_model.specs.declared.calls.{Call.TheVariants.{Take, Work, Write}, Claim.Claim}
-use Rattle.vb_model.specs.declared.{places.Place.{Place, TheVariants.Used}, replies.Refusal.Refusal}
-use Rattle.vb_model.specs.declared.replies.{LastStatistics.LastStatistics, Reply.Reply}
-use Rattle.vb_model.specs.declared.replies.{Refusal.TheVariants.NoMemory, Reply.TheVariants.Done}
+use Rattle.vb_model.specs.declared.places.Place.{Place}
+use Rattle.vb_model.specs.declared.places.Place.TheVariants.{Used}
+use Rattle.vb_model.specs.declared.replies.Reply.{Reply}
+use Rattle.vb_model.specs.declared.replies.Reply.TheVariants.{Done}
 use Rattle.vb_model.specs.declared.replies.Reply.TheVariants.{Finished, Page, Posted, Reaped, Swept}
 use Rattle.vb_model.specs.declared.replies.Reply.TheVariants.{Refused, Taken, Worked}
 

@@ -1,9 +1,9 @@
 -- Which request asks a page back: no other one of the kind names it.
-use Rattle.std.proofs.Common.{List, [], arith, false, refl, suc, true, zero, ℕ, ◌++◌, ◌∷◌, ◌≡◌}
+use Rattle.std.proofs.Common.{List, [], arith, refl, suc, true, zero, ℕ, ◌++◌, ◌∷◌, ◌≡◌}
 use Rattle.std.specs.Prelude.{Some, remove, slice_get}
 use Rattle.vb_model.proofs.PageSteps.{after_finish, after_reap, after_take, naming-all, naming-cons}
-use Rattle.vb_model.specs.Requests.{Request, Requests, all_requests, names, naming, posting}
-use Rattle.vb_model.specs.Tests.{one_if}
+use Rattle.vb_virtio.specs.Queues.{Request}
+use Rattle.vb_model.specs.Requests.{Requests, all_requests, names, naming, posting}
 
 abbrev pub OnlyIn : ℕ → ℕ → List ℕ → List Request → Type 0
 OnlyIn page head pages [] = Unit {0}

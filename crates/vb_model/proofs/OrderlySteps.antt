@@ -10,22 +10,36 @@ use Rattle.vb_model.proofs.{Cases.{supplied, wholly_free_pages}, Deeds.{Aimed, A
 use Rattle.vb_model.proofs.Deeds.{Deed, Freed, Has_finished, Has_posted, Has_reaped, Has_scribbled}
 use Rattle.vb_model.proofs.Deeds.{Has_swept, Has_taken, Has_written, Initialised, IsPosting, Stayed}
 use Rattle.vb_model.proofs.{Deeds.{Visited, Was_reset, deed, leaves}, GuestSteps.report_reporting}
-use Rattle.vb_model.proofs.{Deeds.most, InOrder.orderly_work, PageSteps.{after_take, outside-range}}
+use Rattle.vb_virtio.proofs.Ranges.{outside-range}
+use Rattle.vb_virtio.proofs.Tables.{length-each_from}
+use Rattle.vb_virtio.specs.Layout.{reserved_pages}
+use Rattle.vb_virtio.specs.declared.refusals.Refusal.{Refusal}
+use Rattle.vb_virtio.specs.Status.{feature_refusal}
+use Rattle.vb_virtio.specs.Limits.{max_order}
+use Rattle.vb_virtio.specs.Queues.{Deflating, Inflating, Kind, Reporting_free, Request}
+use Rattle.vb_virtio.specs.Tests.{is_in}
+use Rattle.vb_model.proofs.Deeds.{most}
+use Rattle.vb_model.proofs.InOrder.{orderly_work}
+use Rattle.vb_model.proofs.PageSteps.{after_take}
 use Rattle.vb_model.proofs.GuestSteps.{deflate_there, held_used, inflate_giving, length-reaped}
 use Rattle.vb_model.proofs.{GuestSteps.{not_reserved, placed-get}, LifeSteps.place_of-reset}
 use Rattle.vb_model.proofs.InOrder.{orderly_finish, orderly_posting, orderly_reap, orderly_take}
-use Rattle.vb_model.{proofs.Tables.length-each_from, specs.{Consistent.IsConsistent, Life.lacking}}
+use Rattle.vb_model.specs.Consistent.{IsConsistent}
+use Rattle.vb_model.specs.Life.{lacking}
 use Rattle.vb_model.specs.{Device.{settled, used, visited}, Driver.{after_posting, reaped}}
 use Rattle.vb_model.specs.{Driver.{with_block, without_block}, Guest.{Config, Guest, fresh}}
-use Rattle.vb_model.specs.{Guest.{requests, tells_host, with_requests}, Layout.reserved_pages}
-use Rattle.vb_model.specs.{Life.after_reset, declared.replies.{Refusal.Refusal, Reply.Reply}}
-use Rattle.vb_model.specs.{Life.feature_refusal, declared.places.Place.TheVariants.{Reserved, Used}}
-use Rattle.vb_model.specs.{Limits.max_order, Orderly.{AreBlocks, AreOrderly, IsBlock, IsOrderly}}
+use Rattle.vb_model.specs.Guest.{requests, tells_host, with_requests}
+use Rattle.vb_model.specs.Life.{after_reset}
+use Rattle.vb_model.specs.declared.replies.Reply.{Reply}
+use Rattle.vb_model.specs.declared.places.Place.TheVariants.{Reserved, Used}
+use Rattle.vb_model.specs.Orderly.{AreBlocks, AreOrderly, IsBlock, IsOrderly}
 use Rattle.vb_model.specs.Pages.{Block, is_aligned, is_free, is_giving, is_reporting, is_reserved}
 use Rattle.vb_model.specs.Pages.{is_same_block, is_used, is_wholly_free, pages_of, place_of, placed}
-use Rattle.vb_model.specs.{Pages.size, Requests.{Deflating, Inflating, Kind, Reporting_free}}
-use Rattle.vb_model.specs.Requests.{Request, Requests, names, place_posted, places_reaped}
-use Rattle.vb_model.specs.{Step.HonestStep, Tests.is_in, declared.calls.{Call.Call, Claim.Claim}}
+use Rattle.vb_model.specs.Pages.{size}
+use Rattle.vb_model.specs.Requests.{Requests, names, place_posted, places_reaped}
+use Rattle.vb_model.specs.Step.{HonestStep}
+use Rattle.vb_model.specs.declared.calls.Call.{Call}
+use Rattle.vb_model.specs.declared.calls.Claim.{Claim}
 use Rattle.vb_model.specs.declared.places.Place.{Place, TheVariants.{Free as FreePlace, Lent}}
 
 -- ---- places

@@ -8,21 +8,32 @@ use Rattle.std.specs.Prelude.{◌||◌}
 use Rattle.vb_model.proofs.{Deeds.served, Performed.Performed}
 use Rattle.vb_model.specs.declared.calls.Call.TheVariants.{Serve}
 use Rattle.vb_model.proofs.{Deeds.Has_served, PageSteps.{SameNamed-take, after_take, finished, same_all}}
-use Rattle.vb_model.proofs.{PageSteps.naming-all, Serving.serving_keeps, Tables.is_in-append}
-use Rattle.vb_model.specs.{Device.ServesRequests, Guest.zero_page, Requests.all_requests}
-use Rattle.vb_model.specs.Tests.{each_from, marked}
+use Rattle.vb_virtio.proofs.Tables.{is_in-append}
+use Rattle.vb_virtio.specs.Memory.{zero_page}
+use Rattle.vb_virtio.specs.Tests.{each_from, marked, is_in}
+use Rattle.vb_virtio.specs.Status.{feature_refusal}
+use Rattle.vb_virtio.specs.Queues.{Kind, Deflating, Inflating, Reporting_free, Request}
+use Rattle.vb_virtio.specs.declared.refusals.Refusal.{Refusal}
+use Rattle.vb_model.proofs.PageSteps.{naming-all}
+use Rattle.vb_model.proofs.Serving.{serving_keeps}
+use Rattle.vb_model.specs.Device.{ServesRequests}
+use Rattle.vb_model.specs.Requests.{all_requests}
 use Rattle.vb_model.proofs.{Cases.supplied, Deeds.{Aimed, Allocated, Buffered, Deed, Freed, Stayed}}
 use Rattle.vb_model.proofs.Deeds.{Has_finished, Has_posted, Has_reaped, Has_scribbled, Has_swept}
 use Rattle.vb_model.proofs.Deeds.{Has_taken, Has_written, Initialised, Visited, Was_reset, deed}
 use Rattle.vb_model.{proofs.PageSteps.naming-cons, specs.Device.{settled, used, visited}}
 use Rattle.vb_model.specs.{Driver.{AreClaimsFor, Written, claim_refusal, pages_needed}, Guest.Guest}
 use Rattle.vb_model.specs.Guest.{is_ballooned, requests, tells_host, unbacked, with_requests}
-use Rattle.vb_model.specs.{Life.{Negotiates, after_reset, feature_refusal, lacking}, Requests.Kind}
-use Rattle.vb_model.specs.{Refusals.refusal_of, Requests.{Deflating, Inflating, Reporting_free}}
-use Rattle.vb_model.specs.{Requests.{Request, Requests, naming}, Rogue.Scribbled, Step.HonestStep}
-use Rattle.vb_model.specs.{Tests.is_in, declared.calls.Call.{Call, TheVariants.{Init, Scribble}}}
+use Rattle.vb_model.specs.Life.{Negotiates, after_reset, lacking}
+use Rattle.vb_model.specs.Refusals.{refusal_of}
+use Rattle.vb_model.specs.Requests.{Requests, naming}
+use Rattle.vb_model.specs.Rogue.{Scribbled}
+use Rattle.vb_model.specs.Step.{HonestStep}
+use Rattle.vb_model.specs.declared.calls.Call.{Call}
+use Rattle.vb_model.specs.declared.calls.Call.TheVariants.{Init, Scribble}
 use Rattle.vb_model.specs.declared.calls.{Call.TheVariants.{SetTarget, Write}, Claim.Claim}
-use Rattle.vb_model.specs.declared.{places.Place.Place, replies.{Refusal.Refusal, Reply.Reply}}
+use Rattle.vb_model.specs.declared.places.Place.{Place}
+use Rattle.vb_model.specs.declared.replies.Reply.{Reply}
 
 -- the guest with the other one's places, blocks, requests, buffer and ballooned pages
 abbrev pub shuffled : (g x : Guest) → Guest

@@ -8,14 +8,17 @@ use Rattle.vb_model.proofs.Deeds.{Freed, Has_finished, Has_posted, Has_reaped, H
 use Rattle.vb_model.proofs.Deeds.{Has_swept, Has_taken, Has_written, Initialised, Stayed, Visited}
 use Rattle.vb_model.{proofs.Deeds.{Was_reset, is_refused}, specs.{Guest.Guest, HostEvents.Happens}}
 use Rattle.vb_model.specs.{HostEvents.PlugsIn, HostRefusals.world_causes, Life.Negotiates}
-use Rattle.vb_model.specs.{Life.{after_restart, feature_refusal, lacking}, Refusals.first_refusal}
+use Rattle.vb_virtio.specs.Status.{feature_refusal}
+use Rattle.vb_virtio.specs.FirstRefusal.{first_refusal}
+use Rattle.vb_virtio.specs.declared.refusals.Refusal.{Refusal}
+use Rattle.vb_model.specs.Life.{after_restart, lacking}
 use Rattle.vb_model.specs.StepLaws.{IsUnchanged, RefusalsChangeNothing, RefusedEventsChangeNothing}
 use Rattle.vb_model.specs.{StepLaws.with_features_refused, World.{World, guest_at, put_guest}}
 use Rattle.vb_model.specs.declared.calls.{Call.{Call, TheVariants.Init}, Claim.Claim, Event.Event}
 use Rattle.vb_model.specs.declared.calls.Event.TheVariants.{Balance, Frames as CountFrames, Plug}
 use Rattle.vb_model.specs.declared.calls.Event.TheVariants.{Guest as OnGuest, Query as OnQuery}
 use Rattle.vb_model.specs.declared.{calls.Event.TheVariants.{Restart, Unplug}, replies.Reply.Reply}
-use Rattle.vb_model.specs.declared.replies.{Refusal.Refusal, Reply.TheVariants.{Done, Refused}}
+use Rattle.vb_model.specs.declared.replies.Reply.TheVariants.{Done, Refused}
 
 pub not_this : {A : Type 0} (refusal : Refusal) (reply : Reply) → Refused refusal ≡ reply
     → is_refused reply ≡ false → A

@@ -4,7 +4,9 @@ use Rattle.std.{proofs.lemmas.{Bool.{cases_lt, lt-ltb}, List.get_or_past}, specs
 use Rattle.vb_model.proofs.Unchanged.{serve_stays_honest}
 use Rattle.vb_model.proofs.{Changes.{Change, changes}, PageSteps.naming-all}
 use Rattle.vb_model.specs.{Consistent.IsConsistent, Guest.{Guest, is_ballooned}}
-use Rattle.vb_model.specs.{HostEvents.WorldStep, Layout.reserved_pages, Orderly.IsOrderly}
+use Rattle.vb_virtio.specs.Layout.{reserved_pages}
+use Rattle.vb_model.specs.HostEvents.{WorldStep}
+use Rattle.vb_model.specs.Orderly.{IsOrderly}
 use Rattle.vb_model.specs.{Pages.{is_reserved, place_of}, StepLaws.HasNoReservedBallooned}
 use Rattle.vb_model.specs.{World.{World, guest_at}, declared.calls.Event.Event}
 use Rattle.vb_model.specs.declared.{places.Place.{Place, TheVariants.Reserved}, replies.Reply.Reply}

@@ -6,10 +6,12 @@ use Rattle.{std.specs.Prelude.{Option, Some, None}, vb_model.specs.Histories.IsS
 use Rattle.vb_model.{proofs.Samples.{ready, down, page_16_at, request}, specs.Guest.{Guest, fresh}}
 use Rattle.vb_model.specs.Courses.{Course, StaysHeld, StaysOrLoses, ReadsGiveLastWrites}
 use Rattle.vb_model.specs.{GuestRun.{Entry, Called}, declared.{calls.Call.Call, places.Place.Place}}
-use Rattle.vb_model.specs.{Requests.{Request, Requests}, declared.calls.Actor.TheVariants.Processor}
+use Rattle.vb_virtio.specs.Queues.{Request}
+use Rattle.vb_virtio.specs.declared.refusals.Refusal.TheVariants.{RingBroken, Broken, NoFrame}
+use Rattle.vb_model.specs.Requests.{Requests}
+use Rattle.vb_model.specs.declared.calls.Actor.TheVariants.{Processor}
 use Rattle.vb_model.specs.declared.calls.Call.TheVariants.{Read, Reap, Reset, Serve, Stats, Sweep}
 use Rattle.vb_model.specs.declared.{calls.Call.TheVariants.{Take, Work, Write}, replies.Reply.Reply}
-use Rattle.vb_model.specs.declared.replies.Refusal.TheVariants.{RingBroken, Broken, NoFrame}
 use Rattle.vb_model.specs.declared.replies.Reply.TheVariants.{Done, Idle, ReadBytes, Served, Swept}
 use Rattle.vb_model.specs.declared.replies.Reply.TheVariants.{Refused}
 use Rattle.vb_model.specs.declared.places.Place.TheVariants.{Free as FreePlace, Used, Reserved}

@@ -1,15 +1,18 @@
 -- Worked facts of a device that serves a queue.
-use Rattle.std.proofs.Common.{List, [], false, map, refl, replicate, sym, true, ℕ, ◌++◌, ◌∙◌, ◌∷◌, ◌≡◌}
+use Rattle.std.proofs.Common.{List, [], false, map, refl, replicate, true, ℕ, ◌++◌, ◌∷◌, ◌≡◌}
 use Rattle.std.specs.Prelude.{None, Option, Some}
-use Rattle.vb_model.proofs.{Agreeing.honest_agree, Faults.honest_no_fault, Samples.{StepsJustSo, config}}
+use Rattle.vb_model.proofs.{Agreeing.honest_agree, Faults.honest_no_fault, Samples.{StepsJustSo}}
 use Rattle.vb_model.proofs.Samples.{down, ready, request, without_reporting, without_stats_vq}
-use Rattle.vb_model.specs.{Device.{Finishes, settled, used, visited}, Guest.{Guest, no_statistics}}
-use Rattle.vb_model.specs.{Refusals.refusal_of, Requests.{BufferDone, BufferPosted, BufferTaken}}
-use Rattle.vb_model.specs.Requests.{Inflating, Request, Requests}
+use Rattle.vb_virtio.specs.Queues.{Inflating, Request}
+use Rattle.vb_virtio.specs.declared.refusals.Refusal.{Refusal}
+use Rattle.vb_virtio.specs.declared.refusals.Refusal.TheVariants.{Busy, NeedsReset, NoQueue}
+use Rattle.vb_virtio.specs.declared.refusals.Refusal.TheVariants.{NotReady}
+use Rattle.vb_model.specs.Device.{settled, used, visited}
+use Rattle.vb_model.specs.Guest.{Guest}
+use Rattle.vb_model.specs.{Refusals.refusal_of, Requests.{BufferPosted, BufferTaken}}
+use Rattle.vb_model.specs.Requests.{Requests}
 use Rattle.vb_model.specs.{Step.HonestStep, declared.calls.{Call.TheVariants.Serve, Claim.Claim}}
-use Rattle.vb_model.specs.declared.replies.{Refusal.{Refusal, TheVariants.{Busy, NeedsReset}}}
-use Rattle.vb_model.specs.declared.replies.Refusal.TheVariants.{NoQueue, NotReady}
-use Rattle.vb_model.specs.declared.replies.Reply.{Reply, TheVariants.{Finished, Served, Taken}}
+use Rattle.vb_model.specs.declared.replies.Reply.{Reply, TheVariants.{Served, Taken}}
 
 -- ---- what refuses it
 
@@ -88,19 +91,22 @@ abbrev two_used : Guest
 two_used = settled Inflating (18 ∷ []) (used Inflating 0 (request 2 (18 ∷ []) 0) two_taken)
 
 both_served : StepsJustSo two_inflates (Serve 0) [] (Served 2 None) two_used
-both_served = just_so two_inflates 0 (Served 2 None) two_used (refl, (
-  one_taken,
-  one_used,
-  (refl, refl),
-  (request 0 (16 ∷ 17 ∷ []) 0, refl, refl, refl),
+both_served = just_so two_inflates 0 (Served 2 None) two_used (
+  refl,
   (
-    two_taken,
-    two_used,
+    one_taken,
+    one_used,
     (refl, refl),
-    (request 2 (18 ∷ []) 0, refl, refl, refl),
-    (refl, refl),
+    (request 0 (16 ∷ 17 ∷ []) 0, refl, refl, refl),
+    (
+      two_taken,
+      two_used,
+      (refl, refl),
+      (request 2 (18 ∷ []) 0, refl, refl, refl),
+      (refl, refl),
+    ),
   ),
-))
+)
 
 -- they are used in their order, behind the one that was used before, and their pages are ballooned
 in_their_order : two_used.inflate ≡ record {

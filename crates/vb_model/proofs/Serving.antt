@@ -1,10 +1,11 @@
 -- What holds of a guest whose requests are served, one after the other.
-use Rattle.std.proofs.Common.{List, [], ap, arith, inl, inr, refl, subst, sym, ℕ, ◌+◌, ◌∙◌, ◌∷◌, ◌≡◌}
+use Rattle.std.proofs.Common.{List, [], ap, refl, subst, sym, ℕ, ◌+◌, ◌∙◌, ◌∷◌, ◌≡◌}
 use Rattle.std.specs.Prelude.{Some, slice_get}
 use Rattle.vb_model.proofs.PageSteps.{after_take}
 use Rattle.vb_model.specs.{Device.{ServesRequests, settled, used}, Guest.{Guest, requests}}
-use Rattle.vb_model.specs.{Guest.with_requests, Requests.{Deflating, Inflating, Kind}}
-use Rattle.vb_model.specs.{Requests.{Reporting_free, Request}, declared.replies.Reply.Reply}
+use Rattle.vb_virtio.specs.Queues.{Deflating, Inflating, Kind, Reporting_free, Request}
+use Rattle.vb_model.specs.Guest.{with_requests}
+use Rattle.vb_model.specs.declared.replies.Reply.{Reply}
 
 -- what is posted behind a request that was taken and used
 rest_posted : (kind : Kind) (r x : Request) (rest : List Request) (g : Guest)

@@ -5,20 +5,30 @@ use Rattle.std.{proofs.lemmas.Bool.{or_left, or_right}, specs.{List.list_all, Pr
 use Rattle.std.specs.Prelude.{Option, Some, is_none, not, ◌&&◌, ◌==◌, ◌||◌}
 use Rattle.std.specs.Prelude.{MatchOption}
 use Rattle.vb_model.{proofs.Deeds.served_reply, specs.Device.{ServesBuffer, ServesRequests}}
-use Rattle.vb_model.specs.{Guest.requests, Requests.{Kind, kind_of_queue}}
+use Rattle.vb_virtio.specs.Queues.{Kind, kind_of_queue}
+use Rattle.vb_virtio.proofs.Tables.{list_all-at}
+use Rattle.vb_virtio.specs.Layout.{start_pages}
+use Rattle.vb_virtio.specs.FirstRefusal.{Cause, first_refusal}
+use Rattle.vb_virtio.specs.Tests.{is_in}
+use Rattle.vb_virtio.specs.declared.refusals.Refusal.{Refusal}
+use Rattle.vb_virtio.specs.declared.refusals.Refusal.TheVariants.{NoFrame, NoMemory}
+use Rattle.vb_model.specs.Guest.{requests}
 use Rattle.vb_model.specs.declared.calls.Call.TheVariants.{Serve}
 use Rattle.vb_model.proofs.{Cases.{all_filtered, by_kind, match_cases}, Performed.Performed}
-use Rattle.vb_model.{proofs.{Performed.honest_case, Tables.list_all-at}, specs.Driver.AreClaimsFor}
+use Rattle.vb_model.proofs.Performed.{honest_case}
+use Rattle.vb_model.specs.Driver.{AreClaimsFor}
 use Rattle.vb_model.specs.{Driver.{claim_refusal, pages_needed}, Guest.{Guest, frame_of}}
-use Rattle.vb_model.specs.{HostFrames.Gives, Layout.start_pages, Life.lacking, Refusals.Cause}
-use Rattle.vb_model.specs.{Refusals.{causes, first_refusal, refusal_of}, Rogue.GuestStep}
+use Rattle.vb_model.specs.HostFrames.{Gives}
+use Rattle.vb_model.specs.Life.{lacking}
+use Rattle.vb_model.specs.Refusals.{causes, refusal_of}
+use Rattle.vb_model.specs.Rogue.{GuestStep}
 use Rattle.vb_model.specs.Rogue.{after_refused, is_read, pages_to_back, unless_refused}
 use Rattle.vb_model.specs.{Step.HonestStep, StepLaws.{ClaimsAreNeeded, NeededPagesAreBare}}
 use Rattle.vb_model.specs.StepLaws.{NoFrameIsExact, NoMemoryIsExact, RefusedClaimsAreAnswered}
-use Rattle.vb_model.specs.{Tests.is_in, declared.calls.Call.{Call, TheVariants.{Init, Read}}}
+use Rattle.vb_model.specs.declared.calls.Call.{Call}
+use Rattle.vb_model.specs.declared.calls.Call.TheVariants.{Init, Read}
 use Rattle.vb_model.specs.declared.calls.{Call.TheVariants.{Scribble, Write}, Claim.Claim}
 use Rattle.vb_model.specs.declared.calls.Claim.TheVariants.{Gave, GaveNoFrame, GaveNoMemory}
-use Rattle.vb_model.specs.declared.replies.Refusal.{Refusal, TheVariants.{NoFrame, NoMemory}}
 use Rattle.vb_model.specs.declared.replies.Reply.{Reply, TheVariants.Refused}
 
 -- ---- claims

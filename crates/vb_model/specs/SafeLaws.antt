@@ -3,7 +3,7 @@ use Rattle.std.specs.Prelude.{◌≡◌, ◌≢◌, ℕ, ◌+◌, [], Some, slic
 use Rattle.vb_model.specs.declared.places.Place.TheVariants.{Used, Lent}
 use Rattle.vb_model.specs.declared.calls.Call.{Call}
 use Rattle.vb_model.specs.declared.calls.Event.TheVariants.{Guest as OnGuest}
-use Rattle.vb_model.specs.declared.replies.Refusal.TheVariants.{RingBroken, Broken}
+use Rattle.vb_virtio.specs.declared.refusals.Refusal.TheVariants.{RingBroken, Broken}
 use Rattle.vb_model.specs.declared.replies.Reply.{Reply}
 use Rattle.vb_model.specs.declared.replies.Reply.TheVariants.{Served}
 use Rattle.vb_model.specs.declared.replies.Reply.TheVariants.{Refused}

@@ -1,13 +1,13 @@
 //! The lines of refusals.
 
 ghost use Rattle.std.specs.Prelude.{OnOk};
-ghost use Rattle.vb_model.specs.declared.replies.Refusal.TheVariants.{Short};
+ghost use Rattle.vb_virtio.specs.declared.refusals.Refusal.TheVariants.{Short};
 ghost use Rattle.vb_reply.specs.Held.{Puts};
 ghost use Rattle.vb_reply.specs.Replies.{refusal_text};
 
 use crate::held::{Failed, Held, put, put_number, put_with};
 use std::io::Write;
-use vb_model::Refusal;
+use vb_virtio::Refusal;
 
 /// Puts why an event was refused.
 pub(crate) fn put_refusal<W: Write>(

@@ -15,7 +15,8 @@ use crate::held::{Failed, Held, put, put_digits, put_number, put_with, release};
 use crate::refusals::put_refusal;
 use std::io;
 use std::io::Write;
-use vb_model::{BalloonState, LastStatistics, PageRun, PlaceCounts, Reply};
+use vb_model::{BalloonState, PageRun, PlaceCounts, Reply};
+use vb_virtio::LastStatistics;
 
 /// Writes what an event was answered as one line, which ends in a line feed. Fails where a write to
 /// `out` does; what was written until then is part of the line.

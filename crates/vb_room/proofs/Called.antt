@@ -11,12 +11,14 @@ use Rattle.vb_model.proofs.Serving.{serving_keeps}
 use Rattle.std.specs.Prelude.{remove}
 use Rattle.vb_model.specs.Device.{ServesRequests, settled, used}
 use Rattle.vb_model.specs.Driver.{claim_refusal}
-use Rattle.vb_model.specs.FirstRefusal.{first_refusal}
+use Rattle.vb_virtio.specs.FirstRefusal.{first_refusal}
+use Rattle.vb_virtio.specs.Status.{feature_causes}
+use Rattle.vb_virtio.specs.Queues.{Deflating, Inflating, Kind, Reporting_free, Request}
+use Rattle.vb_virtio.specs.Queues.{kind_of_queue}
 use Rattle.vb_model.specs.Guest.{Guest, requests, tells_host, with_requests}
 use Rattle.vb_model.specs.HostEvents.{WorldStep}
-use Rattle.vb_model.specs.Life.{feature_causes}
 use Rattle.vb_model.specs.Refusals.{refusal_of}
-use Rattle.vb_model.specs.Requests.{Deflating, Inflating, Kind, Reporting_free, Request, kind_of_queue, pages_named}
+use Rattle.vb_model.specs.Requests.{pages_named}
 use Rattle.vb_model.specs.Rogue.{GuestStep}
 use Rattle.vb_model.specs.World.{World, guest_at}
 use Rattle.vb_model.specs.declared.calls.Call.{Call}
@@ -103,10 +105,10 @@ serves_finish Reporting_free x g new s e f = (omega (arith, s.0), omega (arith, 
 serves : (kind : Kind) (g new : Guest) (reply : Reply) → ServesRequests kind (requests kind g).posted 0 g reply new → ServesSo kind g new
 serves kind g new reply s = serving_keeps kind (ServesSo kind g)
     (λ x r rest e h. serves_on kind g x (with_requests kind (after_take r rest (requests kind x)) x) h
-        (serves_take kind x (with_requests kind (after_take r rest (requests kind x)) x) (with_same kind _ x) (taken_left kind r rest x e)))
+    (serves_take kind x (with_requests kind (after_take r rest (requests kind x)) x) (with_same kind _ x) (taken_left kind r rest x e)))
     (λ x r e h. let done = finished_left kind r x e in
-        serves_on kind g x (settled kind r.pages (used kind 0 r x)) h
-        (serves_finish kind r x (settled kind r.pages (used kind 0 r x)) (finishes kind 0 r x _ e refl) done.0 done.1))
+    serves_on kind g x (settled kind r.pages (used kind 0 r x)) h
+    (serves_finish kind r x (settled kind r.pages (used kind 0 r x)) (finishes kind 0 r x _ e refl) done.0 done.1))
     (requests kind g).posted 0 g reply new refl s (omega arith, omega arith)
 
 serve_so : (o : Option Kind) (q : ℕ) (kind : Kind) (g new : Guest) → kind_of_queue q ≡ Some kind → ServesSo kind g new → CountsSo (Serve q) g new

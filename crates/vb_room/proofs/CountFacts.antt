@@ -5,7 +5,8 @@ use Rattle.vb_model.specs.declared.calls.Call.TheVariants.{Alloc, Ask, Deflate, 
 use Rattle.vb_model.specs.Device.{settled}
 use Rattle.vb_model.specs.Guest.{Guest}
 use Rattle.vb_model.specs.Life.{after_reset}
-use Rattle.vb_model.specs.Requests.{Deflating, Inflating, Reporting_free, Request, no_requests}
+use Rattle.vb_virtio.specs.Queues.{Deflating, Inflating, Reporting_free, Request}
+use Rattle.vb_model.specs.Requests.{no_requests}
 use Rattle.vb_room.proofs.TieFacts.{rogue, some, untold}
 use Rattle.vb_room.specs.Counts.{CountsSo, pages_of_request, puts_in, takes_out}
 use Rattle.vb_room.specs.Tie.{counted}

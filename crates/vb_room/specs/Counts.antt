@@ -7,7 +7,8 @@ use Rattle.vb_model.specs.declared.calls.Event.TheVariants.{Guest as OnGuest}
 use Rattle.vb_model.specs.declared.replies.Reply.{Reply}
 use Rattle.vb_model.specs.Guest.{Guest}
 use Rattle.vb_model.specs.HostEvents.{WorldStep}
-use Rattle.vb_model.specs.Requests.{Kind, Deflating, Inflating, Request, Requests, kind_of_queue}
+use Rattle.vb_virtio.specs.Queues.{Kind, Deflating, Inflating, Request, kind_of_queue}
+use Rattle.vb_model.specs.Requests.{Requests}
 use Rattle.vb_model.specs.Requests.{pages_named}
 use Rattle.vb_model.specs.Run.{History, Run, states}
 use Rattle.vb_model.specs.World.{World, guest_at}

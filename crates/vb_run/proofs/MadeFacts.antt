@@ -8,7 +8,7 @@ use Rattle.vb_model.specs.declared.calls.Actor.TheVariants.{Starter, Processor, 
 use Rattle.vb_model.specs.declared.calls.Call.{Call, TheVariants.{Ask, Serve, SetTarget, Sweep}}
 use Rattle.vb_model.specs.declared.calls.Claim.TheVariants.{Gave, GaveNoFrame}
 use Rattle.vb_model.specs.declared.replies.Reply.TheVariants.{Taken, Worked, Finished, Refused}
-use Rattle.vb_model.specs.declared.replies.Refusal.TheVariants.{NoFrame, NotTaken}
+use Rattle.vb_virtio.specs.declared.refusals.Refusal.TheVariants.{NoFrame, NotTaken}
 use Rattle.vb_run.specs.{Services.services, Made.{IsMade, AreMade}}
 
 -- ---- which calls are a worker's: takes of the four queues, a visit, the first chain of each but

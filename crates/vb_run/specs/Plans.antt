@@ -8,7 +8,7 @@ use Rattle.vb_model.specs.declared.calls.Call.{Call}
 use Rattle.vb_model.specs.declared.calls.Call.TheVariants.{Alloc, Free, Read, Write, Inflate}
 use Rattle.vb_model.specs.declared.calls.Call.TheVariants.{Deflate, Oom, Report, Stats, Reap}
 use Rattle.vb_model.specs.declared.calls.Call.TheVariants.{Init, Reset, Scribble, Serve, Sweep}
-use Rattle.vb_model.specs.Limits.{is_config, max_guests}
+use Rattle.vb_virtio.specs.Limits.{is_config, max_guests}
 use Rattle.vb_run.specs.declared.plan.GuestPlan.{GuestPlan}
 use Rattle.vb_run.specs.declared.plan.Plan.{Plan}
 use Rattle.vb_run.specs.declared.plan.TheConstants.{MAX_SCRIPT_CALLS}

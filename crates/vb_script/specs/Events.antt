@@ -1,7 +1,7 @@
 -- The event that a line of words names.
 use Rattle.std.specs.Prelude.{ℕ, List, [], ◌∷◌, Option, Some, None, Bool, true, false}
 use Rattle.std.specs.Option.{option_map, option_and_then}
-use Rattle.vb_model.specs.declared.negotiation.TheConstants.{OFFERED_FEATURES}
+use Rattle.vb_virtio.specs.declared.negotiation.TheConstants.{OFFERED_FEATURES}
 use Rattle.vb_model.specs.declared.calls.Call.TheVariants.{Init as CallInit, Reset as CallReset}
 use Rattle.vb_model.specs.declared.calls.Call.TheVariants.{Alloc as CallAlloc, Free as CallFree}
 use Rattle.vb_model.specs.declared.calls.Call.TheVariants.{Read as CallRead, Write as CallWrite}

@@ -19,8 +19,8 @@ use crate::reading::Item;
 use crate::values::{bytes, features, number, positive};
 use crate::words::Words;
 use std::alloc::Global;
-use vb_model::negotiation::OFFERED_FEATURES;
 use vb_model::{Bytes, Call, Event, GuestSize, Query};
+use vb_virtio::negotiation::OFFERED_FEATURES;
 
 impl Item for Event {
     ghost use Rattle.vb_script.specs.Texts.{events};

@@ -1,7 +1,7 @@
 //! Scripts: a host, its spare devices, and what happens.
 
 ghost use Rattle.std.specs.Prelude.{◌≡◌, ◌≤◌, vec_capacity, vec_len};
-ghost use Rattle.vb_model.specs.declared.limits.TheConstants.{MAX_FRAMES};
+ghost use Rattle.vb_virtio.specs.declared.limits.TheConstants.{MAX_FRAMES};
 
 use crate::lines::Pace;
 use vb_model::{Call, Event};

@@ -6,16 +6,18 @@ use Rattle.std.{specs.Prelude.Result, proofs.lemmas.List.Sums.count_by-le-length
 use Rattle.std.proofs.Common.{sym, ◌∙◌, ap, subst, arith, get_or, take, eq-eqb, Ok, Err}
 use Rattle.std.proofs.lemmas.List.{append-nil, length-replicate, take_more, length-take}
 use Rattle.vb_ram.specs.{declared.config.Config.Config, Pages.Pages, Part.{Part, QueuePart}}
-use Rattle.vb_model.specs.declared.replies.Refusal.TheVariants.{NoQueue, NotReady, NeedsReset}
-use Rattle.vb_model.specs.declared.replies.Refusal.TheVariants.{NotTaken, NotWorked}
-use Rattle.vb_model.specs.{Requests.Request, FirstRefusal.{◌⇒◌, first_refusal}}
-use Rattle.vb_model.specs.Tables.{is_queue_of_requests, has_unvisited, is_not_ready, has_fault}
-use Rattle.vb_model.specs.declared.layout.TheConstants.{INFLATE_QUEUE, DEFLATE_QUEUE, REPORT_QUEUE}
-use Rattle.vb_model.specs.{declared.replies.Refusal.Refusal, Tests.{is_in, pages_from, pages_where}}
-use Rattle.vb_model.proofs.Tables.{pages_where-passes, count_by-cons}
+use Rattle.vb_virtio.specs.declared.refusals.Refusal.TheVariants.{NoQueue, NotReady, NeedsReset}
+use Rattle.vb_virtio.specs.declared.refusals.Refusal.TheVariants.{NotTaken, NotWorked, Broken}
+use Rattle.vb_virtio.specs.Queues.{Request, is_queue_of_requests}
+use Rattle.vb_virtio.specs.FirstRefusal.{◌⇒◌, first_refusal}
+use Rattle.vb_virtio.specs.Status.{is_not_ready, has_fault}
+use Rattle.vb_virtio.specs.declared.layout.TheConstants.{INFLATE_QUEUE, DEFLATE_QUEUE, REPORT_QUEUE}
+use Rattle.vb_virtio.specs.declared.refusals.Refusal.{Refusal}
+use Rattle.vb_virtio.specs.Tests.{is_in, pages_from, pages_where}
+use Rattle.vb_virtio.proofs.Tables.{pages_where-passes, count_by-cons}
+use Rattle.vb_model.specs.Tables.{has_unvisited}
 use Rattle.vb_device.proofs.ServeCases.{Did, Not_served, Only_took, Took_and_used, what_it_did}
 use Rattle.vb_device.specs.Calls.{ServesBy, TakeMeans, noting}
-use Rattle.vb_model.specs.declared.replies.Refusal.TheVariants.{Broken}
 use Rattle.vb_device.specs.Calls.{attached, using, next_visit, WorksBy, SweepsBy, FinishesBy, Uses}
 use Rattle.vb_device.specs.Conditions.{work_refusal, sweep_refusal, finish_refusal, ask_refusal}
 use Rattle.vb_device.{specs.Discards.flagged, proofs.Marks.flagged-length, specs.Calls.AsksBy}

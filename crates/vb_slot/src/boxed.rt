@@ -4,9 +4,9 @@ ghost use Rattle.std.specs.Prelude.{◌≡◌};
 
 use std::alloc::{AllocError, Global};
 use vb_device::{Claimed, Device, Statistics, Worked};
-use vb_model::Refusal;
 use vb_ram::{Config, Frame, GuestBytes, RamFault, SupplyRefused};
 use vb_status::{Features, Port, Status, StatusFault};
+use vb_virtio::Refusal;
 
 /// A boxed device, which every call is forwarded to.
 #[derive(Drop)]

@@ -2,8 +2,8 @@
 
 ghost use Rattle.std.specs.Prelude.{◌≡◌, ◌==◌, ◌&&◌, not, ◌<◌, [], true, false, None, IfNone, IfOk};
 ghost use Rattle.std.specs.Prelude.{OnSome, length};
-ghost use Rattle.vb_model.specs.declared.layout.TheConstants.{DEFLATE_QUEUE, STATISTICS_QUEUE};
-ghost use Rattle.vb_model.specs.Status.{contains, driver_ok};
+ghost use Rattle.vb_virtio.specs.declared.layout.TheConstants.{DEFLATE_QUEUE, STATISTICS_QUEUE};
+ghost use Rattle.vb_virtio.specs.Status.{contains, driver_ok};
 ghost use Rattle.vb_status.specs.Bits.{status_bits};
 ghost use Rattle.vb_ring.specs.Layout.{IsBacked};
 ghost use Rattle.vb_device.specs.Queues.{queue_layout};
@@ -18,11 +18,11 @@ use crate::balloon::BalloonDevice;
 use crate::pace::Pace;
 use crate::queues::{INFLATES, REPORTS, STATISTICS, index_of};
 use bitflags::Flags;
-use vb_model::Refusal;
-#[cfg(test)]
-use vb_model::layout::REPORT_QUEUE;
-use vb_model::layout::{DEFLATE_QUEUE, STATISTICS_QUEUE};
 use vb_status::Status;
+use vb_virtio::Refusal;
+#[cfg(test)]
+use vb_virtio::layout::REPORT_QUEUE;
+use vb_virtio::layout::{DEFLATE_QUEUE, STATISTICS_QUEUE};
 
 /// Sets DEVICE_NEEDS_RESET where a take found a broken rule.
 pub(super) fn note_fault(status: &mut Status, taken: &Result<Option<u16>, Refusal>)
@@ -44,12 +44,7 @@ fn visits_first(visits: bool, queue: u32) -> bool
 impl<P: Pace> BalloonDevice<P> {
     /// All of `finish` but for the used entry: marks the pages of the request, takes it out, and
     /// its pages' frames away. Nothing is written. The pages are to be visited first, or aren't.
-    pub(crate) fn settle(
-        &mut self,
-        queue: u32,
-        index: u32,
-        visits: bool,
-    ) -> Result<u16, Refusal>
+    pub(crate) fn settle(&mut self, queue: u32, index: u32, visits: bool) -> Result<u16, Refusal>
         requires backed { contains self.old.part.status driver_ok ≡ true →
             IsBacked self.old.mem (queue_layout queue self.old.part) }
         requires none { self.old.part.loose ≡ [] }

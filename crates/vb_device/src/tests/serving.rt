@@ -4,7 +4,7 @@ use super::bytes::{AVAILABLE, NUMBERS, TWO_REQUESTS, WRITABLE};
 use super::requests::TWO_TAKEN;
 use super::{Answer, Scenario, Sight, Step, expect};
 use crate::{Immediate, Paced};
-use vb_model::Refusal;
+use vb_virtio::Refusal;
 
 /// Before a life nothing is served, and no other queue ever is.
 const NOT_READY: &'static [(Step, Answer)] = &[
@@ -87,7 +87,12 @@ const BROKEN: &'static [(Step, Answer)] = &[
 static SERVES: [Scenario; 5] = [
     ("serves of a device that isn't ready", 64, 8, &[NOT_READY]),
     ("two requests are served", 64, 8, &[TWO_POSTED, BOTH_SERVED]),
-    ("a queue with a taken chain is busy", 64, 8, &[TWO_TAKEN, BUSY]),
+    (
+        "a queue with a taken chain is busy",
+        64,
+        8,
+        &[TWO_TAKEN, BUSY],
+    ),
     ("the statistics buffer is served", 64, 8, &[STATISTICS]),
     ("a chain that breaks a rule", 64, 8, &[BROKEN]),
 ];

@@ -15,7 +15,8 @@ use crate::slot::{Slot, forget};
 use vb_device::Worked;
 use vb_frames::FrameKeeper;
 use vb_guest::Served;
-use vb_model::{Call, Refusal};
+use vb_model::Call;
+use vb_virtio::Refusal;
 
 impl Slot {
     /// The device takes the next chain of a queue (VIRTIO 1.1, 2.6): a request (0 and 1), the

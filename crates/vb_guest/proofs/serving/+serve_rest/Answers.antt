@@ -31,10 +31,18 @@ serve_rest-requires g t c κs within =
         (
           search rules,
           (
-            (d, (keeps, first.new, first.stands, λ e. out_after
-                (g.D.GuestBytes.part c.args.device.now)
-                (g.D.GuestBytes.part c.serve_next.new.device) guest first.new first.moves
-                (stands.own.flag ∙ e) (held e))),
+            (
+              d,
+              (
+                keeps,
+                first.new,
+                first.stands,
+                λ e. out_after
+                    (g.D.GuestBytes.part c.args.device.now)
+                    (g.D.GuestBytes.part c.serve_next.new.device) guest first.new first.moves
+                    (stands.own.flag ∙ e) (held e),
+              ),
+            ),
             omega (arith, c.requires.few),
           ),
         ),
@@ -58,9 +66,13 @@ returns-in-Ok-Some-clause-exact g t c =
     let did = rw told at c.serve_next.ensures.exact in
     subst (λ n. RestBy c.args.queue n c.args.chains (g.D.GuestBytes.mem c.args.device.now)
     (g.D.GuestBytes.mem c.serve_rest.new.device) (g.D.GuestBytes.part c.args.device.now)
-    (g.D.GuestBytes.part c.serve_rest.new.device) c.serve_rest.result) (sym more)
-    (g.D.GuestBytes.mem c.serve_next.new.device, g.D.GuestBytes.part c.serve_next.new.device, _, did,
-    c.serve_rest.ensures.exact)
+    (g.D.GuestBytes.part c.serve_rest.new.device) c.serve_rest.result) (sym more) (
+      g.D.GuestBytes.mem c.serve_next.new.device,
+      g.D.GuestBytes.part c.serve_next.new.device,
+      _,
+      did,
+      c.serve_rest.ensures.exact,
+    )
 
 pub returns-in-Ok-Some-clause-loses : goal.returns-in-Ok-Some-clause-loses
 returns-in-Ok-Some-clause-loses g t c =
@@ -93,9 +105,13 @@ returns-in-Ok-None-clause-exact g t c =
     subst (λ n. RestBy c.args.queue n c.args.chains (g.D.GuestBytes.mem c.args.device.now)
     (g.D.GuestBytes.mem c.serve_next.new.device) (g.D.GuestBytes.part c.args.device.now)
     (g.D.GuestBytes.part c.serve_next.new.device)
-    (record { chains = c.args.chains; broken = None })) (sym more)
-    (g.D.GuestBytes.mem c.serve_next.new.device, g.D.GuestBytes.part c.serve_next.new.device, _, did,
-    (refl, refl, refl))
+    (record { chains = c.args.chains; broken = None })) (sym more) (
+      g.D.GuestBytes.mem c.serve_next.new.device,
+      g.D.GuestBytes.part c.serve_next.new.device,
+      _,
+      did,
+      (refl, refl, refl),
+    )
 
 pub returns-in-Err-clause-step : goal.returns-in-Err-clause-step
 returns-in-Err-clause-step g t c = λ d keeps guest stands.
@@ -108,6 +124,10 @@ returns-in-Err-clause-exact g t c =
     let did = rw c.in-Err.is at c.serve_next.ensures.exact in
     subst (λ n. RestBy c.args.queue n c.args.chains (g.D.GuestBytes.mem c.args.device.now)
     (g.D.GuestBytes.mem c.serve_next.new.device) (g.D.GuestBytes.part c.args.device.now)
-    (g.D.GuestBytes.part c.serve_next.new.device) c.stopped.result) (sym more)
-    (g.D.GuestBytes.mem c.serve_next.new.device, g.D.GuestBytes.part c.serve_next.new.device, _, did,
-    (c.stopped.ensures, refl, refl))
+    (g.D.GuestBytes.part c.serve_next.new.device) c.stopped.result) (sym more) (
+      g.D.GuestBytes.mem c.serve_next.new.device,
+      g.D.GuestBytes.part c.serve_next.new.device,
+      _,
+      did,
+      (c.stopped.ensures, refl, refl),
+    )

@@ -1,7 +1,7 @@
 use Rattle.std.proofs.Common.{◌≡◌, ◌∙◌, true, false, Ok, None, refl}
 use Rattle.std.proofs.Common.{ap, rules}
 use Rattle.std.specs.Prelude.{◌==◌}
-use Rattle.vb_model.specs.declared.layout.TheConstants.{STATISTICS_QUEUE}
+use Rattle.vb_virtio.specs.declared.layout.TheConstants.{STATISTICS_QUEUE}
 use Rattle.vb_guest.proofs.Reaching.{first_keeps, out_after, second_keeps}
 use Rattle.vb_guest.proofs.ServeWhole.{as_first, reaches_as, reaches_then, serve_over, serves_buffer}
 use Rattle.vb_guest.proofs.ServeWhole.{first_alone, serves_more, serves_none, serves_refused}
@@ -30,10 +30,17 @@ returns-then-queue-eq-STATISTICS_QUEUE-clause-exact g c =
 pub serve_rest-requires-clause-stands : goal.serve_rest-requires-clause-stands
 serve_rest-requires-clause-stands g c =
     let (d, (keeps, guest, stands, held)) = c.requires in
-    let first = c.serve_next.ensures.step d keeps guest stands in
-    (d, (keeps, first.new, first.stands, λ e. out_after (g.D.GuestBytes.part c.args.device.now)
-    (g.D.GuestBytes.part c.serve_next.new.device) guest first.new first.moves (stands.own.flag ∙ e)
-    (held e)))
+    let first = c.serve_next.ensures.step d keeps guest stands in (
+      d,
+      (
+        keeps,
+        first.new,
+        first.stands,
+        λ e. out_after (g.D.GuestBytes.part c.args.device.now)
+            (g.D.GuestBytes.part c.serve_next.new.device) guest first.new first.moves (stands.own.flag ∙ e)
+            (held e),
+      ),
+    )
 
 pub returns-else-queue-eq-STATISTICS_QUEUE-clause-step
     : goal.returns-else-queue-eq-STATISTICS_QUEUE-clause-step
@@ -75,9 +82,13 @@ returns-in-Ok-None-clause-step g c = λ d keeps guest stands.
 
 pub returns-in-Ok-None-clause-exact : goal.returns-in-Ok-None-clause-exact
 returns-in-Ok-None-clause-exact g c =
-    let told = c.in-Ok-None.is ∙ ap Ok c.in-Ok-None.field-0-is in
-    (g.D.GuestBytes.mem c.serve_next.new.device, g.D.GuestBytes.part c.serve_next.new.device, _,
-    rw told at c.serve_next.ensures.exact, (refl, refl, refl))
+    let told = c.in-Ok-None.is ∙ ap Ok c.in-Ok-None.field-0-is in (
+      g.D.GuestBytes.mem c.serve_next.new.device,
+      g.D.GuestBytes.part c.serve_next.new.device,
+      _,
+      rw told at c.serve_next.ensures.exact,
+      (refl, refl, refl),
+    )
 
 pub returns-in-Err-clause-step : goal.returns-in-Err-clause-step
 returns-in-Err-clause-step g c = λ d keeps guest stands. rw c.refused_first.ensures

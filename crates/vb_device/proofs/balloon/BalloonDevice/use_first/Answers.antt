@@ -1,5 +1,5 @@
 use Rattle.std.proofs.Common.{◌≡◌, ◌∙◌, ◌==◌, false, None, Ok, Err, ap, rules, arith}
-use Rattle.vb_model.specs.declared.layout.TheConstants.{STATISTICS_QUEUE}
+use Rattle.vb_virtio.specs.declared.layout.TheConstants.{STATISTICS_QUEUE}
 use Rattle.vb_device.proofs.Serves.{first_found, settles_so, used_first}
 use Rattle.vb_device.proofs.balloon.BalloonDevice.use_first.Goals as goal
 

@@ -1,5 +1,5 @@
 use Rattle.std.proofs.Common.{◌≡◌, ◌∙◌, None, Ok, Option, Result, Some, ap, rules, subst, sym, ℕ}
-use Rattle.vb_model.specs.declared.replies.Refusal.{Refusal}
+use Rattle.vb_virtio.specs.declared.refusals.Refusal.{Refusal}
 use Rattle.vb_device.proofs.Serves.{ready_to_use, served, still_backed, take_keeps}
 use Rattle.vb_device.specs.{Calls.TakesBy, Conditions.serve_refusal}
 use Rattle.vb_device.proofs.balloon.BalloonDeviceDevice.serve.Goals as goal
