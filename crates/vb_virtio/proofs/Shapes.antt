@@ -1,8 +1,9 @@
 -- Where rings and buffers stand, whatever the size of the queues: for the crates above.
 use Rattle.std.specs.Prelude.{◌≡◌, ◌≢◌, ℕ, ◌+◌, ◌<◌, ◌≤◌, Bool, true, ◌||◌, ◌⊎◌}
 use Rattle.std.{proofs.Common.{ap, arith}, proofs.lemmas.Bool.Decides.nat_tests}
-use Rattle.vb_model.specs.Layout.{takes_two_pages, reserved_pages, ring_number, ring_page}
-use Rattle.vb_model.{specs.Limits.is_between, specs.Layout.{is_ring_page, is_start_page}}
+use Rattle.vb_virtio.specs.Layout.{takes_two_pages, reserved_pages, ring_number, ring_page}
+use Rattle.vb_virtio.specs.Layout.{is_ring_page, is_start_page}
+use Rattle.vb_virtio.specs.Limits.{is_between}
 
 -- ---- reserved pages
 

@@ -2,13 +2,12 @@
 -- The headline needs `is_config` with what it names.
 use Rattle.std.specs.Prelude.{ℕ, ◌%◌, ◌^◌, Bool, ◌==◌, ◌&&◌, nat_le}
 use Rattle.std.specs.List.{list_any, range_with_len}
-use Rattle.vb_model.specs.declared.limits.TheConstants.{PAGE_SIZE, MAX_ORDER}
-use Rattle.vb_model.specs.declared.limits.TheConstants.{MIN_REPORTED_ORDER, MAX_OUTSTANDING}
-use Rattle.vb_model.specs.declared.limits.TheConstants.{MAX_REQUEST_PAGES, MAX_GUESTS}
-use Rattle.vb_model.specs.declared.limits.TheConstants.{MIN_GUEST_PAGES, MAX_GUEST_PAGES}
-use Rattle.vb_model.specs.declared.limits.TheConstants.{GUEST_PAGES_STEP}
-use Rattle.vb_model.specs.declared.limits.TheConstants.{MIN_QUEUE_SIZE, MAX_QUEUE_SIZE}
-use Rattle.vb_model.specs.declared.limits.TheConstants.{MAX_PROCESSORS, MAX_FRAMES}
+use Rattle.vb_virtio.specs.declared.limits.TheConstants.{PAGE_SIZE, MAX_ORDER, MIN_REPORTED_ORDER}
+use Rattle.vb_virtio.specs.declared.limits.TheConstants.{MAX_OUTSTANDING, MAX_REQUEST_PAGES}
+use Rattle.vb_virtio.specs.declared.limits.TheConstants.{MAX_GUESTS, MIN_GUEST_PAGES}
+use Rattle.vb_virtio.specs.declared.limits.TheConstants.{MAX_GUEST_PAGES, GUEST_PAGES_STEP}
+use Rattle.vb_virtio.specs.declared.limits.TheConstants.{MIN_QUEUE_SIZE, MAX_QUEUE_SIZE}
+use Rattle.vb_virtio.specs.declared.limits.TheConstants.{MAX_PROCESSORS, MAX_FRAMES}
 
 abbrev pub is_power_of_two : ℕ → Bool
 is_power_of_two n = list_any (λ k. 2 ^ k == n) (range_with_len 0 32)

@@ -2,7 +2,7 @@
 -- The headline needs `Cause` and `first_refusal`.
 use Rattle.std.specs.Prelude.{Bool, List, [], ◌∷◌, if◌then◌else◌, Option, Some, None, Result, Ok}
 use Rattle.std.specs.Prelude.{Err}
-use Rattle.vb_model.specs.declared.replies.Refusal.{Refusal}
+use Rattle.vb_virtio.specs.declared.refusals.Refusal.{Refusal}
 
 -- a cause to refuse a call: where it holds and none before it does, this is the answer
 pub record Cause : Type 0 where

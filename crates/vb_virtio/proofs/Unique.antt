@@ -1,6 +1,7 @@
 -- Two lists of targets are the same.
 use Rattle.std.proofs.Common.{◌≡◌, ℕ, ◌<◌, List, length, slice_index, sym, ◌∙◌, inl, inr, arith}
-use Rattle.vb_model.{specs.Balance.{Need, AreTargets}, proofs.Sums.{same_by_sum, somewhere_more}}
+use Rattle.vb_virtio.specs.Targets.{Need, AreTargets}
+use Rattle.vb_virtio.proofs.Sums.{same_by_sum, somewhere_more}
 
 -- one list can't ask more of one guest and less of another
 clash : (needs : List Need) (frames : ℕ) (one other : List ℕ) → AreTargets needs frames one

@@ -1,15 +1,18 @@
 -- Worked facts of features and of the status.
 use Rattle.std.proofs.Common.{List, [], false, map, refl, replicate, true, ℕ, ◌∷◌, ◌≡◌}
 use Rattle.std.specs.Prelude.{Bool, None, Option, Some, not, ◌++◌, ◌+◌}
-use Rattle.vb_model.{proofs.Samples.ready, specs.{FirstRefusal.{first_refusal, ◌⇒◌}, Status.driver}}
-use Rattle.vb_model.specs.Guest.{deflate_on_oom, is_ready, must_tell_host, reporting, stats_vq}
-use Rattle.vb_model.specs.{Guest.version_1, Life.feature_refusal, Status.{acknowledge, contains}}
-use Rattle.vb_model.specs.Status.{driver_ok, failed, features_ok, needed_causes, negotiate_causes}
-use Rattle.vb_model.specs.{Status.{negotiate_refusal, status_causes, status_refusal}, Tests.has_bit}
-use Rattle.vb_model.specs.declared.negotiation.TheConstants.{FAILED_STATUS, OFFERED_FEATURES}
-use Rattle.vb_model.specs.declared.{negotiation.TheConstants.READY_STATUS, replies.Refusal.Refusal}
-use Rattle.vb_model.specs.declared.replies.Refusal.TheVariants.{ClearsBit, FeatureNotOffered}
-use Rattle.vb_model.specs.declared.replies.Refusal.TheVariants.{OutOfOrder, VersionMissing}
+use Rattle.vb_virtio.specs.FirstRefusal.{first_refusal, ◌⇒◌}
+use Rattle.vb_virtio.specs.Status.{driver, feature_refusal, acknowledge, contains, driver_ok}
+use Rattle.vb_virtio.specs.Status.{failed, features_ok, needed_causes, negotiate_causes}
+use Rattle.vb_virtio.specs.Status.{negotiate_refusal, status_causes, status_refusal, is_up}
+use Rattle.vb_virtio.specs.Status.{is_not_ready, has_fault}
+use Rattle.vb_virtio.specs.Features.{deflate_on_oom, must_tell_host, reporting, stats_vq, version_1}
+use Rattle.vb_virtio.specs.Tests.{has_bit}
+use Rattle.vb_virtio.specs.declared.negotiation.TheConstants.{FAILED_STATUS, OFFERED_FEATURES}
+use Rattle.vb_virtio.specs.declared.negotiation.TheConstants.{READY_STATUS}
+use Rattle.vb_virtio.specs.declared.refusals.Refusal.{Refusal}
+use Rattle.vb_virtio.specs.declared.refusals.Refusal.TheVariants.{ClearsBit, FeatureNotOffered}
+use Rattle.vb_virtio.specs.declared.refusals.Refusal.TheVariants.{OutOfOrder, VersionMissing}
 
 -- ---- MUST_TELL_HOST, STATS_VQ, DEFLATE_ON_OOM, REPORTING and VERSION_1 are bits 0, 1, 2, 5 and 32
 
@@ -111,8 +114,17 @@ features_looked_at : refusals ((3, (0, 11)) ∷ (3, (1, 11)) ∷ (3, (0x10000000
     ≡ Some VersionMissing ∷ Some VersionMissing ∷ replicate 5 None
 features_looked_at = refl
 
--- ready is 15 and nothing else
-just_15_is_ready : map (λ status. is_ready (record ready { status = status }))
-    (0 ∷ 1 ∷ 3 ∷ 11 ∷ 14 ∷ 15 ∷ 79 ∷ 131 ∷ 143 ∷ []) ≡ false ∷ false ∷ false ∷ false ∷ false ∷ true
-    ∷ false ∷ false ∷ false ∷ []
-just_15_is_ready = refl
+-- ---- who is at work at a status: 79 is a ready device that needs a reset, 143 one whose driver gave
+-- up, 207 both
+
+driver_is_up : map is_up (0 ∷ 1 ∷ 3 ∷ 11 ∷ 15 ∷ 79 ∷ 131 ∷ 143 ∷ 207 ∷ []) ≡ false ∷ false ∷ false
+    ∷ false ∷ true ∷ false ∷ false ∷ false ∷ false ∷ []
+driver_is_up = refl
+
+device_is_not_ready : map is_not_ready (0 ∷ 11 ∷ 15 ∷ 79 ∷ 131 ∷ 143 ∷ 207 ∷ []) ≡ true ∷ true
+    ∷ false ∷ false ∷ true ∷ true ∷ true ∷ []
+device_is_not_ready = refl
+
+device_has_fault : map has_fault (0 ∷ 15 ∷ 64 ∷ 79 ∷ 143 ∷ 207 ∷ []) ≡ false ∷ false ∷ true ∷ true
+    ∷ false ∷ true ∷ []
+device_has_fault = refl

@@ -2,8 +2,8 @@
 use Rattle.std.specs.Prelude.{◌≡◌, ◌≢◌, ℕ, Bool, false, ◌==◌, ◌||◌, is_some, if◌then◌else◌, Option}
 use Rattle.std.{specs.Prelude.{Some, None, ◌⊎◌}, proofs.Common.{◌∙◌, ap, inl, inr}}
 use Rattle.std.proofs.lemmas.Bool.{cases_eq, ne_eqb}
-use Rattle.vb_model.specs.Requests.{Kind, Inflating, Deflating, Reporting_free}
-use Rattle.vb_model.specs.Tables.{is_queue_of_requests, has_chains}
+use Rattle.vb_virtio.specs.Queues.{Kind, Inflating, Deflating, Reporting_free, is_queue_of_requests}
+use Rattle.vb_virtio.specs.Queues.{has_chains}
 
 -- no queue has this number
 pub record IsNoQueue (q : ℕ) : Type 0 where

@@ -5,14 +5,14 @@
 use Rattle.std.specs.Prelude.{ℕ, ◌+◌, ◌*◌, ◌/◌, ◌%◌, Bool, ◌==◌, ◌||◌, nat_lt, if◌then◌else◌, List}
 use Rattle.std.specs.Prelude.{filter}
 use Rattle.std.specs.List.{range_with_len}
-use Rattle.vb_model.specs.declared.layout.TheConstants.{INFLATE_QUEUE, DEFLATE_QUEUE}
-use Rattle.vb_model.specs.declared.layout.TheConstants.{STATISTICS_QUEUE, REQUEST_BUFFER_SIZE}
-use Rattle.vb_model.specs.declared.layout.TheConstants.{MAX_QUEUE_SIZE_OF_A_PAGE}
-use Rattle.vb_model.specs.declared.layout.TheConstants.{FIRST_RING_PAGE, FIRST_RING_PAGE_OF_TWO}
-use Rattle.vb_model.specs.declared.layout.TheConstants.{RESERVED_PAGES, RESERVED_PAGES_OF_TWO}
-use Rattle.vb_model.specs.declared.layout.TheConstants.{INFLATE_BUFFERS_PAGE, DEFLATE_BUFFERS_PAGE}
-use Rattle.vb_model.specs.declared.layout.TheConstants.{STATISTICS_PAGE}
-use Rattle.vb_model.specs.Limits.{is_between}
+use Rattle.vb_virtio.specs.declared.layout.TheConstants.{INFLATE_QUEUE, DEFLATE_QUEUE}
+use Rattle.vb_virtio.specs.declared.layout.TheConstants.{STATISTICS_QUEUE, REQUEST_BUFFER_SIZE}
+use Rattle.vb_virtio.specs.declared.layout.TheConstants.{MAX_QUEUE_SIZE_OF_A_PAGE, FIRST_RING_PAGE}
+use Rattle.vb_virtio.specs.declared.layout.TheConstants.{FIRST_RING_PAGE_OF_TWO, RESERVED_PAGES}
+use Rattle.vb_virtio.specs.declared.layout.TheConstants.{RESERVED_PAGES_OF_TWO}
+use Rattle.vb_virtio.specs.declared.layout.TheConstants.{INFLATE_BUFFERS_PAGE, DEFLATE_BUFFERS_PAGE}
+use Rattle.vb_virtio.specs.declared.layout.TheConstants.{STATISTICS_PAGE}
+use Rattle.vb_virtio.specs.Limits.{is_between}
 
 -- ---- by the size of the queues
 

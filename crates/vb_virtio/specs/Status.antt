@@ -4,12 +4,13 @@
 use Rattle.std.specs.Prelude.{ℕ, Bool, not, ◌==◌, ◌&&◌, ◌||◌, nat_lt, List, [], ◌∷◌, if◌then◌else◌}
 use Rattle.std.specs.Prelude.{Option, None, count_by, bit_and}
 use Rattle.std.specs.List.{list_any}
-use Rattle.vb_model.specs.declared.negotiation.TheConstants.{OFFERED_FEATURES}
-use Rattle.vb_model.specs.declared.replies.Refusal.{Refusal}
-use Rattle.vb_model.specs.declared.replies.Refusal.TheVariants.{ClearsBit, OutOfOrder}
-use Rattle.vb_model.specs.declared.replies.Refusal.TheVariants.{FeatureNotOffered, VersionMissing}
-use Rattle.vb_model.specs.FirstRefusal.{Cause, ◌⇒◌, first_refusal}
-use Rattle.vb_model.specs.Guest.{version_1}
+use Rattle.vb_virtio.specs.declared.negotiation.TheConstants.{OFFERED_FEATURES}
+use Rattle.vb_virtio.specs.declared.refusals.Refusal.{Refusal}
+use Rattle.vb_virtio.specs.declared.refusals.Refusal.TheVariants.{ClearsBit, OutOfOrder}
+use Rattle.vb_virtio.specs.declared.refusals.Refusal.TheVariants.{FeatureNotOffered, VersionMissing}
+use Rattle.vb_virtio.specs.declared.refusals.Refusal.TheVariants.{NotReady, NeedsReset}
+use Rattle.vb_virtio.specs.FirstRefusal.{Cause, ◌⇒◌, first_refusal}
+use Rattle.vb_virtio.specs.Features.{version_1}
 
 -- ---- the bits of the status, which has eight
 
@@ -103,3 +104,35 @@ negotiate_causes status wanted =
 -- FEATURES_OK
 abbrev pub negotiate_refusal : ℕ → ℕ → Option Refusal
 negotiate_refusal status wanted = first_refusal (negotiate_causes status wanted)
+
+-- ---- what an initialisation is refused for
+
+-- once the pages have their frames: what the writes of these features and of FEATURES_OK are
+-- refused for at ACKNOWLEDGE and DRIVER
+abbrev pub feature_causes : ℕ → List Cause
+feature_causes wanted =
+    (not (contains OFFERED_FEATURES wanted) ⇒ FeatureNotOffered) ∷ needed_causes wanted
+
+-- why a device isn't initialised with these features, where it isn't
+abbrev pub feature_refusal : ℕ → Option Refusal
+feature_refusal wanted = first_refusal (feature_causes wanted)
+
+-- ---- whether a device or its driver is at work
+
+-- the device is initialised, and neither it nor its driver has failed
+abbrev pub is_up : ℕ → Bool
+is_up status =
+    contains status driver_ok && not (contains status needs_reset || contains status failed)
+
+-- the driver isn't done with the initialisation, or has given up
+abbrev pub is_not_ready : ℕ → Bool
+is_not_ready status = not (contains status driver_ok) || contains status failed
+
+-- a broken rule was met
+abbrev pub has_fault : ℕ → Bool
+has_fault status = contains status needs_reset
+
+-- why each of the device's calls is refused that needs a device at work
+abbrev pub work_causes : ℕ → List Cause
+work_causes status =
+    (is_not_ready status ⇒ NotReady) ∷ (contains status needs_reset ⇒ NeedsReset) ∷ []

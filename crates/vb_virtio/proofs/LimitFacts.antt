@@ -1,26 +1,29 @@
 -- All limits, and where rings and buffers stand, as plain numbers.
 use Rattle.std.proofs.Common.{[], false, filter, map, refl, replicate, true, ◌++◌, ◌∷◌, ◌≡◌}
 use Rattle.std.specs.List.{range_with_len}
-use Rattle.vb_model.specs.declared.layout.TheConstants.{DEFLATE_BUFFERS_PAGE, DEFLATE_QUEUE}
-use Rattle.vb_model.specs.declared.layout.TheConstants.{FIRST_RING_PAGE, FIRST_RING_PAGE_OF_TWO}
-use Rattle.vb_model.specs.declared.layout.TheConstants.{FREE_MEMORY_TAG, INFLATE_BUFFERS_PAGE}
-use Rattle.vb_model.specs.declared.layout.TheConstants.{INFLATE_QUEUE, MAX_QUEUE_SIZE_OF_A_PAGE}
-use Rattle.vb_model.specs.declared.layout.TheConstants.{MAX_STATISTICS_LENGTH, REPORT_QUEUE}
-use Rattle.vb_model.specs.declared.layout.TheConstants.{REQUEST_BUFFER_SIZE, RESERVED_PAGES}
-use Rattle.vb_model.specs.declared.layout.TheConstants.{RESERVED_PAGES_OF_TWO, STATISTICS_PAGE}
-use Rattle.vb_model.specs.declared.layout.TheConstants.{STATISTICS_QUEUE, STATISTIC_SIZE}
-use Rattle.vb_model.specs.declared.layout.TheConstants.{TOTAL_MEMORY_TAG}
-use Rattle.vb_model.specs.declared.limits.TheConstants.{GUEST_PAGES_STEP, MAX_FRAMES, MAX_GUESTS}
-use Rattle.vb_model.specs.declared.limits.TheConstants.{MAX_GUEST_PAGES, MAX_ORDER, MAX_OUTSTANDING}
-use Rattle.vb_model.specs.declared.limits.TheConstants.{MAX_PROCESSORS, MAX_QUEUE_SIZE}
-use Rattle.vb_model.specs.declared.limits.TheConstants.{MAX_REPORT_PIECES, MAX_REQUEST_PAGES}
-use Rattle.vb_model.specs.declared.limits.TheConstants.{MIN_GUEST_PAGES, MIN_QUEUE_SIZE, PAGE_SIZE}
-use Rattle.vb_model.specs.{Layout.buffer_offset, declared.limits.TheConstants.MIN_REPORTED_ORDER}
-use Rattle.vb_model.specs.Layout.{buffer_page, buffers_page, is_ring_page, is_start_page, ring_page}
-use Rattle.vb_model.specs.Layout.{reserved_pages, ring_number, start_pages, takes_two_pages}
-use Rattle.vb_model.specs.Limits.{is_config, is_power_of_two, max_frames, max_guests, max_order}
-use Rattle.vb_model.specs.Limits.{max_outstanding, max_request_pages, min_reported_order, page_size}
-use Rattle.vb_model.specs.Status.{acknowledge, driver, driver_ok, failed, features_ok, needs_reset}
+use Rattle.vb_virtio.specs.declared.layout.TheConstants.{DEFLATE_BUFFERS_PAGE, DEFLATE_QUEUE}
+use Rattle.vb_virtio.specs.declared.layout.TheConstants.{FIRST_RING_PAGE, FIRST_RING_PAGE_OF_TWO}
+use Rattle.vb_virtio.specs.declared.layout.TheConstants.{FREE_MEMORY_TAG, INFLATE_BUFFERS_PAGE}
+use Rattle.vb_virtio.specs.declared.layout.TheConstants.{INFLATE_QUEUE, MAX_QUEUE_SIZE_OF_A_PAGE}
+use Rattle.vb_virtio.specs.declared.layout.TheConstants.{MAX_STATISTICS_LENGTH, REPORT_QUEUE}
+use Rattle.vb_virtio.specs.declared.layout.TheConstants.{REQUEST_BUFFER_SIZE, RESERVED_PAGES}
+use Rattle.vb_virtio.specs.declared.layout.TheConstants.{RESERVED_PAGES_OF_TWO, STATISTICS_PAGE}
+use Rattle.vb_virtio.specs.declared.layout.TheConstants.{STATISTICS_QUEUE, STATISTIC_SIZE}
+use Rattle.vb_virtio.specs.declared.layout.TheConstants.{TOTAL_MEMORY_TAG}
+use Rattle.vb_virtio.specs.declared.limits.TheConstants.{GUEST_PAGES_STEP, MAX_FRAMES, MAX_GUESTS}
+use Rattle.vb_virtio.specs.declared.limits.TheConstants.{MAX_GUEST_PAGES, MAX_ORDER}
+use Rattle.vb_virtio.specs.declared.limits.TheConstants.{MAX_OUTSTANDING, MAX_PROCESSORS}
+use Rattle.vb_virtio.specs.declared.limits.TheConstants.{MAX_QUEUE_SIZE, MAX_REPORT_PIECES}
+use Rattle.vb_virtio.specs.declared.limits.TheConstants.{MAX_REQUEST_PAGES, MIN_GUEST_PAGES}
+use Rattle.vb_virtio.specs.declared.limits.TheConstants.{MIN_QUEUE_SIZE, PAGE_SIZE}
+use Rattle.vb_virtio.specs.declared.limits.TheConstants.{MIN_REPORTED_ORDER}
+use Rattle.vb_virtio.specs.Layout.{buffer_offset, buffer_page, buffers_page, is_ring_page}
+use Rattle.vb_virtio.specs.Layout.{is_start_page, ring_page, reserved_pages, ring_number}
+use Rattle.vb_virtio.specs.Layout.{start_pages, takes_two_pages}
+use Rattle.vb_virtio.specs.Limits.{is_config, is_power_of_two, max_frames, max_guests, max_order}
+use Rattle.vb_virtio.specs.Limits.{max_outstanding, max_request_pages, min_reported_order}
+use Rattle.vb_virtio.specs.Limits.{page_size}
+use Rattle.vb_virtio.specs.Status.{acknowledge, driver, driver_ok, failed, features_ok, needs_reset}
 
 -- bytes of a page, and the pages of a guest are so many or a multiple of them; the largest order of
 -- a block, and the least that is reported; requests outstanding on a queue, and pages of a request;
