@@ -3,7 +3,7 @@
 ghost use Rattle.std.specs.Prelude.{◌≡◌, ℕ, ◌≤◌, ◌<◌, ◌+◌, ◌==◌, not, false, true};
 ghost use Rattle.std.specs.Prelude.{MatchOption, IfSome, OnOk, Ok, Err};
 ghost use Rattle.std.specs.Prelude.{length, map, take};
-ghost use Rattle.vb_model.specs.declared.limits.TheConstants.{MAX_REPORT_PIECES};
+ghost use Rattle.vb_virtio.specs.declared.limits.TheConstants.{MAX_REPORT_PIECES};
 ghost use Rattle.vb_request.specs.Report.{report_request, pages_of_pieces};
 ghost use Rattle.std.specs.List.{list_any};
 ghost use Rattle.vb_core.specs.Pieces.{piece_in, pieces_in};
@@ -14,7 +14,7 @@ use crate::pieces::piece_in;
 use crate::{ChainPiece, Denial, Device, Kind, MEMORY_LIMIT, Named, Run};
 use arrayvec::ArrayVec;
 use vb_chain::{ChainFault, Piece};
-use vb_model::limits::{MAX_REPORT_PIECES, PAGE_SIZE};
+use vb_virtio::limits::{MAX_REPORT_PIECES, PAGE_SIZE};
 use vb_request::check_report;
 
 /// Runs that a report has room for at least: its pieces, at the most.
