@@ -28,8 +28,8 @@ pub use device::{Denial, Device};
 pub use format::{FORMAT_VERSION, SAVED_LENGTH};
 pub use kinds::Kind;
 pub use laws::{
-    a_used_entry_is_the_rings_next, numbers_are_told_by_one_list_of_runs, runs_are_the_pages_of_the_report,
-    runs_are_the_pages_of_the_request,
+    a_used_entry_is_the_rings_next, numbers_are_told_by_one_list_of_runs,
+    runs_are_the_pages_of_the_report, runs_are_the_pages_of_the_request,
 };
 pub use name::Named;
 pub use pieces::ChainPiece;

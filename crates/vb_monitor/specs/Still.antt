@@ -1,7 +1,7 @@
 -- A notice over memory that stays as it is for as long as the notice reads of it: it does what the
 -- bytes of memory say.
-use Rattle.std.specs.Prelude.{◌≡◌, ◌≢◌, ◌⊎◌, ℕ, ◌+◌, ◌*◌, ◌%◌, ◌<◌, List, [], ◌∷◌, ◌++◌, length, map}
-use Rattle.std.specs.Prelude.{Bool, true, false, Option, Some, None, Result, Ok, Err}
+use Rattle.std.specs.Prelude.{◌≡◌, ◌≢◌, ◌⊎◌, ℕ, ◌+◌, ◌*◌, ◌%◌, ◌<◌, List, [], ◌∷◌, ◌++◌, length}
+use Rattle.std.specs.Prelude.{map, Bool, true, false, Option, Some, None, Result, Ok, Err}
 use Rattle.std.specs.List.{range_with_len, flat_map, AllByRecursion}
 use Rattle.std.specs.Int.{w16, from_le_bytes}
 use Rattle.vb_chain.specs.declared.descriptor.Descriptor.{Descriptor}
@@ -90,7 +90,8 @@ abbrev pub index_in : (ℕ → ℕ) → Virtqueue → ℕ
 index_in byte r = from_le_bytes w16 (bytes_from byte (r.avail + 2) 2)
 
 abbrev pub entry_in : (ℕ → ℕ) → Virtqueue → ℕ
-entry_in byte r = from_le_bytes w16 (bytes_from byte (r.avail + (4 + 2 * (r.next_avail % r.size))) 2)
+entry_in byte r =
+    from_le_bytes w16 (bytes_from byte (r.avail + (4 + 2 * (r.next_avail % r.size))) 2)
 
 -- The descriptors that memory has from an address on.
 abbrev pub in_memory : (ℕ → ℕ) → ℕ → ℕ → Descriptor
