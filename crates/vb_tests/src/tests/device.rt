@@ -222,6 +222,19 @@ fn queues_have_no_gaps(rt: HostRuntime) {
     assert!(rt; first_other_kind().is_none());
 }
 
+#[test]
+fn a_used_entry_wraps(rt: HostRuntime) {
+    let mut device = ready(SETTINGS, Kind::Inflate, SMALL);
+    match device.use_chain(Kind::Inflate, 7) {
+        Ok(entry) => {
+            assert!(rt; entry.element_at == 0x10a0 + 4 + 56);
+            assert!(rt; entry.index_at == 0x10a2);
+            assert!(rt; entry.id == 7 && entry.length == 0 && entry.index == 0);
+        }
+        Err(_) => assert!(rt; false),
+    }
+}
+
 /// Steps of a driver: the status, or else features, and the number of the fault.
 static STEPS: [(Result<u8, u64>, u32); 9] = [
     (Ok(1), 0),
