@@ -10,7 +10,7 @@ use Rattle.vb_c.specs.{Codes.kind_of_code, Notices.{tally_of, asked_bits, answer
 use Rattle.vb_c.specs.{Served.telling_pages}
 use Rattle.vb_core.specs.Config.{keeps_reports}
 use Rattle.vb_monitor.specs.Giving.{is_kept, kept_pages}
-use Rattle.vb_c.proofs.requests.serve_many.Goals as goal
+use Rattle.vb_c.proofs.requests.serve_named.Goals as goal
 
 pub returns-in-Some-clause-hands : goal.returns-in-Some-clause-hands
 returns-in-Some-clause-hands c =
