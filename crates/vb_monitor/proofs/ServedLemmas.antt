@@ -11,7 +11,7 @@ use Rattle.vb_core.specs.declared.{kinds.Kind.Kind, device.Device.Device, device
 use Rattle.vb_core.specs.{declared.runs.Run.Run, declared.name.Named.Named, Rings.{used_entry, with_used}}
 use Rattle.vb_core.specs.declared.ring.UsedEntry.{UsedEntry}
 use Rattle.vb_core.specs.Devices.{ring_of, call_denial, queue_denial}
-use Rattle.vb_core.specs.{Name.{is_request, NamesBy, name_denial, after_request}, Next.told}
+use Rattle.vb_core.specs.Name.{is_request, NamesBy, name_denial, after_request, told}
 use Rattle.vb_core.specs.Using.{use_denial}
 use Rattle.vb_monitor.specs.declared.{regions.{Region.Region, Spot.Spot}, giving.UsedSpots.UsedSpots}
 use Rattle.vb_monitor.specs.{Regions.{holds, spot_from, cuts_from, cuts_of}, declared.cuts.Cut.Cut}
