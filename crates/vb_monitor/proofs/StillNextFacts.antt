@@ -8,6 +8,7 @@ use Rattle.vb_chain.specs.declared.{pieces.Piece.Piece}
 use Rattle.vb_chain.specs.declared.fault.ChainFault.TheVariants.{IndexJump, BadHead}
 use Rattle.vb_core.specs.{Devices.placed, declared.ring.Virtqueue.Virtqueue}
 use Rattle.vb_monitor.specs.Still.{in_memory, head_in, HasNext}
+use Rattle.vb_monitor.proofs.StillAnswers.{one_next}
 
 -- a ring of eight descriptors at 0, 256 and 512, of which nine were taken: the tenth entry is the
 -- ring's second; the table says four bytes to be read, from page 20 on, as descriptor 3
