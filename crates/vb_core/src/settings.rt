@@ -64,9 +64,7 @@ impl Settings {
     {
         let offered = Features::from_bits_retain(self.offered);
         let known = Features::from_bits_retain(KNOWN);
-        self.memory_end < MEMORY_LIMIT
-            && known.contains(offered)
-            && offered.version_1()
+        self.memory_end < MEMORY_LIMIT && known.contains(offered) && offered.version_1()
     }
 
     /// How many pages of 4096 bytes memory has.
