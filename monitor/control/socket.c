@@ -10,9 +10,6 @@
 #include <sys/un.h>
 #include <unistd.h>
 
-/* Clients that may wait to be taken. */
-enum { BACKLOG = 64 };
-
 void socket_remove(const char *path)
 {
     struct stat file;
@@ -39,7 +36,7 @@ int socket_listen(const struct control_options *options)
         return errno = ENAMETOOLONG, -1;
     socket_remove(options->path);
     int listener = socket(AF_UNIX, SOCK_STREAM | SOCK_CLOEXEC | SOCK_NONBLOCK, 0);
-    if (listener < 0 || (bind_to(listener, options) && listen(listener, BACKLOG) == 0))
+    if (listener < 0 || (bind_to(listener, options) && listen(listener, SOMAXCONN) == 0))
         return listener;
     int why = errno;
     file_close(listener);
