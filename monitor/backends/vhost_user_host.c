@@ -17,7 +17,7 @@
  *     log                 the decisions since the last `log`: the needs, the targets and why
  *     NAME target PAGES   for one guest, as vhost_user_balloon takes them; the target stands while it serves
  *     NAME counters, NAME ask, NAME statistics
- *     quit                end; so do the end of the input, and the signals SIGTERM and SIGINT
+ *     quit                end; so do the end of the input, and the signals SIGTERM and SIGINT, and without --config SIGHUP
  *
  * Each period (200 ms) it counts what the guests' files hold, and asks each for its statistics. Targets are decided anew
  * where the old ones don't serve any longer: by vb_targets, vb_spare and vb_needs_targets of the library. A guest that breaks a

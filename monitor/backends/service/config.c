@@ -135,23 +135,32 @@ static bool is_section(const char *line)
     return false;
 }
 
-/* The next line for the parser, which doesn't count them itself. */
+/* Takes note of a section's first line: the parser hands over keys alone, and a guest may have none. */
+static void take_section(struct reader *reader, const char *line)
+{
+    char name[MOST_LINE];
+    if (!is_section(line))
+        fault(reader, "", "the sections are [host], [control], [log] and [guest NAME]");
+    else if (!strncmp(line, "[guest ", strlen("[guest ")) && sscanf(line, "[%187[^]]]", name) == 1)
+        guest_of(reader, name);
+}
+
+/* The next line for the parser, which doesn't count them itself. One that it can't take is a fault, and empty. */
 static char *next_line(char *bytes, int room, void *context)
 {
     struct reader *reader = context;
-    size_t length;
     char *line = NULL;
-    ssize_t got = getline(&line, &(size_t){0}, reader->file);
+    size_t size = 0;
+    ssize_t length = getline(&line, &size, reader->file);
+    bool whole = length >= 0 && length < room && length < MOST_LINE && strlen(line) == (size_t)length;
     reader->line++;
-    length = got > 0 ? (size_t)got : 0;
-    bool fits = length < MOST_LINE && (int)length < room && (!line || strlen(line) == length);
-    if (got >= 0 && !fits)
+    if (length >= 0 && !whole)
         fault(reader, "", "a line has 189 bytes at most, and none of them is 0");
-    else if (got > 0 && line[0] == '[' && !is_section(line))
-        fault(reader, "", "the sections are [host], [control], [log] and [guest NAME]");
-    strcpy(bytes, got >= 0 && fits ? line : "\n");
+    else if (length >= 0 && line[0] == '[')
+        take_section(reader, line);
+    strcpy(bytes, whole ? line : "\n");
     free(line);
-    return got < 0 ? NULL : bytes;
+    return length < 0 ? NULL : bytes;
 }
 
 /* What no single key shows. */

@@ -113,9 +113,7 @@ static void reload(struct service *service, struct host *host)
     static struct config config;
     const char *key;
     notify_reloads();
-    if (!service->file)
-        complain("there is no configuration to read: the host was started without --config");
-    else if (!config_read(service->file, &config))
+    if (!config_read(service->file, &config))
         complain("%s: the old configuration stays", service->file);
     else if (!config_stays(&service->config, &config, &key))
         complain("%s: %s can't change while the host runs: the old configuration stays", service->file, key);
@@ -185,8 +183,8 @@ bool service_begin(struct service *service, struct host *host, const char *folde
     options->path = service->path;
     options->listener = notify_socket("control");
     options->stays = getenv("NOTIFY_SOCKET") != NULL;
-    service->hangup = process_reload();
-    if (service->hangup < 0 || !control_open(&service->control, options) || !apply_guests(&service->config, host))
+    service->hangup = service->file ? process_reload() : -1;
+    if ((service->file && service->hangup < 0) || !control_open(&service->control, options) || !apply_guests(&service->config, host))
         return false;
     notify_keep("control", service->control.listener);
     int64_t wanted = notify_every();
