@@ -68,8 +68,7 @@ class Connection:
         raise Refused(answer.get("error") or {})
 
     def follow(self):
-        """Yields each event of the host from now on."""
+        """Returns what yields each event of the host from now on."""
         self.ask("events")
         self.socket.settimeout(None)
-        while True:
-            yield self.receive()
+        return iter(self.receive, None)

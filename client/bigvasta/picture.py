@@ -2,8 +2,8 @@
 
 from typing import NamedTuple
 
-from bigvasta.commands.status import wait_of
 from bigvasta.sizes import mebibytes
+from bigvasta.waits import wait_of
 
 # Characters of a bar: held and not to spare, held and to spare, lent and not held, neither; and what a target or a budget leaves.
 BLOCKS, PLAIN = "█▒░ │", "#=. |"
@@ -91,7 +91,7 @@ def guest_line(guest, scale, width, shown):
 
 def picture(status, width, height, shown):
     """Returns the lines of a screen."""
-    host, guests, width = status["host"], status["guests"], max(width, LEAST_WIDTH)
+    host, guests, room_across, width = status["host"], status["guests"], width, max(width, LEAST_WIDTH)
     scale = max((it["memory"] for it in guests), default=0)
     lines = [*host_lines(host, guests, width, shown), state_line(host, shown), Line("")]
     head = f"{'guest':<{NAME_WIDTH}}" + "".join(f"{it:>{NUMBER_WIDTH}}" for it in ("held", "loan", "target", "spare"))
@@ -102,4 +102,4 @@ def picture(status, width, height, shown):
     lines += [Line("")] * (height - len(lines) - 1)
     own, spare, lent, _, mark = shown.blocks
     keys = f"{own} held  {spare} of it spare  {lent} lent  {mark} left by the target   q quit  s sort  p pause"
-    return [Line(it.text[:width], it.kind) for it in [*lines[: max(height - 1, 0)], Line(keys, "head")]]
+    return [Line(it.text[:room_across], it.kind) for it in [*lines[: max(height - 1, 0)], Line(keys, "head")]]

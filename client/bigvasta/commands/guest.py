@@ -2,9 +2,9 @@
 
 import json
 
-from bigvasta.commands.status import wait_of
 from bigvasta.connection import Connection
 from bigvasta.sizes import mebibytes
+from bigvasta.waits import wait_of
 from bigvasta.terms import TARGET, TERMS, parse_terms, said
 
 SIZES = ("memory", "held", "loan", "excess", "target", "ballooned", "free", "available", "spare")

@@ -55,19 +55,27 @@ def show(decision, is_json):
         print(json.dumps(decision) if is_json else decision_line(decision), flush=True)
 
 
-def run(asked):
-    """Prints the log."""
-    with Connection(asked.control) as host:
-        seen = asked.since
+def show_past(path, asked):
+    """Prints the decisions that were; returns the number of the next one."""
+    seen = asked.since
+    with Connection(path) as host:
         for decision in past(host, asked.since):
             show(decision, asked.json)
             seen = decision["number"] + 1 if "number" in decision else seen
-        if not asked.follow:
-            return
-        for event in host.follow():
-            if event["event"] == "decision" and event["decision"]["number"] < seen:
-                continue
-            print(json.dumps(event) if asked.json else event_line(event), flush=True)
+    return seen
+
+
+def run(asked):
+    """Prints the log. Who follows it is told of events from before the past is asked for, so that nothing is missed between them."""
+    if not asked.follow:
+        show_past(asked.control, asked)
+        return
+    with Connection(asked.control) as host:
+        events = host.follow()
+        seen = show_past(asked.control, asked)
+        for event in events:
+            if event["event"] != "decision" or event["decision"]["number"] >= seen:
+                print(json.dumps(event) if asked.json else event_line(event), flush=True)
 
 
 def add(commands, common):

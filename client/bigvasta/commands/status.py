@@ -3,7 +3,8 @@
 import json
 
 from bigvasta.connection import Connection
-from bigvasta.sizes import mebibytes, seconds
+from bigvasta.sizes import mebibytes
+from bigvasta.waits import wait_of
 
 COLUMNS = ("guest", "state", "memory", "held", "loan", "target", "balloon", "spare", "waits for")
 
@@ -12,15 +13,6 @@ def row(guest):
     """Returns the columns of a guest."""
     sizes = (mebibytes(guest[it]) for it in ("memory", "held", "loan", "target", "ballooned", "spare"))
     return (guest["name"], guest["state"], *sizes, wait_of(guest))
-
-
-def wait_of(guest):
-    """Returns what a guest waits for, and how long it has; or what is amiss with it."""
-    if guest["waits_for"] != "nothing":
-        return f"{guest['waits_for']}, {seconds(guest['waits'])}"
-    if guest["state"] == "ready" and not guest["answers"]:
-        return "silent"
-    return "" if guest["cooperates"] else "uncooperative"
 
 
 def table(rows):
