@@ -287,6 +287,14 @@ def test_a_follower_that_does_not_read_is_dropped_and_counted(host):
     it.close()
 
 
+def is_taken(host):
+    """Whether one more client is taken just now."""
+    try:
+        return host.status()
+    except Refused:
+        return False
+
+
 def test_one_client_too_many_is_told_so(host):
     clients = [Raw(host) for _ in range(256)]
     eventually(lambda: clients[-1].answer(say(request="budget"))["ok"])
@@ -294,7 +302,8 @@ def test_one_client_too_many_is_told_so(host):
     assert json.loads(late.lines.readline())["error"] == {"code": "too-many-clients", "text": "256 clients are connected already"}
     assert late.lines.readline() == b""
     clients.pop().close()
-    assert eventually(lambda: host.status()["control"])["turned_away"] >= 1
+    eventually(lambda: is_taken(host), "a place that is free isn't given to the next client")
+    assert host.status()["control"]["turned_away"] >= 1
     for it in (late, *clients):
         it.close()
 
