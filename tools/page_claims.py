@@ -49,7 +49,7 @@ def wrong_shims(*paths):
     return lambda: sum(it[1].startswith(paths) for it in tool("wrong-shims").WRONG)
 
 
-SHIM, CALLS, OBEY = "monitor/balloon.h", "monitor/balloon_calls.h", "monitor/rust/src/obey.rs"
+SHIM, CALLS, OBEY = "monitor/include/balloon.h", "monitor/include/balloon_calls.h", "monitor/rust/src/obey.rs"
 
 # A page, the pattern of a number in it, and what the number has to be.
 COUNTS = (
@@ -60,7 +60,7 @@ COUNTS = (
     ("CHANGELOG.md", r"\(`tools/conform`\): (\w+), by topic", scripts("conformance/*", "examples")),
     ("monitor/README.md", r"`balloon\.h` \((\w+) lines\)", lines_of(SHIM)),
     ("monitor/README.md", r"`balloon_calls\.h`, (\w+) lines", lines_of(CALLS)),
-    ("monitor/README.md", r"by (\w+) wrong shims in C", wrong_shims("balloon")),
+    ("monitor/README.md", r"by (\w+) wrong shims in C", wrong_shims("include/")),
     ("monitor/README.md", r"wrong shims in C and (\w+) in Rust", wrong_shims("rust/")),
     ("monitor/rust/README.md", r"`src/obey\.rs`\n?\s*\((\w+) lines\)", lines_of(OBEY)),
     ("docs/LINUX.md", r"`tools/test-linux` \| (\w+) runs", lambda: len(tool("test-linux").RUNS)),
@@ -139,9 +139,9 @@ def times():
 # A page, the language of its listings, and the file that they quote: whole, or in parts that `...` divides.
 WHOLE, PARTS = True, False
 LISTINGS = (
-    ("README.md", "c", "monitor/example.c", PARTS),
+    ("README.md", "c", "monitor/examples/example.c", PARTS),
     ("README.md", "rust", "monitor/rust/examples/monitor.rs", PARTS),
-    ("docs/INTEGRATION.md", "c", "monitor/example.c", WHOLE),
+    ("docs/INTEGRATION.md", "c", "monitor/examples/example.c", WHOLE),
 )
 
 

@@ -3,16 +3,21 @@ use Rattle.std.specs.Prelude.{◌≡◌, ℕ, zero, suc, ◌+◌, ◌<◌, ◌�
 use Rattle.std.specs.Prelude.{false, List, [], ◌∷◌, ◌++◌, length, count_by, replicate, refl}
 use Rattle.std.specs.Prelude.{if◌then◌else◌, cond, MatchOption, ⊤, Option, Some, None, is_none}
 use Rattle.std.{specs.Prelude.Result, proofs.lemmas.List.Sums.count_by-le-length}
-use Rattle.std.proofs.Common.{sym, ◌∙◌, ap, subst, arith, get_or, take, eq-eqb}
+use Rattle.std.proofs.Common.{sym, ◌∙◌, ap, subst, arith, get_or, take, eq-eqb, Ok, Err}
 use Rattle.std.proofs.lemmas.List.{append-nil, length-replicate, take_more, length-take}
 use Rattle.vb_ram.specs.{declared.config.Config.Config, Pages.Pages, Part.{Part, QueuePart}}
-use Rattle.vb_model.specs.declared.replies.Refusal.TheVariants.{NoQueue, NotReady, NeedsReset}
-use Rattle.vb_model.specs.declared.replies.Refusal.TheVariants.{NotTaken, NotWorked}
-use Rattle.vb_model.specs.{Requests.Request, FirstRefusal.{◌⇒◌, first_refusal}}
-use Rattle.vb_model.specs.Tables.{is_queue_of_requests, has_unvisited, is_not_ready, has_fault}
-use Rattle.vb_model.specs.declared.layout.TheConstants.{INFLATE_QUEUE, DEFLATE_QUEUE, REPORT_QUEUE}
-use Rattle.vb_model.specs.{declared.replies.Refusal.Refusal, Tests.{is_in, pages_from, pages_where}}
-use Rattle.vb_model.proofs.Tables.{pages_where-passes, count_by-cons}
+use Rattle.vb_virtio.specs.declared.refusals.Refusal.TheVariants.{NoQueue, NotReady, NeedsReset}
+use Rattle.vb_virtio.specs.declared.refusals.Refusal.TheVariants.{NotTaken, NotWorked, Broken}
+use Rattle.vb_virtio.specs.Queues.{Request, is_queue_of_requests}
+use Rattle.vb_virtio.specs.FirstRefusal.{◌⇒◌, first_refusal}
+use Rattle.vb_virtio.specs.Status.{is_not_ready, has_fault}
+use Rattle.vb_virtio.specs.declared.layout.TheConstants.{INFLATE_QUEUE, DEFLATE_QUEUE, REPORT_QUEUE}
+use Rattle.vb_virtio.specs.declared.refusals.Refusal.{Refusal}
+use Rattle.vb_virtio.specs.Tests.{is_in, pages_from, pages_where}
+use Rattle.vb_virtio.proofs.Tables.{pages_where-passes, count_by-cons}
+use Rattle.vb_model.specs.Tables.{has_unvisited}
+use Rattle.vb_device.proofs.ServeCases.{Did, Not_served, Only_took, Took_and_used, what_it_did}
+use Rattle.vb_device.specs.Calls.{ServesBy, TakeMeans, noting}
 use Rattle.vb_device.specs.Calls.{attached, using, next_visit, WorksBy, SweepsBy, FinishesBy, Uses}
 use Rattle.vb_device.specs.Conditions.{work_refusal, sweep_refusal, finish_refusal, ask_refusal}
 use Rattle.vb_device.{specs.Discards.flagged, proofs.Marks.flagged-length, specs.Calls.AsksBy}
@@ -231,6 +236,30 @@ pub finish_keeps : (q index : ℕ) (m1 m2 : Pages) (p1 p2 : Part) (result : Resu
     → FinishesBy q index m1 m2 p1 p2 result → length p2.ballooned ≡ length p1.ballooned
 finish_keeps q index m1 m2 p1 p2 result s =
     finish_by q index m1 m2 p1 p2 result (finish_refusal q index p1) s refl
+
+-- ---- so does a serve
+
+take_size : (q : ℕ) (m1 m2 : Pages) (p1 p2 : Part) (result : Result (Option ℕ) Refusal)
+    → TakeMeans q m1 p1 p2 result → length p2.ballooned ≡ length p1.ballooned
+take_size q m1 m2 p1 p2 (Ok None) means = ap (λ (p : Part). length p.ballooned) means.1
+take_size q m1 m2 p1 p2 (Ok (Some h)) means = ap (λ (p : Part). length p.ballooned) means.1.2
+    ∙ ap (λ (fs : List Bool). length fs) (queue_keeps (q == 0) (q == 1) (q == 2) _
+    (noting q m1 means.1.1.pieces p1))
+take_size q m1 m2 p1 p2 (Err (Broken rule)) means = ap (λ (p : Part). length p.ballooned) means.1
+take_size q m1 m2 p1 p2 (Err why) means = ap (λ (p : Part). length p.ballooned) means.1
+
+serve_by : (q : ℕ) (m1 m2 : Pages) (p1 p2 : Part) (result : Result (Option ℕ) Refusal)
+    → Did q m1 m2 p1 p2 result → length p2.ballooned ≡ length p1.ballooned
+serve_by q m1 m2 p1 p2 result (Not_served why e answer part memory) =
+    ap (λ (p : Part). length p.ballooned) part
+serve_by q m1 m2 p1 p2 result (Only_took part e takes same memory) =
+    ap (λ (p : Part). length p.ballooned) same ∙ take_size q m1 m1 p1 part result takes.means
+serve_by q m1 m2 p1 p2 result (Took_and_used part h r e other answer takes at uses) =
+    used_size q 0 r m1 m2 part p2 _ uses ∙ take_size q m1 m1 p1 part _ takes.means
+
+pub serve_keeps : (q : ℕ) (m1 m2 : Pages) (p1 p2 : Part) (result : Result (Option ℕ) Refusal)
+    → ServesBy q m1 m2 p1 p2 result → length p2.ballooned ≡ length p1.ballooned
+serve_keeps q m1 m2 p1 p2 result did = serve_by q m1 m2 p1 p2 result (what_it_did did)
 
 -- what is left of a list's facts while it is made anew
 pub still_fits : {X : Type 0} (size room : X → ℕ) (E : X → Type 0) (o : Option X) (m n : ℕ) → n ≡ m

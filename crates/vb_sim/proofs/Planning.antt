@@ -5,7 +5,8 @@ use Rattle.std.specs.Prelude.{◌==◌, ◌&&◌, not, nat_le, Option, Result, O
 use Rattle.std.{specs.declared.vec.Vec.Vec, specs.declared.alloc.Global.Global}
 use Rattle.std.{proofs.lemmas.Bool.and_parts, proofs.lemmas.Bool.Decides.nat_tests}
 use Rattle.std.{proofs.lemmas.List.length-map, proofs.lemmas.List.Folds.list_all-append}
-use Rattle.vb_model.{specs.declared.calls.Call.Call, specs.Limits.{is_config, max_guests}}
+use Rattle.vb_virtio.specs.Limits.{is_config, max_guests}
+use Rattle.vb_model.specs.declared.calls.Call.{Call}
 use Rattle.vb_run.specs.Plans.{are_scripts, is_guest_plan, is_plan, is_script}
 use Rattle.vb_run.{specs.declared.plan.Bells.Bells, specs.declared.plan.GuestPlan.GuestPlan}
 use Rattle.vb_run.{specs.declared.plan.Plan.Plan, specs.declared.report.Report.Report}

@@ -7,7 +7,8 @@ use Rattle.std.proofs.lemmas.Bool.{and_parts, Decides.nat_tests}
 use Rattle.std.proofs.lemmas.List.{append_assoc, append-nil, take-append-drop}
 use Rattle.std.proofs.lemmas.List.Folds.{list_all-append, list_all_more}
 use Rattle.std.proofs.lemmas.List.Sums.{sum_by-cons, sum_by-take-le, sum_by_more}
-use Rattle.vb_model.{specs.declared.calls.Call.Call, specs.Limits.is_config}
+use Rattle.vb_virtio.specs.Limits.{is_config}
+use Rattle.vb_model.specs.declared.calls.Call.{Call}
 use Rattle.vb_ram.proofs.Limits.{config_limits}
 use Rattle.vb_run.specs.Plans.{are_scripts, is_guest_plan, is_script, may_stand}
 use Rattle.vb_run.specs.declared.plan.{GuestPlan.GuestPlan, TheConstants.MAX_SCRIPT_CALLS}

@@ -3,7 +3,7 @@ use Rattle.std.specs.Prelude.{◌≡◌, ℕ, suc, ◌==◌, ◌&&◌, Bool, tru
 use Rattle.std.specs.Prelude.{List, [], ◌∷◌, length, map, Option, Some, None, Result, Ok, Err}
 use Rattle.std.specs.List.{list_all}
 use Rattle.vb_model.specs.declared.calls.Call.{Call}
-use Rattle.vb_model.specs.Limits.{is_config, max_guests}
+use Rattle.vb_virtio.specs.Limits.{is_config, max_guests}
 use Rattle.vb_script.specs.Plans.{Plan as Planned, GuestPlan as PlannedGuest}
 use Rattle.vb_run.specs.Plans.{is_script}
 use Rattle.vb_run.specs.declared.plan.Bells.{Bells}

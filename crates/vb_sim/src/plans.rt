@@ -2,7 +2,7 @@
 
 ghost use Rattle.std.specs.Prelude.{◌≡◌, false, map, IfOk, MatchOption};
 ghost use Rattle.std.specs.List.{list_all};
-ghost use Rattle.vb_model.specs.Limits.{is_config};
+ghost use Rattle.vb_virtio.specs.Limits.{is_config};
 ghost use Rattle.vb_script.specs.Plans.{guest_plan, planned_by};
 ghost use Rattle.vb_sim.specs.Plans.{IsPlanOf, can_run, is_part, part_of, planned_part};
 

@@ -1,7 +1,7 @@
 //! A run of guests on threads, each on a device of its own that leases its frames from one table.
 
 ghost use Rattle.std.specs.Prelude.{◌≡◌, ◌↔◌, ◌≤◌, ◌<◌, true, length, map, All, MatchResult};
-ghost use Rattle.vb_model.specs.declared.limits.TheConstants.{MAX_FRAMES};
+ghost use Rattle.vb_virtio.specs.declared.limits.TheConstants.{MAX_FRAMES};
 ghost use Rattle.vb_run.specs.Plans.{is_plan};
 ghost use Rattle.vb_run.specs.Reports.{IsReport};
 ghost use Rattle.vb_script.specs.Lines.{is_paced};

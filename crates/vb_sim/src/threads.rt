@@ -17,9 +17,9 @@ use std::alloc::Global;
 use std::io::{Read, Write};
 use std::sync::Wait;
 use std::thread::Threads;
-use vb_model::limits::MAX_GUESTS;
 use vb_run::{Bells, Plan, Report};
 use vb_script::{ThreadsScript, parse_threads};
+use vb_virtio::limits::MAX_GUESTS;
 
 /// Reads a script from `input`, runs its guests on threads, with doorbells rung in this mode, and
 /// once all have ended writes a line for each to `output` and last `disjoint`. Answers the exit

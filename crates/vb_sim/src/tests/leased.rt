@@ -3,9 +3,9 @@
 
 ghost use Rattle.std.specs.Prelude.{◌≡◌, ◌<◌, ◌≤◌, ⊤, [], true, IfOk, IfSome, MatchOption, length};
 ghost use Rattle.std.specs.Prelude.{vec_len};
-ghost use Rattle.vb_model.specs.declared.limits.TheConstants.{MAX_FRAMES};
+ghost use Rattle.vb_virtio.specs.declared.limits.TheConstants.{MAX_FRAMES};
 ghost use Rattle.vb_model.specs.Guest.{Guest};
-ghost use Rattle.vb_model.specs.Limits.{is_config};
+ghost use Rattle.vb_virtio.specs.Limits.{is_config};
 ghost use Rattle.vb_slot.specs.Spare.{IsNew};
 
 use super::scripts::{Listed, one_guest_immediate, one_guest_paced};
@@ -17,11 +17,12 @@ use std::alloc::{AllocError, Global};
 use std::io::Write;
 use std::process::Abort;
 use vb_device::{Device, ImmediateDevice, PacedDevice};
-use vb_model::{Call, Event, Query, Refusal, Reply};
+use vb_model::{Call, Event, Query, Reply};
 use vb_ram::Config;
 use vb_script::{Pace, Script};
 use vb_shared::{FramePass, Leased, SharedFrames};
 use vb_slot::{GuestSlot, LoneSlot};
+use vb_virtio::Refusal;
 
 /// A table of frames, and at most one guest, which has a pass over it.
 #[derive(Drop)]

@@ -2,15 +2,15 @@
 
 ghost use Rattle.std.specs.Prelude.{◌≡◌, ◌≤◌, ◌<◌, ◌+◌, ◌++◌, ◌∷◌, [], ⊤, MatchOption, IfOk};
 ghost use Rattle.std.specs.Prelude.{length, vec_len, vec_capacity, true, false, if◌then◌else◌};
-ghost use Rattle.vb_model.specs.Tests.{is_in, pages_where};
+ghost use Rattle.vb_virtio.specs.Tests.{is_in, pages_where};
 ghost use Rattle.vb_device.specs.Calls.{IsUnused};
 
 use std::alloc::{AllocError, Global};
 use std::marker::Model;
 use vb_device::{Claimed, Device, PacedDevice, Statistics, Worked};
-use vb_model::Refusal;
 use vb_ram::{Config, Frame, GuestBytes, RamFault, SupplyRefused};
 use vb_status::{Features, Port, Status, StatusFault};
+use vb_virtio::Refusal;
 
 /// The ballooned pages of a guest of so many pages, rising.
 #[derive(Drop)]
@@ -119,7 +119,7 @@ pub(super) struct ListedDevice {
 
 impl Model for ListedDevice {
     ghost use Rattle.std.specs.Prelude.{◌≡◌, ◌≤◌, ⊤, MatchOption, length, vec_capacity};
-    ghost use Rattle.vb_model.specs.Tests.{pages_where};
+    ghost use Rattle.vb_virtio.specs.Tests.{pages_where};
     ghost use Rattle.vb_device.specs.State.{DeviceState};
 
     ghost Value = { DeviceState };
@@ -239,6 +239,12 @@ impl Device for ListedDevice {
 
     fn finish(&mut self, queue: u32, index: u32) -> Result<u16, Refusal> {
         let answer = self.inner.finish(queue, index);
+        make_anew(&mut self.listed, &self.inner);
+        answer
+    }
+
+    fn serve(&mut self, queue: u32) -> Result<Option<u16>, Refusal> {
+        let answer = self.inner.serve(queue);
         make_anew(&mut self.listed, &self.inner);
         answer
     }

@@ -49,6 +49,7 @@ enum Step {
     Take(u32),
     Work,
     Finish(u32),
+    Serve(u32),
     Sweep,
     Reap(u32),
     Ask,
@@ -57,7 +58,7 @@ enum Step {
 }
 
 /// The steps of a life.
-const STEPS: usize = 50;
+const STEPS: usize = 55;
 
 /// What is done in turn, from the beginning of a guest's life.
 static LIFE: [Step; STEPS] = [
@@ -111,6 +112,11 @@ static LIFE: [Step; STEPS] = [
     Step::Finish(1),
     Step::Reap(1),
     Step::Reap(1),
+    Step::Inflate,
+    Step::Serve(0),
+    Step::Reap(0),
+    Step::Report,
+    Step::Serve(4),
 ];
 
 /// An event that befalls a guest.
@@ -160,6 +166,7 @@ fn event_of(
         Step::Take(queue) => Call::Take { queue },
         Step::Work => Call::Work,
         Step::Finish(queue) => Call::Finish { queue, index: 0 },
+        Step::Serve(queue) => Call::Serve { queue },
         Step::Sweep => Call::Sweep { page },
         Step::Reap(queue) => Call::Reap { queue },
         Step::Ask => Call::Ask,

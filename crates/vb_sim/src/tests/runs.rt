@@ -10,8 +10,9 @@ use crate::run::run_script_on;
 use std::alloc::{AllocError, Global};
 use std::io;
 use std::io::{ErrorKind, Read, Write};
-use vb_model::{Refusal, Reply};
+use vb_model::Reply;
 use vb_script::Script;
+use vb_virtio::Refusal;
 
 /// A host without guests.
 #[derive(Drop)]

@@ -16,6 +16,7 @@ mod requests;
 mod resets;
 mod restarts;
 mod rogues;
+mod serves;
 mod sizes;
 mod starts;
 mod statistics;

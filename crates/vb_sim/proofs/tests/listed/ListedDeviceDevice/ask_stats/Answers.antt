@@ -1,6 +1,6 @@
 use Rattle.std.proofs.Common.{◌≡◌, ◌≤◌, List, Bool, sym, subst, length}
 use Rattle.std.specs.Prelude.{vec_capacity, MatchOption, ⊤}
-use Rattle.vb_model.specs.Tests.{pages_where}
+use Rattle.vb_virtio.specs.Tests.{pages_where}
 use Rattle.vb_sim.{specs.declared.tests.listed.PageList.PageList, proofs.Listing.ask_keeps}
 use Rattle.vb_sim.proofs.tests.listed.ListedDeviceDevice.ask_stats.Goals as goal
 

@@ -1,5 +1,6 @@
 use Rattle.std.{proofs.Common.{◌≡◌, ◌∙◌, ◌≤◌, List, ℕ, ap, length}, specs.Prelude.vec_capacity}
-use Rattle.vb_model.{specs.Guest.is_ballooned, specs.Tests.{is_in, pages_where}}
+use Rattle.vb_virtio.specs.Tests.{is_in, pages_where}
+use Rattle.vb_model.specs.Guest.{is_ballooned}
 use Rattle.vb_device.specs.State.{DeviceState}
 use Rattle.vb_sim.{specs.declared.tests.listed.PageList.PageList, proofs.Listing.{told, listed_is}}
 use Rattle.vb_sim.proofs.tests.listed.ListedDeviceDevice.ballooned.Goals as goal

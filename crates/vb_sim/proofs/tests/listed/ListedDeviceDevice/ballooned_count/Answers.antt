@@ -1,6 +1,6 @@
 use Rattle.std.proofs.Common.{◌≡◌, ◌∙◌, ◌≤◌, List, ℕ, Bool, ap, length}
 use Rattle.std.specs.Prelude.{vec_capacity, count_by}
-use Rattle.vb_model.specs.Tests.{pages_where}
+use Rattle.vb_virtio.specs.Tests.{pages_where}
 use Rattle.vb_device.specs.State.{DeviceState}
 use Rattle.vb_sim.specs.declared.tests.listed.PageList.{PageList}
 use Rattle.vb_sim.proofs.Listing.{told, listed_count, listed_fits}

@@ -1,5 +1,5 @@
 use Rattle.std.{proofs.Common.◌≡◌, specs.Prelude.{vec_capacity, length}}
-use Rattle.vb_model.specs.Tests.{pages_where}
+use Rattle.vb_virtio.specs.Tests.{pages_where}
 use Rattle.vb_sim.specs.declared.tests.listed.PageList.{PageList}
 use Rattle.vb_sim.proofs.Listing.{finish_keeps, still_fits}
 use Rattle.vb_sim.proofs.tests.listed.ListedDeviceDevice.finish.Goals as goal

@@ -1,5 +1,5 @@
 use Rattle.std.{proofs.Common.{◌≡◌, ◌≤◌, take, vec_len}, specs.Prelude.vec_capacity}
-use Rattle.vb_model.specs.Tests.{pages_where}
+use Rattle.vb_virtio.specs.Tests.{pages_where}
 use Rattle.vb_sim.proofs.tests.listed.PageList.make_anew.Given as goal
 
 abbrev pub invariant-loop-page : goal.invariant-loop-page
