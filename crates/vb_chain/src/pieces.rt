@@ -20,7 +20,7 @@ pub struct Piece {
     pub writable: bool,
 }
 
-/// What stands where a chain has no piece.
+/// The placeholder where a chain has no piece.
 const NO_PIECE: Piece = Piece {
     addr: 0,
     len: 0,
@@ -74,7 +74,7 @@ impl Chain {
         self.len = 0;
     }
 
-    /// Puts a piece behind the others.
+    /// Puts a piece after the others.
     pub(crate) fn push(&mut self, piece: Piece)
         requires { length self.old < MAX_DESCRIPTORS }
         ensures { self.new ≡ self.old ++ piece ∷ [] }

@@ -1,4 +1,4 @@
-//! Pages are offered to the host, and asked back (VIRTIO 1.1, 5.5.6).
+//! Pages are offered to the host, and requested back (VIRTIO 1.1, 5.5.6).
 
 ghost use Rattle.std.specs.Prelude.{◌≡◌, ◌<◌, ◌≤◌, ◌+◌, ◌==◌, ◌&&◌, ◌∷◌, [], nat_le, nat_lt};
 ghost use Rattle.std.specs.Prelude.{not, true, false, Ok};
@@ -35,14 +35,14 @@ pub(crate) fn is_up<P: Port>(port: &P) -> bool
 /// What a request needs beside a device that is up, room in its queue and a page to name.
 #[derive(Clone, Copy)]
 struct Needs {
-    /// What the request stands or falls with was accepted.
+    /// What the request depends on was accepted.
     accepted: bool,
     /// A request is out that this one must not overtake.
     pending: bool,
 }
 
 impl Needs {
-    /// No feature, and nothing stands in the way.
+    /// No feature, and nothing prevents it.
     const NOTHING: Needs = Needs {
         accepted: true,
         pending: false,
@@ -61,7 +61,7 @@ impl Driver {
             .min(stranded.max(target.saturating_sub(given)).min(there))
     }
 
-    /// How many pages a deflate request asks back, where n are wanted.
+    /// How many pages a deflate request requests back, where n are wanted.
     fn deflate_count(&self, target: u32, n: u32) -> u32
         ensures { result ≡ deflate_count self.now target n }
     {
@@ -71,7 +71,7 @@ impl Driver {
             .min(lent.min(given.saturating_sub(target)))
     }
 
-    /// How many pages are asked back where the guest is out of memory, where n are wanted.
+    /// How many pages are requested back where the guest is out of memory, where n are wanted.
     fn oom_count(&self, n: u32) -> u32
         ensures { result ≡ oom_count self.now n }
     {
@@ -85,7 +85,7 @@ impl Driver {
         queue.outstanding() >= self.config.queue_size.min(MAX_OUTSTANDING as u16)
     }
 
-    /// Offers so many pages: stranded ones first, lowest first, then free ones.
+    /// Offers n pages: stranded ones first, lowest first, then free ones.
     fn offer<P: Port>(&mut self, port: &mut P, count: u32) -> Posted
         requires room { outstanding self.old.inflate.ring < room self.old }
         requires few { count ≤ max_request_pages }
@@ -104,7 +104,7 @@ impl Driver {
         Posted { head, pages: count }
     }
 
-    /// Asks for so many of the lowest lent pages back; they are free once the request comes back.
+    /// Asks for n of the lowest lent pages back; they are free once the request comes back.
     fn ask_and_wait<P: Port>(&mut self, port: &mut P, count: u32) -> Posted
         requires told { tells_host self.old ≡ true }
         requires room { outstanding self.old.deflate.ring < room self.old }
@@ -120,7 +120,7 @@ impl Driver {
         Posted { head, pages: count }
     }
 
-    /// Asks for so many of the lowest lent pages back; they are free at once.
+    /// Asks for n of the lowest lent pages back; they are free at once.
     fn ask_and_free<P: Port>(&mut self, port: &mut P, count: u32) -> Posted
         requires untold { tells_host self.old ≡ false }
         requires room { outstanding self.old.deflate.ring < room self.old }
@@ -138,8 +138,8 @@ impl Driver {
         Posted { head, pages: count }
     }
 
-    /// Asks for so many of the lowest lent pages back. They can be used once the host was told,
-    /// where that was agreed on.
+    /// Asks for n of the lowest lent pages back. They can be used once the host was told, where
+    /// that was agreed on.
     fn ask_back<P: Port>(&mut self, port: &mut P, count: u32) -> Posted
         requires room { outstanding self.old.deflate.ring < room self.old }
         requires few { count ≤ max_request_pages }
@@ -165,9 +165,9 @@ impl Driver {
         !self.features.must_tell_host() && self.deflate.outstanding() > 0
     }
 
-    /// Whether a request for so many pages may be posted: the device must be initialised, what the
-    /// request needs must have been accepted, the queue must have room, no request must stand in
-    /// the way, and there must be a page to name.
+    /// Whether a request for n pages may be posted: the device must be initialised, what the
+    /// request needs must have been accepted, the queue must have room, no request must be in the
+    /// way, and there must be a page to name.
     fn admit<P: Port>(
         &self,
         port: &P,

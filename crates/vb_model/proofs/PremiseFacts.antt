@@ -109,7 +109,7 @@ unplugged_at_last : IsThere (three (Some down) (OnGuest 0 Work) (Some down) (Unp
     → ⊥
 unplugged_at_last there = grind arith
 
--- ---- no scribble: one of another guest is none, nor is one before or behind
+-- ---- no scribble: one of another guest is none, nor is one before or after
 
 abbrev scribbled : Event → Event → History
 scribbled first second = three (Some down) first (Some down) second (Some down)

@@ -50,7 +50,7 @@ another_reply v s = grind arith
 another_end : IsSafeRun (world 64) (CountFrames ∷ []) (Frames 0 64 ∷ []) (world 63) → ⊥
 another_end s = grind arith
 
--- ---- a frame behind two pages, of two guests or of one, of a rogue guest too, in each state
+-- ---- a frame that backs two pages, of two guests or of one, of a rogue guest too, in each state
 
 abbrev at : Guest → World
 at g = record { frames = 64; guests = Some g ∷ []; spares = []; vacated = None }
@@ -186,7 +186,7 @@ reset_but_ready s = by o.own o.is o.step where
       let status : Same 15 0 =
       ap (λ (g : Guest). g.status) (performed Reset ready is.1 Done ready made.1).1.1 in omega arith
 
--- a reset ends no life, and what comes behind it goes on from what it left
+-- a reset ends no life, and what comes after it goes on from what it left
 a_reset_is_no_end : InOneLife 1 (OnGuest 1 Reset ∷ OnGuest 1 (Init 0) ∷ [])
 a_reset_is_no_end = ((λ e. cc), (λ e. cc), ((λ e. cc), (λ e. cc), tt))
 
@@ -231,7 +231,7 @@ isnt_safe s =
 abbrev beside : Guest → World
 beside g = record { frames = 64; guests = Some ready ∷ Some g ∷ []; spares = []; vacated = None }
 
--- a page is offered behind another's event, and handed out by the next event
+-- a page is offered after another's event, and handed out by the next event
 abbrev at_once : History
 at_once = record {
   first = beside (back untold);
@@ -309,7 +309,7 @@ one_event_alone : (n : ℕ) (w v x : World) (first second : Event) (answer reply
 one_event_alone n w v x first second answer reply g new law there then_there honest on still =
     law n 1 1 v g new refl there (then_there, honest) (on, still, tt)
 
--- so many entries of a list, from one on
+-- n entries of a list, from one on
 part_of_five : part {A = ℕ} 1 3 (5 ∷ 6 ∷ 7 ∷ 8 ∷ 9 ∷ []) ∷ part {A = ℕ} 3 4 (5 ∷ 6 ∷ 7 ∷ 8 ∷ 9 ∷ [])
     ∷ [] ≡ (6 ∷ 7 ∷ 8 ∷ []) ∷ (8 ∷ 9 ∷ []) ∷ []
 part_of_five = refl

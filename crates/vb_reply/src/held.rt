@@ -53,7 +53,7 @@ impl Held {
     }
 }
 
-/// Puts a text behind what a writer has and what is held for it.
+/// Puts a text after what a writer has and what is held for it.
 #[inline]
 pub fn put<W: Write>(out: &mut W, held: &mut Held, text: &[u8]) -> Result<(), Failed>
     ensures { OnOk result
@@ -66,7 +66,7 @@ pub fn put<W: Write>(out: &mut W, held: &mut Held, text: &[u8]) -> Result<(), Fa
     }
 }
 
-/// Writes what is held, and the text behind it.
+/// Writes what is held, and the text after it.
 #[cold]
 fn put_through<W: Write>(out: &mut W, held: &mut Held, text: &[u8]) -> Result<(), Failed>
     ensures { OnOk result
@@ -124,7 +124,7 @@ fn put_digits_of<W: Write>(out: &mut W, held: &mut Held, number: u64) -> Result<
     put(out, held, digits.format(number).as_bytes())
 }
 
-/// Puts a number behind a text.
+/// Puts a number after a text.
 #[inline]
 pub fn put_with<W: Write>(
     out: &mut W,

@@ -83,7 +83,7 @@ fn first_wrong_line(pages: &mut Pages, lines: &[(Step, Answer)]) -> Option<usize
 }
 
 /// The first line whose call isn't answered so, when they are made one after the other on a new
-/// guest of so many pages, of which so many are reserved, and one processor.
+/// guest of n pages, of which m are reserved, and one processor.
 fn first_wrong(
     alloc: Global,
     size: u32,
@@ -183,7 +183,7 @@ const EIGHTY_PAGES: [(Step, Answer); 5] = [
     (Count, Free(0)),
 ];
 
-/// Calls on a new guest of so many pages, of which so many are reserved.
+/// Calls on a new guest of n pages, of which m are reserved.
 struct Example {
     name: &'static str,
     pages: u32,

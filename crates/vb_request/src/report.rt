@@ -119,8 +119,8 @@ pub fn check_report(pieces: &[Piece], reserved: u32) -> Result<(), ChainFault>
 }
 
 /// The pages that a chain of these pieces names on the queue of reports: those of each piece in
-/// turn, rising; a page that is named again stands there again. The guest's first `reserved` pages
-/// are reserved.
+/// turn, rising; a page that is named again is there again. The guest's first `reserved` pages are
+/// reserved.
 ///
 /// The pieces lie in a guest's memory, as those of a chain do that `vb_chain::walk` gives: no page
 /// has a number of 2^32 or more. Refused as by `check_report`.

@@ -34,7 +34,7 @@ pub struct Queue {
     ready: bool,
     /// How many available entries it took, modulo 65,536.
     next_avail: u16,
-    /// How many used entries it added, modulo 65,536.
+    /// How many used elements it added, modulo 65,536.
     next_used: u16,
 }
 
@@ -81,8 +81,8 @@ impl Queue {
         }
     }
 
-    /// A queue of so many descriptors that goes on from these counts, its ring lying so: the
-    /// device's end as its owner kept it elsewhere.
+    /// A queue of n descriptors that goes on from these counts, its ring lying so: the device's end
+    /// as its owner kept it elsewhere.
     pub fn resume(layout: Layout, size: u16, ready: bool, next_avail: u16, next_used: u16) -> Queue
         requires fits { Fits layout size }
         requires page { layout.table < 65536 }
@@ -201,7 +201,7 @@ impl Queue {
         }
     }
 
-    /// Goes back by one chain, so that the one that was popped last stands next again.
+    /// Goes back by one chain, so that the one that was popped last is next again.
     pub fn go_to_previous_position(&mut self)
         ensures { self.new ≡
             record self.old { next_avail = (self.old.next_avail + 65535) % 65536 } }

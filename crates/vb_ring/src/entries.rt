@@ -42,7 +42,7 @@ pub fn put_avail<G: GuestBytes>(ram: &mut G, layout: Layout, size: u16, next: u1
     write_u16(ram, ring.page, start + INDEX_AT, next.wrapping_add(1));
 }
 
-/// The head that stands after the `taken` ones, if there is one.
+/// The head that comes after the `taken` ones, if there is one.
 pub fn next_avail<G: GuestBytes>(
     ram: &G,
     layout: Layout,
@@ -91,7 +91,7 @@ pub fn put_used<G: GuestBytes>(
     write_u16(ram, ring.page, start + INDEX_AT, next.wrapping_add(1));
 }
 
-/// The id that stands after the `seen` ones, if there is one; at most `most` may stand there.
+/// The id that comes after the `seen` ones, if there is one; at most `most` may be there.
 pub fn next_used<G: GuestBytes>(
     ram: &G,
     layout: Layout,

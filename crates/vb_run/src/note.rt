@@ -21,7 +21,7 @@ pub enum Caller {
     Processor { cpu: u32, place: usize },
     /// The worker: its service of this number, from 0 on.
     Worker { service: usize },
-    /// The balancer: a target of so many pages.
+    /// The balancer: a target of n pages.
     Balancer { pages: u32 },
 }
 
@@ -116,7 +116,7 @@ fn called(
     }))
 }
 
-/// A copy of the entry that a note of this guest stands for, whose processors have these scripts.
+/// A copy of the entry that a note of this guest represents, whose processors have these scripts.
 pub(crate) fn entry_of(
     alloc: Global,
     guest: u32,

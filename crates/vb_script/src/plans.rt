@@ -177,7 +177,7 @@ fn guest_with(
     })
 }
 
-/// The scripts of a guest's processors, of which it has so many. Goes over the lines once for each.
+/// The scripts of a guest's processors, of which it has n. Goes over the lines once for each.
 fn scripts_by(
     alloc: Global,
     guest: usize,

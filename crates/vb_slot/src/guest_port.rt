@@ -27,7 +27,7 @@ pub trait GuestPort: Drop {
     fn is_paced(&self) -> bool
         ensures { result ≡ pace self.now };
 
-    /// The guest of this size as it is plugged in, on this device. Refused for want of memory
+    /// The guest of this size as it is plugged in, on this device. Refused on an allocation failure
     /// alone; the device is gone then.
     fn plug(self, alloc: Global, config: Config) -> Result<Self::Slot, AllocError>
         requires waits { waits self }

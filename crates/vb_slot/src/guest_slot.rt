@@ -16,7 +16,7 @@ pub trait GuestSlot: Drop {
     ghost use Rattle.vb_model.specs.declared.calls.Claim.{Claim};
     ghost use Rattle.vb_model.specs.Guest.{Guest};
 
-    /// It stands for this guest.
+    /// It represents this guest.
     ghost stands: { Self → Guest → Type 0 };
 
     /// The numbers of its device's own frames that are out.
@@ -49,7 +49,7 @@ pub trait GuestSlot: Drop {
         requires { (g : Guest) × stands self.now g }
         ensures { (g : Guest) → stands self.now g → result ≡ spare floor g };
 
-    /// The number of the frame behind a page; none where it has none, or isn't there.
+    /// The number of the frame that backs a page; none where it has none, or isn't there.
     fn backing(&self, page: u32) -> Option<u32>
         ensures { (g : Guest) → stands self.now g → result ≡ frame_of g.frames page };
 }

@@ -47,7 +47,7 @@ fn done_in(note: &Note, guest: u32) -> Option<Done> {
 }
 
 impl Holder {
-    /// Who has the lock behind this; none where it can't be done.
+    /// Who has the lock after this; none where it can't be done.
     fn then(self, done: Done) -> Option<Holder> {
         match (self, done) {
             (Holder::Nobody, Done::Inside) => Some(Holder::Processor),

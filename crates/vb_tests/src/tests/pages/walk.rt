@@ -36,7 +36,7 @@ struct Plain {
 }
 
 impl Plain {
-    /// A guest of so many pages, of which the first ones are reserved.
+    /// A guest of n pages, of which the first ones are reserved.
     fn new(alloc: Global, pages: u32, processors: u32, reserved: u32) -> Plain {
         let mut plain = Plain {
             processors,
@@ -226,7 +226,7 @@ struct Pair {
 }
 
 impl Pair {
-    /// A guest of so many pages and processors, of which so many pages are reserved.
+    /// A guest of n pages and processors, of which m pages are reserved.
     fn new(
         alloc: Global,
         pages: u32,
@@ -278,7 +278,7 @@ impl Pair {
             && (number % 5_000 != 0 || self.are_blocks())
     }
 
-    /// The first of so many calls that isn't answered alike, or after which the free pages differ.
+    /// The first of n calls that isn't answered alike, or after which the free pages differ.
     fn first_apart(&mut self, calls: u32) -> Option<u32> {
         for number in 0..calls {
             if !self.call() || !self.are_alike(number) {
