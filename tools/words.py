@@ -21,7 +21,6 @@ WORDS = (
     (r"ask(?:s|ed)? back\b", "requests back, deflates"),
     (r"used entr(?:y|ies)\b", "used element"),
     (r"(?:try|tries|tried) out\b", "test"),
-    (r"told of\b", "notified of"),
     (r"owes? it\b", "must guarantee it"),
     (r"rightly\b", "correctly"),
     (r"as ever\b", "unchanged"),

@@ -30,7 +30,6 @@ TEXTS = (
     ("the used entry is written", ["used entry"]),
     ("`a.py` and `b.py` are its.", ["are its."]),
     ("they are its helper modules", []),
-    ("the guest was told of it", ["told of"]),
     ("the caller owes it", ["owes it"]),
 )
 

@@ -176,7 +176,7 @@ impl BitSet {
         first_in(&self.members, word)
     }
 
-    /// The least member that is n or more, where n is any number.
+    /// The least member that is `n` or more, where `n` is any number.
     pub fn first_from(&self, n: u32) -> Option<u32>
         ensures { IsFirstFrom self.now n result }
     {

@@ -4,7 +4,7 @@ ghost use Rattle.std.specs.Prelude.{◌≡◌, ◌≢◌, ℕ, ◌<◌, ◌≤�
 ghost use Rattle.vb_virtio.specs.Tests.{has_bit};
 ghost use Rattle.vb_bits.specs.Words.{IsLowestFrom, in_words};
 
-/// Bits of a word, n numbers are in one.
+/// Bits of a word: how many numbers one has.
 pub const WORD_BITS: u32 = 64;
 
 /// Whether the bit is 1.
@@ -72,7 +72,7 @@ pub fn lowest_from(word: u64, bit: u32) -> Option<u32>
     }
 }
 
-/// A word whose lowest bits are 1: n of them, or all where that is more than a word has.
+/// A word whose lowest bits are 1: `count` of them, or all where that is more than a word has.
 pub fn low_ones(count: u64) -> u64
     ensures { (k : ℕ) → k < WORD_BITS → has_bit result k ≡ nat_lt k count }
 {

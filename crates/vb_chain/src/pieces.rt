@@ -28,7 +28,7 @@ const NO_PIECE: Piece = Piece {
 };
 
 /// A chain: its pieces, in order, never more than a table has descriptors. It has room for all of
-/// them, so whoever reads many chains keeps one and lets it be filled.
+/// them, so a caller that reads many chains keeps one and lets it be filled.
 #[derive(Drop)]
 pub struct Chain {
     /// They, in order; past `len` unused.

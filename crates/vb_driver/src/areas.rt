@@ -65,7 +65,7 @@ fn refusal_of(fault: PageFault) -> Refusal
 }
 
 impl Allocator {
-    /// The areas of a guest as it is plugged in, of whose pages n are reserved.
+    /// The areas of a guest as it is plugged in, of whose pages the first `reserved` are reserved.
     pub(crate) fn new(
         alloc: Global,
         pages: u32,
@@ -135,8 +135,8 @@ impl Allocator {
         }
     }
 
-    /// Takes n single free pages, and puts them in place of those that `taken` has; the lists of
-    /// all processors are drained first.
+    /// Takes `count` single free pages, and puts them in place of those that `taken` has; the lists
+    /// of all processors are drained first.
     pub(crate) fn take_free(&mut self, count: u32, taken: &mut RequestPages)
         requires few { count ≤ max_request_pages }
         requires free { count ≤ count_by (λ f. f) (flags_of self.old.free) }
@@ -187,7 +187,8 @@ impl Allocator {
     }
 
     /// Takes the blocks of a report: the first maximal free ones of order 4 or more from a page on,
-    /// at most n. The lists of all processors are drained first, where there is no such block too.
+    /// at most `room`. The lists of all processors are drained first, where there is no such block
+    /// too.
     pub(crate) fn choose(&mut self, from: u32, room: u32) -> Blocks
         requires { room ≤ max_outstanding }
         ensures chosen { (places : List Place) → flags_of self.old.free ≡ map is_free places

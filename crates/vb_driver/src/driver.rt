@@ -89,7 +89,8 @@ impl Model for Driver {
     }) };
 }
 
-/// Where the pages of a guest are as it is plugged in, and its page areas; n pages are reserved.
+/// Where the pages of a guest are as it is plugged in, and its page areas; the first `reserved`
+/// pages are reserved.
 fn new_pages(
     alloc: Global,
     pages: u32,

@@ -133,7 +133,7 @@ impl Driver {
     }
 
     /// Tells the device how many pages are lent or requested back once a request of this head came
-    /// back, which named n pages.
+    /// back, which named `pages` pages.
     fn tell_reaped<P: Port>(&mut self, port: &mut P, head: u16, pages: u32) -> Reaped
         ensures state { self.new ≡ with_actual self.old }
         ensures part { P.part port.new

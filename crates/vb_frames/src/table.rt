@@ -32,8 +32,8 @@ impl Model for FrameTable {
 }
 
 impl FrameTable {
-    /// A table of n frames, 1 to 65,536, none of which is out. An allocation failure is the only
-    /// refusal.
+    /// A table of `frames` frames, 1 to 65,536, none of which is out. An allocation failure is the
+    /// only refusal.
     pub fn new(alloc: Global, frames: u32) -> Result<FrameTable, AllocError>
         requires some { 0 < frames }
         requires few { frames ≤ MAX_FRAMES }

@@ -1,5 +1,4 @@
--- Courses in which an offered page is handed out again: how it is requested back before, and how
--- not.
+-- Courses in which an offered page is handed out again: what requests it back before, and what not.
 use Rattle.std.proofs.Common.{List, [], ap, arith, false, map, refl, replicate, sym, true, ℕ, ◌++◌}
 use Rattle.{std.proofs.Common.{◌∷◌, ◌≡◌}, vb_model.specs.Life.after_reset}
 use Rattle.std.specs.Prelude.{IsTrue, None, Option, Some, length, slice_get}

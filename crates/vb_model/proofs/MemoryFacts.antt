@@ -92,7 +92,7 @@ within_the_page : refusals before (Read 17 4092 4 ∷ Read 17 4096 0 ∷ Write 1
     ∷ Write 17 4097 [] ∷ []) ≡ replicate 4 None ++ replicate 4 (Some OutOfRam)
 within_the_page = refl
 
--- whether the device is initialised is no matter
+-- whether the device is initialised doesn't matter
 before_an_initialisation : refusal_of (record before { status = 0 }) (Read 17 0 1)
     ∷ refusal_of (record before { status = 131 }) (Write 17 0 (1 ∷ []))
     ∷ refusal_of down (Alloc 0 0) ∷ [] ≡ replicate 3 None

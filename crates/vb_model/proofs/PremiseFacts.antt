@@ -147,7 +147,7 @@ writes = record {
   after = replicate 8 (page_16_at Used ready);
 }
 
--- a write counts whoever makes it, and whatever its claims were given
+-- a write of any actor counts, and whatever its claims were given
 abbrev written_by_the_worker : Course
 written_by_the_worker = record {
   first = page_16_at Used ready;

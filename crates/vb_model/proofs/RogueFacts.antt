@@ -191,7 +191,7 @@ frame_not_claimed : (reply : Reply) (new : Guest)
     → RogueStep after (Scribble 18 0 (1 ∷ [])) [] reply new → ⊥
 frame_not_claimed reply new s = (s.scribble 18 0 (1 ∷ []) refl).0
 
--- `target` sets it as ever
+-- `target` sets it as in an honest guest
 target_is_set : (reply : Reply) (new : Guest) → RogueStep after (SetTarget 5) [] reply new
     → new.target ≡ 5
 target_is_set reply new s = s.target

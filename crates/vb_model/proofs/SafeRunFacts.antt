@@ -282,7 +282,7 @@ two_steps w first answer second reply x s = by s.after s.steps s.ends where
       (v, steps.0, subst (λ (z : World). WorldStep v second reply z) ends steps.1.0)
   by (v ∷ y ∷ z ∷ after) steps ends = absurd steps.1.1
 
--- and what the second one was to a guest whose life it is in is a safe course, whoever the guest is
+-- and what the second one was to a guest whose life it is in is a safe course, for any guest
 one_event_of_a_life : (n : ℕ) (w v x : World) (first second : Event) (answer reply : Reply)
     (g new : Guest) → Safe w (first ∷ second ∷ []) (answer ∷ reply ∷ []) (v ∷ x ∷ [])
     → guest_at v.guests n ≡ Some g → guest_at x.guests n ≡ Some new → new.rogue ≡ false
@@ -293,8 +293,8 @@ one_event_of_a_life : (n : ℕ) (w v x : World) (first second : Event) (answer r
 one_event_of_a_life n w v x first second answer reply g new s there then_there honest on still =
     s.lives n 1 1 v x g new refl there refl then_there honest (on, still, tt)
 
--- the law says of such an event that it leads the guest by itself, too, and that reads give the last
--- writes
+-- the law says of such an event that it leads the guest by itself, too, and that reads give the
+-- last writes
 one_event_alone : (n : ℕ) (w v x : World) (first second : Event) (answer reply : Reply)
     (g new : Guest) → LivesAreAlone (record {
       first = w;

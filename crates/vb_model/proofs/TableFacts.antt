@@ -57,7 +57,7 @@ no_third_queue = refl
 
 -- ---- the driver's calls on a ready device
 
--- with MUST_TELL_HOST, which is bit 0, pending deflates are no matter; without it they come after a
+-- with MUST_TELL_HOST, which is bit 0, pending deflates don't matter; without it they come after a
 -- full queue and before a count of 0, and just that bit counts
 inflates_in_order : map first_refusal (inflate_causes (at 15 1) 16 (new_request 15 16 0)
     ∷ inflate_causes (at 15 1) 16 (new_request 15 16 1)

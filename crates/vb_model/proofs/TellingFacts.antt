@@ -141,7 +141,7 @@ places_that_count : map is_lent_or_taking (Lent ∷ Taking ∷ Free ∷ Used ∷
     ∷ Reporting ∷ Reserved ∷ []) ≡ true ∷ true ∷ replicate 6 false
 places_that_count = refl
 
--- ---- all else is as ever
+-- ---- all else is unchanged
 
 target_set : (reply : Reply) (new : Guest) → ToldStep ready (SetTarget 5) [] reply new
     → (reply ≡ Done) × (new ≡ record ready { target = 5 })

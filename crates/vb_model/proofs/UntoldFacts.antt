@@ -239,7 +239,7 @@ taking_still : (new : Guest) → HonestStep (record (asked Taking ready) { defla
     (Reap 1) [] (Reaped 0 2) new → place_of new.places 16 ≡ Taking → ⊥
 taking_still new s e = cc
 
--- a reaped inflate's pages are lent as ever, and a reaped report's are free
+-- a reaped inflate's pages are lent as in other guests, and a reaped report's are free
 lent_once_reaped : StepsJustSo (record untold {
   places = places Giving Giving Used;
   ballooned = flags true false;

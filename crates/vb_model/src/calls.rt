@@ -50,7 +50,7 @@ impl Bytes {
         &self.items
     }
 
-    /// The same bytes once more. Refused on an allocation failure alone.
+    /// A copy of the bytes. Refused on an allocation failure alone.
     pub fn copy(&self, alloc: Global) -> Result<Bytes, AllocError>
         ensures { IfOk result (λ copy. copy ≡ self.now) }
     {
@@ -79,11 +79,12 @@ pub enum Call {
     Write { page: u32, at: u32, bytes: Bytes },
     /// Bytes of any page are written: the guest is rogue from then on (profile).
     Scribble { page: u32, at: u32, bytes: Bytes },
-    /// The driver offers at most n pages to the host (VIRTIO 1.1, 5.5.6).
+    /// The driver offers at most `pages` pages to the host (VIRTIO 1.1, 5.5.6).
     Inflate { pages: u32 },
-    /// The driver asks for at most n pages back, as far as the target allows.
+    /// The driver asks for at most `pages` pages back, as far as the target allows.
     Deflate { pages: u32 },
-    /// The same, whatever the target (VIRTIO 1.1, 5.5.6, with DEFLATE_ON_OOM).
+    /// The driver asks for at most `pages` pages back, for any target (VIRTIO 1.1, 5.5.6, with
+    /// DEFLATE_ON_OOM).
     Oom { pages: u32 },
     /// The driver reports free blocks from a page on (profile).
     Report { from: u32 },
@@ -116,7 +117,7 @@ impl Call {
         self == other
     }
 
-    /// The same call once more. Refused on an allocation failure alone.
+    /// A copy of the call. Refused on an allocation failure alone.
     pub fn copy(&self, alloc: Global) -> Result<Call, AllocError>
         ensures { IfOk result (λ copy. copy ≡ self.now) }
     {

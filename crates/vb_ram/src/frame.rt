@@ -22,8 +22,8 @@ pub(crate) static ZEROS: [u8; PAGE_SIZE] = [0; PAGE_SIZE];
 /// held, so that writes in rising order don't each add a few.
 const ZEROS_AHEAD: usize = 240;
 
-/// A frame of the host: a number, and `PAGE_SIZE` bytes. It can't be cloned, so whoever has it is
-/// the only one; that no other frame has its number is for those who make frames to keep.
+/// A frame of the host: a number, and `PAGE_SIZE` bytes. It can't be cloned, so it
+/// has one owner; that no other frame has its number is the duty of its maker.
 #[derive(Drop)]
 pub struct Frame {
     /// Which of the host's frames it is.

@@ -37,7 +37,7 @@ pub struct SupplyRefused {
 }
 
 impl Ram {
-    /// Memory of n pages, none of them with a frame. Refused with `Memory` alone.
+    /// Memory of `pages` pages, none of them with a frame. Refused with `Memory` alone.
     pub fn new(alloc: Global, pages: u32) -> Result<Ram, RamFault>
         ensures ok { IfOk result (λ ram. ram ≡ replicate pages None) }
         ensures err { IfErr result (λ fault. fault ≡ RamFault.Memory) }

@@ -10,8 +10,8 @@ use vb_virtio::layout::{
     STATISTICS_QUEUE,
 };
 
-/// Where rings and buffers are in the memory of a guest whose queues have n descriptors (profile).
-/// Each question about it is asked here.
+/// Where rings and buffers are in the memory of a guest whose queues have `queue_size` descriptors
+/// (profile). Each question about it is asked here.
 #[derive(Clone, Copy, Debug, PartialEq, Eq)]
 pub struct Shape {
     /// Descriptors of each queue.

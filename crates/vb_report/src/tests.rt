@@ -20,7 +20,7 @@ enum Step {
     FreePage(u32),
     /// A report takes blocks from a page on, as many as there is room for.
     Report(u32, u32),
-    /// The same, and they come back.
+    /// A report takes blocks from a page on, and they come back.
     ReportAndReap(u32, u32),
     /// How many pages are free.
     Count,

@@ -137,8 +137,8 @@ pub fn read_report(pieces: &[Piece], reserved: u32) -> Result<NamedPages, ChainF
     }
 }
 
-/// The same, into room that the caller keeps. What it named before is gone, but where the report is
-/// refused: then it names what it did.
+/// Reads a report as `read_report` does, into room that the caller keeps. What the room named
+/// before is gone, but where the report is refused: then it names what it did.
 pub fn read_report_into(
     pieces: &[Piece],
     reserved: u32,

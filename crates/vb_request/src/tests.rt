@@ -117,7 +117,7 @@ fn lists(pages: &NamedPages, wanted: &[u32]) -> bool {
     count as usize == wanted.len() && pages.get(count).is_none()
 }
 
-/// Whether a request of these parts, to a guest with n reserved pages, is answered so.
+/// Whether a request of these parts, to a guest with `reserved` reserved pages, is answered so.
 fn asks(
     ram: &Ram,
     reserved: u32,
@@ -272,7 +272,7 @@ fn wrong_buffers_are_refused(rt: HostRuntime) {
     }
 }
 
-/// The same of a report.
+/// Whether a report of these parts is answered so.
 fn offers(
     ram: &Ram,
     reserved: u32,

@@ -81,8 +81,8 @@ impl Queue {
         }
     }
 
-    /// A queue of n descriptors that goes on from these counts, its ring lying so: the device's end
-    /// as its owner kept it elsewhere.
+    /// A queue of `size` descriptors that goes on from these counts, its ring lying so: the
+    /// device's end as its owner kept it elsewhere.
     pub fn resume(layout: Layout, size: u16, ready: bool, next_avail: u16, next_used: u16) -> Queue
         requires fits { Fits layout size }
         requires page { layout.table < 65536 }
@@ -156,8 +156,8 @@ impl Queue {
     /// Takes the next chain that the driver has published.
     ///
     /// Each call makes a `Chain` of 4 KiB, zeroes it and moves it to the caller, which takes
-    /// several times as long as the pop of a short chain: whoever pops many chains keeps one, and
-    /// calls `pop_descriptor_chain_into`.
+    /// several times as long as the pop of a short chain: a caller that pops many chains keeps one,
+    /// and calls `pop_descriptor_chain_into`.
     pub fn pop_descriptor_chain<G: GuestBytes>(
         &mut self,
         ram: &G,

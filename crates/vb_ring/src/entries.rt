@@ -12,8 +12,8 @@ use crate::{Layout, RingBroken};
 use vb_chain::ChainFault;
 use vb_ram::{GuestBytes, read_u16, read_u32, write_u16, write_u32};
 
-/// The same as lengths of memory: where the index and the first entry of a ring are, how long an
-/// entry of each ring is, and where the length of a used one is.
+/// The format's numbers as lengths of memory: where the index and the first entry of a ring are,
+/// how long an entry of each ring is, and where the length of a used one is.
 const INDEX_AT: usize = RING_INDEX_AT as usize;
 
 const ENTRIES_AT: usize = RING_HEADER_SIZE as usize;

@@ -57,7 +57,7 @@ impl Layout {
         Layout::at(0, size)
     }
 
-    /// The same from another page on.
+    /// Where the parts of a ring are that begins with page `page`.
     pub fn at(page: u16, size: u16) -> Layout
         requires { IsSize size }
         ensures value { result ≡ layout_of page size }

@@ -76,7 +76,7 @@ impl Model for Owners {
 }
 
 impl Owners {
-    /// A table of n descriptors, all of them free.
+    /// A table of `count` descriptors, all of them free.
     pub fn new(count: u16) -> Owners
         requires { count ≤ MAX_DESCRIPTORS }
         ensures { result ≡ replicate count None }
@@ -124,7 +124,7 @@ impl Owners {
         None
     }
 
-    /// Puts the lowest free descriptors into a path, n of them; false where fewer are free.
+    /// Puts the lowest free descriptors into a path, `count` of them; false where fewer are free.
     pub fn find_free<const N: usize>(&self, count: usize, path: &mut ArrayVec<u16, N>) -> bool
         requires some { 0 < count }
         requires room { min count MAX_DESCRIPTORS ≤ N }

@@ -108,7 +108,7 @@ fn is_guest_plan(plan: &GuestPlan) -> bool
         && are_scripts(plan.scripts.as_slice())
 }
 
-/// Whether the plan can be run with n ports.
+/// Whether the plan can be run with `ports` ports.
 pub(crate) fn is_plan(plan: &Plan, ports: usize) -> bool
     ensures { result ≡ is_plan plan.now ports }
 {

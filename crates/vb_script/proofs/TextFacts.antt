@@ -59,7 +59,7 @@ too_many_spares : with_spare {Item = ℕ} Paced
     (record { frames = 1; spares = replicate 64 Paced; events = [] }) ≡ None
 too_many_spares = refl
 
--- lines after the host's are no matter
+-- lines after the host's don't matter
 begins : map begins_with_host (codes "# note\nhost 5\nnot" ∷ codes "frames\nhost 5" ∷ codes "host 0" ∷ [] ∷ [])
     ≡ true ∷ false ∷ false ∷ false ∷ []
 unfolding begins_with_host number_of

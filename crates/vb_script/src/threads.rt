@@ -25,7 +25,7 @@ pub enum ThreadsLine {
         queue_size: u32,
         processors: u32,
     },
-    /// All targets are set n times, above this floor of free memory.
+    /// All targets are set `count` times, above this floor of free memory.
     Rounds {
         floor: u32,
         count: u32,

@@ -121,7 +121,7 @@ fn first_place(text: &[u8], byte: u8) -> Option<usize>
     }
 }
 
-/// The same of a long text.
+/// The first place of a byte in a long text, by `memchr`.
 #[cold]
 fn first_far_place(text: &[u8], byte: u8) -> Option<usize>
     ensures { IsFirstByte (is_byte byte) text.now result }

@@ -112,8 +112,8 @@ fn deal(
 }
 
 impl SharedFrames {
-    /// A table of n free frames, and a pass a guest, with the tags from 0 on. An allocation failure
-    /// is the only refusal.
+    /// A table of `frames` free frames, and a pass for each of `guests` guests, with the tags from
+    /// 0 on. An allocation failure is the only refusal.
     pub fn open(
         alloc: Global,
         frames: u32,

@@ -1,4 +1,4 @@
-//! What whoever runs guests needs of one.
+//! The interface that a thread runner needs from a guest.
 
 ghost use Rattle.std.specs.Prelude.{◌≡◌, ◌≤◌, length};
 ghost use Rattle.vb_model.specs.Balance.{spare};
@@ -9,8 +9,8 @@ use std::alloc::Global;
 use vb_guest::MAX_CLAIMS;
 use vb_model::{Call, Claim, Reply};
 
-/// A guest by itself, with the frames of its own device: what whoever runs guests on threads of
-/// their own needs of one.
+/// A guest by itself, with the frames of its own device: the interface that a thread runner needs
+/// from a guest.
 pub trait GuestSlot: Drop {
     ghost use Rattle.std.specs.Prelude.{ℕ, List};
     ghost use Rattle.vb_model.specs.declared.calls.Claim.{Claim};

@@ -456,8 +456,8 @@ fn count_frames(slot: &mut Slot) -> u32 {
     given
 }
 
-/// Expects that a guest whose device has n frames answers each row so, and that the device has them
-/// all once the guest is gone.
+/// Expects that a guest whose device has `frames` frames answers each row so, and that the device
+/// has them all once the guest is gone.
 fn expect(rt: &impl Abort, alloc: Global, frames: u32, table: &[Row]) {
     let Ok(device) = KeepingDevice::new(alloc, frames) else {
         rt.abort()

@@ -40,7 +40,7 @@ impl Numbers {
         &self.items
     }
 
-    /// The same numbers once more. Refused on an allocation failure alone.
+    /// A copy of the numbers. Refused on an allocation failure alone.
     pub fn copy(&self) -> Result<Numbers, AllocError>
         ensures { IfOk result (λ copy. copy ≡ self.now) }
     {

@@ -71,8 +71,9 @@ fn put_first(devices: &mut Vec<Box<dyn Device + Send>>, device: Box<dyn Device +
 }
 
 impl World {
-    /// A host of n frames, 1 to 65,536, without guests. A plug takes the first of the spare devices
-    /// that are left, and the guest has its pace. An allocation failure is the only refusal.
+    /// A host of `frames` frames, 1 to 65,536, without guests. A plug takes the first of the spare
+    /// devices that are left, and the guest has its pace. An allocation failure is the only
+    /// refusal.
     pub fn new(
         alloc: Global,
         frames: u32,

@@ -160,7 +160,7 @@ impl<'a, R: Wait + Clock> Holding<'a, R> {
         });
     }
 
-    /// Waits until some thread has come, for n turns at most. Whether one has.
+    /// Waits until some thread has come, for `turns` turns at most. Whether one has.
     fn wait_for(&self, mark: &Mark, turns: u32) -> bool {
         for _ in 0..turns {
             if mark.has_come.load(Ordering::SeqCst) {

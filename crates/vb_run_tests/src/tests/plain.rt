@@ -91,8 +91,8 @@ fn has_frame(claim: Claim) -> bool {
     matches!(claim, Claim::Gave(_))
 }
 
-/// Whether the row is refused so at the last claim, of which at most n are made: none of the frames
-/// stays, and nothing has changed.
+/// Whether the row is refused so at the last claim, of which at most `most` are made: none of the
+/// frames stays, and nothing has changed.
 fn is_refused(row: &Row<'_>, refusal: Refusal, most: usize) -> bool {
     let given = row.claims.iter().filter(|claim| has_frame(**claim));
     let is_last = given.count().saturating_add(1) == row.claims.len();

@@ -131,7 +131,7 @@ pub(super) fn are(history: &[Note], cpu: u32, answers: &[Answer], rounds: usize)
     place == rounds.saturating_mul(answers.len())
 }
 
-/// A script: these lines, n times.
+/// A script: these lines, `rounds` times.
 fn script(alloc: Global, lines: &[Line], rounds: usize) -> Result<Vec<Call>, AllocError> {
     let mut calls = Vec::new(alloc);
     for place in 0..rounds.saturating_mul(lines.len()) {
@@ -172,7 +172,7 @@ impl Guests {
         })
     }
 
-    /// The plan of these guests on a host of n frames.
+    /// The plan of these guests on a host of `frames` frames.
     pub(super) fn plan(
         &self,
         alloc: Global,

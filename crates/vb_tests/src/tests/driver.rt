@@ -87,7 +87,7 @@ enum Answer {
     Page(u32),
     /// A request's head, and how many pages it names.
     Posted(u16, u32),
-    /// The same of a request that was taken back.
+    /// The head of a request that was taken back, and how many pages it names.
     Reaped(u16, u32),
     NoneUsed,
     Is(bool),
@@ -129,7 +129,7 @@ fn supply_run(rt: &impl Abort, alloc: Global, ram: &mut Ram, run: Run) {
     }
 }
 
-/// Guest memory of n pages, of which these have frames.
+/// Guest memory of `pages` pages, of which these have frames.
 fn port_of(rt: &impl Abort, alloc: Global, pages: u32, backed: &[Run]) -> MemoryPort {
     let Ok(mut ram) = Ram::new(alloc, pages) else {
         rt.abort()
@@ -140,7 +140,7 @@ fn port_of(rt: &impl Abort, alloc: Global, pages: u32, backed: &[Run]) -> Memory
     MemoryPort::new(ram)
 }
 
-/// A guest of n pages, with queues of 8 descriptors and one processor.
+/// A guest of `pages` pages, with queues of 8 descriptors and one processor.
 fn small_queues(pages: u32) -> Config
     ensures { result ≡ record { pages = pages; queue_size = 8; processors = 1 } }
 {
@@ -257,8 +257,8 @@ impl Guest {
         }
     }
 
-    /// Posts a request for n pages, or a report from a page on; a device that is up needs frames
-    /// for its rings and buffers.
+    /// Posts a request for `pages` pages, or a report from a page on; a device that is up needs
+    /// frames for its rings and buffers.
     fn post(&mut self, request: Request, pages: u32) -> Result<Answer, Refusal> {
         if self.port.pages() < 64 || is_up(&self.port) && !self.driver.has_frames(&self.port) {
             return Err(Refusal::OutOfRam);
@@ -306,7 +306,7 @@ impl Guest {
         let _ = self.port.write(page, ring + 2, &[used, 0]);
     }
 
-    /// The same of a queue that has 8 or 256 descriptors.
+    /// Uses a request as a device would, of a queue that has 8 or 256 descriptors.
     fn use_request(&mut self, queue: u32, head: u8, used: u8) {
         let number = if queue == 4 { 3 } else { queue.min(2) };
         if self.driver.shape().queue_size == 256 {
@@ -372,7 +372,8 @@ fn first_wrong(
     guest.first_wrong(table)
 }
 
-/// Expects that a new guest of 64 pages, of which the first n have frames, answers each line so.
+/// Expects that a new guest of 64 pages, of which the first `backed` have frames, answers each line
+/// so.
 fn expect(rt: &impl Abort, alloc: Global, backed: u32, lines: &'static [Line]) {
     let wrong = first_wrong(
         rt,

@@ -247,7 +247,7 @@ fn is_behind(notes: &[Note], guest: u32, number: u64) -> bool {
     has_begun
 }
 
-/// How often a doorbell is rung after n calls.
+/// How often a doorbell is rung after `calls` calls.
 fn rings(bells: Bells, calls: u64) -> u64 {
     match bells {
         Bells::Plain | Bells::Late => calls,

@@ -90,7 +90,7 @@ impl Pages {
         count
     }
 
-    /// The lowest n pages that are there.
+    /// The lowest `count` pages that are there.
     pub fn lowest(&self, alloc: Global, place: Place, count: u32) -> Result<Vec<u32>, AllocError> {
         let mut pages = Vec::new(alloc);
         for page in 0..self.count {
@@ -171,7 +171,7 @@ impl Pages {
         Ok(blocks)
     }
 
-    /// n free pages, as the driver chooses them: those of smaller blocks first.
+    /// `count` free pages, as the driver chooses them: those of smaller blocks first.
     pub fn chosen(&self, alloc: Global, count: u32) -> Result<Vec<u32>, AllocError> {
         let mut pages = Vec::new(alloc);
         if count == 0 {

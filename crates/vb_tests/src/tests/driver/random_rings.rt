@@ -131,7 +131,7 @@ impl Played<'_> {
         }
     }
 
-    /// Posts n requests, as far as the driver does.
+    /// Posts `count` requests, as far as the driver does.
     fn post_some(&mut self, count: u32) {
         for _request in 0..count {
             if let Ok(Answer::Posted(head, _)) = self.post() {

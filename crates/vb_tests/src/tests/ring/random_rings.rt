@@ -18,7 +18,7 @@ fn below(numbers: &mut Pcg32, end: u32) -> u32 {
     numbers.next_u32().checked_rem(end).unwrap_or(0)
 }
 
-/// The same of 16 bits.
+/// A number of 16 bits below this one, or 0.
 fn below_16(numbers: &mut Pcg32, end: u32) -> u16 {
     (below(numbers, end) % 65_536) as u16
 }
@@ -237,7 +237,7 @@ impl Ends {
     }
 }
 
-/// How many chains come out of 20,000 rings of n descriptors.
+/// How many chains come out of 20,000 rings of `size` descriptors.
 fn chains_of(rt: &impl Abort, alloc: Global, size: u16) -> u32
     requires some { 0 < size }
     requires size { size ≤ 256 }

@@ -140,7 +140,7 @@ static REPEATED: [(Part, usize, &[u8], Outline); 17] = [
     (Part::Bytes, 4097, b"", Err(ScriptFault::BadLine(2))),
 ];
 
-/// A text with this part n times, and this end.
+/// A text with this part `count` times, and this end.
 fn repeated(alloc: Global, part: Part, count: usize, end: &[u8]) -> Result<Vec<u8>, AllocError> {
     let (start, part) = part.texts();
     let mut text = Vec::from_slice(alloc, start)?;
