@@ -31,6 +31,15 @@ WORDS = (
 )
 LISTED = tuple((re.compile(rf"\b{pattern}", re.IGNORECASE), instead) for pattern, instead in WORDS)
 
+# What is read: prose of all kinds. The page of terms and this file's test name the words that aren't used.
+READ = ("*.md", "*.rt", "*.antt", "*.[ch]", "*.rs", "*.py", "tools", "monitor/Makefile", ".ci/run")
+OWNERS = ("docs/TERMS.md", "tools/words.py", "tools/tests/test_words.py")
+# Sources whose comments aren't read yet.
+LATER = re.compile(r"^(?:crates/vb_(?:core|monitor|c|device|command|conformance)/|monitor/|tools/(?!words))(?!.*\.md$)|^crates/vb_(?:core|monitor|c)/README\.md$")
+
+# Commits from this day on have to have right subjects.
+SINCE = "2026-11-28T14:30:00Z"
+
 # What is code in a text.
 CODE = re.compile(r"`[^`]*`|\]\([^)]*\)|\"[^\"]*\"")
 FIRST = re.compile(r"^\s*//[/!] The same\b")
@@ -111,8 +120,25 @@ def subject_faults(subject):
     return [what for what, is_so in tests if is_so] + unused(subject)
 
 
-def subjects(root, since):
-    """Returns the commits after `since` whose subjects are wrong; none where the history isn't there."""
-    ran = subprocess.run(["git", "-C", root, "log", "--format=%h %s", f"{since}..HEAD"], stdout=subprocess.PIPE, stderr=subprocess.DEVNULL, text=True)
-    said = [line.partition(" ") for line in ran.stdout.splitlines()]
+def asked(root, *words):
+    """Returns the lines that git says of a repository; none where there is none."""
+    return subprocess.run(["git", "-C", root, *words], stdout=subprocess.PIPE, stderr=subprocess.DEVNULL, text=True).stdout.splitlines()
+
+
+def subjects(root, since=SINCE):
+    """Returns the commits since a time whose subjects are wrong; none where the history isn't there."""
+    said = [line.partition(" ") for line in asked(root, "log", f"--since={since}", "--format=%h %s")]
     return [f"{commit}: {fault}: {subject}" for commit, _, subject in said for fault in subject_faults(subject)]
+
+
+def words(root):
+    """Returns the words of a repository's files that aren't used."""
+    found = []
+    for path in asked(root, "ls-files", "-co", "--exclude-standard", *READ):
+        if path not in OWNERS and not LATER.match(path):
+            try:
+                with open(f"{root}/{path}", encoding="utf-8") as file:
+                    found += words_of(path, file.read())
+            except FileNotFoundError:
+                continue
+    return found
