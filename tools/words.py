@@ -35,7 +35,7 @@ LISTED = tuple((re.compile(rf"\b{pattern}", re.IGNORECASE), instead) for pattern
 READ = ("*.md", "*.rt", "*.antt", "*.[ch]", "*.rs", "*.py", "tools", "monitor/Makefile", ".ci/run")
 OWNERS = ("docs/TERMS.md", "tools/words.py", "tools/tests/test_words.py")
 # Sources whose comments aren't read yet.
-LATER = re.compile(r"^(?:crates/vb_(?:core|monitor|c|device|command|conformance)/|monitor/|tools/(?!words))(?!.*\.md$)|^crates/vb_(?:core|monitor|c)/README\.md$")
+LATER = re.compile(r"^(?:crates/vb_(?:core|monitor|c)/|monitor/|tools/(?!words))(?!.*\.md$)|^crates/vb_(?:core|monitor|c)/README\.md$")
 
 # Commits from this day on have to have right subjects.
 SINCE = "2026-11-28T14:30:00Z"
