@@ -91,7 +91,7 @@ def test_what_it_can(backend):
 
 
 def test_the_description_file():
-    with open(f"{ROOT}/client/qemu/50-bigvasta-balloon.json", encoding="utf-8") as file:
+    with open(f"{ROOT}/packaging/qemu/50-bigvasta-balloon.json", encoding="utf-8") as file:
         its = json.load(file)
     assert (its["type"], its["binary"], set(its)) == ("balloon", "/usr/bin/vhost_user_balloon", {"description", "type", "binary"})
 
