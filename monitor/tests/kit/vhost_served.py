@@ -1,4 +1,4 @@
-"""A client with a backend of its own, which is built with the compiler's checks of addresses and of undefined behaviour."""
+"""A client with a backend of its own."""
 
 import mmap
 import os
@@ -8,32 +8,15 @@ import tempfile
 import time
 
 import linux_guest
-import linux_kit
 from vhost_client import BUFFERS, LIMIT, PAGE, PAGES_OF_REGION, REGIONS, SIZE, VRING_KICK, Client
-
-CHECKS = ("-g", "-fsanitize=address,undefined", "-fno-sanitize-recover=all")
-
-
-def program():
-    """Returns the backend under test: one that the environment names, or one that is built once."""
-    if not hasattr(program, "path"):
-        program.folder = tempfile.TemporaryDirectory(prefix="test-vhost-user-")
-        program.path = os.environ.get("BACKEND_PROGRAM") or build(program.folder.name)
-    return program.path
-
-
-def build(folder, name="vhost_user_balloon", wrong=False):
-    """Builds a backend with the compiler's checks."""
-    return linux_kit.build(folder, linux_kit.core_of(), name, wrong=wrong, flags=CHECKS)
-
 
 class Served(Client):
     """A client with a backend of its own."""
 
-    def __init__(self, *options, built=None, environment=None):
-        self.folder, self.lines = tempfile.TemporaryDirectory(prefix="test-vhost-user-"), []
+    def __init__(self, program, *options, environment=None):
+        self.folder, self.lines, self.program = tempfile.TemporaryDirectory(prefix="test-vhost-user-"), [], program
         self.path = os.path.join(self.folder.name, "socket")
-        self.backend = linux_guest.Backend(built or program(), self.folder.name, [self.path, *options], environment=environment)
+        self.backend = linux_guest.Backend(program, self.folder.name, [self.path, *options], environment=environment)
         super().__init__(self.path, self.backend.why)
 
     def restart(self, *options, killed=False):
@@ -42,7 +25,7 @@ class Served(Client):
             os.kill(self.backend.process.pid, signal.SIGKILL)
         self.backend.close()
         self.backend.process.stdout.close()
-        self.backend = linux_guest.Backend(program(), self.folder.name, [self.path, *options])
+        self.backend = linux_guest.Backend(self.program, self.folder.name, [self.path, *options])
         self.why = self.backend.why
 
     def file(self, name):

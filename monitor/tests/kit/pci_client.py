@@ -7,7 +7,6 @@ import struct
 import tempfile
 
 import linux_guest
-import linux_kit
 
 PAGE = 4096
 PAGES = 64
@@ -24,26 +23,14 @@ BUFFERS = 16 * PAGE
 LIMIT = 20
 
 
-def program():
-    """Builds the backend once, with the compiler's checks."""
-    if "BACKEND_PROGRAM" in os.environ:
-        return os.environ["BACKEND_PROGRAM"]
-    if not hasattr(program, "path"):
-        program.folder = tempfile.TemporaryDirectory(prefix="test-pci-proxy-")
-        core = linux_kit.core_of()
-        checks = ("-g", "-fsanitize=address,undefined", "-fno-sanitize-recover=all")
-        program.path = linux_kit.build(program.folder.name, core, "pci_proxy_balloon", flags=checks)
-    return program.path
-
-
 class Client:
     """A machine with a guest's memory, and the backend that it talks to."""
 
-    def __init__(self, *options):
+    def __init__(self, program, *options):
         self.folder = tempfile.TemporaryDirectory(prefix="test-pci-proxy-")
         self.socket, theirs = socket.socketpair()
         self.socket.settimeout(LIMIT)
-        self.backend = linux_guest.Backend(program(), self.folder.name, [str(theirs.fileno()), "--strict", *options], [theirs.fileno()])
+        self.backend = linux_guest.Backend(program, self.folder.name, [str(theirs.fileno()), "--strict", *options], [theirs.fileno()])
         theirs.close()
         self.memory, self.interrupt = os.memfd_create("memory"), os.eventfd(0, os.EFD_NONBLOCK)
         os.write(self.memory, bytes(16 * PAGE) + b"\xff" * (PAGES - 16) * PAGE)

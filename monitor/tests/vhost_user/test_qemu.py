@@ -6,18 +6,18 @@ device: its module has another number in its table. What a disk doesn't hand ove
 driver writes as `actual`; and a disk isn't unplugged.
 """
 
+import contextlib
 import json
 import os
 import socket
 import struct
-import tempfile
 import time
-import unittest
 
+import pytest
 import linux_guest
 import linux_kit
 from linux_guest import PAGES_PER_MIB
-from vhost_served import CHECKS
+from programs import CHECKS
 
 MEMORY = 256
 
@@ -77,13 +77,11 @@ class Monitor:
         self.lines.close(), self.socket.close()
 
 
-class Qemu(unittest.TestCase):
-    """A machine under emulation, with the backend for its device."""
+class Machine:
+    """A machine under emulation, with the backend for its device; `ends` ends both."""
 
-    def setUp(self):
-        folder = tempfile.TemporaryDirectory(prefix="test-vhost-user-")
-        self.addCleanup(folder.cleanup)
-        self.folder, kit = folder.name, linux_kit.Emulator(folder.name)
+    def __init__(self, ends, folder):
+        self.ends, self.folder, kit = ends, folder, linux_kit.Emulator(folder)
         self.device = kit.demand_device(*GENERIC, DISK)
         if self.device == DISK:
             kit.initramfs = linux_kit.make_initramfs(self.folder, kit.busybox, self.for_disks(kit.modules))
@@ -114,15 +112,15 @@ class Qemu(unittest.TestCase):
         """Starts the backend and the guest."""
         path, control = (os.path.join(self.folder, it) for it in ("socket", "control"))
         backend = self.backend = linux_guest.Backend(program, self.folder, [path, "--strict"])
-        self.addCleanup(lambda: (backend.close(), backend.process.stdout.close()))
+        self.ends.callback(lambda: (backend.close(), backend.process.stdout.close()))
         guest = self.guest = linux_guest.Guest(self.words(kit, path, control), kit.environment(), (), self.folder, MEMORY)
-        self.addCleanup(lambda: (guest.close(), guest.process.stdin.close(), guest.process.stdout.close()))
+        self.ends.callback(lambda: (guest.close(), guest.process.stdin.close(), guest.process.stdout.close()))
         try:
             guest.boot()
         except linux_kit.Fault as fault:
             raise linux_kit.Fault(f"{fault}; QEMU said: {self.said()}") from None
         self.monitor = Monitor(control)
-        self.addCleanup(self.monitor.close)
+        self.ends.callback(self.monitor.close)
 
     def said(self):
         """Returns what QEMU itself said last."""
@@ -133,7 +131,7 @@ class Qemu(unittest.TestCase):
         """Demands that something comes about in so many seconds."""
         end = time.monotonic() + limit
         while not condition(self.backend.counters()):
-            self.assertLess(time.monotonic(), end, f"{self.backend.counters()}: {self.backend.why()}")
+            assert time.monotonic() < end, f"{self.backend.counters()}: {self.backend.why()}"
             time.sleep(0.05)
 
     def inflate(self, mib):
@@ -146,7 +144,7 @@ class Qemu(unittest.TestCase):
     def statistics(self):
         """Asks the guest for its statistics, and returns them."""
         before, _ = self.backend.statistics()
-        self.assertEqual(self.backend.ask("ask"), "asked")
+        assert self.backend.ask("ask") == "asked"
         self.wait(lambda now: now["statistics"] > before, TARGET_LIMIT)
         return self.backend.statistics()[1]
 
@@ -165,31 +163,41 @@ class Qemu(unittest.TestCase):
         self.monitor.do("device_add", **self.words_of_device)
         self.wait(lambda now: now["status"] == 15, TARGET_LIMIT)
 
-    def test_linux(self):
-        guest, backend = self.guest, self.backend
-        self.wait(lambda now: now["status"] == 15, TARGET_LIMIT)
-        guest.do("fill keep 20")
-        sums = guest.do("sums keep")
-        filled = int(guest.memory_mib()[1]) - 30
-        guest.do(f"hog {filled}")
-        backend.ask("snapshot")
-        held = guest.held_mib()
-        guest.do("free")
-        self.wait(lambda _: guest.held_mib() < held - filled / 2, REPORT_LIMIT)
-        # Pages aren't free for Linux while it reports them.
-        self.wait(lambda _: self.statistics()["free_memory"] > filled << 20, REPORT_LIMIT)
-        for mib in (40, 70, 10, 60, 0):
-            self.inflate(mib)
-            self.pause()
-            if self.device != DISK:
-                self.plug_again()
-                self.inflate(mib)
-            self.assertLess(self.statistics()["free_memory"], (filled + 40 - mib) << 20)
-        self.assertEqual(guest.do("sums keep"), sums)
-        self.assertEqual(guest.do("trouble"), [])
-        self.assertTrue(backend.ask("audit").startswith("audit faults 0 "), backend.ask("audit"))
-        counters = backend.counters()
-        self.assertEqual([counters[it] for it in ("skipped", "in_holes", "kept")], [0, 0, 0])
-        self.assertEqual(backend.why(), "")
-        if self.device != DISK:
-            self.assertEqual(self.said(), "")
+
+@pytest.fixture
+def machine(tmp_path):
+    """A machine whose guest has booted."""
+    with contextlib.ExitStack() as ends:
+        yield Machine(ends, str(tmp_path))
+
+
+@pytest.mark.qemu
+@pytest.mark.timeout(1800)
+def test_linux(machine):
+    guest, backend = machine.guest, machine.backend
+    machine.wait(lambda now: now["status"] == 15, TARGET_LIMIT)
+    guest.do("fill keep 20")
+    sums = guest.do("sums keep")
+    filled = int(guest.memory_mib()[1]) - 30
+    guest.do(f"hog {filled}")
+    backend.ask("snapshot")
+    held = guest.held_mib()
+    guest.do("free")
+    machine.wait(lambda _: guest.held_mib() < held - filled / 2, REPORT_LIMIT)
+    # Pages aren't free for Linux while it reports them.
+    machine.wait(lambda _: machine.statistics()["free_memory"] > filled << 20, REPORT_LIMIT)
+    for mib in (40, 70, 10, 60, 0):
+        machine.inflate(mib)
+        machine.pause()
+        if machine.device != DISK:
+            machine.plug_again()
+            machine.inflate(mib)
+        assert machine.statistics()["free_memory"] < (filled + 40 - mib) << 20
+    assert guest.do("sums keep") == sums
+    assert guest.do("trouble") == []
+    assert backend.ask("audit").startswith("audit faults 0 "), backend.ask("audit")
+    counters = backend.counters()
+    assert [counters[it] for it in ("skipped", "in_holes", "kept")] == [0, 0, 0]
+    assert backend.why() == ""
+    if machine.device != DISK:
+        assert machine.said() == ""

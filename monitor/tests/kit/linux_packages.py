@@ -5,7 +5,7 @@ import os
 import shutil
 import subprocess
 
-ROOT = os.path.dirname(os.path.dirname(os.path.realpath(__file__)))
+ROOT = os.path.realpath(os.path.join(os.path.dirname(__file__), "../../.."))
 CACHE = os.path.join(ROOT, ".cache", "linux")
 
 # Where packages of another Debian than the machine's come from.
