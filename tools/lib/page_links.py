@@ -4,7 +4,7 @@ import os
 import re
 import subprocess
 
-ROOT = os.path.dirname(os.path.dirname(os.path.realpath(__file__)))
+ROOT = os.path.realpath(os.path.join(os.path.dirname(__file__), "../.."))
 
 LINK = re.compile(r"\]\(([^()\s]+)\)")
 HEADING = re.compile(r"(?m)^#+ (.*)$")

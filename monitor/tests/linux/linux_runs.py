@@ -1,4 +1,4 @@
-"""The runs of tools/test-linux: what a guest is told to do, and what is demanded of its device and of the host's memory."""
+"""The runs of a Linux on a backend: what a guest is told to do, and what is demanded of its device and of the host's memory."""
 
 import time
 
@@ -49,7 +49,7 @@ def fill_memory(machine):
 
 
 def inflate_filled(machine, mib):
-    """Inflates behind a filled memory: what the host holds has to fall."""
+    """Inflates after a filled memory: what the host holds has to fall."""
     filled = fill_memory(machine)
     demand(filled >= mib, f"the guest has only {filled} MiB to fill")
     before = machine.guest.held_mib()
@@ -62,7 +62,7 @@ def inflate_filled(machine, mib):
 
 
 def await_reports(machine, mib):
-    """Behind a hog of so many MiB that was freed: most of them are reported, and the host holds less."""
+    """After a hog of so many MiB that was freed: most of them are reported, and the host holds less."""
     before, reported = machine.guest.held_mib(), machine.backend.counters()["reported"]
     end = time.monotonic() + REPORT_LIMIT
     # A report has blocks of 4 MiB, so some of what is free stays.
@@ -107,7 +107,7 @@ def main_run(machine, _):
 
 
 def churn_run(machine, chance):
-    """Targets by chance."""
+    """Random targets."""
     kept = keep(machine, "keep", machine.memory // 6)
     fill_memory(machine)
     machine.guest.do("free")
@@ -154,7 +154,7 @@ def unload_run(machine, _):
         machine.guest.do("unload")
         counters = machine.backend.counters()
         # On PCI, Linux itself acknowledges the device that nobody drives.
-        demand(counters["status"] in (0, 1) and counters["actual"] == 0, f"behind an unload: {counters}")
+        demand(counters["status"] in (0, 1) and counters["actual"] == 0, f"after an unload: {counters}")
         # The target stands: the driver inflates as soon as it is there.
         machine.guest.do("load")
         settle(machine, "the balloon of a driver that was loaded again")

@@ -8,7 +8,7 @@ import os
 import re
 import sys
 
-ROOT = os.path.dirname(os.path.dirname(os.path.realpath(__file__)))
+ROOT = os.path.realpath(os.path.join(os.path.dirname(__file__), "../.."))
 
 WORDS = "no one two three four five six seven eight nine ten eleven twelve thirteen fourteen fifteen sixteen seventeen eighteen nineteen twenty".split()
 
@@ -32,6 +32,16 @@ def number(text):
     """Returns what a number of a page says: digits, or a word."""
     plain = text.replace(",", "").lower()
     return int(plain) if plain.isdigit() else WORDS.index(plain) if plain in WORDS else None
+
+
+def entries(path, name):
+    """Returns how many entries a table of this name has, which a file of Python writes out."""
+    def count():
+        tree = ast.parse(read(path))
+        tables = [it.value for it in tree.body if isinstance(it, ast.Assign) and any(isinstance(to, ast.Name) and to.id == name for to in it.targets)]
+        return len(tables[0].keys if isinstance(tables[0], ast.Dict) else tables[0].elts)
+
+    return count
 
 
 def lines_of(path):
@@ -63,11 +73,11 @@ COUNTS = (
     ("monitor/README.md", r"by (\w+) wrong shims in C", wrong_shims("include/")),
     ("monitor/README.md", r"wrong shims in C and (\w+) in Rust", wrong_shims("rust/")),
     ("monitor/rust/README.md", r"`src/obey\.rs`\n?\s*\((\w+) lines\)", lines_of(OBEY)),
-    ("docs/LINUX.md", r"`tools/test-linux` \| (\w+) runs", lambda: len(tool("test-linux").RUNS)),
-    ("docs/LINUX.md", r"`tools/test-linux --wrong all` \| (\w+) devices", lambda: len(tool("test-linux").WRONG_DEVICES)),
+    ("docs/LINUX.md", r"`tools/test linux` \| (\w+) runs", entries("monitor/tests/linux/linux_runs.py", "RUNS")),
+    ("docs/LINUX.md", r"`tools/test linux --wrong all` \| (\w+) devices", entries("monitor/tests/linux/linux_bench.py", "WRONG_DEVICES")),
     ("docs/LINUX.md", r"`tools/test-host` \| (\w+) runs", lambda: len(tool("test-host").RUNS)),
     ("docs/LINUX.md", r"`tools/test-host` \|[^|]* with (\w+) that are wrong", lambda: len(tool("test-host").WRONG_HOSTS)),
-    ("docs/LINUX.md", r"`tools/test-vhost-user --wrong all` \| (\w+) backends", lambda: len(tool("test-vhost-user").WRONG)),
+    ("docs/LINUX.md", r"`tools/test vhost-user --wrong all` \| (\w+) backends", entries("monitor/tests/vhost_user/test_mutants.py", "WRONG")),
 )
 
 

@@ -6,7 +6,7 @@ import subprocess
 import sys
 from dataclasses import dataclass
 
-ROOT = os.path.dirname(os.path.dirname(os.path.realpath(__file__)))
+ROOT = os.path.realpath(os.path.join(os.path.dirname(__file__), "../.."))
 CRATE = os.path.join(ROOT, "crates", "vb_sim")
 PROGRAM = os.path.join(CRATE, "out", "vb_sim")
 
