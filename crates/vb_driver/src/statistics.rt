@@ -40,7 +40,7 @@ const ENTRY_BYTES: usize = STATISTIC_SIZE as usize;
 /// Bytes of the buffer, which has two statistics.
 const BUFFER_BYTES: usize = 2 * ENTRY_BYTES;
 
-/// The bytes of so many pages.
+/// The bytes of `pages` pages.
 fn bytes_of(pages: u32) -> u64
     ensures { result ≡ pages * page_size }
 {

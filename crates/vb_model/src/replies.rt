@@ -77,7 +77,7 @@ pub enum Reply {
 }
 
 impl Reply {
-    /// The same reply once more. Refused for want of memory alone.
+    /// A copy of the reply. Refused on an allocation failure alone.
     pub fn copy(&self, alloc: Global) -> Result<Reply, AllocError>
         ensures { IfOk result (λ copy. copy ≡ self.now) }
     {

@@ -51,7 +51,7 @@ impl Statistics {
     }
 }
 
-/// Whether a buffer of statistics may have so many bytes: at most 1020, and a multiple of 10.
+/// Whether a buffer of statistics may have `total` bytes: at most 1020, and a multiple of 10.
 pub fn is_statistics_length(total: u64) -> bool
     ensures { result ≡ is_statistics_length total }
 {

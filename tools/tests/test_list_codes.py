@@ -1,17 +1,12 @@
-#!/usr/bin/env python3
-"""Tests tools/list-codes: a number that is changed in one place is refused, in a copy of what it reads.
-
-    tools/test-list-codes
-"""
+"""A number that is changed in one place is refused by tools/list-codes, in a copy of what it reads."""
 
 import os
 import shutil
 import subprocess
-import sys
-import tempfile
-import unittest
 
-ROOT = os.path.dirname(os.path.dirname(os.path.realpath(__file__)))
+import pytest
+
+ROOT = os.path.realpath(os.path.join(os.path.dirname(__file__), "../.."))
 
 # What the tool reads.
 CRATES = ("vb_virtio", "vb_ram", "vb_chain", "vb_ring", "vb_request", "vb_core", "vb_monitor", "vb_c")
@@ -59,22 +54,20 @@ CHANGES = (
 )
 
 
-class Codes(unittest.TestCase):
+class Copy:
     """A copy of what the tool reads, and the tool in it."""
 
-    def setUp(self):
-        folder = tempfile.TemporaryDirectory(prefix="test-list-codes-")
-        self.addCleanup(folder.cleanup)
-        self.folder = folder.name
+    def __init__(self, folder):
+        self.folder = folder
         for path in READ:
-            there = f"{self.folder}/{path}"
+            there = f"{folder}/{path}"
             os.makedirs(os.path.dirname(there), exist_ok=True)
             (shutil.copytree if os.path.isdir(f"{ROOT}/{path}") else shutil.copy)(f"{ROOT}/{path}", there)
 
     def call(self, word):
         """Calls the tool; returns its status and what it says."""
         ran = subprocess.run([f"{self.folder}/tools/list-codes", word], capture_output=True, text=True, timeout=LIMIT)
-        self.assertEqual(ran.stderr, "")
+        assert ran.stderr == ""
         return ran.returncode, ran.stdout.splitlines()
 
     def text(self, path):
@@ -85,36 +78,39 @@ class Codes(unittest.TestCase):
     def change(self, path, old, new):
         """Puts another text once into a file of the copy."""
         text = self.text(path)
-        self.assertEqual(text.count(old), 1, f"{path}: {old}")
+        assert text.count(old) == 1, f"{path}: {old}"
         with open(f"{self.folder}/{path}", "w", encoding="utf-8") as file:
             file.write(text.replace(old, new))
 
-    def test_the_repository_is_as_the_owners_have_it(self):
-        self.assertEqual(self.call("--check"), (0, []))
 
-    def test_a_change_in_one_place_is_refused_by_name(self):
-        for path, old, new, wanted in CHANGES:
-            with self.subTest(path=path, new=new):
-                self.change(path, old, new)
-                status, said = self.call("--check")
-                self.assertEqual((status, [it.removesuffix(": not what tools/list-codes --write makes") for it in said]), (1, wanted))
-                self.doCleanups(), self.setUp()
-
-    def test_a_change_of_the_owner_is_written_to_all_tables(self):
-        self.change("crates/vb_c/src/bits.rt", "COPY: u32 = 128", "COPY: u32 = 512")
-        self.change("crates/vb_chain/src/fault.rt", "BadPage = 9", "BadPage = 11")
-        self.assertEqual(self.call("--write"), (1, [f"{RULES}: BadPage is 9"]))
-        self.assertIn("VB_COPY = 512, ", self.text("crates/vb_c/vb.h"))
-        self.assertIn("10 a reserved page; 11 no such page. */", " ".join(self.text("crates/vb_c/vb.h").replace("\n *", "").split()))
-        self.assertIn("RESERVED_PAGE = 10, BAD_PAGE = 11 };", self.text("monitor/reference/device.h"))
-        self.assertIn('[11] = "no such page",\n', self.text("monitor/backends/guest/backend.c"))
-        self.assertIn("pub const COPY: u32 = 512;\n", self.text("monitor/rust/src/raw/codes.rs"))
-
-    def test_what_is_written_stays(self):
-        before = {it: self.text(it) for it in ("crates/vb_c/vb.h", "monitor/reference/device.h", "monitor/backends/guest/backend.c")}
-        self.assertEqual(self.call("--write"), (0, []))
-        self.assertEqual({it: self.text(it) for it in before}, before)
+@pytest.fixture
+def copy(tmp_path):
+    return Copy(str(tmp_path))
 
 
-if __name__ == "__main__":
-    unittest.main()
+def test_the_repository_is_as_the_owners_have_it(copy):
+    assert copy.call("--check") == (0, [])
+
+
+@pytest.mark.parametrize("path, old, new, wanted", CHANGES)
+def test_a_change_in_one_place_is_refused_by_name(copy, path, old, new, wanted):
+    copy.change(path, old, new)
+    status, said = copy.call("--check")
+    assert (status, [it.removesuffix(": not what tools/list-codes --write makes") for it in said]) == (1, wanted)
+
+
+def test_a_change_of_the_owner_is_written_to_all_tables(copy):
+    copy.change("crates/vb_c/src/bits.rt", "COPY: u32 = 128", "COPY: u32 = 512")
+    copy.change("crates/vb_chain/src/fault.rt", "BadPage = 9", "BadPage = 11")
+    assert copy.call("--write") == (1, [f"{RULES}: BadPage is 9"])
+    assert "VB_COPY = 512, " in copy.text("crates/vb_c/vb.h")
+    assert "10 a reserved page; 11 no such page. */" in " ".join(copy.text("crates/vb_c/vb.h").replace("\n *", "").split())
+    assert "RESERVED_PAGE = 10, BAD_PAGE = 11 };" in copy.text("monitor/reference/device.h")
+    assert '[11] = "no such page",\n' in copy.text("monitor/backends/guest/backend.c")
+    assert "pub const COPY: u32 = 512;\n" in copy.text("monitor/rust/src/raw/codes.rs")
+
+
+def test_what_is_written_stays(copy):
+    before = {it: copy.text(it) for it in ("crates/vb_c/vb.h", "monitor/reference/device.h", "monitor/backends/guest/backend.c")}
+    assert copy.call("--write") == (0, [])
+    assert {it: copy.text(it) for it in before} == before
