@@ -11,7 +11,7 @@ WORDS = (
     (r"behind\b(?! (?:an? |one |its |the )?(?:traits?|types?|box|references?|pointers?|locks?|flag)\b)", "after, at offset, or backs"),
     (r"(?:stands?|stood)\b(?! (?:still|by|out|up)\b|-in|\()", "is, is at, represents, is available"),
     (r"so many\b", "n, or the parameter's name"),
-    (r"so much\b(?! (?:as|that|for)\b)", "n, or the parameter's name"),
+    (r"so much\b(?! (?:as|that|for|\w+er that)\b)", "n, or the parameter's name"),
     (r"anyhow\b", "on the slow path"),
     (r"as (?:it|they) (?:mostly|usually) (?:do|does|goes?)\b", "on the fast path"),
     (r"whoever\b", "the caller, the driver, the device, the front end"),
