@@ -1,13 +1,6 @@
-"""Tests which words, doc comments and commit subjects tools/words.py refuses, and which it doesn't."""
-
-import os
-import sys
+"""Tests which words, doc comments and commit subjects tools/check-sources refuses, and which it doesn't."""
 
 import pytest
-
-sys.dont_write_bytecode = True
-sys.path.insert(0, os.path.dirname(os.path.dirname(os.path.realpath(__file__))))
-
 from words import lines_of, subject_faults, subjects, unused, words_of
 
 # A text, and the words of it that are refused.
