@@ -1,13 +1,9 @@
-"""Tests that tools/page_claims.py refuses each kind of false claim: a page, or what it is about, is changed in one place."""
+"""Tests that tools/lib/page_claims.py refuses each kind of false claim: a page, or what it is about, is changed in one place."""
 
 import os
 import re
-import sys
 
 import pytest
-
-sys.dont_write_bytecode = True
-sys.path.insert(0, os.path.dirname(os.path.dirname(os.path.realpath(__file__))))
 
 import page_claims
 
@@ -15,7 +11,7 @@ import page_claims
 CHANGES = (
     ("counts", "README.md", r"the shims \(\d+ lines of C", "the shims (1 lines of C", "'1' in place of"),
     ("counts", "README.md", r"the shims \(", "the code (", "0 texts"),
-    ("counts", "docs/LINUX.md", r"`tools/test-linux` \| \w+ runs", "`tools/test-linux` | no runs", "'no' in place of"),
+    ("counts", "docs/LINUX.md", r"`tools/test linux` \| \w+ runs", "`tools/test linux` | no runs", "'no' in place of"),
     ("packages", "README.md", r"make gcc g\+\+ clang", "make gcc clang", "README.md: packages"),
     ("packages", "tools/release", r"binutils", "binutils zip", "tools/release: packages"),
     ("times", "README.md", r"\| 20 seconds \|", "| 30 seconds |", "takes"),

@@ -1,13 +1,9 @@
-"""Tests which links tools/page_links.py takes for dead: each page is one of a small repository."""
+"""Tests which links tools/lib/page_links.py takes for dead: each page is one of a small repository."""
 
 import os
 import subprocess
-import sys
 
 import pytest
-
-sys.dont_write_bytecode = True
-sys.path.insert(0, os.path.dirname(os.path.dirname(os.path.realpath(__file__))))
 
 import page_links
 
