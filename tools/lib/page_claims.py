@@ -20,8 +20,10 @@ def read(path):
 
 
 def tool(name):
-    """Returns a tool as a module."""
+    """Returns a tool as a module; those beside it are its modules."""
     sys.dont_write_bytecode = True
+    if f"{ROOT}/tools" not in sys.path:
+        sys.path.append(f"{ROOT}/tools")
     loader = importlib.machinery.SourceFileLoader(name.replace("-", "_"), f"{ROOT}/tools/{name}")
     module = importlib.util.module_from_spec(importlib.util.spec_from_loader(loader.name, loader))
     loader.exec_module(module)

@@ -30,7 +30,7 @@ VHOST_PARTS = tuple(
     f"guest/{it}" for it in ("features", "inbox", "messages", "ring_messages", "slots", "vhost_user")
 )
 CLIENT_PARTS = {
-    "vhost_user_balloon": ("guest/loop", "guest/state", *VHOST_PARTS),
+    "vhost_user_balloon": ("guest/conventions", "guest/loop", "guest/state", *VHOST_PARTS),
     "pci_proxy_balloon": ("guest/loop", "guest/state", "guest/virtio_pci"),
     "vhost_user_host": (
         *VHOST_PARTS,
