@@ -10,7 +10,8 @@ use Rattle.vb_c.specs.declared.notice.{VbNotice.VbNotice, VbRoom.VbRoom}
 use Rattle.vb_c.specs.Serving.{room_in, with_device, HandsOver, Begins, BeginsIf, BeginsFor, AsksFor, GoesOn}
 use Rattle.vb_c.proofs.Samples.{two, balloon}
 
--- ---- a notice of a queue is of the device as it was, and may begin while a buffer of statistics is held
+-- ---- a notice of a queue is of the device as it was, and may begin while a buffer of statistics
+-- is held
 
 of_the_device_before : (kind : Kind) (budget : Budget) (b1 b2 : Balloon) (r1 r2 : VbRoom) (c : VbNotice) →
     BeginsIf true two kind budget b1 b2 r1 r2 c →
@@ -44,7 +45,7 @@ goes_on_in_the_room : (n : Notice) (answer : ℕ) (b1 b2 : Balloon) (r1 r2 : VbR
     Ahead (whole two n.kind after outcome) n.step b1.device (room_of r1.pieces bytes r1.runs r1.figures) (done ++ rest)
 goes_on_in_the_room n answer b1 b2 r1 r2 c h = h.step
 
--- ---- all that stands in the room but the parts
+-- ---- all that is in the room but the parts
 
 all_of_it : (r : VbRoom) → room_in r ≡ record { pieces = r.pieces; bytes = r.bytes; runs = r.runs; figures = r.figures }
 all_of_it r = refl

@@ -1,5 +1,5 @@
 //! Chains whose pages were named: what needs no answer is done at once, and what a notice says is
-//! changed where it stands.
+//! changed in place.
 
 ghost use Rattle.std.specs.Prelude.{◌≡◌, ◌≤◌, true, None, Some, take};
 ghost use Rattle.vb_core.specs.Config.{keeps_reports};
@@ -50,7 +50,7 @@ fn hand_named(
 }
 
 /// Hands over a chain whose pages were named, of a queue that is served, once all parts of its runs
-/// stand in the list: mostly it is given back, and the next word is read.
+/// are in the list: usually it is given back, and the next word is read.
 #[inline(always)]
 fn give_named(
     shown: &mut VbNotice,
@@ -190,7 +190,7 @@ fn hand_pages(
     }
 }
 
-/// Hands a notice over, which is mostly of a chain whose pages were named.
+/// Hands a notice over, by a fast path where a chain's pages were named.
 pub(crate) fn hand_step(
     shown: &mut VbNotice,
     balloon: &mut Balloon,
