@@ -15,8 +15,8 @@ use crate::pieces::piece_in;
 use crate::{ChainPiece, Denial, Device, Kind, MEMORY_LIMIT, Named, Run};
 use arrayvec::ArrayVec;
 use vb_chain::{ChainFault, Piece};
-use vb_virtio::limits::{MAX_REPORT_PIECES, PAGE_SIZE};
 use vb_request::{check_report, count_pages};
+use vb_virtio::limits::{MAX_REPORT_PIECES, PAGE_SIZE};
 
 /// Runs that a report has room for at least: its pieces, at the most.
 pub const MAX_REPORT_RUNS: usize = MAX_REPORT_PIECES as usize;
