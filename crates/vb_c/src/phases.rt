@@ -1,7 +1,7 @@
 //! The next step of a notice, by what it waits for: a fast path changes the notice in place, else
 //! the slow path.
 
-ghost use Rattle.std.specs.Prelude.{◌≡◌, ◌+◌, Some};
+ghost use Rattle.std.specs.Prelude.{◌≡◌, ◌+◌, ◌≤◌, true, false, Some};
 ghost use Rattle.vb_monitor.specs.declared.room.TheConstants.{MAX_BYTES};
 ghost use Rattle.vb_c.specs.Codes.{kind_of_code};
 ghost use Rattle.vb_c.specs.Notices.{notice_of};
@@ -9,9 +9,37 @@ ghost use Rattle.vb_c.specs.Serving.{GoesOnBy};
 
 use crate::answers::kind_of_code;
 use crate::notice::{DESCRIPTOR, ENTRY, FLAGS, INDEX, PART, VbNotice, VbRoom};
+use crate::requests::go_request;
 use crate::serving::{go_anyhow, go_chain, go_part};
 use crate::usual::{Entry, Flags, Index, Single, Usual};
-use vb_monitor::{Balloon, MAX_BYTES, Region};
+use vb_core::Kind;
+use vb_monitor::{Balloon, MAX_BYTES, Region, is_last};
+
+/// Handles a copied part: of a request's last one by a fast path.
+fn go_copied(
+    notice: &mut VbNotice,
+    balloon: &mut Balloon,
+    regions: &[Region],
+    room: &mut VbRoom,
+    kind: Kind,
+    answer: u16,
+) -> u32
+    requires kind { kind_of_code notice.old.kind ≡ Some kind }
+    requires phase { notice.old.phase ≡ 4 }
+    requires fits { notice.old.into + notice.old.length ≤ MAX_BYTES }
+    ensures goes { GoesOnBy (notice_of notice.old) regions.now answer balloon.old balloon.new
+        room.old room.new notice.new }
+    ensures what { result ≡ notice.new.what }
+{
+    if !kind.is_request() {
+        return go_part(notice, balloon, regions, room, kind, answer);
+    }
+    let place = notice.place();
+    if is_last(&place, &room.pieces) {
+        return go_request(notice, balloon, regions, room, kind, answer);
+    }
+    go_part(notice, balloon, regions, room, kind, answer)
+}
 
 /// Handles a copied row of descriptors, else takes the slow path.
 #[inline(never)]
@@ -80,7 +108,7 @@ fn at_part(
             if u64::from(notice.into) + u64::from(notice.length) > MAX_BYTES as u64 {
                 return go_anyhow(notice, balloon, regions, room, answer);
             }
-            go_part(notice, balloon, regions, room, kind, answer)
+            go_copied(notice, balloon, regions, room, kind, answer)
         }
     }
 }

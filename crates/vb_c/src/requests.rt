@@ -1,25 +1,27 @@
 //! Chains whose pages were named: what needs no answer is done at once, and what a notice says is
 //! changed in place.
 
-ghost use Rattle.std.specs.Prelude.{◌≡◌, ◌≤◌, true, None, Some, take};
+ghost use Rattle.std.specs.Prelude.{◌≡◌, ◌+◌, ◌≤◌, true, None, Some, take};
 ghost use Rattle.vb_core.specs.Config.{keeps_reports};
 ghost use Rattle.vb_core.specs.Devices.{queue_denial};
+ghost use Rattle.vb_core.specs.Name.{is_request};
 ghost use Rattle.vb_monitor.specs.declared.orders.TheConstants.{MAX_CUTS};
-ghost use Rattle.vb_monitor.specs.declared.room.TheConstants.{MAX_RUNS};
+ghost use Rattle.vb_monitor.specs.declared.room.TheConstants.{MAX_BYTES, MAX_RUNS};
 ghost use Rattle.vb_monitor.specs.Giving.{cuts_for, is_kept};
 ghost use Rattle.vb_monitor.specs.Machine.{Fits};
+ghost use Rattle.vb_monitor.specs.Served.{is_last};
 ghost use Rattle.vb_c.specs.Codes.{kind_of_code};
-ghost use Rattle.vb_c.specs.Notices.{tally_of};
-ghost use Rattle.vb_c.specs.Served.{telling_pages};
-ghost use Rattle.vb_c.specs.Serving.{HandsOver};
+ghost use Rattle.vb_c.specs.Notices.{notice_of, tally_of, place_of};
+ghost use Rattle.vb_c.specs.Served.{telling_pages, Denies};
+ghost use Rattle.vb_c.specs.Serving.{HandsOver, GoesOnBy};
 
-use crate::notice::VbNotice;
+use crate::notice::{VbNotice, VbRoom};
 use crate::serving::hand_over;
 use crate::showing::asked_bits;
-use vb_core::{Kind, Named, Run};
+use vb_core::{Denial, Kind, Named, Run};
 use vb_monitor::{
     Asked, Balloon, Cut, Discarding, MAX_CUTS, MAX_RUNS, Notice, Phase, Region, Step, Tally, Told,
-    fill_named, give_and_go, kept_pages,
+    end, fill_named, give_and_go, kept_pages, name_copied,
 };
 
 /// Hands over a chain whose pages were named, however it is served.
@@ -219,5 +221,78 @@ pub(crate) fn hand_step(
         | Phase::AwaitsPart { .. }
         | Phase::AwaitsFlags { .. }
         | Phase::Ended { .. } => hand_over(shown, balloon, regions, runs, cuts, notice),
+    }
+}
+
+/// Hands over a notice that ends by a denial.
+#[inline(never)]
+fn hand_denied(
+    shown: &mut VbNotice,
+    balloon: &mut Balloon,
+    regions: &[Region],
+    runs: &[Run; MAX_RUNS],
+    cuts: &mut [Cut; MAX_CUTS],
+    kind: Kind,
+    why: Denial,
+) -> u32
+    ensures denies { Denies why kind (tally_of shown.old) regions.now runs.now balloon.old
+        balloon.new cuts.new shown.new }
+    ensures what { result ≡ shown.new.what }
+{
+    let tally = shown.tally();
+    let step = end(&balloon.device, regions, kind, tally, Some(why), false);
+    let mut next = Notice { kind, step };
+    hand_over(shown, balloon, regions, runs, cuts, &mut next)
+}
+
+/// All bytes of a request were copied: its pages are named and served, or it breaks a rule.
+pub(crate) fn go_request(
+    notice: &mut VbNotice,
+    balloon: &mut Balloon,
+    regions: &[Region],
+    room: &mut VbRoom,
+    kind: Kind,
+    answer: u16,
+) -> u32
+    requires kind { kind_of_code notice.old.kind ≡ Some kind }
+    requires phase { notice.old.phase ≡ 4 }
+    requires fits { notice.old.into + notice.old.length ≤ MAX_BYTES }
+    requires request { is_request kind ≡ true }
+    requires last { is_last (place_of notice.old) room.old.pieces ≡ true }
+    ensures goes { GoesOnBy (notice_of notice.old) regions.now answer balloon.old balloon.new
+        room.old room.new notice.new }
+    ensures what { result ≡ notice.new.what }
+{
+    let head = notice.head;
+    let count = notice.into as usize + notice.length as usize;
+    match name_copied(
+        &mut balloon.device,
+        kind,
+        &room.bytes,
+        count,
+        &mut room.runs,
+    ) {
+        Err(why) => hand_denied(
+            notice,
+            balloon,
+            regions,
+            &room.runs,
+            &mut room.cuts,
+            kind,
+            why,
+        ),
+        Ok(named) => {
+            notice.pages_left = notice.pages_left.saturating_sub(named.pages);
+            serve_named(
+                notice,
+                balloon,
+                regions,
+                &room.runs,
+                &mut room.cuts,
+                kind,
+                head,
+                named,
+            )
+        }
     }
 }

@@ -1,11 +1,57 @@
 -- Worked facts of what is done at once of a chain whose pages were named.
+use Rattle.vb_core.specs.Pieces.{pieces_in}
 use Rattle.std.proofs.Common.{◌≡◌, refl, ℕ, Bool, true, false, [], ◌∷◌, map, Option, Some, None}
 use Rattle.vb_core.specs.declared.kinds.Kind.TheVariants.{Inflate, Deflate, Statistics, Report}
-use Rattle.vb_core.specs.declared.{ring.Virtqueue.Virtqueue}
+use Rattle.vb_core.specs.declared.{pieces.ChainPiece.ChainPiece, ring.Virtqueue.Virtqueue}
 use Rattle.vb_core.specs.{declared.kinds.Kind.Kind, Devices.with_ring}
 use Rattle.vb_monitor.specs.declared.usual.NextWord.{NextWord, TheVariants.{Entry, Flags}}
-use Rattle.vb_monitor.specs.Served.{goes_on, word_behind, first_has}
+use Rattle.vb_monitor.{specs.declared.step.Place.Place}
+use Rattle.vb_monitor.{specs.Served.{is_last, goes_on, word_behind, first_has}}
 use Rattle.vb_monitor.proofs.Samples.{two, at, ring, far, tally}
+
+-- ---- the last part of a chain's pieces
+
+abbrev bytes : ℕ → ℕ → ChainPiece
+bytes address length = record { address = address; length = length; writable = 0 }
+
+-- a part of the piece of this number, of so many
+abbrev part : ℕ → ℕ → Bool → Place
+part count piece is_second =
+    record { head = 3; count = count; piece = piece; is_second = is_second; into = 0; length = 4 }
+
+only_piece : is_last (part 1 0 false) (bytes 0x400 4 ∷ []) ≡ true
+unfolding pieces_in
+only_piece = refl
+
+-- four bytes stand in the next page
+over_two_pages : is_last (part 1 0 false) (bytes 0xffc 8 ∷ []) ≡ false
+unfolding pieces_in
+over_two_pages = refl
+
+second_part : is_last (part 1 0 true) (bytes 0xffc 8 ∷ []) ≡ true
+unfolding pieces_in
+second_part = refl
+
+another_piece : is_last (part 2 0 false) (bytes 0x400 4 ∷ bytes 0x500 4 ∷ []) ≡ false
+unfolding pieces_in
+another_piece = refl
+
+another_behind : is_last (part 2 0 true) (bytes 0xffc 8 ∷ bytes 0x500 4 ∷ []) ≡ false
+unfolding pieces_in
+another_behind = refl
+
+second_of_two : is_last (part 2 1 false) (bytes 0x400 4 ∷ bytes 0x500 4 ∷ []) ≡ true
+unfolding pieces_in
+second_of_two = refl
+
+-- what stands behind the chain's pieces is none of them
+older_piece : is_last (part 1 0 false) (bytes 0x400 4 ∷ bytes 0x500 4 ∷ []) ≡ true
+unfolding pieces_in
+older_piece = refl
+
+empty_piece_behind : is_last (part 2 0 false) (bytes 0x400 4 ∷ bytes 0x500 0 ∷ []) ≡ true
+unfolding pieces_in
+empty_piece_behind = refl
 
 -- ---- which word is read behind a chain
 

@@ -1,27 +1,31 @@
 -- What is done at once of a chain whose pages were named.
 use Rattle.std.proofs.Common.{◌≡◌, ◌∙◌, ap, sym, subst, refl, ℕ, ◌+◌, ◌<◌, Bool, true, false, List}
-use Rattle.std.proofs.Common.{arith, ◌∷◌, ◌++◌, length, Option, Some, None, Result, Ok, Err}
-use Rattle.std.specs.Prelude.{nat_lt, ◌-◌, if◌then◌else◌, drop, get_or}
+use Rattle.std.proofs.Common.{arith, [], ◌∷◌, ◌++◌, length, Option, Some, None, Result, Ok, Err}
+use Rattle.std.specs.Prelude.{nat_lt, nat_le, ◌&&◌, ◌/◌, ◌-◌, if◌then◌else◌, drop, get_or}
 use Rattle.std.proofs.lemmas.{Bool.Decides.nat_tests, List.drop_more}
+use Rattle.vb_virtio.specs.declared.limits.TheConstants.{MAX_REQUEST_PAGES}
 use Rattle.vb_chain.specs.declared.fault.ChainFault.{ChainFault}
+use Rattle.vb_request.specs.Request.{is_request_length}
 use Rattle.vb_core.specs.declared.kinds.Kind.TheVariants.{Inflate, Deflate, Statistics, Report}
 use Rattle.vb_core.specs.declared.{kinds.Kind.Kind, device.Device.Device, device.Denial.Denial}
-use Rattle.vb_core.specs.Rings.{used_entry, with_used}
+use Rattle.vb_core.specs.{declared.runs.Run.Run, declared.name.Named.Named, Rings.{used_entry, with_used}}
 use Rattle.vb_core.specs.declared.ring.UsedEntry.{UsedEntry}
 use Rattle.vb_core.specs.Devices.{ring_of, call_denial, queue_denial}
+use Rattle.vb_core.specs.Name.{is_request, NamesBy, name_denial, after_request, told}
 use Rattle.vb_core.specs.Using.{use_denial}
 use Rattle.vb_monitor.specs.declared.{regions.{Region.Region, Spot.Spot}, giving.UsedSpots.UsedSpots}
 use Rattle.vb_monitor.specs.Regions.{holds, spot_from}
-use Rattle.vb_monitor.specs.declared.{outcome.Tally.Tally, orders.Used.Used}
-use Rattle.vb_monitor.specs.{Accesses.Access, Regions.spot, Ends.Whole}
+use Rattle.vb_monitor.specs.declared.{parts.Part.Part, outcome.Tally.Tally, orders.Used.Used}
+use Rattle.vb_monitor.specs.{Accesses.Access, Regions.spot, Ends.Whole, Pieces.CopiesParts}
 use Rattle.vb_monitor.specs.Giving.{Then, used_spots, used_accesses, UsedAt, GivesBack, GivesBackBy}
-use Rattle.vb_monitor.specs.{Giving.{with_given, after_use, three_spots}, Orders.giving}
-use Rattle.vb_monitor.specs.{Machine.next_chain}
+use Rattle.vb_monitor.specs.{Giving.{with_given, after_use, AfterName, three_spots}, Orders.giving}
+use Rattle.vb_monitor.specs.{Chains.{NamesBytes, AfterBytes}, Machine.{next_chain, served}}
 use Rattle.vb_monitor.specs.{Machine.{AheadAt, Room}, Notices.{stands, ServesPublished, AfterGiven}}
-use Rattle.vb_monitor.specs.{Served.goes_on, declared.usual.NextWord.NextWord}
+use Rattle.vb_monitor.specs.{Served.{goes_on, none_left}, declared.usual.NextWord.NextWord}
 use Rattle.vb_monitor.specs.Usual.{word_by, word_place, phase_at, tally_at}
 use Rattle.vb_core.specs.declared.ring.Virtqueue.{Virtqueue}
 use Rattle.vb_monitor.proofs.{TurnEnds.moves, UsualLemmas.word_goes}
+use Rattle.vb_monitor.proofs.{NextLemmas.copies_none, RoomLemmas.few_named}
 
 -- ---- a queue that is served stays so
 
@@ -127,3 +131,58 @@ first_spots rs d e some h k =
     (Some (record { region = 0; offset = e.element_at - r.guest }))
     (Some (record { region = 0; offset = (e.element_at - r.guest) + 4 })) o)
     (first_spot r more e.index_at 2 k)))
+
+-- ---- a request whose pages were named
+
+open_after : (answer : Result Named ChainFault) (kind : Kind) (d d2 : Device) (named : Named) →
+    Ok named ≡ told answer → d2 ≡ after_request kind answer d → queue_denial kind d ≡ None →
+    queue_denial kind d2 ≡ None
+open_after (Err f) kind d d2 named is after ready = absurd cc
+open_after (Ok x) kind d d2 named is after ready =
+    ap (λ (y : Device). queue_denial kind y) after ∙ ((moves kind d).taken_denial ∙ ready)
+
+open_by : (o : Option Denial) (kind : Kind) (bytes : List ℕ) (room : ℕ) (runs : List Run)
+    (d d2 : Device) (named : Named) → name_denial kind (length bytes) room d ≡ o →
+    NamesBy kind bytes room runs d d2 (Ok named) → queue_denial kind d2 ≡ None
+open_by (Some why) kind bytes room runs d d2 named e n =
+    let wrong : Ok named ≡ Err why = (n.denied why e).0 in absurd cc
+open_by None kind bytes room runs d d2 named e n =
+    let (answer, are, is, after) = n.names e in
+    open_after answer kind d d2 named is after (opened kind (is_request kind)
+    (is_request_length (length bytes) && nat_le (length bytes / 4) room) d e)
+
+pub named_open : (kind : Kind) (bytes : List ℕ) (room : ℕ) (runs : List Run) (d d2 : Device)
+    (named : Named) → NamesBy kind bytes room runs d d2 (Ok named) → queue_denial kind d2 ≡ None
+named_open kind bytes room runs d d2 named n =
+    open_by (name_denial kind (length bytes) room d) kind bytes room runs d d2 named refl n
+
+pub ruleset named_steps = (few_named, named_open)
+
+by_bytes : (kind : Kind) (w : Whole) (next : Then) (d : Device) (t : Tally) (head : ℕ)
+    (bytes : List ℕ) (log : List Access) → is_request kind ≡ true →
+    NamesBytes w next d t head bytes log → AfterBytes kind w next d t head bytes log
+by_bytes Inflate w next d t head bytes log e h = h
+by_bytes Deflate w next d t head bytes log e h = h
+by_bytes Statistics w next d t head bytes log e h = absurd (grind arith)
+by_bytes Report w next d t head bytes log e h = absurd (grind arith)
+
+none_is : (parts : List Part) → none_left parts ≡ true → parts ≡ []
+none_is [] e = refl
+none_is (p ∷ ps) e = absurd (grind arith)
+
+-- its last part was copied
+pub request_goes : (w : Whole) (d d2 : Device) (t : Tally) (head : ℕ) (parts : List Part)
+    (bytes : List ℕ) (runs : List Run) (answer : Result Named Denial) (log : List Access) →
+    is_request w.kind ≡ true → none_left parts ≡ true →
+    NamesBy w.kind bytes MAX_REQUEST_PAGES runs d d2 answer →
+    AfterName w (next_chain w t) d2 t head runs answer log →
+    CopiesParts w (served w t d head) d t parts bytes log
+request_goes w d d2 t head parts bytes runs answer log request last names h =
+    copies_none w (served w t d head) d t parts bytes log (none_is parts last)
+    (by_bytes w.kind w (next_chain w t) d t head bytes log request (record {
+      answer = answer;
+      runs = runs;
+      device = d2;
+      names = names;
+      goes_on = h;
+    }))

@@ -1,8 +1,9 @@
 -- What is done at once of a chain whose pages were named.
 use Rattle.std.specs.Prelude.{ℕ, Bool, true, false, not, ◌&&◌, nat_lt, List, [], ◌∷◌}
-use Rattle.std.specs.Prelude.{Option, None, is_some, if◌then◌else◌}
+use Rattle.std.specs.Prelude.{take, Option, None, is_some, if◌then◌else◌}
 use Rattle.vb_core.specs.declared.kinds.Kind.{Kind}
 use Rattle.vb_core.specs.declared.kinds.Kind.TheVariants.{Inflate, Deflate, Statistics, Report}
+use Rattle.vb_core.specs.declared.pieces.ChainPiece.{ChainPiece}
 use Rattle.vb_core.specs.declared.device.Device.{Device}
 use Rattle.vb_core.specs.declared.ring.UsedEntry.{UsedEntry}
 use Rattle.vb_core.specs.Rings.{used_entry}
@@ -10,9 +11,22 @@ use Rattle.vb_core.specs.Devices.{ring_of}
 use Rattle.vb_monitor.specs.declared.regions.Region.{Region}
 use Rattle.vb_monitor.specs.declared.outcome.Tally.{Tally}
 use Rattle.vb_monitor.specs.declared.usual.NextWord.{NextWord}
+use Rattle.vb_monitor.specs.declared.step.Place.{Place}
+use Rattle.vb_monitor.specs.declared.parts.Part.{Part}
 use Rattle.vb_monitor.specs.Regions.{holds}
 use Rattle.vb_monitor.specs.Giving.{used_spots, with_given}
 use Rattle.vb_monitor.specs.Usual.{word_place}
+use Rattle.vb_core.specs.Pieces.{pieces_in}
+use Rattle.vb_monitor.specs.Machine.{behind_part}
+
+abbrev pub none_left : List Part → Bool
+none_left [] = true
+none_left (part ∷ parts) = false
+
+-- No byte of a chain's pieces is left to be copied behind this part of them.
+abbrev pub is_last : Place → List ChainPiece → Bool
+is_last place pieces =
+    none_left (behind_part place.is_second place.piece (pieces_in (take place.count pieces)))
 
 -- A queue of this kind goes on with its next chain once one was given back.
 abbrev pub goes_on : Kind → Bool

@@ -1,9 +1,11 @@
 //! What is done at once of a chain whose pages were named: parts are discarded, it is given back,
 //! and the next word is read.
 
-ghost use Rattle.std.specs.Prelude.{◌≡◌, ◌+◌, ◌<◌, ◌≤◌, ◌++◌, true, false, List, None};
-ghost use Rattle.std.specs.Prelude.{Some, IfSome, take};
+ghost use Rattle.std.specs.Prelude.{◌≡◌, ◌+◌, ◌<◌, ◌≤◌, ◌++◌, true, false, List, [], None};
+ghost use Rattle.std.specs.Prelude.{Some, IfSome, IfOk, length, take, drop};
+ghost use Rattle.vb_virtio.specs.declared.limits.TheConstants.{MAX_REQUEST_PAGES};
 ghost use Rattle.vb_core.specs.declared.runs.Run.{Run};
+ghost use Rattle.vb_core.specs.Name.{NamesBy};
 ghost use Rattle.vb_monitor.specs.declared.room.TheConstants.{MAX_RUNS};
 ghost use Rattle.vb_monitor.specs.declared.regions.Region.{Region};
 ghost use Rattle.vb_core.specs.declared.device.Device.{Device};
@@ -16,18 +18,59 @@ ghost use Rattle.vb_monitor.specs.Accesses.{Access};
 ghost use Rattle.vb_monitor.specs.Giving.{GivesBack, cuts_for, is_kept, with_given};
 ghost use Rattle.vb_monitor.specs.Machine.{Room, AheadAt, whole, next_chain};
 ghost use Rattle.vb_monitor.specs.Orders.{cuts_left, giving};
-ghost use Rattle.vb_monitor.specs.Served.{word_behind, goes_on};
+ghost use Rattle.vb_monitor.specs.Pieces.{all_parts};
+ghost use Rattle.vb_core.specs.Pieces.{pieces_in};
+ghost use Rattle.vb_monitor.specs.Machine.{behind_part};
+ghost use Rattle.vb_monitor.specs.Served.{word_behind, is_last, none_left, goes_on};
 ghost use Rattle.vb_monitor.specs.Usual.{phase_at, tally_at};
 
+use crate::copying::first_bytes;
 use crate::cuts::first_cut;
 use crate::discards::{discards, first_runs};
 use crate::filling::{Filled, fill};
 use crate::giving::put_spots;
 use crate::orders::MAX_CUTS;
-use crate::room::MAX_RUNS;
+use crate::parts::{next_part, second_part};
+use crate::pieces::first_pieces;
+use crate::room::{MAX_BYTES, MAX_PIECES, MAX_RUNS};
 use crate::usual::word_after;
-use crate::{Cut, NextWord, Region, Tally, Used};
-use vb_core::{Device, Kind, Run};
+use crate::{Cut, NextWord, Place, Region, Tally, Used};
+use vb_core::{ChainPiece, Denial, Device, Kind, Named, Run};
+
+/// Whether the pieces from this number on have no byte.
+fn none_from(pieces: &[ChainPiece], from: usize) -> bool
+    ensures { result ≡ none_left (all_parts (drop from (pieces_in pieces.now))) }
+{
+    match next_part(pieces, from) {
+        None => true,
+        Some(_) => false,
+    }
+}
+
+/// Whether no byte of these pieces is left to be copied behind one of the two parts of a piece.
+fn none_behind(pieces: &[ChainPiece], piece: usize, is_second: bool) -> bool
+    requires { piece < length pieces.now }
+    ensures { result ≡ none_left (behind_part is_second piece (pieces_in pieces.now)) }
+{
+    if is_second {
+        return none_from(pieces, piece + 1);
+    }
+    if second_part(&pieces[piece]).length > 0 {
+        return false;
+    }
+    none_from(pieces, piece + 1)
+}
+
+/// Whether no byte of a chain's pieces is left to be copied behind this part of them.
+pub fn is_last(place: &Place, pieces: &[ChainPiece; MAX_PIECES]) -> bool
+    ensures { result ≡ is_last place.now pieces.now }
+{
+    let chain = first_pieces(pieces, place.count);
+    if place.piece >= chain.len() {
+        return true;
+    }
+    none_behind(chain, place.piece, place.is_second)
+}
 
 /// Whether a queue of this kind goes on with its next chain once one was given back.
 fn goes_on(kind: Kind) -> bool
@@ -37,6 +80,23 @@ fn goes_on(kind: Kind) -> bool
         Kind::Inflate | Kind::Deflate | Kind::Report => true,
         Kind::Statistics => false,
     }
+}
+
+/// Names the pages of a request, whose bytes are the first ones, so many.
+#[tactic(auto, using(crate::proofs::ServedLemmas::named_steps))]
+pub fn name_copied(
+    device: &mut Device,
+    kind: Kind,
+    bytes: &[u8; MAX_BYTES],
+    count: usize,
+    runs: &mut [Run; MAX_RUNS],
+) -> Result<Named, Denial>
+    ensures names { NamesBy kind (take count bytes.now) MAX_REQUEST_PAGES runs.new device.old
+        device.new result }
+    ensures few { IfOk result (λ named. named.runs ≤ MAX_RUNS) }
+    ensures ready { IfOk result (λ named. queue_denial kind device.new ≡ None) }
+{
+    device.name(kind, first_bytes(bytes, count), runs)
 }
 
 /// Puts the parts of the first runs, so many, into the list, as many as have room, where they are
