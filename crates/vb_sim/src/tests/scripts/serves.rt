@@ -2,7 +2,7 @@
 
 use super::{Listed, check_all};
 
-pub(in crate::tests) static SCRIPTS: [Listed; 7] = [
+pub(in crate::tests) static SCRIPTS: [Listed; 8] = [
     Listed {
         name: "serves/as-many-as-the-ring-has",
         commands: &[&["run"]],
@@ -98,6 +98,224 @@ ok
 ok
 served 0 broken C8
 ballooned 0 actual 0 target 0 status 79
+",
+        errors: b"",
+        status: 0,
+    },
+    Listed {
+        name: "serves/each-rule",
+        commands: &[&["run"]],
+        text: b"\
+# Shows: A serve says which rule a chain breaks, of each rule and of both paces.
+host 128
+spare immediate
+spare paced
+plug 64 8 1
+plug 64 8 1
+init 0
+scribble 0 0 128 000001000800
+serve 0 0
+balloon 0
+serve 0 0
+reset 0
+init 0
+scribble 0 0 0 00400000000000000400000001000800
+scribble 0 4 0 14000000
+scribble 0 0 128 000001000000
+serve 0 0
+reset 0
+init 0
+scribble 0 0 0 00400000000000000400000001000000
+scribble 0 0 128 000001000000
+serve 0 0
+reset 0
+init 0
+scribble 0 0 0 00400000000000000400000004000000
+scribble 0 0 128 000001000000
+serve 0 0
+reset 0
+init 0
+scribble 0 0 0 00400000000000000400000002000000
+scribble 0 0 128 000001000000
+serve 0 0
+reset 0
+init 0
+scribble 0 0 0 00000400000000000400000000000000
+scribble 0 0 128 000001000000
+serve 0 0
+reset 0
+init 0
+scribble 0 0 130 0900
+serve 0 0
+reset 0
+init 0
+scribble 0 0 130 0800
+serve 0 0
+reset 0
+init 0
+scribble 0 3 0 00080100000000000010000002000000
+scribble 0 3 128 000001000000
+serve 0 4
+reset 0
+init 0
+scribble 0 0 0 00400000000000000400000000000000
+scribble 0 4 0 03000000
+scribble 0 0 128 000001000000
+serve 0 0
+init 1
+scribble 1 0 128 000001000800
+serve 1 0
+balloon 1
+serve 1 0
+reset 1
+init 1
+scribble 1 0 0 00400000000000000400000001000800
+scribble 1 4 0 14000000
+scribble 1 0 128 000001000000
+serve 1 0
+reset 1
+init 1
+scribble 1 0 0 00400000000000000400000001000000
+scribble 1 0 128 000001000000
+serve 1 0
+reset 1
+init 1
+scribble 1 0 0 00400000000000000400000004000000
+scribble 1 0 128 000001000000
+serve 1 0
+reset 1
+init 1
+scribble 1 0 0 00400000000000000400000002000000
+scribble 1 0 128 000001000000
+serve 1 0
+reset 1
+init 1
+scribble 1 0 0 00000400000000000400000000000000
+scribble 1 0 128 000001000000
+serve 1 0
+reset 1
+init 1
+scribble 1 0 130 0900
+serve 1 0
+reset 1
+init 1
+scribble 1 0 130 0800
+serve 1 0
+reset 1
+init 1
+scribble 1 3 0 00080100000000000010000002000000
+scribble 1 3 128 000001000000
+serve 1 4
+reset 1
+init 1
+scribble 1 0 0 00400000000000000400000000000000
+scribble 1 4 0 03000000
+scribble 1 0 128 000001000000
+serve 1 0
+",
+        output: b"\
+guest 0
+guest 1
+ready
+ok
+served 0 broken C1
+ballooned 0 actual 0 target 0 status 79
+needs reset
+ok
+ready
+ok
+ok
+ok
+served 0 broken C2
+ok
+ready
+ok
+ok
+served 0 broken C3
+ok
+ready
+ok
+ok
+served 0 broken C4
+ok
+ready
+ok
+ok
+served 0 broken C5
+ok
+ready
+ok
+ok
+served 0 broken C6
+ok
+ready
+ok
+served 0 broken C7
+ok
+ready
+ok
+served 0 broken C8
+ok
+ready
+ok
+ok
+served 0 broken C9
+ok
+ready
+ok
+ok
+ok
+served 0 broken C10
+ready
+ok
+served 0 broken C1
+ballooned 0 actual 0 target 0 status 79
+needs reset
+ok
+ready
+ok
+ok
+ok
+served 0 broken C2
+ok
+ready
+ok
+ok
+served 0 broken C3
+ok
+ready
+ok
+ok
+served 0 broken C4
+ok
+ready
+ok
+ok
+served 0 broken C5
+ok
+ready
+ok
+ok
+served 0 broken C6
+ok
+ready
+ok
+served 0 broken C7
+ok
+ready
+ok
+served 0 broken C8
+ok
+ready
+ok
+ok
+served 0 broken C9
+ok
+ready
+ok
+ok
+ok
+served 0 broken C10
 ",
         errors: b"",
         status: 0,
