@@ -8,9 +8,7 @@ use Rattle.vb_model.proofs.Samples.{NoneOf, down, page_16_at, ready, request, un
 use Rattle.vb_model.specs.Courses.{Course, DeflatePostedAt, ReapedAt, WasAskedBack, guest_after}
 use Rattle.vb_virtio.specs.Queues.{queue_of, Deflating, Inflating, Kind, Request}
 use Rattle.vb_virtio.specs.declared.refusals.Refusal.TheVariants.{QueueFull}
-use Rattle.vb_model.specs.Courses.{posts_deflate}
-use Rattle.vb_model.specs.Guest.{Guest, requests}
-use Rattle.vb_model.specs.GuestRun.{Called, Entry}
+use Rattle.vb_model.specs.{Courses.posts_deflate, Guest.{Guest, requests}, GuestRun.{Called, Entry}}
 use Rattle.vb_model.specs.Requests.{Requests, no_requests}
 use Rattle.vb_model.specs.declared.calls.Actor.{Actor, TheVariants.{Processor, Worker}}
 use Rattle.vb_model.specs.declared.calls.Call.{Call, TheVariants.{Reap, Report, Reset, Work}}
