@@ -57,7 +57,7 @@ COUNTS = (
     ("README.md", r"lines of C, (\w+) of Rust\)", lines_of(OBEY)),
     ("CHANGELOG.md", r"shims in C and Rust obey it: (\w+) and \w+ lines", lines_of(SHIM)),
     ("CHANGELOG.md", r"shims in C and Rust obey it: \w+ and (\w+) lines", lines_of(OBEY)),
-    ("CHANGELOG.md", r"\(`tools/conform`\): (\w+), by topic", scripts("conformance/*", "examples")),
+    ("CHANGELOG.md", r"\(`tools/conform`\): (\w+), by topic", scripts("crates/vb_conformance/data/*")),
     ("monitor/README.md", r"`balloon\.h` \((\w+) lines\)", lines_of(SHIM)),
     ("monitor/README.md", r"`balloon_calls\.h`, (\w+) lines", lines_of(CALLS)),
     ("monitor/README.md", r"by (\w+) wrong shims in C", wrong_shims("include/")),
