@@ -35,7 +35,7 @@ first_answers : map first_served answers
     ≡ Ok (served 0 None) ∷ Ok (served 1 None) ∷ Ok (served 0 (Some 7)) ∷ Err Busy ∷ []
 first_answers = refl
 
--- behind five chains nothing is refused any more
+-- after five chains nothing is refused any more
 later_answers : map (served_until 5) (Ok None ∷ Err (Broken 7) ∷ Err Busy ∷ [])
     ≡ served 5 None ∷ served 5 (Some 7) ∷ served 5 None ∷ []
 later_answers = refl
@@ -94,7 +94,7 @@ of_both : (g new : Guest) (answer : Result (Option ℕ) Refusal)
     → HonestNext 0 (record g { rogue = false }) answer new)
 of_both g new answer = (λ did. did, λ did. did)
 
--- ---- the chains behind it
+-- ---- the chains after it
 
 rest_of_both : (g new : Guest) (left : ℕ)
     → (RestStep 0 1 left (served 3 (Some 7)) (record g { rogue = true }) new
