@@ -2,6 +2,7 @@ pub mod Copies
 pub mod Settings
 pub mod Rings
 pub mod Kinds
+pub mod Held
 pub mod Devices
 pub mod Starting
 pub mod Next
