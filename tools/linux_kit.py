@@ -14,31 +14,33 @@ from linux_packages import (
 )
 
 MONITOR = os.path.join(ROOT, "monitor")
+SHIM = os.path.join(MONITOR, "include")
+REFERENCE = os.path.join(MONITOR, "reference/reference.c")
 HEADERS = os.path.join(ROOT, "crates/vb_c")
 LIBRARY = os.path.join(ROOT, "crates", "vb_c", "out", "libvb_c.a")
 
-# The backends' files in monitor: of all, of each, and what a build for tests has besides.
+# The backends' files, from monitor/backends: of all, of each, and what a build for tests has besides.
 PARTS = tuple(
-    f"backend/{it}"
+    f"guest/{it}"
     for it in (
         "backend", "control", "counters", "events", "guard", "guest_memory", "kicks", "process", "rings", "say", "statistics", "stream",
     )
 )
 VHOST_PARTS = tuple(
-    f"backend/{it}" for it in ("features", "inbox", "messages", "ring_messages", "slots", "vhost_user")
+    f"guest/{it}" for it in ("features", "inbox", "messages", "ring_messages", "slots", "vhost_user")
 )
 CLIENT_PARTS = {
-    "vhost_user_balloon": ("backend/loop", "backend/state", *VHOST_PARTS),
-    "pci_proxy_balloon": ("backend/loop", "backend/state", "backend/virtio_pci"),
-    "vhost_user_host": (*VHOST_PARTS, *(f"host/{it}" for it in ("journal", "lines", "loop", "marks", "policy", "seats"))),
+    "vhost_user_balloon": ("guest/loop", "guest/state", *VHOST_PARTS),
+    "pci_proxy_balloon": ("guest/loop", "guest/state", "guest/virtio_pci"),
+    "vhost_user_host": (*VHOST_PARTS, *(f"host/{it}" for it in ("journal", "lines", "loop", "marks", "policy", "seats", "view"))),
 }
-AUDIT_PARTS = ("backend/audit", "backend/wrong")
+AUDIT_PARTS = ("guest/audit", "../tests/mutants/wrong_device")
 FLAGS = ("-std=c11", "-O2", "-Wall", "-Wextra", "-Werror")
 
-# What a wrong device gets in its hands (monitor/backend/wrong.c), and by their programs what a wrong backend and a wrong
-# host do (monitor/backend/wrong_backend.c, monitor/host/wrong.c).
+# What a wrong device gets in its hands (monitor/tests/mutants/wrong_device.c), and by their programs what a wrong backend and a wrong
+# host do (wrong_backend.c, wrong_host.c).
 AUDIT_WRAPPED = ("vb_begin", "vb_ask", "vb_go_on", "poll")
-WRONG_PARTS = {"vhost_user_balloon": ("backend/wrong_backend",), "vhost_user_host": ("host/wrong",)}
+WRONG_PARTS = {"vhost_user_balloon": ("../tests/mutants/wrong_backend",), "vhost_user_host": ("../tests/mutants/wrong_host",)}
 WRONG_WRAPPED = {
     "vhost_user_balloon": (
         "event_signal", "ring_end", "message_answer", "message_wants_answer", "message_tell", "memory_remove", "rings_forget",
@@ -67,7 +69,7 @@ def demand(condition, words):
 def core_of(reference=False):
     """Returns the file that decides: the proved library, or the plain implementation."""
     if reference or os.environ.get("REFERENCE"):
-        return os.path.join(MONITOR, "reference.c")
+        return REFERENCE
     path = os.environ.get("VB_LIB", LIBRARY)
     if not os.path.exists(path):
         where = os.path.relpath(path, ROOT)
@@ -80,13 +82,13 @@ def build(folder, core, name="vhost_user_balloon", audited=False, wrong=False, f
     device, or one that is wrong on purpose."""
     program = os.path.join(folder, name)
     names = (name, *CLIENT_PARTS[name], *PARTS, *(AUDIT_PARTS if audited else ()), *(WRONG_PARTS[name] if wrong else ()))
-    parts = [os.path.join(MONITOR, f"{it}.c") for it in names]
+    parts = [os.path.join(MONITOR, "backends", f"{it}.c") for it in names]
     wrapped = (*(AUDIT_WRAPPED if audited else ()), *(WRONG_WRAPPED[name] if wrong else ()))
-    words = [need("cc", "gcc libc6-dev"), *FLAGS, *flags, "-I", MONITOR, "-I", HEADERS, "-o", program, *parts, core]
+    words = [need("cc", "gcc libc6-dev"), *FLAGS, *flags, "-I", SHIM, "-I", HEADERS, "-o", program, *parts, core]
     words += [*(["-DBALLOON_AUDIT"] if audited else []), *(f"-Wl,--wrap={it}" for it in wrapped)]
     ran = subprocess.run(words, capture_output=True, text=True)
     if ran.returncode != 0:
-        raise Fault(f"{core} and monitor/*.c don't build:\n{ran.stderr.strip()}")
+        raise Fault(f"{core} and monitor/backends don't build:\n{ran.stderr.strip()}")
     return program
 
 
@@ -99,7 +101,7 @@ def archive_entry(name, mode, data, number):
 
 def make_initramfs(folder, busybox, modules):
     """Writes the guest's first files, all of them, and returns the archive's path."""
-    sources = {"init": os.path.join(MONITOR, "guest", "init"), "bin/busybox": busybox}
+    sources = {"init": os.path.join(MONITOR, "tests/guest/init"), "bin/busybox": busybox}
     sources |= {os.path.basename(it): it for it in modules}
     if "virtio_balloon.ko" not in sources:
         raise Fault("the kernel's package has no virtio_balloon.ko")

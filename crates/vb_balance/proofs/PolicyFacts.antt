@@ -1,6 +1,6 @@
 -- Worked facts of what guests can spare, of levels, and of targets that still serve.
 use Rattle.std.proofs.Common.{◌≡◌, ℕ, ◌+◌, ◌≤◌, List, [], ◌∷◌, map, refl, arith}
-use Rattle.vb_model.specs.Balance.{Need, spare_of}
+use Rattle.vb_virtio.specs.Targets.{Need, spare_of}
 use Rattle.vb_balance.{specs.Levels.{spared_from, IsLevel}, specs.Serving.StillServe}
 
 -- two guests of 64 pages that can spare so many

@@ -1,7 +1,7 @@
 //! What guests have, can spare and lack together, and the level above which each gives all it can.
 
 ghost use Rattle.std.specs.Prelude.{◌≡◌, ℕ, ◌+◌, ◌*◌, ◌<◌, ◌≤◌, length};
-ghost use Rattle.vb_model.specs.Balance.{missing, spare_at};
+ghost use Rattle.vb_virtio.specs.Targets.{missing, spare_at};
 ghost use Rattle.vb_balance.specs.Levels.{spare_from, spared_from, IsLevel};
 
 use crate::GuestNeed;

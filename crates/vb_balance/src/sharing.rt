@@ -2,7 +2,7 @@
 
 ghost use Rattle.std.specs.Prelude.{◌≡◌, ℕ, ◌*◌, ◌<◌, ◌≤◌, List, length, min};
 ghost use Rattle.std.specs.Prelude.{MatchOption, MatchResult};
-ghost use Rattle.vb_model.specs.Balance.{Need, AreTargets, missing, shortage};
+ghost use Rattle.vb_virtio.specs.Targets.{Need, AreTargets, missing, shortage};
 ghost use Rattle.vb_balance.specs.Levels.{spared_from, AreGiven};
 ghost use Rattle.vb_balance.specs.Sharing.{SharesInto};
 
@@ -10,7 +10,7 @@ use crate::levels::{level_for, missing, spared, spared_above};
 use crate::need::GUESTS;
 use crate::{GuestNeed, NoTargets, Short, Targets};
 use arrayvec::ArrayVec;
-use vb_model::limits::MAX_GUESTS;
+use vb_virtio::limits::MAX_GUESTS;
 
 /// What a guest gives that can spare so much: all of it above the level, nothing below, and at the
 /// level no more than is left.

@@ -3,7 +3,7 @@ use Rattle.std.proofs.Common.{◌≡◌, ℕ, zero, suc, ◌/◌, ◌%◌, ◌<�
 use Rattle.std.proofs.Common.{◌∷◌, ◌++◌, Some, None, arith, length, refl, replicate}
 use Rattle.std.proofs.lemmas.List.{get_or-replicate, get_or_append_left, length-replicate}
 use Rattle.std.specs.Prelude.{slice_index, count_by, ◌↔◌}
-use Rattle.vb_model.specs.Tests.{has_bit}
+use Rattle.vb_virtio.specs.Tests.{has_bit}
 use Rattle.vb_bits.proofs.Words.{cleared, zero_bit}
 use Rattle.vb_bits.specs.Sets.{has, HasNoneFrom, IsLeastFrom, IsNextInWord, HasNoneIn}
 use Rattle.vb_bits.specs.{Words.{IsLowestFrom, AreWordsOf}, Levels.{HasSummary, IsSummed}}

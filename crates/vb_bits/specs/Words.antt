@@ -2,7 +2,7 @@
 use Rattle.std.specs.Prelude.{◌≡◌, ℕ, ◌+◌, ◌*◌, ◌/◌, ◌%◌, ◌<◌, ◌≤◌, Bool, true, false, List, length}
 use Rattle.std.specs.Prelude.{map, slice_index}
 use Rattle.std.specs.List.{range_with_len}
-use Rattle.vb_model.specs.Tests.{has_bit}
+use Rattle.vb_virtio.specs.Tests.{has_bit}
 use Rattle.vb_bits.specs.declared.word.TheConstants.{WORD_BITS}
 
 -- whether the number's bit is 1: bit b of word w stands for 64 w + b

@@ -2,7 +2,7 @@
 
 ghost use Rattle.std.specs.Prelude.{◌≡◌, ℕ, ◌+◌, ◌*◌, ◌/◌, ◌<◌, ◌≤◌, ◌↔◌, true, false, []};
 ghost use Rattle.std.specs.Prelude.{length, replicate, slice_index, slice_set, IfOk};
-ghost use Rattle.vb_model.specs.Tests.{has_bit};
+ghost use Rattle.vb_virtio.specs.Tests.{has_bit};
 ghost use Rattle.vb_bits.specs.Sets.{has, HasNoneIn, IsNextInWord};
 
 use crate::word::{WORD_BITS, is_one, low_ones, lowest_from, with_bit};

@@ -3,7 +3,7 @@
 ghost use Rattle.std.specs.Prelude.{◌≡◌, ◌==◌, ℕ, ◌+◌, ◌*◌, ◌<◌, ◌≤◌, true, false, [], List, Bool};
 ghost use Rattle.std.specs.Prelude.{length, not, replicate, count_by, slice_index, slice_set, IfOk};
 ghost use Rattle.std.specs.Option.{ForSome};
-ghost use Rattle.vb_model.specs.Tests.{has_bit};
+ghost use Rattle.vb_virtio.specs.Tests.{has_bit};
 ghost use Rattle.vb_bits.specs.Levels.{HasSummary};
 ghost use Rattle.vb_bits.specs.Sets.{has, IsFirstFrom};
 

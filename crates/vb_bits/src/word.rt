@@ -1,7 +1,7 @@
 //! The bits of one word.
 
 ghost use Rattle.std.specs.Prelude.{◌≡◌, ◌≢◌, ℕ, ◌<◌, ◌≤◌, true, false, MatchOption, nat_lt};
-ghost use Rattle.vb_model.specs.Tests.{has_bit};
+ghost use Rattle.vb_virtio.specs.Tests.{has_bit};
 ghost use Rattle.vb_bits.specs.Words.{IsLowestFrom, in_words};
 
 /// Bits of a word, so many numbers stand in one.

@@ -4,7 +4,7 @@ ghost use Rattle.std.specs.Prelude.{◌≡◌, ◌<◌, [], ◌∷◌, ◌++◌,
 ghost use Rattle.vb_chain.specs.declared.pieces.TheConstants.{MAX_DESCRIPTORS};
 
 use std::marker::Model;
-use vb_model::limits;
+use vb_virtio::limits;
 
 /// The descriptors that a table, and so a chain, has at most (profile).
 pub const MAX_DESCRIPTORS: usize = limits::MAX_QUEUE_SIZE as usize;

@@ -9,8 +9,8 @@ ghost use Rattle.vb_chain.specs.Rules.{first_fault};
 ghost use Rattle.vb_chain.specs.Chain.{ChainGives, FaultGives};
 
 use crate::{Chain, ChainFault, Descriptor, Piece, read_descriptor};
-use vb_model::limits;
 use vb_ram::GuestBytes;
+use vb_virtio::limits;
 
 /// The first rule that a descriptor breaks, after `visited` others, in a table of `size`
 /// descriptors and memory that ends at `end`; `writing` says that one that the device writes came

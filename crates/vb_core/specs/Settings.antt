@@ -1,10 +1,10 @@
 -- What a monitor settles for a device.
 use Rattle.std.specs.Prelude.{ℕ, ◌/◌, Bool, true, false, not, ◌==◌, ◌&&◌, nat_le, nat_lt, bit_and}
 use Rattle.std.specs.Prelude.{bit_or}
-use Rattle.vb_model.specs.declared.negotiation.TheConstants.{OFFERED_FEATURES}
-use Rattle.vb_model.specs.Limits.{page_size}
-use Rattle.vb_model.specs.Guest.{version_1}
-use Rattle.vb_model.specs.Status.{contains}
+use Rattle.vb_virtio.specs.declared.negotiation.TheConstants.{OFFERED_FEATURES}
+use Rattle.vb_virtio.specs.Limits.{page_size}
+use Rattle.vb_virtio.specs.Features.{version_1}
+use Rattle.vb_virtio.specs.Status.{contains}
 use Rattle.vb_core.specs.declared.kinds.Kind.{Kind}
 use Rattle.vb_core.specs.declared.kinds.Kind.TheVariants.{Inflate, Deflate, Statistics, Report}
 use Rattle.vb_core.specs.declared.settings.Settings.{Settings}

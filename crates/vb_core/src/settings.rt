@@ -6,9 +6,9 @@ ghost use Rattle.vb_core.specs.Settings.{page_poison, without_poison, holds};
 
 use crate::Kind;
 use bitflags::Flags;
-use vb_model::limits::PAGE_SIZE;
-use vb_model::negotiation::OFFERED_FEATURES;
 use vb_status::Features;
+use vb_virtio::limits::PAGE_SIZE;
+use vb_virtio::negotiation::OFFERED_FEATURES;
 
 /// Guest memory ends before this address, so that 32 bits number its pages.
 pub const MEMORY_LIMIT: u64 = 1 << 44;

@@ -1,7 +1,7 @@
 -- What calls leave of a device, worked out.
 use Rattle.std.proofs.Common.{◌≡◌, ◌↔◌, ℕ, true, false, List, [], ◌∷◌, map, refl, arith, ap}
 use Rattle.std.specs.Prelude.{Some, None, length}
-use Rattle.vb_model.specs.Requests.{Request}
+use Rattle.vb_virtio.specs.Queues.{Request}
 use Rattle.vb_ram.{specs.Pages.{Page, Pages}, specs.Part.{Part, QueuePart, no_part, no_queue}}
 use Rattle.vb_device.specs.declared.claimed.Claimed.TheVariants.{AskHost, NoFrame}
 use Rattle.vb_device.specs.Calls.{taking, settled, using, without_frames, lost_frames, next_visit}

@@ -8,9 +8,11 @@ use Rattle.std.proofs.lemmas.List.{get_or_past, ext_get_or, Folds.list_any-appen
 use Rattle.std.proofs.lemmas.List.{append_assoc, length-replicate, FromFn.map-range_with_len_more}
 use Rattle.std.proofs.Common.{sym, ◌∙◌, ap, arith, get_or, take, eq-eqb, inl, inr, subst, add-one}
 use Rattle.std.proofs.lemmas.{Bool.{eqb-true, cases_eq, cases_lt}, Grind.flat_map-append}
-use Rattle.{std.specs.List.range_with_len, vb_model.proofs.Tables.{length-each_from, each_page-get}}
+use Rattle.vb_virtio.proofs.Tables.{length-each_from, each_page-get}
+use Rattle.vb_virtio.specs.Tests.{is_in, one_if}
+use Rattle.vb_virtio.proofs.Ranges.{is_in-range, outside-range}
+use Rattle.std.specs.List.{range_with_len}
 use Rattle.{std.proofs.Math.ListN.{set, length-set}, vb_ram.specs.Pages.{Pages, page_at, Discarded}}
-use Rattle.vb_model.{specs.Tests.{is_in, one_if}, proofs.PageSteps.{is_in-range, outside-range}}
 use Rattle.{vb_ram.specs.Pages.{Page, frame_at, number_of}, vb_request.proofs.Once.each_once_push}
 use Rattle.{vb_request.specs.Request.each_once, vb_device.specs.Discards.{discarded, frames_behind}}
 

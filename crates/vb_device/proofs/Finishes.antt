@@ -1,10 +1,13 @@
 -- A finish by a device, from the end of its queue.
 use Rattle.std.{specs.Prelude.{◌≡◌, remove, OnSome, slice_get, All}, proofs.lemmas.Bool.cases_eq}
 use Rattle.std.specs.Prelude.{ℕ, ◌+◌, ◌%◌, ◌<◌, Bool, List, [], length, Option, Some, None, refl}
-use Rattle.{std.specs.Prelude.{◌≤◌, true}, vb_model.specs.{Requests.Request, Tables.has_chains}}
+use Rattle.vb_virtio.specs.Queues.{Request, has_chains}
+use Rattle.vb_virtio.specs.declared.statistics.LastStatistics.{LastStatistics}
+use Rattle.vb_virtio.specs.Layout.{reserved_pages, ring_page}
+use Rattle.vb_virtio.specs.Status.{contains, driver_ok}
+use Rattle.std.specs.Prelude.{◌≤◌, true}
 use Rattle.std.proofs.{Common.{sym, ◌∙◌, ap, arith, rules}, Math.ListN.set}
-use Rattle.vb_model.specs.{Device.next_page, declared.replies.LastStatistics.LastStatistics}
-use Rattle.vb_model.specs.{Layout.{reserved_pages, ring_page}, Status.{contains, driver_ok}}
+use Rattle.vb_model.specs.Device.{next_page}
 use Rattle.vb_ram.specs.{Pages.{Page, Pages, page_at}, Part.QueuePart}
 use Rattle.vb_ring.specs.{declared.layout.Layout.Layout, Ends.DeviceEnd, Calls.AddsUsedBy}
 use Rattle.{vb_ring.specs.Layout.{layout_of, IsBacked}, vb_request.specs.Refusals.readiness_refusal}

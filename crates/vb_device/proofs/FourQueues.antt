@@ -1,10 +1,14 @@
 -- The four queues of a device, of which one is changed, or all.
 use Rattle.std.specs.Prelude.{◌≡◌, ℕ, ◌<◌, ◌≤◌, Bool, true, false, List, [], ◌∷◌, length, map, refl}
-use Rattle.{std.proofs.Common.◌∙◌, vb_model.proofs.Queues.queue_cases, vb_ring.specs.Layout.IsSize}
+use Rattle.vb_virtio.proofs.Queues.{queue_cases}
+use Rattle.vb_virtio.specs.declared.statistics.LastStatistics.{LastStatistics}
+use Rattle.vb_virtio.specs.Status.{contains, driver_ok}
+use Rattle.vb_virtio.specs.Queues.{has_chains, is_queue_of_requests}
+use Rattle.std.proofs.Common.{◌∙◌}
+use Rattle.vb_ring.specs.Layout.{IsSize}
 use Rattle.std.proofs.{Common.{arith, get_or}, lemmas.List.length-map, Math.ListN.{set, length-set}}
 use Rattle.{vb_ram.specs.Pages.Page, vb_device.specs.QueueState.{QueueState, new_queue, restarted}}
-use Rattle.{vb_ram.specs.Pages.Pages, vb_model.specs.declared.replies.LastStatistics.LastStatistics}
-use Rattle.vb_model.specs.{Status.{contains, driver_ok}, Tables.{has_chains, is_queue_of_requests}}
+use Rattle.vb_ram.specs.Pages.{Pages}
 use Rattle.vb_device.specs.{Queues.{queue_part, with_queue}, Base.{queue_at, IsDeviceQueue}}
 use Rattle.vb_device.specs.{QueueState.part_of, Base.{index_of, new_queues, base_part, IsBase}}
 

@@ -2,24 +2,22 @@
 use Rattle.std.specs.Prelude.{◌≡◌, ℕ, ◌+◌, ◌%◌, ◌<◌, ◌==◌, true, not, List, [], ◌∷◌, ◌++◌}
 use Rattle.std.specs.Prelude.{remove, if◌then◌else◌, Option, Some, None, IsSome, is_some, Bool}
 use Rattle.std.specs.Prelude.{Result, Ok, Err}
-use Rattle.vb_model.specs.declared.layout.TheConstants.{INFLATE_QUEUE, STATISTICS_QUEUE}
-use Rattle.vb_model.specs.declared.layout.TheConstants.{REPORT_QUEUE}
-use Rattle.vb_model.specs.declared.replies.Refusal.{Refusal}
-use Rattle.vb_model.specs.declared.replies.Refusal.TheVariants.{NoQueue}
-use Rattle.vb_model.specs.Status.{contains, driver_ok}
-use Rattle.vb_model.specs.Requests.{Request}
+use Rattle.vb_virtio.specs.declared.layout.TheConstants.{INFLATE_QUEUE, STATISTICS_QUEUE}
+use Rattle.vb_virtio.specs.declared.layout.TheConstants.{REPORT_QUEUE}
+use Rattle.vb_virtio.specs.declared.refusals.Refusal.{Refusal}
+use Rattle.vb_virtio.specs.declared.refusals.Refusal.TheVariants.{NoQueue}
+use Rattle.vb_virtio.specs.Status.{contains, driver_ok, work_causes}
+use Rattle.vb_virtio.specs.Queues.{Request, has_chains, is_queue_of_requests}
+use Rattle.vb_virtio.specs.FirstRefusal.{◌⇒◌, first_refusal}
 use Rattle.vb_model.specs.Device.{visiting, next_page}
 use Rattle.vb_device.specs.declared.worked.Worked.{Worked}
-pub use Rattle.vb_model.specs.FirstRefusal.{refusal_in}
-use Rattle.vb_model.specs.FirstRefusal.{◌⇒◌, first_refusal}
-use Rattle.vb_model.specs.Tables.{has_chains, is_queue_of_requests}
-use Rattle.vb_model.specs.Tables.{work_causes}
+pub use Rattle.vb_virtio.specs.FirstRefusal.{refusal_in}
 use Rattle.vb_ram.specs.Pages.{Pages, frame_at}
 use Rattle.vb_ram.specs.Part.{Part}
 use Rattle.vb_ring.specs.Layout.{IsBacked}
 use Rattle.vb_ring.specs.Calls.{AddsUsedBy}
 use Rattle.vb_device.specs.Queues.{queue_part, with_queue, queue_layout, queue_end}
-use Rattle.vb_device.specs.Conditions.{finish_refusal, ask_refusal, taken_at}
+use Rattle.vb_device.specs.Conditions.{use_refusal, ask_refusal, taken_at}
 use Rattle.vb_device.specs.Discards.{discarded, frames_behind, flagged}
 use Rattle.vb_device.specs.Calls.{without_frames, lost_frames, settled}
 
@@ -78,12 +76,13 @@ taken_out q index pages mem part =
     (record part { loose = with_lost q mem pages part.loose })
 
 -- All of a finish but for the used entry: the request is taken out, its pages are flagged, and
--- nothing is written.
-pub record SettlesBy (q index : ℕ) (m1 m2 : Pages) (p1 p2 : Part)
+-- nothing is written. Its pages are to be visited first, or aren't.
+pub record SettlesBy (visits : Bool) (q index : ℕ) (m1 m2 : Pages) (p1 p2 : Part)
     (result : Result ℕ Refusal) : Type 0 where
-  pub refused : (why : Refusal) → finish_refusal q index p1 ≡ Some why →
+  pub refused : (why : Refusal) → use_refusal visits q index p1 ≡ Some why →
       (result ≡ Err why) × (p2 ≡ p1) × (m2 ≡ m1)
-  pub settled : (r : Request) → finish_refusal q index p1 ≡ None → taken_at q index p1 ≡ Some r →
+  pub settled : (r : Request) → use_refusal visits q index p1 ≡ None →
+      taken_at q index p1 ≡ Some r →
       (result ≡ Ok r.head) × (m2 ≡ without_frames q r.pages m1) ×
       (p2 ≡ settled q r.pages (taken_out q index r.pages m1 p1))
 

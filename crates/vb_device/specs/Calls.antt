@@ -10,4 +10,5 @@ pub use Rattle.vb_device.specs.Takes.{IsNextRequest, TakeMeans, TakesBy}
 pub use Rattle.vb_device.specs.Visits.{next_visit, Visits, WorksBy, SweepsBy}
 pub use Rattle.vb_device.specs.Finishes.{without_frames, lost_frames, settled, using, Uses}
 pub use Rattle.vb_device.specs.Finishes.{FinishesBy, AsksBy}
+pub use Rattle.vb_device.specs.Serves.{UsesFirst, FollowsTake, ServesBy}
 pub use Rattle.vb_device.specs.OwnFrames.{Claims, IsAnswered, PutsBack}

@@ -2,8 +2,8 @@
 use Rattle.std.specs.Prelude.{ℕ, List, None}
 use Rattle.std.specs.Option.{option_to_list}
 use Rattle.std.specs.List.{flat_map}
-use Rattle.vb_model.specs.Tests.{marked}
-pub use Rattle.vb_model.specs.Tests.{flagged}
+use Rattle.vb_virtio.specs.Tests.{marked}
+pub use Rattle.vb_virtio.specs.Tests.{flagged}
 use Rattle.vb_ram.specs.Pages.{Pages, frame_at}
 
 -- These pages have no frame any more, and all others are as before.

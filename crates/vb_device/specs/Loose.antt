@@ -1,7 +1,7 @@
 -- Frames that were taken from pages, in any order, and how they go to who keeps them.
 use Rattle.std.specs.Prelude.{◌≡◌, ℕ, ◌+◌, ◌≤◌, true, false, List, [], ◌∷◌, length}
 use Rattle.std.specs.Prelude.{Option, Some, None}
-use Rattle.vb_model.specs.Tests.{times, one_if}
+use Rattle.vb_virtio.specs.Tests.{times, one_if}
 use Rattle.vb_ram.specs.Pages.{Page}
 use Rattle.vb_ram.specs.Part.{Part}
 use Rattle.vb_device.specs.Own.{has}

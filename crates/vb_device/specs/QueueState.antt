@@ -2,16 +2,15 @@
 use Rattle.std.specs.Prelude.{◌≡◌, ℕ, ◌+◌, ◌*◌, ◌%◌, ◌<◌, ◌≤◌, Bool, true, false, nat_le, List, []}
 use Rattle.std.specs.Prelude.{◌∷◌, ◌++◌, All, length, Option, Some, None, Result, Ok, Err, bit_or}
 use Rattle.std.specs.Prelude.{is_none, ◌&&◌}
-use Rattle.vb_model.specs.declared.replies.Refusal.{Refusal}
-use Rattle.vb_model.specs.declared.replies.Refusal.TheVariants.{Busy, Broken}
-use Rattle.vb_model.specs.declared.replies.Refusal.TheVariants.{NotTaken, NotWorked}
-use Rattle.vb_model.specs.FirstRefusal.{◌⇒◌, first_refusal}
+use Rattle.vb_virtio.specs.declared.refusals.Refusal.{Refusal}
+use Rattle.vb_virtio.specs.declared.refusals.Refusal.TheVariants.{Busy, Broken, NotTaken, NotWorked}
+use Rattle.vb_virtio.specs.FirstRefusal.{◌⇒◌, first_refusal}
+use Rattle.vb_virtio.specs.Status.{needs_reset}
+use Rattle.vb_virtio.specs.Queues.{Request}
+use Rattle.vb_virtio.specs.declared.statistics.LastStatistics.{LastStatistics}
+use Rattle.vb_virtio.specs.Limits.{page_size}
+use Rattle.vb_virtio.specs.Layout.{reserved_pages, ring_page}
 use Rattle.vb_model.specs.Tables.{has_unvisited, most_taken}
-use Rattle.vb_model.specs.Status.{needs_reset}
-use Rattle.vb_model.specs.Requests.{Request}
-use Rattle.vb_model.specs.declared.replies.LastStatistics.{LastStatistics}
-use Rattle.vb_model.specs.Limits.{page_size}
-use Rattle.vb_model.specs.Layout.{reserved_pages, ring_page}
 use Rattle.vb_ram.specs.Pages.{Pages}
 use Rattle.vb_ram.specs.Part.{QueuePart}
 use Rattle.vb_chain.specs.declared.fault.ChainFault.{ChainFault}

@@ -1,9 +1,9 @@
 -- A device's queues by their numbers: VIRTIO 1.1, 2.6 and 5.5.2; where their rings stand, and queue
 -- 4, are the profile's.
 use Rattle.std.specs.Prelude.{ℕ, true, ◌==◌, if◌then◌else◌, Option, Result}
-use Rattle.vb_model.specs.declared.layout.TheConstants.{INFLATE_QUEUE, DEFLATE_QUEUE}
-use Rattle.vb_model.specs.declared.layout.TheConstants.{STATISTICS_QUEUE}
-use Rattle.vb_model.specs.Layout.{ring_page}
+use Rattle.vb_virtio.specs.declared.layout.TheConstants.{INFLATE_QUEUE, DEFLATE_QUEUE}
+use Rattle.vb_virtio.specs.declared.layout.TheConstants.{STATISTICS_QUEUE}
+use Rattle.vb_virtio.specs.Layout.{ring_page}
 use Rattle.vb_ram.specs.Pages.{Pages}
 use Rattle.vb_ram.specs.Part.{Part, QueuePart}
 use Rattle.vb_chain.specs.declared.fault.ChainFault.{ChainFault}

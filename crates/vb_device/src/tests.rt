@@ -10,6 +10,7 @@ mod paced;
 mod random_rings;
 mod requests;
 mod second_reading;
+mod serving;
 mod statistics_and_reports;
 mod untold;
 
@@ -17,9 +18,9 @@ use crate::{BalloonDevice, Claimed, Device, Pace, Statistics, Worked};
 use bitflags::Flags;
 use std::alloc::Global;
 use std::process::Abort;
-use vb_model::Refusal;
 use vb_ram::{Config, Frame, GuestBytes, Shape};
 use vb_status::{Features, Port, Status};
+use vb_virtio::Refusal;
 
 /// What a host and a driver do with a device.
 #[derive(Clone, Copy)]
@@ -48,6 +49,8 @@ enum Step {
     /// The chain of a queue that was taken as this number is finished. No frame may be loose
     /// before.
     Finish(u32, u32),
+    /// The next chain of a queue is served. No frame may be loose before.
+    Serve(u32),
     /// A frame of this number is put behind a page.
     Supply(u32, u32),
     HandBack,
@@ -182,7 +185,8 @@ impl<P: Pace> Host<P> {
         if self.device.hand_back().is_some() || !self.device.has_ring(0) {
             return Answer::Is(false);
         }
-        match self.device.settle(0, 0) {
+        let visits = self.device.paced();
+        match self.device.settle(0, 0, visits) {
             Ok(head) => Answer::Head(Some(head)),
             Err(refusal) => Answer::Refused(refusal),
         }
@@ -194,6 +198,17 @@ impl<P: Pace> Host<P> {
         }
         match self.device.finish(queue, index) {
             Ok(head) => Answer::Head(Some(head)),
+            Err(refusal) => Answer::Refused(refusal),
+        }
+    }
+
+    fn serve(&mut self, queue: u32) -> Answer {
+        if self.device.hand_back().is_some() || !self.device.has_ring(queue) {
+            return Answer::Is(false);
+        }
+        match self.device.serve(queue) {
+            Ok(head) => Answer::Head(head),
+            Err(Refusal::Broken { rule }) => Answer::Broken(rule),
             Err(refusal) => Answer::Refused(refusal),
         }
     }
@@ -340,6 +355,7 @@ impl<P: Pace> Host<P> {
             Step::WorkBare(first, end) => done(self.work_bare(*first, *end)),
             Step::Settle => self.settle(),
             Step::Finish(queue, index) => self.finish(*queue, *index),
+            Step::Serve(queue) => self.serve(*queue),
             Step::Supply(page, number) => done(supply(&mut self.device, alloc, *page, *number)),
             Step::HandBack => self.hand_back(),
             Step::Sweep(page) => self.sweep(*page),

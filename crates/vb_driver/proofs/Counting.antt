@@ -4,7 +4,8 @@ use Rattle.std.proofs.Common.{length, get_or, set, count_by, eq-eqb, refl, not, 
 use Rattle.std.proofs.{Common.{false, zero, suc, replicate, map}, lemmas.List.Sums.sum_by-set}
 use Rattle.std.proofs.lemmas.List.{Sums.get_or-le-sum_by, length-replicate, get_or-set_same}
 use Rattle.std.proofs.lemmas.{List.{get_or-set_other, length-set}, Bool.{cases_eq, ne_eqb}}
-use Rattle.vb_model.{proofs.Tables.count_by-cons, specs.Pages.{is_lent, is_stranded}}
+use Rattle.vb_virtio.proofs.Tables.{count_by-cons}
+use Rattle.vb_model.specs.Pages.{is_lent, is_stranded}
 use Rattle.vb_model.specs.declared.places.Place.{Place, TheVariants.Reserved}
 use Rattle.vb_driver.{specs.Places.{number_of, is_at, AreCounts, IsTable}, proofs.Marking.none_of}
 

@@ -4,8 +4,8 @@ use Rattle.{std.specs.Prelude.{Some, None, replicate}, vb_ring.specs.declared.la
 use Rattle.vb_model.specs.{declared.places.PlaceCounts.PlaceCounts, Pages.block_at}
 use Rattle.vb_model.specs.declared.places.Place.TheVariants.{Reserved, Free, Used, Giving}
 use Rattle.vb_model.specs.declared.places.Place.TheVariants.{Lent, Taking, Stranded, Reporting}
-use Rattle.vb_model.specs.declared.replies.Refusal.TheVariants.{BadOrder, NotHeld, NotReady}
-use Rattle.vb_model.specs.declared.replies.Refusal.TheVariants.{BadCpu, NoPages, RingBroken}
+use Rattle.vb_virtio.specs.declared.refusals.Refusal.TheVariants.{BadOrder, NotHeld, NotReady}
+use Rattle.vb_virtio.specs.declared.refusals.Refusal.TheVariants.{BadCpu, NoPages, RingBroken}
 use Rattle.{vb_ram.specs.Part.no_part, vb_driver.specs.Requests.{numbers_extent, stranded_first}}
 use Rattle.vb_driver.specs.{State.{IsQueue, given_away, figures_of, pages_named}, Places.is_at}
 use Rattle.vb_driver.specs.State.{room, fresh_side, AreRequests, DriverState, fresh_driver}

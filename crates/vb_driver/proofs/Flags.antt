@@ -5,9 +5,10 @@ use Rattle.std.proofs.Common.{◌∷◌, ◌++◌, length, take, get_or, map, co
 use Rattle.std.proofs.lemmas.List.{same_lists, get_or_past, length-set, length-map, get_or-map}
 use Rattle.std.proofs.lemmas.List.{take_more, Sums.sum_by-take-le, FromFn.get_or-map-range_with_len}
 use Rattle.std.proofs.lemmas.{List.FromFn.length-map-range_with_len, Bool.false_from_ne_true}
-use Rattle.vb_model.specs.{Orderly.times, Pages.{Block, covers, pages_of, is_free, all_free}}
-use Rattle.vb_model.specs.{Tests.{is_in, one_if}, declared.places.Place.TheVariants.Reserved}
-use Rattle.vb_model.proofs.Tables.{each_page-get, count_by-cons, count_by-append}
+use Rattle.vb_virtio.specs.Tests.{times, is_in, one_if}
+use Rattle.vb_virtio.proofs.Tables.{each_page-get, count_by-cons, count_by-append}
+use Rattle.vb_model.specs.Pages.{Block, covers, pages_of, is_free, all_free}
+use Rattle.vb_model.specs.declared.places.Place.TheVariants.{Reserved}
 use Rattle.{vb_model.proofs.PageSteps.covers_is, vb_pages.proofs.ListsLemmas.{one_if_le, times_in}}
 use Rattle.vb_pages.proofs.{ListsLemmas.times_out, AreasLemmas.{length-unreserved, has-unreserved}}
 use Rattle.vb_pages.proofs.{Sets.length-with_pages, FreeLemmas.flat-replicate}

@@ -3,11 +3,11 @@
 use Rattle.std.specs.Prelude.{◌≡◌, ◌≢◌, ℕ, ◌+◌, ◌*◌, ◌<◌, Bool, true, false, List, length}
 use Rattle.std.specs.Prelude.{slice_index}
 use Rattle.std.specs.List.{range_with_len}
-use Rattle.vb_model.specs.Limits.{page_size, max_outstanding}
-use Rattle.vb_model.specs.Layout.{buffer_page, buffer_offset}
-use Rattle.vb_model.specs.declared.layout.TheConstants.{REQUEST_BUFFER_SIZE}
-use Rattle.vb_model.specs.declared.layout.TheConstants.{STATISTICS_PAGE, STATISTIC_SIZE}
-use Rattle.vb_model.specs.declared.layout.TheConstants.{FREE_MEMORY_TAG, TOTAL_MEMORY_TAG}
+use Rattle.vb_virtio.specs.Limits.{page_size, max_outstanding}
+use Rattle.vb_virtio.specs.Layout.{buffer_page, buffer_offset}
+use Rattle.vb_virtio.specs.declared.layout.TheConstants.{REQUEST_BUFFER_SIZE, STATISTICS_PAGE}
+use Rattle.vb_virtio.specs.declared.layout.TheConstants.{STATISTIC_SIZE, FREE_MEMORY_TAG}
+use Rattle.vb_virtio.specs.declared.layout.TheConstants.{TOTAL_MEMORY_TAG}
 use Rattle.vb_model.specs.Pages.{Block}
 use Rattle.vb_model.specs.Requests.{Figures}
 use Rattle.vb_ram.specs.Pages.{Pages, field, byte_at, page_at, frame_at, contents_at, SameIn}

@@ -2,12 +2,12 @@
 use Rattle.std.specs.Prelude.{true, false, ◌≡◌, ℕ, nat_lt, if◌then◌else◌}
 use Rattle.std.specs.Prelude.{Bool, List, length, ◌+◌, ◌*◌, ◌<◌, ◌≤◌, slice_index, count_by, map}
 use Rattle.std.specs.Int.{div_ceil}
-pub use Rattle.vb_model.specs.Tests.{marked}
+pub use Rattle.vb_virtio.specs.Tests.{marked}
 use Rattle.vb_model.specs.Pages.{is_free, is_used, is_giving, is_lent, is_taking, is_stranded}
 use Rattle.vb_model.specs.Pages.{is_reporting, place_of}
-use Rattle.vb_model.specs.Tests.{has_bit}
+use Rattle.vb_virtio.specs.Tests.{has_bit}
+use Rattle.vb_virtio.specs.declared.limits.TheConstants.{MAX_GUEST_PAGES}
 use Rattle.vb_model.specs.declared.places.Place.{Place}
-use Rattle.vb_model.specs.declared.limits.TheConstants.{MAX_GUEST_PAGES}
 use Rattle.vb_bits.specs.declared.word.TheConstants.{WORD_BITS}
 use Rattle.vb_model.specs.declared.places.Place.TheVariants.{Reserved, Free, Used, Giving, Lent}
 use Rattle.vb_model.specs.declared.places.Place.TheVariants.{Taking, Stranded, Reporting}

@@ -3,14 +3,15 @@ use Rattle.std.specs.Prelude.{◌≡◌, ℕ, ◌<◌, ◌==◌, List, [], lengt
 use Rattle.std.specs.Prelude.{None, Result, Ok, IfOk, IfErr, OnErr, OnOk, MatchOption, slice_set}
 use Rattle.std.specs.Prelude.{bit_or}
 use Rattle.vb_model.specs.declared.places.Place.{Place}
-use Rattle.vb_model.specs.declared.layout.TheConstants.{INFLATE_QUEUE, DEFLATE_QUEUE}
-use Rattle.vb_model.specs.declared.replies.Refusal.{Refusal}
-use Rattle.vb_model.specs.declared.replies.Refusal.TheVariants.{RingBroken}
+use Rattle.vb_virtio.specs.declared.layout.TheConstants.{INFLATE_QUEUE, DEFLATE_QUEUE}
+use Rattle.vb_virtio.specs.declared.refusals.Refusal.{Refusal}
+use Rattle.vb_virtio.specs.declared.refusals.Refusal.TheVariants.{RingBroken}
+use Rattle.vb_virtio.specs.Queues.{Inflating, Deflating, Reporting_free}
+use Rattle.vb_virtio.specs.Limits.{max_outstanding}
+use Rattle.vb_virtio.specs.Status.{failed}
+use Rattle.vb_virtio.specs.FirstRefusal.{first_refusal}
 use Rattle.vb_model.specs.Pages.{pages_of_all}
-use Rattle.vb_model.specs.Requests.{Inflating, Deflating, Reporting_free, places_reaped}
-use Rattle.vb_model.specs.Limits.{max_outstanding}
-use Rattle.vb_model.specs.Status.{failed}
-use Rattle.vb_model.specs.Refusals.{first_refusal}
+use Rattle.vb_model.specs.Requests.{places_reaped}
 use Rattle.vb_ram.specs.Pages.{Pages}
 use Rattle.vb_ram.specs.Part.{Part}
 use Rattle.vb_pages.specs.FreePages.{FreePages}

@@ -4,17 +4,17 @@ use Rattle.std.specs.Prelude.{if◌then◌else◌, Some, Result, Ok, IfOk, IfErr
 use Rattle.std.specs.Prelude.{slice_set}
 use Rattle.std.specs.List.{list_all}
 use Rattle.vb_model.specs.declared.places.Place.TheVariants.{Giving, Reporting}
-use Rattle.vb_model.specs.declared.layout.TheConstants.{STATISTICS_PAGE, STATISTIC_SIZE}
-use Rattle.vb_model.specs.declared.replies.Refusal.{Refusal}
-use Rattle.vb_model.specs.declared.replies.Refusal.TheVariants.{Nothing}
-use Rattle.vb_model.specs.Tests.{pages_where}
+use Rattle.vb_virtio.specs.declared.layout.TheConstants.{STATISTICS_PAGE, STATISTIC_SIZE}
+use Rattle.vb_virtio.specs.declared.refusals.Refusal.{Refusal}
+use Rattle.vb_virtio.specs.declared.refusals.Refusal.TheVariants.{Nothing}
+use Rattle.vb_virtio.specs.Tests.{pages_where, AllDistinct}
+use Rattle.vb_virtio.specs.Queues.{Deflating}
+use Rattle.vb_virtio.specs.Limits.{max_outstanding}
+use Rattle.vb_virtio.specs.Layout.{buffers_page, buffer_page, buffer_offset}
+use Rattle.vb_virtio.specs.FirstRefusal.{first_refusal}
 use Rattle.vb_model.specs.Pages.{Block, is_free, is_lent, is_stranded, place_of, placed}
 use Rattle.vb_model.specs.Pages.{pages_of_all}
-use Rattle.vb_model.specs.Requests.{Deflating, place_posted}
-use Rattle.vb_model.specs.Driver.{AllDistinct}
-use Rattle.vb_model.specs.Limits.{max_outstanding}
-use Rattle.vb_model.specs.Layout.{buffers_page, buffer_page, buffer_offset}
-use Rattle.vb_model.specs.Refusals.{first_refusal}
+use Rattle.vb_model.specs.Requests.{place_posted}
 use Rattle.vb_ram.specs.Pages.{Pages, field}
 use Rattle.vb_ram.specs.Part.{Part}
 use Rattle.vb_pages.specs.FreePages.{FreePages, drained}

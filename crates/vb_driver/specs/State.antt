@@ -5,17 +5,16 @@ use Rattle.std.specs.Prelude.{length, sum_by, count_by, replicate, slice_index_o
 use Rattle.std.specs.Prelude.{if◌then◌else◌}
 use Rattle.vb_model.specs.declared.places.Place.{Place}
 use Rattle.vb_model.specs.declared.places.Place.TheVariants.{Reserved, Used}
-use Rattle.vb_model.specs.declared.layout.TheConstants.{STATISTICS_QUEUE, REPORT_QUEUE}
-use Rattle.vb_model.specs.Limits.{max_outstanding, max_request_pages, max_order, page_size}
-use Rattle.vb_model.specs.declared.limits.TheConstants.{MIN_GUEST_PAGES, MAX_GUEST_PAGES}
+use Rattle.vb_virtio.specs.declared.layout.TheConstants.{STATISTICS_QUEUE, REPORT_QUEUE}
+use Rattle.vb_virtio.specs.Limits.{max_outstanding, max_request_pages, max_order, page_size}
+use Rattle.vb_virtio.specs.declared.limits.TheConstants.{MIN_GUEST_PAGES, MAX_GUEST_PAGES}
+use Rattle.vb_virtio.specs.Features.{must_tell_host}
+use Rattle.vb_virtio.specs.Layout.{reserved_pages, ring_page}
+use Rattle.vb_virtio.specs.Tests.{one_if, times}
 use Rattle.vb_model.specs.Pages.{Block, place_of, all_free, is_free, is_giving, is_lent, is_taking}
 use Rattle.vb_model.specs.Pages.{is_stranded, is_reporting, is_aligned, pages_of_all}
 use Rattle.vb_model.specs.Requests.{Figures}
 use Rattle.vb_model.specs.Tables.{most_requests}
-use Rattle.vb_model.specs.Guest.{must_tell_host}
-use Rattle.vb_model.specs.Layout.{reserved_pages, ring_page}
-use Rattle.vb_model.specs.Tests.{one_if}
-use Rattle.vb_model.specs.Orderly.{times}
 use Rattle.vb_ring.specs.Layout.{IsSize, layout_of}
 use Rattle.vb_ring.specs.Entries.{is_head}
 use Rattle.vb_ring.specs.Ends.{DriverEnd, fresh_end, is_unused}

@@ -4,16 +4,17 @@ ghost use Rattle.std.specs.Prelude.{◌≡◌, ◌<◌, ◌≤◌, ◌∷◌, []
 ghost use Rattle.std.specs.Prelude.{OnOk, OnErr, IsTrue, length, not, nat_lt, nat_le};
 ghost use Rattle.std.specs.Prelude.{count_by, slice_set, if◌then◌else◌, map, All, List};
 ghost use Rattle.std.specs.List.{list_all};
-ghost use Rattle.vb_model.specs.Tests.{is_in, pages_where};
+ghost use Rattle.vb_virtio.specs.Tests.{is_in, pages_where};
 ghost use Rattle.vb_model.specs.declared.places.Place.{Place};
 ghost use Rattle.vb_model.specs.Pages.{pages_of, pages_of_all, place_of, is_free, is_reporting};
 ghost use Rattle.vb_model.specs.Pages.{reported, maximal_free_blocks};
-ghost use Rattle.vb_model.specs.Driver.{AllDistinct, with_block, without_block};
-ghost use Rattle.vb_model.specs.Limits.{max_order, max_outstanding, max_request_pages};
-ghost use Rattle.vb_model.specs.Orderly.{times};
-ghost use Rattle.vb_model.specs.Refusals.{◌⇒◌, first_refusal};
-ghost use Rattle.vb_model.specs.declared.replies.Refusal.TheVariants.{BadOrder, BadCpu, NoPages};
-ghost use Rattle.vb_model.specs.declared.replies.Refusal.TheVariants.{NotHeld};
+ghost use Rattle.vb_virtio.specs.Tests.{AllDistinct};
+ghost use Rattle.vb_model.specs.Driver.{with_block, without_block};
+ghost use Rattle.vb_virtio.specs.Limits.{max_order, max_outstanding, max_request_pages};
+ghost use Rattle.vb_virtio.specs.Tests.{times};
+ghost use Rattle.vb_virtio.specs.FirstRefusal.{◌⇒◌, first_refusal};
+ghost use Rattle.vb_virtio.specs.declared.refusals.Refusal.TheVariants.{BadOrder, BadCpu, NoPages};
+ghost use Rattle.vb_virtio.specs.declared.refusals.Refusal.TheVariants.{NotHeld};
 ghost use Rattle.vb_pages.specs.PageState.{IsGuestSize, cpu_count, page_count, is_held_block};
 ghost use Rattle.vb_pages.specs.PageState.{new_page_state, reserved_count};
 ghost use Rattle.vb_pages.specs.PageState.{freed, with_free_block};
@@ -30,9 +31,10 @@ use crate::places::{PlaceTable, is_reporting};
 use crate::queue::RequestPages;
 use std::alloc::{AllocError, Global};
 use std::marker::Model;
-use vb_model::{Place, Refusal};
+use vb_model::Place;
 use vb_pages::{FreeBlock, PageFault, Pages};
 use vb_report::{Blocks, reports_name_free_places};
+use vb_virtio::Refusal;
 
 /// The page areas of a guest, with the lists of the processors and the blocks that allocations
 /// hold. What the driver needs beside them is which pages are free, wherever they stand.

@@ -1,8 +1,8 @@
 //! The balloon driver, and the pages of the guest's own.
 
 ghost use Rattle.std.specs.Prelude.{◌≡◌, ◌<◌, ◌≤◌, true, length, IfOk};
-ghost use Rattle.vb_model.specs.declared.limits.TheConstants.{MAX_GUEST_PAGES};
-ghost use Rattle.vb_model.specs.Limits.{is_config};
+ghost use Rattle.vb_virtio.specs.declared.limits.TheConstants.{MAX_GUEST_PAGES};
+ghost use Rattle.vb_virtio.specs.Limits.{is_config};
 ghost use Rattle.vb_model.specs.Pages.{all_free, place_of, is_used};
 ghost use Rattle.vb_pages.specs.PageState.{IsGuestSize, new_page_state};
 ghost use Rattle.vb_ring.specs.Layout.{IsSize};
@@ -19,10 +19,11 @@ use arrayvec::ArrayVec;
 use bitflags::Flags;
 use std::alloc::{AllocError, Global};
 use std::marker::Model;
-use vb_model::layout::{DEFLATE_QUEUE, INFLATE_QUEUE};
-use vb_model::{Place, PlaceCounts, Refusal};
+use vb_model::{Place, PlaceCounts};
 use vb_ram::{Config, Shape};
 use vb_status::Features;
+use vb_virtio::Refusal;
+use vb_virtio::layout::{DEFLATE_QUEUE, INFLATE_QUEUE};
 
 /// The balloon driver of a guest (VIRTIO 1.1, 5.5.6).
 #[derive(Drop)]

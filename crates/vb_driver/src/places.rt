@@ -10,7 +10,7 @@ ghost use Rattle.vb_bits.specs.Sets.{has};
 ghost use Rattle.vb_model.specs.Pages.{all_free, place_of};
 ghost use Rattle.vb_model.specs.declared.places.Place.TheVariants.{Taking};
 ghost use Rattle.vb_model.specs.Pages.{is_lent, is_stranded, is_reporting};
-ghost use Rattle.vb_model.specs.declared.limits.TheConstants.{MAX_GUEST_PAGES};
+ghost use Rattle.vb_virtio.specs.declared.limits.TheConstants.{MAX_GUEST_PAGES};
 ghost use Rattle.vb_model.specs.Life.{place_after_reset};
 ghost use Rattle.vb_driver.specs.Places.{number_of, is_at};
 

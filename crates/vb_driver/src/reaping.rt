@@ -2,11 +2,11 @@
 
 ghost use Rattle.std.specs.Prelude.{◌≡◌, ◌<◌, ◌∷◌, [], not, bit_or};
 ghost use Rattle.std.specs.Prelude.{Ok, Err, None, Some, IfOk, IfErr, OnOk, OnErr, MatchOption};
-ghost use Rattle.vb_model.specs.Limits.{max_outstanding};
-ghost use Rattle.vb_model.specs.Status.{failed};
-ghost use Rattle.vb_model.specs.Refusals.{◌⇒◌, first_refusal};
-ghost use Rattle.vb_model.specs.declared.replies.Refusal.TheVariants.{NotReady, NoFeature};
-ghost use Rattle.vb_model.specs.declared.replies.Refusal.TheVariants.{RingBroken};
+ghost use Rattle.vb_virtio.specs.Limits.{max_outstanding};
+ghost use Rattle.vb_virtio.specs.Status.{failed};
+ghost use Rattle.vb_virtio.specs.FirstRefusal.{◌⇒◌, first_refusal};
+ghost use Rattle.vb_virtio.specs.declared.refusals.Refusal.TheVariants.{NotReady, NoFeature};
+ghost use Rattle.vb_virtio.specs.declared.refusals.Refusal.TheVariants.{RingBroken};
 ghost use Rattle.vb_ring.specs.Layout.{IsInside};
 ghost use Rattle.vb_ring.specs.Ends.{after_take, used_answer};
 ghost use Rattle.vb_ring.specs.Calls.{TakesUsedBy};
@@ -21,10 +21,11 @@ use crate::reports::ReportQueue;
 use crate::requests::is_up;
 use crate::{Driver, Reaped};
 use bitflags::Flags;
-use vb_model::layout::{DEFLATE_QUEUE, INFLATE_QUEUE, REPORT_QUEUE};
-use vb_model::{Place, Refusal};
+use vb_model::Place;
 use vb_report::Blocks;
 use vb_status::{Port, Status};
+use vb_virtio::Refusal;
+use vb_virtio::layout::{DEFLATE_QUEUE, INFLATE_QUEUE, REPORT_QUEUE};
 
 /// Tells the device that its driver has given up.
 pub(crate) fn give_up<P: Port>(port: &mut P)

@@ -4,13 +4,13 @@ ghost use Rattle.std.specs.Prelude.{◌≡◌, ◌<◌, ◌≤◌, ◌+◌, ◌=
 ghost use Rattle.std.specs.Prelude.{not, true, false, Ok};
 ghost use Rattle.std.specs.Prelude.{Err, OnOk};
 ghost use Rattle.std.specs.Prelude.{min};
-ghost use Rattle.vb_model.specs.Limits.{max_request_pages};
+ghost use Rattle.vb_virtio.specs.Limits.{max_request_pages};
 ghost use Rattle.vb_ring.specs.Ends.{outstanding};
 ghost use Rattle.vb_driver.specs.State.{room, stranded_count, free_count, lent_count, tells_host};
-ghost use Rattle.vb_model.specs.Refusals.{◌⇒◌, first_refusal};
-ghost use Rattle.vb_model.specs.declared.replies.Refusal.TheVariants.{NotReady, NoFeature};
-ghost use Rattle.vb_model.specs.declared.replies.Refusal.TheVariants.{QueueFull, DeflatePending};
-ghost use Rattle.vb_model.specs.declared.replies.Refusal.TheVariants.{Nothing};
+ghost use Rattle.vb_virtio.specs.FirstRefusal.{◌⇒◌, first_refusal};
+ghost use Rattle.vb_virtio.specs.declared.refusals.Refusal.TheVariants.{NotReady, NoFeature};
+ghost use Rattle.vb_virtio.specs.declared.refusals.Refusal.TheVariants.{QueueFull, DeflatePending};
+ghost use Rattle.vb_virtio.specs.declared.refusals.Refusal.TheVariants.{Nothing};
 ghost use Rattle.vb_driver.specs.Answers.{HaveRingFrames, IsLargeEnough, is_up, inflate_count};
 ghost use Rattle.vb_driver.specs.Answers.{deflate_count, oom_count, refusal_in};
 ghost use Rattle.vb_driver.specs.Calls.{Offers, AsksBack, InflatesBy, DeflatesBy, DeflatesOnOomBy};
@@ -18,9 +18,10 @@ ghost use Rattle.vb_driver.specs.Calls.{Offers, AsksBack, InflatesBy, DeflatesBy
 use crate::queue::{RequestQueue, append};
 use crate::{Driver, Posted};
 use bitflags::Flags;
-use vb_model::limits::{MAX_OUTSTANDING, MAX_REQUEST_PAGES};
-use vb_model::{Place, Refusal};
+use vb_model::Place;
 use vb_status::{Port, Status};
+use vb_virtio::Refusal;
+use vb_virtio::limits::{MAX_OUTSTANDING, MAX_REQUEST_PAGES};
 
 /// Whether the device is initialised, and neither it nor its driver has failed.
 pub(crate) fn is_up<P: Port>(port: &P) -> bool

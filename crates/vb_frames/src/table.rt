@@ -10,8 +10,8 @@ use crate::{FrameKeeper, Refused};
 use std::alloc::{AllocError, Global};
 use std::marker::Model;
 use vb_bits::BitSet;
-use vb_model::limits::MAX_FRAMES;
 use vb_ram::Frame;
+use vb_virtio::limits::MAX_FRAMES;
 
 /// The frames of a host, numbered from 0 on. A claim gives the least number that isn't out, which
 /// three words tell, however many frames there are.

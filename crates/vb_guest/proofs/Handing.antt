@@ -2,8 +2,11 @@
 use Rattle.std.specs.Prelude.{◌≡◌, ℕ, ◌<◌, ◌≤◌, ◌==◌, ◌||◌, Bool, true, false, List, [], ◌∷◌, All}
 use Rattle.std.specs.{Prelude.Option, Option.option_to_list, List.flat_map}
 use Rattle.std.proofs.{Common.{sym, ◌∙◌, ap, arith, inl, inr}, lemmas.List.Elements.All-tail}
-use Rattle.{std.proofs.lemmas.Bool.{eqb-true, cases_Bool}, vb_model.specs.Tests.is_in}
-use Rattle.{vb_model.specs.{Layout.ring_page, Guest.frame_of}, vb_ram.specs.Pages.{Pages, frame_at}}
+use Rattle.vb_virtio.specs.Tests.{is_in}
+use Rattle.vb_virtio.specs.Layout.{ring_page}
+use Rattle.std.proofs.lemmas.Bool.{eqb-true, cases_Bool}
+use Rattle.vb_model.specs.Guest.{frame_of}
+use Rattle.vb_ram.specs.Pages.{Pages, frame_at}
 use Rattle.{vb_ram.specs.Part.Part, vb_ring.specs.{declared.layout.Layout.Layout, Ends.DriverEnd}}
 use Rattle.vb_ring.specs.{Ends.DeviceEnd, Entries.next_entry, Layout.layout_of, Calls.AddsUsedBy}
 use Rattle.{vb_device.specs.Discards.frames_behind, vb_guest.proofs.PagesKept.SamePages}

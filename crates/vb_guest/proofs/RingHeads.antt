@@ -4,7 +4,9 @@ use Rattle.std.specs.Prelude.{length, Some, None, slice_get, slice_index_or, rem
 use Rattle.std.proofs.Common.{◌∙◌, ap, arith, length-append, eq-eqb}
 use Rattle.std.proofs.lemmas.List.{length-map, map-append, Sums.sum_by-remove}
 use Rattle.std.proofs.lemmas.Option.{get_or_from_slice_get, slice_get_within}
-use Rattle.{vb_model.{specs.Tests.one_if, proofs.Distinct.times-append}, vb_ram.specs.Pages.Pages}
+use Rattle.vb_virtio.specs.Tests.{one_if}
+use Rattle.vb_virtio.proofs.Distinct.{times-append}
+use Rattle.vb_ram.specs.Pages.{Pages}
 use Rattle.vb_ring.specs.{Entries.is_head, Ends.{DriverEnd, outstanding}}
 use Rattle.{vb_ring.specs.Meaning.{UsedElem, ids, times}, vb_guest.specs.Ring.{RingStands, used_of}}
 

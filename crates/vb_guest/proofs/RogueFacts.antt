@@ -3,7 +3,8 @@ use Rattle.std.proofs.Common.{◌≡◌, ◌↔◌, ℕ, ◌<◌, ◌≤◌, tru
 use Rattle.std.specs.Prelude.{Some, Bool, IsSome, All, length}
 use Rattle.std.proofs.lemmas.List.Elements.{All-cons, All-nil}
 use Rattle.vb_model.specs.Guest.{Guest, frame_of, is_ballooned}
-use Rattle.vb_model.specs.{Layout.is_start_page, Tests.one_if}
+use Rattle.vb_virtio.specs.Layout.{is_start_page}
+use Rattle.vb_virtio.specs.Tests.{one_if}
 use Rattle.vb_ram.specs.{Pages.{Pages, frame_at}, Part.{Part, no_part}}
 use Rattle.{vb_device.specs.Own.has, vb_driver.specs.State.DriverState}
 use Rattle.vb_guest.{specs.Steps.backing_count, specs.Stands.{Honest, OwnFrames, IsOwnRequest}}

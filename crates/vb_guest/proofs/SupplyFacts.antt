@@ -2,9 +2,11 @@
 use Rattle.std.proofs.Common.{◌≡◌, ℕ, ◌+◌, true, false, List, [], ◌∷◌, map, refl, arith}
 use Rattle.std.specs.Prelude.{Bool, Some, None, Ok, Err, length}
 use Rattle.vb_model.specs.declared.{calls.Claim.{Claim}, calls.Call.TheVariants.Work}
-use Rattle.vb_model.specs.{declared.replies.Reply.{Reply}, Rogue.GuestStep, Tests.one_if}
+use Rattle.vb_virtio.specs.Tests.{one_if}
+use Rattle.vb_virtio.specs.declared.refusals.Refusal.TheVariants.{NotReady, NoMemory}
+use Rattle.vb_model.specs.declared.replies.Reply.{Reply}
+use Rattle.vb_model.specs.Rogue.{GuestStep}
 use Rattle.vb_model.specs.declared.calls.Claim.TheVariants.{Gave, GaveNoFrame, GaveNoMemory}
-use Rattle.vb_model.specs.declared.replies.Refusal.TheVariants.{NotReady, NoMemory}
 use Rattle.vb_model.specs.declared.replies.Reply.TheVariants.{Ready, Page, ReadBytes, Posted, Filled, NotUsed}
 use Rattle.vb_model.specs.declared.replies.Reply.TheVariants.{Reaped, Taken, Empty, Worked, Idle, Finished}
 use Rattle.vb_model.specs.declared.replies.Reply.TheVariants.{Swept, Asked, Done, Pages, Refused, Statistics}

@@ -2,8 +2,9 @@
 use Rattle.std.{proofs.Common.{sym, ◌∙◌, ap, subst, arith, eq-eqb}, specs.List.range_with_len}
 use Rattle.std.specs.Prelude.{◌≡◌, ℕ, zero, suc, ◌+◌, ◌<◌, ◌≤◌, ◌==◌, ◌||◌, Bool, true, false, not}
 use Rattle.std.specs.Prelude.{List, [], ◌∷◌, length, Option, None, IsSome, filter, count_by, refl}
-use Rattle.vb_model.specs.Driver.{given, claim_refusal, AreClaimsFor, AllDistinct}
-use Rattle.vb_model.specs.{Guest.{backed, all_backed}, Orderly.times, Tests.{is_in, each_from}}
+use Rattle.vb_virtio.specs.Tests.{AllDistinct, times, is_in, each_from}
+use Rattle.vb_model.specs.Driver.{given, claim_refusal, AreClaimsFor}
+use Rattle.vb_model.specs.Guest.{backed, all_backed}
 use Rattle.vb_model.specs.declared.calls.Claim.{Claim, TheVariants.{Gave, GaveNoFrame}}
 use Rattle.{vb_model.specs.declared.calls.Claim.TheVariants.GaveNoMemory, vb_ram.specs.Pages.Pages}
 use Rattle.{vb_ram.specs.Pages.{page_at, frame_at, Supplied}, vb_guest.proofs.Moving.times_first}

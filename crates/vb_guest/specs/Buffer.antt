@@ -1,9 +1,10 @@
 -- What the driver, the device and guest memory say together of the one statistics buffer (VIRTIO
 -- 1.1, 5.5.6.3).
 use Rattle.std.specs.Prelude.{◌≡◌, ℕ, List, [], ◌∷◌, ⊤}
-use Rattle.vb_model.specs.declared.layout.TheConstants.{STATISTICS_QUEUE}
-use Rattle.vb_model.specs.Layout.{ring_page}
-use Rattle.vb_model.specs.Requests.{Request, StatisticsBuffer, BufferPosted, BufferTaken}
+use Rattle.vb_virtio.specs.declared.layout.TheConstants.{STATISTICS_QUEUE}
+use Rattle.vb_virtio.specs.Layout.{ring_page}
+use Rattle.vb_virtio.specs.Queues.{Request}
+use Rattle.vb_model.specs.Requests.{StatisticsBuffer, BufferPosted, BufferTaken}
 use Rattle.vb_model.specs.Requests.{BufferDone}
 use Rattle.vb_ram.specs.Pages.{Pages}
 use Rattle.vb_ram.specs.Part.{QueuePart}

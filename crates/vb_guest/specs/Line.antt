@@ -1,9 +1,10 @@
 -- What the driver, the device and guest memory say together of a queue of requests.
 use Rattle.std.specs.Prelude.{◌≡◌, ℕ, ◌<◌, ◌≤◌, List, All, length, map, slice_index_or, []}
-use Rattle.vb_model.specs.Limits.{max_outstanding, max_request_pages}
-use Rattle.vb_model.specs.Layout.{reserved_pages, ring_page, buffers_page}
-use Rattle.vb_model.specs.Requests.{Request, Requests}
-use Rattle.vb_model.specs.Driver.{AllDistinct}
+use Rattle.vb_virtio.specs.Limits.{max_outstanding, max_request_pages}
+use Rattle.vb_virtio.specs.Layout.{reserved_pages, ring_page, buffers_page}
+use Rattle.vb_virtio.specs.Queues.{Request}
+use Rattle.vb_virtio.specs.Tests.{AllDistinct}
+use Rattle.vb_model.specs.Requests.{Requests}
 use Rattle.vb_ram.specs.Pages.{Pages}
 use Rattle.vb_ram.specs.Part.{QueuePart}
 use Rattle.vb_ring.specs.Ends.{DriverEnd}

@@ -11,7 +11,7 @@ use Rattle.vb_ram.specs.Pages.{Pages}
 use Rattle.vb_ram.specs.Part.{Part}
 use Rattle.vb_driver.specs.State.{DriverState}
 use Rattle.vb_guest.specs.Stands.{Stands}
-use Rattle.vb_guest.specs.Steps.{AreOut, Restarts, StepsAlone, StepsOver}
+use Rattle.vb_guest.specs.Steps.{AreOut, Reaches, Restarts, StepsAlone, StepsOver}
 use Rattle.vb_guest.specs.Supply.{Supply, supply_of}
 
 -- Memory, the device's part, the driver and the frames' supply at one moment.
@@ -52,6 +52,12 @@ abbrev pub EachSteps : (List Bool → Claim → Type 0) → Moment → Moment �
 EachSteps Answers a b claims call reply =
     (keeps : Bool) (g : Guest) → Stands keeps a.mem a.part a.driver g
     → StepsOver (Stands keeps b.mem b.part b.driver) Answers a.supply b.supply claims g call reply
+
+-- From whatever guest they stand for, this leads to another one, which they stand for after it.
+abbrev pub EachReaches : Moment → Moment → (Guest → Guest → Type 0) → Type 0
+EachReaches a b Step =
+    (keeps : Bool) (g : Guest) → Stands keeps a.mem a.part a.driver g
+    → Reaches (Stands keeps b.mem b.part b.driver) (Step g) a.supply b.supply g
 
 -- The same of a step that claims nothing, and of which no frame enters or leaves a page.
 abbrev pub EachStepsAlone : Pages → Pages → Part → Part → DriverState → DriverState → Call → Reply

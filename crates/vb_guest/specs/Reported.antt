@@ -1,10 +1,11 @@
 -- What the driver, the device and guest memory say together of the queue of reports (profile).
 use Rattle.std.specs.Prelude.{◌≡◌, ℕ, ⊤, ◌+◌, ◌<◌, ◌≤◌, List, All, length}
-use Rattle.vb_model.specs.declared.layout.TheConstants.{REPORT_QUEUE}
-use Rattle.vb_model.specs.Limits.{max_outstanding, max_order}
-use Rattle.vb_model.specs.Layout.{reserved_pages, ring_page}
+use Rattle.vb_virtio.specs.declared.layout.TheConstants.{REPORT_QUEUE}
+use Rattle.vb_virtio.specs.Limits.{max_outstanding, max_order}
+use Rattle.vb_virtio.specs.Layout.{reserved_pages, ring_page}
+use Rattle.vb_virtio.specs.Queues.{Request}
 use Rattle.vb_model.specs.Pages.{Block, size, pages_of_all}
-use Rattle.vb_model.specs.Requests.{Request, Requests}
+use Rattle.vb_model.specs.Requests.{Requests}
 use Rattle.vb_ram.specs.Pages.{Pages}
 use Rattle.vb_ram.specs.Part.{QueuePart}
 use Rattle.vb_driver.specs.Coding.{AreReported}

@@ -1,16 +1,18 @@
 -- What ties a driver, a device's part and guest memory to a guest of the model.
 use Rattle.std.specs.Prelude.{◌≡◌, ℕ, ◌<◌, ◌≤◌, Bool, false, true, List, Option, [], length}
 use Rattle.std.specs.Prelude.{replicate, slice_index_or, IsSome, ◌⊎◌, All}
-use Rattle.vb_model.specs.declared.negotiation.TheConstants.{FAILED_STATUS, READY_STATUS}
-use Rattle.vb_model.specs.Limits.{is_config, page_size}
-use Rattle.vb_model.specs.Layout.{reserved_pages, is_start_page}
+use Rattle.vb_virtio.specs.declared.negotiation.TheConstants.{FAILED_STATUS, READY_STATUS}
+use Rattle.vb_virtio.specs.Limits.{is_config, page_size}
+use Rattle.vb_virtio.specs.Layout.{reserved_pages, is_start_page}
+use Rattle.vb_virtio.specs.Tests.{one_if}
+use Rattle.vb_virtio.specs.Status.{contains, driver_ok}
+use Rattle.vb_virtio.specs.Queues.{Request}
+use Rattle.vb_virtio.specs.declared.statistics.LastStatistics.{LastStatistics}
+use Rattle.vb_virtio.specs.Statistics.{no_statistics}
 use Rattle.vb_model.specs.declared.places.Place.{Place}
-use Rattle.vb_model.specs.Tests.{one_if}
 use Rattle.vb_model.specs.Pages.{Block}
-use Rattle.vb_model.specs.Status.{contains, driver_ok}
-use Rattle.vb_model.specs.Requests.{Request, no_requests, NoBuffer}
-use Rattle.vb_model.specs.declared.replies.LastStatistics.{LastStatistics}
-use Rattle.vb_model.specs.Guest.{Guest, Config, no_statistics, frame_of}
+use Rattle.vb_model.specs.Requests.{no_requests, NoBuffer}
+use Rattle.vb_model.specs.Guest.{Guest, Config, frame_of}
 use Rattle.vb_model.specs.Guest.{is_ballooned}
 use Rattle.vb_model.specs.Consistent.{IsConsistent}
 use Rattle.vb_model.specs.Orderly.{IsOrderly}

@@ -4,9 +4,8 @@ use Rattle.std.specs.Prelude.{◌≡◌, ℕ, ◌+◌, ◌≤◌, Bool, true, fa
 use Rattle.std.specs.Prelude.{if◌then◌else◌, slice_set, ⊤}
 use Rattle.vb_model.specs.declared.calls.Claim.{Claim}
 use Rattle.vb_model.specs.declared.calls.Claim.TheVariants.{Gave, GaveNoFrame, GaveNoMemory}
-use Rattle.vb_model.specs.Tests.{one_if}
+use Rattle.vb_virtio.specs.Tests.{one_if, times}
 use Rattle.vb_model.specs.Driver.{given}
-use Rattle.vb_model.specs.Orderly.{times}
 use Rattle.vb_ram.specs.Part.{Part}
 use Rattle.vb_device.specs.Own.{has}
 use Rattle.vb_frames.specs.Out.{is_out, IsFree}

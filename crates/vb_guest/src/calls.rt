@@ -12,9 +12,10 @@ use crate::memory::{read, scribble, write};
 use crate::queries::{balloon, pages_at, pages_ballooned, places, statistics};
 use crate::replies::{
     asked_reply, balloon_reply, bytes_reply, done_reply, filled_reply, finished_reply, page_reply,
-    posted_reply, ready_reply, reaped_reply, runs_reply, statistics_reply, swept_reply,
-    taken_reply, worked_reply,
+    posted_reply, ready_reply, reaped_reply, runs_reply, served_reply, statistics_reply,
+    swept_reply, taken_reply, worked_reply,
 };
+use crate::serving::serve;
 use std::alloc::Global;
 use vb_device::Device;
 use vb_driver::Driver;
@@ -66,6 +67,7 @@ pub fn call<D: Device, K: FrameKeeper>(
         Call::Take { queue } => taken_reply(take(device, *queue)),
         Call::Work => worked_reply(work(device, keeper)),
         Call::Finish { queue, index } => finished_reply(finish(device, keeper, *queue, *index)),
+        Call::Serve { queue } => served_reply(serve(device, keeper, *queue)),
         Call::Sweep { page } => swept_reply(sweep(device, keeper, *page)),
         Call::Ask => asked_reply(ask(device)),
         Call::Reset => {

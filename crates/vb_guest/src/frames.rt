@@ -2,8 +2,8 @@
 //! and go back to where they came from.
 
 ghost use Rattle.std.specs.Prelude.{◌≡◌, ◌<◌, ◌++◌, ◌∷◌, false, true, [], length, IfOk};
-ghost use Rattle.vb_model.specs.Guest.{zero_page};
-ghost use Rattle.vb_model.specs.Orderly.{times};
+ghost use Rattle.vb_virtio.specs.Memory.{zero_page};
+ghost use Rattle.vb_virtio.specs.Tests.{times};
 ghost use Rattle.vb_frames.specs.Out.{claim_in};
 ghost use Rattle.vb_guest.specs.Supply.{supply_of, is_used, IsClaimed, Moves, nothing, AreLoose};
 

@@ -15,8 +15,9 @@ use std::alloc::{AllocError, Global};
 use vb_device::Device;
 use vb_driver::Driver;
 use vb_frames::{FrameKeeper, Refused};
-use vb_model::{Bytes, Call, Refusal};
+use vb_model::{Bytes, Call};
 use vb_ram::{Frame, PAGE_SIZE, RamFault};
+use vb_virtio::Refusal;
 
 /// Puts a frame behind a page that has none.
 pub(crate) fn supply<D: Device>(device: &mut D, page: u32, frame: Frame)

@@ -3,9 +3,9 @@
 ghost use Rattle.std.specs.Prelude.{◌≡◌, ◌≤◌, ℕ, List, [], ◌∷◌, ◌++◌, length, count_by};
 ghost use Rattle.std.specs.Prelude.{IfOk, OnOk};
 ghost use Rattle.vb_model.specs.Balance.{spare};
-ghost use Rattle.vb_model.specs.Tests.{pages_where};
+ghost use Rattle.vb_virtio.specs.Tests.{pages_where};
 ghost use Rattle.vb_model.specs.Queries.{is_place, runs};
-ghost use Rattle.vb_model.specs.declared.limits.TheConstants.{MAX_GUEST_PAGES};
+ghost use Rattle.vb_virtio.specs.declared.limits.TheConstants.{MAX_GUEST_PAGES};
 ghost use Rattle.vb_model.specs.declared.replies.Reply.TheVariants.{Places};
 ghost use Rattle.vb_ram.specs.Pages.{Pages};
 ghost use Rattle.vb_ram.specs.Part.{Part};
@@ -18,8 +18,8 @@ use bitflags::Flags;
 use std::alloc::{AllocError, Global};
 use vb_device::{Device, Statistics};
 use vb_driver::Driver;
-use vb_model::limits::PAGE_SIZE;
 use vb_model::{BalloonState, PageRun, PageRuns, Place, PlaceCounts, Query};
+use vb_virtio::limits::PAGE_SIZE;
 
 /// How many pages each place has.
 pub fn places(driver: &Driver) -> PlaceCounts

@@ -1,8 +1,9 @@
 -- Worked facts of what a balance answers: targets, or what stays missing.
 use Rattle.std.proofs.Common.{◌≡◌, ℕ, List, [], ◌∷◌, refl, arith}
-use Rattle.vb_model.specs.declared.replies.Refusal.TheVariants.{Short, NoFrame}
+use Rattle.vb_virtio.specs.declared.refusals.Refusal.TheVariants.{Short, NoFrame}
+use Rattle.vb_virtio.specs.Targets.{Need, AreTargets}
 use Rattle.vb_model.specs.declared.replies.Reply.TheVariants.{Done, Targets, Refused}
-use Rattle.vb_model.specs.Balance.{Need, AreTargets, IsAnswer}
+use Rattle.vb_model.specs.Balance.{IsAnswer}
 
 abbrev Same : ℕ → ℕ → Type 0
 Same a b = a ≡ b

@@ -6,9 +6,10 @@ use Rattle.vb_model.proofs.AskedTests.{IsAskedBack, IsSafe, Row, none_asked, non
 use Rattle.vb_model.proofs.{AskedTests.not_posted, SafeFacts.{made, posted, request_16, used}}
 use Rattle.vb_model.proofs.Samples.{NoneOf, down, page_16_at, ready, request, untold}
 use Rattle.vb_model.specs.Courses.{Course, DeflatePostedAt, ReapedAt, WasAskedBack, guest_after}
-use Rattle.vb_model.specs.{Courses.posts_deflate, Guest.{Guest, requests}, Requests.queue_of}
-use Rattle.vb_model.specs.{GuestRun.{Called, Entry}, declared.replies.Refusal.TheVariants.QueueFull}
-use Rattle.vb_model.specs.Requests.{Deflating, Inflating, Kind, Request, Requests, no_requests}
+use Rattle.vb_virtio.specs.Queues.{queue_of, Deflating, Inflating, Kind, Request}
+use Rattle.vb_virtio.specs.declared.refusals.Refusal.TheVariants.{QueueFull}
+use Rattle.vb_model.specs.{Courses.posts_deflate, Guest.{Guest, requests}, GuestRun.{Called, Entry}}
+use Rattle.vb_model.specs.Requests.{Requests, no_requests}
 use Rattle.vb_model.specs.declared.calls.Actor.{Actor, TheVariants.{Processor, Worker}}
 use Rattle.vb_model.specs.declared.calls.Call.{Call, TheVariants.{Reap, Report, Reset, Work}}
 use Rattle.vb_model.specs.declared.calls.Call.TheVariants.{Alloc, Deflate, Finish, Inflate, Oom}

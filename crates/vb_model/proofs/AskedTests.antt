@@ -8,8 +8,11 @@ use Rattle.vb_model.{proofs.{Blocks.any_in_range, Samples.{NoneOf, none_of}}, sp
 use Rattle.vb_model.specs.Courses.{BringsTo, DeflatePostedAt, ReapedAt, WasAskedBack, guest_after}
 use Rattle.vb_model.specs.{Courses.posts_deflate, Guest.{Guest, requests, tells_host}}
 use Rattle.vb_model.specs.{GuestRun.{Called, Entry}, Histories.IsSafeCourse, Pages.is_place}
-use Rattle.vb_model.specs.{Pages.place_of, Requests.{Deflating, Inflating, Kind, Request, queue_of}}
-use Rattle.vb_model.specs.{Tests.is_in, declared.{calls.Call.TheVariants.Reap, places.Place.Place}}
+use Rattle.vb_virtio.specs.Queues.{Deflating, Inflating, Kind, Request, queue_of}
+use Rattle.vb_virtio.specs.Tests.{is_in}
+use Rattle.vb_model.specs.Pages.{place_of}
+use Rattle.vb_model.specs.declared.calls.Call.TheVariants.{Reap}
+use Rattle.vb_model.specs.declared.places.Place.{Place}
 use Rattle.vb_model.specs.declared.places.Place.TheVariants.{Giving, Used}
 use Rattle.vb_model.specs.declared.replies.Reply.TheVariants.{Posted, Reaped}
 

@@ -2,8 +2,13 @@
 use Rattle.std.proofs.Common.{List, [], ap, arith, refl, replicate, subst, suc, zero, ℕ, ◌++◌, ◌<◌}
 use Rattle.std.proofs.Common.{◌∷◌, ◌≡◌}
 use Rattle.std.specs.Prelude.{None, Option, Some, drop, slice_index_or}
-use Rattle.vb_model.proofs.{Changes.{same_some}, Samples.{differ, down, ready}}
-use Rattle.vb_model.specs.{Guest.{Guest, frame_of, zero_page}, HostFrames.{Gives, IsOut}}
+use Rattle.vb_virtio.proofs.Differ.{differ}
+use Rattle.vb_virtio.specs.Memory.{zero_page}
+use Rattle.vb_virtio.specs.declared.refusals.Refusal.TheVariants.{NoFrame, NoMemory}
+use Rattle.vb_model.proofs.Changes.{same_some}
+use Rattle.vb_model.proofs.Samples.{down, ready}
+use Rattle.vb_model.specs.Guest.{Guest, frame_of}
+use Rattle.vb_model.specs.HostFrames.{Gives, IsOut}
 use Rattle.vb_model.specs.{HostEvents.{Happens, PlugsIn, WorldStep}, Step.{Does, HonestStep}}
 use Rattle.vb_model.specs.World.{World, guest_at}
 use Rattle.vb_model.specs.declared.calls.Call.TheVariants.{Ask, Finish, Reap, Work, Write}
@@ -12,7 +17,6 @@ use Rattle.vb_model.specs.declared.calls.Event.{Event, TheVariants.{Guest as OnG
 use Rattle.vb_model.specs.declared.calls.Event.TheVariants.{Query as OnQuery}
 use Rattle.vb_model.specs.declared.calls.Query.TheVariants.{Places}
 use Rattle.vb_model.specs.declared.places.Place.TheVariants.{Reserved, Used}
-use Rattle.vb_model.specs.declared.replies.Refusal.TheVariants.{NoFrame, NoMemory}
 use Rattle.vb_model.specs.declared.replies.Reply.{Reply, TheVariants.{Done, Refused}}
 
 -- ---- frames 0 and 2 are out, behind pages of guest 0; guest 1 writes to its page 16, which has none

@@ -2,16 +2,18 @@
 use Rattle.std.proofs.Common.{List, [], ap, arith, false, length, map, refl, replicate, subst, true}
 use Rattle.std.{proofs.Common.{ℕ, ◌++◌, ◌+◌, ◌∷◌, ◌≡◌}, specs.Prelude.{None, Option, Some}}
 use Rattle.vb_model.proofs.PostingFacts.{just_posted}
-use Rattle.vb_model.specs.Requests.{Deflating}
+use Rattle.vb_virtio.specs.Queues.{Deflating, Request}
+use Rattle.vb_virtio.specs.declared.refusals.Refusal.{Refusal}
+use Rattle.vb_virtio.specs.declared.refusals.Refusal.TheVariants.{NoFeature, NoQueue, NotReady}
+use Rattle.vb_virtio.specs.declared.refusals.Refusal.TheVariants.{Nothing, QueueFull}
 use Rattle.vb_model.proofs.Samples.{StepsJustSo, config, down, ready, request, without_oom}
 use Rattle.vb_model.specs.{Driver.AllFreePages, Guest.Guest, Refusals.deflate_count}
 use Rattle.vb_model.specs.Refusals.{inflate_count, oom_count, refusal_of, room}
-use Rattle.vb_model.specs.{Requests.{IsLeastHead, Request, Requests, no_requests}, Step.HonestStep}
+use Rattle.vb_model.specs.Requests.{IsLeastHead, Requests, no_requests}
+use Rattle.vb_model.specs.Step.{HonestStep}
 use Rattle.vb_model.specs.declared.calls.Call.{Call, TheVariants.{Deflate, Inflate, Oom, Reap}}
 use Rattle.vb_model.specs.declared.places.Place.{Place, TheVariants.{Free, Giving, Lent, Reporting}}
 use Rattle.vb_model.specs.declared.places.Place.TheVariants.{Reserved, Stranded, Taking}
-use Rattle.vb_model.specs.declared.replies.Refusal.{Refusal, TheVariants.{NoFeature, NoQueue}}
-use Rattle.vb_model.specs.declared.replies.Refusal.TheVariants.{NotReady, Nothing, QueueFull}
 use Rattle.vb_model.specs.declared.replies.Reply.TheVariants.{NotUsed, Posted, Reaped}
 
 -- ---- how many pages are moved

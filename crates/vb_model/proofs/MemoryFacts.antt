@@ -3,13 +3,16 @@ use Rattle.std.proofs.Common.{List, [], inl, inr, map, refl, replicate, ℕ, ◌
 use Rattle.std.specs.Prelude.{None, Option, Some, drop}
 use Rattle.vb_model.proofs.Samples.{StepsJustSo}
 use Rattle.vb_model.{proofs.Samples.{config, down, ready}, specs.{Driver.pages_needed, Guest.Guest}}
-use Rattle.vb_model.specs.{Guest.zero_page, Refusals.refusal_of, Step.HonestStep}
+use Rattle.vb_virtio.specs.Memory.{zero_page}
+use Rattle.vb_virtio.specs.declared.refusals.Refusal.{Refusal}
+use Rattle.vb_virtio.specs.declared.refusals.Refusal.TheVariants.{BadCpu, BadOrder, NoFrame}
+use Rattle.vb_virtio.specs.declared.refusals.Refusal.TheVariants.{NoMemory, NotHeld, OutOfRam}
+use Rattle.vb_model.specs.Refusals.{refusal_of}
+use Rattle.vb_model.specs.Step.{HonestStep}
 use Rattle.vb_model.specs.declared.calls.Call.{Call, TheVariants.{Alloc, Free, Read, Write}}
 use Rattle.vb_model.specs.declared.calls.Claim.TheVariants.{Gave, GaveNoFrame, GaveNoMemory}
 use Rattle.vb_model.specs.declared.places.Place.TheVariants.{Free as FreePlace, Lent, Reserved}
-use Rattle.vb_model.specs.declared.{places.Place.TheVariants.Used, replies.Refusal.Refusal}
-use Rattle.vb_model.specs.declared.replies.Refusal.TheVariants.{BadCpu, BadOrder, NoFrame, NoMemory}
-use Rattle.vb_model.specs.declared.replies.Refusal.TheVariants.{NotHeld, OutOfRam}
+use Rattle.vb_model.specs.declared.places.Place.TheVariants.{Used}
 use Rattle.vb_model.specs.declared.replies.Reply.{Reply, TheVariants.{Done, ReadBytes, Refused}}
 
 -- pages 16 to 18 are used; pages 16 and 17 have frames. A short list stands for the bytes of a page

@@ -2,12 +2,16 @@
 -- page twice, another number; and what an allocation hands out.
 use Rattle.std.proofs.Common.{List, [], ap, arith, false, refl, replicate, subst, sym, true, ℕ}
 use Rattle.std.proofs.Common.{◌++◌, ◌∷◌, ◌≡◌}
-use Rattle.vb_model.specs.{Driver.{with_block}, Pages.{block_at, pages_of}, Tests.{marked}}
+use Rattle.vb_virtio.specs.Tests.{marked, AllDistinct}
+use Rattle.vb_virtio.specs.Queues.{Deflating, Inflating, Kind, Reporting_free}
+use Rattle.vb_virtio.proofs.Differ.{differ}
+use Rattle.vb_model.specs.Driver.{with_block}
+use Rattle.vb_model.specs.Pages.{block_at, pages_of}
 use Rattle.vb_model.specs.declared.places.Place.TheVariants.{Free, Lent, Reserved, Stranded, Used}
-use Rattle.vb_model.specs.Driver.{AllDistinct, Allocates, Inflates, Posts, Reports, after_posting}
-use Rattle.vb_model.specs.Requests.{Deflating, Inflating, IsLeastHead, Kind, Reporting_free}
+use Rattle.vb_model.specs.Driver.{Allocates, Inflates, Posts, Reports, after_posting}
+use Rattle.vb_model.specs.Requests.{IsLeastHead}
 use Rattle.vb_model.{proofs.Agreeing.{least_same}, specs.Guest.{Guest, requests}}
-use Rattle.vb_model.proofs.Samples.{differ, ready, request}
+use Rattle.vb_model.proofs.Samples.{ready, request}
 use Rattle.vb_model.specs.Requests.{Requests, no_requests}
 use Rattle.vb_model.specs.declared.replies.Reply.{Reply, TheVariants.{Page, Posted}}
 

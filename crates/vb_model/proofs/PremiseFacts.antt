@@ -9,7 +9,8 @@ use Rattle.vb_model.{specs.declared.places.Place.Place, specs.declared.calls.Cla
 use Rattle.vb_model.{specs.declared.calls.Actor.TheVariants.Worker, specs.Pages.{place_of, is_used}}
 use Rattle.vb_model.specs.declared.calls.Call.TheVariants.{Write, Scribble, Reset, Sweep, Work}
 use Rattle.vb_model.{specs.declared.calls.Event.Event, specs.Requests.BufferDone, specs.Guest.Guest}
-use Rattle.vb_model.{specs.declared.replies.Refusal.TheVariants.NoFrame, specs.World.World}
+use Rattle.vb_virtio.specs.declared.refusals.Refusal.TheVariants.{NoFrame}
+use Rattle.vb_model.specs.World.{World}
 use Rattle.vb_model.specs.declared.replies.Reply.TheVariants.{Done, Refused, Swept}
 use Rattle.vb_model.{specs.Run.History, specs.GuestRun.{Called, Looked}, specs.Courses.last_put}
 use Rattle.vb_model.specs.HonestRuns.{IsThere, MakesNoScribble, IsAttentive}

@@ -13,7 +13,8 @@ use Rattle.vb_model.specs.{Queries.runs, declared.replies.Reply.TheVariants.{Ref
 use Rattle.vb_model.{proofs.Samples.{mixed, ready}, specs.{Guest.Guest, Queries.Answers}}
 use Rattle.vb_model.specs.{World.World, declared.calls.Query.Query}
 use Rattle.vb_model.specs.declared.{calls.Event.TheVariants.Query as OnQuery, replies.Reply.Reply}
-use Rattle.vb_model.specs.declared.{places.PageRun.PageRun, replies.Refusal.TheVariants.NoMemory}
+use Rattle.vb_virtio.specs.declared.refusals.Refusal.TheVariants.{NoMemory}
+use Rattle.vb_model.specs.declared.places.PageRun.{PageRun}
 
 abbrev run : ℕ → ℕ → PageRun
 run first last = record { first = first; last = last }

@@ -3,7 +3,8 @@ use Rattle.std.{proofs.Common.{[], map, refl, ◌∷◌, ◌≡◌}, specs.Prelu
 use Rattle.vb_model.proofs.{AskedTests.not_reaped, SafeFacts.{goes, made, request_16}}
 use Rattle.vb_model.{proofs.Samples.{page_16_at, ready, request}, specs.GuestRun.{Called, Entry}}
 use Rattle.vb_model.{specs.Courses.{Course, ReapedAt}, proofs.AskedFacts.{coming_back, back, reaps}}
-use Rattle.vb_model.specs.{Guest.Guest, Requests.{Deflating, Inflating, Reporting_free, queue_of}}
+use Rattle.vb_virtio.specs.Queues.{Deflating, Inflating, Reporting_free, queue_of}
+use Rattle.vb_model.specs.Guest.{Guest}
 use Rattle.vb_model.specs.declared.calls.Actor.TheVariants.{Processor, Worker}
 use Rattle.vb_model.specs.declared.{calls.Call.TheVariants.Reap, places.Place.TheVariants.Taking}
 use Rattle.vb_model.specs.declared.replies.Reply.TheVariants.{NotUsed, Reaped}

@@ -3,7 +3,10 @@ use Rattle.std.proofs.Common.{List, [], ap, arith, false, map, refl, replicate, 
 use Rattle.std.{proofs.{Common.{◌∷◌, ◌≡◌}, lemmas.List.get_or-replicate}, specs.List.range_with_len}
 use Rattle.std.specs.Prelude.{None, Option, Some, unwrap_or}
 use Rattle.vb_model.proofs.Samples.{StepsJustSo}
-use Rattle.vb_model.{proofs.Samples.{config, differ, down, ready}, specs.Guest.{Config, Guest}}
+use Rattle.vb_virtio.proofs.Differ.{differ}
+use Rattle.vb_virtio.specs.declared.refusals.Refusal.TheVariants.{NoFrame, NoMemory, OutOfRam}
+use Rattle.vb_model.proofs.Samples.{config, down, ready}
+use Rattle.vb_model.specs.Guest.{Config, Guest}
 use Rattle.vb_model.specs.{Guest.is_ballooned, Refusals.refusal_of, Rogue.{HasAllPages, RogueStep}}
 use Rattle.vb_model.specs.{Rogue.{IsRogueAfter, LosesFrames, pages_to_back}, Step.HonestStep}
 use Rattle.vb_model.specs.declared.calls.Call.TheVariants.{Alloc, Ask, Deflate, Finish, Free, Init}
@@ -12,7 +15,6 @@ use Rattle.vb_model.specs.declared.calls.Call.TheVariants.{Scribble, SetTarget, 
 use Rattle.vb_model.specs.declared.calls.{Call.TheVariants.{Work, Write}, Claim.Claim}
 use Rattle.vb_model.specs.declared.calls.Claim.TheVariants.{Gave, GaveNoFrame, GaveNoMemory}
 use Rattle.vb_model.specs.declared.{places.Place.TheVariants.{Lent, Used}, replies.Reply.Reply}
-use Rattle.vb_model.specs.declared.replies.Refusal.TheVariants.{NoFrame, NoMemory, OutOfRam}
 use Rattle.vb_model.specs.declared.replies.Reply.TheVariants.{Done, Idle, Refused}
 
 -- ---- a scribble is refused outside memory or past the end of its page, whatever place the page is

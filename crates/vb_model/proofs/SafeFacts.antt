@@ -6,11 +6,14 @@ use Rattle.{std.specs.Prelude.{Option, Some, None}, vb_model.specs.Histories.IsS
 use Rattle.vb_model.{proofs.Samples.{ready, down, page_16_at, request}, specs.Guest.{Guest, fresh}}
 use Rattle.vb_model.specs.Courses.{Course, StaysHeld, StaysOrLoses, ReadsGiveLastWrites}
 use Rattle.vb_model.specs.{GuestRun.{Entry, Called}, declared.{calls.Call.Call, places.Place.Place}}
-use Rattle.vb_model.specs.{Requests.{Request, Requests}, declared.calls.Actor.TheVariants.Processor}
-use Rattle.vb_model.specs.declared.calls.Call.TheVariants.{Read, Reap, Reset, Stats, Sweep, Take}
-use Rattle.vb_model.specs.declared.{calls.Call.TheVariants.{Work, Write}, replies.Reply.Reply}
-use Rattle.vb_model.specs.declared.replies.Refusal.TheVariants.{RingBroken, Broken, NoFrame}
-use Rattle.vb_model.specs.declared.replies.Reply.TheVariants.{Done, Idle, ReadBytes, Swept, Refused}
+use Rattle.vb_virtio.specs.Queues.{Request}
+use Rattle.vb_virtio.specs.declared.refusals.Refusal.TheVariants.{RingBroken, Broken, NoFrame}
+use Rattle.vb_model.specs.Requests.{Requests}
+use Rattle.vb_model.specs.declared.calls.Actor.TheVariants.{Processor}
+use Rattle.vb_model.specs.declared.calls.Call.TheVariants.{Read, Reap, Reset, Serve, Stats, Sweep}
+use Rattle.vb_model.specs.declared.{calls.Call.TheVariants.{Take, Work, Write}, replies.Reply.Reply}
+use Rattle.vb_model.specs.declared.replies.Reply.TheVariants.{Done, Idle, ReadBytes, Served, Swept}
+use Rattle.vb_model.specs.declared.replies.Reply.TheVariants.{Refused}
 use Rattle.vb_model.specs.declared.places.Place.TheVariants.{Free as FreePlace, Used, Reserved}
 
 -- the guest's own call
@@ -314,6 +317,12 @@ broken_chain s = (s.not_broken 0 3 (Take 0) (Refused (Broken 3)) (Processor 0 0,
 
 broken_ring : IsSafeCourse (goes ready (Reap 0) (Refused RingBroken) ready) → ⊥
 broken_ring s = (s.not_broken 0 0 (Reap 0) (Refused RingBroken) (Processor 0 0, [], refl)).1 refl
+
+-- or one of a serve, of however many chains before it
+broken_when_served : (chains : ℕ)
+    → IsSafeCourse (goes ready (Serve 0) (Served chains (Some 3)) ready) → ⊥
+broken_when_served chains s = (s.not_broken 0 3 (Serve 0) (Served chains (Some 3))
+    (Processor 0 0, [], refl)).2 chains refl
 
 -- no call is answered so, of no queue, in no later state
 broken_chain_later : IsSafeCourse (later down (Take 4) (Refused (Broken 9)) down) → ⊥

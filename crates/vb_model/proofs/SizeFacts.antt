@@ -2,11 +2,13 @@
 use Rattle.std.proofs.Common.{List, [], ap, arith, false, length, map, refl, replicate, true, ℕ}
 use Rattle.std.proofs.Common.{◌++◌, ◌∷◌, ◌≡◌}
 use Rattle.vb_model.proofs.Samples.{StepsJustSo}
-use Rattle.vb_model.{proofs.Samples.{differ}, specs.Sizes.{HasSmallShape}}
+use Rattle.vb_virtio.proofs.Differ.{differ}
+use Rattle.vb_virtio.specs.declared.refusals.Refusal.TheVariants.{NoFrame}
+use Rattle.vb_model.specs.Sizes.{HasSmallShape}
 use Rattle.std.{specs.Prelude.{Option, Some, None, ◌+◌}, specs.List.range_with_len}
 use Rattle.vb_model.specs.declared.calls.{Call.TheVariants.Init, Claim.Claim}
 use Rattle.vb_model.specs.{declared.calls.Claim.TheVariants.{Gave, GaveNoFrame}, Life.lacking}
-use Rattle.vb_model.specs.{declared.replies.Refusal.TheVariants.NoFrame, Driver.AreClaimsFor}
+use Rattle.vb_model.specs.Driver.{AreClaimsFor}
 use Rattle.vb_model.specs.{declared.replies.Reply.TheVariants.{Ready, Refused}, Balance.spare}
 use Rattle.vb_model.specs.Pages.{all_free, maximal_free_blocks, is_wholly_free}
 use Rattle.vb_model.specs.{Requests.BufferPosted, Guest.{Guest, Config, fresh}}

@@ -2,19 +2,23 @@
 -- it asks back are taking, and what a reap leaves.
 use Rattle.std.proofs.Common.{List, [], ap, arith, false, map, refl, replicate, true, ℕ, ◌++◌, ◌∷◌}
 use Rattle.std.{proofs.Common.{◌≡◌}, specs.Prelude.{None, Option, Some}}
-use Rattle.vb_model.proofs.{Samples.{config, differ, ready, request}, PostingFacts.{head_of, count_of}}
+use Rattle.vb_virtio.proofs.Differ.{differ}
+use Rattle.vb_virtio.specs.FirstRefusal.{first_refusal}
+use Rattle.vb_virtio.specs.Queues.{Deflating, Inflating, Reporting_free, Request}
+use Rattle.vb_virtio.specs.declared.refusals.Refusal.{Refusal}
+use Rattle.vb_virtio.specs.declared.refusals.Refusal.TheVariants.{NeedsReset, NotBallooned}
+use Rattle.vb_virtio.specs.declared.refusals.Refusal.TheVariants.{NotReady, Nothing, QueueFull}
+use Rattle.vb_model.proofs.Samples.{config, ready, request}
+use Rattle.vb_model.proofs.PostingFacts.{head_of, count_of}
 use Rattle.vb_model.proofs.UntoldFacts.{asked, both, no_head_out, three_lent}
-use Rattle.vb_model.specs.{FirstRefusal.{first_refusal}, Guest.{Guest}}
-use Rattle.vb_model.specs.Requests.{Deflating, Inflating, Reporting_free, Request, Requests}
+use Rattle.vb_model.specs.Guest.{Guest}
+use Rattle.vb_model.specs.Requests.{Requests}
 use Rattle.vb_model.specs.Telling.{ToldStep, is_lent_or_taking, told_causes, told_place}
 use Rattle.vb_model.specs.declared.calls.Call.{Call, TheVariants.{Deflate, Inflate, Oom, Reap}}
 use Rattle.vb_model.specs.declared.calls.Call.TheVariants.{SetTarget, Sweep}
 use Rattle.vb_model.specs.declared.calls.Claim.{Claim, TheVariants.{Gave}}
 use Rattle.vb_model.specs.declared.places.Place.{Place, TheVariants.{Free, Giving, Lent, Reporting}}
 use Rattle.vb_model.specs.declared.places.Place.TheVariants.{Reserved, Stranded, Taking, Used}
-use Rattle.vb_model.specs.declared.replies.Refusal.{Refusal}
-use Rattle.vb_model.specs.declared.replies.Refusal.TheVariants.{NeedsReset, NotBallooned, NotReady}
-use Rattle.vb_model.specs.declared.replies.Refusal.TheVariants.{Nothing, QueueFull}
 use Rattle.vb_model.specs.declared.replies.Reply.{Reply, TheVariants.{Done, NotUsed, Posted, Reaped}}
 use Rattle.vb_model.specs.declared.replies.Reply.TheVariants.{Refused}
 

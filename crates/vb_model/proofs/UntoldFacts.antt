@@ -1,14 +1,20 @@
 -- Worked facts of guests that haven't agreed to tell the host, beside those of guests that have.
 use Rattle.std.proofs.Common.{List, [], ap, arith, false, map, refl, replicate, sym, true, ℕ, ◌++◌}
-use Rattle.{std.proofs.Common.{◌∙◌, ◌∷◌, ◌≡◌}, vb_model.specs.Life.{after_reset, feature_refusal}}
+use Rattle.vb_virtio.specs.Status.{feature_refusal, status_refusal}
+use Rattle.vb_virtio.specs.Queues.{Deflating, Request}
+use Rattle.vb_virtio.specs.Memory.{zero_page}
+use Rattle.vb_virtio.specs.declared.refusals.Refusal.TheVariants.{NoPages, VersionMissing}
+use Rattle.std.proofs.Common.{◌∙◌, ◌∷◌, ◌≡◌}
+use Rattle.vb_model.specs.Life.{after_reset}
 use Rattle.{std.specs.List.range_with_len, vb_model.specs.{Driver.contents_of, Refusals.refusal_of}}
 use Rattle.{std.specs.Prelude.{Bool, None, Some, drop}, vb_model.specs.GuestRun.{Called, Leads}}
 use Rattle.vb_model.proofs.{PostingFacts.{just_posted}, WorkFacts.{just_finished}}
-use Rattle.vb_model.specs.Requests.{BufferPosted, Deflating, IsLeastHead, Request, Requests}
+use Rattle.vb_model.specs.Requests.{BufferPosted, IsLeastHead, Requests}
 use Rattle.vb_model.proofs.Samples.{PerformsJustSo, StepsJustSo, down, mixed_places, ready, request}
 use Rattle.vb_model.proofs.Samples.{untold}
-use Rattle.vb_model.specs.Guest.{Guest, frame_of, is_ballooned, is_ready, tells_host, zero_page}
-use Rattle.vb_model.specs.{Pages.{block_at, place_of}, Requests.no_requests, Status.status_refusal}
+use Rattle.vb_model.specs.Guest.{Guest, frame_of, is_ballooned, is_ready, tells_host}
+use Rattle.vb_model.specs.Pages.{block_at, place_of}
+use Rattle.vb_model.specs.Requests.{no_requests}
 use Rattle.vb_model.specs.Requests.{given_away}
 use Rattle.vb_model.specs.{Step.{HonestStep}, declared.calls.Claim.TheVariants.Gave}
 use Rattle.vb_model.specs.declared.calls.Call.{Call, TheVariants.{Oom, Reap, Reset, Take, Write}}
@@ -16,7 +22,6 @@ use Rattle.vb_model.specs.declared.{calls.Actor.TheVariants.{Processor, Worker},
 use Rattle.vb_model.specs.declared.calls.Call.TheVariants.{Alloc, Deflate, Finish, Inflate, Init}
 use Rattle.vb_model.specs.declared.places.Place.TheVariants.{Free as FreePlace, Giving, Lent, Used}
 use Rattle.vb_model.specs.declared.places.Place.TheVariants.{Reporting, Reserved, Stranded, Taking}
-use Rattle.vb_model.specs.declared.replies.Refusal.TheVariants.{NoPages, VersionMissing}
 use Rattle.vb_model.specs.declared.replies.Reply.TheVariants.{Done, Finished, Page, Posted, Ready}
 use Rattle.vb_model.specs.declared.replies.Reply.TheVariants.{Reaped, Refused, Taken}
 

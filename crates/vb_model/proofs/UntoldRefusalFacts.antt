@@ -3,15 +3,18 @@
 use Rattle.std.proofs.Common.{List, [], false, map, refl, replicate, true, ◌++◌, ◌∷◌, ◌≡◌}
 use Rattle.{std.specs.Prelude.{Bool, None, Some}, vb_model.proofs.UntoldFacts.{each_stage, framed}}
 use Rattle.vb_model.proofs.Samples.{StepsJustSo, at, config, new_request, ready, request, untold}
-use Rattle.vb_model.specs.{FirstRefusal.{Cause, ◌⇒◌}, Requests.{Request, Requests, no_requests}}
+use Rattle.vb_virtio.specs.FirstRefusal.{Cause, ◌⇒◌}
+use Rattle.vb_virtio.specs.Queues.{Request}
+use Rattle.vb_virtio.specs.declared.refusals.Refusal.TheVariants.{QueueFull, DeflatePending}
+use Rattle.vb_virtio.specs.declared.refusals.Refusal.TheVariants.{NeedsReset, Nothing, NoFeature}
+use Rattle.vb_virtio.specs.declared.refusals.Refusal.TheVariants.{NotBallooned, NotReady}
+use Rattle.vb_model.specs.Requests.{Requests, no_requests}
 use Rattle.vb_model.specs.{Guest.Guest, declared.calls.Call.TheVariants.{Report, Sweep, Take, Work}}
-use Rattle.vb_model.specs.{Refusals.refusal_of, declared.replies.Refusal.TheVariants.QueueFull}
+use Rattle.vb_model.specs.Refusals.{refusal_of}
 use Rattle.vb_model.specs.{Step.HonestStep, Tables.{sweep_causes, inflate_causes, request_causes}}
 use Rattle.vb_model.specs.declared.calls.Call.TheVariants.{Alloc, Deflate, Inflate, Oom, Reap}
 use Rattle.vb_model.specs.declared.places.Place.TheVariants.{Free as FreePlace, Giving, Lent}
 use Rattle.vb_model.specs.declared.places.Place.TheVariants.{Reserved, Stranded, Taking}
-use Rattle.vb_model.specs.declared.replies.Refusal.TheVariants.{DeflatePending, NeedsReset, Nothing}
-use Rattle.vb_model.specs.declared.replies.Refusal.TheVariants.{NoFeature, NotBallooned, NotReady}
 use Rattle.vb_model.specs.declared.replies.Reply.TheVariants.{Posted, Refused, Swept}
 use Rattle.vb_model.proofs.UntoldFacts.{places, three_lent, both, posted, asked, no_head_out}
 

@@ -5,16 +5,20 @@ use Rattle.std.proofs.Common.{◌∙◌, ◌∷◌, ◌≡◌}
 use Rattle.std.specs.Prelude.{slice_get}
 use Rattle.vb_model.specs.Device.{Finishes, settled, used}
 use Rattle.vb_model.specs.Guest.{requests}
-use Rattle.vb_model.specs.Requests.{Deflating, Inflating, Kind, Reporting_free}
+use Rattle.vb_virtio.specs.Queues.{Deflating, Inflating, Kind, Reporting_free, Request}
+use Rattle.vb_virtio.specs.Memory.{zero_page}
+use Rattle.vb_virtio.specs.FirstRefusal.{first_refusal}
+use Rattle.vb_virtio.specs.declared.refusals.Refusal.{Refusal}
+use Rattle.vb_virtio.specs.declared.refusals.Refusal.TheVariants.{Busy, NoQueue, NotBallooned}
+use Rattle.vb_virtio.specs.declared.refusals.Refusal.TheVariants.{NotReady, NotTaken, NotWorked}
 use Rattle.vb_model.specs.declared.replies.Reply.{Reply}
 use Rattle.vb_model.proofs.Samples.{PerformsJustSo, StepsJustSo, config, down, ready, request}
 use Rattle.vb_model.proofs.Samples.{without_reporting}
-use Rattle.vb_model.specs.{Guest.{Guest, zero_page}, Refusals.{causes, first_refusal, refusal_of}}
-use Rattle.vb_model.specs.{Requests.{Request, Requests}}
+use Rattle.vb_model.specs.Guest.{Guest}
+use Rattle.vb_model.specs.Refusals.{causes, refusal_of}
+use Rattle.vb_model.specs.Requests.{Requests}
 use Rattle.vb_model.specs.declared.calls.Call.{Call, TheVariants.{Finish, Sweep, Take, Work}}
-use Rattle.vb_model.specs.declared.replies.Refusal.{Refusal, TheVariants.{Busy, NoQueue}}
-use Rattle.vb_model.specs.declared.replies.Refusal.TheVariants.{NotBallooned, NotReady, NotTaken}
-use Rattle.vb_model.specs.declared.replies.{Refusal.TheVariants.NotWorked, Reply.TheVariants.Empty}
+use Rattle.vb_model.specs.declared.replies.Reply.TheVariants.{Empty}
 use Rattle.vb_model.specs.declared.replies.Reply.TheVariants.{Finished, Idle, Swept, Taken, Worked}
 
 -- ---- a guest with taken requests of all kinds

@@ -10,9 +10,10 @@ use Rattle.vb_model.specs.{World.made, declared.calls.{Call.TheVariants.SetTarge
 use Rattle.vb_model.specs.declared.calls.Claim.{Claim, TheVariants.{Gave, GaveNoFrame, GaveNoMemory}}
 use Rattle.vb_model.specs.declared.calls.Event.TheVariants.{Frames as CountFrames, Guest as OnGuest}
 use Rattle.vb_model.specs.declared.calls.Event.TheVariants.{Query as OnQuery, Restart, Unplug}
-use Rattle.vb_model.specs.declared.{calls.Query.TheVariants.Places, replies.Refusal.Refusal}
-use Rattle.vb_model.specs.declared.replies.Refusal.TheVariants.{BadConfig, NoDevice, NoGuest}
-use Rattle.vb_model.specs.declared.replies.Refusal.TheVariants.{NoMemory, TooMany}
+use Rattle.vb_virtio.specs.declared.refusals.Refusal.{Refusal}
+use Rattle.vb_virtio.specs.declared.refusals.Refusal.TheVariants.{BadConfig, NoDevice, NoGuest}
+use Rattle.vb_virtio.specs.declared.refusals.Refusal.TheVariants.{NoMemory, TooMany}
+use Rattle.vb_model.specs.declared.calls.Query.TheVariants.{Places}
 use Rattle.vb_model.specs.declared.replies.Reply.{Reply, TheVariants.{Done, Frames, Plugged, Refused}}
 
 abbrev world : List (Option Guest) → World

@@ -12,9 +12,10 @@ use Rattle.vb_model.specs.declared.calls.Claim.{Claim}
 use Rattle.vb_model.specs.declared.replies.Reply.{Reply}
 use Rattle.vb_model.specs.declared.replies.Reply.TheVariants.{Done, ReadBytes, Posted, Reaped}
 use Rattle.vb_model.specs.Pages.{place_of}
-use Rattle.vb_model.specs.Tests.{is_in}
-use Rattle.vb_model.specs.Requests.{Request, Kind, Inflating, Deflating, queue_of}
-use Rattle.vb_model.specs.Guest.{Guest, requests, frame_of, must_tell_host}
+use Rattle.vb_virtio.specs.Tests.{is_in}
+use Rattle.vb_virtio.specs.Queues.{Request, Kind, Inflating, Deflating, queue_of}
+use Rattle.vb_virtio.specs.Features.{must_tell_host}
+use Rattle.vb_model.specs.Guest.{Guest, requests, frame_of}
 use Rattle.vb_model.specs.Driver.{contents_of}
 use Rattle.vb_model.specs.GuestRun.{Entry, Called}
 

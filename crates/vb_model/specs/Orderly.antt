@@ -2,16 +2,18 @@
 -- they may, its status is one of three, and it is ready with features that it has agreed on.
 use Rattle.std.specs.Prelude.{◌≡◌, ℕ, ◌+◌, ◌<◌, ◌≤◌, List, [], ◌∷◌, length}
 use Rattle.std.specs.Prelude.{nat_lt, min, ⊤, ◌⊎◌, IsTrue}
-use Rattle.vb_model.specs.declared.negotiation.TheConstants.{FAILED_STATUS, OFFERED_FEATURES}
-use Rattle.vb_model.specs.declared.negotiation.TheConstants.{READY_STATUS}
+use Rattle.vb_virtio.specs.declared.negotiation.TheConstants.{FAILED_STATUS, OFFERED_FEATURES}
+use Rattle.vb_virtio.specs.declared.negotiation.TheConstants.{READY_STATUS}
+use Rattle.vb_virtio.specs.declared.limits.TheConstants.{MAX_OUTSTANDING, MAX_ORDER}
+use Rattle.vb_virtio.specs.Layout.{reserved_pages}
+use Rattle.vb_virtio.specs.Queues.{Request}
+use Rattle.vb_virtio.specs.Features.{version_1}
+use Rattle.vb_virtio.specs.Status.{contains}
+use Rattle.vb_virtio.specs.Tests.{times}
 use Rattle.vb_model.specs.declared.places.Place.{Place}
-use Rattle.vb_model.specs.declared.limits.TheConstants.{MAX_OUTSTANDING, MAX_ORDER}
-use Rattle.vb_model.specs.Layout.{reserved_pages}
-pub use Rattle.vb_model.specs.Tests.{times}
 use Rattle.vb_model.specs.Pages.{Block, size, is_aligned, place_of, is_reserved}
-use Rattle.vb_model.specs.Requests.{Request, Requests, all_requests, headed, outstanding}
-use Rattle.vb_model.specs.Guest.{Guest, version_1}
-use Rattle.vb_model.specs.Status.{contains}
+use Rattle.vb_model.specs.Requests.{Requests, all_requests, headed, outstanding}
+use Rattle.vb_model.specs.Guest.{Guest}
 
 -- its pages are distinct, and no more were visited than there are
 pub record IsRequestSound (r : Request) : Type 0 where

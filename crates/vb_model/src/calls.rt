@@ -97,6 +97,9 @@ pub enum Call {
     Work,
     /// The device uses a taken request, by its index among those of the queue.
     Finish { queue: u32, index: u32 },
+    /// The device serves a queue: it takes each chain that is available, visits its pages and uses
+    /// it, before the next one (profile).
+    Serve { queue: u32 },
     /// The host discards what it still has of a ballooned page (profile).
     Sweep { page: u32 },
     /// The device asks for statistics (VIRTIO 1.1, 5.5.6.3).
@@ -158,6 +161,7 @@ impl Call {
                 queue: *queue,
                 index: *index,
             },
+            Call::Serve { queue } => Call::Serve { queue: *queue },
             Call::Sweep { page } => Call::Sweep { page: *page },
             Call::Ask => Call::Ask,
             Call::SetTarget { pages } => Call::SetTarget { pages: *pages },

@@ -2,7 +2,9 @@
 use Rattle.std.proofs.Common.{◌≡◌, ℕ, suc, ◌+◌, ◌-◌, ◌^◌, ◌<◌, ◌≤◌, min, Bool, true, false, List}
 use Rattle.std.proofs.Common.{set, Option, Some, None, refl, sym, ◌∙◌, ap, subst, arith}
 use Rattle.{std.proofs.lemmas.List.length-set, vb_pages.proofs.TableLemmas.is_there}
-use Rattle.{vb_model.specs.{Pages.pages_of, Tests.is_in}, vb_pages.proofs.TilesLemmas.added_merged}
+use Rattle.vb_virtio.specs.Tests.{is_in}
+use Rattle.vb_model.specs.Pages.{pages_of}
+use Rattle.vb_pages.proofs.TilesLemmas.{added_merged}
 use Rattle.vb_pages.proofs.Aligned.{right_half, aligned_down, end_aligned, pow_twice}
 use Rattle.vb_pages.proofs.Sets.{with_cases, without_parts, in_block, block_bounds, halves_turned}
 use Rattle.vb_pages.proofs.Sets.{has-without_pages, with_without, without_with, halves}

@@ -6,8 +6,8 @@ use Rattle.std.specs.Prelude.{◌&&◌, ◌||◌, nat_le, max, List, length, map
 use Rattle.std.specs.Prelude.{None, IsTrue}
 use Rattle.std.specs.Int.{div_ceil}
 use Rattle.std.specs.List.{range_with_len}
-use Rattle.vb_model.specs.Tests.{is_in, each_page, has_bit}
-use Rattle.vb_model.specs.Limits.{max_order}
+use Rattle.vb_virtio.specs.Tests.{is_in, each_page, has_bit}
+use Rattle.vb_virtio.specs.Limits.{max_order}
 pub use Rattle.vb_model.specs.Pages.{block_at}
 -- a set of pages is a flag a page; a page that isn't there isn't in it
 pub use Rattle.vb_bits.specs.Sets.{has}

@@ -4,8 +4,8 @@ use Rattle.std.specs.Prelude.{◌≡◌, ℕ, ◌+◌, ◌<◌, ◌≤◌, Bool,
 use Rattle.std.specs.Prelude.{length, replicate, Option, Some, None, Result, Ok, Err, count_by}
 use Rattle.std.specs.Prelude.{IsTrue}
 use Rattle.std.specs.List.{list_any}
-use Rattle.vb_model.specs.Tests.{one_if}
-use Rattle.vb_model.specs.declared.limits.TheConstants.{MAX_PROCESSORS}
+use Rattle.vb_virtio.specs.Tests.{one_if}
+use Rattle.vb_virtio.specs.declared.limits.TheConstants.{MAX_PROCESSORS}
 use Rattle.vb_model.specs.Pages.{Block, pages_of, size, covers, is_same_block}
 use Rattle.vb_model.specs.Driver.{with_block, without_block}
 use Rattle.vb_pages.specs.declared.table.TheConstants.{MAX_PAGES}

@@ -4,7 +4,7 @@ ghost use Rattle.std.specs.Prelude.{◌≡◌, ℕ, ◌+◌, ◌<◌, ◌≤◌,
 ghost use Rattle.std.specs.Prelude.{map, ◌==◌, replicate, MatchOption, IfOk};
 ghost use Rattle.std.specs.Prelude.{count_by, nat_lt};
 ghost use Rattle.std.specs.List.{flat_map};
-ghost use Rattle.vb_model.specs.Tests.{one_if};
+ghost use Rattle.vb_virtio.specs.Tests.{one_if};
 ghost use Rattle.vb_model.specs.Pages.{pages_of};
 ghost use Rattle.vb_pages.specs.Areas.{has, with_pages, without_pages, unreserved, block_at};
 ghost use Rattle.vb_pages.specs.Areas.{IsMaximal, IsLowestFrom};
@@ -20,7 +20,7 @@ use crate::table::MAX_PAGES;
 use arrayvec::ArrayVec;
 use std::alloc::{AllocError, Global};
 use std::marker::Model;
-use vb_model::limits::{MAX_ORDER, MAX_PROCESSORS, MAX_REQUEST_PAGES};
+use vb_virtio::limits::{MAX_ORDER, MAX_PROCESSORS, MAX_REQUEST_PAGES};
 
 /// Pages that one request names, as a capacity.
 pub(crate) const REQUEST_PAGES: usize = MAX_REQUEST_PAGES as usize;

@@ -10,7 +10,7 @@ use crate::block::size_of;
 use crate::table::{MAX_PAGES, Table};
 use std::alloc::{AllocError, Global};
 use std::marker::Model;
-use vb_model::limits::MAX_ORDER;
+use vb_virtio::limits::MAX_ORDER;
 
 /// The held blocks.
 #[derive(Drop)]

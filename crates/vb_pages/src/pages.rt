@@ -3,7 +3,7 @@
 ghost use Rattle.std.specs.Prelude.{◌≡◌, ℕ, ◌+◌, ◌<◌, ◌≤◌, ◌↔◌, ◌⊎◌, ◌==◌, ◌&&◌, ◌||◌, not};
 ghost use Rattle.std.specs.Prelude.{[], length, map, Ok, Err, IfOk, OnOk, OnErr};
 ghost use Rattle.std.specs.Prelude.{IfSome, IsTrue, count_by, false};
-ghost use Rattle.vb_model.specs.Tests.{is_in, one_if};
+ghost use Rattle.vb_virtio.specs.Tests.{is_in, one_if};
 ghost use Rattle.vb_model.specs.Pages.{covers};
 ghost use Rattle.vb_model.specs.Driver.{with_block};
 ghost use Rattle.vb_pages.specs.Areas.{block_at, IsBlock, AreBlockBits};
@@ -21,7 +21,7 @@ use crate::{FreeBlock, MAX_PAGES, PageFault};
 use arrayvec::ArrayVec;
 use std::alloc::{AllocError, Global};
 use std::marker::Model;
-use vb_model::limits::{MAX_ORDER, MAX_REQUEST_PAGES};
+use vb_virtio::limits::{MAX_ORDER, MAX_REQUEST_PAGES};
 
 /// The pages of a guest: free ones in the buddy areas and in a list for each processor, and held
 /// blocks.

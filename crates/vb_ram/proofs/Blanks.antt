@@ -4,7 +4,7 @@ use Rattle.std.{specs.Prelude.{replicate, ◌⊎◌}, proofs.Common.{refl, sym, 
 use Rattle.std.proofs.lemmas.List.{get_or_append_left, get_or-append_right, get_or_past, get_or-drop}
 use Rattle.std.proofs.lemmas.List.{length-append, length-drop, length-replicate, ext_get_or}
 use Rattle.std.proofs.lemmas.Bool.{cases_lt}
-use Rattle.vb_model.specs.Guest.{zero_page}
+use Rattle.vb_virtio.specs.Memory.{zero_page}
 use Rattle.vb_ram.{specs.Blank.shown, specs.Put.PutAt}
 use Rattle.vb_ram.proofs.Contents.{zero_page-at, length-zero_page, zeros-at}
 

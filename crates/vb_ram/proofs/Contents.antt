@@ -5,7 +5,7 @@ use Rattle.std.proofs.lemmas.List.{length-take-le, length-drop, length-append, g
 use Rattle.std.{specs.Prelude.{drop, refl, replicate, ◌⊎◌}, proofs.lemmas.Bool.cases_lt}
 use Rattle.std.proofs.Common.{sym, ◌∙◌, ap, arith, inl, inr}
 use Rattle.std.proofs.lemmas.List.{get_or-drop, get_or_append_left, get_or-append_right}
-use Rattle.vb_model.{specs.Guest.zero_page, specs.Driver.overwritten}
+use Rattle.vb_virtio.specs.Memory.{zero_page, overwritten}
 use Rattle.vb_ram.specs.Pages.{Pages, page_at, frame_at, contents_at, byte_at, IsWhole, SameBut}
 use Rattle.vb_ram.specs.Pages.{Wrote, Supplied, Discarded}
 

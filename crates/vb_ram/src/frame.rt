@@ -4,13 +4,13 @@ ghost use Rattle.std.specs.Prelude.{◌≡◌, ℕ, ◌+◌, ◌<◌, ◌≤◌,
 ghost use Rattle.std.specs.Prelude.{vec_capacity};
 ghost use Rattle.vb_ram.specs.Blank.{shown, HoldsPage};
 ghost use Rattle.vb_ram.specs.Put.{PutAt};
-ghost use Rattle.vb_model.specs.Guest.{zero_page};
-ghost use Rattle.vb_model.specs.declared.limits.TheConstants.{PAGE_SIZE};
+ghost use Rattle.vb_virtio.specs.Memory.{zero_page};
+ghost use Rattle.vb_virtio.specs.declared.limits.TheConstants.{PAGE_SIZE};
 
 use crate::RamFault;
 use std::alloc::Global;
 use std::marker::Model;
-use vb_model::limits;
+use vb_virtio::limits;
 
 /// The bytes of a page, and of a frame.
 pub const PAGE_SIZE: usize = limits::PAGE_SIZE as usize;

@@ -1,8 +1,8 @@
 //! Laws of guest memory, in the words of its contracts.
 
 ghost use Rattle.std.specs.Prelude.{◌≡◌, ℕ, ◌+◌, ◌<◌, ◌≤◌, List, length, slice_index, take, drop};
-ghost use Rattle.vb_model.specs.Driver.{overwritten};
-ghost use Rattle.vb_model.specs.declared.limits.TheConstants.{PAGE_SIZE};
+ghost use Rattle.vb_virtio.specs.Memory.{overwritten};
+ghost use Rattle.vb_virtio.specs.declared.limits.TheConstants.{PAGE_SIZE};
 ghost use Rattle.vb_ram.specs.Pages.{Pages, byte_at, contents_at, frame_at, page_at, IsWhole};
 ghost use Rattle.vb_ram.specs.Pages.{SameBut, Wrote, Supplied, Discarded};
 

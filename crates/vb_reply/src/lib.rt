@@ -6,6 +6,7 @@
 #![tactic(auto)]
 
 mod held;
+mod refusals;
 mod replies;
 
 pub use held::{Failed, Held, release};

@@ -8,9 +8,9 @@ use Step::{Alloc, Count, FreePage, Report, ReportAndReap};
 use std::alloc::{AllocError, Global};
 use std::test::Fail;
 use vb_chain::Piece;
-use vb_model::layout::{RESERVED_PAGES, RESERVED_PAGES_OF_TWO};
-use vb_model::limits::MAX_OUTSTANDING;
 use vb_pages::{FreeBlock, PageFault, Pages};
+use vb_virtio::layout::{RESERVED_PAGES, RESERVED_PAGES_OF_TWO};
+use vb_virtio::limits::MAX_OUTSTANDING;
 
 /// One call of an example.
 enum Step {

@@ -4,8 +4,8 @@ use Rattle.std.specs.Prelude.{◌≡◌, ℕ, ◌+◌, ◌^◌, ◌<◌, ◌≤�
 use Rattle.std.specs.Prelude.{List, [], ◌∷◌, length, slice_get}
 use Rattle.std.specs.Prelude.{if◌then◌else◌, Option, Some, None, Result, Err, MatchOption}
 use Rattle.std.specs.List.{list_any, flat_map, range_with_len}
-use Rattle.vb_model.specs.declared.limits.TheConstants.{MAX_REPORT_PIECES}
-use Rattle.vb_model.specs.Limits.{page_size}
+use Rattle.vb_virtio.specs.declared.limits.TheConstants.{MAX_REPORT_PIECES}
+use Rattle.vb_virtio.specs.Limits.{page_size}
 use Rattle.vb_chain.specs.declared.pieces.Piece.{Piece}
 use Rattle.vb_chain.specs.declared.fault.ChainFault.{ChainFault}
 use Rattle.vb_chain.specs.declared.fault.ChainFault.TheVariants.{WrongDirection, BadLength, BadPage}

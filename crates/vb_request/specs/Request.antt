@@ -5,9 +5,9 @@ use Rattle.std.specs.Prelude.{not, ◌==◌, ◌&&◌, nat_lt, nat_le, List, [],
 use Rattle.std.specs.Prelude.{take, drop, if◌then◌else◌, Option, Some, None, Result, Ok, Err}
 use Rattle.std.specs.List.{list_any, flat_map, range_with_len, sum_by}
 use Rattle.std.specs.Int.{w32, from_le_bytes}
-use Rattle.vb_model.specs.declared.layout.TheConstants.{REQUEST_BUFFER_SIZE}
-use Rattle.vb_model.specs.Driver.{AllDistinct}
-use Rattle.vb_model.specs.Limits.{page_size, max_request_pages}
+use Rattle.vb_virtio.specs.declared.layout.TheConstants.{REQUEST_BUFFER_SIZE}
+use Rattle.vb_virtio.specs.Tests.{AllDistinct}
+use Rattle.vb_virtio.specs.Limits.{page_size, max_request_pages}
 use Rattle.vb_ram.specs.Pages.{Pages, byte_at, field}
 use Rattle.vb_chain.specs.declared.pieces.Piece.{Piece}
 use Rattle.vb_chain.specs.declared.fault.ChainFault.{ChainFault}

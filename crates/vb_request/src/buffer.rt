@@ -2,16 +2,16 @@
 
 ghost use Rattle.std.specs.Prelude.{◌≡◌, ◌+◌, ◌*◌, ◌/◌, ◌%◌, ◌^◌, ◌<◌, ◌≤◌, ◌++◌, [], All, length};
 ghost use Rattle.std.specs.List.{list_any};
-ghost use Rattle.vb_model.specs.declared.layout.TheConstants.{REQUEST_BUFFER_SIZE};
-ghost use Rattle.vb_model.specs.declared.limits.TheConstants.{MAX_QUEUE_SIZE};
-ghost use Rattle.vb_model.specs.Limits.{page_size};
+ghost use Rattle.vb_virtio.specs.declared.layout.TheConstants.{REQUEST_BUFFER_SIZE};
+ghost use Rattle.vb_virtio.specs.declared.limits.TheConstants.{MAX_QUEUE_SIZE};
+ghost use Rattle.vb_virtio.specs.Limits.{page_size};
 ghost use Rattle.vb_request.specs.Request.{bytes_from, bytes_of, total_length};
 
 use std::marker::Model;
 use vb_chain::Piece;
-use vb_model::layout::REQUEST_BUFFER_SIZE;
-use vb_model::limits::PAGE_SIZE;
 use vb_ram::GuestBytes;
+use vb_virtio::layout::REQUEST_BUFFER_SIZE;
+use vb_virtio::limits::PAGE_SIZE;
 
 /// Bytes of a page.
 const PAGE_BYTES: u64 = PAGE_SIZE as u64;
@@ -31,7 +31,7 @@ pub(crate) struct ChainBytes {
 
 impl Model for ChainBytes {
     ghost use Rattle.std.specs.Prelude.{◌≤◌, ℕ, List, take};
-    ghost use Rattle.vb_model.specs.declared.layout.TheConstants.{REQUEST_BUFFER_SIZE};
+    ghost use Rattle.vb_virtio.specs.declared.layout.TheConstants.{REQUEST_BUFFER_SIZE};
 
     ghost Value = { List ℕ };
 

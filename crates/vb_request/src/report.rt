@@ -3,8 +3,8 @@
 ghost use Rattle.std.specs.Prelude.{◌≡◌, ◌+◌, ◌*◌, ◌<◌, ◌≤◌, ◌^◌, not, All, MatchResult, Ok, Err};
 ghost use Rattle.std.specs.Prelude.{IfOk, IfErr, OnOk, OnErr, length};
 ghost use Rattle.std.specs.List.{list_any};
-ghost use Rattle.vb_model.specs.declared.limits.TheConstants.{MAX_REPORT_PIECES};
-ghost use Rattle.vb_model.specs.Limits.{page_size};
+ghost use Rattle.vb_virtio.specs.declared.limits.TheConstants.{MAX_REPORT_PIECES};
+ghost use Rattle.vb_virtio.specs.Limits.{page_size};
 ghost use Rattle.vb_request.specs.Report.{RunsFrom};
 ghost use Rattle.vb_request.specs.Report.{pages_of_pieces, has_bad_length, piece_fault};
 ghost use Rattle.vb_request.specs.Report.{first_piece_fault, report_request};
@@ -12,7 +12,7 @@ ghost use Rattle.vb_request.specs.Report.{first_piece_fault, report_request};
 use crate::NamedPages;
 use crate::named::{MAX_PIECES, NamedRun};
 use vb_chain::{ChainFault, Piece};
-use vb_model::limits::PAGE_SIZE;
+use vb_virtio::limits::PAGE_SIZE;
 
 /// Bytes of a page.
 const PAGE_BYTES: u64 = PAGE_SIZE as u64;

@@ -3,10 +3,10 @@
 ghost use Rattle.std.specs.Prelude.{◌≡◌, ◌+◌, ◌*◌, ◌<◌, ◌≤◌, ◌++◌, ◌∷◌, []};
 ghost use Rattle.std.specs.Prelude.{if◌then◌else◌, Ok, Err, All, IfOk, IfErr, OnOk, MatchResult};
 ghost use Rattle.std.specs.Prelude.{length};
-ghost use Rattle.vb_model.specs.declared.layout.TheConstants.{REQUEST_BUFFER_SIZE};
-ghost use Rattle.vb_model.specs.declared.limits.TheConstants.{MAX_QUEUE_SIZE};
-ghost use Rattle.vb_model.specs.Limits.{page_size, max_request_pages};
-ghost use Rattle.vb_model.specs.Tests.{is_in};
+ghost use Rattle.vb_virtio.specs.declared.layout.TheConstants.{REQUEST_BUFFER_SIZE};
+ghost use Rattle.vb_virtio.specs.declared.limits.TheConstants.{MAX_QUEUE_SIZE};
+ghost use Rattle.vb_virtio.specs.Limits.{page_size, max_request_pages};
+ghost use Rattle.vb_virtio.specs.Tests.{is_in};
 ghost use Rattle.vb_request.specs.Request.{number_at, numbers_of, number_fault, pages_of_numbers};
 ghost use Rattle.vb_request.specs.Request.{is_request_length, request_length, page_request};
 
@@ -14,8 +14,8 @@ use crate::NamedPages;
 use crate::buffer::{ChainBytes, gather, has_writable, total_length};
 use crate::named::RequestPages;
 use vb_chain::{ChainFault, Piece};
-use vb_model::layout::REQUEST_BUFFER_SIZE;
 use vb_ram::GuestBytes;
+use vb_virtio::layout::REQUEST_BUFFER_SIZE;
 
 /// Whether a request may have so many bytes: some, at most 1024, and a multiple of 4.
 pub fn is_request_length(total: u64) -> bool

@@ -1,7 +1,7 @@
 //! Chains of pieces over a guest's bytes, and what they say.
 
 ghost use Rattle.std.specs.Prelude.{◌≡◌, ◌+◌, ◌*◌, ◌^◌, ◌≤◌, nat_le, true, All, length};
-ghost use Rattle.vb_model.specs.Limits.{page_size};
+ghost use Rattle.vb_virtio.specs.Limits.{page_size};
 
 use crate::{NamedPages, Statistics, read_report, read_request, read_statistics};
 use Part::{Read, Write};

@@ -2,7 +2,8 @@
 use Rattle.std.specs.Prelude.{◌≡◌, ◌≢◌, ℕ, zero, suc, ◌+◌, ◌-◌, ◌<◌, ◌≤◌, ◌==◌, List, [], ◌∷◌, ◌++◌}
 use Rattle.std.{specs.Prelude.{length, take, slice_index_or, refl}, proofs.lemmas.Bool.cases_eq}
 use Rattle.std.proofs.{Common.{ap, arith, inl, inr, eq-eqb}, lemmas.List.length-map}
-use Rattle.vb_model.{specs.Tests.one_if, proofs.Tables.{count_by-append, count_by-cons}}
+use Rattle.vb_virtio.specs.Tests.{one_if}
+use Rattle.vb_virtio.proofs.Tables.{count_by-append, count_by-cons}
 use Rattle.{vb_ram.specs.Pages.Pages, vb_ring.specs.Meaning.{UsedElem, no_elem, ids, times, Shows}}
 use Rattle.vb_ring.specs.declared.layout.Layout.{Layout}
 

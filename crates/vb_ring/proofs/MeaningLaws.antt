@@ -5,7 +5,8 @@ use Rattle.std.specs.Prelude.{replicate, slice_index, slice_index_or, refl}
 use Rattle.std.proofs.Common.{sym, ◌∙◌, ap, subst, arith, inl, inr, add-one}
 use Rattle.{std.proofs.lemmas.Bool.{cases_eq, cases_lt, ltb-true}, vb_ring.specs.Numbers.numbers}
 use Rattle.std.proofs.lemmas.List.{length_push, get_or-take, length-take-le, take-append-le}
-use Rattle.{vb_model.specs.Tests.{is_in, one_if}, vb_ram.specs.Pages.{Pages, byte_at, page_at}}
+use Rattle.vb_virtio.specs.Tests.{is_in, one_if}
+use Rattle.vb_ram.specs.Pages.{Pages, byte_at, page_at}
 use Rattle.vb_chain.specs.declared.{descriptor.Descriptor.Descriptor, pieces.Piece.Piece}
 use Rattle.vb_chain.{specs.Written.{linked, empty}, proofs.TableLaws.descriptor_apart}
 use Rattle.{vb_chain.proofs.ChainLaws.flags_next, vb_ring.proofs.HeadCounts.times-take}

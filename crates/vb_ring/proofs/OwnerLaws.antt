@@ -3,9 +3,11 @@ use Rattle.std.specs.Prelude.{◌≡◌, ◌≢◌, ℕ, zero, suc, ◌<◌, ◌
 use Rattle.std.specs.Prelude.{◌∷◌, ◌+◌, Option, Some, None, is_none, if◌then◌else◌, length, take}
 use Rattle.std.proofs.lemmas.List.{length-map, get_or-map, get_or_past, get_or-take, length-take}
 use Rattle.std.specs.{Prelude.{replicate, slice_index, slice_index_or, refl}, List.list_any}
-use Rattle.{std.proofs.Common.{sym, ◌∙◌, ap, arith, eq-eqb}, vb_model.proofs.Tables.each_page-get}
+use Rattle.vb_virtio.proofs.Tables.{each_page-get}
+use Rattle.vb_virtio.specs.Tests.{is_in}
+use Rattle.std.proofs.Common.{sym, ◌∙◌, ap, arith, eq-eqb}
 use Rattle.std.proofs.lemmas.{Bool.eqb-true, List.{get_or-replicate, length-replicate}}
-use Rattle.{vb_model.specs.Tests.is_in, vb_ring.proofs.Numbers.length_gain}
+use Rattle.vb_ring.proofs.Numbers.{length_gain}
 use Rattle.vb_ring.specs.{Entries.{is_own, is_head}, Numbers.numbers, Ends.{claimed, released}}
 
 -- A number that equals itself.

@@ -2,7 +2,7 @@
 use Rattle.std.specs.Prelude.{◌≡◌, ℕ, ◌+◌, ◌*◌, ◌%◌, ◌<◌, ◌≤◌, true, false, List, [], ◌∷◌}
 use Rattle.std.specs.Prelude.{◌++◌, Result, Ok, Err, Option, Some, None, IfOk, OnErr, IfSome}
 use Rattle.std.specs.Prelude.{IsOkAnd, IsSomeAnd, length, slice_get, slice_index}
-use Rattle.vb_model.specs.Tests.{is_in}
+use Rattle.vb_virtio.specs.Tests.{is_in}
 use Rattle.vb_ram.specs.Pages.{Pages, field, end_of}
 use Rattle.vb_chain.specs.declared.descriptor.TheConstants.{DESCRIPTOR_SIZE}
 use Rattle.vb_chain.specs.declared.fault.ChainFault.{ChainFault}

@@ -2,7 +2,7 @@
 use Rattle.std.specs.Prelude.{◌≡◌, ℕ, ◌+◌, ◌%◌, ◌<◌, Bool, true, false, List, Result, Ok, Err}
 use Rattle.std.specs.Prelude.{Option, Some, None, is_none, if◌then◌else◌, nat_lt, length, take, map}
 use Rattle.std.specs.Prelude.{replicate, slice_get, slice_index, slice_index_or}
-use Rattle.vb_model.specs.Tests.{is_in, each_page}
+use Rattle.vb_virtio.specs.Tests.{is_in, each_page}
 use Rattle.vb_ram.specs.Pages.{Pages}
 use Rattle.vb_ring.specs.declared.layout.Layout.{Layout}
 use Rattle.vb_ring.specs.declared.driver.Full.{Full}

@@ -1,7 +1,7 @@
 -- What the driver's table keeps beside the owners.
 use Rattle.std.specs.Prelude.{◌≡◌, ℕ, ◌-◌, ◌<◌, ◌≤◌, true, false, List, Option, Some, None, length}
 use Rattle.std.specs.Prelude.{slice_index, slice_index_or}
-use Rattle.vb_model.specs.Tests.{is_in}
+use Rattle.vb_virtio.specs.Tests.{is_in}
 use Rattle.vb_chain.specs.declared.pieces.TheConstants.{MAX_DESCRIPTORS}
 use Rattle.vb_ring.specs.Entries.{is_head}
 use Rattle.vb_ring.specs.Numbers.{numbers}

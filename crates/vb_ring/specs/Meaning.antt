@@ -2,8 +2,8 @@
 -- oldest first (VIRTIO 1.1, 2.6).
 use Rattle.std.specs.Prelude.{◌≡◌, ◌≢◌, ℕ, ◌+◌, ◌%◌, ◌<◌, ◌≤◌, true, List, Some, None}
 use Rattle.std.specs.Prelude.{length, take, map, slice_index, slice_index_or}
-use Rattle.vb_model.specs.Tests.{one_if}
-pub use Rattle.vb_model.specs.Tests.{times}
+use Rattle.vb_virtio.specs.Tests.{one_if}
+pub use Rattle.vb_virtio.specs.Tests.{times}
 use Rattle.vb_ram.specs.Pages.{Pages, field}
 use Rattle.vb_chain.specs.declared.descriptor.Descriptor.{Descriptor}
 use Rattle.vb_chain.specs.Table.{descriptor_at}

@@ -5,8 +5,8 @@ ghost use Rattle.vb_ring.specs.Layout.{area_at, layout_of, IsSize, Fits};
 
 use crate::format::{AVAIL_ENTRY_SIZE, RING_META_SIZE, USED_ALIGNMENT};
 use vb_chain::DESCRIPTOR_SIZE;
-use vb_model::limits;
 use vb_ram::PAGE_SIZE;
+use vb_virtio::limits;
 
 /// The fewest descriptors that a queue may have (profile).
 pub const MIN_QUEUE_SIZE: u16 = limits::MIN_QUEUE_SIZE as u16;

@@ -3,7 +3,8 @@ use Rattle.std.proofs.Common.{◌≡◌, refl, sym, ◌∙◌, ap, ℕ, suc, ◌
 use Rattle.std.{specs.List.Sorted.{IsPermutation, IsNonDecreasing}, specs.Prelude.{◌==◌, sum_by}}
 use Rattle.std.proofs.lemmas.List.Sorted.{sum_by-IsPermutation}
 use Rattle.std.{proofs.Common.{List, [], ◌∷◌, arith, zero}, proofs.lemmas.Bool.Decides.nat_tests}
-use Rattle.vb_model.{specs.Tests.{times, one_if}, proofs.Tables.count_by-cons}
+use Rattle.vb_virtio.specs.Tests.{times, one_if}
+use Rattle.vb_virtio.proofs.Tables.{count_by-cons}
 use Rattle.vb_run.specs.{declared.report.GuestReport.GuestReport, Reports.AreApart, Rising.IsRising}
 
 rising_tail : (x : ℕ) (xs : List ℕ) → IsRising (x ∷ xs) → IsRising xs

@@ -4,7 +4,7 @@ use Rattle.std.{proofs.Common.length, specs.{List.list_all, declared.vec.Vec.Vec
 use Rattle.{std.specs.declared.alloc.Global.Global, vb_run.specs.declared.plan.Plan.Plan}
 use Rattle.vb_model.specs.declared.calls.Call.TheVariants.{Init, Reset, Alloc, Free, Read, Write}
 use Rattle.vb_model.specs.declared.calls.Call.TheVariants.{Scribble, Inflate, Deflate, Oom, Report}
-use Rattle.vb_model.specs.declared.calls.Call.TheVariants.{Stats, Reap, Take, Work, Finish, Sweep}
+use Rattle.vb_model.specs.declared.calls.Call.TheVariants.{Stats, Reap, Take, Work, Finish, Serve, Sweep}
 use Rattle.vb_model.specs.declared.calls.Call.{TheVariants.{Ask, SetTarget}, Call}
 use Rattle.vb_run.specs.declared.plan.{GuestPlan.GuestPlan, TheConstants.MAX_SCRIPT_CALLS}
 use Rattle.vb_run.specs.Plans.{config_of, may_stand, is_script, are_scripts, is_guest_plan, is_plan}
@@ -15,14 +15,17 @@ use Rattle.vb_run.specs.Plans.{is_actor_call}
 
 who_may_stand : map (may_stand 1) (Alloc 1 0 ∷ Alloc 0 0 ∷ Free 1 16 0 ∷ Free 0 16 0 ∷ Read 16 0 1
     ∷ Write 16 0 [] ∷ Inflate 1 ∷ Deflate 1 ∷ Oom 1 ∷ Report 0 ∷ Stats ∷ Reap 0 ∷ Init 0 ∷ Reset
-    ∷ Scribble 16 0 [] ∷ Take 0 ∷ Work ∷ Finish 0 0 ∷ Sweep 16 ∷ Ask ∷ SetTarget 1 ∷ []) ≡ true
+    ∷ Scribble 16 0 [] ∷ Take 0 ∷ Work ∷ Finish 0 0 ∷ Serve 0 ∷ Sweep 16 ∷ Ask
+    ∷ SetTarget 1 ∷ []) ≡ true
     ∷ false ∷ true ∷ false ∷ true ∷ true ∷ true ∷ true ∷ true ∷ true
-    ∷ true ∷ true ∷ false ∷ false ∷ false ∷ false ∷ false ∷ false ∷ false ∷ false ∷ false ∷ []
+    ∷ true ∷ true ∷ false ∷ false ∷ false ∷ false ∷ false ∷ false ∷ false ∷ false ∷ false ∷ false
+    ∷ []
 who_may_stand = refl
 
--- ---- which calls an actor of a guest that was started may make: all but these four
+-- ---- which calls an actor of a guest that was started may make: all but these five
 
-no_actor_calls : map is_actor_call (Init 0 ∷ Reset ∷ Scribble 16 0 [] ∷ Sweep 16 ∷ []) ≡ replicate 4 false
+no_actor_calls : map is_actor_call (Init 0 ∷ Reset ∷ Scribble 16 0 [] ∷ Serve 0 ∷ Sweep 16 ∷ [])
+    ≡ replicate 5 false
 no_actor_calls = refl
 
 actor_calls : map is_actor_call (Alloc 1 0 ∷ Free 1 16 0 ∷ Read 16 0 1 ∷ Write 16 0 [] ∷ Inflate 1

@@ -5,9 +5,13 @@ use Rattle.std.specs.Prelude.{None, Option, Some, ◌-◌, filter_map, slice_get
 use Rattle.{std.specs.declared.vec.Vec.Vec, vb_ram.specs.declared.config.Config.Config as Sizes}
 use Rattle.{vb_model.proofs.Unchanged.step_keeps, vb_run.specs.Rounds.{Rounded, round_entries}}
 use Rattle.{vb_model.specs.Balance.spare, vb_run.specs.{Notes.replies_in, declared.plan.Plan.Plan}}
-use Rattle.vb_model.specs.{Guest.{Config, Guest, fresh}, Tests.times, declared.calls.Claim.Claim}
+use Rattle.vb_virtio.specs.Tests.{times}
+use Rattle.vb_virtio.specs.Layout.{reserved_pages}
+use Rattle.vb_virtio.specs.Queues.{Request}
+use Rattle.vb_model.specs.Guest.{Config, Guest, fresh}
+use Rattle.vb_model.specs.declared.calls.Claim.{Claim}
 use Rattle.vb_model.specs.GuestRun.{Called, Entry, IsHistory, Leads, Looked, all_entries}
-use Rattle.vb_model.specs.{Layout.reserved_pages, Requests.Request, declared.replies.Reply.Reply}
+use Rattle.vb_model.specs.declared.replies.Reply.{Reply}
 use Rattle.vb_model.specs.declared.calls.Actor.{Actor, TheVariants.{Balancer, Processor, Worker}}
 use Rattle.vb_model.specs.declared.calls.Call.{Call, TheVariants.{Alloc, SetTarget, Stats, Work}}
 use Rattle.vb_model.specs.declared.replies.Reply.TheVariants.{Done, Filled, Idle, NotUsed, Page}

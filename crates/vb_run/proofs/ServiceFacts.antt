@@ -4,10 +4,12 @@ use Rattle.{std.specs.Prelude.length, vb_model.specs.Requests.{BufferTaken, Buff
 use Rattle.vb_model.proofs.{LifeSteps.fresh_consistent, OrderlySteps.fresh_order}
 use Rattle.vb_model.{proofs.Performed.performed, specs.Guest.{Guest, Config, fresh}}
 use Rattle.vb_model.specs.Orderly.{IsOrderly}
-use Rattle.vb_model.specs.Requests.{Request, Requests, no_requests, NoBuffer, BufferPosted}
+use Rattle.vb_virtio.specs.Queues.{Request}
+use Rattle.vb_virtio.specs.declared.negotiation.TheConstants.{OFFERED_FEATURES}
+use Rattle.vb_virtio.specs.declared.refusals.Refusal.{Refusal}
+use Rattle.vb_virtio.specs.declared.refusals.Refusal.TheVariants.{NotReady, NotTaken}
+use Rattle.vb_model.specs.Requests.{Requests, no_requests, NoBuffer, BufferPosted}
 use Rattle.vb_model.specs.declared.calls.Call.TheVariants.{Take, Work, Finish, Ask, SetTarget}
-use Rattle.vb_model.specs.declared.negotiation.TheConstants.{OFFERED_FEATURES}
-use Rattle.vb_model.specs.declared.replies.Refusal.{Refusal, TheVariants.{NotReady, NotTaken}}
 use Rattle.vb_model.specs.declared.replies.Reply.TheVariants.{Done, Taken, Empty, Worked, Idle}
 use Rattle.vb_model.specs.declared.replies.Reply.TheVariants.{Finished, Asked, Refused}
 use Rattle.vb_run.specs.Services.{services, found_nothing, IsServed, is_waiting, IsTended, IsQuiet}

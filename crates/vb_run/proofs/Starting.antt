@@ -2,7 +2,8 @@
 use Rattle.std.proofs.Common.{◌≡◌, refl, subst, ℕ, zero, suc, ◌+◌, Bool, true, List, [], ◌∷◌, ◌++◌}
 use Rattle.std.proofs.{Common.{length, Some, slice_get, arith, drop, map}, lemmas.Bool.and_parts}
 use Rattle.{std.specs.declared.{alloc.Global.Global, vec.Vec.Vec}, vb_run.specs.Rounds.Rounded}
-use Rattle.vb_model.specs.{declared.calls.Call.Call, Limits.is_config}
+use Rattle.vb_virtio.specs.Limits.{is_config}
+use Rattle.vb_model.specs.declared.calls.Call.{Call}
 use Rattle.vb_run.specs.{declared.plan.GuestPlan.GuestPlan, Past.{Progress, AreBegun, IsScript}}
 use Rattle.vb_run.specs.{Plans.{are_scripts, is_script, is_guest_plan}, Reports.IsGuestReport}
 use Rattle.vb_run.{specs.declared.report.GuestReport.GuestReport, proofs.Lists.each_push}

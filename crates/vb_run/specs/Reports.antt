@@ -6,7 +6,7 @@ use Rattle.vb_model.specs.declared.calls.Actor.TheVariants.{Processor, Balancer}
 use Rattle.vb_model.specs.Guest.{Guest}
 use Rattle.vb_model.specs.GuestRun.{Entry}
 use Rattle.vb_model.specs.Balance.{IsAnswer}
-use Rattle.vb_model.specs.Tests.{times}
+use Rattle.vb_virtio.specs.Tests.{times}
 use Rattle.vb_model.specs.Histories.{IsSafeHistory}
 use Rattle.vb_run.specs.declared.plan.Plan.{Plan}
 use Rattle.vb_run.specs.declared.plan.GuestPlan.{GuestPlan}

@@ -1,7 +1,7 @@
 //! Whether guests have their frames for themselves.
 
 ghost use Rattle.std.specs.Prelude.{◌≡◌, ◌↔◌, ◌≤◌, ◌<◌, ℕ, true, IfOk, sum_by};
-ghost use Rattle.vb_model.specs.Tests.{times};
+ghost use Rattle.vb_virtio.specs.Tests.{times};
 ghost use Rattle.vb_run.specs.Reports.{AreApart};
 ghost use Rattle.vb_run.specs.Rising.{IsRising};
 

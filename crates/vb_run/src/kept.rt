@@ -6,7 +6,7 @@ ghost use Rattle.std.specs.Prelude.{MatchBool, MatchOption, slice_set};
 ghost use Rattle.vb_model.specs.declared.calls.Actor.TheVariants.{Balancer};
 ghost use Rattle.vb_model.specs.declared.calls.Call.TheVariants.{SetTarget};
 ghost use Rattle.vb_model.specs.Guest.{Guest, fresh};
-ghost use Rattle.vb_model.specs.Limits.{is_config};
+ghost use Rattle.vb_virtio.specs.Limits.{is_config};
 ghost use Rattle.vb_model.specs.GuestRun.{Looked};
 ghost use Rattle.vb_model.specs.declared.calls.Claim.{Claim as AnyClaim};
 ghost use Rattle.vb_model.specs.declared.replies.Reply.{Reply as AnyReply};
@@ -30,10 +30,10 @@ use std::convert::AsSlice;
 use std::marker::Model;
 use std::sync::Wait;
 use vb_balance::GuestNeed;
-use vb_model::negotiation::OFFERED_FEATURES;
 use vb_model::{Call, Claim, Reply};
 use vb_ram::Config;
 use vb_slot::GuestSlot;
+use vb_virtio::negotiation::OFFERED_FEATURES;
 
 /// A guest with its history, and the scripts of its processors.
 #[derive(Drop)]

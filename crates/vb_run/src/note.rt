@@ -9,8 +9,8 @@ ghost use Rattle.vb_run.specs.Notes.{actor_in, call_in, noted_entry, reply_in};
 use crate::entry::{Entry, Step};
 use crate::served::{SERVICES, service};
 use std::alloc::{AllocError, Global};
-use vb_model::negotiation::OFFERED_FEATURES;
 use vb_model::{Actor, Call, Claim, Reply};
+use vb_virtio::negotiation::OFFERED_FEATURES;
 
 /// Who made a call, and what tells which one it was.
 #[derive(Clone, Copy, Debug, PartialEq, Eq)]

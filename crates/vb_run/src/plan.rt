@@ -5,8 +5,8 @@ ghost use Rattle.std.specs.List.{list_all};
 ghost use Rattle.vb_run.specs.Plans.{may_stand, is_script, are_scripts, is_guest_plan, is_plan};
 
 use vb_model::Call;
-use vb_model::limits::MAX_GUESTS;
 use vb_ram::Config;
+use vb_virtio::limits::MAX_GUESTS;
 
 /// Calls that one script may have.
 pub const MAX_SCRIPT_CALLS: usize = 100_000;

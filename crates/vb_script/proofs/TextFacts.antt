@@ -102,8 +102,9 @@ of_threads = refl
 
 -- what only a script of events has
 not_of_threads : map threads_form_of (codes "unplug" ∷ codes "restart" ∷ codes "reset" ∷ codes "init"
-    ∷ codes "scribble" ∷ codes "take" ∷ codes "work" ∷ codes "finish" ∷ codes "sweep" ∷ codes "ask"
+    ∷ codes "scribble" ∷ codes "take" ∷ codes "work" ∷ codes "finish" ∷ codes "serve" ∷ codes "sweep"
+    ∷ codes "ask"
     ∷ codes "target" ∷ codes "balance" ∷ codes "places" ∷ codes "pages" ∷ codes "balloon"
-    ∷ codes "memory" ∷ codes "backing" ∷ codes "frames" ∷ []) ≡ replicate 18 None
+    ∷ codes "memory" ∷ codes "backing" ∷ codes "frames" ∷ []) ≡ replicate 19 None
 unfolding threads_form_of
 not_of_threads = refl

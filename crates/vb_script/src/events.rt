@@ -19,8 +19,8 @@ use crate::reading::Item;
 use crate::values::{bytes, features, number, positive};
 use crate::words::Words;
 use std::alloc::Global;
-use vb_model::negotiation::OFFERED_FEATURES;
 use vb_model::{Bytes, Call, Event, GuestSize, Query};
+use vb_virtio::negotiation::OFFERED_FEATURES;
 
 impl Item for Event {
     ghost use Rattle.vb_script.specs.Texts.{events};
@@ -177,6 +177,7 @@ fn of_two(name: TwoNumbers, guest: u32, number: u32) -> Event
         TwoNumbers::Report => on_guest(guest, Call::Report { from: number }),
         TwoNumbers::Reap => on_guest(guest, Call::Reap { queue: number }),
         TwoNumbers::Take => on_guest(guest, Call::Take { queue: number }),
+        TwoNumbers::Serve => on_guest(guest, Call::Serve { queue: number }),
         TwoNumbers::Sweep => on_guest(guest, Call::Sweep { page: number }),
         TwoNumbers::Target => on_guest(guest, Call::SetTarget { pages: number }),
         TwoNumbers::Backing => asking(guest, Query::Backing { page: number }),

@@ -31,6 +31,7 @@ pub enum TwoNumbers {
     Report,
     Reap,
     Take,
+    Serve,
     Sweep,
     Target,
     Backing,
@@ -92,11 +93,12 @@ pub static FORMS_OF_4: [(&[u8], Form); 7] = [
 ];
 
 /// The events whose words have five letters.
-pub static FORMS_OF_5: [(&[u8], Form); 6] = [
+pub static FORMS_OF_5: [(&[u8], Form); 7] = [
     (b"reset", Form::One(OneNumber::Reset)),
     (b"alloc", Form::Three(ThreeNumbers::Alloc)),
     (b"write", Form::Bytes(WithBytes::Write)),
     (b"stats", Form::One(OneNumber::Stats)),
+    (b"serve", Form::Two(TwoNumbers::Serve)),
     (b"sweep", Form::Two(TwoNumbers::Sweep)),
     (b"pages", Form::Pages),
 ];

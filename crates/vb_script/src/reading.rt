@@ -3,7 +3,7 @@
 ghost use Rattle.std.specs.Prelude.{◌≡◌, ◌≤◌, ◌/◌, ◌+◌, ◌∷◌, true, vec_capacity};
 ghost use Rattle.std.specs.Prelude.{IfErr, IfOk, IsSome, OnErr, OnOk};
 ghost use Rattle.std.specs.Option.{option_map};
-ghost use Rattle.vb_model.specs.declared.limits.TheConstants.{MAX_FRAMES};
+ghost use Rattle.vb_virtio.specs.declared.limits.TheConstants.{MAX_FRAMES};
 ghost use Rattle.vb_script.specs.Plans.{planned_by, threads_script_of};
 ghost use Rattle.vb_script.specs.Scripts.{IfBadLine, fault_at, lines_left, said_by, told_by};
 ghost use Rattle.vb_script.specs.Texts.{Language, begins_with_host, host_told, script_of, told_in};

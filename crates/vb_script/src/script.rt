@@ -1,7 +1,7 @@
 //! Scripts: a host, its spare devices, and what happens.
 
 ghost use Rattle.std.specs.Prelude.{◌≡◌, ◌≤◌, vec_capacity, vec_len};
-ghost use Rattle.vb_model.specs.declared.limits.TheConstants.{MAX_FRAMES};
+ghost use Rattle.vb_virtio.specs.declared.limits.TheConstants.{MAX_FRAMES};
 
 use crate::lines::Pace;
 use vb_model::{Call, Event};
@@ -10,7 +10,7 @@ use vb_model::{Call, Event};
 /// others what happens. Whoever has one can run it: its numbers are within their bounds.
 #[derive(Drop)]
 pub struct Script {
-    /// Frames of the host, from 1 to `MAX_FRAMES` of `vb_model`.
+    /// Frames of the host, from 1 to `MAX_FRAMES` of `vb_virtio`.
     pub frames: u32,
     /// The spare devices, at most 64, in the order in which plugs take them.
     pub spares: Vec<Pace>,
@@ -25,7 +25,7 @@ pub struct Script {
 /// What a text says, as far as it was read.
 #[derive(Drop)]
 pub struct Reading<T> {
-    /// Frames of the host, from 1 to `MAX_FRAMES` of `vb_model`.
+    /// Frames of the host, from 1 to `MAX_FRAMES` of `vb_virtio`.
     pub frames: u32,
     /// The spare devices, at most 64, in order.
     pub spares: Vec<Pace>,
@@ -42,7 +42,7 @@ pub struct Reading<T> {
 /// is for the runner to say.
 #[derive(Drop)]
 pub struct ThreadsScript {
-    /// Frames of the host, from 1 to `MAX_FRAMES` of `vb_model`.
+    /// Frames of the host, from 1 to `MAX_FRAMES` of `vb_virtio`.
     pub frames: u32,
     /// The guests in the order of their plugs, from 1 to 64 of them. A guest's number is its place
     /// here.

@@ -10,7 +10,7 @@ ghost use Rattle.vb_script.specs.Words.{number_of};
 use crate::lines::LineFault;
 use std::alloc::Global;
 use vb_model::Bytes;
-use vb_model::limits::PAGE_SIZE;
+use vb_virtio::limits::PAGE_SIZE;
 
 /// Hexadecimal digits of a line's features.
 const FEATURE_DIGITS: usize = 16;

@@ -2,7 +2,7 @@
 
 ghost use Rattle.std.specs.Prelude.{◌≡◌, ℕ, ◌<◌, ◌≤◌, [], ◌∷◌, true, false, IfOk, IfSome, IfNone};
 ghost use Rattle.std.specs.Arc.{arc_value};
-ghost use Rattle.vb_model.specs.declared.limits.TheConstants.{MAX_FRAMES, MAX_GUESTS};
+ghost use Rattle.vb_virtio.specs.declared.limits.TheConstants.{MAX_FRAMES, MAX_GUESTS};
 ghost use Rattle.vb_device.specs.Own.{has, without};
 ghost use Rattle.vb_shared.specs.Passes.{IsTable, new_passes};
 ghost use Rattle.vb_shared.specs.Steps.{opening_view};
@@ -14,7 +14,7 @@ use atomic_table::Table;
 use std::alloc::{AllocError, Global};
 use std::marker::Model;
 use std::sync::Arc;
-use vb_model::limits::{MAX_FRAMES, MAX_GUESTS};
+use vb_virtio::limits::{MAX_FRAMES, MAX_GUESTS};
 
 /// The words, which the table and its passes share.
 type Shelf = Table<(), View, Size, Frames, Global>;

@@ -2,7 +2,9 @@
 use Rattle.std.{specs.Prelude.{◌≡◌, ℕ, ◌≤◌}, proofs.Common.{sym, ◌∙◌, ap, arith, suc, zero}}
 use Rattle.std.specs.Prelude.{Bool, true, false, List, [], ◌∷◌, refl, if◌then◌else◌, Option, None}
 use Rattle.vb_model.specs.declared.{calls.Call.Call, replies.Reply.{Reply, TheVariants.Backing}}
-use Rattle.vb_model.specs.{declared.calls.Claim.Claim, Guest.{Guest, Config, fresh}, Tests.one_if}
+use Rattle.vb_virtio.specs.Tests.{one_if}
+use Rattle.vb_model.specs.declared.calls.Claim.{Claim}
+use Rattle.vb_model.specs.Guest.{Guest, Config, fresh}
 use Rattle.{vb_frames.specs.Out.is_out, vb_guest.{specs.Stands.Stands, proofs.Fresh.backs_none}}
 use Rattle.{vb_ram.specs.{Pages.Pages, Part.Part}, vb_device.specs.Own.has}
 use Rattle.{vb_driver.specs.State.DriverState, vb_slot.specs.Alone.{AreBehind, IsAlone, StepsTo}}

@@ -3,8 +3,10 @@ use Rattle.std.specs.Prelude.{◌≡◌, ◌≢◌, ℕ, ◌+◌, ◌≤◌, ◌
 use Rattle.std.specs.Prelude.{Bool, true, false, cond, List, [], ◌∷◌, ◌++◌, length, nat_lt, refl}
 use Rattle.std.proofs.{Common.{sym, ◌∙◌, ap, arith, inl, inr}, lemmas.List.Folds.list_any-append}
 use Rattle.std.proofs.lemmas.Bool.{cases_eq, cases_lt, eq-eqb, ne_eqb, lt-ltb, le-ltb}
-use Rattle.{vb_model.specs.Tests.{times, one_if}, vb_device.specs.Own.{has, without, SameSet}}
-use Rattle.{vb_model.proofs.Tables.count_by-append, vb_guest.proofs.Moving.{times_first, times_one}}
+use Rattle.vb_virtio.specs.Tests.{times, one_if}
+use Rattle.vb_virtio.proofs.Tables.{count_by-append}
+use Rattle.vb_device.specs.Own.{has, without, SameSet}
+use Rattle.vb_guest.proofs.Moving.{times_first, times_one}
 
 pub last : (k n : ℕ) (xs : List ℕ) → times k (xs ++ n ∷ []) ≡ times k xs + one_if (n == k)
 last k n xs = omega (arith, count_by-append (λ (m : ℕ). m == k) xs (n ∷ []), times_one k n)

@@ -2,7 +2,7 @@
 
 ghost use Rattle.std.specs.Prelude.{◌≡◌, IfOk, IfErr, true, []};
 ghost use Rattle.vb_model.specs.Guest.{Guest, fresh};
-ghost use Rattle.vb_model.specs.Limits.{is_config};
+ghost use Rattle.vb_virtio.specs.Limits.{is_config};
 ghost use Rattle.vb_model.specs.Queries.{Answers};
 ghost use Rattle.vb_slot.specs.Alone.{AreBehind};
 ghost use Rattle.vb_slot.specs.Spare.{IsNew, config_of};

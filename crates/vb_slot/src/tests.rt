@@ -14,8 +14,9 @@ use keeping::KeepingDevice;
 use std::alloc::Global;
 use std::process::Abort;
 use vb_device::{Claimed, Device};
-use vb_model::{Bytes, Call, Claim, Query, Refusal, Reply};
+use vb_model::{Bytes, Call, Claim, Query, Reply};
 use vb_ram::Config;
+use vb_virtio::Refusal;
 
 /// All features that the device offers.
 const FEATURES: u64 = 0x1_0000_0027;

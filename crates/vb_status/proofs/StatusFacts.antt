@@ -1,8 +1,8 @@
 -- Writes of the status, refusals and initialisations, worked out.
 use Rattle.std.proofs.Common.{◌≡◌, ℕ, true, false, [], ◌∷◌, map, refl, arith, ap}
 use Rattle.std.specs.Prelude.{Some, None, Ok, Err}
-use Rattle.vb_model.specs.declared.replies.Refusal.TheVariants.{ClearsBit, OutOfOrder, NoFeature}
-use Rattle.vb_model.specs.declared.replies.Refusal.TheVariants.{FeatureNotOffered, VersionMissing}
+use Rattle.vb_virtio.specs.declared.refusals.Refusal.TheVariants.{ClearsBit, OutOfOrder, NoFeature}
+use Rattle.vb_virtio.specs.declared.refusals.Refusal.TheVariants.{FeatureNotOffered, VersionMissing}
 use Rattle.vb_ram.specs.Part.{Part, no_part, no_queue}
 use Rattle.vb_status.specs.declared.bits.StatusFault.TheVariants.{ClearsBit as ClearsOne}
 use Rattle.vb_status.specs.declared.bits.StatusFault.TheVariants.{OutOfOrder as BreaksOrder}

@@ -3,7 +3,10 @@ use Rattle.std.proofs.Common.{◌≡◌, ℕ, zero, suc, ◌+◌, ◌<◌, ◌�
 use Rattle.std.{specs.Option.option_to_list, specs.Prelude.slice_index}
 use Rattle.std.proofs.Common.{sym, ap, ◌∙◌, arith, Option, Some, None, is_some, count_by}
 use Rattle.std.proofs.lemmas.List.{append-nil, append_assoc}
-use Rattle.vb_model.{specs.Balance.{Need, need}, specs.Guest.Guest, proofs.Tables.count_by-cons}
+use Rattle.vb_virtio.specs.Targets.{Need}
+use Rattle.vb_virtio.proofs.Tables.{count_by-cons}
+use Rattle.vb_model.specs.Balance.{need}
+use Rattle.vb_model.specs.Guest.{Guest}
 use Rattle.vb_model.specs.{World.{World, guest_at, with_guest}, HostEvents.{with_targets, needs}}
 
 plus_one : (n : ℕ) → n + 1 ≡ suc n

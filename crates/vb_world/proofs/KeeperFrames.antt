@@ -2,7 +2,9 @@
 use Rattle.std.specs.Prelude.{◌≡◌, ℕ, ◌+◌, Bool, false, List, [], ◌∷◌, length, if◌then◌else◌}
 use Rattle.{std.proofs.Common.{◌∙◌, ap, subst, arith}, vb_driver.specs.State.DriverState}
 use Rattle.{vb_model.specs.{declared.calls.Call.Call, Guest.Guest}, vb_device.specs.Own.has}
-use Rattle.vb_model.specs.{declared.{calls.Claim.Claim, replies.Reply.Reply}, Tests.one_if}
+use Rattle.vb_virtio.specs.Tests.{one_if}
+use Rattle.vb_model.specs.declared.calls.Claim.{Claim}
+use Rattle.vb_model.specs.declared.replies.Reply.{Reply}
 use Rattle.vb_model.specs.declared.calls.Claim.TheVariants.{Gave, GaveNoFrame, GaveNoMemory}
 use Rattle.{vb_ram.specs.{Pages.Pages, Part.Part}, vb_frames.specs.Out.{is_out, AllAnswered}}
 use Rattle.vb_slot.specs.{Stands.Stands, Supply.{Supply, AreClaimed, is_used, Moves}}

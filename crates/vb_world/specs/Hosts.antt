@@ -4,8 +4,8 @@ use Rattle.std.specs.Prelude.{false, sum_by, MatchOption, ⊤}
 use Rattle.std.specs.declared.alloc.Global.{Global}
 use Rattle.std.specs.declared.dyn_box.DynBox.{DynBox}
 use Rattle.slab.specs.Slab.{Slab, get, slab_len}
-use Rattle.vb_model.specs.Limits.{max_guests}
-use Rattle.vb_model.specs.Tests.{one_if}
+use Rattle.vb_virtio.specs.Limits.{max_guests}
+use Rattle.vb_virtio.specs.Tests.{one_if}
 use Rattle.vb_model.specs.Guest.{Guest}
 use Rattle.vb_model.specs.World.{World as Model, guest_at}
 use Rattle.vb_model.specs.HostRefusals.{plugged_count}

@@ -11,7 +11,7 @@ ghost use Rattle.vb_model.specs.declared.calls.Event.TheVariants.{Plug, Guest as
 ghost use Rattle.vb_model.specs.declared.calls.Event.TheVariants.{Unplug, Restart, Balance};
 ghost use Rattle.vb_model.specs.declared.calls.Event.TheVariants.{Query as OnQuery};
 ghost use Rattle.vb_model.specs.declared.calls.Event.TheVariants.{Frames as CountFrames};
-ghost use Rattle.vb_model.specs.Limits.{is_config, max_guests};
+ghost use Rattle.vb_virtio.specs.Limits.{is_config, max_guests};
 ghost use Rattle.slab.specs.Slab.{slab_len};
 ghost use Rattle.vb_slot.specs.Spare.{IsSpare};
 ghost use Rattle.vb_world.specs.Hosts.{IsWorld};
@@ -22,10 +22,11 @@ use std::alloc::{AllocError, Global};
 use vb_balance::{GuestNeed, targets};
 use vb_device::Device;
 use vb_frames::FrameTable;
-use vb_model::limits::{MAX_FRAMES, MAX_GUESTS};
-use vb_model::{Call, Event, GuestSize, Query, Refusal, Reply};
+use vb_model::{Call, Event, GuestSize, Query, Reply};
 use vb_ram::Config;
 use vb_slot::Slot;
+use vb_virtio::Refusal;
+use vb_virtio::limits::{MAX_FRAMES, MAX_GUESTS};
 
 /// As many guests as there may be, as a capacity.
 const GUESTS: usize = MAX_GUESTS as usize;

@@ -5,7 +5,7 @@ use super::bytes::{
 };
 use super::{Answer, Scenario, Sight, Step, expect};
 use crate::Immediate;
-use vb_model::Refusal;
+use vb_virtio::Refusal;
 
 /// Pages 17 to 20 go into the balloon.
 pub(super) const INFLATE: &'static [(Step, Answer)] = &[

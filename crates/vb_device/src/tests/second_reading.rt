@@ -3,7 +3,7 @@
 use super::Answer;
 use arrayvec::ArrayVec;
 use byteorder::{ByteOrder, LittleEndian};
-use vb_model::Refusal;
+use vb_virtio::Refusal;
 
 /// How large a guest is, and where its rings stand.
 #[derive(Clone, Copy)]

@@ -2,11 +2,11 @@
 
 ghost use Rattle.std.specs.Prelude.{◌≡◌, ◌≤◌, ◌+◌, ◌-◌, length, take};
 ghost use Rattle.vb_bits.specs.Sets.{has};
-ghost use Rattle.vb_model.specs.Tests.{pages_where};
+ghost use Rattle.vb_virtio.specs.Tests.{pages_where};
 ghost use Rattle.vb_model.specs.Pages.{placed, is_lent, is_stranded};
 ghost use Rattle.vb_model.specs.declared.places.Place.TheVariants.{Taking};
-ghost use Rattle.vb_model.specs.Limits.{max_request_pages};
-ghost use Rattle.vb_model.specs.declared.limits.TheConstants.{MAX_GUEST_PAGES};
+ghost use Rattle.vb_virtio.specs.Limits.{max_request_pages};
+ghost use Rattle.vb_virtio.specs.declared.limits.TheConstants.{MAX_GUEST_PAGES};
 ghost use Rattle.vb_driver.specs.Places.{AreLentBits};
 
 use crate::places::PlaceTable;

@@ -12,11 +12,12 @@ use pages::{Block, Pages};
 use requests::Requests;
 pub(crate) use rows::{Act, Row, Said, rows_of};
 use std::alloc::{AllocError, Global};
-use vb_model::layout::{DEFLATE_QUEUE, INFLATE_QUEUE, REPORT_QUEUE, STATISTICS_QUEUE};
-use vb_model::limits::{MAX_ORDER, PAGE_SIZE};
-use vb_model::{Claim, Place, Refusal};
+use vb_model::{Claim, Place};
 use vb_ram::Config;
 use vb_run::Entry;
+use vb_virtio::Refusal;
+use vb_virtio::layout::{DEFLATE_QUEUE, INFLATE_QUEUE, REPORT_QUEUE, STATISTICS_QUEUE};
+use vb_virtio::limits::{MAX_ORDER, PAGE_SIZE};
 
 /// The features that a driver accepts by itself.
 const ALL_FEATURES: u64 = 0x1_0000_0027;

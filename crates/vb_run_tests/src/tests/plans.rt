@@ -1,9 +1,10 @@
 //! Plans of tests.
 
 use std::alloc::{AllocError, Global};
-use vb_model::{Bytes, Call, Refusal, Reply};
+use vb_model::{Bytes, Call, Reply};
 use vb_ram::Config;
 use vb_run::{Bells, Caller, GuestPlan, Note, Plan};
+use vb_virtio::Refusal;
 
 /// A guest of 64 pages with one processor.
 pub(super) const SMALL: Config = Config {

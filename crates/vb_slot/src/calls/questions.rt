@@ -4,7 +4,7 @@ ghost use Rattle.std.specs.Prelude.{◌≡◌, ◌≤◌, length, count_by, IfOk
 ghost use Rattle.vb_model.specs.declared.replies.Reply.TheVariants.{Places, Backing};
 ghost use Rattle.vb_model.specs.Balance.{spare};
 ghost use Rattle.vb_model.specs.Queries.{is_place, runs};
-ghost use Rattle.vb_model.specs.Tests.{pages_where};
+ghost use Rattle.vb_virtio.specs.Tests.{pages_where};
 ghost use Rattle.vb_driver.specs.Calls.{AreCountsOf};
 ghost use Rattle.vb_guest.specs.Replies.{runs_reply, balloon_reply, statistics_reply};
 ghost use Rattle.vb_slot.specs.Slots.{claims_of, memory_of, part_of, driver_of, HasGuest};

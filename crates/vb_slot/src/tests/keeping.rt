@@ -2,15 +2,15 @@
 
 ghost use Rattle.std.specs.Prelude.{◌≡◌, ◌≤◌, ◌<◌, ◌+◌, ◌++◌, ◌∷◌, ℕ, [], true, false, not, filter};
 ghost use Rattle.std.specs.Prelude.{length, vec_len, vec_capacity, nat_lt, IfOk, ◌==◌};
-ghost use Rattle.vb_model.specs.Tests.{times, one_if};
+ghost use Rattle.vb_virtio.specs.Tests.{times, one_if};
 ghost use Rattle.vb_ram.specs.Part.{Part};
 ghost use Rattle.vb_device.specs.Calls.{IsUnused, Claims, PutsBack};
 
 use std::alloc::{AllocError, Global};
 use vb_device::{Claimed, Device, ImmediateDevice, Statistics, Worked};
-use vb_model::Refusal;
 use vb_ram::{Config, Frame, GuestBytes, RamFault, SupplyRefused};
 use vb_status::{Features, Port, Status, StatusFault};
+use vb_virtio::Refusal;
 
 /// Puts a number behind the others, for which there is room.
 fn put_last(numbers: &mut Vec<u32>, number: u32)
@@ -248,6 +248,10 @@ impl Device for KeepingDevice {
 
     fn finish(&mut self, queue: u32, index: u32) -> Result<u16, Refusal> {
         self.inner.finish(queue, index)
+    }
+
+    fn serve(&mut self, queue: u32) -> Result<Option<u16>, Refusal> {
+        self.inner.serve(queue)
     }
 
     fn sweep(&mut self, page: u32) -> Result<bool, Refusal> {

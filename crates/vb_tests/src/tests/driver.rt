@@ -2,8 +2,8 @@
 //! answer; what a device would write into a ring is a step too.
 
 ghost use Rattle.std.specs.Prelude.{◌≡◌, true};
-ghost use Rattle.vb_model.specs.Limits.{is_config};
-ghost use Rattle.vb_model.specs.Tables.{is_up};
+ghost use Rattle.vb_virtio.specs.Limits.{is_config};
+ghost use Rattle.vb_virtio.specs.Status.{is_up};
 
 mod blocks;
 mod lent;
@@ -21,9 +21,10 @@ use order_of_writes::{Awaited, Deed, Recorder};
 use std::alloc::Global;
 use std::process::Abort;
 use vb_driver::{Driver, Posted, Reaped};
-use vb_model::{Place, PlaceCounts, Refusal};
+use vb_model::{Place, PlaceCounts};
 use vb_ram::{Config, Frame, GuestBytes, Ram};
 use vb_status::{Features, MemoryPort, Port, Status};
+use vb_virtio::Refusal;
 
 /// What is done with a guest.
 #[derive(Clone, Copy)]

@@ -11,8 +11,8 @@ use Step::{Alloc, Bits, Free, FreeCount, Held, Isolate, Renew, TakeThree};
 use arrayvec::ArrayVec;
 use std::alloc::{AllocError, Global};
 use std::test::Fail;
-use vb_model::limits::MAX_ORDER;
 use vb_pages::{FreeBlock, PageFault, Pages};
+use vb_virtio::limits::MAX_ORDER;
 
 /// One call of an example.
 enum Step {

@@ -5,10 +5,9 @@ use std::alloc::{AllocError, Global};
 use std::io;
 use std::io::{ErrorKind, Write};
 use std::process::Abort;
-use vb_model::{
-    BalloonState, Bytes, LastStatistics, Numbers, PageRun, PageRuns, PlaceCounts, Refusal, Reply,
-};
+use vb_model::{BalloonState, Bytes, PageRun, PageRuns, PlaceCounts, Reply};
 use vb_reply::{write_replies, write_reply};
+use vb_virtio::{LastStatistics, Numbers, Refusal};
 
 /// The text that is written of a reply.
 fn written(alloc: Global, reply: &Reply) -> Vec<u8> {
@@ -49,6 +48,20 @@ fn requests(rt: HostRuntime) {
     check(&rt, alloc, Reply::Reaped { head, pages }, "reaped 1 44");
     check(&rt, alloc, Reply::Taken { head }, "taken 1");
     check(&rt, alloc, Reply::Finished { head }, "finished 1");
+}
+
+#[test]
+fn served_chains(rt: HostRuntime) {
+    let alloc = rt.alloc();
+    let (chains, broken) = (0, None);
+    check(&rt, alloc, Reply::Served { chains, broken }, "served 0");
+    let (chains, broken) = (256, Some(10));
+    check(
+        &rt,
+        alloc,
+        Reply::Served { chains, broken },
+        "served 256 broken C10",
+    );
 }
 
 #[test]

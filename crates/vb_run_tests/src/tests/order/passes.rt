@@ -6,8 +6,8 @@ use crate::tests::plain::{Act, Said, rows_of};
 use crate::tests::replay::{Pair, pairs_by};
 use std::alloc::{AllocError, Global};
 use vb_model::Actor;
-use vb_model::layout::{DEFLATE_QUEUE, INFLATE_QUEUE, REPORT_QUEUE, STATISTICS_QUEUE};
 use vb_run::{Bells, Entry};
+use vb_virtio::layout::{DEFLATE_QUEUE, INFLATE_QUEUE, REPORT_QUEUE, STATISTICS_QUEUE};
 
 /// The calls by which a worker looks for everything that there may be to do: chains of each of four
 /// queues, a page, a request of each of three queues that is done, and statistics.

@@ -2,8 +2,8 @@
 
 use super::Needed;
 use std::alloc::{AllocError, Global};
-use vb_model::limits::{MAX_ORDER, MIN_REPORTED_ORDER, PAGE_SIZE};
 use vb_model::{Claim, Place};
+use vb_virtio::limits::{MAX_ORDER, MIN_REPORTED_ORDER, PAGE_SIZE};
 
 /// How many pages a block has, by its order.
 static SIZES: [u32; 10] = [1, 2, 4, 8, 16, 32, 64, 128, 256, 512];

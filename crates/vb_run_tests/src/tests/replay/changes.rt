@@ -4,9 +4,10 @@
 use super::{Case, is_replay};
 use crate::tests::plain::{Act, Row, Said, are_permitted};
 use std::alloc::{AllocError, Global};
-use vb_model::layout::{DEFLATE_QUEUE, INFLATE_QUEUE, REPORT_QUEUE, STATISTICS_QUEUE};
-use vb_model::{Actor, Refusal};
+use vb_model::Actor;
 use vb_run::GuestReport;
+use vb_virtio::Refusal;
+use vb_virtio::layout::{DEFLATE_QUEUE, INFLATE_QUEUE, REPORT_QUEUE, STATISTICS_QUEUE};
 
 /// What is done to a history at a place.
 #[derive(Clone, Copy, Debug)]

@@ -2,14 +2,15 @@
 //! out by hand, and of each page just what `place` tells of it.
 
 ghost use Rattle.std.specs.Prelude.{◌≡◌, true};
-ghost use Rattle.vb_model.specs.Limits.{is_config};
+ghost use Rattle.vb_virtio.specs.Limits.{is_config};
 
 use super::{ALL, Answer, Guest, Request, Table, small_queues};
 use std::alloc::Global;
 use std::process::Abort;
 use vb_driver::Driver;
-use vb_model::{Place, Refusal};
+use vb_model::Place;
 use vb_status::Port;
+use vb_virtio::Refusal;
 
 /// What is done with a guest.
 #[derive(Clone, Copy)]

@@ -8,9 +8,9 @@ use rand_core::Rng;
 use rand_pcg::Pcg32;
 use std::alloc::Global;
 use std::process::Abort;
-use vb_model::Refusal;
 use vb_ram::GuestBytes;
 use vb_status::Port;
+use vb_virtio::Refusal;
 
 /// A number below this one, or 0.
 fn below(numbers: &mut Pcg32, end: u32) -> u32 {

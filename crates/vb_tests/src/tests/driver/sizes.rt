@@ -1,8 +1,9 @@
 //! Guests of other sizes: rings over two pages, pages that are no power of two, the most pages.
 
 use super::{ALL, AVAILABLE, Answer, DONE, Line, NO, Run, Sight, Step, Table, YES, first_wrong};
-use vb_model::{Place, Refusal};
+use vb_model::Place;
 use vb_ram::Config;
+use vb_virtio::Refusal;
 
 /// A guest of so many pages, whose queues have so many descriptors; which of its pages have frames,
 /// and what is done with it.

@@ -2,7 +2,8 @@
 //! the request that names them.
 
 use super::{ALL, Answer, DONE, Line, Sight, Step, YES, expect};
-use vb_model::{Place, Refusal};
+use vb_model::Place;
+use vb_virtio::Refusal;
 
 /// All that a device offers but MUST_TELL_HOST.
 const UNTOLD: u64 = 0x1_0000_0026;
