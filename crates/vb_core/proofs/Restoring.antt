@@ -178,9 +178,11 @@ older_was : (bytes : List ℕ) → AreBytes bytes → length bytes ≡ 191 → u
     → u32_at bytes VERSION_AT ≡ 2 → u32_at bytes LENGTH_AT ≡ 191
     → u64_at bytes 183 ≡ checksum (take 183 bytes) → WasSaved bytes (older_in bytes)
 older_was bytes all len magic version told sum =
-    inr (summed 191 (older_parts (older_in bytes)) bytes all (omega arith) len
-    (row_again 2 191 bytes all (omega (arith, len)) magic version told) sum,
-    record { setting = refl; deflate = refl; pages = refl })
+    inr (
+      summed 191 (older_parts (older_in bytes)) bytes all (omega arith) len
+          (row_again 2 191 bytes all (omega (arith, len)) magic version told) sum,
+      record { setting = refl; deflate = refl; pages = refl },
+    )
 
 -- bytes that are so long, and say so
 long_so : (len version : ℕ) (bytes : List ℕ) → length_of version ≡ len
@@ -208,15 +210,15 @@ was_saved : (bytes : List ℕ) → AreBytes bytes → is_state bytes ≡ true �
 was_saved bytes all state version len sum =
     elim (or_cases (u32_at bytes VERSION_AT == 3) (u32_at bytes VERSION_AT == 2) version) [
       | inl newer ↦ let v = eqb-true (u32_at bytes VERSION_AT) 3 newer in
-        let l = long_so 200 3 bytes refl v len in
-        subst (λ (s : Saved). WasSaved bytes s) (sym (state_so 200 bytes l.1))
-        (newer_was bytes all l.1 (eqb-true (u64_at bytes 0) MAGIC state) v l.0
-        (sum_so 200 bytes l.1 sum))
+          let l = long_so 200 3 bytes refl v len in
+          subst (λ (s : Saved). WasSaved bytes s) (sym (state_so 200 bytes l.1))
+          (newer_was bytes all l.1 (eqb-true (u64_at bytes 0) MAGIC state) v l.0
+          (sum_so 200 bytes l.1 sum))
       | inr older ↦ let v = eqb-true (u32_at bytes VERSION_AT) 2 older in
-        let l = long_so 191 2 bytes refl v len in
-        subst (λ (s : Saved). WasSaved bytes s) (sym (state_so 191 bytes l.1))
-        (older_was bytes all l.1 (eqb-true (u64_at bytes 0) MAGIC state) v l.0
-        (sum_so 191 bytes l.1 sum))
+          let l = long_so 191 2 bytes refl v len in
+          subst (λ (s : Saved). WasSaved bytes s) (sym (state_so 191 bytes l.1))
+          (older_was bytes all l.1 (eqb-true (u64_at bytes 0) MAGIC state) v l.0
+          (sum_so 191 bytes l.1 sum))
     ]
 
 pub only_saved : (bytes : List ℕ) (s : Saved) → AreBytes bytes → restored bytes ≡ Ok s
@@ -224,9 +226,8 @@ pub only_saved : (bytes : List ℕ) (s : Saved) → AreBytes bytes → restored 
 only_saved bytes s all e = let parts = not_denied (header_denial bytes) (read_saved bytes) s e in
     let header = header_passed (nat_lt (length bytes) HEADER_LENGTH) (is_state bytes)
     (has_version bytes) (has_length bytes) parts.0 in
-    let rest = read_passed (has_sum bytes) (can_be (state_in bytes)) (state_in bytes) s parts.1 in
-    (
+    let rest = read_passed (has_sum bytes) (can_be (state_in bytes)) (state_in bytes) s parts.1 in (
       subst (λ (x : Saved). WasSaved bytes x) rest.2
-      (was_saved bytes all header.1 header.2 header.3 rest.0),
+          (was_saved bytes all header.1 header.2 header.3 rest.0),
       ap (λ (x : Saved). can_be x) (sym rest.2) ∙ rest.1,
     )

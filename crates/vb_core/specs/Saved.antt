@@ -17,7 +17,7 @@ use Rattle.vb_core.specs.declared.saved.StateDenial.TheVariants.{OtherVersion, B
 use Rattle.vb_core.specs.declared.format.TheConstants.{MAGIC, FORMAT_VERSION, HEADER_LENGTH}
 use Rattle.vb_core.specs.declared.format.TheConstants.{VERSION_AT, LENGTH_AT, CHECKSUM_LENGTH}
 use Rattle.vb_core.specs.declared.format.TheConstants.{SAVED_LENGTH, OLDER_VERSION, OLDER_LENGTH}
-use Rattle.vb_core.specs.Settings.{are_settings, needs_must_tell, page_poison, holds}
+use Rattle.vb_core.specs.Settings.{are_settings, needs_must_tell, page_poison, holds_chains}
 use Rattle.vb_core.specs.Held.{held_of, held_pages}
 use Rattle.vb_core.specs.Rings.{has_place}
 use Rattle.vb_core.specs.Kinds.{queue_of}
@@ -77,10 +77,10 @@ abbrev pub is_held : Kind → Saved → Bool
 is_held kind s =
     if held_of kind s.held == 0 then held_pages kind s.held == 0
     else
-      contains s.device.status driver_ok && not (lacks_feature s.device.features (queue_of kind))
-      && holds kind s.device.settings
-      && nat_le (held_of kind s.held) (ring_of kind s.device).size
-      && nat_le (held_pages kind s.held) MAX_REQUEST_PAGES
+    contains s.device.status driver_ok && not (lacks_feature s.device.features (queue_of kind))
+    && holds_chains kind s.device.settings
+    && nat_le (held_of kind s.held) (ring_of kind s.device).size
+    && nat_le (held_pages kind s.held) MAX_REQUEST_PAGES
 
 -- poison_val is written only where PAGE_POISON is offered.
 abbrev pub is_poison : Device → Bool

@@ -43,8 +43,8 @@ skips s = not (s.skips_bad_pages == 0)
 
 -- A chain of the kind's queue that was taken is held until it is asked for: one of statistics
 -- always is (VIRTIO 1.1, 5.5.6.3), and a deflate where the settings say so.
-abbrev pub holds : Kind → Settings → Bool
-holds Inflate s = false
-holds Deflate s = not (s.holds_deflates == 0)
-holds Statistics s = true
-holds Report s = false
+abbrev pub holds_chains : Kind → Settings → Bool
+holds_chains Inflate s = false
+holds_chains Deflate s = not (s.holds_deflates == 0)
+holds_chains Statistics s = true
+holds_chains Report s = false

@@ -10,9 +10,9 @@ use crate::saved::Saved;
 use crate::settings::has_page_poison;
 use crate::{Device, Kind, Virtqueue};
 use bitflags::Flags;
-use vb_virtio::limits::MAX_REQUEST_PAGES;
 use vb_request::lacks_feature;
 use vb_status::{Features, Status};
+use vb_virtio::limits::MAX_REQUEST_PAGES;
 
 /// Whether a bit of the status stands only with the one that comes before it.
 fn comes_after(status: Status, bit: Status, before: Status) -> bool
@@ -121,7 +121,7 @@ impl Saved {
             return pages == 0;
         }
         let lacks = lacks_feature(kind.queue(), Features::from_bits_retain(device.features));
-        let may_take = device.has(Status::DRIVER_OK) && !lacks && device.settings.holds(kind);
+        let may_take = device.has(Status::DRIVER_OK) && !lacks && device.settings.holds_chains(kind);
         may_take && held <= u32::from(device.ring(kind).size) && pages <= MAX_REQUEST_PAGES
     }
 

@@ -2,7 +2,7 @@
 
 ghost use Rattle.std.specs.Prelude.{◌≡◌, ◌<◌, ◌≤◌, ◌^◌, ◌==◌, not, true};
 ghost use Rattle.vb_core.specs.Settings.{are_settings, memory_pages, needs_must_tell, skips};
-ghost use Rattle.vb_core.specs.Settings.{page_poison, without_poison, holds};
+ghost use Rattle.vb_core.specs.Settings.{page_poison, without_poison, holds_chains};
 
 use crate::Kind;
 use bitflags::Flags;
@@ -102,8 +102,8 @@ impl Settings {
 
     /// Whether a chain of a kind's queue is held once it was taken, until it is asked for: buffers
     /// of statistics are (VIRTIO 1.1, 5.5.6.3), and deflates where `holds_deflates` says so.
-    pub fn holds(&self, kind: Kind) -> bool
-        ensures { result ≡ holds kind self.now }
+    pub fn holds_chains(&self, kind: Kind) -> bool
+        ensures { result ≡ holds_chains kind self.now }
     {
         match kind {
             Kind::Statistics => true,

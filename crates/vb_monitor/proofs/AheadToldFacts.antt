@@ -35,7 +35,7 @@ unfolding lib.Count.ones
 told n = record {
   rest = discard ∷ given;
   asks = refl;
-  discards = record {
+  goes_on = record {
     rest = given;
     asks = refl;
     gives_back = record { rest = Full ∷ flags ∷ []; asks = refl; goes_on = flags_are_read refl refl };

@@ -118,7 +118,7 @@ unfolding lib.Count.ones
 told_discarded_given = record {
   rest = discard ∷ id ∷ used_length ∷ Release ∷ used_index ∷ [];
   asks = refl;
-  discards = record {
+  goes_on = record {
     rest = id ∷ used_length ∷ Release ∷ used_index ∷ [];
     asks = refl;
     gives_back = gives_back;
@@ -236,7 +236,7 @@ unfolding lib.Count.ones
 first_run = record {
   rest = discard ∷ id ∷ used_length ∷ Release ∷ used_index ∷ [];
   asks = refl;
-  discards = record {
+  goes_on = record {
     rest = id ∷ used_length ∷ Release ∷ used_index ∷ [];
     asks = refl;
     gives_back = record { rest = []; asks = refl; goes_on = (refl, refl) };
