@@ -165,7 +165,7 @@ static uint32_t notice(uint32_t kind, uint64_t random)
     EXPECT(result.code <= VB_BROKEN && result.kept == (keeps ? result.pages : 0) && result.error == 0);
     EXPECT(!guest.balloon.keeps_pages || result.discarded == 0);
     EXPECT(result.configuration == (result.code == VB_BROKEN));
-    if (state->held && balloon_ask_statistics(&guest.balloon).code != VB_OK)
+    if (state->held.statistics && balloon_ask_statistics(&guest.balloon).code != VB_OK)
         exit(1);
     return result.code;
 }

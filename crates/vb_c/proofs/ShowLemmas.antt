@@ -31,7 +31,7 @@ some_back NoQueue = refl
 some_back Misplaced = refl
 some_back BadArgument = refl
 
-none_back : (given : Bool) (held : Option ℕ) →
+none_back : (given : Bool) (held : Option HeldChain) →
     why_of (if given then 0 else taken_code held) 0 ≡ None
 none_back true held = refl
 none_back false (Some head) = refl

@@ -41,6 +41,7 @@ mod SoFarFacts
 mod TurnFacts
 mod TellingFacts
 mod HeldBackFacts
+mod HoldingFacts
 mod PartsOfRunsFacts
 mod MachineFacts
 mod AheadFacts

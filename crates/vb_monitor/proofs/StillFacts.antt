@@ -11,7 +11,7 @@ use Rattle.vb_monitor.specs.Accesses.{Access, Acquire, TellPages, TellFigures}
 use Rattle.vb_monitor.specs.Machine.{whole, serves}
 use Rattle.vb_monitor.specs.Still.{IsMapped, AfterReads, DoesAs, ReportsAs, ArePartsMapped}
 use Rattle.vb_monitor.proofs.Samples.{Same, two, ring, ready, tally, index, discard, page_5}
-use Rattle.vb_monitor.proofs.Samples.{one_page, pages, piece}
+use Rattle.vb_monitor.proofs.Samples.{one_page, pages, piece, chain_of, head_of}
 use Rattle.vb_monitor.proofs.StillReadFacts.{Rest, Any}
 
 -- ---- what is guest memory
@@ -128,7 +128,7 @@ unserved w h = unserved_in w h.read h.rest h.all h.is
 -- its head counts, which a buffer of statistics is held by
 abbrev holds : ℕ → Whole
 holds head = whole two Statistics (with_one_taken Statistics ready) (record {
-  tally = record tally { held = Some head };
+  tally = record tally { held = chain_of head 0 };
   why = None;
   interrupt = false;
   more = false;
@@ -150,7 +150,7 @@ held = record {
 
 of_another_head : DoesAs Any (Ok (Some (chain 0))) (short ∷ []) (holds 4) tally ready (index ∷ TellFigures [] ∷ []) → ⊥
 unfolding pieces_in lib.Count.ones
-of_another_head h = let e = ap (λ (o : Outcome). o.tally.held) h.is.tells.ends.outcome in absurd cc
+of_another_head h = let e : Same 4 3 = ap head_of h.is.tells.ends.outcome in omega arith
 
 -- ---- reports
 

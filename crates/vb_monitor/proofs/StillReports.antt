@@ -17,13 +17,13 @@ use Rattle.vb_core.specs.{Name.after_request, Next.{told, are_copies}, Report.{r
 use Rattle.vb_core.specs.Report.{report_of, report_denial, after_report, ReportsBy, is_beyond}
 use Rattle.vb_core.specs.{Report.{pieces_denial, named_by}, Settings.{memory_pages, are_settings}}
 use Rattle.vb_core.specs.declared.device.{Denial.Denial, Denial.TheVariants.Broken, Device.Device}
-use Rattle.vb_core.specs.declared.{kinds.Kind.TheVariants.Report, name.Named.Named}
+use Rattle.vb_core.specs.declared.{kinds.Kind.{Kind, TheVariants.Report}, name.Named.Named}
 use Rattle.vb_core.specs.declared.{report.Reported.Reported, runs.Run.Run}
 use Rattle.vb_core.specs.declared.settings.{Settings.Settings, TheConstants.MEMORY_LIMIT}
 use Rattle.vb_monitor.{specs.declared.regions.Region.Region, specs.declared.outcome.Tally.Tally}
 use Rattle.vb_monitor.{specs.declared.outcome.Budget.Budget, specs.declared.outcome.Outcome.Outcome}
 use Rattle.vb_monitor.{specs.Accesses.Access, specs.Ends.Whole, specs.Regions.spot}
-use Rattle.vb_monitor.specs.{Chains.NamesReport, Giving.{Then, AfterName, TellsThen, spent}}
+use Rattle.vb_monitor.specs.{Chains.NamesReport, Giving.{Then, AfterName, TellsThen, spent, with_named}}
 use Rattle.vb_monitor.specs.Notices.{LooksBy, ServesPublished, fresh, Serves}
 use Rattle.vb_monitor.specs.Machine.{whole, next_chain}
 use Rattle.vb_monitor.specs.Still.{StaysUntil, IsMapped, avail_copy, table_copy, AfterReads}
@@ -73,13 +73,14 @@ refused_alike pieces d e = ap (λ (b : Bool). call_denial Report true (true && n
 
 served_as : (still : List Access → Type 0) (w : Whole) (next : Then) (d : Device) (t : Tally)
     (taken : Taken) (runs : List Run)
-    (o : Result (List ℕ) ChainFault) (log : List Access) → t.given ≡ false → next ≡ next_chain w t
+    (o : Result (List ℕ) ChainFault) (log : List Access) → w.kind ≡ Report → t.given ≡ false
+    → next ≡ next_chain w t
     → pieces_denial taken.chain 256 d ≡ None → report_request taken.chain d.settings.reserved_pages
     ≡ o → (IsOk (answer_with taken o) → take (length taken.chain) runs ≡ map run_of taken.chain)
     → still log → NamesReport w next d t taken.head taken.chain log
     → ReportsAs still (told (answer_with taken o)) runs w t (after_report
     (answer_with taken o) d) log
-served_as still w next d t taken runs (Err f) log none same unrefused e are stays h =
+served_as still w next d t taken runs (Err f) log kind none same unrefused e are stays h =
     let count = length taken.chain in
     let answer : h.answer ≡ Err (Broken f) =
     h.names.answer unrefused ∙ ap (λ (r : Result (List ℕ) ChainFault). told (named_by count r)) e in
@@ -89,7 +90,7 @@ served_as still w next d t taken runs (Err f) log none same unrefused e are stay
     (subst (λ (r : Result Named Denial). AfterName w next h.device t taken.head h.runs r log)
     answer h.goes_on) in
     (ends.0, ends.1 ∙ device, ends.2)
-served_as still w next d t taken runs (Ok pages) log none same unrefused e are stays h =
+served_as still w next d t taken runs (Ok pages) log kind none same unrefused e are stays h =
     let count = length taken.chain in
     let named : Named = record { runs = count; pages = length pages; skipped = 0 } in
     let answer : h.answer ≡ Ok named =
@@ -108,8 +109,10 @@ served_as still w next d t taken runs (Ok pages) log none same unrefused e are s
           taken.head rs named log) (theirs ∙ sym (are refl))
           (subst (λ (n : Then). TellsThen w n h.device (spent (length pages) t)
           taken.head (take count h.runs) named log) same
+          (subst (λ (x : Tally). TellsThen w next h.device x taken.head (take count h.runs) named log)
+          (ap (λ (k : Kind). with_named k h.device.settings taken.head (length pages) t) kind)
           (subst (λ (r : Result Named Denial). AfterName w next h.device t taken.head h.runs r log)
-          answer h.goes_on)));
+          answer h.goes_on))));
       still_so = stays;
     }
 
@@ -158,7 +161,7 @@ reports_of still byte rs d2 out d t runs (Ok (Some taken)) log is none lt unrefu
     let o = report_request taken.chain d.settings.reserved_pages in
     after_as still (told (answer_with taken o)) runs w t (after_report (answer_with taken o) d) log
     (NamesReport w (next_chain w t) d t taken.head taken.chain)
-    (λ l stays x. served_as still w (next_chain w t) d t taken runs o l none refl denial refl
+    (λ l stays x. served_as still w (next_chain w t) d t taken runs o l refl none refl denial refl
     (are taken refl) stays x)
     h
 

@@ -63,7 +63,7 @@ pub record Served (w : Whole) (d0 : Device) (all : Bool) (n head : ℕ) (pieces 
   pub done : left (is_kept w.kind all (keeps_reports d0)) w.regions b ≡ []
   pub first : ends_in_number b ≡ false
   pub named : is_named (newest b) ≡ true
-  pub open : holds_chains w.kind d0.settings ≡ false
+  pub unheld : holds_chains w.kind d0.settings ≡ false
 
 no_used_place : (w : Whole) (d0 d : Device) (t : Tally) (fault : ChainFault) (m n : ℕ)
     (b log : List Access) → Agrees w d0 n b d → Breaks w (after_use w.kind d) t fault log →
@@ -102,7 +102,7 @@ used_at w d0 m next on d t head pieces bytes (Some id) (Some len) (Some index) b
           (number_for w d0 d n head pieces bytes false b id e.id is.read is.agrees (x, refl));
       follows = is.named;
       touches = within w.regions e.element_at 4 id x;
-      holds = is.open;
+      holds = is.unheld;
     })
     (one_more w d0 t.keeps (2 + m) (3 + m) (WriteNumber len e.length) b1 _ (omega arith) (record {
       reads = tt;
@@ -110,7 +110,7 @@ used_at w d0 m next on d t head pieces bytes (Some id) (Some len) (Some index) b
       writes = number_for w d0 d n head pieces bytes true b len e.length is.read is.agrees (y, refl);
       follows = refl;
       touches = within w.regions (e.element_at + 4) 4 len y;
-      holds = is.open;
+      holds = is.unheld;
     })
     (one_more w d0 t.keeps (1 + m) (2 + m) Release b2 _ (omega arith)
     (record { reads = tt; tells = tt; writes = tt; follows = refl; touches = tt; holds = tt })
@@ -120,7 +120,7 @@ used_at w d0 m next on d t head pieces bytes (Some id) (Some len) (Some index) b
       writes = index_for w d0 d n head pieces bytes b index e.index is.read is.agrees (z, refl);
       follows = refl;
       touches = within w.regions e.index_at 2 index z;
-      holds = is.open;
+      holds = is.unheld;
     })
     (on (after_use w.kind d) (with_given t) index e.index b3 h.rest (record {
       ring = (moves w.kind d).used_ring ∙ ap (λ (r : Virtqueue). with_used r) is.agrees.ring;
@@ -148,27 +148,27 @@ discards_go : (w : Whole) (d0 d : Device) (all : Bool) (m n head : ℕ) (pieces 
     left (is_kept w.kind all (keeps_reports d0)) w.regions b ≡ cuts → ends_in_number b ≡ false →
     is_told (newest b) ≡ true → is_named (newest b) ≡ true → AllWithin w.regions cuts →
     holds_chains w.kind d0.settings ≡ false → Goes w d0 all m b (map Discard cuts ++ rest)
-discards_go w d0 d all m n head pieces bytes [] b rest then_go is read left_so first told named inside open =
+discards_go w d0 d all m n head pieces bytes [] b rest then_go is read left_so first told named inside unheld =
     then_go b (record {
       agrees = is;
       read = read;
       done = left_so;
       first = first;
       named = named;
-      open = open;
+      unheld = unheld;
     })
-discards_go w d0 d all m n head pieces bytes (cut ∷ cuts) b rest then_go is read left_so first told named inside open =
+discards_go w d0 d all m n head pieces bytes (cut ∷ cuts) b rest then_go is read left_so first told named inside unheld =
     let x : Access = Discard cut in
     let on = discards_go w d0 d all m n head pieces bytes cuts (x ∷ b) rest then_go
     (one_on w d0 n x b d is refl refl) read (ap (λ (l : List Cut). without_first l) left_so) refl refl refl
-    inside.1 open in
+    inside.1 unheld in
     let comes : Comes w d0 all b x = record {
       reads = tt;
       tells = subst (λ (l : List Cut). IsNext cut l) (sym left_so) refl;
       writes = tt;
       follows = told;
       touches = inside.0;
-      holds = open;
+      holds = unheld;
     } in
     record { come = (comes, on.come); few = let few = on.few in omega (arith, few) }
 
@@ -186,13 +186,13 @@ once_told : (w : Whole) (d0 : Device) (m : ℕ) (next : Then) (on : After w d0 m
     ends_in_number b ≡ false → is_told (newest b) ≡ true → is_named (newest b) ≡ true →
     AllWithin w.regions cuts → (t.held ≡ None → holds_chains w.kind d0.settings ≡ false) →
     OnceTold held w next d t head cuts log → Goes w d0 t.keeps (4 + m) b log
-once_told w d0 m next on d t (Some held) head pieces bytes cuts b log e is read left_so first told named inside open h =
+once_told w d0 m next on d t (Some held) head pieces bytes cuts b log e is read left_so first told named inside unheld h =
     ends_go w d0 d t None false (4 + m) b log (omega arith) (flags_of w d0 _ b d is) h
-once_told w d0 m next on d t None head pieces bytes cuts b log e is read left_so first told named inside open h =
+once_told w d0 m next on d t None head pieces bytes cuts b log e is read left_so first told named inside unheld h =
     asked w d0 t.keeps (4 + m) b log _ h.asks
     (discards_go w d0 d t.keeps (4 + m) t.published head pieces bytes cuts b h.rest
     (λ b2 is2. gives_by w d0 m next on d t head pieces bytes (use_denial w.kind head d) b2 _ is2
-    h.gives_back) is read left_so first told named inside (open e))
+    h.gives_back) is read left_so first told named inside (unheld e))
 
 -- a chain that is held is what the notice comes to
 told_held : (w : Whole) (next : Then) (d : Device) (t : Tally) (held : Option HeldChain)
