@@ -64,9 +64,9 @@ struct balloon_result {
     uint32_t rule, chains;      /* of VB_BROKEN; how many were served */
     uint32_t interrupts;        /* bit 1 << kind: interrupt for a used buffer of this queue */
     bool configuration;         /* tell of a change of configuration: the device needs a reset */
+    bool more;                  /* as much was served as a notice may, and more stands there: call again, later */
     bool held;                  /* a deflate is held now, of `held_pages` pages: balloon_give_deflate grants it */
     uint32_t held_pages;
-    bool more;                  /* as much was served as a notice may, and more stands there: call again, later */
     uint64_t pages, discarded;  /* named by inflates, deflates and reports; of these, discarded */
     uint64_t waiting;           /* of these, pages whose large page wasn't given up whole yet (vb_large_pages) */
     uint64_t skipped;           /* numbers past the end or of reserved pages */

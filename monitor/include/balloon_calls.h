@@ -79,14 +79,16 @@ static inline bool balloon_held_deflate(const struct balloon *balloon, uint32_t 
 static inline struct balloon_result balloon_give_deflate(struct balloon *balloon)
 {
     VbMarked marked = { VB_OK, 0 };
+    uint32_t named, count = balloon->held_count < VB_MAX_RUNS ? balloon->held_count : VB_MAX_RUNS;
     uint64_t pages = 0;
-    uint32_t named;
-    for (uint32_t i = 0; i < balloon->held_count && i < VB_MAX_RUNS; i++)
+    for (uint32_t i = 0; i < count; i++)
         pages += balloon->held_runs[i].count;
-    if (balloon_held_deflate(balloon, &named) && pages != named)
+    if (!balloon_held_deflate(balloon, &named))
+        return balloon_result_of(VB_NOTHING);
+    if (pages != named)
         return balloon_result_of(VB_BAD_ARGUMENT);
-    if (balloon_held_deflate(balloon, &named) && balloon->ballooned)
-        marked = vb_mark(VB_DEFLATE, balloon->held_runs, balloon->held_count, balloon->ballooned, balloon->ballooned_words);
+    if (balloon->ballooned)
+        marked = vb_mark(VB_DEFLATE, balloon->held_runs, count, balloon->ballooned, balloon->ballooned_words);
     vb_give_held(&balloon->notice, &balloon->state, balloon->places, balloon->region_count, &balloon->room, VB_DEFLATE);
     struct balloon_result result = balloon_finish(balloon);
     result.marked = marked.pages;

@@ -50,6 +50,8 @@ pub struct Struct {
     discard: Option<OnDiscard>,
     ballooned: *mut u64,
     ballooned_words: usize,
+    held_runs: [Run; 256],
+    held_count: u32,
 }
 
 /// `VbSettings`.
@@ -60,6 +62,7 @@ pub struct VbSettings {
     reserved_pages: u32,
     needs_must_tell: u8,
     skips_bad_pages: u8,
+    holds_deflates: u8,
 }
 
 /// `struct balloon_result`.
@@ -71,6 +74,8 @@ pub struct Outcome {
     interrupts: u32,
     configuration: bool,
     more: bool,
+    held: bool,
+    held_pages: u32,
     pages: u64,
     discarded: u64,
     waiting: u64,
@@ -112,7 +117,7 @@ fn state_code(why: StateError) -> u32 {
 
 impl Outcome {
     fn of(served: &Served) -> Outcome {
-        let served_code = if served.chains > 0 { OK } else { NOTHING };
+        let served_code = if served.chains > 0 || served.held.is_some() { OK } else { NOTHING };
         let (code, rule) = served.stopped.map_or((served_code, 0), codes);
         Outcome {
             code,
@@ -121,6 +126,8 @@ impl Outcome {
             interrupts: served.interrupts,
             configuration: served.configuration,
             more: served.more,
+            held: served.held.is_some(),
+            held_pages: served.held.unwrap_or(0),
             pages: served.pages,
             discarded: served.discarded,
             waiting: served.waiting,
@@ -179,6 +186,7 @@ impl Struct {
         if !self.ballooned.is_null() {
             balloon.ballooned = std::slice::from_raw_parts(self.ballooned, self.ballooned_words).to_vec();
         }
+        balloon.held_runs = self.held_runs[..self.held_count as usize].to_vec();
         balloon
     }
 
@@ -187,6 +195,8 @@ impl Struct {
         if !self.ballooned.is_null() {
             balloon.ballooned.as_ptr().copy_to(self.ballooned, self.ballooned_words);
         }
+        self.held_count = balloon.held_runs.len() as u32;
+        self.held_runs[..balloon.held_runs.len()].copy_from_slice(&balloon.held_runs);
     }
 
     unsafe fn memory(&self) -> Memory {
@@ -215,6 +225,7 @@ pub unsafe extern "C" fn balloon_init(it: &mut Struct, regions: *const Mapped, c
         reserved_pages: settings.reserved_pages,
         needs_must_tell: settings.needs_must_tell != 0,
         skips_bad_pages: settings.skips_bad_pages != 0,
+        holds_deflates: settings.holds_deflates != 0,
     };
     match Balloon::new(&Memory::new(regions, count), settings) {
         Err(why) => codes(why).0,
@@ -268,8 +279,25 @@ pub unsafe extern "C" fn balloon_stop_queue(it: &mut Struct, kind: u32, next: &m
 }
 
 #[no_mangle]
-pub unsafe extern "C" fn balloon_forget_held(it: &mut Struct) -> u32 {
-    if it.run(|balloon, _, _| balloon.forget_held()) { OK } else { NOTHING }
+pub unsafe extern "C" fn balloon_forget_held(it: &mut Struct, kind: u32) -> u32 {
+    match Kind::ALL.get(kind as usize) {
+        None => NO_QUEUE,
+        Some(&kind) => {
+            if it.run(|balloon, _, _| balloon.forget_held(kind)) { OK } else { NOTHING }
+        }
+    }
+}
+
+#[no_mangle]
+pub unsafe extern "C" fn balloon_held_deflate(it: &Struct, pages: &mut u32) -> bool {
+    let held = it.balloon().held_deflate();
+    *pages = held.unwrap_or(0);
+    held.is_some()
+}
+
+#[no_mangle]
+pub unsafe extern "C" fn balloon_give_deflate(it: &mut Struct) -> Outcome {
+    Outcome::of(&it.run(|balloon, memory, _| balloon.give_deflate(memory)))
 }
 
 #[no_mangle]
