@@ -16,6 +16,7 @@ use Rattle.vb_c.specs.Notices.{walk_of, phase_of, notice_of, end_code, end_rule,
 use Rattle.vb_c.specs.Notices.{answer_bits, why_code, place_of, cut_of_notice, discarding_of}
 use Rattle.vb_c.specs.{Notices.{SameElse, IsNotice, HasEnded}, Serving.{held_by, held_then}}
 use Rattle.vb_c.proofs.Samples.{Same, balloon}
+use Rattle.vb_monitor.specs.declared.balloon.Balloon.{Balloon}
 use Rattle.vb_c.proofs.Samples.{a_buffer, chain_of}
 use Rattle.vb_monitor.specs.declared.outcome.HeldChain.{HeldChain}
 
