@@ -1,5 +1,5 @@
--- The chains that a balloon holds, when its queues may be looked at, and what a write of
--- the status makes of it, worked out.
+-- The chains that a balloon holds, when its queues may be looked at, and what a write of the status
+-- makes of it, worked out.
 use Rattle.std.proofs.Common.{◌≡◌, refl, ℕ, Bool, true, false, List, [], ◌∷◌, map, Option, Some, None}
 use Rattle.std.specs.Prelude.{option_map}
 use Rattle.vb_core.specs.declared.kinds.Kind.{Kind}
@@ -50,7 +50,7 @@ both_held : map (λ kind. may_look kind (record { device = ready; held = both })
     ≡ true ∷ false ∷ false ∷ true ∷ []
 both_held = refl
 
--- ---- what is held behind a notice
+-- ---- what is held after a notice
 
 abbrev came : Option HeldChain → Bool → Outcome
 came taken given = record {
@@ -76,7 +76,8 @@ first_one_taken = refl
 still_held : held_behind both (came (chain_of 6 2) false) ≡ both ∷ both ∷ both ∷ both ∷ []
 still_held = refl
 
--- once it was, nothing of its kind is held; a deflate's pages go with it, and the other kind's stays
+-- once it was, nothing of its kind is held; a deflate's pages go with it, and the other kind's
+-- stays
 given_back : held_behind both (came (chain_of 6 2) true)
     ≡ both ∷ a_buffer 4 ∷ record both { statistics = 0 } ∷ both ∷ []
 given_back = refl
@@ -112,7 +113,8 @@ set_now = refl
 set_before : readies 15 ≡ false ∷ false ∷ false ∷ []
 set_before = refl
 
--- a write of 0 makes the balloon new but for its settings and target; any other one keeps what is held
+-- a write of 0 makes the balloon new but for its settings and target; any other one keeps what is
+-- held
 reset : after_status 0 (of_status 15) ≡ record { device = record (new_device settings) { target = 5 }; held = nothing_held }
 reset = refl
 

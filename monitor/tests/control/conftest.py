@@ -1,0 +1,45 @@
+"""What the tests of a host that an operator runs have in common: its programs, a host in a folder of its own, and its guests."""
+
+import linux_kit
+import pytest
+from hosts import Answering, Host, limit_from_now
+from programs import CHECKS
+
+
+@pytest.fixture(scope="session")
+def program(tmp_path_factory):
+    """The host's program with the compiler's checks, beside that of its guests."""
+    folder = str(tmp_path_factory.mktemp("programs"))
+    _, host = (linux_kit.build(folder, linux_kit.core_of(), it, flags=CHECKS) for it in ("vhost_user_balloon", "vhost_user_host"))
+    return host
+
+
+@pytest.fixture
+def folder(tmp_path_factory):
+    """A folder whose name is short enough for a socket."""
+    return tmp_path_factory.mktemp("host")
+
+
+@pytest.fixture
+def host(program, folder):
+    """A host of 480 MiB that is ready, and ends well."""
+    it = Host(program, folder, str(folder), "--budget", "480")
+    it.lines.next(limit_from_now())
+    yield it
+    assert it.end() == 0, it.said()
+
+
+@pytest.fixture
+def arrive(host):
+    """Adds a guest and lets its client come."""
+    here = []
+
+    def come(name, **fields):
+        host.ask("add", name=name, **fields)
+        here.append(Answering(host, name))
+        return here[-1]
+
+    yield come
+    for it in here:
+        if not it.ended.is_set():
+            it.leave()
