@@ -27,7 +27,7 @@ pub record Saves (s : Saved) (old new : List ℕ) (result : ℕ) : Type 0 where
 -- The device is that of the bytes, or stays as it is.
 pub record Restores (bytes : List ℕ) (d1 d2 : Device) (held1 held2 : Held) (result : ℕ) : Type 0
   where
-  pub denied : (why : StateDenial) → restored bytes ≡ Err why →
-      (result ≡ code_of_state why) × (d2 ≡ d1) × (held2 ≡ held1)
-  pub restored_so : (s : Saved) → restored bytes ≡ Ok s →
-      (result ≡ 0) × (d2 ≡ s.device) × (held2 ≡ s.held)
+    pub denied : (why : StateDenial) → restored bytes ≡ Err why →
+        (result ≡ code_of_state why) × (d2 ≡ d1) × (held2 ≡ held1)
+    pub restored_so : (s : Saved) → restored bytes ≡ Ok s →
+        (result ≡ 0) × (d2 ≡ s.device) × (held2 ≡ s.held)

@@ -17,8 +17,8 @@ use crate::rules::{
 use vb_chain::{ChainFault, DESCRIPTOR_SIZE};
 use vb_core::{ChainPiece, Denial, Run, Statistic};
 use vb_monitor::{
-    Cut, Discarding, HeldChain, MAX_BYTES, MAX_CUTS, MAX_FIGURES, MAX_PIECES, MAX_RUNS, Notice, Orders, Phase,
-    Place, Spot, Step, Tally, Walk,
+    Cut, Discarding, HeldChain, MAX_BYTES, MAX_CUTS, MAX_FIGURES, MAX_PIECES, MAX_RUNS, Notice,
+    Orders, Phase, Place, Spot, Step, Tally, Walk,
 };
 
 /// The available index is read.

@@ -167,8 +167,8 @@ fn serve_many(
     }
 }
 
-/// Serves a request by a fast path for at most one discard range of a chain that isn't held, else by
-/// `hand_named` or `serve_many`.
+/// Serves a request by a fast path for at most one discard range of a chain that isn't held, else
+/// by `hand_named` or `serve_many`.
 #[inline(always)]
 fn serve_named(
     shown: &mut VbNotice,

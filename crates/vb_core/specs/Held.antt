@@ -21,8 +21,8 @@ held_pages Deflate h = h.pages
 held_pages Statistics h = 0
 held_pages Report h = 0
 
--- What is held once this is held of a kind's queue: 1 more than a head, and so many pages. Chains of
--- inflates and of reports aren't held.
+-- What is held once this is held of a kind's queue: 1 more than a head, and a number of pages. No
+-- chain of inflates or of reports is held.
 abbrev pub with_held : Kind → ℕ → ℕ → Held → Held
 with_held Inflate held pages h = h
 with_held Deflate held pages h = record h { deflate = held; pages = pages }

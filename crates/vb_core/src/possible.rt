@@ -121,7 +121,9 @@ impl Saved {
             return pages == 0;
         }
         let lacks = lacks_feature(kind.queue(), Features::from_bits_retain(device.features));
-        let may_take = device.has(Status::DRIVER_OK) && !lacks && device.settings.holds_chains(kind);
+        let may_take = device.has(Status::DRIVER_OK)
+            && !lacks
+            && device.settings.holds_chains(kind);
         may_take && held <= u32::from(device.ring(kind).size) && pages <= MAX_REQUEST_PAGES
     }
 

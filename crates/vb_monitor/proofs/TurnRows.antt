@@ -57,10 +57,11 @@ held_go w d0 m next on d t head pieces bytes runs named true b log e is right h 
     named b log is.agrees is.known_so is.copied right (λ so. refl, λ none. absurd cc) h
 held_go w d0 m next on d t head pieces bytes runs named false b log e is right h =
     tells_go w d0 m next on d (spent named.pages t) head pieces bytes runs named b log is.agrees
-    is.known_so is.copied right
-    (λ so. absurd (let not_so : true ≡ false =
-    sym so ∙ (ap (λ (s : Settings). holds_chains w.kind s) (sym is.agrees.settings) ∙ e) in cc),
-    λ none. ap (λ (s : Settings). holds_chains w.kind s) (sym is.agrees.settings) ∙ e) h
+    is.known_so is.copied right (
+      λ so. absurd (let not_so : true ≡ false =
+          sym so ∙ (ap (λ (s : Settings). holds_chains w.kind s) (sym is.agrees.settings) ∙ e) in cc),
+      λ none. ap (λ (s : Settings). holds_chains w.kind s) (sym is.agrees.settings) ∙ e,
+    ) h
 
 names_go : (w : Whole) (d0 : Device) (m : ℕ) (next : Then) (on : After w d0 m next)
     (d d2 : Device) (t : Tally) (head : ℕ) (pieces : List Piece) (bytes : List ℕ)

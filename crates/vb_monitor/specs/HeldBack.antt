@@ -1,5 +1,5 @@
--- What is done to give a chain back that is held: a buffer of statistics to ask for new ones (VIRTIO
--- 1.1, 5.5.6.3), or a deflate that is granted.
+-- What is done to give a chain back that is held: a buffer of statistics to ask for new ones
+-- (VIRTIO 1.1, 5.5.6.3), or a deflate that is granted.
 use Rattle.std.specs.Prelude.{◌≡◌, ◌⊎◌, ℕ, List, [], ◌∷◌, ◌++◌, Some}
 use Rattle.vb_core.specs.declared.ring.Virtqueue.{Virtqueue}
 use Rattle.vb_core.specs.Rings.{used_entry}

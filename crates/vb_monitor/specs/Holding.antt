@@ -1,4 +1,5 @@
--- A notice of a queue whose chains are held: nothing is written, and the chain that is told is held.
+-- A notice of a queue whose chains are held: nothing is written, and the chain that is told is
+-- held.
 use Rattle.std.specs.Prelude.{◌≡◌, ℕ, true, false, List, Some, None}
 use Rattle.vb_core.specs.declared.kinds.Kind.{Kind}
 use Rattle.vb_core.specs.declared.settings.Settings.{Settings}

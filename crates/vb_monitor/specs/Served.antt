@@ -29,8 +29,8 @@ abbrev pub is_last : Place → List ChainPiece → Bool
 is_last place pieces =
     none_left (behind_part place.is_second place.piece (pieces_in (take place.count pieces)))
 
--- The word that is read once the chain of this head was given back, where no chain is held, the head
--- is a descriptor's number, and all that is written for it is guest memory.
+-- The word that is read once the chain of this head was given back, where no chain is held, the
+-- head is a descriptor's number, and all that is written for it is guest memory.
 abbrev pub word_behind : List Region → Kind → Tally → ℕ → Device → Option NextWord
 word_behind regions kind tally head d =
     if not (is_some tally.held) && nat_lt head (ring_of kind d).size

@@ -121,8 +121,8 @@ pub fn only_used_elements_are_written()
         Each (WritesUsedAlone regions kind d1) [] log }
 {}
 
-/// In a queue whose chains are held nothing is written, and nothing discarded; a chain whose pages or
-/// figures are told is held once the notice has ended, with the number of its pages.
+/// In a queue whose chains are held nothing is written, and nothing discarded; a chain whose pages
+/// or figures are told is held once the notice has ended, with the number of its pages.
 #[tactic(auto, using(crate::proofs::TurnLaws::holds_told))]
 pub fn a_chain_that_is_told_is_held()
     ensures { (regions : List Region) (kind : Kind) (budget : Budget) (d1 d2 : Device)

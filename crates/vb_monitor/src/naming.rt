@@ -29,8 +29,8 @@ use vb_core::{ChainPiece, Device, Kind, Named, Run, Settings, Statistic};
 #[inline(always)]
 fn tell_pages(settings: &Settings, kind: Kind, tally: Tally, head: u16, named: Named) -> Step
     ensures { result ≡ record {
-        tally = with_named kind settings.now head named.pages tally;
-        phase = TellsPages head named;
+      tally = with_named kind settings.now head named.pages tally;
+      phase = TellsPages head named;
     } }
 {
     let mut tally = Tally {

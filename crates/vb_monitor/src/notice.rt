@@ -108,12 +108,7 @@ impl Notice {
 
     /// A chain that is held of a kind's queue is given back: new statistics are asked for by it
     /// (VIRTIO 1.1, 5.5.6.3), or a deflate is granted (5.5.6).
-    pub fn give_held(
-        device: &mut Device,
-        regions: &[Region],
-        kind: Kind,
-        held: HeldChain,
-    ) -> Notice
+    pub fn give_held(device: &mut Device, regions: &[Region], kind: Kind, held: HeldChain) -> Notice
         ensures kind { result.kind ≡ kind }
         ensures step { (after : Device) (outcome : Outcome) (room : Room) (log : List Access) →
             Ahead (whole regions.now kind after outcome) result.step device.new room log →

@@ -1,5 +1,5 @@
-//! Queues of a balloon that start at an index over regions, and stop; and what is held of them, which
-//! is forgotten with them.
+//! Queues of a balloon that start at an index over regions, and stop; and what is held of them,
+//! which is forgotten with them.
 
 ghost use Rattle.std.specs.Prelude.{◌≡◌, not, ◌==◌};
 ghost use Rattle.vb_core.specs.Held.{held_of, held_without};
