@@ -79,7 +79,8 @@ static inline bool balloon_held_deflate(const struct balloon *balloon, uint32_t 
 static inline struct balloon_result balloon_give_deflate(struct balloon *balloon)
 {
     VbMarked marked = { VB_OK, 0 };
-    uint32_t named, count = balloon->held_count < VB_MAX_RUNS ? balloon->held_count : VB_MAX_RUNS;
+    const uint32_t most = VB_MAX_RUNS, count = balloon->held_count < most ? balloon->held_count : most;
+    uint32_t named;
     uint64_t pages = 0;
     for (uint32_t i = 0; i < count; i++)
         pages += balloon->held_runs[i].count;

@@ -105,8 +105,8 @@ abbrev pub GivesHeldOf : Option HeldChain → List Region → Kind → Balloon �
     VbRoom → VbNotice → Type 0
 GivesHeldOf None regions kind b1 b2 r1 r2 c = Refuses 1 b1 b2 r1 r2 c
 GivesHeldOf (Some held) regions kind b1 b2 r1 r2 c =
-    Begins (λ after outcome log. GivesHeldBack regions kind held b1.device after outcome log) regions
-    kind b1 b2 r1 r2 c
+    Begins (λ after outcome log. GivesHeldBack regions kind held b1.device after outcome log)
+    regions kind b1 b2 r1 r2 c
 
 -- The chain that is held of a kind's queue is given back.
 abbrev pub GivesHeldFor : Option Kind → List Region → Balloon → Balloon → VbRoom → VbRoom →
