@@ -2,7 +2,7 @@
 use Rattle.std.specs.Prelude.{Ok, Err, take, drop}
 use Rattle.std.proofs.Common.{◌≡◌, ℕ, true, false, List, [], ◌∷◌, ◌++◌, map, refl}
 use Rattle.vb_core.specs.declared.{device.Device.Device, saved.Saved.Saved}
-use Rattle.vb_core.specs.declared.{ring.Virtqueue.Virtqueue, settings.Settings.Settings}
+use Rattle.vb_core.specs.declared.{ring.Virtqueue.Virtqueue}
 use Rattle.vb_core.specs.Format.{u16_bytes, u32_bytes, u64_bytes, u16_at, u32_at, u64_at, checksum}
 use Rattle.vb_core.specs.{Format.{saved_bytes, saved_in, older_bytes, older_in}, Saved.{can_be, restored}}
 use Rattle.vb_core.specs.declared.saved.StateDenial.TheVariants.{BadLength, BadSum, Impossible, OtherVersion}

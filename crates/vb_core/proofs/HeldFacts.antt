@@ -1,7 +1,7 @@
 -- What is held, worked out: of each kind's queue for itself.
-use Rattle.std.proofs.Common.{◌≡◌, ℕ, [], ◌∷◌, map, refl}
+use Rattle.std.proofs.Common.{◌≡◌, [], ◌∷◌, map, refl}
 use Rattle.vb_core.specs.Held.{nothing_held, held_of, held_pages, with_held, held_without}
-use Rattle.vb_core.specs.declared.{held.Held.Held, kinds.Kind.Kind}
+use Rattle.vb_core.specs.declared.{held.Held.Held}
 use Rattle.vb_core.specs.declared.kinds.Kind.TheVariants.{Inflate, Deflate, Statistics, Report}
 
 abbrev both : Held

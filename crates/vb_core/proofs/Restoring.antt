@@ -1,9 +1,9 @@
 -- What was saved is restored, and nothing else.
-use Rattle.std.proofs.Common.{◌≡◌, ℕ, ◌+◌, ◌-◌, ◌*◌, ◌%◌, ◌^◌, ◌<◌, ◌≤◌, Bool, true, false, not, List, []}
+use Rattle.std.proofs.Common.{◌≡◌, ℕ, ◌-◌, ◌*◌, ◌%◌, ◌^◌, ◌<◌, ◌≤◌, Bool, true, false, not, List, []}
 use Rattle.std.proofs.Common.{◌∷◌, ◌++◌, length, take, drop, refl, sym, ◌∙◌, ap, arith, lit<, append-nil}
 use Rattle.std.proofs.lemmas.{Bool.{eqb-true, eq-eqb, or_cases, and_from}, List.{length-drop, take_at, drop_all}}
 use Rattle.std.specs.Prelude.{Option, Some, None, Result, Ok, Err}
-use Rattle.std.proofs.Common.{length-append, if◌then◌else◌, ◌==◌, ◌&&◌, ◌⊎◌, inl, inr, nat_lt, bit_xor, fold, get_or, subst}
+use Rattle.std.proofs.Common.{length-append, if◌then◌else◌, ◌==◌, ◌&&◌, inl, inr, nat_lt, bit_xor, fold, get_or, subst}
 use Rattle.vb_core.specs.Format.{u64_bytes, u32_at, u64_at, in_a_row, saved_parts, older_parts}
 use Rattle.vb_core.specs.Format.{hold_parts, with_sum, checksum, older_in, state_in, WasSaved}
 use Rattle.vb_core.specs.Format.{saved_bytes, older_bytes, saved_in, FitsSaved, HoldsNoDeflate}

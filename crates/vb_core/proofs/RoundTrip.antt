@@ -1,13 +1,13 @@
 -- A device is saved and restored.
 use Rattle.std.proofs.Common.{◌≡◌, ℕ, ◌+◌, ◌^◌, ◌<◌, ◌≤◌, List, [], ◌∷◌, ◌++◌, length, get_or, drop}
 use Rattle.std.proofs.Common.{refl, ◌∙◌, ap, arith, lit<}
-use Rattle.vb_core.specs.declared.format.TheConstants.{MAGIC, FORMAT_VERSION, SAVED_LENGTH}
-use Rattle.vb_core.specs.declared.format.TheConstants.{OLDER_VERSION, OLDER_LENGTH, HOLD_AT}
+use Rattle.vb_core.specs.declared.format.TheConstants.{MAGIC}
+use Rattle.vb_core.specs.declared.format.TheConstants.{HOLD_AT}
 use Rattle.vb_core.specs.declared.format.TheConstants.{VERSION_AT, LENGTH_AT, CHECKSUM_AT}
 use Rattle.vb_core.specs.Format.{u32_bytes, u64_bytes, u32_at, u64_at, in_a_row, settings_parts}
-use Rattle.vb_core.specs.Format.{header_parts, device_parts, hold_parts, ring_parts, saved_parts}
-use Rattle.vb_core.specs.Format.{older_parts, settings_at, ring_at, older_in, saved_in, with_holds}
-use Rattle.vb_core.specs.Format.{FitsHolds, HoldsNoDeflate}
+use Rattle.vb_core.specs.Format.{header_parts, device_parts, hold_parts, ring_parts}
+use Rattle.vb_core.specs.Format.{settings_at, ring_at, older_in, saved_in, with_holds}
+use Rattle.vb_core.specs.Format.{FitsHolds}
 use Rattle.vb_core.{specs.Format.{FitsSettings, FitsRing, FitsSaved}, proofs.Numbers.AreBytes}
 use Rattle.vb_core.proofs.Numbers.{u16_then, u32_then, u64_then, byte_then, u16_again, u32_again}
 use Rattle.vb_core.{proofs.Numbers.{u64_again, byte_again}, specs.declared.ring.Virtqueue.Virtqueue}

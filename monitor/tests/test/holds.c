@@ -108,7 +108,9 @@ static void a_reset_forgets_it(void)
     start_features(&guest, LINUX_FEATURES, 8);
     EXPECT(!balloon_held_deflate(&guest.balloon, &pages) && pages == 0 && count_of(&guest) == 0);
     EXPECT(balloon_give_deflate(&guest.balloon).code == VB_NOTHING && used_index(&guest, VB_DEFLATE) == 0);
-    EXPECT(balloon_write_status(&guest.balloon, 15, &result) == 0);
+    name_pages(&guest, VB_DEFLATE, (const uint32_t[]){ 9 }, 1);
+    EXPECT(balloon_write_status(&guest.balloon, 15, &result) == 0 && result.held && result.held_pages == 1);      /* it was there before */
+    EXPECT(balloon_give_deflate(&guest.balloon).chains == 1);
     name_pages(&guest, VB_INFLATE, (const uint32_t[]){ 700, 701 }, 2);
     EXPECT(balloon_notify(&guest.balloon, VB_INFLATE).marked == 2);
     name_pages(&guest, VB_DEFLATE, (const uint32_t[]){ 701 }, 1);
@@ -177,6 +179,10 @@ static void it_is_saved(void)
     EXPECT(balloon_forget_held(&guest.balloon, VB_DEFLATE) == VB_OK);
     EXPECT(balloon_restore(&guest.balloon, bytes, sizeof bytes) == VB_OK);
     EXPECT(balloon_held_deflate(&guest.balloon, &pages) && pages == 2);
+    uint32_t kept = guest.balloon.held_count;
+    guest.balloon.held_count = 0;                       /* its pages weren't saved */
+    EXPECT(balloon_give_deflate(&guest.balloon).code == VB_BAD_ARGUMENT && count_of(&guest) == 10);
+    guest.balloon.held_count = kept;
     EXPECT(balloon_give_deflate(&guest.balloon).marked == 2 && used_index(&guest, VB_DEFLATE) == 1);
     free_memory(&guest);
 }
