@@ -1,5 +1,5 @@
 -- What is done to give a chain back that is held.
-use Rattle.std.proofs.Common.{◌≡◌, ◌⊎◌, inl, inr, sym, ap, ◌∙◌, subst, refl, arith, ℕ, ◌≤◌}
+use Rattle.std.proofs.Common.{◌≡◌, ◌⊎◌, inl, inr, sym, ap, subst, refl, arith, ℕ, ◌≤◌}
 use Rattle.std.proofs.Common.{false, List, [], ◌∷◌, length, Option, Some, None}
 use Rattle.vb_core.specs.{Rings.used_entry, Using.use_denial, declared.device.Denial.Denial}
 use Rattle.vb_core.specs.declared.{device.Device.Device, kinds.Kind.Kind, ring.Virtqueue.Virtqueue}

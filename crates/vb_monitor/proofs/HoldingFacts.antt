@@ -7,7 +7,7 @@ use Rattle.vb_monitor.specs.declared.outcome.{HeldChain.HeldChain, Outcome.Outco
 use Rattle.vb_monitor.specs.Accesses.{Access, ReadWord, Acquire, Release, TellPages}
 use Rattle.vb_monitor.specs.{Giving.{Then, AfterName, spent, with_held}, Holding.HoldsTold}
 use Rattle.vb_monitor.specs.Machine.{whole}
-use Rattle.vb_monitor.proofs.Samples.{Same, two, at, settings, ready, tally, chain_of, page_5, one_page}
+use Rattle.vb_monitor.proofs.Samples.{Same, two, at, settings, ready, tally, page_5, one_page}
 use Rattle.vb_monitor.proofs.Samples.{discard, id, used_length, used_index}
 
 -- the device holds deflates

@@ -2,11 +2,10 @@
 use Rattle.std.proofs.Common.{◌≡◌, refl, arith, true, false, [], ◌∷◌, Some, None}
 use Rattle.vb_core.specs.{declared.settings.Settings.Settings, Devices.{new_device, placed}}
 use Rattle.vb_core.specs.Held.{nothing_held}
-use Rattle.vb_core.specs.declared.kinds.Kind.TheVariants.{Inflate, Statistics}
 use Rattle.vb_monitor.specs.Places.{memory_end_of, is_memory, AreMemory, HasMemory, balloon_over}
 use Rattle.vb_monitor.specs.{Places.{may_be_memory, ending_with}, Balloons.may_tell}
 use Rattle.vb_monitor.specs.{Counts.others, declared.cuts.Cut.Cut, Accesses.{Full, Release}}
-use Rattle.vb_monitor.specs.{Accesses.Discard, declared.outcome.Outcome.Outcome}
+use Rattle.vb_monitor.specs.{Accesses.Discard}
 use Rattle.vb_monitor.specs.declared.{regions.Region.Region, balloon.Balloon.Balloon}
 
 -- pages 0 to 20, and, one page on, pages 22 to 31

@@ -1,7 +1,7 @@
 -- Worked facts of what is done at once of a chain whose pages were named.
 use Rattle.vb_core.specs.Pieces.{pieces_in}
-use Rattle.std.proofs.Common.{◌≡◌, refl, ℕ, Bool, true, false, [], ◌∷◌, map, Option, Some, None}
-use Rattle.vb_core.specs.declared.kinds.Kind.TheVariants.{Inflate, Deflate, Statistics, Report}
+use Rattle.std.proofs.Common.{◌≡◌, refl, ℕ, Bool, true, false, [], ◌∷◌, Option, Some, None}
+use Rattle.vb_core.specs.declared.kinds.Kind.TheVariants.{Inflate, Report}
 use Rattle.vb_core.specs.declared.{pieces.ChainPiece.ChainPiece, ring.Virtqueue.Virtqueue}
 use Rattle.vb_core.specs.{declared.kinds.Kind.Kind, Devices.with_ring}
 use Rattle.vb_monitor.specs.declared.usual.NextWord.{NextWord, TheVariants.{Entry, Flags}}

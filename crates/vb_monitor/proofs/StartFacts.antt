@@ -1,13 +1,13 @@
 -- Queues of a balloon that start at an index over regions, and stop, worked out: the answer, and all that
 -- is left, where it is done and where it is refused.
-use Rattle.std.proofs.Common.{◌≡◌, refl, ap, arith, inl, inr, ℕ, false, true, None}
+use Rattle.std.proofs.Common.{◌≡◌, refl, ap, arith, inl, inr, ℕ, false, true}
 use Rattle.std.proofs.Common.{Result, Ok, Err}
 use Rattle.vb_core.specs.declared.{held.Held.Held, kinds.Kind.TheVariants.{Inflate, Deflate, Statistics}}
-use Rattle.vb_core.specs.declared.{starting.QueueStart.QueueStart, ring.Virtqueue.Virtqueue}
+use Rattle.vb_core.specs.declared.{starting.QueueStart.QueueStart}
 use Rattle.vb_core.specs.declared.{device.Device.Device, device.Denial.Denial}
 use Rattle.vb_core.specs.declared.device.Denial.TheVariants.{NotReady, Misplaced}
 use Rattle.vb_core.specs.{Rings.no_ring, Starting.started}
-use Rattle.vb_monitor.specs.{Places.{HasMemory, Lies}, Queues.{StartsBy, StopsBy}}
+use Rattle.vb_monitor.specs.{Places.{Lies}, Queues.{StartsBy, StopsBy}}
 use Rattle.vb_monitor.specs.declared.balloon.Balloon.{Balloon}
 use Rattle.vb_monitor.proofs.{LieFacts.in_low_pages, Samples.{Same, two, ready, elsewhere, a_buffer}}
 

@@ -8,7 +8,7 @@ use Rattle.vb_chain.specs.declared.fault.ChainFault.{ChainFault, TheVariants.{Ou
 use Rattle.vb_chain.specs.declared.{pieces.Piece.Piece}
 use Rattle.vb_ring.specs.declared.device.Taken.{Taken}
 use Rattle.vb_core.specs.{Devices.with_one_taken}
-use Rattle.vb_monitor.specs.{Regions.spot, declared.outcome.Outcome.Outcome, Ends.Whole}
+use Rattle.vb_monitor.specs.{Regions.spot, Ends.Whole}
 use Rattle.vb_monitor.specs.Accesses.{Access, Acquire, TellPages, TellFigures}
 use Rattle.vb_monitor.specs.Machine.{whole, serves}
 use Rattle.vb_monitor.specs.Still.{IsMapped, AfterReads, DoesNext, ReportsNext, ArePartsMapped, is_read, length_of}

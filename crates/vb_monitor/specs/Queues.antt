@@ -1,6 +1,6 @@
 -- Queues of a balloon that start at an index over regions, and stop: what is held of them is
 -- forgotten.
-use Rattle.std.specs.Prelude.{◌≡◌, ℕ, List, Option, Some, None, Result, Ok, Err}
+use Rattle.std.specs.Prelude.{◌≡◌, ℕ, List, Some, None, Result, Ok, Err}
 use Rattle.vb_core.specs.declared.kinds.Kind.{Kind}
 use Rattle.vb_core.specs.declared.starting.QueueStart.{QueueStart}
 use Rattle.vb_core.specs.declared.device.Denial.{Denial}
