@@ -1,10 +1,10 @@
 -- What the calls that start and stop queues answer in C, worked out: each code, the index, and all that is
 -- left.
-use Rattle.std.proofs.Common.{◌≡◌, ◌∙◌, refl, ap, arith, ℕ, Some, None, Result, Ok, Err}
+use Rattle.std.proofs.Common.{◌≡◌, ◌∙◌, refl, ap, arith, ℕ, Some, None}
 use Rattle.vb_core.specs.declared.kinds.Kind.TheVariants.{Inflate, Deflate, Statistics}
-use Rattle.vb_core.specs.declared.{starting.QueueStart.QueueStart, device.{Device.Device, Denial.Denial}}
+use Rattle.vb_core.specs.declared.{starting.QueueStart.QueueStart}
 use Rattle.vb_core.specs.declared.device.Denial.TheVariants.{NotReady, Misplaced}
-use Rattle.vb_core.specs.{Rings.no_ring, Starting.started, Devices.placed}
+use Rattle.vb_core.specs.{Starting.started, Devices.placed}
 use Rattle.vb_monitor.specs.{declared.balloon.Balloon.Balloon, Places.Lies}
 use Rattle.vb_c.specs.{Codes.code_in, Queues.{StartsFor, StopsFor, Forgets, ForgetsFor, SaysHeld, code_of_stop, next_of}}
 use Rattle.vb_c.proofs.Samples.{Same, begun, two, balloon}

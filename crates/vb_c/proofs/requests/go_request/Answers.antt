@@ -1,4 +1,4 @@
-use Rattle.std.proofs.Common.{ap, sym, subst, refl, ℕ, ◌+◌, Option, Ok, Err, take}
+use Rattle.std.proofs.Common.{sym, subst, refl, ◌+◌, Option, Ok, Err, take}
 use Rattle.vb_monitor.{specs.declared.step.Phase.TheVariants.AwaitsPart, specs.Machine.whole}
 use Rattle.vb_monitor.{specs.declared.notice.Notice.Notice, specs.declared.outcome.Tally.Tally}
 use Rattle.vb_core.specs.Settings.{holds_chains}
