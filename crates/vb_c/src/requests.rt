@@ -72,6 +72,7 @@ fn give_named(
     requires parts { cuts_for kind (is_kept kind (tally_of shown.old).keeps
         (keeps_reports balloon.old.device)) regions.now (take named.runs runs.now) ≡
         take count cuts.old }
+    requires unheld { shown.old.taken ≡ 0 }
     ensures hands { HandsOver (telling_pages kind (tally_of shown.old) head named) regions.now
         runs.now balloon.old balloon.new cuts.new shown.new }
     ensures what { result ≡ shown.new.what }
@@ -104,7 +105,7 @@ fn give_named(
 }
 
 /// Hands over a chain whose pages were named, of a queue that is served: parts of its runs are
-/// discarded, as many as the list has room for.
+/// discarded, as many as the list has room for. A chain that is held isn't given back.
 #[inline(never)]
 fn serve_named(
     shown: &mut VbNotice,
@@ -123,6 +124,9 @@ fn serve_named(
         runs.now balloon.old balloon.new cuts.new shown.new }
     ensures what { result ≡ shown.new.what }
 {
+    if shown.taken != 0 {
+        return hand_named(shown, balloon, regions, runs, cuts, kind, head, named);
+    }
     let keeps = shown.keeps != 0;
     let filled = fill_named(
         &balloon.device,
@@ -282,7 +286,7 @@ pub(crate) fn go_request(
             why,
         ),
         Ok(named) => {
-            notice.pages_left = notice.pages_left.saturating_sub(named.pages);
+            notice.show_named(&balloon.device.settings, kind, head, named.pages);
             serve_named(
                 notice,
                 balloon,
