@@ -48,7 +48,10 @@ FLAGS = ("-std=c11", "-O2", "-Wall", "-Wextra", "-Werror")
 # What a wrong device gets in its hands (monitor/tests/mutants/wrong_device.c), and by their programs what a wrong backend and a wrong
 # host do (wrong_backend.c, wrong_host.c).
 AUDIT_WRAPPED = ("vb_begin", "vb_ask", "vb_go_on", "poll")
-WRONG_PARTS = {"vhost_user_balloon": ("../tests/mutants/wrong_backend",), "vhost_user_host": ("../tests/mutants/wrong_host",)}
+WRONG_PARTS = {
+    "vhost_user_balloon": ("../tests/mutants/wrong_backend",),
+    "vhost_user_host": ("../tests/mutants/wrong_host", "../tests/mutants/wrong_control"),
+}
 WRONG_WRAPPED = {
     "vhost_user_balloon": (
         "event_signal", "ring_end", "message_answer", "message_wants_answer", "message_tell", "memory_remove", "rings_forget",
@@ -58,6 +61,8 @@ WRONG_WRAPPED = {
     "vhost_user_host": (
         "vb_targets", "vb_spare", "vb_needs_targets", "counters_taken", "seat_set_target", "policy_decide", "host_changed",
         "marks_follow",
+        "fields_refusal", "request_answer", "client_line_is_too_long", "client_is_served", "decisions_kept_from", "events_look", "socket_listen",
+        "word_read", "config_read", "config_stays", "process_took_reload", "notify_ready", "notify_lives", "notify_keep",
     ),
 }
 
