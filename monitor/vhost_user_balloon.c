@@ -21,6 +21,7 @@
  */
 #include "backend/backend.h"
 #include "backend/inbox.h"
+#include "backend/lent.h"
 #include "backend/state.h"
 
 #include <errno.h>
@@ -107,6 +108,8 @@ int main(int count, char **words)
         fprintf(stderr, "%s\n", help);
         return 2;
     }
+    if (options.is_lent)
+        return lent_run(&options);
     process_allow_files(FILES_OF_PROCESS + FILES_OF_CLIENT);
     if (!backend_start(&backend, &options) || !state_load(&backend))
         return 2;

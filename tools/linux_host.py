@@ -40,6 +40,14 @@ class Host(Backend):
         self.folder, self.budget = folder, budget
         super().__init__(program, folder, [folder, "--budget", str(budget), *options], environment=environment)
 
+    def close(self):
+        """Ends it, and all guests' service; returns its status, or None where it had to be killed."""
+        try:
+            self.process.stdin.write(b"quit\n")
+        except OSError:
+            pass
+        return super().close()
+
     def demand(self, line):
         """Has it obey a line."""
         answer = self.ask(line)
@@ -280,5 +288,7 @@ class Town:
 
 
 def build(folder, core, wrong=False, flags=()):
-    """Compiles a host over this core; with hosts in it that are wrong on purpose, where they are asked for."""
+    """Compiles a host over this core, and the program of its guests' processes; with hosts in it that are wrong on purpose, where they
+    are asked for."""
+    linux_kit.build(folder, core, "vhost_user_balloon", wrong="lent" if wrong else False, flags=flags)
     return linux_kit.build(folder, core, "vhost_user_host", wrong=wrong, flags=flags)

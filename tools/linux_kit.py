@@ -18,19 +18,20 @@ HEADERS = os.path.join(ROOT, "crates/vb_c")
 LIBRARY = os.path.join(ROOT, "crates", "vb_c", "out", "libvb_c.a")
 
 # The backends' files in monitor: of all, of each, and what a build for tests has besides.
+COMMON_PARTS = tuple(f"backend/{it}" for it in ("numbers", "process", "say", "tags"))
 PARTS = tuple(
     f"backend/{it}"
-    for it in (
-        "backend", "control", "counters", "events", "guard", "guest_memory", "kicks", "process", "rings", "say", "statistics", "stream",
-    )
-)
+    for it in ("backend", "control", "counters", "events", "guard", "guest_memory", "kicks", "rings", "statistics", "stream")
+) + COMMON_PARTS
 VHOST_PARTS = tuple(
     f"backend/{it}" for it in ("features", "inbox", "messages", "ring_messages", "slots", "vhost_user")
 )
+HOST_PARTS = ("folder", "input", "journal", "lines", "loop", "message", "orders", "policy", "reports", "seats", "start", "view")
+LENT_PARTS = ("backend/lent", "backend/lent_channel", "backend/marks", "backend/sandbox", "host/message")
 CLIENT_PARTS = {
-    "vhost_user_balloon": ("backend/loop", "backend/state", *VHOST_PARTS),
-    "pci_proxy_balloon": ("backend/loop", "backend/state", "backend/virtio_pci"),
-    "vhost_user_host": (*VHOST_PARTS, *(f"host/{it}" for it in ("journal", "lines", "loop", "marks", "policy", "seats", "view"))),
+    "vhost_user_balloon": (*PARTS, "backend/loop", "backend/state", *LENT_PARTS, *VHOST_PARTS),
+    "pci_proxy_balloon": (*PARTS, "backend/loop", "backend/state", "backend/virtio_pci"),
+    "vhost_user_host": (*COMMON_PARTS, *(f"host/{it}" for it in HOST_PARTS)),
 }
 AUDIT_PARTS = ("backend/audit", "backend/wrong")
 FLAGS = ("-std=c11", "-O2", "-Wall", "-Wextra", "-Werror")
@@ -38,7 +39,7 @@ FLAGS = ("-std=c11", "-O2", "-Wall", "-Wextra", "-Werror")
 # What a wrong device gets in its hands (monitor/backend/wrong.c), and by their programs what a wrong backend and a wrong
 # host do (monitor/backend/wrong_backend.c, monitor/host/wrong.c).
 AUDIT_WRAPPED = ("vb_begin", "vb_ask", "vb_go_on", "poll")
-WRONG_PARTS = {"vhost_user_balloon": ("backend/wrong_backend",), "vhost_user_host": ("host/wrong",)}
+WRONG_PARTS = {"vhost_user_balloon": ("backend/wrong_backend",), "vhost_user_host": ("host/wrong",), "lent": ("backend/wrong_lent",)}
 WRONG_WRAPPED = {
     "vhost_user_balloon": (
         "event_signal", "ring_end", "message_answer", "message_wants_answer", "message_tell", "memory_remove", "rings_forget",
@@ -46,9 +47,9 @@ WRONG_WRAPPED = {
         "event_take_kick", "backend_start", "stream_fill", "file_number", "fsync",
     ),
     "vhost_user_host": (
-        "vb_targets", "vb_spare", "vb_needs_targets", "counters_taken", "seat_set_target", "policy_decide", "host_changed",
-        "marks_follow",
+        "vb_loan_class_targets", "vb_spare", "vb_needs_targets", "host_changed",
     ),
+    "lent": ("counters_taken", "marks_follow"),
 }
 
 # The last QEMU whose PCI proxy works.
@@ -77,12 +78,13 @@ def core_of(reference=False):
 
 def build(folder, core, name="vhost_user_balloon", audited=False, wrong=False, flags=()):
     """Compiles a backend over this core into a folder, with more flags, and returns its path: one for tests that looks at the
-    device, or one that is wrong on purpose."""
+    device, or one that is wrong on purpose, in its own way or in another program's (`wrong` is that one's name)."""
     program = os.path.join(folder, name)
-    names = (name, *CLIENT_PARTS[name], *PARTS, *(AUDIT_PARTS if audited else ()), *(WRONG_PARTS[name] if wrong else ()))
+    which = name if wrong is True else wrong
+    names = (name, *CLIENT_PARTS[name], *(AUDIT_PARTS if audited else ()), *(WRONG_PARTS[which] if wrong else ()))
     parts = [os.path.join(MONITOR, f"{it}.c") for it in names]
-    wrapped = (*(AUDIT_WRAPPED if audited else ()), *(WRONG_WRAPPED[name] if wrong else ()))
-    words = [need("cc", "gcc libc6-dev"), *FLAGS, *flags, "-I", MONITOR, "-I", HEADERS, "-o", program, *parts, core]
+    wrapped = (*(AUDIT_WRAPPED if audited else ()), *(WRONG_WRAPPED[which] if wrong else ()))
+    words = [need("cc", "gcc libc6-dev"), *FLAGS, *flags, "-I", MONITOR, "-I", HEADERS, "-o", program, *parts, core, "-lseccomp"]
     words += [*(["-DBALLOON_AUDIT"] if audited else []), *(f"-Wl,--wrap={it}" for it in wrapped)]
     ran = subprocess.run(words, capture_output=True, text=True)
     if ran.returncode != 0:
