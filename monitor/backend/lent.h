@@ -19,6 +19,7 @@ struct lent {
     uint64_t serial, lost;
     uint32_t pages;             /* of its memory that has room */
     uint32_t wanted;            /* pages for which it waits, and for what */
+    uint32_t wait;              /* how many times it has waited */
     enum lending_wait waits;
     int answered;               /* 1: they may be had; -1: they may not; 0: it waits */
     uint64_t heard, taken;      /* its counters when they were last looked at */

@@ -45,7 +45,7 @@ void lent_report(struct lent *lent, uint64_t number, bool asked)
     const VbDevice *device = &backend->balloon.state.device;
     struct lending_message message = {
         .kind = TELL_REPORT, .number = number, .serial = ++lent->serial, .held_kib = memory_held(&backend->memory),
-        .end = device->settings.memory_end / BALLOON_PAGE, .lost = lent->lost, .pages = lent->pages, .wanted = lent->wanted,
+        .end = device->settings.memory_end / BALLOON_PAGE, .lost = lent->lost, .pages = lent->pages, .wanted = lent->wanted, .wait = lent->wait,
         .waits = lent->waits, .target = device->target, .actual = device->actual, .ballooned = backend->ballooned,
         .status = device->status, .ready = backend_is_ready(backend), .asked = asked, .ballooned_then = lent->ballooned_then,
         .taken_since = lent->taken_since, .has_terms = lent->has_terms, .terms = lent->terms, .counters = backend->counters,
@@ -104,14 +104,11 @@ static void remind(struct lent *lent)
     lent->ballooned_told = backend->ballooned;
 }
 
-/* What the lender says of pages that are waited for. */
+/* What the lender says of pages that are waited for: it tells itself why they aren't to be had. */
 static void take_answer(struct lent *lent, const struct lending_message *order)
 {
-    if (lent->waits == WAIT_NOTHING || order->pages != lent->wanted)
-        return;
-    lent->answered = order->kind == ORDER_REFUSE ? -1 : 1;
-    if (order->kind == ORDER_REFUSE)
-        refuse("%s", order->words);
+    if (lent->waits != WAIT_NOTHING && order->wait == lent->wait)
+        lent->answered = order->kind == ORDER_REFUSE ? -1 : 1;
 }
 
 /* Obeys one order; false where the client can't be served any longer. */
@@ -195,6 +192,7 @@ bool lent_await(struct lent *lent, enum lending_wait what, uint32_t pages)
 {
     lent->waits = what;
     lent->wanted = pages;
+    lent->wait++;
     lent->answered = 0;
     lent_report(lent, 0, false);
     while (lent->answered == 0 && wait_once(lent))

@@ -52,6 +52,8 @@ struct seat {
     uint32_t target, told;      /* what was decided, and what it is asked for so far */
     enum guest_wait waits_for;
     int64_t waits_since;
+    uint32_t wait_answered;     /* the last of its waits that was answered, and how */
+    bool wait_admitted;
 };
 
 /* What was decided, and why. */
@@ -202,9 +204,8 @@ void seat_keep_terms(struct seat *seat);
 /* Tells its process to end. */
 void seat_leave(struct seat *seat);
 
-/* Answers the pages that it waits for. */
-void seat_admit(struct seat *seat, uint32_t pages);
-void seat_refuse(struct seat *seat, uint32_t pages, const char *words);
+/* Answers its process, which waits for pages: whether they may be had. */
+void seat_answer(struct seat *seat, bool admitted);
 
 /* ---- reports.c */
 

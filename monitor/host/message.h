@@ -13,7 +13,7 @@ enum lending_kind {
     ORDER_REMIND,               /* tell the guest its target again, where its balloon stays off it */
     ORDER_TARGET,               /* the host wants `target` pages in the balloon */
     ORDER_ADMIT,                /* there is room for the `pages` that it waits for */
-    ORDER_REFUSE,               /* there is none, by `words` */
+    ORDER_REFUSE,               /* there is none */
     ORDER_KEEP,                 /* keep the terms for the lender that comes after this one */
     ORDER_GRANT,                /* the deflate or the reset that waits has its `pages` */
     ORDER_LEAVE,                /* end */
@@ -40,6 +40,7 @@ struct lending_message {
     uint64_t lost;              /* messages of the process that found no room */
     uint32_t pages;             /* of its memory that has room; of an order: what it is about */
     uint32_t wanted;            /* pages that it waits for */
+    uint32_t wait;              /* how many times it has waited: the answer has the same number */
     uint32_t waits;             /* enum lending_wait */
     uint32_t target, actual, ballooned, status, ready;
     uint32_t asks, asked;       /* whether to ask for statistics; whether the guest could be asked */

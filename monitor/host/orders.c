@@ -74,15 +74,10 @@ void seat_leave(struct seat *seat)
     order(seat, &message);
 }
 
-void seat_admit(struct seat *seat, uint32_t pages)
+void seat_answer(struct seat *seat, bool admitted)
 {
-    struct lending_message message = {.kind = ORDER_ADMIT, .pages = pages};
-    order(seat, &message);
-}
-
-void seat_refuse(struct seat *seat, uint32_t pages, const char *words)
-{
-    struct lending_message message = {.kind = ORDER_REFUSE, .pages = pages};
-    strncpy(message.words, words, MOST_WORDS - 1);
+    struct lending_message message = {.kind = admitted ? ORDER_ADMIT : ORDER_REFUSE, .wait = seat->report.wait};
+    seat->wait_answered = seat->report.wait;
+    seat->wait_admitted = admitted;
     order(seat, &message);
 }

@@ -4,26 +4,25 @@
 /* Messages of one process that are read in a turn. */
 enum { MESSAGES_A_TURN = 8 };
 
-/* A guest waits for room: whether there is, it is answered each time it says so. */
+/* A guest waits for room: whether there is, it is answered; and again, where it hasn't heard that. */
 static void answer_arrival(struct seat *seat)
 {
     struct host *host = seat->host;
     uint32_t wanted = seat->report.wanted;
-    char words[MOST_WORDS];
-    if (wanted <= seat->pages) {
-        seat_admit(seat, wanted);
+    if (seat->report.wait == seat->wait_answered) {
+        seat_answer(seat, seat->wait_admitted);
         return;
     }
-    uint64_t missing = policy_lacks(host, seat, wanted);
+    uint64_t missing = wanted > seat->pages ? policy_lacks(host, seat, wanted) : 0;
     if (missing > 0) {
-        snprintf(words, sizeof words, "no room for %u pages: %llu are missing", wanted, (unsigned long long)missing);
+        refuse("no room for %u pages: %llu are missing", wanted, (unsigned long long)missing);
         host->counters.refused++;
-        seat_refuse(seat, wanted, words);
+        seat_answer(seat, false);
         return;
     }
     host->counters.admitted += seat->pages == 0;
     seat->pages = wanted;
-    seat_admit(seat, wanted);
+    seat_answer(seat, true);
     host_changed(host, BY_GUESTS);
 }
 

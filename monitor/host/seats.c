@@ -42,6 +42,7 @@ void seat_clear(struct seat *seat)
     seat->heard = seat->taken = seat->number = seat->answered = seat->lost = 0;
     seat->heard_at = seat->paused_until = seat->asked_at = seat->waits_since = 0;
     seat->waits_for = WAITS_FOR_NOTHING;
+    seat->wait_answered = 0;
 }
 
 /* Makes a seat's socket; false where it can't, with errno. */
