@@ -118,9 +118,12 @@ def channel_that_nobody_reads(town):
     client = comes(town, "deaf")
     for target in range(3000):
         town.host.demand(f"deaf target {target}")
-    with open(town.host.log, encoding="latin-1") as log:
-        said = [it for it in log if "can't be told" in it]
-    demand(said == ["deaf: the client can't be told of a change\n"] * 100, f"{len(said)} lines: {said[:1]}")
+
+    def said():
+        with open(town.host.log, encoding="latin-1") as log:
+            return [it for it in log if "can't be told" in it]
+
+    eventually(lambda: said() == ["deaf: the client can't be told of a change\n"] * 100, lambda: f"{len(said())} lines: {said()[:1]}", 5)
     client.leave()
 
 
@@ -159,7 +162,8 @@ def longest_path(bench):
     with tempfile.TemporaryDirectory() as folder:
         deep = os.path.join(folder, (99 - len(folder)) * "x")
         os.mkdir(deep)
-        ran = subprocess.run([bench.programs["checked"], deep, "--budget", "5"], input="add fives\nadd sixsix\nquit\n", capture_output=True,
+        words = [bench.programs["checked"], deep, "--budget", "5", "--control", f"{folder}/.control"]
+        ran = subprocess.run(words, input="add fives\nadd sixsix\nquit\n", capture_output=True,
                              text=True, timeout=LIMIT)
     said = f"ready\nlistening {deep}/fives\nerror: sixsix: File name too long\n"
     demand((ran.returncode, ran.stdout, len(deep)) == (0, said, 100), f"paths of 106 and 107 bytes: {ran}")

@@ -14,32 +14,48 @@ from linux_packages import (
 )
 
 MONITOR = os.path.join(ROOT, "monitor")
+SHIM = os.path.join(MONITOR, "include")
+REFERENCE = os.path.join(MONITOR, "reference/reference.c")
 HEADERS = os.path.join(ROOT, "crates/vb_c")
 LIBRARY = os.path.join(ROOT, "crates", "vb_c", "out", "libvb_c.a")
 
-# The backends' files in monitor: of all, of each, and what a build for tests has besides.
-COMMON_PARTS = tuple(f"backend/{it}" for it in ("numbers", "process", "say", "tags"))
-PARTS = tuple(
-    f"backend/{it}"
-    for it in ("backend", "control", "counters", "events", "guard", "guest_memory", "kicks", "rings", "statistics", "stream")
-) + COMMON_PARTS
+# The backends' files, from monitor/backends: of all, of one guest's, of each, and what a build for tests has besides.
+COMMON_PARTS = tuple(f"guest/{it}" for it in ("levels", "numbers", "process", "say", "tags"))
+PARTS = (
+    *(f"guest/{it}" for it in ("backend", "control", "counters", "events", "guard", "guest_memory", "kicks", "rings", "statistics", "stream")),
+    *COMMON_PARTS,
+)
 VHOST_PARTS = tuple(
-    f"backend/{it}" for it in ("features", "inbox", "messages", "ring_messages", "slots", "vhost_user")
+    f"guest/{it}" for it in ("features", "inbox", "messages", "ring_messages", "slots", "vhost_user")
 )
 HOST_PARTS = ("folder", "input", "journal", "lines", "loop", "message", "orders", "policy", "reports", "seats", "start", "view")
-LENT_PARTS = ("backend/lent", "backend/lent_channel", "backend/marks", "backend/sandbox", "host/message")
+LENT_PARTS = ("guest/lent", "guest/lent_channel", "guest/marks", "guest/sandbox", "host/message")
 CLIENT_PARTS = {
-    "vhost_user_balloon": (*PARTS, "backend/loop", "backend/state", *LENT_PARTS, *VHOST_PARTS),
-    "pci_proxy_balloon": (*PARTS, "backend/loop", "backend/state", "backend/virtio_pci"),
-    "vhost_user_host": (*COMMON_PARTS, *(f"host/{it}" for it in HOST_PARTS)),
+    "vhost_user_balloon": (*PARTS, "guest/loop", "guest/state", *LENT_PARTS, *VHOST_PARTS),
+    "pci_proxy_balloon": (*PARTS, "guest/loop", "guest/state", "guest/virtio_pci"),
+    "vhost_user_host": (
+        *COMMON_PARTS,
+        *(f"host/{it}" for it in HOST_PARTS),
+        *(f"control/{it}" for it in ("answers", "client", "decisions", "events", "fields", "requests", "server", "socket")),
+        *(f"service/{it}" for it in ("config", "config_words", "notify", "service")),
+    ),
 }
-AUDIT_PARTS = ("backend/audit", "backend/wrong")
+
+# The libraries of Debian's that a program is linked to: their names for pkg-config, and the packages to install.
+LINKED = {
+    "vhost_user_host": {"jansson": "libjansson-dev", "inih": "libinih-dev", "libsystemd": "libsystemd-dev"},
+    "vhost_user_balloon": {"libseccomp": "libseccomp-dev"},
+}
+AUDIT_PARTS = ("guest/audit", "../tests/mutants/wrong_device")
 FLAGS = ("-std=c11", "-O2", "-Wall", "-Wextra", "-Werror")
 
-# What a wrong device gets in its hands (monitor/backend/wrong.c), and by their programs what a wrong backend and a wrong
-# host do (monitor/backend/wrong_backend.c, monitor/host/wrong.c).
+# What a wrong device gets in its hands (monitor/tests/mutants/wrong_device.c), and by their programs what a wrong backend and a wrong
+# host do (wrong_backend.c, wrong_host.c).
 AUDIT_WRAPPED = ("vb_begin", "vb_ask", "vb_go_on", "poll")
-WRONG_PARTS = {"vhost_user_balloon": ("backend/wrong_backend",), "vhost_user_host": ("host/wrong",), "lent": ("backend/wrong_lent",)}
+WRONG_PARTS = {
+    "vhost_user_balloon": ("../tests/mutants/wrong_backend",), "vhost_user_host": ("../tests/mutants/wrong_host",),
+    "lent": ("../tests/mutants/wrong_lent",),
+}
 WRONG_WRAPPED = {
     "vhost_user_balloon": (
         "event_signal", "ring_end", "message_answer", "message_wants_answer", "message_tell", "memory_remove", "rings_forget",
@@ -68,12 +84,23 @@ def demand(condition, words):
 def core_of(reference=False):
     """Returns the file that decides: the proved library, or the plain implementation."""
     if reference or os.environ.get("REFERENCE"):
-        return os.path.join(MONITOR, "reference.c")
+        return REFERENCE
     path = os.environ.get("VB_LIB", LIBRARY)
     if not os.path.exists(path):
         where = os.path.relpath(path, ROOT)
         raise Missing(f"{where} isn't there: rt lib in crates/vb_c makes it, VB_LIB=FILE names another, REFERENCE=1 does without")
     return path
+
+
+def linked(name):
+    """Returns the words of the compiler that link a program to Debian's libraries."""
+    wanted = LINKED.get(name, {})
+    if not wanted:
+        return []
+    ran = subprocess.run([need("pkg-config", "pkg-config"), "--cflags", "--libs", *wanted], capture_output=True, text=True)
+    if ran.returncode != 0:
+        raise Missing(f"{name} is linked to libraries that aren't there: apt-get install {' '.join(wanted.values())}")
+    return ran.stdout.split()
 
 
 def build(folder, core, name="vhost_user_balloon", audited=False, wrong=False, flags=()):
@@ -82,13 +109,13 @@ def build(folder, core, name="vhost_user_balloon", audited=False, wrong=False, f
     program = os.path.join(folder, name)
     which = name if wrong is True else wrong
     names = (name, *CLIENT_PARTS[name], *(AUDIT_PARTS if audited else ()), *(WRONG_PARTS[which] if wrong else ()))
-    parts = [os.path.join(MONITOR, f"{it}.c") for it in names]
+    parts = [os.path.join(MONITOR, "backends", f"{it}.c") for it in names]
     wrapped = (*(AUDIT_WRAPPED if audited else ()), *(WRONG_WRAPPED[which] if wrong else ()))
-    words = [need("cc", "gcc libc6-dev"), *FLAGS, *flags, "-I", MONITOR, "-I", HEADERS, "-o", program, *parts, core, "-lseccomp"]
+    words = [need("cc", "gcc libc6-dev"), *FLAGS, *flags, "-I", SHIM, "-I", HEADERS, "-o", program, *parts, core, *linked(name)]
     words += [*(["-DBALLOON_AUDIT"] if audited else []), *(f"-Wl,--wrap={it}" for it in wrapped)]
     ran = subprocess.run(words, capture_output=True, text=True)
     if ran.returncode != 0:
-        raise Fault(f"{core} and monitor/*.c don't build:\n{ran.stderr.strip()}")
+        raise Fault(f"{core} and monitor/backends don't build:\n{ran.stderr.strip()}")
     return program
 
 
@@ -101,7 +128,7 @@ def archive_entry(name, mode, data, number):
 
 def make_initramfs(folder, busybox, modules):
     """Writes the guest's first files, all of them, and returns the archive's path."""
-    sources = {"init": os.path.join(MONITOR, "guest", "init"), "bin/busybox": busybox}
+    sources = {"init": os.path.join(MONITOR, "tests/guest/init"), "bin/busybox": busybox}
     sources |= {os.path.basename(it): it for it in modules}
     if "virtio_balloon.ko" not in sources:
         raise Fault("the kernel's package has no virtio_balloon.ko")

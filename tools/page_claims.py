@@ -49,7 +49,7 @@ def wrong_shims(*paths):
     return lambda: sum(it[1].startswith(paths) for it in tool("wrong-shims").WRONG)
 
 
-SHIM, CALLS, OBEY = "monitor/balloon.h", "monitor/balloon_calls.h", "monitor/rust/src/obey.rs"
+SHIM, CALLS, OBEY = "monitor/include/balloon.h", "monitor/include/balloon_calls.h", "monitor/rust/src/obey.rs"
 
 # A page, the pattern of a number in it, and what the number has to be.
 COUNTS = (
@@ -57,10 +57,10 @@ COUNTS = (
     ("README.md", r"lines of C, (\w+) of Rust\)", lines_of(OBEY)),
     ("CHANGELOG.md", r"shims in C and Rust obey it: (\w+) and \w+ lines", lines_of(SHIM)),
     ("CHANGELOG.md", r"shims in C and Rust obey it: \w+ and (\w+) lines", lines_of(OBEY)),
-    ("CHANGELOG.md", r"\(`tools/conform`\): (\w+), by topic", scripts("conformance/*", "examples")),
+    ("CHANGELOG.md", r"\(`tools/conform`\): (\w+), by topic", scripts("crates/vb_conformance/data/*")),
     ("monitor/README.md", r"`balloon\.h` \((\w+) lines\)", lines_of(SHIM)),
     ("monitor/README.md", r"`balloon_calls\.h`, (\w+) lines", lines_of(CALLS)),
-    ("monitor/README.md", r"by (\w+) wrong shims in C", wrong_shims("balloon")),
+    ("monitor/README.md", r"by (\w+) wrong shims in C", wrong_shims("include/")),
     ("monitor/README.md", r"wrong shims in C and (\w+) in Rust", wrong_shims("rust/")),
     ("monitor/rust/README.md", r"`src/obey\.rs`\n?\s*\((\w+) lines\)", lines_of(OBEY)),
     ("docs/LINUX.md", r"`tools/test-linux` \| (\w+) runs", lambda: len(tool("test-linux").RUNS)),
@@ -136,23 +136,36 @@ def times():
     return found
 
 
+# A page, the language of its listings, and the file that they quote: whole, or in parts that `...` divides.
+WHOLE, PARTS = True, False
+LISTINGS = (
+    ("README.md", "c", "monitor/examples/example.c", PARTS),
+    ("README.md", "rust", "monitor/rust/examples/monitor.rs", PARTS),
+    ("docs/INTEGRATION.md", "c", "monitor/examples/example.c", WHOLE),
+)
+
+
 def listings():
-    """Returns what is wrong with the listing of a file on a page."""
-    page = read("docs/INTEGRATION.md")
-    shown = re.search(r"(?s)This is `monitor/example\.c`,.*?\n```c\n(.*?)```\n", page)
-    if not shown or shown[1] != read("monitor/example.c"):
-        return ["docs/INTEGRATION.md: the listing isn't monitor/example.c"]
-    return []
+    """Returns the pages whose listing of a file isn't what the file has."""
+    found = []
+    for path, language, source, is_whole in LISTINGS:
+        shown = re.findall(rf"(?s)\n```{language}\n(.*?)```\n", read(path))
+        parts = [part for it in shown for part in it.split("...\n")]
+        text = read(source)
+        if text not in shown if is_whole else not parts or any(it not in text for it in parts):
+            found.append(f"{path}: a listing isn't in {source}")
+    return found
 
 
 def order():
-    """Returns what is wrong with README's list of crates, low to high: each is there once, above those that it stands on."""
-    named = re.findall(r"`(vb_\w+)`", read("README.md").partition("The crates, low to high")[2])
+    """Returns what is wrong with the map's table of crates, low to high: each is there once, after those that it needs."""
+    section = read("docs/MAP.md").partition("\n## The crates\n")[2].partition("\n## ")[0]
+    named = re.findall(r"(?m)^\| `(vb_\w+)` \|", section)
     below = {name: set(rest.split()) for name, rest in re.findall(r"(?m)^(\w+)[^:#\n]*:(.*)$", read("crates.txt"))}
     if sorted(named) != sorted(below):
-        return [f"README.md: its crates aren't those of crates.txt: {', '.join(sorted(set(named) ^ set(below))) or 'one stands twice'}"]
+        return [f"docs/MAP.md: its crates aren't those of crates.txt: {', '.join(sorted(set(named) ^ set(below))) or 'one is there twice'}"]
     late = [(it, low) for at, it in enumerate(named) for low in below[it] & set(named[at:])]
-    return [f"README.md: crate {it} is listed before {low}, on which it stands" for it, low in late]
+    return [f"docs/MAP.md: crate {it} is listed before {low}, which it needs" for it, low in late]
 
 
 def sanitized():

@@ -1,4 +1,4 @@
-"""A client of monitor/pci_proxy_balloon.c in the place of QEMU: a machine with a guest's memory, whose driver is the test."""
+"""A client of monitor/backends/pci_proxy_balloon.c in the place of QEMU: a machine with a guest's memory, whose driver is the test."""
 
 import array
 import os

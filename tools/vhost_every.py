@@ -204,8 +204,8 @@ class Every(unittest.TestCase):
 
     def test_a_million_messages_by_chance(self):
         program = os.path.join(self.folder.name, "chance")
-        source = os.path.join(linux_kit.MONITOR, "vhost_user_chance.c")
-        words = [linux_kit.need("cc", "gcc libc6-dev"), *linux_kit.FLAGS, "-I", linux_kit.MONITOR, "-o", program, source]
+        source = os.path.join(linux_kit.MONITOR, "tests/vhost_user_chance.c")
+        words = [linux_kit.need("cc", "gcc libc6-dev"), *linux_kit.FLAGS, "-I", linux_kit.SHIM, "-o", program, source]
         subprocess.run(words, check=True)
         self.chance(program, MESSAGES // 10, 1)
         before = self.memory()

@@ -1,6 +1,6 @@
-"""Wrong edits of the two shims, monitor/balloon.h and monitor/rust, each of which a test has to refuse."""
+"""Wrong edits of the two shims, monitor/include/balloon.h and monitor/rust, each of which a test has to refuse."""
 
-H, CALLS = "balloon.h", "balloon_calls.h"
+H, CALLS = "include/balloon.h", "include/balloon_calls.h"
 OBEY, BALLOON, SERVED = "rust/src/obey.rs", "rust/src/balloon.rs", "rust/src/served.rs"
 LENDING = "rust/src/lending.rs"
 

@@ -1,6 +1,6 @@
 -- Worked facts of what guests are given at a level, and of targets that are set in a caller's list.
 use Rattle.std.proofs.Common.{◌≡◌, ℕ, ◌-◌, ◌^◌, List, [], ◌∷◌, Result, Ok, Err, refl, arith}
-use Rattle.vb_model.specs.Balance.{Need, AreTargets}
+use Rattle.vb_virtio.specs.Targets.{Need, AreTargets}
 use Rattle.vb_balance.{specs.Levels.AreGiven, specs.Sharing.SharesInto}
 use Rattle.vb_balance.specs.declared.need.NoTargets.{NoTargets, TheVariants.{OtherLength, Short}}
 

@@ -4,8 +4,8 @@ use Rattle.std.{proofs.Common.{sum, ◌∙◌, arith, ◌⊎◌, inl, inr, min},
 use Rattle.std.proofs.lemmas.List.{length-map, get_or-set_same, get_or-set_other, take_more_set}
 use Rattle.std.{proofs.lemmas.List.take_all, proofs.lemmas.Bool.{cases_order, cases_lt}}
 use Rattle.std.proofs.lemmas.List.Sums.{sum_by_more, sum_by_push, sum-map}
-use Rattle.vb_model.specs.Balance.{Need, AreTargets, GivesBefore, missing, spare_at}
-use Rattle.vb_model.proofs.Sums.{sum-le}
+use Rattle.vb_virtio.specs.Targets.{Need, AreTargets, GivesBefore, missing, spare_at}
+use Rattle.vb_virtio.proofs.Sums.{sum-le}
 use Rattle.vb_balance.specs.Levels.{spare_from, spared_from, IsLevel, AreGiven}
 use Rattle.vb_balance.proofs.Spares.{spare_of, counts_at_most}
 

@@ -2,7 +2,7 @@
 use Rattle.std.proofs.Common.{◌≡◌, ℕ, zero, suc, ◌+◌, ◌<◌, ◌≤◌, List, [], ◌∷◌, length, get_or, map}
 use Rattle.std.proofs.{Common.{refl, ap, sym, arith}, lemmas.Bool.Decides.nat_tests}
 use Rattle.std.proofs.lemmas.List.Sums.{sum_by-cons}
-use Rattle.vb_model.specs.Balance.{Need, spare_at}
+use Rattle.vb_virtio.specs.Targets.{Need, spare_at}
 use Rattle.vb_balance.specs.Levels.{spare_from, spared_from}
 
 -- the spare of the need at a place

@@ -1,7 +1,7 @@
 -- The level of spare pages above which each guest gives all that it can (profile).
 use Rattle.std.specs.Prelude.{◌≡◌, ℕ, ◌+◌, ◌<◌, ◌≤◌, List, length, nat_le, if◌then◌else◌}
 use Rattle.std.specs.Prelude.{slice_index, sum, sum_by, take}
-use Rattle.vb_model.specs.Balance.{Need, spare_at}
+use Rattle.vb_virtio.specs.Targets.{Need, spare_at}
 
 -- what a guest can spare, if it is this many pages at least
 abbrev pub spare_from : ℕ → Need → ℕ

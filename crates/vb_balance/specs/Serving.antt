@@ -1,6 +1,6 @@
 -- Whether old targets still serve (profile).
 use Rattle.std.specs.Prelude.{◌≡◌, ℕ, ◌<◌, ◌≤◌, List, length, slice_index, sum}
-use Rattle.vb_model.specs.Balance.{Need, missing, spare_at}
+use Rattle.vb_virtio.specs.Targets.{Need, missing, spare_at}
 
 -- Each guest has a target, none of more than the guest can spare, and together they are what is
 -- missing at least.

@@ -1,6 +1,6 @@
 -- Targets that are set in a caller's list, or why they aren't (profile).
 use Rattle.std.specs.Prelude.{◌≡◌, ◌≢◌, ℕ, ◌-◌, ◌<◌, ◌^◌, List, length, min, Result, Ok, Err}
-use Rattle.vb_model.specs.Balance.{Need, AreTargets, shortage}
+use Rattle.vb_virtio.specs.Targets.{Need, AreTargets, shortage}
 use Rattle.vb_balance.specs.declared.need.NoTargets.{NoTargets}
 use Rattle.vb_balance.specs.declared.need.NoTargets.TheVariants.{OtherLength, Short}
 

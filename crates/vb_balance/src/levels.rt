@@ -1,7 +1,7 @@
 //! What guests have, can spare and lack together, and the level above which each gives all it can.
 
 ghost use Rattle.std.specs.Prelude.{◌≡◌, ℕ, ◌+◌, ◌*◌, ◌<◌, ◌≤◌, length};
-ghost use Rattle.vb_model.specs.Balance.{missing, spare_at};
+ghost use Rattle.vb_virtio.specs.Targets.{missing, spare_at};
 ghost use Rattle.vb_balance.specs.Levels.{spare_from, spared_from, IsLevel};
 
 use crate::GuestNeed;
@@ -55,7 +55,7 @@ fn most_spare(needs: &[GuestNeed]) -> u32
     most
 }
 
-/// The level above which each guest gives all that it can, where so much is missing.
+/// The level above which each guest gives all that it can, where this much is missing.
 pub(crate) fn level_for(needs: &[GuestNeed], lack: u128) -> u32
     requires { lack ≤ spared_from needs.now 0 }
     ensures { IsLevel needs.now lack result }

@@ -1,7 +1,7 @@
 //! How many pages a guest can spare.
 
 ghost use Rattle.std.specs.Prelude.{◌≡◌, unwrap_or};
-ghost use Rattle.vb_model.specs.Balance.{spare_of};
+ghost use Rattle.vb_virtio.specs.Targets.{spare_of};
 
 /// What is known of a guest's memory, in pages.
 #[derive(Clone, Copy, Debug, PartialEq, Eq)]

@@ -4,8 +4,8 @@ ghost use Rattle.std.specs.Prelude.{◌≡◌, ◌-◌, ◌^◌, min};
 
 use arrayvec::ArrayVec;
 use std::marker::Model;
-use vb_model::Numbers;
-use vb_model::limits::MAX_GUESTS;
+use vb_virtio::Numbers;
+use vb_virtio::limits::MAX_GUESTS;
 
 /// Guests that share a host, at most, as a capacity.
 pub(crate) const GUESTS: usize = MAX_GUESTS as usize;
@@ -21,7 +21,7 @@ pub struct GuestNeed {
 }
 
 impl Model for GuestNeed {
-    ghost use Rattle.vb_model.specs.Balance.{Need};
+    ghost use Rattle.vb_virtio.specs.Targets.{Need};
 
     ghost Value = { Need };
 
@@ -78,7 +78,7 @@ pub enum NoTargets {
 }
 
 impl Short {
-    /// Short by so many pages.
+    /// Short by n pages.
     pub(crate) fn by(missing: u128) -> Short
         ensures { result ≡ record { missing = min missing (2 ^ 64 - 1) } }
     {

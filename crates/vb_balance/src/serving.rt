@@ -1,7 +1,7 @@
 //! Whether targets that were set before still serve.
 
 ghost use Rattle.std.specs.Prelude.{◌≡◌, ◌<◌, ◌≤◌, ℕ, length, slice_index, sum, MatchBool};
-ghost use Rattle.vb_model.specs.Balance.{spare_at};
+ghost use Rattle.vb_virtio.specs.Targets.{spare_at};
 ghost use Rattle.vb_balance.specs.Serving.{StillServe};
 
 use crate::GuestNeed;

@@ -5,7 +5,7 @@ use Rattle.std.proofs.lemmas.{Bool.Decides.nat_tests, Nat.and_le_l, Nat.Bits.bit
 use Rattle.std.proofs.lemmas.Nat.Bits.{bit_at_mask_inside, bit_at_mask_below, bit_at-trailing_zeros}
 use Rattle.std.proofs.lemmas.Nat.Bits.{bit_at-zero, ones_shl, ones_shr, bit_at_ones}
 use Rattle.std.{proofs.lemmas.Nat.Bits.bit_at_ones_above, specs.Int.{bit_at, trailing_zeros, w64}}
-use Rattle.vb_model.specs.Tests.{has_bit}
+use Rattle.vb_virtio.specs.Tests.{has_bit}
 use Rattle.vb_bits.specs.Words.{IsLowestFrom}
 
 pub same_bit : (m n i j : ℕ) → bit_at m i ≡ bit_at n j → has_bit m i ≡ has_bit n j
@@ -60,7 +60,7 @@ found_from word bit l fits some = let found = trailing_zeros w64 (rest word bit)
           no_bit word k (sym (rest_from word bit k l after inside) ∙ lowest.2 k before);
     }
 
--- `MAX >> (64 - count)` has its lowest bits 1, so many of them
+-- `MAX >> (64 - count)` has its lowest bits 1, n of them
 pub low_bits : (count k : ℕ) → count ≤ 64
     → has_bit ((2 ^ 64 - 1) / 2 ^ (64 - count)) k ≡ ltb k count
 low_bits count k few = let same : 64 - (64 - count) ≡ count = omega arith in

@@ -1,4 +1,4 @@
--- The flags that words stand for.
+-- The flags that words represent.
 use Rattle.std.proofs.Common.{◌≡◌, ◌≢◌, ℕ, ◌+◌, ◌-◌, ◌*◌, ◌/◌, ◌%◌, ◌^◌, ◌<◌, ◌≤◌, Bool, true, List}
 use Rattle.std.proofs.Common.{length, get_or, set, replicate, eqb, ltb, not, sym, ap, ◌∙◌, ◌↔◌}
 use Rattle.std.proofs.lemmas.List.{get_or-set_same, get_or-set_other, get_or_past, ext_get_or}
@@ -8,7 +8,7 @@ use Rattle.std.proofs.lemmas.Bool.Decides.{eqb_tells, nat_tests}
 use Rattle.std.proofs.lemmas.List.{length-set, length-replicate, get_or-replicate}
 use Rattle.std.proofs.lemmas.List.FromFn.{get_or-map-range_with_len, length-map-range_with_len}
 use Rattle.std.proofs.lemmas.Nat.Bits.{bit_at-zero, bit_at-lt, same_from_bits_below, bit_at_ones}
-use Rattle.vb_model.specs.Tests.{has_bit}
+use Rattle.vb_virtio.specs.Tests.{has_bit}
 use Rattle.vb_bits.{specs.Sets.{has, HasNoneIn, IsLeastFrom}, proofs.Bits.{one_bit, no_bit}}
 use Rattle.vb_bits.specs.Words.{in_words, flags_of, AreWordsOf, IsLowestFrom}
 
@@ -36,7 +36,7 @@ flags_are bound words flags s e h =
     ext_get_or false (flags_of bound words) flags (length-flags bound words ∙ sym e)
     (λ n l. has_flag bound words s n ∙ h n (omega (arith, l, length-flags bound words)))
 
--- the number that a bit of a word stands for
+-- the number that a bit of a word represents
 pub at_place : (words : List ℕ) (w b : ℕ) → b < 64
     → in_words words (64 * w + b) ≡ has_bit (get_or words w 0) b
 at_place words w b l = grind arith

@@ -2,14 +2,14 @@
 
 ghost use Rattle.std.specs.Prelude.{◌≡◌, ℕ, ◌+◌, ◌*◌, ◌/◌, ◌<◌, ◌≤◌, ◌↔◌, true, false, []};
 ghost use Rattle.std.specs.Prelude.{length, replicate, slice_index, slice_set, IfOk};
-ghost use Rattle.vb_model.specs.Tests.{has_bit};
+ghost use Rattle.vb_virtio.specs.Tests.{has_bit};
 ghost use Rattle.vb_bits.specs.Sets.{has, HasNoneIn, IsNextInWord};
 
 use crate::word::{WORD_BITS, is_one, low_ones, lowest_from, with_bit};
 use std::alloc::{AllocError, Global};
 use std::marker::Model;
 
-/// Numbers below a bound, each a bit of a word: bit b of word w stands for 64 w + b.
+/// Numbers below a bound, each a bit of a word: bit b of word w represents 64 w + b.
 #[derive(Drop)]
 pub struct Level {
     /// The numbers are below it.
@@ -40,7 +40,7 @@ impl Level {
         }
     }
 
-    /// No number below the bound. Want of memory is the only refusal.
+    /// No number below the bound. An allocation failure is the only refusal.
     pub fn new(alloc: Global, bound: u32) -> Result<Level, AllocError>
         ensures { IfOk result (λ level. level ≡ replicate bound false) }
     {

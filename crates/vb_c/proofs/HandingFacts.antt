@@ -10,7 +10,7 @@ use Rattle.vb_monitor.specs.declared.step.Phase.TheVariants.{Discards, GivesBack
 use Rattle.vb_monitor.specs.declared.step.Phase.{TheVariants.Ended, Phase}
 use Rattle.vb_monitor.specs.{declared.balloon.Balloon.Balloon, Machine.{Fits, row_bytes, stage, waits, is_ended}}
 use Rattle.vb_c.specs.declared.notice.{VbNotice.VbNotice, VbRoom.VbRoom}
-use Rattle.vb_model.specs.Tests.{one_if}
+use Rattle.vb_virtio.specs.Tests.{one_if}
 use Rattle.vb_c.specs.{Notices.{tally_of, told_bits, asked_bits, answer_bits, what_of}, Serving.{held_then, Refuses}, Served.telling_pages}
 use Rattle.vb_c.{specs.Serving.HandsOver, proofs.Samples.{Same, two, begun, balloon}}
 

@@ -1,6 +1,6 @@
 -- What the calls of a host that lends answer in C, worked out: each code, and all that is left.
 use Rattle.std.proofs.Common.{◌≡◌, ◌∙◌, ◌⊎◌, inl, inr, refl, ap, arith, ℕ, zero, suc, ◌+◌, ◌<◌, ◌≤◌, true, false, List, [], ◌∷◌, map, Some, None}
-use Rattle.vb_model.specs.Balance.{Need}
+use Rattle.vb_virtio.specs.Targets.{Need}
 use Rattle.vb_lender.specs.declared.loan.Loan.{Loan}
 use Rattle.vb_lender.specs.declared.loan.WaitingLine.TheVariants.{First}
 use Rattle.vb_lender.specs.declared.terms.Share.{Share}

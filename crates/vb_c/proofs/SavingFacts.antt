@@ -1,6 +1,6 @@
 -- What saving, restoring and targets answer in C, worked out.
 use Rattle.std.proofs.Common.{◌≡◌, ◌∙◌, refl, ap, sym, arith, Result, Ok, Err, inl, inr, ℕ, List, [], ◌∷◌, length, Some}
-use Rattle.vb_model.specs.Balance.{Need}
+use Rattle.vb_virtio.specs.Targets.{Need}
 use Rattle.vb_balance.specs.Serving.{StillServe}
 use Rattle.vb_core.{specs.declared.device.Device.Device, specs.declared.saved.Saved.Saved}
 use Rattle.vb_core.{specs.declared.saved.StateDenial.{StateDenial, TheVariants.{BadLength, BadSum, Impossible}}, specs.Saved.{restored, save_denial}}

@@ -1,7 +1,7 @@
 -- What the exports for chains answer: what the core answers, as plain data; where the code is of no
 -- kind, that there is no queue, and nothing is changed.
 use Rattle.std.specs.Prelude.{◌≡◌, ℕ, ◌/◌, List, length, Option, Some, None, Result, Ok, Err}
-use Rattle.vb_model.specs.declared.layout.TheConstants.{STATISTIC_SIZE}
+use Rattle.vb_virtio.specs.declared.layout.TheConstants.{STATISTIC_SIZE}
 use Rattle.vb_core.specs.declared.kinds.Kind.{Kind}
 use Rattle.vb_core.specs.declared.kinds.Kind.TheVariants.{Statistics}
 use Rattle.vb_core.specs.declared.device.Denial.{Denial}

@@ -1,7 +1,7 @@
 -- What the exports for a host that lends answer: what the lender's calls answer, as codes.
 use Rattle.std.specs.Prelude.{◌≡◌, ◌≢◌, ◌⊎◌, ℕ, Bool, true, false, ◌&&◌, List, length}
 use Rattle.std.specs.Prelude.{Option, Some, None, Result, Err}
-use Rattle.vb_model.specs.Balance.{Need}
+use Rattle.vb_virtio.specs.Targets.{Need}
 use Rattle.vb_balance.specs.declared.need.NoTargets.{NoTargets}
 use Rattle.vb_balance.specs.declared.need.NoTargets.TheVariants.{OtherLength}
 use Rattle.vb_core.specs.declared.device.Denial.TheVariants.{BadArgument}

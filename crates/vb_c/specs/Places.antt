@@ -1,7 +1,7 @@
 -- What the exports for a balloon over regions answer.
 use Rattle.std.specs.Prelude.{◌≡◌, ℕ, ◌+◌, ◌*◌, ◌==◌, true, false, List, Option, Some, None}
 use Rattle.std.specs.Prelude.{Result, Ok, Err}
-use Rattle.vb_model.specs.Tests.{one_if}
+use Rattle.vb_virtio.specs.Tests.{one_if}
 use Rattle.vb_core.specs.declared.kinds.Kind.{Kind}
 use Rattle.vb_core.specs.declared.device.Denial.{Denial}
 use Rattle.vb_core.specs.declared.device.Denial.TheVariants.{BadArgument, NoQueue, Misplaced}

@@ -1,6 +1,6 @@
 -- What the exports for targets answer: what the crate of targets answers, as plain data.
 use Rattle.std.specs.Prelude.{◌≡◌, ◌⊎◌, ℕ, List, Result, Ok, Err}
-use Rattle.vb_model.specs.Balance.{Need}
+use Rattle.vb_virtio.specs.Targets.{Need}
 use Rattle.vb_balance.specs.declared.need.NoTargets.{NoTargets}
 use Rattle.vb_balance.specs.declared.need.NoTargets.TheVariants.{OtherLength, Short}
 use Rattle.vb_balance.specs.Sharing.{SharesInto}

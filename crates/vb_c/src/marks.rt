@@ -1,7 +1,7 @@
 //! The set of the pages in the balloon, as words of the caller's, and what it says of large pages.
 
 ghost use Rattle.std.specs.Prelude.{◌≡◌, ◌-◌, ◌^◌, min};
-ghost use Rattle.vb_model.specs.Tests.{one_if};
+ghost use Rattle.vb_virtio.specs.Tests.{one_if};
 ghost use Rattle.vb_core.specs.Ballooned.{is_ballooned, ballooned_count};
 ghost use Rattle.vb_c.specs.Codes.{kind_of_code};
 ghost use Rattle.vb_monitor.specs.Large.{LargeBy, counted};

@@ -1,7 +1,7 @@
 //! A balloon over regions: its start, its places, its status, and its going on elsewhere.
 
 ghost use Rattle.std.specs.Prelude.{◌≡◌};
-ghost use Rattle.vb_model.specs.Tests.{one_if};
+ghost use Rattle.vb_virtio.specs.Tests.{one_if};
 ghost use Rattle.vb_monitor.specs.Balloons.{may_tell};
 ghost use Rattle.vb_c.specs.Codes.{kind_of_code};
 ghost use Rattle.vb_c.specs.Places.{StartsOver, MapsAnew, PlacesOverFor, SetsStatus, RestoresOver};

@@ -3,7 +3,7 @@
 ghost use Rattle.std.specs.Prelude.{◌≡◌, ℕ, ◌+◌, ◌<◌, length, slice_index};
 ghost use Rattle.vb_core.specs.Kinds.{kind_of};
 ghost use Rattle.vb_core.specs.Config.{config_bytes, keeps_reports};
-ghost use Rattle.vb_model.specs.Tests.{one_if};
+ghost use Rattle.vb_virtio.specs.Tests.{one_if};
 ghost use Rattle.vb_c.specs.Codes.{code_in, number_in, kind_of_code, code_of_kind};
 ghost use Rattle.vb_c.specs.Registers.{Starts, WritesStatus, Negotiates, PlacesFor};
 ghost use Rattle.vb_c.specs.Registers.{WritesConfig};

@@ -1,7 +1,7 @@
 //! What each guest of a host is asked to give.
 
 ghost use Rattle.std.specs.Prelude.{◌≡◌, if◌then◌else◌, nat_eq};
-ghost use Rattle.vb_model.specs.Balance.{spare_of};
+ghost use Rattle.vb_virtio.specs.Targets.{spare_of};
 ghost use Rattle.vb_c.specs.Sharing.{targets_of, SharesFor, TellsServing};
 
 use crate::answers::{BAD_ARGUMENT, OK, SHORT};

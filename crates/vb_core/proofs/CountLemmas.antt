@@ -3,7 +3,8 @@ use Rattle.std.proofs.lemmas.List.{FromFn.length-range_with_len, Sums.count_by-l
 use Rattle.std.proofs.lemmas.{Bool.cases_lt, Nat.Bits.{bit_at-lt, bit_at-suc, bit_at_lowest}}
 use Rattle.std.{proofs.lemmas.Nat.{ones_le_self, pow-add}, specs.{Int.bit_at, List.range_with_len}}
 use Rattle.std.proofs.Common.{false, refl, sym, ap, ◌∙◌, inl, inr, arith, eqb, count_by, count_ones}
-use Rattle.vb_model.{proofs.Tables.count_by-cons, specs.Tests.{has_bit, one_if}}
+use Rattle.vb_virtio.proofs.Tables.{count_by-cons}
+use Rattle.vb_virtio.specs.Tests.{has_bit, one_if}
 use lib.Count.{ones_step}
 use Rattle.std.proofs.Common.{◌≡◌, ◌≢◌, ℕ, zero, suc, ◌+◌, ◌-◌, ◌*◌, ◌/◌, ◌%◌, ◌^◌, ◌<◌, ◌≤◌, Bool}
 

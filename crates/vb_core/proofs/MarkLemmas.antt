@@ -8,8 +8,8 @@ use Rattle.std.proofs.lemmas.{List.Folds.{list_any-append, list_any_more, list_a
 use Rattle.std.{proofs.lemmas.Bool.{or_from, both_ways}, specs.List.{range_with_len, list_any}}
 use Rattle.std.proofs.lemmas.Nat.Bits.{bit_at_and, bit_at_or, bit_at_xor, bit_at_not, bit_at-lt}
 use Rattle.std.proofs.Common.{bit_or, bit_xor, count_by, count_ones, if◌then◌else◌, take, ◌==◌}
-use Rattle.vb_model.proofs.PageSteps.{is_in-range, outside-range}
-use Rattle.vb_model.specs.Tests.{has_bit, is_in, one_if}
+use Rattle.vb_virtio.proofs.Ranges.{is_in-range, outside-range}
+use Rattle.vb_virtio.specs.Tests.{has_bit, is_in, one_if}
 use Rattle.vb_core.specs.Runs.{pages_of_run, pages_of_runs}
 use Rattle.vb_core.proofs.CountLemmas.{count_add, count_none, count_few, count_word}
 use Rattle.vb_core.specs.{Ballooned.{is_ballooned, is_changed, Puts}, declared.runs.Run.Run}

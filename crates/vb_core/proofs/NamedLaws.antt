@@ -2,8 +2,8 @@
 use Rattle.std.proofs.Common.{◌≡◌, ◌∙◌, ℕ, Bool, false, List, [], ◌∷◌, Option, Some, None, Result}
 use Rattle.std.specs.Prelude.{cond, is_none, IsOkAnd}
 use Rattle.std.proofs.Common.{Ok, Err, refl, length, take, sym, ap, arith}
-use Rattle.vb_model.specs.{Orderly.times, Tests.is_in}
-use Rattle.vb_model.{proofs.Distinct.{times-none, times-some}, specs.Driver.AllDistinct}
+use Rattle.vb_virtio.specs.Tests.{times, is_in, AllDistinct}
+use Rattle.vb_virtio.proofs.Distinct.{times-none, times-some}
 use Rattle.vb_ram.specs.Pages.{Pages}
 use Rattle.vb_chain.specs.declared.{fault.ChainFault.ChainFault, pieces.Piece.Piece}
 use Rattle.vb_request.specs.Request.{number_fault, first_of_both, first_number_fault, each_once}

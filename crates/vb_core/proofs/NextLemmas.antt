@@ -1,7 +1,8 @@
 -- What is popped from a memory of copies.
 use Rattle.std.specs.Prelude.{All, ◌&&◌, nat_le, None}
 use Rattle.std.proofs.Common.{Result, arith, refl, [], ◌∷◌, ◌<◌, ◌^◌, Some, Ok}
-use Rattle.vb_model.specs.{Limits.page_size, declared.limits.TheConstants.MAX_REPORT_PIECES}
+use Rattle.vb_virtio.specs.Limits.{page_size}
+use Rattle.vb_virtio.specs.declared.limits.TheConstants.{MAX_REPORT_PIECES}
 use Rattle.vb_chain.specs.Table.{descriptor_at}
 use Rattle.vb_chain.specs.declared.{fault.ChainFault.ChainFault, pieces.Piece.Piece}
 use Rattle.vb_ram.specs.Pages.{Pages, end_of}

@@ -4,8 +4,8 @@ use Rattle.std.proofs.Common.{length, get_or, set, take, sym, ap, arith, subst, 
 use Rattle.std.{proofs.lemmas.Bool.eqb-true, specs.List.range_with_len}
 use Rattle.std.proofs.lemmas.{Grind.{take-set_at, get_or-set_at}, List.{append-nil, take_more}}
 use Rattle.std.{proofs.Common.length-append, specs.Prelude.{◌==◌, Some, map, ◌≢◌, ◌%◌}}
-use Rattle.vb_model.specs.Tests.{one_if}
-use Rattle.vb_model.{proofs.Distinct.{times-append, times-cons}, specs.Orderly.times}
+use Rattle.vb_virtio.specs.Tests.{one_if, times}
+use Rattle.vb_virtio.proofs.Distinct.{times-append, times-cons}
 use Rattle.vb_chain.specs.declared.pieces.Piece.{Piece}
 use Rattle.vb_request.specs.Report.{pages_of_piece, pages_of_pieces}
 use Rattle.vb_core.specs.Runs.{pages_of_run, pages_of_runs, IsApartFrom, IsApart, joined, Grows}

@@ -3,7 +3,7 @@
 use Rattle.std.specs.Prelude.{◌≡◌, ℕ, ◌*◌, Bool, true, false, not, nat_le, List, [], ◌∷◌, length}
 use Rattle.std.specs.Prelude.{if◌then◌else◌, count_by, Option, Some, None, Result, Err, IsOkAnd}
 use Rattle.std.specs.List.{range_with_len, list_any}
-use Rattle.vb_model.specs.Tests.{is_in}
+use Rattle.vb_virtio.specs.Tests.{is_in}
 use Rattle.vb_bits.specs.declared.word.TheConstants.{WORD_BITS}
 use Rattle.vb_bits.specs.Words.{in_words}
 use Rattle.vb_core.specs.declared.kinds.Kind.{Kind}

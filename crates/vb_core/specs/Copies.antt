@@ -4,7 +4,7 @@ use Rattle.std.specs.Prelude.{◌≡◌, ℕ, ◌+◌, ◌*◌, ◌<◌, List, [
 use Rattle.std.specs.Prelude.{if◌then◌else◌, map, set, length}
 use Rattle.std.specs.Prelude.{slice_index, slice_index_or}
 use Rattle.std.specs.List.{range_with_len}
-use Rattle.vb_model.specs.Limits.{page_size}
+use Rattle.vb_virtio.specs.Limits.{page_size}
 use Rattle.vb_ram.specs.Pages.{Page, Pages, byte_at}
 use Rattle.vb_ram.specs.Put.{PutAt}
 use Rattle.vb_ring.specs.declared.layout.Layout.{Layout}

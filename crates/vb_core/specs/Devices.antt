@@ -1,8 +1,8 @@
 -- A device's state, and what its calls are refused for.
 use Rattle.std.specs.Prelude.{ℕ, Bool, true, not, ◌||◌, List, [], ◌∷◌, if◌then◌else◌, Option, Some}
 use Rattle.std.specs.Prelude.{None, bit_or}
-use Rattle.vb_model.specs.Status.{contains, driver_ok, needs_reset}
-use Rattle.vb_model.specs.Tables.{is_not_ready, has_fault, lacks_feature}
+use Rattle.vb_virtio.specs.Status.{contains, driver_ok, needs_reset, is_not_ready, has_fault}
+use Rattle.vb_virtio.specs.Queues.{lacks_feature}
 use Rattle.vb_core.specs.declared.settings.Settings.{Settings}
 use Rattle.vb_core.specs.declared.ring.Virtqueue.{Virtqueue}
 use Rattle.vb_core.specs.declared.kinds.Kind.{Kind}

@@ -3,7 +3,7 @@
 use Rattle.std.specs.Prelude.{◌≡◌, ℕ, ◌+◌, ◌*◌, Bool, true, false, ◌==◌, ◌&&◌, nat_le, List, length}
 use Rattle.std.specs.Prelude.{not}
 use Rattle.std.specs.Prelude.{take, map, Option, Some, None, Result, Ok, Err, IsOk}
-use Rattle.vb_model.specs.Tests.{one_if}
+use Rattle.vb_virtio.specs.Tests.{one_if}
 use Rattle.vb_chain.specs.declared.pieces.Piece.{Piece}
 use Rattle.vb_chain.specs.declared.fault.ChainFault.{ChainFault}
 use Rattle.vb_ring.specs.declared.device.Taken.{Taken}

@@ -2,8 +2,8 @@
 use Rattle.std.specs.Prelude.{◌≡◌, ℕ, ◌/◌, Bool, true, not, ◌&&◌, nat_le, List, length, map, take}
 use Rattle.std.specs.Prelude.{Option, Some, None, Result, Ok, Err, IsOk, is_none}
 use Rattle.std.specs.List.{list_any, list_all}
-use Rattle.vb_model.specs.declared.limits.TheConstants.{MAX_REPORT_PIECES}
-use Rattle.vb_model.specs.Limits.{page_size}
+use Rattle.vb_virtio.specs.declared.limits.TheConstants.{MAX_REPORT_PIECES}
+use Rattle.vb_virtio.specs.Limits.{page_size}
 use Rattle.vb_chain.specs.declared.pieces.Piece.{Piece}
 use Rattle.vb_chain.specs.declared.fault.ChainFault.{ChainFault}
 use Rattle.vb_ring.specs.declared.device.Taken.{Taken}

@@ -1,10 +1,10 @@
 -- A device that is saved and restored: the states that its calls lead to, and what is refused.
 use Rattle.std.specs.Prelude.{ℕ, Bool, not, ◌&&◌, ◌||◌, ◌==◌, nat_le, nat_lt, List, length}
 use Rattle.std.specs.Prelude.{if◌then◌else◌, Option, Some, None, Result, Ok, Err, take}
-use Rattle.vb_model.specs.Guest.{version_1, must_tell_host}
-use Rattle.vb_model.specs.Status.{contains, acknowledge, driver, driver_ok, features_ok}
-use Rattle.vb_model.specs.Status.{needs_reset}
-use Rattle.vb_model.specs.Tables.{lacks_feature}
+use Rattle.vb_virtio.specs.Features.{version_1, must_tell_host}
+use Rattle.vb_virtio.specs.Status.{contains, acknowledge, driver, driver_ok, features_ok}
+use Rattle.vb_virtio.specs.Status.{needs_reset}
+use Rattle.vb_virtio.specs.Queues.{lacks_feature}
 use Rattle.vb_core.specs.declared.ring.Virtqueue.{Virtqueue}
 use Rattle.vb_core.specs.declared.kinds.Kind.{Kind}
 use Rattle.vb_core.specs.declared.kinds.Kind.TheVariants.{Inflate, Deflate, Statistics, Report}

@@ -1,9 +1,9 @@
 -- What a monitor settles for a device.
 use Rattle.std.specs.Prelude.{ℕ, ◌/◌, Bool, not, ◌==◌, ◌&&◌, nat_le, nat_lt, bit_and, bit_or}
-use Rattle.vb_model.specs.declared.negotiation.TheConstants.{OFFERED_FEATURES}
-use Rattle.vb_model.specs.Limits.{page_size}
-use Rattle.vb_model.specs.Guest.{version_1}
-use Rattle.vb_model.specs.Status.{contains}
+use Rattle.vb_virtio.specs.declared.negotiation.TheConstants.{OFFERED_FEATURES}
+use Rattle.vb_virtio.specs.Limits.{page_size}
+use Rattle.vb_virtio.specs.Features.{version_1}
+use Rattle.vb_virtio.specs.Status.{contains}
 use Rattle.vb_core.specs.declared.settings.Settings.{Settings}
 use Rattle.vb_core.specs.declared.settings.TheConstants.{MEMORY_LIMIT, LEAST_MEMORY, PAGE_POISON}
 

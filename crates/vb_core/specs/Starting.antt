@@ -1,7 +1,7 @@
 -- A queue that starts at an index, and one that stops.
 use Rattle.std.specs.Prelude.{ℕ, Bool, not, ◌&&◌, ◌==◌, [], ◌∷◌, if◌then◌else◌, Option, Some, None}
-use Rattle.vb_model.specs.Status.{contains, features_ok, failed}
-use Rattle.vb_model.specs.Tables.{has_fault, lacks_feature}
+use Rattle.vb_virtio.specs.Status.{contains, features_ok, failed, has_fault}
+use Rattle.vb_virtio.specs.Queues.{lacks_feature}
 use Rattle.vb_core.specs.declared.ring.Virtqueue.{Virtqueue}
 use Rattle.vb_core.specs.declared.starting.QueueStart.{QueueStart}
 use Rattle.vb_core.specs.declared.kinds.Kind.{Kind}

@@ -1,7 +1,7 @@
 -- What a guest says of its memory, by the bytes of a buffer of statistics (VIRTIO 1.1, 5.5.6.3).
 use Rattle.std.specs.Prelude.{◌≡◌, ℕ, ◌/◌, ◌<◌, true, ◌&&◌, nat_le, List, length, slice_index_or}
 use Rattle.std.specs.Prelude.{Option}
-use Rattle.vb_model.specs.declared.layout.TheConstants.{STATISTIC_SIZE}
+use Rattle.vb_virtio.specs.declared.layout.TheConstants.{STATISTIC_SIZE}
 use Rattle.vb_request.specs.Statistics.{statistic_at, is_statistics_length}
 use Rattle.vb_core.specs.declared.statistics.Statistic.{Statistic}
 use Rattle.vb_core.specs.declared.kinds.Kind.TheVariants.{Statistics}

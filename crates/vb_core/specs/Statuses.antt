@@ -1,13 +1,13 @@
 -- Writes of the status register and of the features (VIRTIO 1.1, 2.1, 2.2 and 3.1.1): the rules of
 -- the definitions, and beside them what the settings ask for.
 use Rattle.std.specs.Prelude.{ℕ, Bool, not, ◌&&◌, ◌==◌, if◌then◌else◌, Option, Some, None}
-use Rattle.vb_model.specs.declared.replies.Refusal.{Refusal}
-use Rattle.vb_model.specs.declared.replies.Refusal.TheVariants.{ClearsBit as ClearsOne}
-use Rattle.vb_model.specs.declared.replies.Refusal.TheVariants.{OutOfOrder as BreaksOrder}
-use Rattle.vb_model.specs.declared.replies.Refusal.TheVariants.{FeatureNotOffered as OffersNot}
-use Rattle.vb_model.specs.declared.replies.Refusal.TheVariants.{NoFeature as LacksFeature}
-use Rattle.vb_model.specs.Status.{status_refusal, negotiate_refusal, adds, features_ok, contains}
-use Rattle.vb_model.specs.Guest.{must_tell_host}
+use Rattle.vb_virtio.specs.declared.refusals.Refusal.{Refusal}
+use Rattle.vb_virtio.specs.declared.refusals.Refusal.TheVariants.{ClearsBit as ClearsOne}
+use Rattle.vb_virtio.specs.declared.refusals.Refusal.TheVariants.{OutOfOrder as BreaksOrder}
+use Rattle.vb_virtio.specs.declared.refusals.Refusal.TheVariants.{FeatureNotOffered as OffersNot}
+use Rattle.vb_virtio.specs.declared.refusals.Refusal.TheVariants.{NoFeature as LacksFeature}
+use Rattle.vb_virtio.specs.Status.{status_refusal, negotiate_refusal, adds, features_ok, contains}
+use Rattle.vb_virtio.specs.Features.{must_tell_host}
 use Rattle.vb_status.specs.declared.bits.StatusFault.{StatusFault}
 use Rattle.vb_status.specs.declared.bits.StatusFault.TheVariants.{ClearsBit, OutOfOrder}
 use Rattle.vb_status.specs.declared.bits.StatusFault.TheVariants.{FeatureNotOffered}

@@ -3,7 +3,7 @@
 ghost use Rattle.std.specs.Prelude.{◌≡◌, ℕ, ◌+◌, ◌*◌, ◌/◌, ◌%◌, ◌^◌, ◌-◌, ◌<◌, ◌≤◌, ◌&&◌, ◌==◌};
 ghost use Rattle.std.specs.Prelude.{Bool, false, not, nat_le, nat_lt, length, min, if◌then◌else◌};
 ghost use Rattle.std.specs.List.{list_any};
-ghost use Rattle.vb_model.specs.Tests.{has_bit, is_in};
+ghost use Rattle.vb_virtio.specs.Tests.{has_bit, is_in};
 ghost use Rattle.vb_bits.specs.declared.word.TheConstants.{WORD_BITS};
 ghost use Rattle.vb_core.specs.Runs.{pages_of_run, pages_of_runs};
 ghost use Rattle.vb_core.specs.Ballooned.{is_ballooned, ballooned_count, Puts, MarksBy};

@@ -2,7 +2,7 @@
 
 ghost use Rattle.std.specs.Prelude.{◌≡◌, ℕ, ◌+◌, ◌<◌, ◌≤◌, ◌^◌, [], ◌∷◌, None, Err, IsSome, IsOk};
 ghost use Rattle.std.specs.Prelude.{OnOk, OnErr, IfErr, length, slice_index};
-ghost use Rattle.vb_model.specs.Limits.{page_size};
+ghost use Rattle.vb_virtio.specs.Limits.{page_size};
 ghost use Rattle.vb_ram.specs.Pages.{Covers, Wrote, byte_at, byte_of, frame_at};
 ghost use Rattle.vb_ram.specs.Put.{PutAt};
 ghost use Rattle.vb_core.specs.Copies.{copy_number, copy_of, copied, padded, kept_pages, PutsInto};

@@ -1,7 +1,7 @@
 //! A device's state, and what its calls are refused for.
 
 ghost use Rattle.std.specs.Prelude.{◌≡◌, Some, None, Ok, Err};
-ghost use Rattle.vb_model.specs.Tables.{lacks_feature};
+ghost use Rattle.vb_virtio.specs.Queues.{lacks_feature};
 ghost use Rattle.vb_core.specs.declared.device.Denial.{Denial};
 ghost use Rattle.vb_core.specs.Kinds.{queue_of};
 ghost use Rattle.vb_core.specs.Devices.{new_device, ring_of, with_ring, needing_reset};

@@ -3,8 +3,8 @@
 ghost use Rattle.std.specs.Prelude.{◌≡◌};
 ghost use Rattle.vb_core.specs.Kinds.{queue_of, kind_of};
 
-use vb_model::layout::{DEFLATE_QUEUE, INFLATE_QUEUE, REPORT_QUEUE, STATISTICS_QUEUE};
 use vb_status::Features;
+use vb_virtio::layout::{DEFLATE_QUEUE, INFLATE_QUEUE, REPORT_QUEUE, STATISTICS_QUEUE};
 
 /// What a queue is for (VIRTIO 1.1, 5.5.2), whatever its number is.
 #[derive(Clone, Copy, Debug, PartialEq, Eq)]

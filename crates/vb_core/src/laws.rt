@@ -2,9 +2,9 @@
 
 ghost use Rattle.std.specs.Prelude.{◌≡◌, ℕ, ◌+◌, ◌*◌, ◌≤◌, false, List, Result, Ok, Err, IsOkAnd};
 ghost use Rattle.std.specs.Prelude.{length, take, map};
-ghost use Rattle.vb_model.specs.Limits.{page_size};
-ghost use Rattle.vb_model.specs.Tests.{is_in};
-ghost use Rattle.vb_model.specs.Driver.{AllDistinct};
+ghost use Rattle.vb_virtio.specs.Limits.{page_size};
+ghost use Rattle.vb_virtio.specs.Tests.{is_in};
+ghost use Rattle.vb_virtio.specs.Tests.{AllDistinct};
 ghost use Rattle.vb_ram.specs.Pages.{Pages, end_of};
 ghost use Rattle.vb_chain.specs.declared.pieces.Piece.{Piece};
 ghost use Rattle.vb_chain.specs.declared.fault.ChainFault.{ChainFault};

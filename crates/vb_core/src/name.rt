@@ -1,7 +1,7 @@
 //! The pages that a request names, in a private copy of its bytes.
 
 ghost use Rattle.std.specs.Prelude.{◌≡◌, ◌≤◌, ◌<◌, ◌/◌, ◌^◌, length};
-ghost use Rattle.vb_model.specs.declared.layout.TheConstants.{REQUEST_BUFFER_SIZE};
+ghost use Rattle.vb_virtio.specs.declared.layout.TheConstants.{REQUEST_BUFFER_SIZE};
 ghost use Rattle.vb_request.specs.Request.{numbers_of, number_fault};
 ghost use Rattle.vb_core.specs.Name.{is_request, NamesRuns, NamesBy};
 

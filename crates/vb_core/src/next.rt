@@ -1,8 +1,8 @@
 //! The chain that stands next, in private copies of its ring.
 
 ghost use Rattle.std.specs.Prelude.{◌≡◌, ◌≤◌, ◌<◌, ◌^◌, [], OnErr, Ok, None, length, take, map};
-ghost use Rattle.vb_model.specs.declared.limits.TheConstants.{MAX_QUEUE_SIZE};
-ghost use Rattle.vb_model.specs.Limits.{page_size};
+ghost use Rattle.vb_virtio.specs.declared.limits.TheConstants.{MAX_QUEUE_SIZE};
+ghost use Rattle.vb_virtio.specs.Limits.{page_size};
 ghost use Rattle.vb_ring.specs.Layout.{IsSize};
 ghost use Rattle.vb_ring.specs.Calls.{popped};
 ghost use Rattle.vb_core.specs.Next.{is_read, buffer_of, length_of, are_copies, PopsCopies};

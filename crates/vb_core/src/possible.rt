@@ -1,7 +1,7 @@
 //! The states that a device can have: those to which its calls lead.
 
 ghost use Rattle.std.specs.Prelude.{◌≡◌};
-ghost use Rattle.vb_model.specs.Status.{contains};
+ghost use Rattle.vb_virtio.specs.Status.{contains};
 ghost use Rattle.vb_status.specs.Bits.{status_bits};
 ghost use Rattle.vb_core.specs.Saved.{comes_after, is_status, are_agreed, offered_so_far, is_blank};
 ghost use Rattle.vb_core.specs.Saved.{has_moved, is_ring, is_held, is_poison, can_be};

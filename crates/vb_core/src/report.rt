@@ -3,8 +3,8 @@
 ghost use Rattle.std.specs.Prelude.{◌≡◌, ℕ, ◌≤◌, ◌<◌, ◌+◌, ◌*◌, ◌^◌, ◌==◌, not, false, true, All};
 ghost use Rattle.std.specs.Prelude.{MatchResult, MatchOption, IfSome, OnOk, Ok, Err};
 ghost use Rattle.std.specs.Prelude.{length, map, take};
-ghost use Rattle.vb_model.specs.declared.limits.TheConstants.{MAX_REPORT_PIECES};
-ghost use Rattle.vb_model.specs.Limits.{page_size};
+ghost use Rattle.vb_virtio.specs.declared.limits.TheConstants.{MAX_REPORT_PIECES};
+ghost use Rattle.vb_virtio.specs.Limits.{page_size};
 ghost use Rattle.vb_ring.specs.Layout.{IsSize};
 ghost use Rattle.vb_request.specs.Report.{report_request, pages_of_pieces};
 ghost use Rattle.std.specs.List.{list_any};
@@ -16,8 +16,8 @@ use crate::next::{are_copies, pop};
 use crate::{ChainPiece, Denial, Device, Kind, MEMORY_LIMIT, Named, Run, Virtqueue};
 use arrayvec::ArrayVec;
 use vb_chain::{Chain, ChainFault, Piece};
-use vb_model::limits::{MAX_REPORT_PIECES, PAGE_SIZE};
 use vb_request::{check_report, count_pages};
+use vb_virtio::limits::{MAX_REPORT_PIECES, PAGE_SIZE};
 
 /// Runs that a report has room for at least: its pieces, at the most.
 pub const MAX_REPORT_RUNS: usize = MAX_REPORT_PIECES as usize;

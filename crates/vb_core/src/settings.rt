@@ -5,9 +5,9 @@ ghost use Rattle.vb_core.specs.Settings.{are_settings, memory_pages, needs_must_
 ghost use Rattle.vb_core.specs.Settings.{page_poison, without_poison};
 
 use bitflags::Flags;
-use vb_model::limits::PAGE_SIZE;
-use vb_model::negotiation::OFFERED_FEATURES;
 use vb_status::Features;
+use vb_virtio::limits::PAGE_SIZE;
+use vb_virtio::negotiation::OFFERED_FEATURES;
 
 /// Guest memory ends before this address, so that 32 bits number its pages.
 pub const MEMORY_LIMIT: u64 = 1 << 44;

@@ -2,10 +2,10 @@
 use Rattle.std.proofs.Common.{◌≡◌, ◌↔◌, ℕ, ◌+◌, ◌<◌, ◌≤◌, true, false, List, [], ◌∷◌, map, refl}
 use Rattle.std.proofs.Common.{arith}
 use Rattle.std.specs.Prelude.{Some, None, Result, Ok, Err, IsSome, length, is_some}
-use Rattle.vb_model.specs.declared.replies.{Refusal.Refusal}
-use Rattle.vb_model.specs.declared.replies.Refusal.TheVariants.{NoQueue, NotReady, NeedsReset}
-use Rattle.vb_model.specs.declared.replies.Refusal.TheVariants.{NotTaken, NotWorked}
-use Rattle.vb_model.specs.Tables.{has_chains}
+use Rattle.vb_virtio.specs.declared.refusals.Refusal.{Refusal}
+use Rattle.vb_virtio.specs.declared.refusals.Refusal.TheVariants.{NoQueue, NotReady, NeedsReset}
+use Rattle.vb_virtio.specs.declared.refusals.Refusal.TheVariants.{NotTaken, NotWorked}
+use Rattle.vb_virtio.specs.Queues.{has_chains}
 use Rattle.vb_ram.specs.{Pages.{Pages, frame_at}, Part.{Part, no_part}}
 use Rattle.vb_ring.specs.{Layout.{layout_of, IsBacked}, Calls.AddsUsedBy}
 use Rattle.vb_device.specs.{QueueState.{QueueState, new_queue}}
@@ -177,7 +177,7 @@ visits_no_other : (m2 : Pages) (p2 : Part)
 visits_no_other m2 p2 =
     (λ by. by.0, λ by. by.1, λ by. by.0, λ by. (by.1, by.2))
 
--- ---- a finish but for the used entry
+-- ---- a finish but for the used element
 
 lost : map (λ q. with_lost q mem (3 ∷ 1 ∷ 3 ∷ []) (4 ∷ [])) (0 ∷ 1 ∷ 4 ∷ [])
     ≡ (4 ∷ 9 ∷ 7 ∷ []) ∷ (4 ∷ []) ∷ (4 ∷ 9 ∷ 7 ∷ []) ∷ []
@@ -190,7 +190,7 @@ out : taken_out 0 1 (3 ∷ 2 ∷ []) mem loosing ≡ record loosing {
 out = refl
 
 settles : (m2 : Pages) (p2 : Part) (result : Result ℕ Refusal)
-    → SettlesBy 0 0 mem m2 loosing p2 result
+    → SettlesBy loosing.paced 0 0 mem m2 loosing p2 result
     → (result ≡ Ok 1) × (m2 ≡ bare (1 ∷ [])) × (p2 ≡ record loosing {
       inflate = queue 65535 (asked 0 (3 ∷ 2 ∷ []) 0 ∷ []);
       loose = 4 ∷ 7 ∷ [];
@@ -199,17 +199,17 @@ settles m2 p2 result by = by.settled (asked 1 (1 ∷ []) 1) refl refl
 
 -- a report balloons no page
 settles_a_report : (m2 : Pages) (p2 : Part) (result : Result ℕ Refusal)
-    → SettlesBy 4 0 mem m2 (record loosing { paced = false }) p2 result
+    → SettlesBy false 4 0 mem m2 (record loosing { paced = false }) p2 result
     → (result ≡ Ok 0) × (m2 ≡ bare (1 ∷ []))
     × (p2 ≡ record loosing { report = queue 5 []; loose = 4 ∷ 7 ∷ []; paced = false })
 settles_a_report m2 p2 result by = by.settled (asked 0 (1 ∷ []) 0) refl refl
 
 settles_no_other : (m2 : Pages) (p2 : Part) (result : Result ℕ Refusal)
-    → (SettlesBy 0 1 mem m2 busy p2 result → (result ≡ Err NotWorked) × (p2 ≡ busy) × (m2 ≡ mem))
-    × (SettlesBy 0 2 mem m2 busy p2 result → (result ≡ Err NotTaken) × (p2 ≡ busy) × (m2 ≡ mem))
+    → (SettlesBy busy.paced 0 1 mem m2 busy p2 result → (result ≡ Err NotWorked) × (p2 ≡ busy) × (m2 ≡ mem))
+    × (SettlesBy busy.paced 0 2 mem m2 busy p2 result → (result ≡ Err NotTaken) × (p2 ≡ busy) × (m2 ≡ mem))
 settles_no_other m2 p2 result = (λ by. by.refused NotWorked refl, λ by. by.refused NotTaken refl)
 
--- ---- the used entry, with length 0, and the statistics buffer
+-- ---- the used element, with length 0, and the statistics buffer
 
 can_use : (h : ℕ) (m : Pages) → CanUse 4 h m (record busy { queue_size = 8 })
     ↔ ((true ≡ true) × (true ≡ true) × (h < 8) × IsBacked m (layout_of 3 8))

@@ -1,10 +1,13 @@
 -- A finish by a device, from the end of its queue.
 use Rattle.std.{specs.Prelude.{◌≡◌, remove, OnSome, slice_get, All}, proofs.lemmas.Bool.cases_eq}
 use Rattle.std.specs.Prelude.{ℕ, ◌+◌, ◌%◌, ◌<◌, Bool, List, [], length, Option, Some, None, refl}
-use Rattle.{std.specs.Prelude.{◌≤◌, true}, vb_model.specs.{Requests.Request, Tables.has_chains}}
+use Rattle.vb_virtio.specs.Queues.{Request, has_chains}
+use Rattle.vb_virtio.specs.declared.statistics.LastStatistics.{LastStatistics}
+use Rattle.vb_virtio.specs.Layout.{reserved_pages, ring_page}
+use Rattle.vb_virtio.specs.Status.{contains, driver_ok}
+use Rattle.std.specs.Prelude.{◌≤◌, true}
 use Rattle.std.proofs.{Common.{sym, ◌∙◌, ap, arith, rules}, Math.ListN.set}
-use Rattle.vb_model.specs.{Device.next_page, declared.replies.LastStatistics.LastStatistics}
-use Rattle.vb_model.specs.{Layout.{reserved_pages, ring_page}, Status.{contains, driver_ok}}
+use Rattle.vb_model.specs.Device.{next_page}
 use Rattle.vb_ram.specs.{Pages.{Page, Pages, page_at}, Part.QueuePart}
 use Rattle.vb_ring.specs.{declared.layout.Layout.Layout, Ends.DeviceEnd, Calls.AddsUsedBy}
 use Rattle.{vb_ring.specs.Layout.{layout_of, IsBacked}, vb_request.specs.Refusals.readiness_refusal}
@@ -130,7 +133,7 @@ pub can_use : (q h : ℕ) (pages : List ℕ) (m1 m2 : Pages) (s f t a n c : ℕ)
 can_use q h pages m1 m2 s f t a n c qs x2 l loose flags paced is known ok lt above mem backed =
     grind (arith, status_ok, backed_still, kept_page)
 
--- a request whose next page is visited stands in memory that has pages
+-- a request whose next page is visited is in memory that has pages
 pub visits_attached : (mem : Pages) (ts : List Request) (page : ℕ) →
     (length mem ≡ 0 → ts ≡ []) → next_page ts ≡ Some page → 0 < length mem
 visits_attached mem ts page none at = grind (arith, cases_eq)

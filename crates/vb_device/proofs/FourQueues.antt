@@ -1,10 +1,14 @@
 -- The four queues of a device, of which one is changed, or all.
 use Rattle.std.specs.Prelude.{◌≡◌, ℕ, ◌<◌, ◌≤◌, Bool, true, false, List, [], ◌∷◌, length, map, refl}
-use Rattle.{std.proofs.Common.◌∙◌, vb_model.proofs.Queues.queue_cases, vb_ring.specs.Layout.IsSize}
+use Rattle.vb_virtio.proofs.Queues.{queue_cases}
+use Rattle.vb_virtio.specs.declared.statistics.LastStatistics.{LastStatistics}
+use Rattle.vb_virtio.specs.Status.{contains, driver_ok}
+use Rattle.vb_virtio.specs.Queues.{has_chains, is_queue_of_requests}
+use Rattle.std.proofs.Common.{◌∙◌}
+use Rattle.vb_ring.specs.Layout.{IsSize}
 use Rattle.std.proofs.{Common.{arith, get_or}, lemmas.List.length-map, Math.ListN.{set, length-set}}
 use Rattle.{vb_ram.specs.Pages.Page, vb_device.specs.QueueState.{QueueState, new_queue, restarted}}
-use Rattle.{vb_ram.specs.Pages.Pages, vb_model.specs.declared.replies.LastStatistics.LastStatistics}
-use Rattle.vb_model.specs.{Status.{contains, driver_ok}, Tables.{has_chains, is_queue_of_requests}}
+use Rattle.vb_ram.specs.Pages.{Pages}
 use Rattle.vb_device.specs.{Queues.{queue_part, with_queue}, Base.{queue_at, IsDeviceQueue}}
 use Rattle.vb_device.specs.{QueueState.part_of, Base.{index_of, new_queues, base_part, IsBase}}
 
@@ -26,7 +30,7 @@ of_four P each (a ∷ b ∷ c ∷ []) e = absurd (omega (arith, e))
 of_four P each (a ∷ b ∷ c ∷ d ∷ []) e = each a b c d
 of_four P each (a ∷ b ∷ c ∷ d ∷ x ∷ xs) e = absurd (omega (arith, e))
 
--- an entry, whatever stands for one that isn't there
+-- an entry, whatever represents one that isn't there
 pub entry_is : (q : ℕ) (qs : List QueueState) (x : QueueState) → length qs ≡ 4 →
     has_chains q ≡ true → get_or qs (index_of q) x ≡ queue_at q qs
 entry_is q qs x four known = of_four (λ l. get_or l (index_of q) x ≡ queue_at q l)

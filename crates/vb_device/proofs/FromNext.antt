@@ -1,8 +1,10 @@
 -- A take from a queue, from what its next chain gives; and what it leaves of the ring.
 use Rattle.std.specs.Prelude.{◌≡◌, true, false, ◌∷◌, length, Option, None, Result, Ok, Err, refl}
 use Rattle.{std.specs.Prelude.{ℕ, [], Some}, vb_chain.specs.declared.fault.ChainFault.ChainFault}
-use Rattle.{std.proofs.Common.arith, vb_model.specs.declared.replies.Refusal.TheVariants.Busy}
-use Rattle.vb_model.specs.declared.replies.{Refusal.Refusal, LastStatistics.LastStatistics}
+use Rattle.vb_virtio.specs.declared.refusals.Refusal.TheVariants.{Busy}
+use Rattle.vb_virtio.specs.declared.refusals.Refusal.{Refusal}
+use Rattle.vb_virtio.specs.declared.statistics.LastStatistics.{LastStatistics}
+use Rattle.std.proofs.Common.{arith}
 use Rattle.vb_ram.{specs.Pages.{Pages, byte_at}, proofs.FieldLaws.field_zero}
 use Rattle.vb_ring.specs.{declared.layout.Layout.Layout, Entries.next_entry}
 use Rattle.vb_device.specs.QueueState.{QueueState, next_of, is_full, NextMeans, TakesNext}

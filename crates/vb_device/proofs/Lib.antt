@@ -10,7 +10,10 @@ pub mod Marks
 pub mod LooseFrames
 pub mod Settles
 pub mod Visits
+pub mod Serves
+pub mod ServeCases
 pub mod OwnFrames
+pub mod OwnServes
 mod CallFacts
 mod StepFacts
 mod TakeFacts

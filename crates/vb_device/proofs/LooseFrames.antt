@@ -1,8 +1,11 @@
 -- The loose frames of a device that keeps them as a list, as a set, and how they go back.
 use Rattle.std.specs.Prelude.{◌≡◌, ◌≢◌, ℕ, ◌+◌, ◌==◌, true, false, List, [], ◌∷◌, ◌++◌, Option}
 use Rattle.std.{specs.Prelude.{Some, None, refl}, proofs.Common.{arith, sym, ◌∙◌, ap}}
-use Rattle.{std.proofs.lemmas.Grind.common_steps, vb_model.specs.Tests.{times, one_if}}
-use Rattle.{vb_model.proofs.Tables.count_by-cons, vb_ram.specs.{Pages.Page, Part.Part}}
+use Rattle.vb_virtio.specs.Tests.{times, one_if}
+use Rattle.vb_virtio.proofs.Tables.{count_by-cons}
+use Rattle.std.proofs.lemmas.Grind.{common_steps}
+use Rattle.vb_ram.specs.Pages.{Page}
+use Rattle.vb_ram.specs.Part.{Part}
 use Rattle.vb_device.specs.{Calls.{SameFrames, PopsLoose, GoBack, PutsBack}, Own.{has, without}}
 
 -- a part with a list of loose frames, as an equation for all else

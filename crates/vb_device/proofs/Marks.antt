@@ -3,7 +3,8 @@ use Rattle.std.specs.Prelude.{◌≡◌, ℕ, ◌+◌, ◌<◌, Bool, false, ◌
 use Rattle.std.proofs.{Math.ListN.{set, length-set}, Common.{sym, ◌∙◌, ap, arith, get_or, take}}
 use Rattle.std.proofs.{Common.{eq-eqb, inl, inr}, lemmas.Bool.cases_eq, lemmas.List.ext_get_or}
 use Rattle.std.proofs.lemmas.List.{get_or-set_same, get_or-set_other}
-use Rattle.vb_model.{specs.Tests.{is_in}, proofs.Tables.{length-each_from, each_page-get}}
+use Rattle.vb_virtio.specs.Tests.{is_in}
+use Rattle.vb_virtio.proofs.Tables.{length-each_from, each_page-get}
 use Rattle.vb_device.{specs.Discards.flagged, specs.BaseCalls.flags_after}
 use Rattle.vb_device.proofs.Discards.{in_more, or_true, or_false, not_equal}
 

@@ -3,7 +3,8 @@
 use Rattle.std.proofs.Common.{◌≡◌, ℕ, ◌+◌, ◌≤◌, ◌==◌, true, false, List, [], ◌∷◌, refl, arith}
 use Rattle.std.specs.Prelude.{Bool, Some, None, length}
 use Rattle.vb_ram.{specs.Pages.Page, specs.Part.{Part, no_part}}
-use Rattle.vb_model.{specs.declared.calls.Claim.Claim, specs.Guest.zero_page}
+use Rattle.vb_virtio.specs.Memory.{zero_page}
+use Rattle.vb_model.specs.declared.calls.Claim.{Claim}
 use Rattle.vb_model.specs.declared.calls.Claim.TheVariants.{Gave as GaveNumber, GaveNoFrame}
 use Rattle.vb_device.{proofs.CallFacts.{keeper, frame, mem, busy}, specs.Calls.PutsBack}
 use Rattle.vb_device.specs.declared.claimed.Claimed.TheVariants.{Gave, AskHost, NoFrame, NoMemory}

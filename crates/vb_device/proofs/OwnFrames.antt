@@ -1,9 +1,13 @@
 -- A device that keeps frames of its own, round one that keeps none.
 use Rattle.std.specs.Prelude.{◌≡◌, ℕ, ◌==◌, Bool, true, false, List, Option, Some, None, Result, Ok}
 use Rattle.std.{proofs.Common.{arith, ◌∙◌, ap}, specs.Prelude.{Err, if◌then◌else◌, refl}}
-use Rattle.vb_model.specs.{declared.replies.Refusal.{Refusal, TheVariants.Broken}, Tests.flagged}
+use Rattle.vb_virtio.specs.declared.refusals.Refusal.{Refusal}
+use Rattle.vb_virtio.specs.declared.refusals.Refusal.TheVariants.{Broken}
+use Rattle.vb_virtio.specs.Tests.{flagged}
+use Rattle.vb_virtio.specs.Queues.{Request}
 use Rattle.{vb_ram.specs.{Pages.Pages, Part.{Part, QueuePart}}, vb_device.specs.Calls.taking}
 use Rattle.vb_device.specs.Calls.{noting, using, settled, TakeMeans, TakesBy, FinishesBy, Visits}
+use Rattle.vb_device.specs.Calls.{Uses}
 use Rattle.vb_device.specs.{Calls.{WorksBy, AsksBy, DetachesBy}, declared.worked.Worked.Worked}
 
 -- the part with these frames of its own
@@ -109,16 +113,22 @@ uses_keeping : (q index : ℕ) (pages own : List ℕ) (p : Part)
 uses_keeping q index pages own p = settled_keeping (q == 0) (q == 1) pages own (using q index p)
     ∙ ap (settled q pages) (with_keeping (q == 0) (q == 1) (q == 2) own _ p)
 
+pub settles_keeping : (q index : ℕ) (r : Request) (m1 m2 : Pages) (own : List ℕ) (p1 p2 : Part)
+    (result : Result ℕ Refusal) → Uses q index r m1 m2 p1 p2 result
+    → Uses q index r m1 m2 (keeping own p1) (keeping own p2) result
+settles_keeping q index r m1 m2 own p1 p2 result u = record {
+  answer = u.answer;
+  part = ap (keeping own) u.part
+      ∙ ap (λ (p : Part). record p { loose = p2.loose }) (uses_keeping q index r.pages own p1);
+  loose = u.loose;
+  memory = u.memory;
+}
+
 pub finishes_keeping : (q index : ℕ) (m1 m2 : Pages) (own : List ℕ) (p1 p2 : Part)
     (result : Result ℕ Refusal) → FinishesBy q index m1 m2 p1 p2 result
     → FinishesBy q index m1 m2 (keeping own p1) (keeping own p2) result
 finishes_keeping q index m1 m2 own p1 p2 result f = record {
   refused = λ why e. let r = f.refused why e in (r.0, ap (keeping own) r.1, r.2);
-  finished = λ r e at. let u = f.finished r e at in record {
-    answer = u.answer;
-    part = ap (keeping own) u.part
-        ∙ ap (λ (p : Part). record p { loose = p2.loose }) (uses_keeping q index r.pages own p1);
-    loose = u.loose;
-    memory = u.memory;
-  };
+  finished = λ r e at.
+      settles_keeping q index r m1 m2 own p1 p2 result (f.finished r e at);
 }

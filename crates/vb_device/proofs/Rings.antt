@@ -1,7 +1,8 @@
 -- The pages of a queue's ring, whatever its size.
 use Rattle.std.{proofs.Common.arith, specs.Prelude.{◌≡◌, ℕ, ◌<◌}}
-use Rattle.vb_model.{specs.Layout.{reserved_pages, ring_page}, proofs.Shapes.{InRing, in_ring_page}}
-use Rattle.{vb_model.proofs.Shapes.ring_reserved, vb_ram.specs.Pages.{Pages, frame_at}}
+use Rattle.vb_virtio.specs.Layout.{reserved_pages, ring_page}
+use Rattle.vb_virtio.proofs.Shapes.{InRing, in_ring_page, ring_reserved}
+use Rattle.vb_ram.specs.Pages.{Pages, frame_at}
 use Rattle.vb_ring.{specs.Layout.{IsSize, IsBacked, layout_of}, proofs.Shapes.parts_in_ring}
 
 pub ring_below : (size q page : ℕ) → InRing size q page → page < reserved_pages size

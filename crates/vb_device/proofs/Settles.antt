@@ -1,9 +1,12 @@
 -- A finish by a device: a request is settled, and its chain is used.
 use Rattle.std.specs.Prelude.{◌≡◌, ◌%◌, false, not, [], None, Result, Ok, if◌then◌else◌}
 use Rattle.std.specs.Prelude.{ℕ, ◌+◌, ◌++◌, Bool, true, List, Option, Some, Err, refl}
+use Rattle.std.proofs.Common.{subst, sym}
+use Rattle.vb_device.specs.Conditions.{taken_at, use_refusal}
 use Rattle.{std.proofs.Common.{arith, ◌∙◌, ap}, vb_ram.specs.{Pages.Pages, Part.{Part, QueuePart}}}
-use Rattle.vb_model.specs.{Requests.Request, Tables.is_queue_of_requests}
-use Rattle.vb_model.specs.declared.replies.Refusal.{Refusal, TheVariants.NoQueue}
+use Rattle.vb_virtio.specs.Queues.{Request, is_queue_of_requests}
+use Rattle.vb_virtio.specs.declared.refusals.Refusal.{Refusal}
+use Rattle.vb_virtio.specs.declared.refusals.Refusal.TheVariants.{NoQueue}
 use Rattle.vb_device.specs.Calls.{lost_frames, without_frames, using}
 use Rattle.vb_device.specs.{Calls.{settled, FinishesBy, Uses}, BaseCalls.{taken_out, UsesChain}}
 use Rattle.vb_device.specs.{BaseCalls.SettlesBy, Queues.{queue_part, with_queue, queue_end}}
@@ -14,7 +17,7 @@ kind_of_finish : (a : Bool) (rest : Option Refusal) → (if not a then Some NoQu
 kind_of_finish true rest e = refl
 kind_of_finish false rest e = absurd cc
 
--- what the used entry adds
+-- what the used element adds
 abbrev bumped : QueuePart → QueuePart
 bumped k = record k { next_used = (k.next_used + 1) % 65536 }
 
@@ -57,21 +60,35 @@ err_num h why e = cc
 same_head : (o : Result ℕ Refusal) (x y : ℕ) → o ≡ Ok x → o ≡ Ok y → x ≡ y
 same_head o x y a b = cc
 
-pub finishes_err : (q index : ℕ) (m1 m2 : Pages) (p1 p2 : Part) (why : Refusal) →
-    SettlesBy q index m1 m2 p1 p2 (Err why) → FinishesBy q index m1 m2 p1 p2 (Err why)
-finishes_err q index m1 m2 p1 p2 why b = record {
-  refused = b.refused;
-  finished = λ x e at. absurd (err_num x.head why (b.settled x e at).0);
-}
+pub finishes_err : (visits : Bool) (q index : ℕ) (m1 m2 : Pages) (p1 p2 : Part) (why : Refusal)
+    → visits ≡ p1.paced → SettlesBy visits q index m1 m2 p1 p2 (Err why)
+    → FinishesBy q index m1 m2 p1 p2 (Err why)
+finishes_err visits q index m1 m2 p1 p2 why paced did =
+    let b = subst (λ (v : Bool). SettlesBy v q index m1 m2 p1 p2 (Err why)) paced did in
+    record {
+      refused = b.refused;
+      finished = λ x e at. absurd (err_num x.head why (b.settled x e at).0);
+    }
 
-pub finishes_ok : (q index h : ℕ) (m1 m2 m3 : Pages) (p1 p2 p3 : Part) → p1.loose ≡ []
-    → SettlesBy q index m1 m2 p1 p2 (Ok h) → UsesChain q h m2 m3 p2 p3
-    → FinishesBy q index m1 m3 p1 p3 (Ok h)
-finishes_ok q index h m1 m2 m3 p1 p2 p3 none b used = record {
-  refused = λ w e. absurd (num_err h w (b.refused w e).0);
-  finished = λ x e at.
-      let got = b.settled x e at in
-      let head : x.head ≡ h = same_head (Ok h) x.head h got.0 refl in rw (← head)
-      (settles q index x m1 m2 m3 p1 p2 p3 (kind_of_finish (is_queue_of_requests q) _ e) none
-      got.1 got.2 (rw head used));
-}
+pub settled_uses : (q index : ℕ) (r : Request) (m1 m2 m3 : Pages) (p1 p2 p3 : Part) (h : ℕ)
+    → use_refusal false q index p1 ≡ None → taken_at q index p1 ≡ Some r → p1.loose ≡ []
+    → SettlesBy false q index m1 m2 p1 p2 (Ok h) → UsesChain q h m2 m3 p2 p3
+    → Uses q index r m1 m3 p1 p3 (Ok r.head)
+settled_uses q index r m1 m2 m3 p1 p2 p3 h e at none b used =
+    let got = b.settled r e at in
+    let head : r.head ≡ h = same_head (Ok h) r.head h got.0 refl in
+    settles q index r m1 m2 m3 p1 p2 p3 (kind_of_finish (is_queue_of_requests q) _ e) none got.1
+    got.2 (subst (λ (x : ℕ). UsesChain q x m2 m3 p2 p3) (sym head) used)
+
+pub finishes_ok : (visits : Bool) (q index h : ℕ) (m1 m2 m3 : Pages) (p1 p2 p3 : Part)
+    → p1.loose ≡ [] → visits ≡ p1.paced → SettlesBy visits q index m1 m2 p1 p2 (Ok h)
+    → UsesChain q h m2 m3 p2 p3 → FinishesBy q index m1 m3 p1 p3 (Ok h)
+finishes_ok visits q index h m1 m2 m3 p1 p2 p3 none paced did used =
+    let b = subst (λ (v : Bool). SettlesBy v q index m1 m2 p1 p2 (Ok h)) paced did in record {
+      refused = λ w e. absurd (num_err h w (b.refused w e).0);
+      finished = λ x e at.
+          let got = b.settled x e at in
+          let head : x.head ≡ h = same_head (Ok h) x.head h got.0 refl in rw (← head)
+          (settles q index x m1 m2 m3 p1 p2 p3 (kind_of_finish (is_queue_of_requests q) _ e) none
+          got.1 got.2 (rw head used));
+    }

@@ -1,8 +1,9 @@
 -- A queue size within the limits is a power of two in the words of the machine.
 use Rattle.std.proofs.Common.{◌≡◌, ◌∙◌, ℕ, zero, suc, ◌<◌, ◌≤◌, Bool, true, false, refl, arith, inl}
 use Rattle.std.proofs.{Common.{inr, ap, rules}, lemmas.Bool.{cases_eq, and_parts}}
-use Rattle.{std.specs.Prelude.{not, ◌||◌, ◌&&◌, IsTrue}, vb_model.specs.Limits.is_config}
-use Rattle.{vb_model.specs.Limits.is_power_of_two, vb_ram.proofs.Limits.config_limits}
+use Rattle.vb_virtio.specs.Limits.{is_config, is_power_of_two}
+use Rattle.std.specs.Prelude.{not, ◌||◌, ◌&&◌, IsTrue}
+use Rattle.vb_ram.proofs.Limits.{config_limits}
 use Rattle.vb_ring.{specs.Layout.IsSize, proofs.Powers.size_of_power}
 use Rattle.std.specs.Int as int
 use lib.Count

@@ -1,9 +1,11 @@
 -- What the records of a device's calls say of one state: the answer, and what is left.
 use Rattle.std.{proofs.Common.{◌≡◌, ℕ, ◌+◌, true, false, List, []}, specs.Prelude.{None, Ok, IsOk}}
 use Rattle.{std.proofs.Common.{◌∷◌, refl}, vb_device.specs.Calls.{SameFrames, SweepsBy, FinishesBy}}
-use Rattle.{std.specs.Prelude.{Option, Some, Result, Err, Bool}, vb_model.specs.Tests.marked}
-use Rattle.vb_model.specs.declared.replies.Refusal.{Refusal, TheVariants.{NoFeature, NotReady}}
-use Rattle.vb_model.specs.declared.replies.Refusal.TheVariants.{NotBallooned, NotTaken, NotWorked}
+use Rattle.vb_virtio.specs.Tests.{marked}
+use Rattle.vb_virtio.specs.declared.refusals.Refusal.{Refusal}
+use Rattle.vb_virtio.specs.declared.refusals.Refusal.TheVariants.{NoFeature, NotReady, NotBallooned}
+use Rattle.vb_virtio.specs.declared.refusals.Refusal.TheVariants.{NotTaken, NotWorked}
+use Rattle.std.specs.Prelude.{Option, Some, Result, Err, Bool}
 use Rattle.vb_ram.specs.{Pages.{Pages, field}, Part.{Part, no_part, no_queue}}
 use Rattle.{vb_ring.specs.Frame.SameOutside, vb_device.proofs.CallFacts.{asked, queue, frame, mem, busy}}
 use Rattle.vb_device.specs.{declared.worked.Worked.Worked, Calls.{DetachesBy, WorksBy, AsksBy}}

@@ -6,8 +6,8 @@ use Rattle.vb_chain.{specs.Chain.{IsChain, BreaksAt, ChainGives, fault_at}, spec
 use Rattle.vb_chain.{specs.declared.descriptor.Descriptor.Descriptor, specs.Table.descriptor_at}
 use Rattle.vb_chain.{specs.declared.fault.ChainFault.ChainFault, specs.declared.pieces.Piece.Piece}
 use Rattle.vb_chain.specs.declared.fault.ChainFault.TheVariants.{IndexJump, BadLength, Indirect}
-use Rattle.vb_model.specs.declared.replies.Refusal.{Refusal}
-use Rattle.vb_model.specs.declared.replies.Refusal.TheVariants.{Broken, Busy, NoQueue}
+use Rattle.vb_virtio.specs.declared.refusals.Refusal.{Refusal}
+use Rattle.vb_virtio.specs.declared.refusals.Refusal.TheVariants.{Broken, Busy, NoQueue}
 use Rattle.vb_request.{specs.Request.{bytes_of, numbers_of, page_request}, specs.Asked.request_of}
 use Rattle.vb_ram.{specs.Pages.{Page, Pages, byte_at, field}, specs.Part.{Part, no_part}}
 use Rattle.vb_device.{specs.Calls.{TakeMeans, TakesBy}, proofs.CallFacts.{asked, queue, mem, busy}}

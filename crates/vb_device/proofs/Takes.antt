@@ -3,8 +3,11 @@
 use Rattle.std.specs.Prelude.{◌≡◌, ◌+◌, ◌%◌, ◌<◌, true, [], ◌∷◌, Some, None, Result, Ok, Err, refl}
 use Rattle.{std.specs.Prelude.{ℕ, List, ◌++◌, Option}, vb_ring.specs.{Ends.DeviceEnd, Calls.PopsBy}}
 use Rattle.std.{specs.Prelude.false, proofs.Common.{sym, ◌∙◌, ap, arith, zero, suc, get_or, length}}
-use Rattle.vb_model.specs.{Requests.Request, declared.replies.Refusal.{Refusal, TheVariants.Broken}}
-use Rattle.{vb_model.specs.declared.replies.LastStatistics.LastStatistics, vb_ram.specs.Pages.Pages}
+use Rattle.vb_virtio.specs.Queues.{Request}
+use Rattle.vb_virtio.specs.declared.refusals.Refusal.{Refusal}
+use Rattle.vb_virtio.specs.declared.refusals.Refusal.TheVariants.{Broken}
+use Rattle.vb_virtio.specs.declared.statistics.LastStatistics.{LastStatistics}
+use Rattle.vb_ram.specs.Pages.{Pages}
 use Rattle.{vb_chain.specs.declared.fault.ChainFault.ChainFault, vb_request.specs.Refusals.rule_of}
 use Rattle.{vb_ring.specs.declared.device.Taken.Taken, vb_request.specs.Asked.{request_of, noted}}
 use Rattle.vb_device.specs.QueueState.{QueueState, with_request, is_full, TakesNext}

@@ -3,13 +3,17 @@ use Rattle.std.specs.Prelude.{◌≡◌, ℕ, ◌*◌, ◌+◌, List, ◌∷◌,
 use Rattle.std.specs.Prelude.{Bool, true, not, ◌||◌, ◌++◌, [], length, Result, if◌then◌else◌, refl}
 use Rattle.std.{specs.Prelude.{false, ◌%◌, nat_le, Ok}, proofs.Common.{arith, sym, ◌∙◌, ap, subst}}
 use Rattle.{std.proofs.Math.ListN.set, vb_ram.specs.{Pages.{Page, Pages}, Part.{Part, QueuePart}}}
-use Rattle.vb_model.specs.declared.replies.Refusal.TheVariants.{NoQueue, NotReady, NeedsReset, Busy}
-use Rattle.vb_model.specs.Tables.{is_queue_of_requests, lacks_feature, is_not_ready, most_taken}
-use Rattle.vb_model.specs.{Tables.{has_chains, has_fault}, FirstRefusal.{Cause, ◌⇒◌, first_refusal}}
-use Rattle.vb_model.specs.{Tables.work_causes, declared.replies.LastStatistics.LastStatistics}
+use Rattle.vb_virtio.specs.declared.refusals.Refusal.TheVariants.{NoQueue, NotReady, NeedsReset}
+use Rattle.vb_virtio.specs.declared.refusals.Refusal.TheVariants.{Busy, Broken}
+use Rattle.vb_virtio.specs.Queues.{is_queue_of_requests, lacks_feature, has_chains}
+use Rattle.vb_virtio.specs.Status.{is_not_ready, has_fault, work_causes, contains, driver_ok}
+use Rattle.vb_virtio.specs.Status.{failed, needs_reset}
+use Rattle.vb_virtio.specs.FirstRefusal.{Cause, ◌⇒◌, first_refusal}
+use Rattle.vb_virtio.specs.declared.statistics.LastStatistics.{LastStatistics}
+use Rattle.vb_virtio.specs.declared.refusals.Refusal.{Refusal}
+use Rattle.vb_virtio.specs.Layout.{ring_page}
+use Rattle.vb_model.specs.Tables.{most_taken}
 use Rattle.{vb_model.proofs.Cases.not_refused, vb_request.specs.Asked.{request_of, noted}}
-use Rattle.vb_model.specs.{declared.replies.Refusal.{TheVariants.Broken, Refusal}, Layout.ring_page}
-use Rattle.vb_model.specs.Status.{contains, driver_ok, failed, needs_reset}
 use Rattle.vb_chain.specs.declared.{fault.ChainFault.ChainFault, pieces.Piece.Piece}
 use Rattle.vb_chain.specs.{Table.descriptor_at, Chain.{ChainGives, FaultGives}}
 use Rattle.vb_ring.specs.{declared.layout.Layout.Layout, Layout.layout_of, Entries.next_entry}
@@ -31,19 +35,19 @@ same_some o x y a b = cc
 none_some : (o : Option Refusal) (x : Refusal) → o ≡ None → o ≡ Some x → ⊥
 none_some o x a b = cc
 
--- the first causes decide where one of them holds, and else those behind them do
-first_stands : (causes more : List Cause) (why : Refusal) → first_refusal causes ≡ Some why
+-- the first causes decide where one of them holds, and else those after them do
+pub first_stands : (causes more : List Cause) (why : Refusal) → first_refusal causes ≡ Some why
     → first_refusal (causes ++ more) ≡ Some why
 first_stands [] more why e = absurd cc
 first_stands (cause ∷ causes) more why e = grind (arith, first_stands causes more why)
 
-first_passes : (causes more : List Cause) → first_refusal causes ≡ None
+pub first_passes : (causes more : List Cause) → first_refusal causes ≡ None
     → first_refusal (causes ++ more) ≡ first_refusal more
 first_passes [] more e = refl
 first_passes (cause ∷ causes) more e = grind (arith, first_passes causes more)
 
 -- what a take is refused for before the taken chains are counted
-abbrev first_causes : ℕ → ℕ → ℕ → List Cause
+abbrev pub first_causes : ℕ → ℕ → ℕ → List Cause
 first_causes q s f = (not (has_chains q) ⇒ NoQueue) ∷ (is_not_ready s ⇒ NotReady)
     ∷ (has_fault s ⇒ NeedsReset) ∷ (lacks_feature f q ⇒ NoQueue) ∷ []
 

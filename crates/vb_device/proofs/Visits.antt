@@ -4,7 +4,8 @@ use Rattle.std.proofs.lemmas.List.{Elements.All-set, Quantifiers.position-Some}
 use Rattle.std.{proofs.lemmas.List.Sums.fails_before_first, specs.List.{position, position_or_len}}
 use Rattle.std.specs.Prelude.{◌≡◌, ℕ, zero, suc, ◌+◌, ◌<◌, ◌≤◌, Bool, true, false, List, [], ◌∷◌}
 use Rattle.std.specs.Prelude.{Some, All, refl, length, if◌then◌else◌, None, Option, slice_get}
-use Rattle.vb_model.{specs.Requests.Request, specs.Device.{is_unvisited, visiting, next_page}}
+use Rattle.vb_virtio.specs.Queues.{Request, is_unvisited}
+use Rattle.vb_model.specs.Device.{visiting, next_page}
 use Rattle.vb_device.specs.QueueState.{IsTaken}
 
 abbrev pub once_more : Request → Request

@@ -2,7 +2,7 @@
 -- profile's).
 use Rattle.std.specs.Prelude.{◌≡◌, false, [], length, replicate, None}
 use Rattle.std.specs.List.{range_with_len}
-use Rattle.vb_model.specs.Guest.{no_statistics}
+use Rattle.vb_virtio.specs.Statistics.{no_statistics}
 use Rattle.vb_ram.specs.declared.config.Config.{Config}
 use Rattle.vb_ram.specs.Pages.{Pages}
 use Rattle.vb_ram.specs.Part.{Part, no_queue}

@@ -1,13 +1,13 @@
 -- What devices of both paces keep.
 use Rattle.std.specs.Prelude.{◌≡◌, ℕ, ◌<◌, ◌≤◌, Bool, true, false, List, [], ◌∷◌, map, length}
 use Rattle.std.specs.Prelude.{slice_index_or, if◌then◌else◌, ◌==◌}
-use Rattle.vb_model.specs.declared.layout.TheConstants.{INFLATE_QUEUE, DEFLATE_QUEUE}
-use Rattle.vb_model.specs.declared.layout.TheConstants.{STATISTICS_QUEUE, REPORT_QUEUE}
-use Rattle.vb_model.specs.declared.limits.TheConstants.{MIN_GUEST_PAGES, MAX_QUEUE_SIZE}
-use Rattle.vb_model.specs.Layout.{ring_page}
-use Rattle.vb_model.specs.declared.replies.LastStatistics.{LastStatistics}
-use Rattle.vb_model.specs.Tables.{has_chains}
-use Rattle.vb_model.specs.Status.{contains, driver_ok}
+use Rattle.vb_virtio.specs.declared.layout.TheConstants.{INFLATE_QUEUE, DEFLATE_QUEUE}
+use Rattle.vb_virtio.specs.declared.layout.TheConstants.{STATISTICS_QUEUE, REPORT_QUEUE}
+use Rattle.vb_virtio.specs.declared.limits.TheConstants.{MIN_GUEST_PAGES, MAX_QUEUE_SIZE}
+use Rattle.vb_virtio.specs.Layout.{ring_page}
+use Rattle.vb_virtio.specs.declared.statistics.LastStatistics.{LastStatistics}
+use Rattle.vb_virtio.specs.Queues.{has_chains}
+use Rattle.vb_virtio.specs.Status.{contains, driver_ok}
 use Rattle.vb_ram.specs.Pages.{Page, Pages}
 use Rattle.vb_ram.specs.Part.{Part, no_part}
 use Rattle.vb_ring.specs.Layout.{IsSize, layout_of}
@@ -17,11 +17,11 @@ use Rattle.vb_device.specs.State.{DeviceState}
 abbrev pub numbers_of_frames : List Page → List ℕ
 numbers_of_frames frames = map (λ frame. frame.number) frames
 
--- Where the queue of this number stands among a device's four.
+-- Where the queue of this number is among a device's four.
 abbrev pub index_of : ℕ → ℕ
 index_of q = if q == REPORT_QUEUE then 3 else q
 
--- The four queues of so many descriptors, each at the ring page of its number.
+-- The four queues of n descriptors, each at the ring page of its number.
 abbrev pub new_queues : ℕ → List QueueState
 new_queues size =
     map (λ q. new_queue q size)

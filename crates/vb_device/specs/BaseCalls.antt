@@ -2,24 +2,22 @@
 use Rattle.std.specs.Prelude.{◌≡◌, ℕ, ◌+◌, ◌%◌, ◌<◌, ◌==◌, true, not, List, [], ◌∷◌, ◌++◌}
 use Rattle.std.specs.Prelude.{remove, if◌then◌else◌, Option, Some, None, IsSome, is_some, Bool}
 use Rattle.std.specs.Prelude.{Result, Ok, Err}
-use Rattle.vb_model.specs.declared.layout.TheConstants.{INFLATE_QUEUE, STATISTICS_QUEUE}
-use Rattle.vb_model.specs.declared.layout.TheConstants.{REPORT_QUEUE}
-use Rattle.vb_model.specs.declared.replies.Refusal.{Refusal}
-use Rattle.vb_model.specs.declared.replies.Refusal.TheVariants.{NoQueue}
-use Rattle.vb_model.specs.Status.{contains, driver_ok}
-use Rattle.vb_model.specs.Requests.{Request}
+use Rattle.vb_virtio.specs.declared.layout.TheConstants.{INFLATE_QUEUE, STATISTICS_QUEUE}
+use Rattle.vb_virtio.specs.declared.layout.TheConstants.{REPORT_QUEUE}
+use Rattle.vb_virtio.specs.declared.refusals.Refusal.{Refusal}
+use Rattle.vb_virtio.specs.declared.refusals.Refusal.TheVariants.{NoQueue}
+use Rattle.vb_virtio.specs.Status.{contains, driver_ok, work_causes}
+use Rattle.vb_virtio.specs.Queues.{Request, has_chains, is_queue_of_requests}
+use Rattle.vb_virtio.specs.FirstRefusal.{◌⇒◌, first_refusal}
 use Rattle.vb_model.specs.Device.{visiting, next_page}
 use Rattle.vb_device.specs.declared.worked.Worked.{Worked}
-pub use Rattle.vb_model.specs.FirstRefusal.{refusal_in}
-use Rattle.vb_model.specs.FirstRefusal.{◌⇒◌, first_refusal}
-use Rattle.vb_model.specs.Tables.{has_chains, is_queue_of_requests}
-use Rattle.vb_model.specs.Tables.{work_causes}
+pub use Rattle.vb_virtio.specs.FirstRefusal.{refusal_in}
 use Rattle.vb_ram.specs.Pages.{Pages, frame_at}
 use Rattle.vb_ram.specs.Part.{Part}
 use Rattle.vb_ring.specs.Layout.{IsBacked}
 use Rattle.vb_ring.specs.Calls.{AddsUsedBy}
 use Rattle.vb_device.specs.Queues.{queue_part, with_queue, queue_layout, queue_end}
-use Rattle.vb_device.specs.Conditions.{finish_refusal, ask_refusal, taken_at}
+use Rattle.vb_device.specs.Conditions.{use_refusal, ask_refusal, taken_at}
 use Rattle.vb_device.specs.Discards.{discarded, frames_behind, flagged}
 use Rattle.vb_device.specs.Calls.{without_frames, lost_frames, settled}
 
@@ -30,8 +28,8 @@ queue_refusal q status =
 
 -- ---- work
 
--- The queue that the next page to be visited stands in: that of reports where each page of the
--- taken inflates is visited.
+-- The queue that the next page to be visited is in: that of reports where each page of the taken
+-- inflates is visited.
 abbrev pub visited_queue : Part → ℕ
 visited_queue part = if is_some (next_page part.inflate.taken) then INFLATE_QUEUE else REPORT_QUEUE
 
@@ -69,7 +67,7 @@ abbrev pub flags_after : ℕ → List ℕ → List Bool → List Bool
 flags_after q pages flags =
     if q == REPORT_QUEUE then flags else flagged pages (q == INFLATE_QUEUE) flags
 
--- The taken request of this number, for these pages, is taken out: those behind it close up, and
+-- The taken request of this number, for these pages, is taken out: those after it close up, and
 -- what its pages lose is loose.
 abbrev pub taken_out : ℕ → ℕ → List ℕ → Pages → Part → Part
 taken_out q index pages mem part =
@@ -77,13 +75,14 @@ taken_out q index pages mem part =
     (record (queue_part q part) { taken = remove (queue_part q part).taken index })
     (record part { loose = with_lost q mem pages part.loose })
 
--- All of a finish but for the used entry: the request is taken out, its pages are flagged, and
--- nothing is written.
-pub record SettlesBy (q index : ℕ) (m1 m2 : Pages) (p1 p2 : Part)
+-- All of a finish but for the used element: the request is taken out, its pages are flagged, and
+-- nothing is written. Its pages are to be visited first, or aren't.
+pub record SettlesBy (visits : Bool) (q index : ℕ) (m1 m2 : Pages) (p1 p2 : Part)
     (result : Result ℕ Refusal) : Type 0 where
-  pub refused : (why : Refusal) → finish_refusal q index p1 ≡ Some why →
+  pub refused : (why : Refusal) → use_refusal visits q index p1 ≡ Some why →
       (result ≡ Err why) × (p2 ≡ p1) × (m2 ≡ m1)
-  pub settled : (r : Request) → finish_refusal q index p1 ≡ None → taken_at q index p1 ≡ Some r →
+  pub settled : (r : Request) → use_refusal visits q index p1 ≡ None →
+      taken_at q index p1 ≡ Some r →
       (result ≡ Ok r.head) × (m2 ≡ without_frames q r.pages m1) ×
       (p2 ≡ settled q r.pages (taken_out q index r.pages m1 p1))
 
@@ -95,7 +94,7 @@ pub record CanUse (q h : ℕ) (mem : Pages) (part : Part) : Type 0 where
   pub head : h < part.queue_size
   pub backed : IsBacked mem (queue_layout q part)
 
--- One more used entry of the queue is written: this head, with length 0.
+-- One more used element of the queue is written: this head, with length 0.
 pub record UsesChain (q h : ℕ) (m1 m2 : Pages) (p1 p2 : Part) : Type 0 where
   pub part : p2 ≡
       with_queue q

@@ -1,8 +1,8 @@
 -- What a device does where it finds a fault in what its guest wrote.
 use Rattle.std.specs.Prelude.{◌≡◌, ℕ, Result, Err, Option, bit_or}
-use Rattle.vb_model.specs.declared.replies.Refusal.{Refusal}
-use Rattle.vb_model.specs.declared.replies.Refusal.TheVariants.{Broken}
-use Rattle.vb_model.specs.Status.{needs_reset}
+use Rattle.vb_virtio.specs.declared.refusals.Refusal.{Refusal}
+use Rattle.vb_virtio.specs.declared.refusals.Refusal.TheVariants.{Broken}
+use Rattle.vb_virtio.specs.Status.{needs_reset}
 use Rattle.vb_ram.specs.Part.{Part}
 use Rattle.vb_chain.specs.declared.fault.ChainFault.{ChainFault}
 use Rattle.vb_request.specs.Refusals.{rule_of}

@@ -2,10 +2,10 @@
 -- (5.5.6.3).
 use Rattle.std.specs.Prelude.{◌≡◌, ℕ, ◌+◌, ◌%◌, ◌==◌, true, false, List, [], remove, if◌then◌else◌}
 use Rattle.std.specs.Prelude.{Some, None, Result, Ok, Err, IsOk}
-use Rattle.vb_model.specs.declared.layout.TheConstants.{INFLATE_QUEUE, DEFLATE_QUEUE}
-use Rattle.vb_model.specs.declared.layout.TheConstants.{STATISTICS_QUEUE}
-use Rattle.vb_model.specs.declared.replies.Refusal.{Refusal}
-use Rattle.vb_model.specs.Requests.{Request}
+use Rattle.vb_virtio.specs.declared.layout.TheConstants.{INFLATE_QUEUE, DEFLATE_QUEUE}
+use Rattle.vb_virtio.specs.declared.layout.TheConstants.{STATISTICS_QUEUE}
+use Rattle.vb_virtio.specs.declared.refusals.Refusal.{Refusal}
+use Rattle.vb_virtio.specs.Queues.{Request}
 use Rattle.vb_ram.specs.Pages.{Pages}
 use Rattle.vb_ram.specs.Part.{Part}
 use Rattle.vb_ring.specs.Calls.{AddsUsedBy}
@@ -31,7 +31,7 @@ settled q pages part =
     else (if q == DEFLATE_QUEUE then record part { ballooned = flagged pages false part.ballooned }
     else part)
 
--- The taken request of this number is used, and those behind it close up.
+-- The taken request of this number is used, and those after it close up.
 abbrev pub using : ℕ → ℕ → Part → Part
 using q index part =
     with_queue q

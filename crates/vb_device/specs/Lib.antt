@@ -9,6 +9,7 @@ pub mod Attaches
 pub mod Takes
 pub mod Visits
 pub mod Finishes
+pub mod Serves
 pub mod OwnFrames
 pub mod Calls
 pub mod QueueState

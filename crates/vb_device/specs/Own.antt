@@ -1,6 +1,6 @@
 -- The numbers of the frames that a device gave out of its own (profile), as a set.
 use Rattle.std.specs.Prelude.{◌≡◌, ℕ, Bool, not, ◌==◌, List, filter}
-use Rattle.vb_model.specs.Tests.{is_in}
+use Rattle.vb_virtio.specs.Tests.{is_in}
 
 -- Whether the number is among them.
 abbrev pub has : List ℕ → ℕ → Bool

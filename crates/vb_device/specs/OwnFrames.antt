@@ -3,7 +3,7 @@ use Rattle.std.specs.Prelude.{◌≡◌, Bool, true, false, ◌∷◌, Option, S
 use Rattle.vb_model.specs.declared.calls.Claim.{Claim}
 use Rattle.vb_model.specs.declared.calls.Claim.TheVariants.{Gave as GaveNumber, GaveNoFrame}
 use Rattle.vb_model.specs.declared.calls.Claim.TheVariants.{GaveNoMemory}
-use Rattle.vb_model.specs.Guest.{zero_page}
+use Rattle.vb_virtio.specs.Memory.{zero_page}
 use Rattle.vb_ram.specs.Pages.{Page}
 use Rattle.vb_ram.specs.Part.{Part}
 use Rattle.vb_device.specs.declared.claimed.Claimed.{Claimed}

@@ -2,16 +2,15 @@
 use Rattle.std.specs.Prelude.{◌≡◌, ℕ, ◌+◌, ◌*◌, ◌%◌, ◌<◌, ◌≤◌, Bool, true, false, nat_le, List, []}
 use Rattle.std.specs.Prelude.{◌∷◌, ◌++◌, All, length, Option, Some, None, Result, Ok, Err, bit_or}
 use Rattle.std.specs.Prelude.{is_none, ◌&&◌}
-use Rattle.vb_model.specs.declared.replies.Refusal.{Refusal}
-use Rattle.vb_model.specs.declared.replies.Refusal.TheVariants.{Busy, Broken}
-use Rattle.vb_model.specs.declared.replies.Refusal.TheVariants.{NotTaken, NotWorked}
-use Rattle.vb_model.specs.FirstRefusal.{◌⇒◌, first_refusal}
+use Rattle.vb_virtio.specs.declared.refusals.Refusal.{Refusal}
+use Rattle.vb_virtio.specs.declared.refusals.Refusal.TheVariants.{Busy, Broken, NotTaken, NotWorked}
+use Rattle.vb_virtio.specs.FirstRefusal.{◌⇒◌, first_refusal}
+use Rattle.vb_virtio.specs.Status.{needs_reset}
+use Rattle.vb_virtio.specs.Queues.{Request}
+use Rattle.vb_virtio.specs.declared.statistics.LastStatistics.{LastStatistics}
+use Rattle.vb_virtio.specs.Limits.{page_size}
+use Rattle.vb_virtio.specs.Layout.{reserved_pages, ring_page}
 use Rattle.vb_model.specs.Tables.{has_unvisited, most_taken}
-use Rattle.vb_model.specs.Status.{needs_reset}
-use Rattle.vb_model.specs.Requests.{Request}
-use Rattle.vb_model.specs.declared.replies.LastStatistics.{LastStatistics}
-use Rattle.vb_model.specs.Limits.{page_size}
-use Rattle.vb_model.specs.Layout.{reserved_pages, ring_page}
 use Rattle.vb_ram.specs.Pages.{Pages}
 use Rattle.vb_ram.specs.Part.{QueuePart}
 use Rattle.vb_chain.specs.declared.fault.ChainFault.{ChainFault}
@@ -34,7 +33,7 @@ pub record QueueState : Type 0 where
 abbrev pub part_of : QueueState → QueuePart
 part_of q = record { next_avail = q.ring.next_avail; next_used = q.ring.next_used; taken = q.taken }
 
--- The queue of this number, with so many descriptors, which isn't ready.
+-- The queue of this number, with n descriptors, which isn't ready.
 abbrev pub new_queue : ℕ → ℕ → QueueState
 new_queue q size =
     record {
@@ -49,12 +48,12 @@ new_queue q size =
       taken = [];
     }
 
--- A queue that stands for one that isn't there.
+-- A queue that represents one that isn't there.
 abbrev pub no_ring : QueueState
 no_ring = new_queue 0 0
 
--- What is true of each taken chain of a queue of so many descriptors: it begins with one of them,
--- and names no reserved page.
+-- What is true of each taken chain of a queue of n descriptors: it begins with one of them, and
+-- names no reserved page.
 pub record IsTaken (size : ℕ) (r : Request) : Type 0 where
   pub head : r.head < size
   pub above : All (λ page. reserved_pages size ≤ page) r.pages

@@ -1,8 +1,8 @@
 -- Pages lose their frames one at a time: the work of a paced device, and a sweep (profile).
 use Rattle.std.specs.Prelude.{◌≡◌, ℕ, Bool, [], ◌∷◌, if◌then◌else◌, Option, Some, None, is_some}
 use Rattle.std.specs.Prelude.{Result, Ok, Err}
-use Rattle.vb_model.specs.declared.layout.TheConstants.{INFLATE_QUEUE, REPORT_QUEUE}
-use Rattle.vb_model.specs.declared.replies.Refusal.{Refusal}
+use Rattle.vb_virtio.specs.declared.layout.TheConstants.{INFLATE_QUEUE, REPORT_QUEUE}
+use Rattle.vb_virtio.specs.declared.refusals.Refusal.{Refusal}
 use Rattle.vb_model.specs.Device.{visiting, next_page}
 use Rattle.vb_ram.specs.Pages.{Pages, frame_at}
 use Rattle.vb_ram.specs.Part.{Part}

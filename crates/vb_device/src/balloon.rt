@@ -6,7 +6,7 @@ mod status;
 
 ghost use Rattle.std.specs.Prelude.{◌≡◌, [], true, false};
 ghost use Rattle.std.specs.Prelude.{vec_capacity};
-ghost use Rattle.vb_model.specs.declared.limits.TheConstants.{MAX_QUEUE_SIZE};
+ghost use Rattle.vb_virtio.specs.declared.limits.TheConstants.{MAX_QUEUE_SIZE};
 ghost use Rattle.vb_device.specs.Base.{IsPlain, fresh_device};
 ghost use Rattle.vb_device.specs.Calls.{IsUnused};
 
@@ -21,10 +21,10 @@ use std::alloc::{AllocError, Global};
 use std::marker::{Model, PhantomData};
 use vb_bits::BitSet;
 use vb_chain::Chain;
-use vb_model::layout::STATISTICS_QUEUE;
-use vb_model::{Refusal, limits};
 use vb_ram::{Config, Frame, Ram, Shape, SupplyRefused};
 use vb_status::{Features, Status};
+use vb_virtio::layout::STATISTICS_QUEUE;
+use vb_virtio::{Refusal, limits};
 
 /// A device that discards an inflate's pages when it finishes the request.
 pub type ImmediateDevice = BalloonDevice<Immediate>;
@@ -211,9 +211,24 @@ impl<P: Pace> Device for BalloonDevice<P> {
     }
 
     fn finish(&mut self, queue: u32, index: u32) -> Result<u16, Refusal> {
-        let head = self.settle(queue, index)?;
+        let visits = self.paced();
+        let head = self.settle(queue, index, visits)?;
         self.use_chain(queue, head);
         Ok(head)
+    }
+
+    fn serve(&mut self, queue: u32) -> Result<Option<u16>, Refusal> {
+        if let Some(why) = self.serve_refusal(queue) {
+            return Err(why);
+        }
+        match self.take(queue) {
+            Err(why) => Err(why),
+            Ok(None) => Ok(None),
+            Ok(Some(head)) => {
+                self.use_first(queue);
+                Ok(Some(head))
+            }
+        }
     }
 
     fn sweep(&mut self, page: u32) -> Result<bool, Refusal> {

@@ -3,23 +3,23 @@
 ghost use Rattle.std.specs.Prelude.{◌≡◌, ◌≤◌, ◌<◌, ℕ, Bool, [], true, false, None, IsSome, IsOk};
 ghost use Rattle.std.specs.Prelude.{OnOk, OnErr, length, replicate, count_by};
 ghost use Rattle.vb_model.specs.declared.calls.Claim.{Claim};
-ghost use Rattle.vb_model.specs.declared.layout.TheConstants.{STATISTICS_QUEUE};
+ghost use Rattle.vb_virtio.specs.declared.layout.TheConstants.{STATISTICS_QUEUE};
 ghost use Rattle.vb_model.specs.Guest.{is_ballooned};
-ghost use Rattle.vb_model.specs.Limits.{is_config};
-ghost use Rattle.vb_model.specs.Status.{contains, driver_ok};
+ghost use Rattle.vb_virtio.specs.Limits.{is_config};
+ghost use Rattle.vb_virtio.specs.Status.{contains, driver_ok};
 ghost use Rattle.vb_ram.specs.Pages.{frame_at, Supplied, IsWhole};
 ghost use Rattle.vb_ring.specs.Layout.{IsBacked};
 ghost use Rattle.vb_device.specs.Queues.{queue_layout};
 ghost use Rattle.vb_device.specs.Calls.{IsUnused, attached, TakesBy, WorksBy, FinishesBy};
-ghost use Rattle.vb_device.specs.Calls.{AsksBy, SweepsBy, DetachesBy, PopsLoose};
+ghost use Rattle.vb_device.specs.Calls.{AsksBy, ServesBy, SweepsBy, DetachesBy, PopsLoose};
 ghost use Rattle.vb_device.specs.Calls.{HandsBack, Claims};
 ghost use Rattle.vb_device.specs.Calls.{IsAnswered, PutsBack};
 
 use crate::{Claimed, Statistics, Worked};
 use std::alloc::{AllocError, Global};
-use vb_model::Refusal;
 use vb_ram::{Config, Frame, RamFault, SupplyRefused};
 use vb_status::Port;
+use vb_virtio::Refusal;
 
 /// A balloon device with the memory of its guest (VIRTIO 1.1, 5.5). What a driver sees of it is its
 /// `Port`; the calls here are the host's.
@@ -32,7 +32,7 @@ pub trait Device: Port + Drop {
     ghost answers: { Self → Claim → Bool };
 
     /// Gives an unused device a guest of this size: memory with no frame, and nothing initialised.
-    /// Refused for want of memory alone; then nothing is changed.
+    /// Refused on an allocation failure alone; then nothing is changed.
     fn attach(&mut self, alloc: Global, config: Config) -> Result<(), AllocError>
         requires unused { IsUnused (Self.mem self.old) (Self.part self.old) }
         requires config { is_config config.pages config.queue_size config.processors ≡ true }
@@ -41,7 +41,7 @@ pub trait Device: Port + Drop {
         ensures err { OnErr result (Self.mem self.new ≡ Self.mem self.old ×
             (Self.part self.new ≡ Self.part self.old)) };
 
-    /// Puts a frame behind a page, and fills it with zeros: what the frame held is gone.
+    /// Backs a page with a frame, and fills it with zeros: what the frame held is gone.
     ///
     /// Refused with `OutOfRam` where there is no such page, then with `AlreadyBacked` where the
     /// page has a frame. A refused call gives the frame back as it was, and changes nothing.
@@ -58,8 +58,8 @@ pub trait Device: Port + Drop {
         ensures err { OnErr result (Self.mem self.new ≡ Self.mem self.old) }
         ensures part { Self.part self.new ≡ Self.part self.old };
 
-    /// The number of the frame behind a page; none where the page has no frame or there is no such
-    /// page.
+    /// The number of the frame that backs a page; none where the page has no frame or there is no
+    /// such page.
     fn backing(&self, page: u32) -> Option<u32>
         ensures frame { result ≡ frame_at (Self.mem self.now) page }
         ensures whole { IsWhole (Self.mem self.now) };
@@ -115,6 +115,20 @@ pub trait Device: Port + Drop {
             IsBacked (Self.mem self.old) (queue_layout queue (Self.part self.old)) }
         requires none { (Self.part self.old).loose ≡ [] }
         ensures { FinishesBy queue index (Self.mem self.old) (Self.mem self.new)
+            (Self.part self.old) (Self.part self.new) result };
+
+    /// Serves the next chain that the driver has made available on a queue: takes it, visits each
+    /// of its pages, whatever the device's pace, and uses it; answers its head, or none where no
+    /// chain is available. A buffer of statistics (2) is taken alone, and stays taken.
+    ///
+    /// Refused with `NoQueue`, `NotReady`, `NeedsReset`, `NoQueue` where the queue's feature wasn't
+    /// accepted, and `Busy` where any chain of the queue is taken, tested in this order; then with
+    /// `Broken` as a take is: DEVICE_NEEDS_RESET is set then. Nothing else is changed by a refusal.
+    fn serve(&mut self, queue: u32) -> Result<Option<u16>, Refusal>
+        requires backed { contains (Self.part self.old).status driver_ok ≡ true →
+            IsBacked (Self.mem self.old) (queue_layout queue (Self.part self.old)) }
+        requires none { (Self.part self.old).loose ≡ [] }
+        ensures { ServesBy queue (Self.mem self.old) (Self.mem self.new)
             (Self.part self.old) (Self.part self.new) result };
 
     /// Takes the frame of a ballooned page away; answers whether it had one.

@@ -4,8 +4,8 @@ ghost use Rattle.std.specs.Prelude.{◌≡◌, ◌<◌, ◌≤◌, ◌+◌, ◌+
 ghost use Rattle.std.specs.Prelude.{replicate, vec_capacity, count_by};
 ghost use Rattle.std.specs.Option.{option_to_list};
 ghost use Rattle.std.specs.List.{range_with_len};
-ghost use Rattle.vb_model.specs.declared.layout.TheConstants.{DEFLATE_QUEUE};
-ghost use Rattle.vb_model.specs.Tests.{one_if};
+ghost use Rattle.vb_virtio.specs.declared.layout.TheConstants.{DEFLATE_QUEUE};
+ghost use Rattle.vb_virtio.specs.Tests.{one_if};
 ghost use Rattle.vb_ram.specs.Pages.{frame_at, number_of, Discarded};
 ghost use Rattle.vb_device.specs.Base.{numbers_of_frames};
 ghost use Rattle.vb_device.specs.BaseCalls.{with_lost};
@@ -14,11 +14,11 @@ ghost use Rattle.vb_device.specs.Calls.{without_frames};
 ghost use Rattle.vb_device.specs.Discards.{discarded, frames_behind};
 
 use crate::taken::TakenRequest;
-use vb_model::layout::DEFLATE_QUEUE;
 use vb_ram::{Frame, GuestBytes, Ram};
 use vb_request::NamedRun;
+use vb_virtio::layout::DEFLATE_QUEUE;
 
-/// Puts a frame, if there is one, behind the loose ones.
+/// Puts a frame, if there is one, after the loose ones.
 fn put_loose(loose: &mut Vec<Frame>, frame: Option<Frame>)
     requires { length loose.old.items + one_if (is_some frame) ≤ vec_capacity loose.old }
     ensures numbers { numbers_of_frames loose.new.items ≡ numbers_of_frames loose.old.items ++

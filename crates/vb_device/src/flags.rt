@@ -6,7 +6,7 @@ ghost use Rattle.vb_device.specs.Discards.{flagged};
 
 use crate::taken::TakenRequest;
 use vb_bits::BitSet;
-use vb_model::layout::{INFLATE_QUEUE, REPORT_QUEUE};
+use vb_virtio::layout::{INFLATE_QUEUE, REPORT_QUEUE};
 
 /// Puts the pages of a request into the set or takes them out.
 fn set_all(ballooned: &mut BitSet, request: &TakenRequest, member: bool)

@@ -1,18 +1,19 @@
 //! A queue: the device's end of its ring, and the chains that were taken.
 
 ghost use Rattle.std.specs.Prelude.{◌≡◌, ◌<◌, ◌≤◌, ◌+◌, [], ◌++◌, ◌∷◌, All, IfNone, IfOk, OnOk};
-ghost use Rattle.std.specs.Prelude.{OnErr, Some, IsTrue, true, false, nat_le, length, slice_get};
+ghost use Rattle.std.specs.Prelude.{OnErr, Some, IsTrue, true, false, nat_le, nat_lt, not, length};
+ghost use Rattle.std.specs.Prelude.{slice_get};
 ghost use Rattle.std.specs.Prelude.{remove, is_some, count_by, vec_capacity};
-ghost use Rattle.vb_model.specs.Requests.{Request};
+ghost use Rattle.vb_virtio.specs.Queues.{Request};
 ghost use Rattle.vb_device.specs.Base.{numbers_of_frames};
 ghost use Rattle.vb_device.specs.BaseCalls.{with_lost, flags_after};
 ghost use Rattle.vb_device.specs.Calls.{without_frames};
 ghost use Rattle.std.specs.Int.{is_power_of_two};
-ghost use Rattle.vb_model.specs.declared.limits.TheConstants.{MIN_QUEUE_SIZE, MAX_QUEUE_SIZE};
-ghost use Rattle.vb_model.specs.Limits.{max_outstanding};
-ghost use Rattle.vb_model.specs.Layout.{reserved_pages};
+ghost use Rattle.vb_virtio.specs.declared.limits.TheConstants.{MIN_QUEUE_SIZE, MAX_QUEUE_SIZE};
+ghost use Rattle.vb_virtio.specs.Limits.{max_outstanding};
+ghost use Rattle.vb_virtio.specs.Layout.{reserved_pages};
 ghost use Rattle.vb_model.specs.Device.{next_page, visiting};
-ghost use Rattle.vb_model.specs.FirstRefusal.{refusal_in};
+ghost use Rattle.vb_virtio.specs.FirstRefusal.{refusal_in};
 ghost use Rattle.vb_ring.specs.Layout.{layout_of, IsInside, IsBacked};
 ghost use Rattle.vb_ring.specs.Ends.{IsDeviceEnd};
 ghost use Rattle.vb_ring.specs.Calls.{AddsUsedBy};
@@ -27,13 +28,13 @@ use crate::taken_list::{MAX_TAKEN, TakenList};
 use std::marker::Model;
 use vb_bits::BitSet;
 use vb_chain::Chain;
-use vb_model::Refusal;
-use vb_model::layout::STATISTICS_QUEUE;
 use vb_ram::{Frame, GuestBytes, Ram, Shape};
 use vb_request::broken;
 #[cfg(test)]
 use vb_ring::Layout;
 use vb_ring::Queue;
+use vb_virtio::Refusal;
+use vb_virtio::layout::STATISTICS_QUEUE;
 
 /// The device's end of a queue.
 #[derive(Drop)]
@@ -87,6 +88,13 @@ impl DeviceQueue {
     {
         self.taken.clear();
         self.queue.set_ready(ready);
+    }
+
+    /// Whether no chain is taken.
+    pub(crate) fn is_idle(&self) -> bool
+        ensures { result ≡ not (nat_lt 0 (length self.now.taken)) }
+    {
+        self.taken.as_slice().is_empty()
     }
 
     /// Whether as many chains are taken as may be.
@@ -175,7 +183,7 @@ impl DeviceQueue {
         Ok(request)
     }
 
-    /// Forgets the taken request of this number; those behind it close up.
+    /// Forgets the taken request of this number; those after it close up.
     pub(crate) fn forget(&mut self, index: u32)
         requires { index < length self.old.taken }
         ensures { self.new ≡ record self.old { taken = remove self.old.taken index } }
@@ -184,7 +192,7 @@ impl DeviceQueue {
     }
 
     /// Takes the taken request of this number out, and the frames of its pages away where it is one
-    /// of inflates or reports; those behind it close up. An inflate's pages are ballooned then, a
+    /// of inflates or reports; those after it close up. An inflate's pages are ballooned then, a
     /// deflate's are ballooned no more.
     pub(crate) fn take_out(
         &mut self,

@@ -2,16 +2,16 @@
 
 ghost use Rattle.std.specs.Prelude.{◌≡◌, ◌==◌, ◌<◌, ◌≤◌, true, false, map, IsTrue};
 ghost use Rattle.std.specs.Int.{is_power_of_two};
-ghost use Rattle.vb_model.specs.declared.limits.TheConstants.{MIN_QUEUE_SIZE, MAX_QUEUE_SIZE};
-ghost use Rattle.vb_model.specs.Tables.{has_chains};
+ghost use Rattle.vb_virtio.specs.declared.limits.TheConstants.{MIN_QUEUE_SIZE, MAX_QUEUE_SIZE};
+ghost use Rattle.vb_virtio.specs.Queues.{has_chains};
 ghost use Rattle.vb_device.specs.Base.{index_of, new_queues};
 ghost use Rattle.vb_device.specs.QueueState.{restarted};
 
 use crate::queue::DeviceQueue;
-use vb_model::layout::{DEFLATE_QUEUE, INFLATE_QUEUE, REPORT_QUEUE, STATISTICS_QUEUE};
 use vb_ram::Shape;
+use vb_virtio::layout::{DEFLATE_QUEUE, INFLATE_QUEUE, REPORT_QUEUE, STATISTICS_QUEUE};
 
-/// Where the queue of inflates stands among a device's four.
+/// Where the queue of inflates is among a device's four.
 pub(crate) const INFLATES: usize = 0;
 
 /// Where that of deflates does.
@@ -23,7 +23,7 @@ pub(crate) const STATISTICS: usize = 2;
 /// Where that of reports does.
 pub(crate) const REPORTS: usize = 3;
 
-/// Where the queue of this number stands.
+/// Where the queue of this number is.
 pub(crate) fn index_of(queue: u32) -> usize
     requires { has_chains queue ≡ true }
     ensures place { result ≡ index_of queue }

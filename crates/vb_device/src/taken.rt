@@ -2,11 +2,11 @@
 
 ghost use Rattle.std.specs.Prelude.{◌≡◌, ◌<◌, ◌≤◌, ◌+◌, ◌*◌, ◌^◌, true, Some, length, slice_get};
 ghost use Rattle.std.specs.Prelude.{All, IfErr, OnOk, OnErr, Ok, Err};
-ghost use Rattle.vb_model.specs.declared.limits.TheConstants.{MAX_QUEUE_SIZE};
-ghost use Rattle.vb_model.specs.Layout.{reserved_pages};
-ghost use Rattle.vb_model.specs.Limits.{page_size};
+ghost use Rattle.vb_virtio.specs.declared.limits.TheConstants.{MAX_QUEUE_SIZE};
+ghost use Rattle.vb_virtio.specs.Layout.{reserved_pages};
+ghost use Rattle.vb_virtio.specs.Limits.{page_size};
 ghost use Rattle.vb_request.specs.Asked.{request_of, noted};
-ghost use Rattle.vb_model.specs.Device.{is_unvisited};
+ghost use Rattle.vb_virtio.specs.Queues.{is_unvisited};
 ghost use Rattle.vb_request.specs.Report.{IsRun};
 
 use std::marker::Model;
@@ -26,7 +26,7 @@ pub(crate) struct TakenRequest {
 }
 
 impl Model for TakenRequest {
-    ghost use Rattle.vb_model.specs.Requests.{Request};
+    ghost use Rattle.vb_virtio.specs.Queues.{Request};
 
     ghost Value = { Request };
 
@@ -100,8 +100,8 @@ impl TakenRequest {
         self.pages.get(k).unwrap()
     }
 
-    /// The same, where `run` is one of its runs: looked up anew, and kept there, where page `k`
-    /// isn't one of them.
+    /// The page that it names as number `k`, by its run `run`: the run is looked up anew, and kept
+    /// there, where page `k` isn't in it.
     pub(crate) fn page_in(&self, k: u32, run: &mut NamedRun) -> u32
         requires some { k < length self.now.pages }
         requires run { IsRun self.now.pages run.old }

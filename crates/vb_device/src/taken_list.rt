@@ -3,19 +3,20 @@
 ghost use Rattle.std.specs.Prelude.{◌≡◌, ℕ, ◌<◌, ◌≤◌, ◌+◌, ◌*◌, ◌++◌, ◌∷◌, [], Some, IfErr, IfNone};
 ghost use Rattle.std.specs.Prelude.{OnOk, OnErr, All, List, Ok, Err, length, remove, slice_get};
 ghost use Rattle.std.specs.List.{position};
-ghost use Rattle.vb_model.specs.declared.limits.TheConstants.{MAX_QUEUE_SIZE};
-ghost use Rattle.vb_model.specs.Device.{is_unvisited, next_page, visiting};
-ghost use Rattle.vb_model.specs.Layout.{reserved_pages};
-ghost use Rattle.vb_model.specs.Limits.{max_outstanding, page_size};
-ghost use Rattle.vb_model.specs.Requests.{Request};
+ghost use Rattle.vb_virtio.specs.declared.limits.TheConstants.{MAX_QUEUE_SIZE};
+ghost use Rattle.vb_virtio.specs.Queues.{is_unvisited};
+ghost use Rattle.vb_model.specs.Device.{next_page, visiting};
+ghost use Rattle.vb_virtio.specs.Layout.{reserved_pages};
+ghost use Rattle.vb_virtio.specs.Limits.{max_outstanding, page_size};
+ghost use Rattle.vb_virtio.specs.Queues.{Request};
 ghost use Rattle.vb_request.specs.Asked.{request_of, noted};
 
 use crate::taken::TakenRequest;
 use std::marker::Model;
 use vb_chain::{ChainFault, Piece};
-use vb_model::limits::MAX_OUTSTANDING;
 use vb_ram::{GuestBytes, Shape};
 use vb_request::Statistics;
+use vb_virtio::limits::MAX_OUTSTANDING;
 
 /// Chains of a queue that may be taken at a time.
 pub(crate) const MAX_TAKEN: usize = MAX_OUTSTANDING as usize;
@@ -32,8 +33,8 @@ pub(crate) struct TakenList {
 
 impl Model for TakenList {
     ghost use Rattle.std.specs.Prelude.{◌≤◌, List, take};
-    ghost use Rattle.vb_model.specs.Requests.{Request};
-    ghost use Rattle.vb_model.specs.Limits.{max_outstanding};
+    ghost use Rattle.vb_virtio.specs.Queues.{Request};
+    ghost use Rattle.vb_virtio.specs.Limits.{max_outstanding};
 
     ghost Value = { List Request };
 
@@ -68,7 +69,7 @@ impl TakenList {
         self.len = 0;
     }
 
-    /// Takes the chain of these pieces, from this head, on the queue of this number, behind the
+    /// Takes the chain of these pieces, from this head, on the queue of this number, after the
     /// others. What a buffer of statistics says replaces `last`. Where the chain breaks a rule, the
     /// rule is the answer, and nothing is changed.
     pub(crate) fn take<G: GuestBytes>(
@@ -113,7 +114,7 @@ impl TakenList {
         Some(self.requests[oldest].visit())
     }
 
-    /// Forgets the chain of this number; those behind it close up.
+    /// Forgets the chain of this number; those after it close up.
     pub(crate) fn forget(&mut self, index: usize)
         requires { index < length self.old }
         ensures { self.new ≡ remove self.old index }
@@ -130,7 +131,7 @@ fn oldest_unvisited(taken: &[TakenRequest]) -> Option<usize>
     taken.iter().position(|request| request.is_unvisited())
 }
 
-/// Moves the chain of this number behind the others, which close up.
+/// Moves the chain of this number after the others, which close up.
 fn move_to_end(taken: &mut [TakenRequest], index: usize)
     requires { index < length taken.old }
     ensures { (r : Request) → slice_get taken.old index ≡ Some r →

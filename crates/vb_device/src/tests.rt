@@ -10,6 +10,7 @@ mod paced;
 mod random_rings;
 mod requests;
 mod second_reading;
+mod serving;
 mod statistics_and_reports;
 mod untold;
 
@@ -17,16 +18,16 @@ use crate::{BalloonDevice, Claimed, Device, Pace, Statistics, Worked};
 use bitflags::Flags;
 use std::alloc::Global;
 use std::process::Abort;
-use vb_model::Refusal;
 use vb_ram::{Config, Frame, GuestBytes, Shape};
 use vb_status::{Features, Port, Status};
+use vb_virtio::Refusal;
 
 /// What a host and a driver do with a device.
 #[derive(Clone, Copy)]
 enum Step {
     /// The driver comes through the initialisation, after a reset, with all features.
     Start,
-    /// The same with just these features.
+    /// The driver comes through the initialisation with just these features.
     StartWith(u64),
     /// The driver writes the status.
     WriteStatus(u8),
@@ -48,7 +49,9 @@ enum Step {
     /// The chain of a queue that was taken as this number is finished. No frame may be loose
     /// before.
     Finish(u32, u32),
-    /// A frame of this number is put behind a page.
+    /// The next chain of a queue is served. No frame may be loose before.
+    Serve(u32),
+    /// A page is backed by the frame of this number.
     Supply(u32, u32),
     HandBack,
     /// The frame of a page is swept away. No frame may be loose before.
@@ -110,11 +113,11 @@ fn done(is_done: bool) -> Answer {
 #[derive(Drop)]
 struct Host<P: Pace> {
     device: BalloonDevice<P>,
-    /// Where the driver's rings stand.
+    /// Where the driver's rings are.
     shape: Shape,
 }
 
-/// Gives a device a guest of so many pages, whose rings and buffers have the frames of their pages'
+/// Gives a device a guest of `pages` pages, whose rings and buffers have the frames of their pages'
 /// numbers; says whether it has them.
 fn attach<P: Pace>(
     device: &mut BalloonDevice<P>,
@@ -134,7 +137,7 @@ fn attach<P: Pace>(
         && supply_first(device, alloc, config.shape())
 }
 
-/// Puts a frame of its number behind each page of rings and buffers.
+/// Backs each page of rings and buffers with the frame of its number.
 fn supply_first<P: Pace>(device: &mut BalloonDevice<P>, alloc: Global, shape: Shape) -> bool {
     for page in 0..32 {
         if shape.is_start_page(page) && !supply(device, alloc, page, page) {
@@ -144,7 +147,7 @@ fn supply_first<P: Pace>(device: &mut BalloonDevice<P>, alloc: Global, shape: Sh
     true
 }
 
-/// Puts a frame behind a page.
+/// Backs a page with a frame.
 fn supply<P: Pace>(device: &mut BalloonDevice<P>, alloc: Global, page: u32, number: u32) -> bool {
     match Frame::fresh(alloc, number) {
         Ok(frame) => device.supply(page, frame).is_ok(),
@@ -182,7 +185,8 @@ impl<P: Pace> Host<P> {
         if self.device.hand_back().is_some() || !self.device.has_ring(0) {
             return Answer::Is(false);
         }
-        match self.device.settle(0, 0) {
+        let visits = self.device.paced();
+        match self.device.settle(0, 0, visits) {
             Ok(head) => Answer::Head(Some(head)),
             Err(refusal) => Answer::Refused(refusal),
         }
@@ -194,6 +198,17 @@ impl<P: Pace> Host<P> {
         }
         match self.device.finish(queue, index) {
             Ok(head) => Answer::Head(Some(head)),
+            Err(refusal) => Answer::Refused(refusal),
+        }
+    }
+
+    fn serve(&mut self, queue: u32) -> Answer {
+        if self.device.hand_back().is_some() || !self.device.has_ring(queue) {
+            return Answer::Is(false);
+        }
+        match self.device.serve(queue) {
+            Ok(head) => Answer::Head(head),
+            Err(Refusal::Broken { rule }) => Answer::Broken(rule),
             Err(refusal) => Answer::Refused(refusal),
         }
     }
@@ -340,6 +355,7 @@ impl<P: Pace> Host<P> {
             Step::WorkBare(first, end) => done(self.work_bare(*first, *end)),
             Step::Settle => self.settle(),
             Step::Finish(queue, index) => self.finish(*queue, *index),
+            Step::Serve(queue) => self.serve(*queue),
             Step::Supply(page, number) => done(supply(&mut self.device, alloc, *page, *number)),
             Step::HandBack => self.hand_back(),
             Step::Sweep(page) => self.sweep(*page),

@@ -7,11 +7,13 @@ use Rattle.std.proofs.lemmas.Bool.{cases_lt, and_parts, and_from, false_from_ne_
 use Rattle.std.{proofs.lemmas.Bool.{le-ltb, le-leb, lt-leb}, specs.List.{list_all, range_with_len}}
 use Rattle.std.proofs.lemmas.List.{Sums.count_by-le-length, Folds.{list_any_at, list_any_none}}
 use Rattle.std.proofs.lemmas.List.FromFn.{get_or-range_with_len, length-range_with_len}
-use Rattle.vb_model.{specs.Tests.{is_in, one_if}, proofs.Tables.{count_by-cons, list_all-at}}
+use Rattle.vb_virtio.specs.Tests.{is_in, one_if, times}
+use Rattle.vb_virtio.proofs.Tables.{count_by-cons, list_all-at}
+use Rattle.vb_virtio.specs.FirstRefusal.{first_refusal, ◌⇒◌}
+use Rattle.vb_virtio.specs.declared.refusals.Refusal.{Refusal}
+use Rattle.vb_virtio.specs.declared.refusals.Refusal.TheVariants.{BadOrder, BadCpu, NoPages}
 use Rattle.vb_model.specs.{Pages.{covers, pages_of, is_aligned}, Driver.{with_block, without_block}}
-use Rattle.vb_model.specs.{Refusals.{first_refusal, ◌⇒◌}, declared.replies.Refusal.Refusal}
-use Rattle.vb_model.specs.declared.replies.Refusal.TheVariants.{BadOrder, BadCpu, NoPages}
-use Rattle.{vb_model.specs.Orderly.times, vb_pages.specs.PageState.{with_free_block, HasRoomIn}}
+use Rattle.vb_pages.specs.PageState.{with_free_block, HasRoomIn}
 use Rattle.{vb_model.proofs.PageSteps.covers_is, vb_pages.proofs.Sets.{length-with_pages, in_block}}
 use Rattle.vb_pages.specs.PageState.{PageState, page_count, cpu_count, is_free_page, IsApart}
 use Rattle.vb_pages.specs.PageState.{IsWhollyFree, AllocatesBlock, TakesFree, freed, reserved_count}

@@ -1,7 +1,7 @@
 -- The page areas of a driver: which pages are free, and what comes to them and leaves them.
 use Rattle.std.proofs.Common.{◌≡◌, ◌↔◌, ℕ, true, false, List, [], ◌∷◌, map, refl}
 use Rattle.std.specs.Prelude.{Ok, Err, Bool, length}
-use Rattle.vb_model.specs.declared.replies.Refusal.TheVariants.{BadOrder, BadCpu, NoPages}
+use Rattle.vb_virtio.specs.declared.refusals.Refusal.TheVariants.{BadOrder, BadCpu, NoPages}
 use Rattle.vb_model.specs.Pages.{Block, block_at}
 use Rattle.vb_pages.specs.{FreePages.FreePages, PageState.{PageState, AllocatesBlock}}
 use Rattle.vb_pages.specs.Areas.{with_pages, without_pages}

@@ -2,8 +2,9 @@
 use Rattle.std.proofs.Common.{◌≡◌, ◌≢◌, ◌∙◌, sym, ap, subst, arith, ℕ, ◌+◌, ◌*◌, ◌/◌, ◌%◌}
 use Rattle.{std.proofs.Common.{◌≤◌, List, length, inl, inr, ◌∷◌}, vb_driver.specs.Coding.Names}
 use Rattle.std.proofs.{lemmas.Bool.{cases_lt, cases_eq}, Math.Nat.div-add-mod}
-use Rattle.{vb_model.specs.Layout.buffer_page, vb_ram.specs.Pages.{Pages, byte_at, SameBut, SameIn}}
-use Rattle.{vb_model.specs.Layout.buffer_offset, vb_ring.specs.Frame.{Extent, IsIn, SameOutside}}
+use Rattle.vb_virtio.specs.Layout.{buffer_page, buffer_offset}
+use Rattle.vb_ram.specs.Pages.{Pages, byte_at, SameBut, SameIn}
+use Rattle.vb_ring.specs.Frame.{Extent, IsIn, SameOutside}
 use Rattle.vb_ram.proofs.FieldLaws.{field_in, same_page, same_below, same_above, same_other}
 
 -- what is written to one buffer leaves the others alone

@@ -3,13 +3,16 @@ use Rattle.std.proofs.Common.{◌≡◌, ◌↔◌, arith, ℕ, true, false, Lis
 use Rattle.std.specs.Prelude.{Option, Some, None, option_map, replicate}
 use Rattle.vb_model.specs.declared.places.Place.{Place}
 use Rattle.vb_model.specs.declared.places.Place.TheVariants.{Free, Giving, Lent, Stranded}
-use Rattle.vb_model.specs.declared.replies.Refusal.{Refusal}
-use Rattle.vb_model.specs.declared.replies.Refusal.TheVariants.{NotReady, QueueFull, DeflatePending}
-use Rattle.vb_model.specs.declared.replies.Refusal.TheVariants.{Nothing, NoFeature, NoQueue}
-use Rattle.vb_model.specs.declared.replies.Refusal.TheVariants.{AlreadyUp, NoFrame, VersionMissing}
-use Rattle.vb_model.specs.declared.replies.Refusal.TheVariants.{FeatureNotOffered, RingBroken}
-use Rattle.vb_model.specs.declared.replies.Refusal.TheVariants.{NoPages, NotHeld, BadCpu, BadOrder}
-use Rattle.vb_model.specs.{FirstRefusal.{Cause, first_refusal}, Pages.block_at}
+use Rattle.vb_virtio.specs.declared.refusals.Refusal.{Refusal}
+use Rattle.vb_virtio.specs.declared.refusals.Refusal.TheVariants.{NotReady, QueueFull}
+use Rattle.vb_virtio.specs.declared.refusals.Refusal.TheVariants.{DeflatePending, Nothing}
+use Rattle.vb_virtio.specs.declared.refusals.Refusal.TheVariants.{NoFeature, NoQueue, AlreadyUp}
+use Rattle.vb_virtio.specs.declared.refusals.Refusal.TheVariants.{NoFrame, VersionMissing}
+use Rattle.vb_virtio.specs.declared.refusals.Refusal.TheVariants.{FeatureNotOffered, RingBroken}
+use Rattle.vb_virtio.specs.declared.refusals.Refusal.TheVariants.{NoPages, NotHeld, BadCpu}
+use Rattle.vb_virtio.specs.declared.refusals.Refusal.TheVariants.{BadOrder}
+use Rattle.vb_virtio.specs.FirstRefusal.{Cause, first_refusal}
+use Rattle.vb_model.specs.Pages.{block_at}
 use Rattle.vb_ram.specs.{Part.{Part, no_part}, Pages.{Pages, field, byte_at}}
 use Rattle.vb_ring.specs.{Ends.DriverEnd, Numbers.numbers}
 use Rattle.vb_driver.specs.State.{DriverState, fresh_driver}
@@ -74,7 +77,7 @@ why causes = first_refusal causes
 abbrev part : ℕ → ℕ → Part
 part status target = record no_part { status = status; target = target }
 
--- so many requests are out, each of one descriptor
+-- n requests are out, each of one descriptor
 abbrev with_out : List (Option ℕ) → DriverEnd → DriverEnd
 with_out owner ring = record ring { owner = owner }
 

@@ -4,8 +4,8 @@ use Rattle.{std.specs.Prelude.{Some, None, replicate}, vb_ring.specs.declared.la
 use Rattle.vb_model.specs.{declared.places.PlaceCounts.PlaceCounts, Pages.block_at}
 use Rattle.vb_model.specs.declared.places.Place.TheVariants.{Reserved, Free, Used, Giving}
 use Rattle.vb_model.specs.declared.places.Place.TheVariants.{Lent, Taking, Stranded, Reporting}
-use Rattle.vb_model.specs.declared.replies.Refusal.TheVariants.{BadOrder, NotHeld, NotReady}
-use Rattle.vb_model.specs.declared.replies.Refusal.TheVariants.{BadCpu, NoPages, RingBroken}
+use Rattle.vb_virtio.specs.declared.refusals.Refusal.TheVariants.{BadOrder, NotHeld, NotReady}
+use Rattle.vb_virtio.specs.declared.refusals.Refusal.TheVariants.{BadCpu, NoPages, RingBroken}
 use Rattle.{vb_ram.specs.Part.no_part, vb_driver.specs.Requests.{numbers_extent, stranded_first}}
 use Rattle.vb_driver.specs.{State.{IsQueue, given_away, figures_of, pages_named}, Places.is_at}
 use Rattle.vb_driver.specs.State.{room, fresh_side, AreRequests, DriverState, fresh_driver}
@@ -53,7 +53,7 @@ counted : (c : PlaceCounts) → AreCountsOf c (Free ∷ [] ++ replicate 2 Used +
 counted c are =
     (are.free, are.used, are.giving, are.lent, are.taking, are.stranded, are.reporting)
 
--- ---- what stands in memory: 4 bytes a number, 1024 a request, in pages 4 to 7 and 8 to 11
+-- ---- what is in memory: 4 bytes a number, 1024 a request, in pages 4 to 7 and 8 to 11
 
 buffers : buffer_of 4 0 1 ∷ buffer_of 4 5 256 ∷ statistics_buffer ∷ []
     ≡ record { addr = 16384; len = 4; flags = 0; next = 0 }

@@ -1,8 +1,10 @@
 -- FAILED may be added to any status.
 use Rattle.std.proofs.Common.{◌≡◌, ap, refl, arith, ℕ, ◌<◌, Bool, true, not, ◌&&◌}
 use Rattle.std.{proofs.Common.{Option, None, is_none, cond, eqb, bit_or}, specs.List.list_all}
-use Rattle.{std.specs.List.range_with_len, vb_model.specs.declared.replies.Refusal.Refusal}
-use Rattle.vb_model.{specs.Status.{status_refusal, adds, driver_ok}, proofs.Tables.list_all-at}
+use Rattle.vb_virtio.specs.declared.refusals.Refusal.{Refusal}
+use Rattle.vb_virtio.specs.Status.{status_refusal, adds, driver_ok}
+use Rattle.vb_virtio.proofs.Tables.{list_all-at}
+use Rattle.std.specs.List.{range_with_len}
 use Rattle.{vb_ram.specs.Part.Part, vb_status.specs.After.{after_status, part_after_reset}}
 use Rattle.{vb_status.specs.After.with_new_queues, vb_pages.proofs.Sets.in_block}
 

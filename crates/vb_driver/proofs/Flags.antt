@@ -5,9 +5,10 @@ use Rattle.std.proofs.Common.{◌∷◌, ◌++◌, length, take, get_or, map, co
 use Rattle.std.proofs.lemmas.List.{same_lists, get_or_past, length-set, length-map, get_or-map}
 use Rattle.std.proofs.lemmas.List.{take_more, Sums.sum_by-take-le, FromFn.get_or-map-range_with_len}
 use Rattle.std.proofs.lemmas.{List.FromFn.length-map-range_with_len, Bool.false_from_ne_true}
-use Rattle.vb_model.specs.{Orderly.times, Pages.{Block, covers, pages_of, is_free, all_free}}
-use Rattle.vb_model.specs.{Tests.{is_in, one_if}, declared.places.Place.TheVariants.Reserved}
-use Rattle.vb_model.proofs.Tables.{each_page-get, count_by-cons, count_by-append}
+use Rattle.vb_virtio.specs.Tests.{times, is_in, one_if}
+use Rattle.vb_virtio.proofs.Tables.{each_page-get, count_by-cons, count_by-append}
+use Rattle.vb_model.specs.Pages.{Block, covers, pages_of, is_free, all_free}
+use Rattle.vb_model.specs.declared.places.Place.TheVariants.{Reserved}
 use Rattle.{vb_model.proofs.PageSteps.covers_is, vb_pages.proofs.ListsLemmas.{one_if_le, times_in}}
 use Rattle.vb_pages.proofs.{ListsLemmas.times_out, AreasLemmas.{length-unreserved, has-unreserved}}
 use Rattle.vb_pages.proofs.{Sets.length-with_pages, FreeLemmas.flat-replicate}
@@ -85,7 +86,7 @@ pub gained_by : (p : ℕ) (b : Block) (old : Bool)
     → (old || covers p b) ≡ cond (is_in p (pages_of b)) true old
 gained_by p b old = grind (arith, covers_is)
 
--- what these pages left behind, where each stands once
+-- what these pages left over, where each is once
 pub taken_by : (p : ℕ) (pages : List ℕ) {new : Bool} (old : Bool)
     → one_if new + times p pages ≡ one_if old → new ≡ cond (is_in p pages) false old
 taken_by p pages old sum = grind (arith, times_in, times_out)
@@ -149,7 +150,7 @@ pub given_more : (xs : List ℕ) (x : ℕ) (s : PageState)
 given_more [] x s = refl
 given_more (y ∷ xs) x s = given_more xs x (with_free_block (block_at y 0) s)
 
--- a page that stands once isn't among those before it
+-- a page that is once isn't among those before it
 pub not_before : (pages : List ℕ) (i : ℕ) → i < length pages → times (get_or pages i 0) pages ≤ 1
     → is_in (get_or pages i 0) (take i pages) ≡ false
 not_before pages i lt once = let x = get_or pages i 0 in

@@ -5,8 +5,9 @@ use Rattle.std.proofs.Common.{sym, ap, arith, refl, ℕ, ◌<◌, ◌≤◌, Boo
 use Rattle.{std.proofs.Common.{length, map, if◌then◌else◌}, vb_model.specs.Pages.{place_of, placed}}
 use Rattle.vb_model.specs.Pages.{is_free, is_giving, is_taking, is_reporting, Block, pages_of_all}
 use Rattle.vb_model.specs.declared.places.Place.{Place, TheVariants.{Reserved, Free, Used}}
-use Rattle.vb_model.{specs.{Orderly.times, Tests.{is_in, one_if}}, proofs.Tables.each_page-get}
-use Rattle.{vb_model.proofs.Tables.length-each_from, vb_pages.specs.FreePages.FreePages}
+use Rattle.vb_virtio.specs.Tests.{times, is_in, one_if}
+use Rattle.vb_virtio.proofs.Tables.{each_page-get, length-each_from}
+use Rattle.vb_pages.specs.FreePages.{FreePages}
 use Rattle.vb_driver.proofs.Placing.{length-marked, marked-get, marked_none}
 use Rattle.vb_driver.{proofs.{Counting.at_is, Naming.naming_same}, specs.Places.{is_at, marked}}
 use Rattle.vb_driver.specs.{Areas.{AreFor, flags_of, is_covered}, State.{RequestSide, ReportSide}}

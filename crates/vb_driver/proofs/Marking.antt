@@ -3,7 +3,8 @@ use Rattle.std.proofs.Common.{◌≡◌, ◌∙◌, ap, arith, refl, ℕ, zero, 
 use Rattle.std.proofs.Common.{true, false, cond, List, [], ◌∷◌, ◌++◌, length, take, drop, get_or}
 use Rattle.std.proofs.lemmas.List.{get_or-drop, drop-drop, append_assoc, length-append, take_all}
 use Rattle.std.{proofs.Common.{set, map, replicate, append-nil}, proofs.lemmas.List.map-set}
-use Rattle.vb_model.{specs.Tests.{pages_from, pages_where}, specs.declared.places.Place.Place}
+use Rattle.vb_virtio.specs.Tests.{pages_from, pages_where}
+use Rattle.vb_model.specs.declared.places.Place.{Place}
 use Rattle.vb_bits.specs.Sets.{HasNoneFrom, IsLeastFrom}
 
 -- ---- the members in rising order
@@ -61,7 +62,7 @@ next_member {flags} {from} {page} least = let k = page - from in
 
 -- ---- a walk along a set
 
--- these are the first members, so many, and the others come from this number on
+-- these are the first n members, and the others come from this number on
 pub record AreFirst (items : List ℕ) (flags : List Bool) (from count : ℕ) : Type 0 where
   pub whole : items ++ members_from from (drop from flags) ≡ pages_where (λ b. b) flags
   pub many : length items ≡ count

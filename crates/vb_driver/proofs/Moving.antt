@@ -1,17 +1,21 @@
 -- The pages that each call moves.
 use Rattle.std.proofs.Common.{◌≡◌, ◌∙◌, sym, ap, arith, refl, ℕ, ◌+◌, ◌-◌, ◌<◌, ◌≤◌, Bool, true}
 use Rattle.std.proofs.Common.{false, cond, eqb, ◌||◌, ◌&&◌, List, [], ◌∷◌, ◌++◌, length, take, set}
-use Rattle.{std.proofs.Common.{map, count_by, inl, inr}, vb_model.specs.Orderly.times}
+use Rattle.vb_virtio.specs.Tests.{times, is_in, one_if, pages_where}
+use Rattle.vb_virtio.specs.Layout.{reserved_pages}
+use Rattle.vb_virtio.proofs.Tables.{count_by-cons, pages_where-passes, is_in-take, is_in-append}
+use Rattle.vb_virtio.proofs.Tables.{list_all-at}
+use Rattle.std.proofs.Common.{map, count_by, inl, inr}
 use Rattle.std.{specs.List.list_all, proofs.lemmas.Bool.{cases_lt, false_from_ne_true, both_ways}}
 use Rattle.std.proofs.lemmas.List.{length-take, length-map, get_or-map, get_or_past}
 use Rattle.{std.proofs.lemmas.List.Folds.list_any-append, vb_model.proofs.Counts.length-pages_where}
 use Rattle.vb_model.specs.Pages.{place_of, placed, is_free, is_used, is_giving, is_lent, is_taking}
-use Rattle.{vb_model.specs.{Pages.is_stranded, Layout.reserved_pages}, vb_ram.specs.Pages.Pages}
-use Rattle.vb_model.proofs.Tables.{count_by-cons, pages_where-passes, is_in-take, is_in-append}
+use Rattle.vb_model.specs.Pages.{is_stranded}
+use Rattle.vb_ram.specs.Pages.{Pages}
 use Rattle.vb_model.specs.declared.places.Place.TheVariants.{Reserved, Free, Giving, Lent, Taking}
 use Rattle.vb_model.specs.declared.places.Place.{TheVariants.{Stranded, Reporting}, Place}
-use Rattle.{vb_model.proofs.Tables.list_all-at, vb_driver.proofs.RequestTables.requests_taken}
-use Rattle.{vb_model.specs.Tests.{is_in, one_if, pages_where}, vb_pages.specs.FreePages.FreePages}
+use Rattle.vb_driver.proofs.RequestTables.{requests_taken}
+use Rattle.vb_pages.specs.FreePages.{FreePages}
 use Rattle.vb_driver.specs.State.{RequestSide, DriverState, IsQueue, sent_by, IsDriver, tells_host}
 use Rattle.vb_driver.{specs.Places.{is_at, marked}, proofs.{Naming.once_append, Placing.or_true}}
 use Rattle.vb_driver.proofs.Keeping.{kept_changed, Leaves, not_left, stays, stays_held, there_by}
@@ -41,7 +45,7 @@ reaped_queue {s1} head q = record {
   size = q.size;
 }
 
--- ---- lent pages are asked back
+-- ---- lent pages are requested back
 
 lent_leave : {d : DriverState} (count : ℕ) → IsDriver d → Leaves d (lowest_lent d count) is_lent
 lent_leave {d} count kept =

@@ -3,12 +3,12 @@ use Rattle.std.proofs.Common.{◌≡◌, ◌∙◌, sym, ap, arith, refl, ℕ, s
 use Rattle.std.proofs.Common.{◌≤◌, Bool, true, false, cond, eqb, not, List, [], ◌∷◌, ◌++◌, length}
 use Rattle.std.proofs.{Common.{take, get_or, set, inl, inr, IsTrue}, lemmas.Bool.{cases_eq, ne_eqb}}
 use Rattle.std.proofs.lemmas.List.Sums.{sum_by-set, sum_by-take-le, get_or-le-sum_by}
-use Rattle.vb_model.{proofs.Tables.{count_by-cons, count_by-append}, specs.Driver.AllDistinct}
-use Rattle.vb_model.specs.{Orderly.times, Tests.{is_in, one_if, pages_from, pages_where}}
+use Rattle.vb_virtio.proofs.Tables.{count_by-cons, count_by-append}
+use Rattle.vb_virtio.specs.Tests.{AllDistinct, times, is_in, one_if, pages_from, pages_where}
 use Rattle.{vb_model.specs.declared.places.Place.Place, vb_pages.proofs.ListsLemmas.times_in}
 use Rattle.{vb_pages.proofs.ListsLemmas.{times_out, one_if_le}, vb_driver.specs.State.naming}
 
--- a list in which no page stands twice
+-- a list in which no page is twice
 pub once_distinct : (p : ℕ) (xs : List ℕ) → AllDistinct xs → times p xs ≤ 1
 once_distinct p [] d = omega arith
 once_distinct p (x ∷ xs) d = let ih : times p xs ≤ 1 = once_distinct p xs d.1 in

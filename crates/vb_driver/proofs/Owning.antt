@@ -5,11 +5,17 @@ use Rattle.std.proofs.Common.{◌≡◌, ◌∙◌, sym, ap, arith, refl, ℕ, �
 use Rattle.std.proofs.Common.{true, false, cond, eqb, not, ◌||◌, List, [], ◌∷◌, length, map, inl}
 use Rattle.{std.proofs.Common.{inr, None, nat_le, nat_lt}, vb_model.specs.Pages.{Block, covers}}
 use Rattle.vb_model.specs.Pages.{pages_of, is_same_block, is_wholly_free, place_of, placed, is_free}
-use Rattle.vb_model.specs.{Pages.is_used, Refusals.{first_refusal, ◌⇒◌}, Driver.with_block}
-use Rattle.vb_model.specs.{Driver.without_block, Tests.is_in, declared.places.Place.Place}
+use Rattle.vb_virtio.specs.FirstRefusal.{first_refusal, ◌⇒◌}
+use Rattle.vb_virtio.specs.Tests.{is_in}
+use Rattle.vb_virtio.specs.declared.refusals.Refusal.TheVariants.{BadOrder, BadCpu, NoPages}
+use Rattle.vb_virtio.specs.declared.refusals.Refusal.TheVariants.{NotHeld}
+use Rattle.vb_virtio.proofs.Tables.{list_all-at}
+use Rattle.vb_model.specs.Pages.{is_used}
+use Rattle.vb_model.specs.Driver.{with_block}
+use Rattle.vb_model.specs.Driver.{without_block}
+use Rattle.vb_model.specs.declared.places.Place.{Place}
 use Rattle.vb_model.specs.declared.places.Place.TheVariants.{Free, Used, Giving, Taking, Reporting}
-use Rattle.vb_model.specs.declared.replies.Refusal.TheVariants.{BadOrder, BadCpu, NoPages, NotHeld}
-use Rattle.vb_model.proofs.{Tables.list_all-at, PageSteps.covers_is}
+use Rattle.vb_model.proofs.PageSteps.{covers_is}
 use Rattle.vb_pages.specs.{FreePages.FreePages, PageState.PageState}
 use Rattle.vb_driver.specs.{Answers.{block_at, alloc_causes}, Places.marked, Areas.flags_of}
 use Rattle.vb_driver.specs.Areas.{AreApart, AreFor, Becomes, is_free_at, is_covered, is_free_block}

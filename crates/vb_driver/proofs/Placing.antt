@@ -5,9 +5,11 @@ use Rattle.std.proofs.Common.{◌++◌, length, take, get_or, set, map, eq-eqb, 
 use Rattle.std.proofs.lemmas.{Bool.ne_eqb, List.{same_lists, get_or-set_same, get_or-set_other}}
 use Rattle.std.proofs.lemmas.List.{length-set, get_or-map, length-map, take_more, length-take}
 use Rattle.std.{proofs.lemmas.List.Folds.{list_any-append, list_any_at}, specs.List.range_with_len}
-use Rattle.vb_model.specs.{declared.places.Place.Place, Pages.placed, Tests.is_in}
-use Rattle.vb_model.{specs.Tests.{one_if, pages_from, pages_where}, proofs.Tables.count_by-cons}
-use Rattle.{vb_model.proofs.Tables.{length-each_from, each_page-get}, vb_driver.specs.Places.marked}
+use Rattle.vb_virtio.specs.Tests.{is_in, one_if, pages_from, pages_where}
+use Rattle.vb_virtio.proofs.Tables.{count_by-cons, length-each_from, each_page-get}
+use Rattle.vb_model.specs.declared.places.Place.{Place}
+use Rattle.vb_model.specs.Pages.{placed}
+use Rattle.vb_driver.specs.Places.{marked}
 
 -- ---- some pages of a table have one value
 
@@ -76,7 +78,7 @@ placed_next start page place ps from lt = let k = page - start in
     (λ (l : List ℕ). placed l place ps) (ap (λ (n : ℕ). range_with_len start k ++ n ∷ []) (sym here)
     ∙ (sym (range_push start k) ∙ ap (λ (n : ℕ). range_with_len start n) next))
 
--- a run of pages, and then the pages behind it
+-- a run of pages, and then the pages after it
 range_append : (start a b : ℕ)
     → range_with_len start a ++ range_with_len (start + a) b ≡ range_with_len start (a + b)
 range_append start zero b = ap (λ (n : ℕ). range_with_len n b) (omega arith)

@@ -1,8 +1,9 @@
--- What stands in memory, and what doesn't change, once a request, a report or figures went out.
+-- What is in memory, and what doesn't change, once a request, a report or figures went out.
 use Rattle.std.proofs.Common.{◌≡◌, ◌≢◌, ℕ, ◌+◌, ◌*◌, ◌/◌, ◌%◌, ◌<◌, ◌≤◌, List, [], ◌∷◌, ◌++◌, refl}
 use Rattle.std.proofs.Common.{arith}
 use Rattle.std.specs.Prelude.{Some, Ok, length, slice_set, replicate}
-use Rattle.vb_model.{specs.Pages.{Block, block_at}, specs.Layout.is_ring_page}
+use Rattle.vb_virtio.specs.Layout.{is_ring_page}
+use Rattle.vb_model.specs.Pages.{Block, block_at}
 use Rattle.vb_ram.specs.Pages.{Pages, field, byte_at, page_at, frame_at, contents_at, SameIn}
 use Rattle.vb_chain.specs.Table.{descriptor_at}
 use Rattle.vb_driver.specs.State.{ReportSide, fresh_ring, RequestSide, AreRequests, fresh_side}

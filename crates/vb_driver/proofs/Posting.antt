@@ -2,7 +2,8 @@
 use Rattle.std.proofs.Common.{◌≡◌, ◌≢◌, ◌∙◌, sym, ap, subst, arith, refl, ℕ, ◌+◌, ◌*◌, ◌<◌, ◌≤◌}
 use Rattle.std.proofs.Common.{false, eqb, List, [], ◌∷◌, length, slice_index, Some, Ok, set, min}
 use Rattle.{std.proofs.lemmas.Bool.ne_eqb, vb_ring.proofs.MeaningLaws.{ring_apart, tracks_apart}}
-use Rattle.vb_model.specs.{Tests.is_in, Layout.{buffer_page, buffer_offset}}
+use Rattle.vb_virtio.specs.Tests.{is_in}
+use Rattle.vb_virtio.specs.Layout.{buffer_page, buffer_offset}
 use Rattle.vb_ram.{specs.Pages.{Pages, page_at, SameBut}, proofs.FieldLaws.{same_page, same_trans}}
 use Rattle.vb_chain.specs.{declared.pieces.Piece.Piece, Written.linked}
 use Rattle.vb_chain.{specs.Table.descriptor_at, proofs.TableLaws.{descriptor_apart, same_parts}}

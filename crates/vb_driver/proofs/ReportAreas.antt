@@ -2,9 +2,12 @@
 use Rattle.std.proofs.lemmas.{List.{length-map, get_or-map, Elements.All-map}, Nat.pow_pos}
 use Rattle.std.proofs.Common.{◌≡◌, ◌∙◌, sym, ap, arith, refl, ℕ, ◌+◌, ◌^◌, ◌<◌, ◌≤◌}
 use Rattle.std.proofs.Common.{Bool, true, false, cond, eqb, not, ◌&&◌, ◌||◌, List, [], ◌∷◌, length}
-use Rattle.{std.proofs.Common.{map, slice_index_or, All}, vb_model.proofs.Distinct.distinct_once}
-use Rattle.vb_model.specs.{declared.places.Place.Place, Tests.is_in, Pages.pages_of_all}
-use Rattle.vb_model.specs.{Pages.{is_free, place_of, reported, maximal_free_blocks}, Orderly.times}
+use Rattle.vb_virtio.proofs.Distinct.{distinct_once}
+use Rattle.vb_virtio.specs.Tests.{is_in, times}
+use Rattle.std.proofs.Common.{map, slice_index_or, All}
+use Rattle.vb_model.specs.declared.places.Place.{Place}
+use Rattle.vb_model.specs.Pages.{pages_of_all}
+use Rattle.vb_model.specs.Pages.{is_free, place_of, reported, maximal_free_blocks}
 use Rattle.vb_pages.proofs.Sets.{in_block, length-with_pages, length-without_pages}
 use Rattle.vb_pages.{proofs.Sets.{same_sets, without_parts, without_old}, specs.Areas.without_pages}
 use Rattle.vb_pages.specs.{declared.block.FreeBlock.FreeBlock, PageState.{PageState, page_count}}

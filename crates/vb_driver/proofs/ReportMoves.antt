@@ -1,7 +1,8 @@
 -- The driver as a report goes out, and as it comes back.
 use Rattle.std.proofs.Common.{◌≡◌, ap, arith, refl, ℕ, ◌≤◌, Bool, true, false, cond, List, []}
-use Rattle.vb_model.{proofs.Distinct.distinct_list, specs.{Orderly.times, Tests.{is_in, one_if}}}
-use Rattle.{vb_model.specs.Driver.AllDistinct, vb_driver.proofs.Counting.at_is}
+use Rattle.vb_virtio.proofs.Distinct.{distinct_list}
+use Rattle.vb_virtio.specs.Tests.{times, is_in, one_if, AllDistinct}
+use Rattle.vb_driver.proofs.Counting.{at_is}
 use Rattle.vb_model.specs.Pages.{Block, pages_of_all, place_of, placed, is_free, is_reporting}
 use Rattle.vb_model.specs.declared.places.Place.TheVariants.{Free, Giving, Taking, Reporting}
 use Rattle.vb_pages.{specs.FreePages.FreePages, proofs.ListsLemmas.{times_in, times_out}}

@@ -1,7 +1,9 @@
 -- A report that goes out: its chain has the first descriptors.
 use Rattle.std.proofs.Common.{◌≡◌, ◌∙◌, ap, subst, arith, ℕ, ◌+◌, ◌<◌, ◌≤◌, List, [], length, Err}
 use Rattle.std.proofs.{Common.{slice_index, Result, Ok}, lemmas.List.FromFn.get_or-range_with_len}
-use Rattle.{std.proofs.lemmas.List.length-map, vb_model.specs.Tests.is_in, vb_ram.specs.Pages.Pages}
+use Rattle.vb_virtio.specs.Tests.{is_in}
+use Rattle.std.proofs.lemmas.List.{length-map}
+use Rattle.vb_ram.specs.Pages.{Pages}
 use Rattle.{std.specs.List.range_with_len, vb_chain.specs.{Table.descriptor_at, Written.linked}}
 use Rattle.{vb_model.specs.Pages.Block, vb_pages.specs.declared.block.FreeBlock.FreeBlock}
 use Rattle.{vb_chain.specs.declared.pieces.Piece.Piece, vb_ring.specs.declared.driver.Full.Full}

@@ -1,5 +1,7 @@
 -- The queue of reports, whose one chain has the first descriptors.
-use Rattle.{std.specs.List.range_with_len, vb_model.proofs.PageSteps.{is_in-range, outside-range}}
+use Rattle.vb_virtio.proofs.Ranges.{is_in-range, outside-range}
+use Rattle.vb_virtio.specs.Tests.{is_in}
+use Rattle.std.specs.List.{range_with_len}
 use Rattle.std.{specs.Prelude.All, proofs.lemmas.Bool.{cases_lt, le-ltb, lt-ltb, or_left, or_right}}
 use Rattle.std.proofs.{lemmas.Grind.flat_map-append, Common.{nat_lt, add-one, append-nil, ◌-◌, ◌^◌}}
 use Rattle.std.proofs.lemmas.{Nat.pow_pos, List.{get_or-map, take_more, map-append, length-append}}
@@ -9,7 +11,7 @@ use Rattle.std.proofs.lemmas.List.FromFn.{take-map-range_with_len, length-range_
 use Rattle.std.proofs.Common.{◌≡◌, ◌∙◌, sym, ap, arith, refl, ℕ, zero, suc, ◌+◌, ◌<◌, ◌≤◌, Bool}
 use Rattle.std.proofs.Common.{true, false, cond, List, [], ◌∷◌, ◌++◌, length, take, map, Option}
 use Rattle.std.proofs.Common.{None, Some, Ok, replicate, is_none, slice_index, slice_index_or}
-use Rattle.vb_model.specs.{Tests.is_in, Pages.{Block, pages_of, pages_of_all}}
+use Rattle.vb_model.specs.Pages.{Block, pages_of, pages_of_all}
 use Rattle.vb_ring.{proofs.OwnerLaws.{claimed-at, released-at}, specs.Entries.{is_own, is_head}}
 use Rattle.vb_ring.proofs.Numbers.{numbers_yes, numbers_zero, length_all}
 use Rattle.vb_ring.specs.Ends.{DriverEnd, IsDriverEnd, is_unused, outstanding, free_descriptors}

@@ -6,9 +6,11 @@ use Rattle.std.proofs.lemmas.List.{length-replicate, length-map, get_or-map, get
 use Rattle.{std.proofs.lemmas.List.{get_or-replicate, same_lists}, vb_ring.specs.Layout.IsSize}
 use Rattle.std.proofs.lemmas.Bool.{cases_lt, lt-ltb, eq-eqb, ne_eqb, false_from_ne_true}
 use Rattle.std.proofs.lemmas.List.FromFn.{get_or-map-range_with_len, length-map-range_with_len}
-use Rattle.vb_model.specs.{Pages.{place_of, is_free, is_reporting, all_free}, Layout.reserved_pages}
+use Rattle.vb_virtio.specs.Layout.{reserved_pages}
+use Rattle.vb_virtio.specs.Tests.{is_in, pages_from, pages_where}
+use Rattle.vb_model.specs.Pages.{place_of, is_free, is_reporting, all_free}
 use Rattle.vb_model.specs.declared.places.Place.{TheVariants.Reserved, Place}
-use Rattle.vb_model.{specs.Tests.{is_in, pages_from, pages_where}, proofs.LifeSteps.place_of-reset}
+use Rattle.vb_model.proofs.LifeSteps.{place_of-reset}
 use Rattle.{vb_model.specs.Life.place_after_reset, vb_pages.proofs.ListsLemmas.times_in}
 use Rattle.{vb_pages.specs.FreePages.FreePages, vb_driver.proofs.Flags.fresh_flags}
 use Rattle.vb_driver.specs.State.{DriverState, IsQueue, naming, fresh_side, fresh_driver, IsDriver}

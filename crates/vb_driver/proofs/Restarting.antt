@@ -1,7 +1,9 @@
 -- A driver that begins a new life is as a new one.
 use Rattle.std.proofs.{Common.{◌≡◌, ◌∙◌, sym, ap, ℕ, List, length, map}, lemmas.List.length-map}
 use Rattle.vb_model.specs.{declared.places.Place.Place, Life.place_after_reset, Pages.all_free}
-use Rattle.vb_model.specs.{Pages.{is_free, is_reporting}, Tests.pages_where, Layout.reserved_pages}
+use Rattle.vb_virtio.specs.Tests.{pages_where}
+use Rattle.vb_virtio.specs.Layout.{reserved_pages}
+use Rattle.vb_model.specs.Pages.{is_free, is_reporting}
 use Rattle.vb_pages.specs.PageState.{PageState, page_count, cpu_count, reserved_count}
 use Rattle.{vb_pages.specs.PageState.new_page_state, vb_driver.specs.State.DriverState}
 use Rattle.vb_driver.specs.State.{IsDriver, page_state, fresh_driver, fresh_side, fresh_statistics}

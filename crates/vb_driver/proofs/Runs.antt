@@ -4,8 +4,10 @@ use Rattle.std.proofs.Common.{true, false, List, length, get_or, set, map, count
 use Rattle.std.proofs.lemmas.List.{get_or_default, length-map, length-set, same_lists}
 use Rattle.std.proofs.lemmas.List.FromFn.{get_or-map-range_with_len, length-range_with_len}
 use Rattle.std.{proofs.Math.Seq.map-set_same, specs.List.range_with_len}
-use Rattle.vb_model.{proofs.PageSteps.{is_in-range, outside-range}, specs.Pages.{all_free, placed}}
-use Rattle.vb_model.specs.{Pages.{place_of, is_lent, is_stranded}, Tests.is_in}
+use Rattle.vb_virtio.proofs.Ranges.{is_in-range, outside-range}
+use Rattle.vb_virtio.specs.Tests.{is_in}
+use Rattle.vb_model.specs.Pages.{all_free, placed}
+use Rattle.vb_model.specs.Pages.{place_of, is_lent, is_stranded}
 use Rattle.vb_model.specs.declared.places.Place.{Place, TheVariants.{Reserved, Free}}
 use Rattle.vb_driver.proofs.Placing.{length-marked, marked-get, marked_none, marked_more}
 use Rattle.vb_driver.{specs.Places.{number_of, is_at, IsTable}, proofs.Placing.range_push}
@@ -80,7 +82,7 @@ abbrev other : Place → Place
 other Reserved = Free
 other _ = Reserved
 
--- so many pages are at the place at least
+-- n pages are at the place at least
 pub run_some : {places : List Place} {start n : ℕ} {old : Place}
     → AreAt places start n old → n ≤ count_by (is_at old) places
 run_some {n} {old} are = grind (arith, run_counted n (other old) old are)

@@ -3,9 +3,10 @@
 use Rattle.std.proofs.Common.{◌≡◌, ◌≢◌, ◌∙◌, sym, ap, arith, refl, ℕ, zero, suc, ◌+◌, ◌<◌, ◌≤◌}
 use Rattle.std.proofs.Common.{Bool, true, false, cond, List, ◌∷◌, length, inl, inr, is_some, filter}
 use Rattle.std.{proofs.lemmas.Bool.{cases_eq, and_parts}, specs.List.{list_all, range_with_len}}
-use Rattle.vb_model.specs.Layout.{reserved_pages, ring_number, ring_page, is_start_page}
-use Rattle.vb_model.{specs.Layout.{buffers_page, buffer_page}, proofs.Shapes.{InRing, in_ring_page}}
-use Rattle.{vb_model.proofs.Shapes.{rings_apart, start_reserved}, vb_ram.specs.Pages.Pages}
+use Rattle.vb_virtio.specs.Layout.{reserved_pages, ring_number, ring_page, is_start_page}
+use Rattle.vb_virtio.specs.Layout.{buffers_page, buffer_page}
+use Rattle.vb_virtio.proofs.Shapes.{InRing, in_ring_page, rings_apart, start_reserved}
+use Rattle.vb_ram.specs.Pages.{Pages}
 use Rattle.{vb_ram.specs.Pages.{page_at, frame_at, SameBut}, vb_ring.proofs.Shapes.parts_in_ring}
 use Rattle.vb_ring.specs.{declared.layout.Layout.Layout, Layout.{IsSize, IsInside, IsBacked}}
 use Rattle.{vb_ring.specs.Layout.layout_of, vb_driver.specs.Answers.{HaveRingFrames, has_frames}}

@@ -3,8 +3,11 @@ use Rattle.std.proofs.Common.{◌≡◌, ◌∙◌, refl, arith, ℕ, ◌%◌, �
 use Rattle.std.{proofs.Common.{eq-eqb, zero-add, get_or}, specs.List.{list_all, range_with_len}}
 use Rattle.std.proofs.lemmas.{Bool.{and_parts, eqb-true}, List.Folds.list_any_at}
 use Rattle.std.proofs.lemmas.List.FromFn.{length-range_with_len, get_or-range_with_len}
-use Rattle.{vb_model.{specs.Tests.is_in, proofs.Tables.list_all-at}, vb_ring.specs.Layout.IsSize}
-use Rattle.{vb_model.specs.Limits.{is_config, is_power_of_two}, vb_ram.proofs.Limits.config_limits}
+use Rattle.vb_virtio.specs.Tests.{is_in}
+use Rattle.vb_virtio.proofs.Tables.{list_all-at}
+use Rattle.vb_virtio.specs.Limits.{is_config, is_power_of_two}
+use Rattle.vb_ring.specs.Layout.{IsSize}
+use Rattle.vb_ram.proofs.Limits.{config_limits}
 
 abbrev passes : ℕ → Bool
 passes q = not (is_power_of_two q) || eqb (65536 % q) 0

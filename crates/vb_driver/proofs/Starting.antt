@@ -1,10 +1,12 @@
 -- A device is asked for features, and its rings begin.
 use Rattle.{std.proofs.Common.{inl, inr, ◌≡◌, ◌≢◌, ◌∙◌}, vb_driver.specs.Calls.with_nothing_out}
 use Rattle.std.proofs.Common.{arith, ℕ, ◌<◌, true, false, None, Some, Result, is_err, OnOk}
-use Rattle.vb_model.specs.{Layout.{is_ring_page, ring_number, ring_page}, Status.negotiate_refusal}
-use Rattle.vb_model.specs.{Status.status_refusal, Life.{feature_refusal, accepted_before}}
-use Rattle.vb_model.{specs.declared.replies.Refusal.Refusal, proofs.Shapes.{InRing, in_ring_page}}
-use Rattle.{vb_model.proofs.Shapes.ring_no_buffer, vb_ram.specs.Pages.{Pages, byte_at, SameIn}}
+use Rattle.vb_virtio.specs.Layout.{is_ring_page, ring_number, ring_page}
+use Rattle.vb_virtio.specs.Status.{negotiate_refusal, status_refusal, feature_refusal}
+use Rattle.vb_virtio.specs.declared.refusals.Refusal.{Refusal}
+use Rattle.vb_virtio.proofs.Shapes.{InRing, in_ring_page, ring_no_buffer}
+use Rattle.vb_model.specs.Life.{accepted_before}
+use Rattle.vb_ram.specs.Pages.{Pages, byte_at, SameIn}
 use Rattle.{vb_ram.proofs.FieldLaws.same_page, vb_ring.specs.{Layout.IsSize, Ends.DriverEnd}}
 use Rattle.vb_ring.proofs.{Shapes.{parts_in_ring, fits_at}, MeaningLaws.{fresh_shows, fresh_tracks}}
 use Rattle.vb_status.specs.{declared.bits.StatusFault.StatusFault, Answers.answered_refusal}

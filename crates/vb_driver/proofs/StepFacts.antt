@@ -6,12 +6,15 @@ use Rattle.vb_pages.specs.PageState.{AllocatesBlock, TakesFree}
 use Rattle.vb_pages.specs.declared.fault.PageFault.TheVariants.{NoPages as NoFreeBlock}
 use Rattle.vb_model.specs.declared.places.Place.TheVariants.{Reserved, Free, Used, Giving, Lent}
 use Rattle.vb_model.specs.declared.places.Place.TheVariants.{Taking, Stranded, Reporting}
-use Rattle.vb_model.{specs.declared.replies.Refusal.Refusal, specs.FirstRefusal.refusal_in}
-use Rattle.vb_model.specs.declared.replies.Refusal.TheVariants.{NoFeature, NoFrame, VersionMissing}
-use Rattle.vb_model.specs.declared.replies.Refusal.TheVariants.{NoPages, NoQueue, NotHeld, Nothing}
-use Rattle.vb_model.specs.declared.replies.Refusal.TheVariants.{RingBroken, AlreadyUp, BadCpu}
-use Rattle.vb_model.specs.Driver.{AllDistinct}
-use Rattle.vb_model.{specs.Pages.{block_at, is_free, place_of, placed}, specs.Layout.is_ring_page}
+use Rattle.vb_virtio.specs.declared.refusals.Refusal.{Refusal}
+use Rattle.vb_virtio.specs.FirstRefusal.{refusal_in}
+use Rattle.vb_virtio.specs.declared.refusals.Refusal.TheVariants.{NoFeature, NoFrame}
+use Rattle.vb_virtio.specs.declared.refusals.Refusal.TheVariants.{VersionMissing, NoPages, NoQueue}
+use Rattle.vb_virtio.specs.declared.refusals.Refusal.TheVariants.{NotHeld, Nothing, RingBroken}
+use Rattle.vb_virtio.specs.declared.refusals.Refusal.TheVariants.{AlreadyUp, BadCpu}
+use Rattle.vb_virtio.specs.Tests.{AllDistinct}
+use Rattle.vb_virtio.specs.Layout.{is_ring_page}
+use Rattle.vb_model.specs.Pages.{block_at, is_free, place_of, placed}
 use Rattle.vb_ring.{specs.Ends.{after_take, used_answer}, specs.Meaning.{Shows, Tracks}}
 use Rattle.vb_ring.{specs.Calls.TakesUsedBy, specs.Numbers.numbers, specs.Layout.layout_of}
 use Rattle.vb_ram.{specs.Pages.Pages, specs.Part.{Part, no_part}}
@@ -55,7 +58,7 @@ frees : (d2 : DriverState) → FreesBy (record busy { held = block_at 2 0 ∷ []
     }
 frees d2 by = by.state
 
--- ---- requests: so many pages, of these places, and the device's part stays
+-- ---- requests: n pages, of these places, and the device's part stays
 
 offers : (m1 m2 : Pages) (p2 : Part) (d2 : DriverState) (posted : Posted)
     → InflatesBy m1 m2 (record up { target = 4 }) p2 busy d2 2 (Ok posted)

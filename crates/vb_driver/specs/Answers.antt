@@ -3,21 +3,21 @@
 use Rattle.std.specs.Prelude.{◌≡◌, ℕ, ◌≤◌, Bool, true, not, ◌==◌, List, [], ◌∷◌, ◌++◌, length}
 use Rattle.std.specs.Prelude.{nat_le, false, is_some, is_err, IsSome}
 use Rattle.std.specs.List.{list_all}
-use Rattle.vb_model.specs.declared.replies.Refusal.TheVariants.{RingBroken, AlreadyUp, NoFrame}
-use Rattle.vb_model.specs.declared.replies.Refusal.TheVariants.{NoPages, NotHeld}
-use Rattle.vb_model.specs.declared.limits.TheConstants.{MIN_GUEST_PAGES}
-use Rattle.vb_model.specs.Layout.{is_start_page, start_pages}
+use Rattle.vb_virtio.specs.declared.refusals.Refusal.TheVariants.{RingBroken, AlreadyUp, NoFrame}
+use Rattle.vb_virtio.specs.declared.refusals.Refusal.TheVariants.{NoPages, NotHeld}
+use Rattle.vb_virtio.specs.declared.limits.TheConstants.{MIN_GUEST_PAGES}
+use Rattle.vb_virtio.specs.Layout.{is_start_page, start_pages}
+use Rattle.vb_virtio.specs.Features.{stats_vq, deflate_on_oom, reporting}
+use Rattle.vb_virtio.specs.FirstRefusal.{Cause, ◌⇒◌}
+use Rattle.vb_virtio.specs.Status.{feature_causes}
 pub use Rattle.vb_model.specs.Pages.{block_at}
 use Rattle.vb_model.specs.Pages.{Block, reported, maximal_free_blocks}
-use Rattle.vb_model.specs.Guest.{stats_vq, deflate_on_oom, reporting}
-pub use Rattle.vb_model.specs.FirstRefusal.{refusal_in}
-use Rattle.vb_model.specs.FirstRefusal.{Cause, ◌⇒◌}
-pub use Rattle.vb_model.specs.Tables.{is_up}
+pub use Rattle.vb_virtio.specs.FirstRefusal.{refusal_in}
+pub use Rattle.vb_virtio.specs.Status.{is_up}
 use Rattle.vb_model.specs.Tables.{pages_to_inflate, pages_to_deflate, pages_when_short}
 use Rattle.vb_model.specs.Tables.{Negotiated, inflate_causes as causes_of_inflate}
 use Rattle.vb_model.specs.Tables.{driver_causes, request_causes, reap_causes as causes_of_reap}
 use Rattle.vb_model.specs.Tables.{block_causes, no_block_free, is_not_held}
-use Rattle.vb_model.specs.Life.{feature_causes}
 use Rattle.vb_ram.specs.Pages.{Pages, frame_at}
 use Rattle.vb_ram.specs.Part.{Part}
 use Rattle.vb_ring.specs.Ends.{DriverEnd, outstanding, used_answer}

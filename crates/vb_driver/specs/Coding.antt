@@ -1,13 +1,12 @@
--- How a request stands in guest memory: VIRTIO 1.1, 5.5.6; where the buffers stand is the
--- profile's.
+-- How a request is in guest memory: VIRTIO 1.1, 5.5.6; where the buffers are is the profile's.
 use Rattle.std.specs.Prelude.{◌≡◌, ◌≢◌, ℕ, ◌+◌, ◌*◌, ◌<◌, Bool, true, false, List, length}
 use Rattle.std.specs.Prelude.{slice_index}
 use Rattle.std.specs.List.{range_with_len}
-use Rattle.vb_model.specs.Limits.{page_size, max_outstanding}
-use Rattle.vb_model.specs.Layout.{buffer_page, buffer_offset}
-use Rattle.vb_model.specs.declared.layout.TheConstants.{REQUEST_BUFFER_SIZE}
-use Rattle.vb_model.specs.declared.layout.TheConstants.{STATISTICS_PAGE, STATISTIC_SIZE}
-use Rattle.vb_model.specs.declared.layout.TheConstants.{FREE_MEMORY_TAG, TOTAL_MEMORY_TAG}
+use Rattle.vb_virtio.specs.Limits.{page_size, max_outstanding}
+use Rattle.vb_virtio.specs.Layout.{buffer_page, buffer_offset}
+use Rattle.vb_virtio.specs.declared.layout.TheConstants.{REQUEST_BUFFER_SIZE, STATISTICS_PAGE}
+use Rattle.vb_virtio.specs.declared.layout.TheConstants.{STATISTIC_SIZE, FREE_MEMORY_TAG}
+use Rattle.vb_virtio.specs.declared.layout.TheConstants.{TOTAL_MEMORY_TAG}
 use Rattle.vb_model.specs.Pages.{Block}
 use Rattle.vb_model.specs.Requests.{Figures}
 use Rattle.vb_ram.specs.Pages.{Pages, field, byte_at, page_at, frame_at, contents_at, SameIn}
@@ -27,7 +26,7 @@ buffer_of base h n =
       next = 0;
     }
 
--- these page numbers stand at the offset of the page
+-- these page numbers are at the offset of the page
 pub record Names (mem : Pages) (p o : ℕ) (pages : List ℕ) : Type 0 where
   pub each : (k : ℕ) → k < length pages → field 4 mem p (o + 4 * k) ≡ slice_index pages k
 
@@ -36,7 +35,7 @@ pub record IsCoded (mem : Pages) (table base h : ℕ) (pages : List ℕ) : Type 
   pub descriptor : descriptor_at mem table h ≡ buffer_of base h (length pages)
   pub names : Names mem (buffer_page base h) (buffer_offset h) pages
 
--- a statistic stands at an offset of the buffer's page: its tag, and then its value (VIRTIO 1.1,
+-- a statistic is at an offset of the buffer's page: its tag, and then its value (VIRTIO 1.1,
 -- 5.5.6.3)
 pub record IsStatistic (mem : Pages) (offset tag value : ℕ) : Type 0 where
   pub tagged : field 2 mem STATISTICS_PAGE offset ≡ tag

@@ -1,20 +1,21 @@
 -- How a driver initialises its device, resets it, and what it keeps then (VIRTIO 1.1, 2.1 and
 -- 3.1.1).
 use Rattle.std.specs.Prelude.{◌≡◌, ℕ, [], map, Result, IfErr, OnOk, Bool, true, false}
-use Rattle.vb_model.specs.declared.negotiation.TheConstants.{FAILED_STATUS, READY_STATUS}
-use Rattle.vb_model.specs.declared.replies.Refusal.{Refusal}
-use Rattle.vb_model.specs.declared.replies.Refusal.TheVariants.{AlreadyUp, NoFrame}
-use Rattle.vb_model.specs.Tests.{pages_where}
+use Rattle.vb_virtio.specs.declared.negotiation.TheConstants.{FAILED_STATUS, READY_STATUS}
+use Rattle.vb_virtio.specs.declared.refusals.Refusal.{Refusal}
+use Rattle.vb_virtio.specs.declared.refusals.Refusal.TheVariants.{AlreadyUp, NoFrame}
+use Rattle.vb_virtio.specs.Tests.{pages_where}
+use Rattle.vb_virtio.specs.Features.{stats_vq}
+use Rattle.vb_virtio.specs.Status.{feature_refusal}
+use Rattle.vb_virtio.specs.FirstRefusal.{first_refusal}
+use Rattle.vb_virtio.specs.Layout.{is_ring_page}
 use Rattle.vb_model.specs.Pages.{is_reporting}
-use Rattle.vb_model.specs.Guest.{stats_vq}
-use Rattle.vb_model.specs.Life.{place_after_reset, feature_refusal, accepted_before}
-use Rattle.vb_model.specs.Refusals.{first_refusal}
+use Rattle.vb_model.specs.Life.{place_after_reset, accepted_before}
 use Rattle.vb_ram.specs.Pages.{Pages}
 use Rattle.vb_ram.specs.Part.{Part}
 use Rattle.vb_status.specs.After.{part_after_reset}
 use Rattle.vb_ring.specs.Ends.{DriverEnd}
 use Rattle.vb_ring.specs.Meaning.{Shows, Tracks}
-use Rattle.vb_model.specs.Layout.{is_ring_page}
 use Rattle.vb_driver.specs.Coding.{AreZeroed}
 use Rattle.vb_driver.specs.State.{DriverState, IsDriver, fresh_side, fresh_statistics, fresh_report}
 use Rattle.vb_driver.specs.State.{figures_of}

@@ -2,10 +2,10 @@
 -- 6).
 use Rattle.std.specs.Prelude.{◌≡◌, ℕ, Result, IfOk, OnErr, OnOk, IsTrue}
 use Rattle.vb_model.specs.declared.places.Place.TheVariants.{Free, Used}
-use Rattle.vb_model.specs.declared.replies.Refusal.{Refusal}
+use Rattle.vb_virtio.specs.declared.refusals.Refusal.{Refusal}
+use Rattle.vb_virtio.specs.FirstRefusal.{first_refusal}
 use Rattle.vb_model.specs.Pages.{Block, placed, pages_of, is_wholly_free}
 use Rattle.vb_model.specs.Driver.{with_block, without_block}
-use Rattle.vb_model.specs.Refusals.{first_refusal}
 use Rattle.vb_pages.specs.FreePages.{FreePages}
 use Rattle.vb_pages.specs.PageState.{freed}
 use Rattle.vb_driver.specs.State.{DriverState, IsDriver, page_state}

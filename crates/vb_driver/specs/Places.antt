@@ -2,12 +2,12 @@
 use Rattle.std.specs.Prelude.{true, false, ◌≡◌, ℕ, nat_lt, if◌then◌else◌}
 use Rattle.std.specs.Prelude.{Bool, List, length, ◌+◌, ◌*◌, ◌<◌, ◌≤◌, slice_index, count_by, map}
 use Rattle.std.specs.Int.{div_ceil}
-pub use Rattle.vb_model.specs.Tests.{marked}
+pub use Rattle.vb_virtio.specs.Tests.{marked}
 use Rattle.vb_model.specs.Pages.{is_free, is_used, is_giving, is_lent, is_taking, is_stranded}
 use Rattle.vb_model.specs.Pages.{is_reporting, place_of}
-use Rattle.vb_model.specs.Tests.{has_bit}
+use Rattle.vb_virtio.specs.Tests.{has_bit}
+use Rattle.vb_virtio.specs.declared.limits.TheConstants.{MAX_GUEST_PAGES}
 use Rattle.vb_model.specs.declared.places.Place.{Place}
-use Rattle.vb_model.specs.declared.limits.TheConstants.{MAX_GUEST_PAGES}
 use Rattle.vb_bits.specs.declared.word.TheConstants.{WORD_BITS}
 use Rattle.vb_model.specs.declared.places.Place.TheVariants.{Reserved, Free, Used, Giving, Lent}
 use Rattle.vb_model.specs.declared.places.Place.TheVariants.{Taking, Stranded, Reporting}
@@ -38,7 +38,7 @@ is_at Taking = is_taking
 is_at Stranded = is_stranded
 is_at Reporting = is_reporting
 
--- where a page is as the guest is plugged in, of which so many are reserved
+-- where a page is as the guest is plugged in, of which n are reserved
 abbrev pub first_place : ℕ → ℕ → Place
 first_place reserved page = if nat_lt page reserved then Reserved else Free
 
@@ -60,7 +60,7 @@ pub record IsTable (counts : List ℕ) (lent stranded : List Bool) (places : Lis
   pub small : length places ≤ MAX_GUEST_PAGES
 
 -- the lent pages as bits: bit b of word w is 1 exactly if page 64 w + b is lent; the words are the
--- fewest that so many pages need
+-- fewest that n pages need
 pub record AreLentBits (places : List Place) (words : List ℕ) : Type 0 where
   pub fewest : length words ≡ div_ceil (length places) WORD_BITS
   pub tells : (w b : ℕ) → b < WORD_BITS

@@ -3,14 +3,15 @@ use Rattle.std.specs.Prelude.{◌≡◌, ℕ, ◌<◌, ◌==◌, List, [], lengt
 use Rattle.std.specs.Prelude.{None, Result, Ok, IfOk, IfErr, OnErr, OnOk, MatchOption, slice_set}
 use Rattle.std.specs.Prelude.{bit_or}
 use Rattle.vb_model.specs.declared.places.Place.{Place}
-use Rattle.vb_model.specs.declared.layout.TheConstants.{INFLATE_QUEUE, DEFLATE_QUEUE}
-use Rattle.vb_model.specs.declared.replies.Refusal.{Refusal}
-use Rattle.vb_model.specs.declared.replies.Refusal.TheVariants.{RingBroken}
+use Rattle.vb_virtio.specs.declared.layout.TheConstants.{INFLATE_QUEUE, DEFLATE_QUEUE}
+use Rattle.vb_virtio.specs.declared.refusals.Refusal.{Refusal}
+use Rattle.vb_virtio.specs.declared.refusals.Refusal.TheVariants.{RingBroken}
+use Rattle.vb_virtio.specs.Queues.{Inflating, Deflating, Reporting_free}
+use Rattle.vb_virtio.specs.Limits.{max_outstanding}
+use Rattle.vb_virtio.specs.Status.{failed}
+use Rattle.vb_virtio.specs.FirstRefusal.{first_refusal}
 use Rattle.vb_model.specs.Pages.{pages_of_all}
-use Rattle.vb_model.specs.Requests.{Inflating, Deflating, Reporting_free, places_reaped}
-use Rattle.vb_model.specs.Limits.{max_outstanding}
-use Rattle.vb_model.specs.Status.{failed}
-use Rattle.vb_model.specs.Refusals.{first_refusal}
+use Rattle.vb_model.specs.Requests.{places_reaped}
 use Rattle.vb_ram.specs.Pages.{Pages}
 use Rattle.vb_ram.specs.Part.{Part}
 use Rattle.vb_pages.specs.FreePages.{FreePages}
@@ -84,7 +85,7 @@ pub record Reaps (p1 p2 : Part) (d1 d2 : DriverState) (queue : ℕ) (reaped : Re
       (without_request queue reaped.head (moved_on queue (pages_sent queue reaped.head d1) d1))
   pub part : p2 ≡ record p1 { actual = d2.actual }
 
--- What the answer says of the used request that stands next.
+-- What the answer says of the used request that is next.
 abbrev pub next_of : Option Reaped → Option ℕ
 next_of None = None
 next_of (Some reaped) = Some reaped.head

@@ -5,17 +5,16 @@ use Rattle.std.specs.Prelude.{length, sum_by, count_by, replicate, slice_index_o
 use Rattle.std.specs.Prelude.{if◌then◌else◌}
 use Rattle.vb_model.specs.declared.places.Place.{Place}
 use Rattle.vb_model.specs.declared.places.Place.TheVariants.{Reserved, Used}
-use Rattle.vb_model.specs.declared.layout.TheConstants.{STATISTICS_QUEUE, REPORT_QUEUE}
-use Rattle.vb_model.specs.Limits.{max_outstanding, max_request_pages, max_order, page_size}
-use Rattle.vb_model.specs.declared.limits.TheConstants.{MIN_GUEST_PAGES, MAX_GUEST_PAGES}
+use Rattle.vb_virtio.specs.declared.layout.TheConstants.{STATISTICS_QUEUE, REPORT_QUEUE}
+use Rattle.vb_virtio.specs.Limits.{max_outstanding, max_request_pages, max_order, page_size}
+use Rattle.vb_virtio.specs.declared.limits.TheConstants.{MIN_GUEST_PAGES, MAX_GUEST_PAGES}
+use Rattle.vb_virtio.specs.Features.{must_tell_host}
+use Rattle.vb_virtio.specs.Layout.{reserved_pages, ring_page}
+use Rattle.vb_virtio.specs.Tests.{one_if, times}
 use Rattle.vb_model.specs.Pages.{Block, place_of, all_free, is_free, is_giving, is_lent, is_taking}
 use Rattle.vb_model.specs.Pages.{is_stranded, is_reporting, is_aligned, pages_of_all}
 use Rattle.vb_model.specs.Requests.{Figures}
 use Rattle.vb_model.specs.Tables.{most_requests}
-use Rattle.vb_model.specs.Guest.{must_tell_host}
-use Rattle.vb_model.specs.Layout.{reserved_pages, ring_page}
-use Rattle.vb_model.specs.Tests.{one_if}
-use Rattle.vb_model.specs.Orderly.{times}
 use Rattle.vb_ring.specs.Layout.{IsSize, layout_of}
 use Rattle.vb_ring.specs.Entries.{is_head}
 use Rattle.vb_ring.specs.Ends.{DriverEnd, fresh_end, is_unused}
@@ -88,7 +87,7 @@ sent_by side head = slice_index_or side.sent head []
 abbrev pub pages_named : RequestSide → ℕ
 pages_named side = sum_by (λ pages. length pages) side.sent
 
--- how many pages count as given to the host: those lent, and those that are asked back
+-- how many pages count as given to the host: those lent, and those that are requested back
 abbrev pub given_away : DriverState → ℕ
 given_away d = lent_count d + pages_named d.deflate
 
@@ -150,13 +149,13 @@ pub record AreRequests (side : RequestSide) : Type 0 where
   pub unsent : (i : ℕ) → is_head side.ring.owner i ≡ false → sent_by side i ≡ []
   pub short : (i : ℕ) → length (sent_by side i) ≤ max_request_pages
 
--- The queue of this number, with so many descriptors.
+-- The queue of this number, with n descriptors.
 pub record IsQueue (side : RequestSide) (queue descriptors : ℕ) : Type 0 where
   pub requests : AreRequests side
   pub number : side.number ≡ queue
   pub size : side.ring.size ≡ descriptors
 
--- The one statistics buffer stands at descriptor 0, and the ring in its pages.
+-- The one statistics buffer is at descriptor 0, and the ring in its pages.
 pub record IsStatisticsQueue (ring : DriverEnd) (descriptors : ℕ) : Type 0 where
   pub single : (i : ℕ) → is_unused ring.owner i ≡ false → is_head ring.owner i ≡ true
   pub first : (i : ℕ) → is_head ring.owner i ≡ true → i ≡ 0
@@ -189,7 +188,7 @@ pub record IsDriver (d : DriverState) : Type 0 where
   pub statistics : IsStatisticsQueue d.statistics d.queue_size
   pub report : IsReportQueue d.report d.queue_size
   pub giving : (page : ℕ) → naming page d.inflate.sent ≤ one_if (is_giving (place_of d.places page))
-  -- where the host is told first; else pages that are asked back are free at once
+  -- where the host is told first; else pages that are requested back are free at once
   pub taking : tells_host d ≡ true → (page : ℕ) → naming page d.deflate.sent ≤ one_if
       (is_taking (place_of d.places page))
   pub reporting : (page : ℕ)

@@ -1,11 +1,11 @@
 -- What a driver does with the statistics buffer (VIRTIO 1.1, 5.5.6.3).
 use Rattle.std.specs.Prelude.{◌≡◌, ◌≢◌, ℕ, ◌<◌, ◌∷◌, Some, None, Result, Ok, IfOk, IfErr, MatchBool}
 use Rattle.std.specs.Prelude.{Bool, ◌*◌}
-use Rattle.vb_model.specs.declared.layout.TheConstants.{STATISTICS_PAGE, STATISTIC_SIZE}
-use Rattle.vb_model.specs.declared.replies.Refusal.{Refusal}
+use Rattle.vb_virtio.specs.declared.layout.TheConstants.{STATISTICS_PAGE, STATISTIC_SIZE}
+use Rattle.vb_virtio.specs.declared.refusals.Refusal.{Refusal}
+use Rattle.vb_virtio.specs.Limits.{page_size}
+use Rattle.vb_virtio.specs.FirstRefusal.{first_refusal}
 use Rattle.vb_model.specs.Requests.{Figures}
-use Rattle.vb_model.specs.Limits.{page_size}
-use Rattle.vb_model.specs.Refusals.{first_refusal}
 use Rattle.vb_ram.specs.Pages.{Pages, SameIn}
 use Rattle.vb_ram.specs.Part.{Part}
 use Rattle.vb_chain.specs.Table.{descriptor_at}

@@ -4,16 +4,17 @@ ghost use Rattle.std.specs.Prelude.{◌≡◌, ◌<◌, ◌≤◌, ◌∷◌, []
 ghost use Rattle.std.specs.Prelude.{OnOk, OnErr, IsTrue, length, not, nat_lt, nat_le};
 ghost use Rattle.std.specs.Prelude.{count_by, slice_set, if◌then◌else◌, map, All, List};
 ghost use Rattle.std.specs.List.{list_all};
-ghost use Rattle.vb_model.specs.Tests.{is_in, pages_where};
+ghost use Rattle.vb_virtio.specs.Tests.{is_in, pages_where};
 ghost use Rattle.vb_model.specs.declared.places.Place.{Place};
 ghost use Rattle.vb_model.specs.Pages.{pages_of, pages_of_all, place_of, is_free, is_reporting};
 ghost use Rattle.vb_model.specs.Pages.{reported, maximal_free_blocks};
-ghost use Rattle.vb_model.specs.Driver.{AllDistinct, with_block, without_block};
-ghost use Rattle.vb_model.specs.Limits.{max_order, max_outstanding, max_request_pages};
-ghost use Rattle.vb_model.specs.Orderly.{times};
-ghost use Rattle.vb_model.specs.Refusals.{◌⇒◌, first_refusal};
-ghost use Rattle.vb_model.specs.declared.replies.Refusal.TheVariants.{BadOrder, BadCpu, NoPages};
-ghost use Rattle.vb_model.specs.declared.replies.Refusal.TheVariants.{NotHeld};
+ghost use Rattle.vb_virtio.specs.Tests.{AllDistinct};
+ghost use Rattle.vb_model.specs.Driver.{with_block, without_block};
+ghost use Rattle.vb_virtio.specs.Limits.{max_order, max_outstanding, max_request_pages};
+ghost use Rattle.vb_virtio.specs.Tests.{times};
+ghost use Rattle.vb_virtio.specs.FirstRefusal.{◌⇒◌, first_refusal};
+ghost use Rattle.vb_virtio.specs.declared.refusals.Refusal.TheVariants.{BadOrder, BadCpu, NoPages};
+ghost use Rattle.vb_virtio.specs.declared.refusals.Refusal.TheVariants.{NotHeld};
 ghost use Rattle.vb_pages.specs.PageState.{IsGuestSize, cpu_count, page_count, is_held_block};
 ghost use Rattle.vb_pages.specs.PageState.{new_page_state, reserved_count};
 ghost use Rattle.vb_pages.specs.PageState.{freed, with_free_block};
@@ -30,12 +31,13 @@ use crate::places::{PlaceTable, is_reporting};
 use crate::queue::RequestPages;
 use std::alloc::{AllocError, Global};
 use std::marker::Model;
-use vb_model::{Place, Refusal};
+use vb_model::Place;
 use vb_pages::{FreeBlock, PageFault, Pages};
 use vb_report::{Blocks, reports_name_free_places};
+use vb_virtio::Refusal;
 
 /// The page areas of a guest, with the lists of the processors and the blocks that allocations
-/// hold. What the driver needs beside them is which pages are free, wherever they stand.
+/// hold. What the driver needs beside them is which pages are free, wherever they are.
 #[derive(Drop)]
 pub(crate) struct Allocator {
     /// The allocator.
@@ -63,7 +65,7 @@ fn refusal_of(fault: PageFault) -> Refusal
 }
 
 impl Allocator {
-    /// The areas of a guest as it is plugged in, of whose pages so many are reserved.
+    /// The areas of a guest as it is plugged in, of whose pages the first `reserved` are reserved.
     pub(crate) fn new(
         alloc: Global,
         pages: u32,
@@ -133,8 +135,8 @@ impl Allocator {
         }
     }
 
-    /// Takes single free pages, so many, and puts them in place of those that `taken` has; the
-    /// lists of all processors are drained first.
+    /// Takes `count` single free pages, and puts them in place of those that `taken` has; the lists
+    /// of all processors are drained first.
     pub(crate) fn take_free(&mut self, count: u32, taken: &mut RequestPages)
         requires few { count ≤ max_request_pages }
         requires free { count ≤ count_by (λ f. f) (flags_of self.old.free) }
@@ -164,7 +166,7 @@ impl Allocator {
         self.pages.give_free(page);
     }
 
-    /// Gives these pages back, which were taken and of which none stands twice.
+    /// Gives these pages back, which were taken and of which none is twice.
     pub(crate) fn give_all(&mut self, pages: &[u32])
         requires unreserved { (page : ℕ) → is_in page pages.now ≡ true
             → reserved_count self.old ≤ page }
@@ -185,7 +187,7 @@ impl Allocator {
     }
 
     /// Takes the blocks of a report: the first maximal free ones of order 4 or more from a page on,
-    /// at most so many. The lists of all processors are drained first, where there is no such block
+    /// at most `room`. The lists of all processors are drained first, where there is no such block
     /// too.
     pub(crate) fn choose(&mut self, from: u32, room: u32) -> Blocks
         requires { room ≤ max_outstanding }

@@ -1,8 +1,8 @@
 //! The balloon driver, and the pages of the guest's own.
 
 ghost use Rattle.std.specs.Prelude.{◌≡◌, ◌<◌, ◌≤◌, true, length, IfOk};
-ghost use Rattle.vb_model.specs.declared.limits.TheConstants.{MAX_GUEST_PAGES};
-ghost use Rattle.vb_model.specs.Limits.{is_config};
+ghost use Rattle.vb_virtio.specs.declared.limits.TheConstants.{MAX_GUEST_PAGES};
+ghost use Rattle.vb_virtio.specs.Limits.{is_config};
 ghost use Rattle.vb_model.specs.Pages.{all_free, place_of, is_used};
 ghost use Rattle.vb_pages.specs.PageState.{IsGuestSize, new_page_state};
 ghost use Rattle.vb_ring.specs.Layout.{IsSize};
@@ -19,10 +19,11 @@ use arrayvec::ArrayVec;
 use bitflags::Flags;
 use std::alloc::{AllocError, Global};
 use std::marker::Model;
-use vb_model::layout::{DEFLATE_QUEUE, INFLATE_QUEUE};
-use vb_model::{Place, PlaceCounts, Refusal};
+use vb_model::{Place, PlaceCounts};
 use vb_ram::{Config, Shape};
 use vb_status::Features;
+use vb_virtio::Refusal;
+use vb_virtio::layout::{DEFLATE_QUEUE, INFLATE_QUEUE};
 
 /// The balloon driver of a guest (VIRTIO 1.1, 5.5.6).
 #[derive(Drop)]
@@ -47,7 +48,7 @@ pub struct Driver {
     pub(crate) actual: u32,
     /// Room for the pages of the request that is posted or taken back.
     pub(crate) named: RequestPages,
-    /// Room for the free pages that an inflate request names behind the stranded ones.
+    /// Room for the free pages that an inflate request names after the stranded ones.
     pub(crate) others: RequestPages,
 }
 
@@ -88,8 +89,8 @@ impl Model for Driver {
     }) };
 }
 
-/// Where the pages of a guest are as it is plugged in, and its page areas; so many pages are
-/// reserved.
+/// Where the pages of a guest are as it is plugged in, and its page areas; the first `reserved`
+/// pages are reserved.
 fn new_pages(
     alloc: Global,
     pages: u32,
@@ -145,7 +146,7 @@ impl Driver {
         })
     }
 
-    /// Where the guest's rings and buffers stand.
+    /// Where the guest's rings and buffers are.
     pub fn shape(&self) -> Shape
         ensures { result ≡ record { queue_size = self.now.queue_size } }
     {
@@ -183,9 +184,9 @@ impl Driver {
         }
     }
 
-    /// How many pages the driver told the device last: the lent ones, and those that requests ask
-    /// back (`actual`, VIRTIO 1.1, 5.5.4); none before the first request came back. While requests
-    /// come and go it is their number at any time.
+    /// How many pages the driver told the device last: the lent ones, and those that deflate
+    /// requests name (`actual`, VIRTIO 1.1, 5.5.4); none before the first request came back. While
+    /// requests come and go it is their number at any time.
     pub fn actual(&self) -> u32
         ensures { result ≡ self.now.actual }
     {
@@ -201,7 +202,7 @@ impl Driver {
         self.places.lent_bits()
     }
 
-    /// How many pages count as given to the host: those lent, and those that requests ask back.
+    /// How many pages count as given to the host: those lent, and those that deflate requests name.
     pub(crate) fn given_away(&self) -> u32
         ensures { result ≡ given_away self.now }
     {

@@ -1,9 +1,9 @@
 //! A guest's driver starts, and starts over (VIRTIO 1.1, 2.1 and 3.1.1).
 
 ghost use Rattle.std.specs.Prelude.{◌≡◌, ◌<◌, ℕ, true};
-ghost use Rattle.vb_model.specs.Limits.{page_size};
-ghost use Rattle.vb_model.specs.Layout.{is_ring_page};
-ghost use Rattle.vb_model.specs.Guest.{stats_vq};
+ghost use Rattle.vb_virtio.specs.Limits.{page_size};
+ghost use Rattle.vb_virtio.specs.Layout.{is_ring_page};
+ghost use Rattle.vb_virtio.specs.Features.{stats_vq};
 ghost use Rattle.vb_ram.specs.Pages.{byte_at};
 ghost use Rattle.vb_status.specs.After.{part_after_reset, with_new_queues};
 ghost use Rattle.vb_status.specs.Answers.{refusal_of_fault};
@@ -17,9 +17,9 @@ use crate::Driver;
 use crate::memory::{all_backed, zero_rings};
 use crate::reaping::give_up;
 use bitflags::Flags;
-use vb_model::Refusal;
 use vb_ram::GuestBytes;
 use vb_status::{Features, Port, Status, StatusFault};
+use vb_virtio::Refusal;
 
 /// A refusal in the words of the driver's calls.
 fn refusal_of(fault: StatusFault) -> Refusal

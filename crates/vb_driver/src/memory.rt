@@ -2,8 +2,8 @@
 
 ghost use Rattle.std.specs.Prelude.{◌≡◌, ℕ, ◌+◌, ◌*◌, ◌<◌, IsSome, length};
 ghost use Rattle.std.specs.Prelude.{true};
-ghost use Rattle.vb_model.specs.Limits.{page_size};
-ghost use Rattle.vb_model.specs.Layout.{is_ring_page};
+ghost use Rattle.vb_virtio.specs.Limits.{page_size};
+ghost use Rattle.vb_virtio.specs.Layout.{is_ring_page};
 ghost use Rattle.vb_ram.specs.Pages.{byte_at, frame_at, Covers, SameBut};
 ghost use Rattle.vb_driver.specs.Coding.{Names, AreZeroed};
 ghost use Rattle.vb_driver.specs.Answers.{has_frames, HaveRingFrames, IsLargeEnough};

@@ -10,7 +10,7 @@ ghost use Rattle.vb_bits.specs.Sets.{has};
 ghost use Rattle.vb_model.specs.Pages.{all_free, place_of};
 ghost use Rattle.vb_model.specs.declared.places.Place.TheVariants.{Taking};
 ghost use Rattle.vb_model.specs.Pages.{is_lent, is_stranded, is_reporting};
-ghost use Rattle.vb_model.specs.declared.limits.TheConstants.{MAX_GUEST_PAGES};
+ghost use Rattle.vb_virtio.specs.declared.limits.TheConstants.{MAX_GUEST_PAGES};
 ghost use Rattle.vb_model.specs.Life.{place_after_reset};
 ghost use Rattle.vb_driver.specs.Places.{number_of, is_at};
 
@@ -152,7 +152,7 @@ impl PlaceTable {
         );
     }
 
-    /// The table of a guest of so many pages as it is plugged in: so many are reserved, and all
+    /// The table of a guest of `pages` pages as it is plugged in: `reserved` are reserved, and all
     /// others are free.
     pub(crate) fn new(alloc: Global, pages: u32, reserved: u32) -> Result<Self, AllocError>
         requires some { 0 < pages }
@@ -172,8 +172,8 @@ impl PlaceTable {
         Ok(table)
     }
 
-    /// Moves each page to the place that it has where the guest is plugged in, of whose pages so
-    /// many are reserved.
+    /// Moves each page to the place that it has where the guest is plugged in, of whose pages
+    /// `reserved` are reserved.
     pub(crate) fn renew(&mut self, reserved: u32)
         ensures { self.new ≡ all_free reserved (length self.old) }
     {

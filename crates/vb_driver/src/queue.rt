@@ -3,8 +3,8 @@
 ghost use Rattle.std.specs.Prelude.{◌≡◌, ◌<◌, ◌≤◌, ℕ, [], Ok, Err, None, Some, IfOk, IfErr};
 ghost use Rattle.std.specs.Prelude.{MatchOption, OnErr, length, min};
 ghost use Rattle.std.specs.Prelude.{replicate, sum_by, slice_index_or, ◌*◌, ◌+◌, ◌++◌};
-ghost use Rattle.vb_model.specs.Limits.{max_outstanding, max_request_pages};
-ghost use Rattle.vb_model.specs.Layout.{buffers_page};
+ghost use Rattle.vb_virtio.specs.Limits.{max_outstanding, max_request_pages};
+ghost use Rattle.vb_virtio.specs.Layout.{buffers_page};
 ghost use Rattle.vb_ring.specs.Layout.{IsSize, IsInside};
 ghost use Rattle.vb_ring.specs.Ends.{outstanding, used_answer};
 ghost use Rattle.vb_ring.specs.Calls.{TakesUsedBy};
@@ -17,12 +17,12 @@ use arrayvec::ArrayVec;
 use std::alloc::{AllocError, Global};
 use std::marker::Model;
 use vb_chain::Piece;
-use vb_model::layout::{
-    DEFLATE_BUFFERS_PAGE, INFLATE_BUFFERS_PAGE, INFLATE_QUEUE, REQUEST_BUFFER_SIZE,
-};
-use vb_model::limits::{MAX_OUTSTANDING, MAX_REQUEST_PAGES, PAGE_SIZE};
 use vb_ram::{GuestBytes, Shape};
 use vb_ring::{DriverRing, RingBroken};
+use vb_virtio::layout::{
+    DEFLATE_BUFFERS_PAGE, INFLATE_BUFFERS_PAGE, INFLATE_QUEUE, REQUEST_BUFFER_SIZE,
+};
+use vb_virtio::limits::{MAX_OUTSTANDING, MAX_REQUEST_PAGES, PAGE_SIZE};
 
 /// How many pages a request names at most.
 const REQUEST_PAGES: usize = MAX_REQUEST_PAGES as usize;
@@ -45,7 +45,7 @@ impl Model for Sent {
     ghost view = { λ s. s.pages.items };
 }
 
-/// Puts more page numbers behind the first ones.
+/// Puts more page numbers after the first ones.
 pub(crate) fn append(pages: &mut RequestPages, more: &[u32])
     requires { length pages.old.items + length more.now ≤ max_request_pages }
     ensures { pages.new.items ≡ pages.old.items ++ more.now }

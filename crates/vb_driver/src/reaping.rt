@@ -2,11 +2,11 @@
 
 ghost use Rattle.std.specs.Prelude.{◌≡◌, ◌<◌, ◌∷◌, [], not, bit_or};
 ghost use Rattle.std.specs.Prelude.{Ok, Err, None, Some, IfOk, IfErr, OnOk, OnErr, MatchOption};
-ghost use Rattle.vb_model.specs.Limits.{max_outstanding};
-ghost use Rattle.vb_model.specs.Status.{failed};
-ghost use Rattle.vb_model.specs.Refusals.{◌⇒◌, first_refusal};
-ghost use Rattle.vb_model.specs.declared.replies.Refusal.TheVariants.{NotReady, NoFeature};
-ghost use Rattle.vb_model.specs.declared.replies.Refusal.TheVariants.{RingBroken};
+ghost use Rattle.vb_virtio.specs.Limits.{max_outstanding};
+ghost use Rattle.vb_virtio.specs.Status.{failed};
+ghost use Rattle.vb_virtio.specs.FirstRefusal.{◌⇒◌, first_refusal};
+ghost use Rattle.vb_virtio.specs.declared.refusals.Refusal.TheVariants.{NotReady, NoFeature};
+ghost use Rattle.vb_virtio.specs.declared.refusals.Refusal.TheVariants.{RingBroken};
 ghost use Rattle.vb_ring.specs.Layout.{IsInside};
 ghost use Rattle.vb_ring.specs.Ends.{after_take, used_answer};
 ghost use Rattle.vb_ring.specs.Calls.{TakesUsedBy};
@@ -21,10 +21,11 @@ use crate::reports::ReportQueue;
 use crate::requests::is_up;
 use crate::{Driver, Reaped};
 use bitflags::Flags;
-use vb_model::layout::{DEFLATE_QUEUE, INFLATE_QUEUE, REPORT_QUEUE};
-use vb_model::{Place, Refusal};
+use vb_model::Place;
 use vb_report::Blocks;
 use vb_status::{Port, Status};
+use vb_virtio::Refusal;
+use vb_virtio::layout::{DEFLATE_QUEUE, INFLATE_QUEUE, REPORT_QUEUE};
 
 /// Tells the device that its driver has given up.
 pub(crate) fn give_up<P: Port>(port: &mut P)
@@ -120,7 +121,7 @@ fn take_report_back<P: Port>(
 }
 
 impl Driver {
-    /// Tells the device how many pages are lent or asked back.
+    /// Tells the device how many pages are lent or requested back.
     fn tell_actual<P: Port>(&mut self, port: &mut P)
         ensures state { self.new ≡ with_actual self.old }
         ensures part { P.part port.new
@@ -131,8 +132,8 @@ impl Driver {
         port.set_actual(self.actual);
     }
 
-    /// Tells the device how many pages are lent or asked back once a request of this head came
-    /// back, which named so many pages.
+    /// Tells the device how many pages are lent or requested back once a request of this head came
+    /// back, which named `pages` pages.
     fn tell_reaped<P: Port>(&mut self, port: &mut P, head: u16, pages: u32) -> Reaped
         ensures state { self.new ≡ with_actual self.old }
         ensures part { P.part port.new
@@ -212,7 +213,7 @@ impl Driver {
     /// Takes back the next request of a queue that the device used, if there is one: the pages of
     /// an inflate request are lent from now on, those of a deflate request or of a report free;
     /// where MUST_TELL_HOST wasn't accepted, those of a deflate request stay where they are. Then
-    /// the device is told how many pages are lent or asked back.
+    /// the device is told how many pages are lent or requested back.
     ///
     /// Refused for `NoQueue` (not 0, 1 or 4), `NotReady`, `NoFeature` (queue 4, but REPORTING
     /// wasn't accepted), `RingBroken` (the used ring says what no device may say: the driver gives

@@ -1,8 +1,8 @@
 //! Free blocks are reported to the host (profile).
 
 ghost use Rattle.std.specs.Prelude.{◌≡◌, ◌==◌, ◌∷◌, [], true, IfOk, OnErr, length};
-ghost use Rattle.vb_model.specs.FirstRefusal.{◌⇒◌, first_refusal};
-ghost use Rattle.vb_model.specs.declared.replies.Refusal.TheVariants.{Nothing};
+ghost use Rattle.vb_virtio.specs.FirstRefusal.{◌⇒◌, first_refusal};
+ghost use Rattle.vb_virtio.specs.declared.refusals.Refusal.TheVariants.{Nothing};
 ghost use Rattle.vb_pages.specs.FreePages.{drained};
 ghost use Rattle.vb_ring.specs.Ends.{outstanding};
 ghost use Rattle.vb_driver.specs.State.{IsDriver};
@@ -13,9 +13,10 @@ ghost use Rattle.vb_driver.specs.Calls.{Reports, ReportsBy, Unchanged};
 use crate::places::count_pages;
 use crate::requests::is_up;
 use crate::{Driver, Posted};
-use vb_model::limits::MAX_OUTSTANDING;
-use vb_model::{Place, Refusal};
+use vb_model::Place;
 use vb_status::Port;
+use vb_virtio::Refusal;
+use vb_virtio::limits::MAX_OUTSTANDING;
 
 impl Driver {
     /// Reports free blocks from a page on, where no report is out.

@@ -2,7 +2,7 @@
 
 ghost use Rattle.std.specs.Prelude.{◌≡◌, ◌≤◌, ◌<◌, [], Ok, Err, None, Some, IfOk, IfErr, OnErr};
 ghost use Rattle.std.specs.Prelude.{MatchOption, All, length, nat_le};
-ghost use Rattle.vb_model.specs.Limits.{max_outstanding};
+ghost use Rattle.vb_virtio.specs.Limits.{max_outstanding};
 ghost use Rattle.vb_ring.specs.Layout.{IsSize, IsInside};
 ghost use Rattle.vb_ring.specs.Ends.{after_take, outstanding, used_answer};
 ghost use Rattle.vb_ring.specs.Calls.{TakesUsedBy};
@@ -12,10 +12,10 @@ ghost use Rattle.vb_driver.specs.State.{IsAreaBlock, IsReportQueue, fresh_report
 ghost use Rattle.vb_driver.specs.Calls.{PostsReport};
 
 use std::marker::Model;
-use vb_model::layout::REPORT_QUEUE;
 use vb_ram::{GuestBytes, Shape};
 use vb_report::{Blocks, encode};
 use vb_ring::{DriverRing, RingBroken};
+use vb_virtio::layout::REPORT_QUEUE;
 
 /// The driver's side of the queue of page reports.
 #[derive(Drop)]

@@ -3,10 +3,10 @@
 ghost use Rattle.std.specs.Prelude.{◌≡◌, ◌≤◌, ◌*◌, ◌++◌, Ok, Err, None, Some, IfErr, IfOk};
 ghost use Rattle.std.specs.Prelude.{MatchBool, OnErr, true, IsSome, drop, length};
 ghost use Rattle.byteorder.specs.Endian.{little_bytes};
-ghost use Rattle.vb_model.specs.Limits.{page_size};
-ghost use Rattle.vb_model.specs.declared.layout.TheConstants.{STATISTICS_PAGE, STATISTIC_SIZE};
-ghost use Rattle.vb_model.specs.Guest.{stats_vq};
-ghost use Rattle.vb_model.specs.declared.layout.TheConstants.{FREE_MEMORY_TAG, TOTAL_MEMORY_TAG};
+ghost use Rattle.vb_virtio.specs.Limits.{page_size};
+ghost use Rattle.vb_virtio.specs.declared.layout.TheConstants.{STATISTICS_PAGE, STATISTIC_SIZE};
+ghost use Rattle.vb_virtio.specs.Features.{stats_vq};
+ghost use Rattle.vb_virtio.specs.declared.layout.TheConstants.{FREE_MEMORY_TAG, TOTAL_MEMORY_TAG};
 ghost use Rattle.vb_ram.specs.Pages.{Covers, SameBut, frame_at};
 ghost use Rattle.vb_ring.specs.Layout.{IsSize};
 ghost use Rattle.vb_ring.specs.Ends.{outstanding, used_answer};
@@ -15,7 +15,7 @@ ghost use Rattle.vb_driver.specs.Coding.{IsStatistic, SameButPages};
 ghost use Rattle.vb_driver.specs.Answers.{HaveRingFrames, IsLargeEnough, is_up};
 ghost use Rattle.vb_driver.specs.State.{IsDriver, IsStatisticsQueue, fresh_statistics, figures_of};
 ghost use Rattle.vb_driver.specs.State.{free_count};
-ghost use Rattle.vb_model.specs.declared.limits.TheConstants.{MAX_GUEST_PAGES};
+ghost use Rattle.vb_virtio.specs.declared.limits.TheConstants.{MAX_GUEST_PAGES};
 ghost use Rattle.vb_driver.specs.Calls.{PostsBuffer, FirstBuffer, FillsBy, emptied};
 
 use crate::Driver;
@@ -24,14 +24,15 @@ use crate::requests::is_up;
 use byteorder::{ByteOrder, LittleEndian};
 use std::marker::Model;
 use vb_chain::Piece;
-use vb_model::layout::{
-    FREE_MEMORY_TAG, STATISTIC_SIZE, STATISTICS_PAGE, STATISTICS_QUEUE, TOTAL_MEMORY_TAG,
-};
-use vb_model::limits::PAGE_SIZE;
-use vb_model::{Place, Refusal};
+use vb_model::Place;
 use vb_ram::{GuestBytes, Shape};
 use vb_ring::{DriverRing, RingBroken};
 use vb_status::Port;
+use vb_virtio::Refusal;
+use vb_virtio::layout::{
+    FREE_MEMORY_TAG, STATISTIC_SIZE, STATISTICS_PAGE, STATISTICS_QUEUE, TOTAL_MEMORY_TAG,
+};
+use vb_virtio::limits::PAGE_SIZE;
 
 /// Bytes of a statistic.
 const ENTRY_BYTES: usize = STATISTIC_SIZE as usize;
@@ -39,7 +40,7 @@ const ENTRY_BYTES: usize = STATISTIC_SIZE as usize;
 /// Bytes of the buffer, which has two statistics.
 const BUFFER_BYTES: usize = 2 * ENTRY_BYTES;
 
-/// The bytes of so many pages.
+/// The bytes of `pages` pages.
 fn bytes_of(pages: u32) -> u64
     ensures { result ≡ pages * page_size }
 {

@@ -3,7 +3,8 @@ use Rattle.std.proofs.Common.{◌≡◌, ℕ, ◌+◌, ◌<◌, Bool, true, fals
 use Rattle.std.{proofs.Common.{replicate, refl, ap, ◌∙◌, arith, zero, suc}, specs.Prelude.count_by}
 use Rattle.std.proofs.lemmas.Bool.{cases_lt, false≢true}
 use Rattle.std.proofs.lemmas.List.{get_or-map, get_or_past, length-map}
-use Rattle.vb_model.{specs.Tests.one_if, proofs.Tables.count_by-cons}
+use Rattle.vb_virtio.specs.Tests.{one_if}
+use Rattle.vb_virtio.proofs.Tables.{count_by-cons}
 use Rattle.vb_bits.specs.Sets.{has, HasNoneFrom, IsLeastFrom}
 use Rattle.vb_frames.specs.Out.{is_out, IsFree, AllOut}
 

@@ -2,7 +2,7 @@
 
 ghost use Rattle.std.specs.Prelude.{◌≡◌, Bool, List, IfOk, OnErr, slice_set, true, false};
 ghost use Rattle.vb_model.specs.declared.calls.Claim.{Claim};
-ghost use Rattle.vb_model.specs.Guest.{zero_page};
+ghost use Rattle.vb_virtio.specs.Memory.{zero_page};
 ghost use Rattle.vb_frames.specs.Out.{is_out, IsFree, claim_in};
 
 use thiserror::Error;

@@ -1,7 +1,9 @@
 -- A guest's allocation is a step of the definitions.
 use Rattle.std.{specs.Prelude.{ℕ, [], Result, Ok, Err, refl}, proofs.Common.{sym, subst, inl, inr}}
 use Rattle.{vb_model.specs.{Driver.with_block, Pages.{pages_of, placed}}, vb_ram.specs.Part.Part}
-use Rattle.vb_model.specs.{Guest.Guest, declared.replies.{Refusal.Refusal, Reply.TheVariants.Page}}
+use Rattle.vb_virtio.specs.declared.refusals.Refusal.{Refusal}
+use Rattle.vb_model.specs.Guest.{Guest}
+use Rattle.vb_model.specs.declared.replies.Reply.TheVariants.{Page}
 use Rattle.vb_model.specs.declared.{calls.Call.TheVariants.Alloc, places.Place.TheVariants.Used}
 use Rattle.{vb_ram.specs.Pages.Pages, vb_guest.specs.{Steps.StepsAlone, Replies.page_reply}}
 use Rattle.vb_driver.specs.{State.{FreePages, DriverState}, Answers.block_at, Calls.AllocatesBy}

@@ -1,8 +1,11 @@
 -- What leaves a queue alone.
 use Rattle.std.specs.Prelude.{◌≡◌, ◌≢◌, ℕ, ◌+◌, ◌*◌, ◌<◌, ◌≤◌, List, length, slice_index_or}
-use Rattle.{std.proofs.Common.{◌∙◌, arith, inl, refl, subst}, vb_model.specs.Layout.reserved_pages}
-use Rattle.vb_model.specs.Layout.{ring_number, ring_page, buffers_page, buffer_page, buffer_offset}
-use Rattle.vb_model.{specs.Requests.{Request, Requests}, proofs.Shapes.{InRing, rings_apart}}
+use Rattle.vb_virtio.specs.Layout.{reserved_pages, ring_number, ring_page, buffers_page}
+use Rattle.vb_virtio.specs.Layout.{buffer_page, buffer_offset}
+use Rattle.vb_virtio.specs.Queues.{Request}
+use Rattle.vb_virtio.proofs.Shapes.{InRing, rings_apart}
+use Rattle.std.proofs.Common.{◌∙◌, arith, inl, refl, subst}
+use Rattle.vb_model.specs.Requests.{Requests}
 use Rattle.vb_ram.{specs.{Pages.{Pages, page_at}, Part.QueuePart}, proofs.FieldLaws.same_page}
 use Rattle.vb_chain.{specs.Table.descriptor_at, proofs.TableLaws.descriptor_apart}
 use Rattle.{vb_ring.specs.Ends.DriverEnd, vb_driver.specs.Coding.IsCoded}

@@ -1,10 +1,13 @@
 -- A guest's ask is a step of the definitions.
 use Rattle.std.{proofs.Common.{sym, ◌∙◌, ap, subst, arith, inr}, specs.Prelude.{◌≡◌, false}}
 use Rattle.std.specs.Prelude.{List, [], Result, IsOk, Some, None, is_some, slice_get, refl}
-use Rattle.vb_model.specs.{Layout.reserved_pages, Refusals.{refusal_of, is_taken}}
+use Rattle.vb_virtio.specs.Layout.{reserved_pages}
+use Rattle.vb_virtio.specs.declared.refusals.Refusal.{Refusal}
+use Rattle.vb_virtio.specs.Queues.{Request}
+use Rattle.vb_model.specs.Refusals.{refusal_of, is_taken}
 use Rattle.vb_model.specs.{Device.ReturnsBuffer, declared.calls.Call.TheVariants.Ask}
-use Rattle.vb_model.specs.declared.replies.{Refusal.Refusal, Reply.TheVariants.Asked}
-use Rattle.vb_model.specs.Requests.{Request, Figures, StatisticsBuffer}
+use Rattle.vb_model.specs.declared.replies.Reply.TheVariants.{Asked}
+use Rattle.vb_model.specs.Requests.{Figures, StatisticsBuffer}
 use Rattle.vb_model.specs.{Requests.{NoBuffer, BufferPosted, BufferTaken, BufferDone}, Guest.Guest}
 use Rattle.{vb_ram.specs.{Part.Part, Pages.Pages}, vb_device.specs.Calls.{AsksBy, using}}
 use Rattle.{vb_device.specs.Conditions.{ask_refusal, taken_at}, vb_driver.specs.State.DriverState}

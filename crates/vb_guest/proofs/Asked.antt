@@ -1,9 +1,13 @@
 -- What a driver and a device ask for before a call, of an honest guest and of a rogue one.
 use Rattle.std.specs.Prelude.{◌≡◌, ℕ, ◌≤◌, ◌&&◌, Bool, true, length, IsSome}
-use Rattle.{std.proofs.Common.{arith, sym, subst}, vb_model.specs.Limits.is_config}
-use Rattle.vb_model.specs.{Layout.{ring_page, is_start_page}, Guest.Guest, Status.contains}
-use Rattle.vb_model.{specs.{Status.driver_ok, Tables.is_up}, proofs.Shapes.{InRing, in_ring_page}}
-use Rattle.{vb_model.proofs.Shapes.start_of_ring, vb_ram.specs.{Pages.{Pages, frame_at}, Part.Part}}
+use Rattle.vb_virtio.specs.Limits.{is_config}
+use Rattle.vb_virtio.specs.Layout.{ring_page, is_start_page}
+use Rattle.vb_virtio.specs.Status.{contains, driver_ok, is_up}
+use Rattle.vb_virtio.proofs.Shapes.{InRing, in_ring_page, start_of_ring}
+use Rattle.std.proofs.Common.{arith, sym, subst}
+use Rattle.vb_model.specs.Guest.{Guest}
+use Rattle.vb_ram.specs.Pages.{Pages, frame_at}
+use Rattle.vb_ram.specs.Part.{Part}
 use Rattle.{vb_ram.proofs.Limits.config_limits, vb_ring.specs.Layout.{IsBacked, layout_of}}
 use Rattle.{vb_ring.proofs.Shapes.parts_in_ring, vb_device.specs.Queues.queue_layout}
 use Rattle.{vb_device.proofs.Sizes.size_is, vb_driver.specs.State.DriverState}

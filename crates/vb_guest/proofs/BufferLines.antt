@@ -1,8 +1,11 @@
 -- What calls make of the statistics buffer.
 use Rattle.std.specs.Prelude.{◌≡◌, ℕ, ◌+◌, ◌%◌, true, List, [], ◌∷◌, ◌++◌, remove, Some, Ok, refl}
-use Rattle.{std.proofs.Common.{ap, arith, inl}, vb_model.specs.Requests.{Request, BufferDone}}
+use Rattle.vb_virtio.specs.Queues.{Request}
+use Rattle.vb_virtio.specs.Layout.{ring_page}
+use Rattle.std.proofs.Common.{ap, arith, inl}
+use Rattle.vb_model.specs.Requests.{BufferDone}
 use Rattle.vb_model.specs.Requests.{Figures, StatisticsBuffer, NoBuffer, BufferPosted, BufferTaken}
-use Rattle.{vb_model.specs.Layout.ring_page, vb_guest.specs.Buffer.{BufferLine, HasFigures}}
+use Rattle.vb_guest.specs.Buffer.{BufferLine, HasFigures}
 use Rattle.vb_ram.{specs.{Pages.{Pages, page_at}, Part.QueuePart}, proofs.FieldLaws.field_in}
 use Rattle.{vb_ram.proofs.FieldLaws.same_page, vb_chain.proofs.TableLaws.descriptor_apart}
 use Rattle.vb_ring.specs.{Ends.{DriverEnd, DeviceEnd}, Calls.{AddsUsedBy, TakesUsedBy}}

@@ -1,8 +1,10 @@
 -- A posted request, as its device finds it.
 use Rattle.std.specs.Prelude.{◌≡◌, ℕ, ◌*◌, ◌<◌, ◌≤◌, List, [], ◌∷◌, All, length, Ok, false, refl}
-use Rattle.{std.proofs.Common.{sym, subst, arith}, vb_model.specs.Layout.buffer_offset}
-use Rattle.vb_model.specs.Layout.{reserved_pages, ring_page, buffers_page, buffer_page}
-use Rattle.{vb_model.specs.Requests.Request, vb_chain.proofs.ChainLaws.{single_chain, no_fault}}
+use Rattle.vb_virtio.specs.Layout.{buffer_offset, reserved_pages, ring_page, buffers_page}
+use Rattle.vb_virtio.specs.Layout.{buffer_page}
+use Rattle.vb_virtio.specs.Queues.{Request}
+use Rattle.std.proofs.Common.{sym, subst, arith}
+use Rattle.vb_chain.proofs.ChainLaws.{single_chain, no_fault}
 use Rattle.{vb_ram.specs.Pages.Pages, vb_chain.specs.declared.descriptor.Descriptor.Descriptor}
 use Rattle.vb_chain.specs.{Table.descriptor_at, Rules.piece_of, Chain.ChainGives}
 use Rattle.vb_request.{specs.Request.page_request, proofs.OneRequest.one_request}

@@ -3,8 +3,12 @@ use Rattle.std.specs.Prelude.{◌≡◌, ℕ, ◌+◌, ◌<◌, true, false, con
 use Rattle.std.specs.Prelude.{suc, ◌-◌, ◌≤◌, Bool, List, [], None, filter, Result, Ok, Err}
 use Rattle.{std.specs.List.range_with_len, vb_ram.specs.Pages.{Pages, frame_at, Supplied}}
 use Rattle.std.proofs.{lemmas.List.{append-nil, append_assoc}, Common.{sym, ◌∙◌, ap, subst, arith}}
-use Rattle.vb_model.specs.{declared.calls.Claim.{Claim, TheVariants.Gave}, Layout.reserved_pages}
-use Rattle.{vb_model.specs.{Driver.given, Orderly.times}, vb_guest.specs.Lives.{is_bare, bare_from}}
+use Rattle.vb_virtio.specs.Layout.{reserved_pages}
+use Rattle.vb_virtio.specs.Tests.{times}
+use Rattle.vb_model.specs.declared.calls.Claim.{Claim}
+use Rattle.vb_model.specs.declared.calls.Claim.TheVariants.{Gave}
+use Rattle.vb_model.specs.Driver.{given}
+use Rattle.vb_guest.specs.Lives.{is_bare, bare_from}
 use Rattle.vb_frames.specs.{declared.keeper.Refused.Refused, Out.claim_in}
 use Rattle.vb_guest.specs.{Supply.{Supply, is_used, IsClaimed, nothing}, Lives.SuppliesBy}
 use Rattle.vb_guest.{specs.Supply.Moves, proofs.Moving.{times_first, times_one, moves_then}}

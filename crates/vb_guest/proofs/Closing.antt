@@ -1,8 +1,12 @@
 -- From what a call ties and the model's step to what the guest's clauses say.
 use Rattle.std.specs.Prelude.{◌≡◌, Bool, true, false, List, [], ◌∷◌, Some, None, if◌then◌else◌, ◌⊎◌}
 use Rattle.{std.proofs.Common.{ap, arith}, vb_model.specs.declared.calls.{Call.Call, Claim.Claim}}
-use Rattle.vb_model.specs.declared.replies.{Refusal.Refusal, Reply.{Reply, TheVariants.Refused}}
-use Rattle.vb_model.specs.{Requests.no_requests, Guest.Guest, Refusals.{Cause, ◌⇒◌, first_refusal}}
+use Rattle.vb_virtio.specs.declared.refusals.Refusal.{Refusal}
+use Rattle.vb_virtio.specs.FirstRefusal.{Cause, ◌⇒◌, first_refusal}
+use Rattle.vb_model.specs.declared.replies.Reply.{Reply}
+use Rattle.vb_model.specs.declared.replies.Reply.TheVariants.{Refused}
+use Rattle.vb_model.specs.Requests.{no_requests}
+use Rattle.vb_model.specs.Guest.{Guest}
 use Rattle.vb_model.specs.{Refusals.refusal_of, Rogue.GuestStep, Step.{Performs, HonestStep}}
 use Rattle.vb_model.proofs.{CallSteps.honest_keeps, OrderlySteps.honest_order}
 use Rattle.{vb_ram.specs.{Pages.Pages, Part.Part}, vb_driver.specs.State.{FreePages, DriverState}}

@@ -2,13 +2,23 @@
 use Rattle.std.{proofs.Common.{sym, ◌∙◌, ap, subst, arith, inr}, specs.Prelude.{◌≡◌, ℕ, zero, suc}}
 use Rattle.std.specs.Prelude.{◌<◌, ◌≤◌, Bool, List, [], ◌∷◌, length, take, Result, Ok, Err, OnErr}
 use Rattle.{std.specs.Prelude.{IfOk, Some, None, count_by, refl, ◌⊎◌}, vb_model.specs.Guest.Guest}
-use Rattle.vb_model.specs.{Guest.lent_count, Step.Performs, Requests.{outstanding, Deflating}}
-use Rattle.vb_model.specs.{Tests.pages_from, Driver.{Deflates, lowest_lent, after_posting}}
-use Rattle.vb_model.specs.Refusals.{first_refusal, refusal_of, deflate_count, oom_count}
+use Rattle.vb_virtio.specs.Queues.{Deflating}
+use Rattle.vb_virtio.specs.Tests.{pages_from}
+use Rattle.vb_virtio.specs.FirstRefusal.{first_refusal}
+use Rattle.vb_virtio.specs.declared.refusals.Refusal.{Refusal}
+use Rattle.vb_virtio.specs.declared.refusals.Refusal.TheVariants.{NotReady}
+use Rattle.vb_virtio.specs.Layout.{buffer_page}
+use Rattle.vb_virtio.proofs.Tables.{count_by-cons}
+use Rattle.vb_virtio.proofs.Shapes.{reserved_least}
+use Rattle.vb_model.specs.Guest.{lent_count}
+use Rattle.vb_model.specs.Step.{Performs}
+use Rattle.vb_model.specs.Requests.{outstanding}
+use Rattle.vb_model.specs.Driver.{Deflates, lowest_lent, after_posting}
+use Rattle.vb_model.specs.Refusals.{refusal_of, deflate_count, oom_count}
 use Rattle.vb_model.specs.declared.calls.Call.{Call, TheVariants.{Deflate, Oom}}
-use Rattle.vb_model.specs.declared.replies.{Reply.{Reply, TheVariants.Posted}, Refusal.Refusal}
-use Rattle.vb_model.specs.{declared.replies.Refusal.TheVariants.NotReady, Layout.buffer_page}
-use Rattle.vb_model.proofs.{OrderlySteps.honest_order, Tables.count_by-cons, Shapes.reserved_least}
+use Rattle.vb_model.specs.declared.replies.Reply.{Reply}
+use Rattle.vb_model.specs.declared.replies.Reply.TheVariants.{Posted}
+use Rattle.vb_model.proofs.OrderlySteps.{honest_order}
 use Rattle.{vb_ram.specs.{Pages.Pages, Part.Part}, vb_ring.specs.Ends.outstanding as outstanding_in}
 use Rattle.vb_driver.specs.Calls.{Unchanged, AsksBack, DeflatesBy, DeflatesOnOomBy, areas_asked}
 use Rattle.vb_driver.specs.State.{FreePages, RequestSide, DriverState, IsDriver}
@@ -40,7 +50,7 @@ length-lent g few = grind (arith, length-first, length-pages_from)
 
 -- ---- a request that goes out
 
--- what is known of a call that asks for so many pages back
+-- what is known of a call that asks for n pages back
 record IsAsking (g : Guest) (call : Call) (count : ℕ) : Type 0 where
   few : count ≤ 256
   lent : count ≤ lent_count g

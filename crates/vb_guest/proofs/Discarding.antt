@@ -2,13 +2,14 @@
 use Rattle.std.specs.Prelude.{◌≡◌, ◌≢◌, ℕ, ◌+◌, ◌<◌, ◌==◌, ◌||◌, Bool, true, false, not, cond}
 use Rattle.std.specs.Prelude.{if◌then◌else◌, List, [], ◌∷◌, ◌++◌, All, length, Option, None, IsTrue}
 use Rattle.std.specs.{Prelude.{slice_set, slice_index_or, count_by, refl}, Option.option_to_list}
-use Rattle.{std.specs.List.{flat_map, list_any}, vb_model.specs.{Driver.AllDistinct, Orderly.times}}
+use Rattle.vb_virtio.specs.Tests.{AllDistinct, times, one_if, is_in, each_page}
+use Rattle.vb_virtio.proofs.Tables.{length-each_from, each_page-get, count_by-cons, count_by-append}
+use Rattle.std.specs.List.{flat_map, list_any}
 use Rattle.std.proofs.{Common.{sym, ◌∙◌, ap, arith, inl, inr, eq-eqb}, lemmas.List.Sums.sum_by-set}
 use Rattle.std.proofs.lemmas.{Bool.{cases_eq, eqb-true, cases_Bool}, List.Elements.All-tail}
 use Rattle.std.proofs.lemmas.List.{ext_get_or, length-set, get_or-set_same, get_or-set_other}
-use Rattle.{vb_model.specs.Tests.{one_if, is_in, each_page}, vb_guest.proofs.RingHeads.cond_one}
+use Rattle.vb_guest.proofs.RingHeads.{cond_one}
 use Rattle.{vb_model.specs.Guest.frame_of, vb_guest.specs.Steps.is_frame}
-use Rattle.vb_model.proofs.Tables.{length-each_from, each_page-get, count_by-cons, count_by-append}
 
 -- the table in which these pages have this entry
 abbrev pub with_entry : {A : Type 0} → List ℕ → A → List A → List A
@@ -61,7 +62,7 @@ not_in x h = grind arith
 pub one_frame : (n : ℕ) (o : Option ℕ) → times n (option_to_list o) ≡ one_if (is_frame n o)
 one_frame n y = grind (arith, count_by-cons)
 
--- how often a frame was behind the pages, and how often it is behind one afterwards
+-- how often a frame backed the pages, and how often it backs one afterwards
 pub frames_freed : (n : ℕ) (pages : List ℕ) (frames : List (Option ℕ)) → AllDistinct pages
     → All (λ page. page < length frames) pages
     → times n (flat_map (λ page. option_to_list (frame_of frames page)) pages) + count_by

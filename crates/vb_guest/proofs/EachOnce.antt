@@ -1,7 +1,8 @@
 -- Distinct numbers, each once, are the same numbers.
 use Rattle.std.specs.Prelude.{◌≡◌, ℕ, ◌==◌, ◌||◌, Bool, true, false, not, cond}
 use Rattle.std.{specs.Prelude.{List, [], ◌∷◌, IsTrue, filter, refl}, proofs.Common.{sym, ◌∙◌, ap}}
-use Rattle.{vb_model.specs.{Tests.is_in, Driver.AllDistinct}, vb_request.specs.Request.each_once}
+use Rattle.vb_virtio.specs.Tests.{is_in, AllDistinct}
+use Rattle.vb_request.specs.Request.{each_once}
 
 not_true : (b : Bool) → IsTrue (not b) → b ≡ false
 not_true true h = absurd (let e : false ≡ true = h in cc)

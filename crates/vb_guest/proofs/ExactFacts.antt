@@ -6,10 +6,11 @@ use Rattle.vb_model.specs.declared.calls.Call.TheVariants.{Ask, SetTarget, Free 
 use Rattle.vb_model.specs.declared.calls.Call.TheVariants.{Take, Work, Finish, Alloc, Read, Sweep}
 use Rattle.vb_model.specs.declared.calls.Call.TheVariants.{Scribble}
 use Rattle.vb_model.specs.declared.calls.Claim.TheVariants.{Gave, GaveNoFrame, GaveNoMemory}
-use Rattle.vb_model.{specs.declared.replies.Reply.Reply, specs.declared.replies.Refusal.Refusal}
+use Rattle.vb_virtio.specs.declared.refusals.Refusal.{Refusal}
+use Rattle.vb_virtio.specs.declared.refusals.Refusal.TheVariants.{NoFrame, NoMemory, AlreadyUp}
+use Rattle.vb_virtio.specs.declared.refusals.Refusal.TheVariants.{NotHeld, OutOfRam}
+use Rattle.vb_model.specs.declared.replies.Reply.{Reply}
 use Rattle.vb_model.specs.declared.places.Place.TheVariants.{Used, Free}
-use Rattle.vb_model.specs.declared.replies.Refusal.TheVariants.{NoFrame, NoMemory, AlreadyUp}
-use Rattle.vb_model.specs.declared.replies.Refusal.TheVariants.{NotHeld, OutOfRam}
 use Rattle.vb_guest.{specs.Supply.{Supply, IsClaimed}, specs.Promises.Moment, specs.Steps.IsBare}
 use Rattle.vb_guest.specs.Exact.{IsHandedBack, IsReset, KeepsFrames, PutsBy, ReadsBy, FillsBy}
 use Rattle.vb_guest.{specs.Exact.{Continues, InitialisesBy, IsQuiet}, specs.Dispatch.CallsBy}

@@ -3,7 +3,8 @@ use Rattle.std.specs.Prelude.{◌≡◌, ◌<◌, ℕ, Bool, List, [], ◌∷◌
 use Rattle.{std.proofs.lemmas.List.length-replicate, vb_driver.specs.State.DriverState}
 use Rattle.{std.proofs.Common.arith, vb_ram.specs.Pages.{Pages, frame_at, Covers, Supplied, Wrote}}
 use Rattle.{vb_model.specs.declared.calls.Claim.{Claim, TheVariants.Gave}, vb_ram.specs.Part.Part}
-use Rattle.vb_model.specs.declared.replies.Refusal.{Refusal, TheVariants.OutOfRam}
+use Rattle.vb_virtio.specs.declared.refusals.Refusal.{Refusal}
+use Rattle.vb_virtio.specs.declared.refusals.Refusal.TheVariants.{OutOfRam}
 use Rattle.{vb_status.specs.After.part_after_reset, vb_frames.specs.declared.keeper.Refused.Refused}
 use Rattle.vb_guest.specs.Exact.{FillsBare, IsQuiet, IsReset, PutsBy, Continues, InitialisesBy}
 use Rattle.vb_guest.specs.{Lives.{SuppliesBy, bare_from}, Supply.{Supply, supply_of, IsClaimed}}

@@ -1,7 +1,8 @@
 -- Bytes that are written to a page with no frame, by how the claim of one was answered.
 use Rattle.std.specs.Prelude.{◌≡◌, ℕ, ◌<◌, Bool, true, List, [], ◌∷◌, length, None, Result, Ok, Err}
 use Rattle.{std.proofs.Common.{sym, subst}, vb_model.specs.{Pages.{place_of, is_used}, Guest.Guest}}
-use Rattle.vb_model.specs.declared.replies.{Refusal.Refusal, Reply.TheVariants.{Done, Refused}}
+use Rattle.vb_virtio.specs.declared.refusals.Refusal.{Refusal}
+use Rattle.vb_model.specs.declared.replies.Reply.TheVariants.{Done, Refused}
 use Rattle.vb_model.specs.declared.calls.{Call.{Call, TheVariants.{Write, Scribble}}, Claim.Claim}
 use Rattle.vb_model.specs.declared.calls.Claim.TheVariants.{Gave, GaveNoFrame, GaveNoMemory}
 use Rattle.vb_ram.specs.{Part.Part, Pages.{Pages, frame_at, Covers, Supplied, Wrote}}

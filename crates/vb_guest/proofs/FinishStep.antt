@@ -2,15 +2,24 @@
 use Rattle.std.specs.Prelude.{◌≡◌, ℕ, zero, suc, ◌+◌, ◌%◌, ◌<◌, ◌≤◌, true, false, not, remove, ◌++◌}
 use Rattle.std.specs.Prelude.{◌&&◌, ◌==◌, List, [], ◌∷◌, All, Result, Some, None, slice_get, refl}
 use Rattle.{std.proofs.Common.{sym, ◌∙◌, ap, subst, arith, inr}, vb_ram.specs.Pages.Pages}
-use Rattle.vb_model.specs.Requests.{Request, Kind, Inflating, Deflating, Reporting_free, queue_of}
-use Rattle.vb_model.specs.Tables.{is_queue_of_requests, is_not_ready, has_fault, has_unvisited}
-use Rattle.vb_model.specs.{Orderly.{times, IsRequestSound, AllRequestsSound}, Driver.AllDistinct}
-use Rattle.vb_model.specs.declared.replies.{Refusal.TheVariants.NoQueue, Reply.TheVariants.Finished}
-use Rattle.vb_model.specs.declared.{layout.TheConstants.DEFLATE_QUEUE, replies.Reply.Reply}
+use Rattle.vb_virtio.specs.Queues.{Request, Kind, Inflating, Deflating, Reporting_free, queue_of}
+use Rattle.vb_virtio.specs.Queues.{is_queue_of_requests}
+use Rattle.vb_virtio.specs.Status.{is_not_ready, has_fault}
+use Rattle.vb_virtio.specs.Tests.{times, AllDistinct}
+use Rattle.vb_virtio.specs.declared.refusals.Refusal.TheVariants.{NoQueue}
+use Rattle.vb_virtio.specs.declared.layout.TheConstants.{DEFLATE_QUEUE}
+use Rattle.vb_virtio.specs.Layout.{reserved_pages, ring_page}
+use Rattle.vb_virtio.specs.declared.refusals.Refusal.{Refusal}
+use Rattle.vb_virtio.proofs.Distinct.{distinct_once}
+use Rattle.vb_virtio.proofs.Queues.{no_requests_at}
+use Rattle.vb_model.specs.Tables.{has_unvisited}
+use Rattle.vb_model.specs.Orderly.{IsRequestSound, AllRequestsSound}
+use Rattle.vb_model.specs.declared.replies.Reply.TheVariants.{Finished}
+use Rattle.vb_model.specs.declared.replies.Reply.{Reply}
 use Rattle.vb_model.specs.{declared.calls.Call.TheVariants.Finish, Device.{used, settled, Finishes}}
-use Rattle.vb_model.specs.{Layout.{reserved_pages, ring_page}, declared.replies.Refusal.Refusal}
-use Rattle.vb_model.{specs.Refusals.{taken_of, refusal_of}, proofs.Distinct.distinct_once}
-use Rattle.vb_model.{specs.{Guest.{Guest, requests}, Step.Performs}, proofs.Queues.no_requests_at}
+use Rattle.vb_model.specs.Refusals.{taken_of, refusal_of}
+use Rattle.vb_model.specs.Guest.{Guest, requests}
+use Rattle.vb_model.specs.Step.{Performs}
 use Rattle.{vb_ram.specs.Part.{Part, QueuePart}, vb_driver.specs.{State.DriverState, Calls.ring_of}}
 use Rattle.vb_ring.specs.{Layout.{IsSize, layout_of}, Calls.AddsUsedBy, Ends.DeviceEnd}
 use Rattle.vb_device.specs.Calls.{using, without_frames, lost_frames, FinishesBy, Uses, SameFrames}
@@ -131,12 +140,18 @@ finishes : (kind : Kind) (g : Guest) (i : ℕ) (reply : Reply) (new : Guest)
     → Finishes kind i g reply new → Performs (Finish (queue_of kind) i) g [] reply new
 finishes x g i reply new does = grind arith
 
-request_finished : (kind : Kind) {m1 m2 : Pages} {p1 p2 : Part} {d : DriverState} {g : Guest}
+-- what the use of a taken request leaves, whatever was visited of it
+pub record Finished_so (kind : Kind) (i : ℕ) (r : Request) (m2 : Pages) (p2 : Part)
+    (d : DriverState) (g : Guest) : Type 0 where
+  pub ties : Ties m2 (handed_back p2) d (settled kind r.pages (used kind i r g))
+  pub freed : (k : ℕ) → times k p2.loose
+      + backing_count k (settled kind r.pages (used kind i r g)) ≡ backing_count k g
+
+pub request_used : (kind : Kind) {m1 m2 : Pages} {p1 p2 : Part} {d : DriverState} {g : Guest}
     {i : ℕ} {r : Request} {result : Result ℕ Refusal} → slice_get (requests kind g).taken i ≡ Some r
     → Uses (queue_of kind) i r m1 m2 p1 p2 result → Honest m1 p1 d g
-    → IsRunning m1 p1 d g → refusal_of g (Finish (queue_of kind) i) ≡ None → StepsFreeing
-    (Honest m2 (handed_back p2) d) p2.loose g (Finish (queue_of kind) i) (finished_reply result)
-request_finished kind {m1} {m2} {p1} {p2} {d} {g} {i} {r} is did stands run free =
+    → IsRunning m1 p1 d g → Finished_so kind i r m2 p2 d g
+request_used kind {m1} {m2} {p1} {p2} {d} {g} {i} {r} is did stands run =
     let q = queue_of kind in
     let ties = stands.ties in let n = g.config.pages in let size = g.config.queue_size in
     let ring = ring_of q d in let part = queue_part q p1 in let line = line_of kind run in
@@ -153,20 +168,32 @@ request_finished kind {m1} {m2} {p1} {p2} {d} {g} {i} {r} is did stands run free
     let rests = runs_on run (without_low kind m1 size r.pages own.above) in
     let still = others_run q rests (others_same used_page (sizes_of run)
     (ring_as q used_page sized at) (λ p ne. adds.puts.rest.others p (ne, (ne, tt)))) same.behind in
-    let new : Guest = settled kind r.pages (used kind i r g) in
-    let step = honest_performed g (Finish q i) [] (Finished r.head) new free
-    (finishes kind g i (Finished r.head) new (r, is, refl, refl)) in
     let used_line = line_used i r (line_of kind rests) is adds
     (codes_stay kind d n part line.ring.sized line.ring.layout adds) in
     let there = ties_settled kind i r ties.parts (pages_same same
     (pages_settled kind g r.pages ties.pages)) rests still used_line in
+    record {
+      ties = ties_same refl (ap handed_back did.part) refl there;
+      freed = frames_settled kind p2.loose g i r ties.pages did.loose distinct own.below;
+    }
+
+request_finished : (kind : Kind) {m1 m2 : Pages} {p1 p2 : Part} {d : DriverState} {g : Guest}
+    {i : ℕ} {r : Request} {result : Result ℕ Refusal} → slice_get (requests kind g).taken i ≡ Some r
+    → Uses (queue_of kind) i r m1 m2 p1 p2 result → Honest m1 p1 d g
+    → IsRunning m1 p1 d g → refusal_of g (Finish (queue_of kind) i) ≡ None → StepsFreeing
+    (Honest m2 (handed_back p2) d) p2.loose g (Finish (queue_of kind) i) (finished_reply result)
+request_finished kind {m1} {m2} {p1} {p2} {d} {g} {i} {r} is did stands run free =
+    let q = queue_of kind in
+    let new : Guest = settled kind r.pages (used kind i r g) in
+    let left = request_used kind is did stands run in
+    let step = honest_performed g (Finish q i) [] (Finished r.head) new free
+    (finishes kind g i (Finished r.head) new (r, is, refl, refl)) in
     subst (λ x. StepsFreeing (Honest m2 (handed_back p2) d) p2.loose g (Finish q i)
     (finished_reply x)) (sym did.answer) (record {
       new = new;
-      stands = still_stands (Finish q i) [] (Finished r.head)
-          stands step (ties_same refl (ap handed_back did.part) refl there);
-      step = guest_step g (Finish q i) [] (Finished r.head) new ties.parts.guest.honest step;
-      freed = frames_settled kind p2.loose g i r ties.pages did.loose distinct own.below;
+      stands = still_stands (Finish q i) [] (Finished r.head) stands step left.ties;
+      step = guest_step g (Finish q i) [] (Finished r.head) new stands.ties.parts.guest.honest step;
+      freed = left.freed;
     })
 
 pub finish_step : {m1 m2 : Pages} {p1 p2 : Part} {d : DriverState} {g : Guest}

@@ -2,8 +2,10 @@
 use Rattle.std.specs.Prelude.{◌≡◌, ℕ, ◌%◌, List, [], ◌∷◌, remove, Some, slice_get, slice_index_or}
 use Rattle.{std.specs.Prelude.{◌≢◌, ◌+◌, ◌<◌, true, ◌++◌}, vb_chain.specs.Table.descriptor_at}
 use Rattle.std.proofs.{lemmas.List.Elements.All-push, Common.{sym, ◌∙◌, ap, subst, arith}}
-use Rattle.vb_model.specs.{Layout.{ring_page, buffers_page, buffer_page}, Requests.Requests}
-use Rattle.{vb_model.specs.Requests.Request, vb_guest.proofs.Apart.{buffer_apart_page, coded_kept}}
+use Rattle.vb_virtio.specs.Layout.{ring_page, buffers_page, buffer_page}
+use Rattle.vb_virtio.specs.Queues.{Request}
+use Rattle.vb_model.specs.Requests.{Requests}
+use Rattle.vb_guest.proofs.Apart.{buffer_apart_page, coded_kept}
 use Rattle.{vb_ram.specs.{Part.QueuePart, Pages.Pages}, vb_ring.specs.declared.layout.Layout.Layout}
 use Rattle.vb_ring.specs.{Ends.{DriverEnd, DeviceEnd}, Layout.{IsSize, layout_of}, Calls.AddsUsedBy}
 use Rattle.vb_driver.specs.{State.{RequestSide, ReportSide}, Coding.{IsCoded, AreReported}}

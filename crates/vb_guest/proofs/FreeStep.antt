@@ -1,7 +1,8 @@
 -- A guest's giving back of a block is a step of the definitions.
 use Rattle.std.{specs.Prelude.{ℕ, [], Result, Ok, Err, refl}, proofs.Common.{sym, subst, inl, inr}}
 use Rattle.vb_model.specs.declared.{calls.Call.TheVariants.Free, replies.Reply.TheVariants.Done}
-use Rattle.vb_model.specs.{declared.replies.Refusal.Refusal, Pages.{pages_of, placed}}
+use Rattle.vb_virtio.specs.declared.refusals.Refusal.{Refusal}
+use Rattle.vb_model.specs.Pages.{pages_of, placed}
 use Rattle.vb_model.specs.{declared.places.Place.TheVariants.Free as FreePlace, Guest.Guest}
 use Rattle.{vb_model.specs.Driver.without_block, vb_ram.specs.{Pages.Pages, Part.Part}}
 use Rattle.vb_driver.specs.{State.{FreePages, DriverState}, Calls.{FreesBy, after_free}}

@@ -1,6 +1,8 @@
 -- What the device's part says of a guest's memory.
 use Rattle.std.{specs.Prelude.{◌≡◌, ℕ, ◌≤◌, true, length, IsSome, ◌⊎◌}, proofs.Common.arith}
-use Rattle.vb_model.specs.{Status.{contains, driver_ok}, Layout.is_start_page, Guest.Guest}
+use Rattle.vb_virtio.specs.Status.{contains, driver_ok}
+use Rattle.vb_virtio.specs.Layout.{is_start_page}
+use Rattle.vb_model.specs.Guest.{Guest}
 use Rattle.vb_ram.{proofs.Limits.config_limits, specs.Pages.{Pages, frame_at}}
 use Rattle.{vb_ram.specs.Part.Part, vb_driver.specs.State.DriverState, vb_guest.specs.Stands.Honest}
 

@@ -2,8 +2,13 @@
 use Rattle.std.specs.Prelude.{◌≡◌, ℕ, true, false, None, zero, suc, replicate, slice_index_or, refl}
 use Rattle.{std.specs.Prelude.count_by, vb_ram.{proofs.Contents.length-zero_page, specs.Part.Part}}
 use Rattle.std.proofs.{Common.arith, lemmas.List.{length-replicate, get_or-replicate, get_or_past}}
-use Rattle.{vb_model.specs.{Limits.is_config, Guest.fresh}, vb_driver.specs.State.fresh_driver}
-use Rattle.vb_model.{specs.Guest.{Config, no_statistics, zero_page}, proofs.Tables.count_by-cons}
+use Rattle.vb_virtio.specs.Limits.{is_config}
+use Rattle.vb_virtio.specs.Statistics.{no_statistics}
+use Rattle.vb_virtio.specs.Memory.{zero_page}
+use Rattle.vb_virtio.proofs.Tables.{count_by-cons}
+use Rattle.vb_model.specs.Guest.{fresh}
+use Rattle.vb_driver.specs.State.{fresh_driver}
+use Rattle.vb_model.specs.Guest.{Config}
 use Rattle.vb_model.proofs.{LifeSteps.fresh_consistent, OrderlySteps.fresh_order}
 use Rattle.vb_guest.specs.{Stands.{Honest, DeviceKeeps, HasPages}, Steps.is_frame}
 

@@ -2,8 +2,11 @@
 use Rattle.std.specs.Prelude.{◌≡◌, ℕ, ◌<◌, ◌≤◌, ◌==◌, ◌||◌, Bool, true, false, List, [], ◌∷◌, All}
 use Rattle.std.specs.{Prelude.Option, Option.option_to_list, List.flat_map}
 use Rattle.std.proofs.{Common.{sym, ◌∙◌, ap, arith, inl, inr}, lemmas.List.Elements.All-tail}
-use Rattle.{std.proofs.lemmas.Bool.{eqb-true, cases_Bool}, vb_model.specs.Tests.is_in}
-use Rattle.{vb_model.specs.{Layout.ring_page, Guest.frame_of}, vb_ram.specs.Pages.{Pages, frame_at}}
+use Rattle.vb_virtio.specs.Tests.{is_in}
+use Rattle.vb_virtio.specs.Layout.{ring_page}
+use Rattle.std.proofs.lemmas.Bool.{eqb-true, cases_Bool}
+use Rattle.vb_model.specs.Guest.{frame_of}
+use Rattle.vb_ram.specs.Pages.{Pages, frame_at}
 use Rattle.{vb_ram.specs.Part.Part, vb_ring.specs.{declared.layout.Layout.Layout, Ends.DriverEnd}}
 use Rattle.vb_ring.specs.{Ends.DeviceEnd, Entries.next_entry, Layout.layout_of, Calls.AddsUsedBy}
 use Rattle.{vb_device.specs.Discards.frames_behind, vb_guest.proofs.PagesKept.SamePages}
@@ -62,7 +65,7 @@ pub same_entry : (mem : Pages) (q : ℕ) {size : ℕ} (next : ℕ) (ring : Drive
     (layout_of (ring_page size q) size) size next ≡ next_entry mem ring.layout ring.size next
 same_entry mem q next ring layout same = grind arith
 
--- the frames behind pages are those of the guest's pages
+-- the frames that back pages are those of the guest's pages
 pub behind_same : (mem : Pages) (frames : List (Option ℕ)) (pages : List ℕ)
     → ((p : ℕ) → frame_at mem p ≡ frame_of frames p)
     → frames_behind mem pages ≡ flat_map (λ page. option_to_list (frame_of frames page)) pages

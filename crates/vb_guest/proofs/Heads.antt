@@ -4,8 +4,11 @@ use Rattle.std.specs.Prelude.{[], ◌∷◌, ◌++◌, length, All, Some, slice_
 use Rattle.std.proofs.lemmas.Option.{slice_get-map, get_or_from_slice_get, slice_get_within}
 use Rattle.std.proofs.lemmas.List.{length-map, map_push, Elements.{All-append, All-take, All-drop}}
 use Rattle.std.proofs.{lemmas.List.Elements.{All-cons, All-tail}, Common.{◌∙◌, ap, subst, arith}}
-use Rattle.{std.proofs.Common.{take, drop}, vb_model.proofs.Tables.{count_by-cons, count_by-append}}
-use Rattle.vb_model.specs.{Tests.{one_if, times}, Device.{is_unvisited, visiting}, Requests.Request}
+use Rattle.vb_virtio.proofs.Tables.{count_by-cons, count_by-append}
+use Rattle.vb_virtio.specs.Tests.{one_if, times}
+use Rattle.vb_virtio.specs.Queues.{is_unvisited, Request}
+use Rattle.std.proofs.Common.{take, drop}
+use Rattle.vb_model.specs.Device.{visiting}
 use Rattle.{vb_model.specs.Requests.{Requests, all_requests, headed}, vb_guest.specs.Line.heads_of}
 
 pub times-heads : (h : ℕ) (rs : List Request) → times h (heads_of rs) ≡ headed h rs

@@ -1,12 +1,19 @@
 -- A guest's inflate is a step of the definitions.
 use Rattle.std.proofs.{Common.{sym, ◌∙◌, ap, subst, arith, inr}, lemmas.List.length-append}
 use Rattle.std.specs.Prelude.{◌≡◌, ℕ, ◌<◌, [], ◌++◌, length, Result, Ok, Err, Some, None, refl}
-use Rattle.vb_model.proofs.{OrderlySteps.honest_order, Shapes.reserved_least}
-use Rattle.vb_model.specs.{Driver.{stranded_first, after_posting}, Guest.Guest, Layout.buffer_page}
-use Rattle.vb_model.specs.Refusals.{first_refusal, refusal_of, inflate_count, room}
-use Rattle.vb_model.specs.Requests.{outstanding, Inflating}
-use Rattle.vb_model.specs.declared.{calls.Call.TheVariants.Inflate, replies.Refusal.Refusal}
-use Rattle.vb_model.specs.declared.replies.{Refusal.TheVariants.NotReady, Reply.TheVariants.Posted}
+use Rattle.vb_virtio.proofs.Shapes.{reserved_least}
+use Rattle.vb_virtio.specs.Layout.{buffer_page}
+use Rattle.vb_virtio.specs.FirstRefusal.{first_refusal}
+use Rattle.vb_virtio.specs.Queues.{Inflating}
+use Rattle.vb_virtio.specs.declared.refusals.Refusal.{Refusal}
+use Rattle.vb_virtio.specs.declared.refusals.Refusal.TheVariants.{NotReady}
+use Rattle.vb_model.proofs.OrderlySteps.{honest_order}
+use Rattle.vb_model.specs.Driver.{stranded_first, after_posting}
+use Rattle.vb_model.specs.Guest.{Guest}
+use Rattle.vb_model.specs.Refusals.{refusal_of, inflate_count, room}
+use Rattle.vb_model.specs.Requests.{outstanding}
+use Rattle.vb_model.specs.declared.calls.Call.TheVariants.{Inflate}
+use Rattle.vb_model.specs.declared.replies.Reply.TheVariants.{Posted}
 use Rattle.{vb_ram.specs.{Pages.Pages, Part.Part}, vb_ring.specs.Ends.outstanding as outstanding_in}
 use Rattle.vb_driver.specs.Answers.{inflate_causes, inflate_count as driver_count}
 use Rattle.vb_driver.specs.{Calls.{Offers, InflatesBy}, State.{FreePages, RequestSide, DriverState}}

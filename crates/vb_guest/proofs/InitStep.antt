@@ -4,14 +4,23 @@ use Rattle.std.specs.Prelude.{◌≢◌, ℕ, ◌<◌, Bool, true, ◌-◌, ◌�
 use Rattle.std.specs.Prelude.{◌≤◌, ◌&&◌, List, [], Option, is_some, Result, filter, count_by, refl}
 use Rattle.std.specs.{Prelude.{false, not, length, MatchOption}, List.{range_with_len, list_all}}
 use Rattle.std.proofs.{lemmas.Bool.cases_Bool, Common.{◌∙◌, subst, arith, inl, inr}}
-use Rattle.{std.proofs.Common.{sym, ap}, vb_model.proofs.Shapes.{reserved_most, start_reserved}}
-use Rattle.vb_model.{proofs.Performed.Supplying, specs.Layout.{reserved_pages, is_start_page}}
-use Rattle.vb_model.specs.{Driver.{given, figures}, Guest.all_backed, Refusals.{◌⇒◌, refusal_of}}
-use Rattle.vb_model.specs.{Guest.{Guest, frame_of, stats_vq}, Layout.start_pages, Tests.is_in}
-use Rattle.vb_model.specs.{Life.{lacking, accepted_before, Negotiates}, Refusals.first_refusal}
-use Rattle.vb_model.specs.{Life.feature_refusal, declared.replies.Refusal.TheVariants.AlreadyUp}
+use Rattle.vb_virtio.proofs.Shapes.{reserved_most, start_reserved}
+use Rattle.vb_virtio.specs.Layout.{reserved_pages, is_start_page, start_pages}
+use Rattle.vb_virtio.specs.FirstRefusal.{◌⇒◌, first_refusal}
+use Rattle.vb_virtio.specs.Features.{stats_vq}
+use Rattle.vb_virtio.specs.Tests.{is_in}
+use Rattle.vb_virtio.specs.Status.{feature_refusal}
+use Rattle.vb_virtio.specs.declared.refusals.Refusal.TheVariants.{AlreadyUp}
+use Rattle.vb_virtio.specs.declared.refusals.Refusal.{Refusal}
+use Rattle.std.proofs.Common.{sym, ap}
+use Rattle.vb_model.proofs.Performed.{Supplying}
+use Rattle.vb_model.specs.Driver.{given, figures}
+use Rattle.vb_model.specs.Guest.{all_backed}
+use Rattle.vb_model.specs.Refusals.{refusal_of}
+use Rattle.vb_model.specs.Guest.{Guest, frame_of}
+use Rattle.vb_model.specs.Life.{lacking, accepted_before, Negotiates}
 use Rattle.vb_model.specs.declared.{calls.{Call.TheVariants.Init, Claim.Claim}, replies.Reply.Reply}
-use Rattle.vb_model.specs.declared.replies.{Refusal.Refusal, Reply.TheVariants.{Ready, Refused}}
+use Rattle.vb_model.specs.declared.replies.Reply.TheVariants.{Ready, Refused}
 use Rattle.{vb_ram.specs.{Part.Part, declared.shape.Shape.Shape}, vb_guest.specs.Lives.AllSupplied}
 use Rattle.vb_frames.specs.declared.keeper.Refused.{Refused as WhyRefused}
 use Rattle.vb_driver.specs.{State.DriverState, Calls.{InitsBy, InitRefused, GivesUp}}

@@ -2,13 +2,18 @@
 use Rattle.std.specs.Prelude.{◌≡◌, ℕ, ◌==◌, ◌&&◌, not, Bool, true, false, List, [], ◌∷◌}
 use Rattle.std.specs.Prelude.{is_none, if◌then◌else◌, Option, Some, None, Result, Ok, Err, refl}
 use Rattle.{std.proofs.Common.{◌∙◌, ap}, vb_ram.specs.{Pages.Pages, Part.{Part, QueuePart}}}
-use Rattle.vb_model.specs.declared.layout.TheConstants.{INFLATE_QUEUE, DEFLATE_QUEUE}
-use Rattle.vb_model.specs.declared.layout.TheConstants.{STATISTICS_QUEUE, REPORT_QUEUE}
-use Rattle.vb_model.specs.declared.replies.Refusal.{Refusal, TheVariants.NoQueue}
-use Rattle.vb_model.specs.declared.replies.Refusal.TheVariants.{NotReady, NeedsReset, NotTaken}
-use Rattle.vb_model.specs.declared.replies.Refusal.TheVariants.{NotWorked, Broken, RingBroken}
-use Rattle.vb_model.specs.{Requests.Request, Refusals.{◌⇒◌, first_refusal}, Tests.flagged}
-use Rattle.vb_model.specs.Tables.{is_queue_of_requests, is_not_ready, has_fault, has_unvisited}
+use Rattle.vb_virtio.specs.declared.layout.TheConstants.{INFLATE_QUEUE, DEFLATE_QUEUE}
+use Rattle.vb_virtio.specs.declared.layout.TheConstants.{STATISTICS_QUEUE, REPORT_QUEUE}
+use Rattle.vb_virtio.specs.declared.refusals.Refusal.{Refusal}
+use Rattle.vb_virtio.specs.declared.refusals.Refusal.TheVariants.{NoQueue, NotReady, NeedsReset}
+use Rattle.vb_virtio.specs.declared.refusals.Refusal.TheVariants.{NotTaken, NotWorked, Broken}
+use Rattle.vb_virtio.specs.declared.refusals.Refusal.TheVariants.{RingBroken}
+use Rattle.vb_virtio.specs.Queues.{Request, is_queue_of_requests}
+use Rattle.vb_virtio.specs.FirstRefusal.{◌⇒◌, first_refusal}
+use Rattle.vb_virtio.specs.Tests.{flagged}
+use Rattle.vb_virtio.specs.Status.{is_not_ready, has_fault}
+use Rattle.vb_model.specs.Tables.{has_unvisited}
+use Rattle.vb_device.specs.Calls.{Uses}
 use Rattle.vb_device.specs.Conditions.{work_refusal, finish_refusal, sweep_refusal}
 use Rattle.vb_device.specs.{Conditions.{ask_refusal, taken_at}, Calls.{TakesBy, TakeMeans, noting}}
 use Rattle.vb_device.specs.Calls.{next_visit, Visits, WorksBy, FinishesBy, settled, using, SweepsBy}
@@ -32,7 +37,7 @@ owns_as e flag numbers = record {
 pub as_it_was : {p1 p2 : Part} → p2 ≡ p1 → SameOwn p1 p2
 as_it_was e = owns_as e refl refl
 
-same_then : {p1 p2 p3 : Part} → SameOwn p1 p2 → SameOwn p2 p3 → SameOwn p1 p3
+pub same_then : {p1 p2 p3 : Part} → SameOwn p1 p2 → SameOwn p2 p3 → SameOwn p1 p3
 same_then first second =
     record { flag = second.flag ∙ first.flag; numbers = second.numbers ∙ first.numbers }
 
@@ -104,6 +109,11 @@ there_is false false true d o e = absurd cc
 there_is false false false d None e = absurd cc
 there_is false false false d (Some r) e = (r, refl)
 
+pub uses_kept : {q i : ℕ} {r : Request} {m1 m2 : Pages} {p1 p2 : Part} {result : Result ℕ Refusal}
+    → Uses q i r m1 m2 p1 p2 result → SameOwn p1 p2
+uses_kept {q} {i} {r} {p1} did = same_then (same_then (queue_kept q _ p1)
+    (settled_kept q r.pages (using q i p1))) (owns_as did.part refl refl)
+
 pub finish_kept : {q i : ℕ} {m1 m2 : Pages} {p1 p2 : Part} {result : Result ℕ Refusal}
     → FinishesBy q i m1 m2 p1 p2 result → SameOwn p1 p2
 finish_kept {q} {i} {p1} {p2} did = by (finish_refusal q i p1) refl where
@@ -113,8 +123,7 @@ finish_kept {q} {i} {p1} {p2} did = by (finish_refusal q i p1) refl where
       let (r, at) = there_is (not (is_queue_of_requests q)) (is_not_ready p1.status)
       (has_fault p1.status) (p1.paced && not
       (q == DEFLATE_QUEUE) && has_unvisited (taken_at q i p1)) (taken_at q i p1) e in
-      same_then (same_then (queue_kept q _ p1)
-      (settled_kept q r.pages (using q i p1))) (owns_as (did.finished r e at).part refl refl)
+      uses_kept (did.finished r e at)
 
 pub sweep_kept : {page : ℕ} {m1 m2 : Pages} {p1 p2 : Part} {result : Result Bool Refusal}
     → SweepsBy page m1 m2 p1 p2 result → SameOwn p1 p2

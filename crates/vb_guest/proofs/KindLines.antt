@@ -1,10 +1,13 @@
 -- The lines of the three kinds of requests as one.
 use Rattle.std.{proofs.Common.{sym, subst, inr}, specs.Prelude.{◌≡◌, ℕ, ⊤, ◌<◌, ◌≤◌, true, All}}
 use Rattle.{std.specs.Prelude.{length, refl}, vb_model.specs.Guest.{Guest, requests, with_requests}}
-use Rattle.vb_model.specs.{Tables.is_queue_of_requests, Orderly.{IsOrderly, AllRequestsSound}}
-use Rattle.vb_model.specs.{Limits.max_outstanding, Requests.{Request, Requests, Kind, Inflating}}
-use Rattle.vb_model.specs.{Requests.{Deflating, Reporting_free, queue_of}, Layout.reserved_pages}
-use Rattle.{vb_model.specs.Layout.{ring_page, buffers_page}, vb_ram.specs.Pages.Pages}
+use Rattle.vb_virtio.specs.Queues.{is_queue_of_requests, Request, Kind, Inflating, Deflating}
+use Rattle.vb_virtio.specs.Queues.{Reporting_free, queue_of}
+use Rattle.vb_virtio.specs.Limits.{max_outstanding}
+use Rattle.vb_virtio.specs.Layout.{reserved_pages, ring_page, buffers_page}
+use Rattle.vb_model.specs.Orderly.{IsOrderly, AllRequestsSound}
+use Rattle.vb_model.specs.Requests.{Requests}
+use Rattle.vb_ram.specs.Pages.{Pages}
 use Rattle.{vb_ram.specs.Part.{Part, QueuePart}, vb_device.specs.Queues.{queue_part, with_queue}}
 use Rattle.vb_driver.specs.{Calls.ring_of, State.DriverState, Coding.{IsCoded, AreReported}}
 use Rattle.vb_guest.specs.{Line.{QueueLine, IsRequest}, Stands.{Ties, IsRunning, IsOwnRequest}}

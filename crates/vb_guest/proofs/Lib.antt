@@ -80,3 +80,9 @@ mod RogueFacts
 mod LineFacts
 mod LifeFacts
 mod PromiseFacts
+pub mod ServeCases
+pub mod ServeRefusing
+pub mod ServeStep
+pub mod RogueServe
+pub mod Reaching
+pub mod ServeWhole

@@ -6,10 +6,13 @@ use Rattle.std.specs.Prelude.{Bool, Some, None, Result, Ok, Err, length}
 use Rattle.vb_model.specs.declared.{calls.Claim.Claim, replies.Reply.Reply}
 use Rattle.vb_model.specs.declared.calls.Claim.TheVariants.{Gave, GaveNoFrame}
 use Rattle.vb_model.specs.declared.calls.Call.TheVariants.{Work}
-use Rattle.vb_model.specs.declared.replies.Refusal.{Refusal}
-use Rattle.vb_model.specs.declared.replies.Refusal.TheVariants.{NoFrame as NoFrameLeft, NoMemory}
-use Rattle.vb_model.specs.{Guest.Guest, Rogue.GuestStep, Life.after_restart, Tests.one_if}
-use Rattle.vb_model.specs.{Driver.{given, claim_refusal, AreClaimsFor}, Orderly.times}
+use Rattle.vb_virtio.specs.declared.refusals.Refusal.{Refusal}
+use Rattle.vb_virtio.specs.declared.refusals.Refusal.TheVariants.{NoFrame as NoFrameLeft, NoMemory}
+use Rattle.vb_virtio.specs.Tests.{one_if, times}
+use Rattle.vb_model.specs.Guest.{Guest}
+use Rattle.vb_model.specs.Rogue.{GuestStep}
+use Rattle.vb_model.specs.Life.{after_restart}
+use Rattle.vb_model.specs.Driver.{given, claim_refusal, AreClaimsFor}
 use Rattle.vb_ram.specs.{Pages.{Pages, frame_at, Supplied}, Part.{Part, no_part}}
 use Rattle.vb_frames.specs.{Out.{TableAnswers, IsFree}, declared.keeper.Refused.Refused}
 use Rattle.vb_frames.specs.declared.keeper.Refused.TheVariants.{NoFrame, Memory}
@@ -122,7 +125,7 @@ inits out m2 p2 d2 claims result by =
     let first = by.new refl in
     (first.mem, first.part, first.got, first.own, first.supplies, first.continues)
 
--- ---- steps: what they claim, what stands afterwards, and the frames that move
+-- ---- steps: what they claim, what is afterwards, and the frames that move
 
 steps_over : (New : Guest → Type 0) (s : Supply) (claims : List Claim) (g : Guest) (reply : Reply)
     → StepsOver New TableAnswers asks s claims g Work reply

@@ -2,12 +2,15 @@
 -- reports and its buffer.
 use Rattle.std.proofs.Common.{◌≡◌, ◌↔◌, ℕ, ◌+◌, ◌%◌, ◌<◌, ◌≤◌, true, false, List, [], ◌∷◌, ◌++◌}
 use Rattle.std.proofs.Common.{◌⊎◌, refl, arith}
-use Rattle.vb_model.specs.Driver.{AllDistinct}
+use Rattle.vb_virtio.specs.Tests.{AllDistinct}
+use Rattle.vb_virtio.specs.Queues.{Request}
+use Rattle.vb_virtio.specs.Layout.{ring_page}
 use Rattle.std.specs.Prelude.{All, length, ⊤}
 use Rattle.vb_model.specs.Pages.{pages_of_all}
 use Rattle.std.proofs.lemmas.List.Elements.{All-cons, All-nil}
-use Rattle.vb_model.specs.Requests.{Request, Requests, NoBuffer, BufferPosted, BufferTaken}
-use Rattle.vb_model.specs.{Requests.BufferDone, Pages.{Block, block_at}, Layout.ring_page}
+use Rattle.vb_model.specs.Requests.{Requests, NoBuffer, BufferPosted, BufferTaken}
+use Rattle.vb_model.specs.Requests.{BufferDone}
+use Rattle.vb_model.specs.Pages.{Block, block_at}
 use Rattle.vb_ram.specs.{Pages.Pages, Part.QueuePart}
 use Rattle.vb_ring.specs.{Layout.{IsSize, layout_of}, Ends.DriverEnd}
 use Rattle.vb_ring.specs.Meaning.{UsedElem, ids, times, Shows, Tracks}

@@ -1,7 +1,9 @@
 -- A step in which pages lose their frames.
 use Rattle.std.proofs.Common.{◌≡◌, ℕ, ◌+◌, ◌<◌, List, [], All, None, count_by, sym, ap, subst}
 use Rattle.{std.proofs.Common.arith, vb_model.specs.declared.{replies.Reply.Reply, calls.Call.Call}}
-use Rattle.vb_model.specs.{Driver.AllDistinct, Step.HonestStep, Orderly.times, Guest.Guest}
+use Rattle.vb_virtio.specs.Tests.{AllDistinct, times}
+use Rattle.vb_model.specs.Step.{HonestStep}
+use Rattle.vb_model.specs.Guest.{Guest}
 use Rattle.{vb_ram.specs.{Pages.Pages, Part.Part}, vb_device.specs.Discards.frames_behind}
 use Rattle.{vb_device.specs.Calls.SameFrames, vb_driver.specs.State.DriverState}
 use Rattle.vb_guest.specs.{Steps.{StepsFreeing, is_frame, backing_count}, Stands.Honest}

@@ -3,7 +3,8 @@ use Rattle.std.specs.Prelude.{◌≡◌, ℕ, ◌+◌, ◌==◌, Bool, true, fal
 use Rattle.{std.specs.Prelude.{slice_set, Some, refl}, vb_ram.specs.{Part.Part, Pages.Page}}
 use Rattle.std.proofs.Common.{sym, ◌∙◌, ap, arith, inl, inr}
 use Rattle.std.proofs.lemmas.{Bool.{cases_Bool, eq-eqb}, Grind.common_steps}
-use Rattle.vb_model.{specs.{Tests.one_if, Orderly.times}, proofs.Tables.count_by-cons}
+use Rattle.vb_virtio.specs.Tests.{one_if, times}
+use Rattle.vb_virtio.proofs.Tables.{count_by-cons}
 use Rattle.{vb_frames.specs.Out.is_out, vb_device.proofs.LooseFrames.has_less}
 use Rattle.vb_device.specs.{Calls.{GoBack, HandsBack}, Own.{has, without, SameSet}}
 use Rattle.vb_guest.specs.Supply.{Supply, supply_of, is_used, Moves, nothing, AreLoose}

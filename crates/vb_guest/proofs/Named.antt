@@ -3,8 +3,10 @@ use Rattle.std.specs.Prelude.{◌≡◌, ℕ, zero, suc, ◌<◌, ◌≤◌, ◌
 use Rattle.std.specs.Prelude.{[], ◌∷◌, ◌++◌, length, All, sum_by, slice_set, slice_index_or, refl}
 use Rattle.std.proofs.{Common.{sym, ◌∙◌, ap, arith, inl, inr, get_or}, lemmas.Bool.cases_eq}
 use Rattle.std.proofs.lemmas.{Bool.ne_eqb, List.{length-set, get_or-set_same, get_or-set_other}}
-use Rattle.{std.proofs.lemmas.List.Sums.{sum_by-set, sum_by-cons}, vb_model.specs.Tests.one_if}
-use Rattle.vb_model.specs.Requests.{Request, Requests, all_requests, headed, pages_named}
+use Rattle.vb_virtio.specs.Tests.{one_if}
+use Rattle.vb_virtio.specs.Queues.{Request}
+use Rattle.std.proofs.lemmas.List.Sums.{sum_by-set, sum_by-cons}
+use Rattle.vb_model.specs.Requests.{Requests, all_requests, headed, pages_named}
 use Rattle.{vb_ram.specs.{Pages.Pages, Part.QueuePart}, vb_ring.specs.Entries.is_head}
 use Rattle.vb_driver.specs.State.{RequestSide, AreRequests, pages_named as pages_sent}
 use Rattle.vb_guest.specs.Line.{Line, IsRequest}

@@ -2,12 +2,17 @@
 use Rattle.std.specs.Prelude.{◌≡◌, ℕ, zero, suc, ◌<◌, ◌≤◌, ◌==◌, ◌||◌, Bool, true, false, List}
 use Rattle.std.specs.{Prelude.{[], ◌∷◌, ◌++◌, All, length, slice_index_or, refl}, List.list_any}
 use Rattle.std.proofs.{Common.{sym, ◌∙◌, ap, subst, arith, eq-eqb}, lemmas.List.get_or_past}
-use Rattle.vb_model.specs.{declared.places.Place.Place, Tests.is_in, Guest.Guest}
-use Rattle.vb_model.specs.{Layout.reserved_pages, Pages.{place_of, is_lent, is_reserved}}
-use Rattle.vb_model.specs.{Requests.Request, Driver.{AllFreePages, stranded_first, lowest_lent}}
-use Rattle.vb_model.specs.Orderly.{IsOrderly, times, IsRequestSound, AllRequestsSound}
+use Rattle.vb_virtio.specs.Tests.{is_in, times}
+use Rattle.vb_virtio.specs.Layout.{reserved_pages}
+use Rattle.vb_virtio.specs.Queues.{Request}
+use Rattle.vb_virtio.proofs.Distinct.{distinct_once}
+use Rattle.vb_model.specs.declared.places.Place.{Place}
+use Rattle.vb_model.specs.Guest.{Guest}
+use Rattle.vb_model.specs.Pages.{place_of, is_lent, is_reserved}
+use Rattle.vb_model.specs.Driver.{AllFreePages, stranded_first, lowest_lent}
+use Rattle.vb_model.specs.Orderly.{IsOrderly, IsRequestSound, AllRequestsSound}
 use Rattle.vb_model.proofs.{PageSteps.can_be_given, CallSteps.{inflated_pages, lent_pages}}
-use Rattle.{vb_model.proofs.Distinct.distinct_once, vb_guest.specs.Line.AreRequested}
+use Rattle.vb_guest.specs.Line.{AreRequested}
 
 -- a page that isn't at a reserved place is there, and above the reserved ones
 pub high_page : (g : Guest) (page : ℕ) → IsOrderly g → is_reserved (place_of g.places page) ≡ false

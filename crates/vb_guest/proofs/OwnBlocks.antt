@@ -8,7 +8,9 @@ use Rattle.std.proofs.lemmas.{List.FromFn.get_or-map-range_with_len, Nat.pow_pos
 use Rattle.{std.specs.List.{flat_map, range_with_len}, vb_model.specs.Pages.{Block, block_at}}
 use Rattle.vb_model.specs.Pages.{size, pages_of, pages_of_all, is_free, place_of, is_maximal}
 use Rattle.vb_model.specs.Pages.{blocks_at, blocks_below, maximal_blocks, reported, is_reserved}
-use Rattle.vb_model.specs.{declared.places.Place.Place, Tests.is_in, Layout.reserved_pages}
+use Rattle.vb_virtio.specs.Tests.{is_in}
+use Rattle.vb_virtio.specs.Layout.{reserved_pages}
+use Rattle.vb_model.specs.declared.places.Place.{Place}
 use Rattle.vb_model.specs.{Guest.Guest, Orderly.IsOrderly, Refusals.{reported_blocks, room}}
 use Rattle.{vb_model.proofs.CallSteps.reported_pages, vb_driver.proofs.Runs.in_range}
 use Rattle.vb_guest.{specs.Reported.IsOwnBlock, proofs.Offered.high_page}

@@ -1,8 +1,11 @@
 -- What changes of memory leave of the guest's frames and contents.
 use Rattle.std.specs.Prelude.{◌≡◌, ℕ, ◌≤◌, Bool, false, if◌then◌else◌, List, length, Option, None}
 use Rattle.{std.proofs.Common.{◌∙◌, ap, arith}, vb_device.specs.Discards.discarded}
-use Rattle.{vb_model.specs.{Tests.is_in, Guest.zero_page}, vb_guest.specs.Stands.HasPages}
-use Rattle.{vb_model.specs.Layout.reserved_pages, vb_ram.proofs.Contents.length-zero_page}
+use Rattle.vb_virtio.specs.Tests.{is_in}
+use Rattle.vb_virtio.specs.Memory.{zero_page}
+use Rattle.vb_virtio.specs.Layout.{reserved_pages}
+use Rattle.vb_guest.specs.Stands.{HasPages}
+use Rattle.vb_ram.proofs.Contents.{length-zero_page}
 use Rattle.vb_ram.specs.Pages.{Page, Pages, number_of, page_at, frame_at, contents_at}
 use Rattle.vb_guest.proofs.Discarding.{with_entry, length-with_entry, with_entry-get, with_none-get}
 

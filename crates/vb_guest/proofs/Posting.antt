@@ -6,9 +6,12 @@ use Rattle.std.proofs.lemmas.Bool.{cases_eq, cases_Bool, Decides.nat_tests}
 use Rattle.{std.proofs.lemmas.List.{length-set, get_or-set_same}, vb_ram.specs.Part.QueuePart}
 use Rattle.std.proofs.lemmas.List.{get_or-set_other, Elements.All-push, Sums.get_or-le-sum_by}
 use Rattle.std.proofs.lemmas.Option.{get_or_from_slice_get, slice_get_within}
-use Rattle.vb_model.specs.Requests.{Request, Requests, all_requests, headed, outstanding, posting}
-use Rattle.{vb_model.specs.{Requests.IsLeastHead, Tests.one_if}, vb_chain.specs.Table.descriptor_at}
-use Rattle.vb_model.specs.Layout.{ring_page, buffers_page, buffer_page, buffer_offset}
+use Rattle.vb_virtio.specs.Queues.{Request}
+use Rattle.vb_virtio.specs.Tests.{one_if}
+use Rattle.vb_virtio.specs.Layout.{ring_page, buffers_page, buffer_page, buffer_offset}
+use Rattle.vb_model.specs.Requests.{Requests, all_requests, headed, outstanding, posting}
+use Rattle.vb_model.specs.Requests.{IsLeastHead}
+use Rattle.vb_chain.specs.Table.{descriptor_at}
 use Rattle.{vb_ram.specs.Pages.Pages, vb_driver.{specs.Calls.Posts, proofs.Buffers.names_kept}}
 use Rattle.vb_ring.proofs.Numbers.{numbers_pass, numbers_has, numbers_rise}
 use Rattle.vb_ring.specs.{Entries.{is_own, is_head}, Ends.{DriverEnd, is_unused, free_descriptors}}

@@ -1,13 +1,14 @@
--- What the calls on a guest promise of whatever it stands for, and what a write, a keeper and a buffer
--- are told apart by.
-use Rattle.std.proofs.Common.{◌≡◌, ◌↔◌, ℕ, true, false, List, [], ◌∷◌, refl}
+-- What the calls on a guest promise of whatever it represents, and what a write, a keeper and a
+-- buffer are told apart by.
+use Rattle.std.proofs.Common.{◌≡◌, ◌↔◌, true, false, List, [], ◌∷◌, refl}
 use Rattle.std.specs.Prelude.{Bool, Result, Err}
 use Rattle.vb_model.specs.declared.{calls.Call.Call, calls.Claim.Claim, calls.Query.Query}
-use Rattle.vb_model.specs.declared.{replies.Reply.Reply, replies.Refusal.Refusal}
+use Rattle.vb_virtio.specs.declared.refusals.Refusal.{Refusal}
+use Rattle.vb_virtio.specs.declared.refusals.Refusal.TheVariants.{NotHeld}
+use Rattle.vb_virtio.specs.Layout.{ring_page}
+use Rattle.vb_model.specs.declared.replies.Reply.{Reply}
 use Rattle.vb_model.specs.declared.places.Place.TheVariants.{Free, Used}
-use Rattle.vb_model.specs.declared.replies.Refusal.TheVariants.{NotHeld}
 use Rattle.vb_model.specs.{Guest.Guest, Queries.Answers, Requests.{Figures, BufferPosted}}
-use Rattle.vb_model.specs.{Layout.ring_page}
 use Rattle.vb_ram.specs.{Pages.Pages, Part.Part}
 use Rattle.vb_driver.specs.{State.{DriverState, fresh_driver}, Coding.AreFigures}
 use Rattle.vb_guest.specs.Dispatch.{DeviceStays, WritesAt, LeavesAlone}
@@ -18,7 +19,7 @@ use Rattle.vb_guest.specs.Steps.{AreOut, Restarts, StepsAlone, StepsOver, AllRet
 use Rattle.vb_guest.specs.Supply.{Supply, Moves, nothing}
 use Rattle.vb_guest.specs.Steps.{backing_count}
 
--- ---- whatever guest they stand for
+-- ---- whatever guest they represent
 
 -- there is one, with its frames out of the keeper where its device keeps none
 stand : (mem : Pages) (part : Part) (d : DriverState) (out : List Bool)

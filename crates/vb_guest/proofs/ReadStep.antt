@@ -1,7 +1,7 @@
 -- A guest's read is a step of the definitions.
 use Rattle.std.specs.Prelude.{◌≡◌, ℕ, ◌+◌, ◌<◌, true, false, List, [], length, take}
 use Rattle.std.{specs.Prelude.{drop, None, slice_index, refl}, proofs.Common.{◌∙◌, ap, arith, inl}}
-use Rattle.vb_model.specs.declared.replies.Refusal.TheVariants.{NotHeld, OutOfRam, NoMemory}
+use Rattle.vb_virtio.specs.declared.refusals.Refusal.TheVariants.{NotHeld, OutOfRam, NoMemory}
 use Rattle.vb_model.specs.declared.replies.Reply.TheVariants.{ReadBytes, Refused}
 use Rattle.vb_model.specs.{declared.calls.Call.TheVariants.Read, Pages.{place_of, is_used}}
 use Rattle.{vb_model.specs.{Refusals.refusal_of, Guest.Guest}, vb_ram.specs.Pages.{Pages, byte_at}}

@@ -3,11 +3,15 @@ use Rattle.std.proofs.Common.{◌≡◌, ℕ, Bool, true, false, not, List, [], 
 use Rattle.std.proofs.Common.{Option, Some, None, is_err, drop, sym, ◌∙◌, ap, subst, inl, inr}
 use Rattle.{std.specs.Prelude.refl, vb_driver.specs.declared.answers.Reaped.Reaped as ReapedRequest}
 use Rattle.vb_model.specs.{declared.calls.Call.TheVariants.Reap, Refusals.{causes, refusal_of}}
-use Rattle.vb_model.specs.{declared.replies.Refusal.{Refusal, TheVariants.RingBroken}, Guest.Guest}
-use Rattle.vb_model.specs.declared.replies.Refusal.TheVariants.{NoQueue, NotReady, NoFeature}
-use Rattle.vb_model.specs.{Requests.Request, Tables.{lacks_feature, is_queue_of_requests, is_up}}
+use Rattle.vb_virtio.specs.declared.refusals.Refusal.{Refusal}
+use Rattle.vb_virtio.specs.declared.refusals.Refusal.TheVariants.{RingBroken, NoQueue, NotReady}
+use Rattle.vb_virtio.specs.declared.refusals.Refusal.TheVariants.{NoFeature}
+use Rattle.vb_virtio.specs.Queues.{Request, lacks_feature, is_queue_of_requests}
+use Rattle.vb_virtio.specs.Status.{is_up}
+use Rattle.vb_virtio.specs.FirstRefusal.{Cause, ◌⇒◌, first_refusal}
+use Rattle.vb_model.specs.Guest.{Guest}
 use Rattle.{vb_model.specs.Tables.reap_causes as causes_of_reap, vb_guest.specs.Steps.StepsAlone}
-use Rattle.{vb_model.specs.FirstRefusal.{Cause, ◌⇒◌, first_refusal}, vb_ram.specs.Pages.Pages}
+use Rattle.vb_ram.specs.Pages.{Pages}
 use Rattle.{vb_ram.specs.Part.Part, vb_ring.specs.declared.driver.RingBroken.RingBroken as Broken}
 use Rattle.{vb_ring.specs.Ends.{DriverEnd, used_answer}, vb_guest.specs.Stands.{Honest, IsRunning}}
 use Rattle.vb_driver.specs.{Calls.{ReapsBy, ring_of, next_of, after_refusal}, State.DriverState}

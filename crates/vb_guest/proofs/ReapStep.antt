@@ -2,12 +2,16 @@
 use Rattle.{std.specs.Prelude.{◌≡◌, ℕ, ◌+◌, ◌≤◌, List}, vb_model.specs.Refusals.refusal_of}
 use Rattle.std.specs.Prelude.{[], ◌∷◌, length, Result, Ok, Option, Some, None, count_by, All, refl}
 use Rattle.{std.proofs.Common.{sym, ◌∙◌, ap, subst, arith, inr}, vb_model.specs.Pages.is_lent}
-use Rattle.vb_model.specs.Requests.{Request, Kind, Inflating, Deflating, Reporting_free, queue_of}
+use Rattle.vb_virtio.specs.Queues.{Request, Kind, Inflating, Deflating, Reporting_free, queue_of}
+use Rattle.vb_virtio.specs.declared.refusals.Refusal.{Refusal}
+use Rattle.vb_virtio.proofs.Queues.{no_requests_at}
 use Rattle.vb_model.specs.{Requests.outstanding, declared.calls.Call.TheVariants.Reap}
 use Rattle.vb_model.specs.declared.replies.Reply.{Reply, TheVariants.{NotUsed, Reaped}}
-use Rattle.vb_model.specs.{declared.replies.Refusal.Refusal, Guest.{Guest, requests}, Step.Performs}
+use Rattle.vb_model.specs.Guest.{Guest, requests}
+use Rattle.vb_model.specs.Step.{Performs}
 use Rattle.{vb_model.specs.Driver.{reaped, Reaps}, vb_driver.proofs.RequestTables.requests_taken}
-use Rattle.{vb_model.proofs.Queues.no_requests_at, vb_ram.specs.{Pages.Pages, Part.Part}}
+use Rattle.vb_ram.specs.Pages.{Pages}
+use Rattle.vb_ram.specs.Part.{Part}
 use Rattle.{vb_ring.specs.{Calls.TakesUsedBy, Ends.used_answer}, vb_device.specs.Queues.queue_part}
 use Rattle.vb_driver.specs.Reaps.{pages_sent, without_request, moved_on, with_actual}
 use Rattle.vb_driver.specs.{State.{FreePages, DriverState, IsDriver}, Calls.{ReapsBy, ring_of}}

@@ -1,7 +1,9 @@
 -- The driver takes a used request.
 use Rattle.std.specs.Prelude.{◌≡◌, ℕ, ◌==◌, List, [], ◌∷◌, All, Option, Some, Ok, slice_get}
 use Rattle.std.proofs.{Common.{◌∙◌, ap, subst, arith}, lemmas.List.{Elements.All-tail, length-set}}
-use Rattle.vb_model.specs.{Requests.{Request, Requests, headed}, Tests.one_if}
+use Rattle.vb_virtio.specs.Queues.{Request}
+use Rattle.vb_virtio.specs.Tests.{one_if}
+use Rattle.vb_model.specs.Requests.{Requests, headed}
 use Rattle.{vb_ram.specs.Part.QueuePart, vb_driver.specs.{State.RequestSide, Calls.after_reap}}
 use Rattle.{vb_ram.specs.Pages.Pages, vb_guest.specs.Line.{Line, IsRequest, RingOf, heads_of}}
 use Rattle.vb_ring.specs.{Ends.{DriverEnd, used_answer}, Calls.TakesUsedBy, Entries.is_head}

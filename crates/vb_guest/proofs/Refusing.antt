@@ -1,10 +1,14 @@
 -- Device and model refuse the same calls.
 use Rattle.std.{proofs.Common.{ap, sym, subst, inl, inr}, specs.Prelude.{◌≡◌, ℕ, true, false, not}}
-use Rattle.{std.specs.Prelude.{length, Some, drop}, vb_model.proofs.Queues.{queue_cases, IsNoQueue}}
-use Rattle.vb_model.{proofs.Queues.no_chains_at, specs.{Guest.Guest, Refusals.{causes, refusal_of}}}
-use Rattle.vb_model.specs.Tables.{has_chains, is_queue_of_requests, take_causes, finish_causes}
+use Rattle.vb_virtio.proofs.Queues.{queue_cases, IsNoQueue, no_chains_at}
+use Rattle.vb_virtio.specs.Queues.{has_chains, is_queue_of_requests}
+use Rattle.vb_virtio.specs.declared.refusals.Refusal.TheVariants.{NoQueue}
+use Rattle.std.specs.Prelude.{length, Some, drop}
+use Rattle.vb_model.specs.Guest.{Guest}
+use Rattle.vb_model.specs.Refusals.{causes, refusal_of}
+use Rattle.vb_model.specs.Tables.{take_causes, finish_causes}
 use Rattle.vb_model.specs.declared.calls.Call.TheVariants.{Take, Finish}
-use Rattle.{vb_model.specs.declared.replies.Refusal.TheVariants.NoQueue, vb_ram.specs.Part.Part}
+use Rattle.vb_ram.specs.Part.{Part}
 use Rattle.vb_device.specs.Conditions.{negotiated, take_refusal, finish_refusal, taken_at}
 use Rattle.{vb_device.specs.Queues.queue_part, vb_guest.proofs.Closing.first_holds}
 

@@ -4,7 +4,8 @@ use Rattle.std.specs.Prelude.{All, length, map, Option, None, Ok, slice_index, s
 use Rattle.std.{specs.List.{list_any, range_with_len}, proofs.Common.{sym, ◌∙◌, ap, subst, arith}}
 use Rattle.std.proofs.lemmas.{Nat.pow_pos, List.{length-map, get_or-map, Elements.All-tail}}
 use Rattle.std.proofs.lemmas.List.FromFn.{length-range_with_len, get_or-range_with_len}
-use Rattle.vb_model.specs.{Layout.reserved_pages, Pages.{Block, size, pages_of_all}}
+use Rattle.vb_virtio.specs.Layout.{reserved_pages}
+use Rattle.vb_model.specs.Pages.{Block, size, pages_of_all}
 use Rattle.{vb_ram.specs.Pages.Pages, vb_chain.specs.Written.{empty, linked, AreSound, IsRoute}}
 use Rattle.vb_chain.{specs.{Table.descriptor_at, Chain.ChainGives}, proofs.ChainLaws.written_chain}
 use Rattle.vb_chain.specs.declared.{fault.ChainFault.ChainFault, pieces.Piece.Piece}

@@ -1,8 +1,11 @@
 -- What calls make of the queue of reports.
 use Rattle.std.specs.Prelude.{◌≡◌, ℕ, ◌+◌, ◌≤◌, List, [], ◌∷◌, length, Some, Ok}
 use Rattle.std.proofs.{Common.{ap, subst, arith, inl, refl}, lemmas.List.Elements.All-nil}
-use Rattle.vb_model.specs.Requests.{Request, Requests, no_requests, outstanding, posting}
-use Rattle.{vb_model.specs.{Layout.ring_page, Pages.Block}, vb_ram.specs.Pages.{Pages, page_at}}
+use Rattle.vb_virtio.specs.Queues.{Request}
+use Rattle.vb_virtio.specs.Layout.{ring_page}
+use Rattle.vb_model.specs.Requests.{Requests, no_requests, outstanding, posting}
+use Rattle.vb_model.specs.Pages.{Block}
+use Rattle.vb_ram.specs.Pages.{Pages, page_at}
 use Rattle.{vb_ram.specs.Part.QueuePart, vb_chain.proofs.TableLaws.descriptor_apart}
 use Rattle.vb_ring.specs.{Calls.TakesUsedBy, Ends.DriverEnd}
 use Rattle.vb_driver.specs.{Coding.AreReported, Calls.PostsReport, State.ReportSide}

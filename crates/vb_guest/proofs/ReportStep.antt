@@ -2,15 +2,23 @@
 use Rattle.{std.specs.Prelude.{◌≡◌, ℕ, ◌<◌, ◌==◌, Bool, not}, vb_guest.proofs.RunApart.sizes_of}
 use Rattle.std.specs.Prelude.{nat_le, List, [], ◌∷◌, length, Result, Ok, Err, Some, None, refl, All}
 use Rattle.std.proofs.{lemmas.List.length-map, Common.{sym, ◌∙◌, ap, subst, arith, inr}}
-use Rattle.vb_model.specs.{Driver.after_posting, FirstRefusal.{◌⇒◌, first_refusal}}
-use Rattle.vb_model.specs.{Guest.{Guest, reporting}, Pages.{Block, placed, pages_of_all, reported}}
+use Rattle.vb_virtio.specs.FirstRefusal.{◌⇒◌, first_refusal}
+use Rattle.vb_virtio.specs.Features.{reporting}
+use Rattle.vb_virtio.specs.Queues.{Request, Reporting_free}
+use Rattle.vb_virtio.specs.Status.{is_up}
+use Rattle.vb_virtio.specs.declared.refusals.Refusal.{Refusal}
+use Rattle.vb_virtio.specs.declared.refusals.Refusal.TheVariants.{NotReady, NoFeature, QueueFull}
+use Rattle.vb_virtio.specs.declared.refusals.Refusal.TheVariants.{Nothing}
+use Rattle.vb_model.specs.Driver.{after_posting}
+use Rattle.vb_model.specs.Guest.{Guest}
+use Rattle.vb_model.specs.Pages.{Block, placed, pages_of_all, reported}
 use Rattle.vb_model.specs.{Pages.maximal_free_blocks, Refusals.{refusal_of, reported_blocks}}
-use Rattle.vb_model.specs.Requests.{Request, Requests, no_requests, outstanding, posting}
-use Rattle.vb_model.specs.{Requests.{IsLeastHead, Reporting_free}, Tables.{is_up, most_requests}}
+use Rattle.vb_model.specs.Requests.{Requests, no_requests, outstanding, posting}
+use Rattle.vb_model.specs.Requests.{IsLeastHead}
+use Rattle.vb_model.specs.Tables.{most_requests}
 use Rattle.vb_model.specs.declared.{calls.Call.TheVariants.Report, places.Place.Place}
-use Rattle.vb_model.specs.declared.{places.Place.TheVariants.Reporting, replies.Refusal.Refusal}
-use Rattle.vb_model.specs.declared.replies.Refusal.TheVariants.{NotReady, NoFeature, QueueFull}
-use Rattle.vb_model.specs.declared.replies.{Refusal.TheVariants.Nothing, Reply.TheVariants.Posted}
+use Rattle.vb_model.specs.declared.places.Place.TheVariants.{Reporting}
+use Rattle.vb_model.specs.declared.replies.Reply.TheVariants.{Posted}
 use Rattle.{vb_ram.specs.{Pages.Pages, Part.Part}, vb_ring.specs.Ends.outstanding as outstanding_in}
 use Rattle.vb_driver.specs.{Answers.{report_causes, blocks_to_report}, Areas.areas_without}
 use Rattle.vb_driver.specs.{Calls.{Reports, ReportsBy, unreported}, State.DriverState}

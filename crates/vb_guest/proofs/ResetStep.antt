@@ -2,7 +2,9 @@
 use Rattle.std.specs.Prelude.{◌≡◌, ℕ, Bool, false, List, [], length, map, replicate, refl}
 use Rattle.{std.proofs.Common.{◌∙◌, ap, inl}, vb_driver.specs.{Areas.areas_with, Calls.ResetsBy}}
 use Rattle.vb_model.specs.declared.{calls.Call.TheVariants.Reset, places.Place.Place}
-use Rattle.vb_model.specs.{declared.replies.Reply.TheVariants.Done, Tests.pages_where, Guest.Guest}
+use Rattle.vb_virtio.specs.Tests.{pages_where}
+use Rattle.vb_model.specs.declared.replies.Reply.TheVariants.{Done}
+use Rattle.vb_model.specs.Guest.{Guest}
 use Rattle.vb_model.specs.{Pages.is_reporting, Life.{place_after_reset, after_reset}}
 use Rattle.{vb_ram.specs.Pages.Pages, vb_guest.specs.{Stands.{Honest, Ties}, Steps.StepsAlone}}
 use Rattle.{vb_ram.specs.Part.Part, vb_status.specs.After.part_after_reset as device_after_reset}

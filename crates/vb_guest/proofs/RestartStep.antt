@@ -4,8 +4,12 @@ use Rattle.std.specs.Prelude.{Option, None, count_by, replicate, slice_index_or,
 use Rattle.{std.specs.Option.option_to_list, vb_driver.specs.State.{DriverState, fresh_driver}}
 use Rattle.{std.specs.List.range_with_len, vb_ram.specs.Part.Part, vb_guest.proofs.Moving.moves_as}
 use Rattle.std.proofs.{Common.{sym, ◌∙◌, ap, subst, arith}, lemmas.List.length-replicate}
-use Rattle.vb_model.specs.{Limits.is_config, Guest.{Guest, no_statistics}, Life.after_restart}
-use Rattle.vb_model.{specs.Orderly.times, proofs.Tables.{count_by-cons, count_by-append}}
+use Rattle.vb_virtio.specs.Limits.{is_config}
+use Rattle.vb_virtio.specs.Statistics.{no_statistics}
+use Rattle.vb_virtio.specs.Tests.{times}
+use Rattle.vb_virtio.proofs.Tables.{count_by-cons, count_by-append}
+use Rattle.vb_model.specs.Guest.{Guest}
+use Rattle.vb_model.specs.Life.{after_restart}
 use Rattle.{vb_ram.specs.Pages.{Pages, frame_at, number_of}, vb_status.specs.After.part_after_reset}
 use Rattle.{vb_device.specs.Discards.frames_behind, vb_guest.proofs.Standing.{stands_of, own_moved}}
 use Rattle.vb_guest.proofs.{Discarding.one_frame, Fresh.{everywhere, backs_none, fresh_honest}}
@@ -13,7 +17,7 @@ use Rattle.vb_guest.{proofs.Writing.HasFrames, specs.Stands.{Honest, DeviceKeeps
 use Rattle.vb_guest.specs.{Exact.KeepsFrames, Supply.{Supply, supply_of, Moves, nothing, AreLoose}}
 use Rattle.vb_guest.specs.Steps.{is_frame, backing_count, AreOut, AllReturn, IsBare, Restarts}
 
--- ---- the frames behind all pages
+-- ---- the frames that back all pages
 
 -- each frame as often as it is in the table
 all_behind : (n first : ℕ) (mem : Pages) (frames : List (Option ℕ)) → ((i : ℕ)
@@ -36,7 +40,7 @@ all_behind n first mem (x ∷ xs) same =
 
 -- ---- what is needed of the guest
 
--- how large it is, its target and its pace, and the frames behind its pages
+-- how large it is, its target and its pace, and the frames that back its pages
 record Rooted (mem : Pages) (part : Part) (d : DriverState) (g : Guest) : Type 0 where
   config : is_config g.config.pages g.config.queue_size g.config.processors ≡ true
   pages : d.pages ≡ g.config.pages

@@ -1,6 +1,8 @@
 -- What leaves a ring alone, and a ring of which nothing was published.
 use Rattle.std.specs.Prelude.{◌≡◌, ℕ, List, [], ◌++◌, length, refl}
-use Rattle.{std.proofs.Common.{sym, subst}, vb_model.{specs.Layout.ring_page, proofs.Shapes.InRing}}
+use Rattle.vb_virtio.specs.Layout.{ring_page}
+use Rattle.vb_virtio.proofs.Shapes.{InRing}
+use Rattle.std.proofs.Common.{sym, subst}
 use Rattle.{vb_ram.specs.Pages.{Pages, page_at}, vb_ring.specs.Layout.{IsSize, layout_of}}
 use Rattle.vb_ring.{specs.Ends.DriverEnd, proofs.Shapes.{AreInRing, parts_in_ring}}
 use Rattle.vb_ring.proofs.MeaningLaws.{tracks_apart, ring_apart as shows_apart}

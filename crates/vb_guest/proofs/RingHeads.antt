@@ -1,10 +1,12 @@
--- The heads of a ring: how often they stand in its lists, and that each is out at most once.
+-- The heads of a ring: how often they are in its lists, and that each is out at most once.
 use Rattle.std.specs.Prelude.{◌≡◌, ℕ, ◌+◌, ◌≤◌, ◌==◌, Bool, true, cond, List, [], ◌∷◌, ◌++◌}
 use Rattle.std.specs.Prelude.{length, Some, None, slice_get, slice_index_or, remove, take, refl}
 use Rattle.std.proofs.Common.{◌∙◌, ap, arith, length-append, eq-eqb}
 use Rattle.std.proofs.lemmas.List.{length-map, map-append, Sums.sum_by-remove}
 use Rattle.std.proofs.lemmas.Option.{get_or_from_slice_get, slice_get_within}
-use Rattle.{vb_model.{specs.Tests.one_if, proofs.Distinct.times-append}, vb_ram.specs.Pages.Pages}
+use Rattle.vb_virtio.specs.Tests.{one_if}
+use Rattle.vb_virtio.proofs.Distinct.{times-append}
+use Rattle.vb_ram.specs.Pages.{Pages}
 use Rattle.vb_ring.specs.{Entries.is_head, Ends.{DriverEnd, outstanding}}
 use Rattle.{vb_ring.specs.Meaning.{UsedElem, ids, times}, vb_guest.specs.Ring.{RingStands, used_of}}
 
@@ -56,7 +58,7 @@ pub take_front : {A : Type 0} (xs ys : List A) → take (length xs) (xs ++ ys) �
 take_front [] ys = grind arith
 take_front (x ∷ xs) ys = ap (λ l. x ∷ l) (take_front xs ys)
 
--- what stands after a list
+-- what comes after a list
 pub get_after : {A : Type 0} (xs : List A) (y : A) (ys : List A)
     → slice_get (xs ++ y ∷ ys) (length xs) ≡ Some y
 get_after [] y ys = refl

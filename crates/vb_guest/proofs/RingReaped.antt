@@ -2,7 +2,8 @@
 use Rattle.std.specs.Prelude.{◌≡◌, ℕ, ◌+◌, ◌%◌, Bool, true, if◌then◌else◌, List}
 use Rattle.std.specs.Prelude.{[], ◌∷◌, ◌++◌, length, Result, Ok, Err, Option, Some, slice_get, refl}
 use Rattle.std.proofs.{lemmas.List.length_push, Common.{sym, ◌∙◌, ap, subst, arith, append_assoc}}
-use Rattle.{vb_model.proofs.Distinct.times-cons, vb_ram.specs.Pages.Pages}
+use Rattle.vb_virtio.proofs.Distinct.{times-cons}
+use Rattle.vb_ram.specs.Pages.{Pages}
 use Rattle.vb_ring.specs.declared.driver.RingBroken.{RingBroken, TheVariants.NotOutstanding}
 use Rattle.vb_ring.specs.{Ends.{DriverEnd, after_take, used_answer, outstanding}, Calls.TakesUsedBy}
 use Rattle.vb_ring.specs.{Entries.{is_head, only_head}, Meaning.{UsedElem, ids, times, Shows}}

@@ -4,7 +4,8 @@ use Rattle.std.{proofs.lemmas.List.{length_push, map_push, Edits.length-remove},
 use Rattle.{std.proofs.lemmas.Option.slice_get_within, vb_ring.proofs.MeaningLaws.used_tracks}
 use Rattle.std.specs.Prelude.{◌≡◌, ◌+◌, ◌%◌, ◌<◌, true, List, ◌++◌, length, Some, slice_get, remove}
 use Rattle.{std.specs.Prelude.{ℕ, []}, vb_guest.proofs.RingHeads.{one_is, times-remove, times-used}}
-use Rattle.{vb_model.proofs.Distinct.times-append, vb_guest.specs.Ring.{RingStands, used_of}}
+use Rattle.vb_virtio.proofs.Distinct.{times-append}
+use Rattle.vb_guest.specs.Ring.{RingStands, used_of}
 use Rattle.vb_ring.{proofs.HeadCounts.times-push, specs.Ends.{DriverEnd, DeviceEnd}}
 use Rattle.vb_ring.specs.{Calls.AddsUsedBy, Meaning.{UsedElem, ids, times, Shows, Tracks}}
 

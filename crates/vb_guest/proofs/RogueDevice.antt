@@ -4,18 +4,28 @@ use Rattle.std.specs.Prelude.{◌≡◌, ℕ, ◌<◌, ◌==◌, Bool, true, fal
 use Rattle.std.specs.Prelude.{Option, Some, None, Result, refl, if◌then◌else◌, is_some}
 use Rattle.{std.proofs.lemmas.List.get_or_past, vb_device.specs.declared.worked.Worked.Worked}
 use Rattle.{std.proofs.Common.{sym, ◌∙◌, ap, subst, arith}, vb_model.proofs.Refusing.is_refused}
-use Rattle.vb_model.specs.Tables.{is_not_ready, has_fault, work_causes, sweep_causes}
-use Rattle.vb_model.specs.{Tests.is_in, Device.visiting, Step.bare_pages, Orderly.times}
-use Rattle.vb_model.specs.declared.replies.Refusal.{Refusal, TheVariants.NotBallooned}
-use Rattle.vb_model.specs.declared.replies.Refusal.TheVariants.{NotReady, NeedsReset, NoFeature}
-use Rattle.vb_model.specs.{declared.replies.Reply.{Reply, TheVariants.Done}, Layout.reserved_pages}
-use Rattle.vb_model.specs.declared.layout.TheConstants.{INFLATE_QUEUE, DEFLATE_QUEUE}
-use Rattle.vb_model.specs.declared.layout.TheConstants.{STATISTICS_QUEUE, REPORT_QUEUE}
+use Rattle.vb_virtio.specs.Status.{is_not_ready, has_fault, work_causes, contains, driver_ok}
+use Rattle.vb_virtio.specs.Status.{failed}
+use Rattle.vb_virtio.specs.Tests.{is_in, times}
+use Rattle.vb_virtio.specs.declared.refusals.Refusal.{Refusal}
+use Rattle.vb_virtio.specs.declared.refusals.Refusal.TheVariants.{NotBallooned, NotReady}
+use Rattle.vb_virtio.specs.declared.refusals.Refusal.TheVariants.{NeedsReset, NoFeature}
+use Rattle.vb_virtio.specs.Layout.{reserved_pages}
+use Rattle.vb_virtio.specs.declared.layout.TheConstants.{INFLATE_QUEUE, DEFLATE_QUEUE}
+use Rattle.vb_virtio.specs.declared.layout.TheConstants.{STATISTICS_QUEUE, REPORT_QUEUE}
+use Rattle.vb_virtio.specs.Features.{must_tell_host}
+use Rattle.vb_virtio.specs.Queues.{Request}
+use Rattle.vb_virtio.specs.FirstRefusal.{◌⇒◌, first_refusal}
+use Rattle.vb_virtio.proofs.Shapes.{start_reserved}
+use Rattle.vb_model.specs.Tables.{sweep_causes}
+use Rattle.vb_model.specs.Device.{visiting}
+use Rattle.vb_model.specs.Step.{bare_pages}
+use Rattle.vb_model.specs.declared.replies.Reply.{Reply}
+use Rattle.vb_model.specs.declared.replies.Reply.TheVariants.{Done}
 use Rattle.vb_model.specs.declared.calls.Call.{Call, TheVariants.{Work, Sweep, SetTarget}}
-use Rattle.vb_model.specs.{Guest.{Guest, is_ballooned, frame_of, must_tell_host}, Requests.Request}
+use Rattle.vb_model.specs.Guest.{Guest, is_ballooned, frame_of}
 use Rattle.{vb_model.specs.Rogue.target_after, vb_guest.proofs.Heads.all-visiting}
-use Rattle.vb_model.specs.{Status.{contains, driver_ok, failed}, FirstRefusal.{◌⇒◌, first_refusal}}
-use Rattle.vb_model.proofs.{Shapes.start_reserved, Wanting.{wants, refused_otherwise}}
+use Rattle.vb_model.proofs.Wanting.{wants, refused_otherwise}
 use Rattle.vb_ram.specs.{Pages.{Pages, frame_at, page_at, number_of}, Part.{Part, QueuePart}}
 use Rattle.vb_request.proofs.{RequestPages.{once_distinct, once_all}, Once.is_in-each_once}
 use Rattle.{vb_request.specs.Request.each_once, vb_guest.specs.Stands.{IsOwnRequest, Rogue}}
@@ -103,11 +113,11 @@ changes_back {size} {n} {p1} {p} changes is =
     record { inflates = after.inflates; reports = after.reports } in
     subst (PartChanges size n p1) (sym (ap handed_back is)) (assumption own)
 
-none_of : (b : Bool) {x : Option ℕ} (frame : ℕ)
+pub none_of : (b : Bool) {x : Option ℕ} (frame : ℕ)
     → (if b then None else x) ≡ Some frame → x ≡ Some frame
 none_of x frame e = grind arith
 
--- a reply that is no refusal is none for want of something
+-- a reply that is no refusal is none for lack of something
 pub done_wants : (reply : Reply) → is_refused reply ≡ false → wants reply ≡ false
 done_wants x e = grind arith
 

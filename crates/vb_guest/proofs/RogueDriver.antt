@@ -4,18 +4,26 @@ use Rattle.std.specs.Prelude.{◌≡◌, ℕ, ◌==◌, Bool, true, false, not, 
 use Rattle.std.specs.Prelude.{Option, Some, None, Result, Ok, Err, refl, if◌then◌else◌, bit_or}
 use Rattle.{std.specs.List.list_all, vb_model.proofs.Wanting.{wants, none_wants, refused_otherwise}}
 use Rattle.vb_model.{proofs.{Wanting.refused_passes, GuestSteps.length-reaped}, specs.Guest.Guest}
-use Rattle.vb_model.specs.{Guest.{is_ballooned, stats_vq}, Pages.placed, Life.place_after_reset}
+use Rattle.vb_virtio.specs.Features.{stats_vq}
+use Rattle.vb_virtio.specs.declared.layout.TheConstants.{INFLATE_QUEUE, DEFLATE_QUEUE}
+use Rattle.vb_virtio.specs.declared.refusals.Refusal.{Refusal}
+use Rattle.vb_virtio.specs.declared.refusals.Refusal.TheVariants.{NoQueue, NotReady, NoFeature}
+use Rattle.vb_virtio.specs.declared.refusals.Refusal.TheVariants.{RingBroken, Nothing, Broken}
+use Rattle.vb_virtio.specs.Status.{contains, driver_ok, failed, is_broken}
+use Rattle.vb_virtio.specs.FirstRefusal.{Cause, ◌⇒◌, first_refusal}
+use Rattle.vb_virtio.specs.Queues.{is_queue_of_requests, lacks_feature, Inflating, Deflating}
+use Rattle.vb_virtio.specs.Queues.{Reporting_free}
+use Rattle.vb_model.specs.Guest.{is_ballooned}
+use Rattle.vb_model.specs.Pages.{placed}
+use Rattle.vb_model.specs.Life.{place_after_reset}
 use Rattle.vb_model.specs.declared.calls.Call.{Call, TheVariants.{Alloc, Free, Inflate}}
 use Rattle.vb_model.specs.declared.calls.Call.TheVariants.{Deflate, Oom, Report, Stats, Reap, Reset}
-use Rattle.vb_model.specs.declared.{places.Place.Place, layout.TheConstants.INFLATE_QUEUE}
-use Rattle.vb_model.specs.declared.{layout.TheConstants.DEFLATE_QUEUE, replies.Reply.Reply}
-use Rattle.vb_model.specs.declared.replies.{Reply.TheVariants.{Refused, Done}, Refusal.Refusal}
-use Rattle.vb_model.specs.declared.replies.Refusal.TheVariants.{NoQueue, NotReady, NoFeature}
-use Rattle.vb_model.specs.declared.replies.Refusal.TheVariants.{RingBroken, Nothing, Broken}
-use Rattle.vb_model.specs.{Status.{contains, driver_ok, failed, is_broken}, Step.bare_pages}
-use Rattle.vb_model.specs.{FirstRefusal.{Cause, ◌⇒◌, first_refusal}, Tables.is_queue_of_requests}
-use Rattle.vb_model.specs.{Tables.lacks_feature, Rogue.{target_after, after_refused, with_fault}}
-use Rattle.vb_model.specs.Requests.{Inflating, Deflating, Reporting_free, places_reaped}
+use Rattle.vb_model.specs.declared.places.Place.{Place}
+use Rattle.vb_model.specs.declared.replies.Reply.{Reply}
+use Rattle.vb_model.specs.declared.replies.Reply.TheVariants.{Refused, Done}
+use Rattle.vb_model.specs.Step.{bare_pages}
+use Rattle.vb_model.specs.Rogue.{target_after, after_refused, with_fault}
+use Rattle.vb_model.specs.Requests.{places_reaped}
 use Rattle.{vb_ram.specs.{Part.Part, Pages.{Pages, frame_at}}, vb_ring.specs.Ends.after_take}
 use Rattle.vb_driver.specs.Calls.{AllocatesBy, FreesBy, InflatesBy, DeflatesBy, DeflatesOnOomBy}
 use Rattle.vb_driver.specs.Calls.{ReportsBy, FillsBy, ReapsBy, ResetsBy, Unchanged, AsksBack}
@@ -32,7 +40,7 @@ use Rattle.vb_guest.proofs.Rogues.{no_refusal, keeps_status, is_of_driver, witho
 use Rattle.vb_guest.specs.{Stands.Rogue, Replies.{page_reply, done_reply}}
 use Rattle.vb_guest.specs.{Replies.{posted_reply, reaped_reply, filled_reply}, Steps.StepsAlone}
 
--- the refusal is one of these tests, none of which is for want of frames or of memory
+-- the refusal is one of these tests, none of which is for lack of frames or memory
 not_for_want : (why : Refusal) (causes : List Cause) → Some why ≡ first_refusal causes
     → none_wants causes ≡ true → wants (Refused why) ≡ false
 not_for_want why causes is others = refused_otherwise causes why others (sym is)

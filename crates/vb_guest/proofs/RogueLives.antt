@@ -6,16 +6,23 @@ use Rattle.std.proofs.lemmas.{Bool.ne_eqb, List.{length-replicate, Elements.All-
 use Rattle.{vb_guest.specs.{Stands.Rogue, Replies.ready_reply}, vb_ram.proofs.Limits.config_limits}
 use Rattle.{std.proofs.Common.{sym, ◌∙◌, ap, subst, arith}, vb_ram.specs.Pages.{Pages, frame_at}}
 use Rattle.vb_guest.proofs.Supplying.{supplied_count, all_distinct, bounded, frames_given}
-use Rattle.vb_model.proofs.{Shapes.reserved_most, Wanting.{wants, no_want, refused_otherwise}}
-use Rattle.vb_model.specs.{Driver.{AllDistinct, given, AreClaimsFor, claim_refusal}, Tests.is_in}
-use Rattle.vb_model.specs.{FirstRefusal.{◌⇒◌, first_refusal}, Guest.{Guest, all_backed, stats_vq}}
-use Rattle.vb_model.specs.{Layout.{reserved_pages, is_start_page}, declared.calls.Claim.Claim}
-use Rattle.vb_model.specs.Life.{lacking, feature_causes, feature_refusal, accepted_before}
+use Rattle.vb_virtio.proofs.Shapes.{reserved_most}
+use Rattle.vb_virtio.specs.Tests.{AllDistinct, is_in}
+use Rattle.vb_virtio.specs.FirstRefusal.{◌⇒◌, first_refusal}
+use Rattle.vb_virtio.specs.Features.{stats_vq}
+use Rattle.vb_virtio.specs.Layout.{reserved_pages, is_start_page}
+use Rattle.vb_virtio.specs.Status.{feature_causes, feature_refusal}
+use Rattle.vb_virtio.specs.declared.statistics.LastStatistics.{LastStatistics}
+use Rattle.vb_virtio.specs.declared.refusals.Refusal.{Refusal}
+use Rattle.vb_virtio.specs.declared.refusals.Refusal.TheVariants.{AlreadyUp, NoFrame, NoMemory}
+use Rattle.vb_model.proofs.Wanting.{wants, no_want, refused_otherwise}
+use Rattle.vb_model.specs.Driver.{given, AreClaimsFor, claim_refusal}
+use Rattle.vb_model.specs.Guest.{Guest, all_backed}
+use Rattle.vb_model.specs.declared.calls.Claim.{Claim}
+use Rattle.vb_model.specs.Life.{lacking, accepted_before}
 use Rattle.{vb_model.specs.Refusals.refusal_of, vb_status.specs.After.part_after_reset}
 use Rattle.vb_model.specs.Rogue.{LosesFrames, pages_to_back, unless_refused, after_refused}
 use Rattle.vb_model.specs.declared.{calls.Call.TheVariants.Init, replies.Reply.TheVariants.Refused}
-use Rattle.vb_model.specs.declared.replies.{LastStatistics.LastStatistics, Refusal.Refusal}
-use Rattle.vb_model.specs.declared.replies.Refusal.TheVariants.{AlreadyUp, NoFrame, NoMemory}
 use Rattle.{vb_ram.specs.Part.Part, vb_frames.specs.declared.keeper.Refused.Refused as WhyRefused}
 use Rattle.vb_driver.specs.{State.DriverState, Calls.{InitsBy, Starts, FirstBuffer, GivesUp}}
 use Rattle.vb_guest.proofs.Rogues.{shape_of, shaped, Keeps, DeviceSame, driver_same, rogue_after}

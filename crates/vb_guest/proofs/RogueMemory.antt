@@ -4,11 +4,14 @@ use Rattle.std.{specs.Prelude.{is_some, refl, Err}, proofs.Common.{sym, ◌∙�
 use Rattle.{std.proofs.lemmas.Bool.cases_eq, vb_model.specs.Driver.{AreClaimsFor, pages_needed}}
 use Rattle.{vb_model.specs.Rogue.{LosesFrames, pages_to_back, with_fault}, vb_ram.specs.Part.Part}
 use Rattle.vb_model.specs.{Guest.{Guest, frame_of, backed, all_backed}, Refusals.refusal_of}
-use Rattle.vb_model.specs.declared.replies.Refusal.{Refusal, TheVariants.{OutOfRam, NotHeld}}
-use Rattle.vb_model.specs.declared.replies.{Refusal.TheVariants.NoFrame as NoFrameLeft, Reply.Reply}
+use Rattle.vb_virtio.specs.declared.refusals.Refusal.{Refusal}
+use Rattle.vb_virtio.specs.declared.refusals.Refusal.TheVariants.{OutOfRam, NotHeld}
+use Rattle.vb_virtio.specs.declared.refusals.Refusal.TheVariants.{NoFrame as NoFrameLeft}
+use Rattle.vb_virtio.specs.Status.{contains, driver_ok}
+use Rattle.vb_model.specs.declared.replies.Reply.{Reply}
 use Rattle.vb_model.{specs.declared.replies.Reply.TheVariants.{Done, Refused}, proofs.Wanting.wants}
 use Rattle.vb_model.specs.{declared.calls.Call.TheVariants.{Read, Write}, Pages.{place_of, is_used}}
-use Rattle.vb_model.specs.{declared.calls.Claim.Claim, Status.{contains, driver_ok}}
+use Rattle.vb_model.specs.declared.calls.Claim.{Claim}
 use Rattle.{vb_model.specs.declared.calls.Claim.TheVariants.Gave, vb_driver.specs.State.DriverState}
 use Rattle.vb_ram.specs.Pages.{Pages, frame_at, Covers, Wrote, Supplied}
 use Rattle.vb_frames.specs.{declared.keeper.Refused.Refused as KeeperRefused, Out.claim_in}

@@ -5,19 +5,27 @@ use Rattle.std.specs.Prelude.{◌∷◌, ◌++◌, length, All, Option, Some, No
 use Rattle.std.specs.Prelude.{refl, if◌then◌else◌, remove, is_some, is_none, IsOk, bit_or}
 use Rattle.std.proofs.lemmas.{Option.{get_or_from_slice_get, slice_get_within}, List.get_or_past}
 use Rattle.std.proofs.lemmas.{List.Elements.{All-push, All-nil}, Bool.{cases_eq, ne_eqb}}
-use Rattle.{std.proofs.Common.{sym, ◌∙◌, ap, subst, arith, inl, inr}, vb_model.specs.Tests.flagged}
-use Rattle.vb_model.specs.Tables.{is_not_ready, has_fault, has_chains, lacks_feature, ask_causes}
-use Rattle.vb_model.specs.Tables.{is_queue_of_requests, has_unvisited, take_causes, finish_causes}
-use Rattle.vb_model.specs.declared.replies.{Refusal.Refusal, Reply.TheVariants.Done}
-use Rattle.vb_model.specs.declared.replies.Refusal.TheVariants.{NoQueue, NotReady, NeedsReset}
-use Rattle.vb_model.specs.declared.replies.Refusal.TheVariants.{Broken, Busy, NotTaken, NotWorked}
-use Rattle.vb_model.specs.declared.layout.TheConstants.{INFLATE_QUEUE, DEFLATE_QUEUE}
-use Rattle.vb_model.specs.declared.layout.TheConstants.{STATISTICS_QUEUE, REPORT_QUEUE}
-use Rattle.vb_model.specs.{declared.calls.Call.TheVariants.{Take, Finish, Ask}, Limits.page_size}
+use Rattle.vb_virtio.specs.Tests.{flagged, times}
+use Rattle.vb_virtio.specs.Status.{is_not_ready, has_fault, contains, driver_ok, failed}
+use Rattle.vb_virtio.specs.Status.{needs_reset}
+use Rattle.vb_virtio.specs.Queues.{has_chains, lacks_feature, is_queue_of_requests, Request}
+use Rattle.vb_virtio.specs.declared.refusals.Refusal.{Refusal}
+use Rattle.vb_virtio.specs.declared.refusals.Refusal.TheVariants.{NoQueue, NotReady, NeedsReset}
+use Rattle.vb_virtio.specs.declared.refusals.Refusal.TheVariants.{Broken, Busy, NotTaken, NotWorked}
+use Rattle.vb_virtio.specs.declared.layout.TheConstants.{INFLATE_QUEUE, DEFLATE_QUEUE}
+use Rattle.vb_virtio.specs.declared.layout.TheConstants.{STATISTICS_QUEUE, REPORT_QUEUE}
+use Rattle.vb_virtio.specs.Limits.{page_size}
+use Rattle.vb_virtio.specs.Layout.{reserved_pages, ring_page}
+use Rattle.vb_virtio.specs.FirstRefusal.{◌⇒◌, first_refusal}
+use Rattle.std.proofs.Common.{sym, ◌∙◌, ap, subst, arith, inl, inr}
+use Rattle.vb_model.specs.{Rogue.target_after, Step.bare_pages, declared.calls.Call.Call}
+use Rattle.vb_model.specs.declared.replies.Reply.{Reply, TheVariants.Finished}
+use Rattle.vb_guest.proofs.Rogues.{IsOther}
+use Rattle.vb_model.specs.Tables.{ask_causes}
+use Rattle.vb_model.specs.Tables.{has_unvisited, take_causes, finish_causes}
+use Rattle.vb_model.specs.declared.calls.Call.TheVariants.{Take, Finish, Ask}
 use Rattle.vb_model.{specs.Guest.{Guest, is_ballooned}, proofs.Wanting.refused_otherwise}
-use Rattle.vb_model.specs.{Status.{contains, driver_ok, failed, needs_reset}, Requests.Request}
-use Rattle.vb_model.specs.{Layout.{reserved_pages, ring_page}, FirstRefusal.{◌⇒◌, first_refusal}}
-use Rattle.{vb_model.specs.Orderly.times, vb_guest.proofs.RogueDriver.{left_same, unchanged_alone}}
+use Rattle.vb_guest.proofs.RogueDriver.{left_same, unchanged_alone}
 use Rattle.{vb_model.proofs.Refusing.is_refused, vb_ram.specs.Part.{Part, QueuePart}}
 use Rattle.{vb_ram.specs.Pages.{Pages, frame_at, number_of}, vb_request.specs.Report.report_request}
 use Rattle.vb_chain.specs.declared.fault.ChainFault.TheVariants.{WrongDirection, BadLength}
@@ -190,6 +198,60 @@ names_nothing : {size : ℕ} (n : ℕ) → IsOwnRequest size n nothing_named
 names_nothing {size} n =
     record { above = All-nil (λ p. reserved_pages size ≤ p); below = All-nil (λ p. p < n) }
 
+-- a taken request is used, by a call that isn't one of memory
+pub uses_rogue : {m1 m2 : Pages} {p1 p2 : Part} {d : DriverState} {g : Guest} {q i : ℕ}
+    {result : Result ℕ Refusal} (call : Call) (reply : Reply) (r : Request)
+    → is_queue_of_requests q ≡ true → contains p1.status driver_ok ≡ true
+    → taken_at q i p1 ≡ Some r → Uses q i r m1 m2 p1 p2 result
+    → target_after call p1.target ≡ p1.target → is_refused reply ≡ false → IsOther call
+    → bare_pages call g ≡ [] → Rogue m1 p1 d g
+    → StepsFreeing (Rogue m2 (handed_back p2) d) p2.loose g call reply
+uses_rogue {m1} {m2} {p1} {p2} {d} {g} {q} {i} {result} call reply r known ok at uses still answer
+    other none rogue = by (q == DEFLATE_QUEUE) refl where
+      size : ℕ
+      size = g.config.queue_size
+
+      -- the request's pages, or none, lose their frames
+      settles : (lost : Request) → IsOwnRequest size (length m1) lost → ((q == INFLATE_QUEUE) ≡ true
+          → All (λ p. reserved_pages size ≤ p) r.pages) → ((page : ℕ) → frame_at (without_frames q
+          r.pages m1) page ≡ frame_at (discarded lost.pages m1) page)
+          → length (without_frames q r.pages m1) ≡ length m1
+          → lost_frames q r.pages m1 ≡ frames_behind m1 (each_once lost.pages)
+          → StepsFreeing (Rogue m2 (handed_back p2) d) p2.loose g call reply
+      settles lost own high same count loose = let x : QueuePart = record (queue_part q p1) {
+        next_used = ((queue_part q p1).next_used + 1) % 65536;
+        taken = remove (queue_part q p1).taken i;
+      } in
+          let n = length m1 in
+          rogue_freed p2 own
+          (changes_back (changes_then (changes_with q x (λ all. all_remove (IsOwnRequest size n)
+          (queue_part q p1).taken i all)) (settled_changes q r.pages high)) uses.part) ok
+          (uses.memory.puts.rest.count ∙ count) (λ page. uses.memory.puts.rest.backing page ∙ same page)
+          (λ k. uses.loose k ∙ ap (times k) loose) still answer other none rogue
+
+      by : (b : Bool) → (q == DEFLATE_QUEUE) ≡ b
+          → StepsFreeing (Rogue m2 (handed_back p2) d) p2.loose g call reply
+      by true deflates =
+          let whole : without_frames q r.pages m1 ≡ m1 = grind arith in
+          let high : (q == INFLATE_QUEUE) ≡ true → All (λ p. reserved_pages size ≤ p) r.pages =
+          λ inflates. absurd (not_both q deflates inflates) in
+          settles nothing_named (names_nothing (length m1)) high
+          (λ page. ap (λ (m : Pages). frame_at m page) whole
+          ∙ sym (ap number_of (page_discarded [] m1 page))) (ap (λ (m : Pages). length m) whole)
+          (ap (λ (b : Bool). if b then [] else frames_behind m1 (each_once r.pages)) deflates)
+      by false others =
+          let up = rogue.up ok in
+          let all = own_taken q p1 known others
+          (record { inflates = up.inflates; reports = up.reports }) in
+          let taken = (queue_part q p1).taken in
+          let own : IsOwnRequest size (length m1) r = subst (IsOwnRequest size (length m1))
+          (get_or_from_slice_get taken i r r at) (all i r (slice_get_within taken i r at)) in
+          let bare : without_frames q r.pages m1 ≡ discarded r.pages m1 =
+          ap (λ (b : Bool). if b then m1 else discarded r.pages m1) others in
+          settles r own (λ e. own.above) (λ page. ap (λ (m : Pages). frame_at m page) bare)
+          (ap (λ (m : Pages). length m) bare ∙ length-discarded r.pages m1)
+          (ap (λ (b : Bool). if b then [] else frames_behind m1 (each_once r.pages)) others)
+
 pub finish_rogue : {m1 m2 : Pages} {p1 p2 : Part} {d : DriverState} {g : Guest}
     {q i : ℕ} {result : Result ℕ Refusal} → FinishesBy q i m1 m2 p1 p2 result → Rogue m1 p1 d g
     → StepsFreeing (Rogue m2 (handed_back p2) d) p2.loose g (Finish q i) (finished_reply result)
@@ -198,56 +260,8 @@ finish_rogue {m1} {m2} {p1} {p2} {d} {g} {q} {i} {result} did rogue = by
       Done : Result ℕ Refusal → Type 0
       Done r = StepsFreeing (Rogue m2 (handed_back p2) d) p2.loose g (Finish q i) (finished_reply r)
 
-      size : ℕ
-      size = g.config.queue_size
-
       unworked : Bool
       unworked = p1.paced && not (q == DEFLATE_QUEUE) && has_unvisited (taken_at q i p1)
-
-      -- the request's pages, or none, lose their frames
-      settles : (r lost : Request) → Uses q i r m1 m2 p1 p2 result → contains p1.status driver_ok
-          ≡ true → IsOwnRequest size (length m1) lost → ((q == INFLATE_QUEUE) ≡ true → All
-          (λ p. reserved_pages size ≤ p) r.pages) → ((page : ℕ) → frame_at (without_frames q r.pages m1)
-          page ≡ frame_at (discarded lost.pages m1) page) → length (without_frames q r.pages m1)
-          ≡ length m1 → lost_frames q r.pages m1 ≡ frames_behind m1 (each_once lost.pages) → Done result
-      settles r lost uses ok own high same count loose = let x : QueuePart = record (queue_part q p1) {
-        next_used = ((queue_part q p1).next_used + 1) % 65536;
-        taken = remove (queue_part q p1).taken i;
-      } in
-          let n = length m1 in
-          subst Done (sym uses.answer) (rogue_freed p2 own
-          (changes_back (changes_then (changes_with q x (λ all. all_remove (IsOwnRequest size n)
-          (queue_part q p1).taken i all)) (settled_changes q r.pages high)) uses.part) ok
-          (uses.memory.puts.rest.count ∙ count) (λ page. uses.memory.puts.rest.backing page ∙ same page)
-          (λ k. uses.loose k ∙ ap (times k) loose) refl refl (λ page offset bytes x. cc) refl rogue)
-
-      uses_request : (r : Request) → finish_refusal q i p1 ≡ None → taken_at q i p1 ≡ Some r
-          → (b : Bool) → (q == DEFLATE_QUEUE) ≡ b → Uses q i r m1 m2 p1 p2 result → Done result
-      uses_request r e at true deflates uses =
-          let ready = finishes_up (is_queue_of_requests q) (is_not_ready p1.status)
-          (has_fault p1.status) (is_none (taken_at q i p1)) unworked e in
-          let whole : without_frames q r.pages m1 ≡ m1 = grind arith in
-          let other : (q == INFLATE_QUEUE) ≡ true → All (λ p. reserved_pages size ≤ p) r.pages =
-          λ inflates. absurd (not_both q deflates inflates) in
-          settles r nothing_named uses (ok_of (contains p1.status driver_ok) (contains p1.status failed)
-          ready.1) (names_nothing (length m1)) other (λ page. ap (λ (m : Pages). frame_at m page) whole
-          ∙ sym (ap number_of (page_discarded [] m1 page))) (ap (λ (m : Pages). length m) whole)
-          (ap (λ (b : Bool). if b then [] else frames_behind m1 (each_once r.pages)) deflates)
-      uses_request r e at false other uses =
-          let ready = finishes_up (is_queue_of_requests q) (is_not_ready p1.status)
-          (has_fault p1.status) (is_none (taken_at q i p1)) unworked e in
-          let ok = ok_of (contains p1.status driver_ok) (contains p1.status failed) ready.1 in
-          let up = rogue.up ok in
-          let all = own_taken q p1 ready.0 other
-          (record { inflates = up.inflates; reports = up.reports }) in
-          let taken = (queue_part q p1).taken in
-          let own : IsOwnRequest size (length m1) r = subst (IsOwnRequest size (length m1))
-          (get_or_from_slice_get taken i r r at) (all i r (slice_get_within taken i r at)) in
-          let bare : without_frames q r.pages m1 ≡ discarded r.pages m1 =
-          ap (λ (b : Bool). if b then m1 else discarded r.pages m1) other in
-          settles r r uses ok own (λ e. own.above) (λ page. ap (λ (m : Pages). frame_at m page) bare)
-          (ap (λ (m : Pages). length m) bare ∙ length-discarded r.pages m1)
-          (ap (λ (b : Bool). if b then [] else frames_behind m1 (each_once r.pages)) other)
 
       by : (o : Option Refusal) → finish_refusal q i p1 ≡ o → Done result
       by (Some why) e = let (answer, part, memory) = did.refused why e in
@@ -258,7 +272,12 @@ finish_rogue {m1} {m2} {p1} {p2} {d} {g} {q} {i} {result} did rogue = by
       by None e =
           let (r, at) = there_is (not (is_queue_of_requests q)) (is_not_ready p1.status)
           (has_fault p1.status) unworked (taken_at q i p1) e in
-          uses_request r e at (q == DEFLATE_QUEUE) refl (did.finished r e at)
+          let ready = finishes_up (is_queue_of_requests q) (is_not_ready p1.status)
+          (has_fault p1.status) (is_none (taken_at q i p1)) unworked e in
+          let uses = did.finished r e at in
+          subst Done (sym uses.answer) (uses_rogue (Finish q i) (Finished r.head) r ready.0
+          (ok_of (contains p1.status driver_ok) (contains p1.status failed) ready.1) at uses refl refl
+          (λ page offset bytes x. cc) refl rogue)
 
 -- ---- ask
 

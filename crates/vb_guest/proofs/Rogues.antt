@@ -2,15 +2,21 @@
 use Rattle.std.specs.Prelude.{◌≡◌, ◌≢◌, ℕ, ◌<◌, Bool, true, false, List, [], length, All}
 use Rattle.std.specs.Prelude.{Option, Some, refl, is_some, is_none, ◌⊎◌, MatchOption, MatchBool}
 use Rattle.std.{specs.Prelude.if◌then◌else◌, proofs.Common.{sym, ◌∙◌, ap, subst, arith, inl, inr}}
-use Rattle.vb_model.proofs.{Refusing.{is_refused, not_this}, Shapes.start_reserved, Wanting.wants}
+use Rattle.vb_virtio.proofs.Shapes.{start_reserved}
+use Rattle.vb_virtio.specs.Layout.{reserved_pages}
+use Rattle.vb_virtio.specs.Status.{contains, driver_ok}
+use Rattle.vb_virtio.specs.declared.refusals.Refusal.{Refusal}
+use Rattle.vb_virtio.specs.declared.refusals.Refusal.TheVariants.{NoFrame, NoMemory, Broken}
+use Rattle.vb_virtio.specs.declared.refusals.Refusal.TheVariants.{RingBroken}
+use Rattle.vb_model.proofs.Refusing.{is_refused, not_this}
+use Rattle.vb_model.proofs.Wanting.{wants}
 use Rattle.vb_model.{proofs.Wanting.no_want, specs.Driver.{given, claim_refusal, AreClaimsFor}}
-use Rattle.vb_model.specs.{Guest.{Guest, frame_of, is_ballooned, all_backed}, Layout.reserved_pages}
+use Rattle.vb_model.specs.Guest.{Guest, frame_of, is_ballooned, all_backed}
 use Rattle.vb_model.specs.{Refusals.refusal_of, Rogue.{LosesFrames, pages_to_back, is_read}}
 use Rattle.vb_model.specs.Rogue.{target_after, after_refused, with_fault, GuestStep, RogueStep}
-use Rattle.vb_model.specs.{Status.{contains, driver_ok}, Step.{HonestStep, bare_pages}}
+use Rattle.vb_model.specs.Step.{HonestStep, bare_pages}
 use Rattle.vb_model.specs.declared.calls.{Call.{Call, TheVariants.{Read, Scribble}}, Claim.Claim}
-use Rattle.vb_model.specs.declared.replies.Refusal.{Refusal, TheVariants.{NoFrame, NoMemory}}
-use Rattle.vb_model.specs.declared.replies.{Refusal.TheVariants.{Broken, RingBroken}, Reply.Reply}
+use Rattle.vb_model.specs.declared.replies.Reply.{Reply}
 use Rattle.{vb_model.specs.declared.replies.Reply.TheVariants.Refused, vb_ram.specs.Pages.Pages}
 use Rattle.{vb_ram.specs.{Pages.frame_at, Part.{Part, no_part}}, vb_driver.specs.State.DriverState}
 use Rattle.vb_guest.specs.{Stands.{IsOwnRequest, IsRogueUp, Rogue}, Steps.{StepsAlone, StepsOver}}

@@ -1,14 +1,15 @@
 -- What leaves the queues of a running guest alone.
 use Rattle.{std.specs.Prelude.{◌≡◌, ◌≢◌, ℕ, ◌+◌, ◌<◌, ◌≤◌, length}, vb_guest.proofs.Apart.SameBut}
-use Rattle.{std.proofs.Common.{sym, subst, arith}, vb_model.proofs.Shapes.{InRing, rings_apart}}
-use Rattle.vb_model.specs.Layout.{reserved_pages, ring_number, ring_page, buffers_page}
+use Rattle.vb_virtio.proofs.Shapes.{InRing, rings_apart}
+use Rattle.vb_virtio.specs.Layout.{reserved_pages, ring_number, ring_page, buffers_page}
+use Rattle.std.proofs.Common.{sym, subst, arith}
 use Rattle.{vb_model.specs.Guest.Guest, vb_ram.specs.{Pages.{Pages, page_at, frame_at}, Part.Part}}
 use Rattle.vb_ring.specs.{declared.layout.Layout.Layout, Layout.{IsSize, layout_of}, Ends.DriverEnd}
 use Rattle.vb_driver.{specs.State.DriverState, proofs.Shapes.buffers_between}
 use Rattle.vb_guest.proofs.Apart.{SameLine, SameReserved, no_buffer, other_ring, other_line}
 use Rattle.vb_guest.{proofs.{RingApart.SameRing, PagesKept.SamePages}, specs.Stands.IsRunning}
 
--- all four rings have so many descriptors
+-- all four rings have n descriptors
 pub record AreSized (d : DriverState) (size : ℕ) : Type 0 where
   pub inflate : d.inflate.ring.size ≡ size
   pub deflate : d.deflate.ring.size ≡ size

@@ -1,7 +1,9 @@
 -- What a running guest's queues are once memory has changed elsewhere.
 use Rattle.std.specs.Prelude.{◌≡◌, ◌≢◌, ◌==◌, false, ℕ, ◌<◌, ◌≤◌, true, IsSome, is_some}
-use Rattle.{std.proofs.Common.{sym, eq-eqb, ◌∙◌, ap}, vb_model.specs.Layout.is_start_page}
-use Rattle.vb_model.{specs.{Layout.ring_number, Guest.Guest}, proofs.Shapes.start_reserved}
+use Rattle.vb_virtio.specs.Layout.{is_start_page, ring_number}
+use Rattle.vb_virtio.proofs.Shapes.{start_reserved}
+use Rattle.std.proofs.Common.{sym, eq-eqb, ◌∙◌, ap}
+use Rattle.vb_model.specs.Guest.{Guest}
 use Rattle.vb_ram.specs.{Pages.{Pages, frame_at, number_of}, Part.Part}
 use Rattle.{vb_driver.specs.State.DriverState, vb_guest.specs.{Line.Line, Reported.ReportLine}}
 use Rattle.vb_guest.{specs.{Buffer.BufferLine, Stands.IsRunning}, proofs.Apart.SameReserved}

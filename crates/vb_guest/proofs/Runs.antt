@@ -2,7 +2,8 @@
 use Rattle.std.specs.Prelude.{◌≡◌, ℕ, zero, suc, ◌+◌, ◌<◌, ◌==◌, Bool, true, false, if◌then◌else◌}
 use Rattle.std.specs.Prelude.{List, [], ◌∷◌, ◌++◌, length, take, slice_set, slice_index_or, refl}
 use Rattle.std.proofs.Common.{sym, ◌∙◌, ap, arith}
-use Rattle.vb_model.specs.{declared.places.PageRun.PageRun, Tests.{pages_from, pages_where}}
+use Rattle.vb_virtio.specs.Tests.{pages_from, pages_where}
+use Rattle.vb_model.specs.declared.places.PageRun.{PageRun}
 use Rattle.{vb_model.specs.Queries.{runs, runs_with}, vb_guest.proofs.Discarding.other_not}
 
 abbrev pub single : ℕ → PageRun

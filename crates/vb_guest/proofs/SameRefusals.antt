@@ -2,12 +2,17 @@
 use Rattle.std.specs.Prelude.{◌≡◌, ℕ, Bool, true, false, List, [], ◌∷◌, ◌++◌, length, Option, Some}
 use Rattle.std.specs.Prelude.{None, is_some, not, if◌then◌else◌, refl, ◌⊎◌, slice_get}
 use Rattle.{std.proofs.Common.{sym, ◌∙◌, ap, subst, arith, inl, inr}, vb_ram.specs.Pages.Pages}
-use Rattle.vb_model.specs.{FirstRefusal.{Cause, ◌⇒◌, first_refusal}, Guest.Guest, Requests.Request}
+use Rattle.vb_virtio.specs.FirstRefusal.{Cause, ◌⇒◌, first_refusal}
+use Rattle.vb_virtio.specs.Queues.{Request, has_chains, is_queue_of_requests}
+use Rattle.vb_virtio.specs.Status.{work_causes}
+use Rattle.vb_virtio.specs.declared.refusals.Refusal.{Refusal}
+use Rattle.vb_virtio.specs.declared.refusals.Refusal.TheVariants.{NotReady, NoQueue}
+use Rattle.vb_model.specs.Guest.{Guest}
 use Rattle.vb_model.specs.Refusals.{refusal_of, taken_count, is_taken, negotiated, taken_of}
-use Rattle.vb_model.specs.Tables.{has_chains, is_queue_of_requests, take_causes, finish_causes}
-use Rattle.{vb_model.specs.Tables.{ask_causes, work_causes}, vb_driver.specs.State.DriverState}
+use Rattle.vb_model.specs.Tables.{take_causes, finish_causes}
+use Rattle.vb_model.specs.Tables.{ask_causes}
+use Rattle.vb_driver.specs.State.{DriverState}
 use Rattle.vb_model.specs.declared.calls.Call.{Call, TheVariants.{Take, Finish, Ask, Sweep, Work}}
-use Rattle.vb_model.specs.declared.replies.Refusal.{Refusal, TheVariants.{NotReady, NoQueue}}
 use Rattle.{vb_ram.specs.Part.Part, vb_guest.specs.Stands.{IsIdle, IsRunning}}
 use Rattle.vb_device.specs.Conditions.{sweep_refusal, work_refusal, take_refusal, finish_refusal}
 use Rattle.vb_device.specs.{Conditions.{ask_refusal, taken_at}, Queues.queue_part}

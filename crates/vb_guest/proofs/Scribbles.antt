@@ -5,12 +5,16 @@ use Rattle.std.proofs.Common.{sym, ◌∙◌, ap, subst, arith, inl, inr}
 use Rattle.vb_model.specs.Rogue.{LosesFrames, pages_to_back, with_fault, GuestStep}
 use Rattle.vb_model.specs.Driver.{given, claim_refusal, AreClaimsFor, pages_needed}
 use Rattle.vb_model.specs.Guest.{Guest, frame_of, backed, all_backed, is_ballooned}
-use Rattle.vb_model.specs.{declared.replies.Refusal.TheVariants.OutOfRam, Layout.reserved_pages}
+use Rattle.vb_virtio.specs.declared.refusals.Refusal.TheVariants.{OutOfRam}
+use Rattle.vb_virtio.specs.Layout.{reserved_pages}
+use Rattle.vb_virtio.specs.FirstRefusal.{◌⇒◌, first_refusal}
+use Rattle.vb_virtio.specs.Status.{contains, driver_ok}
+use Rattle.vb_virtio.specs.Queues.{Request}
 use Rattle.vb_model.specs.declared.replies.Reply.{Reply, TheVariants.{Done, Refused}}
 use Rattle.vb_model.specs.{declared.calls.{Call.TheVariants.Scribble, Claim.Claim}, Step.HonestStep}
-use Rattle.vb_model.specs.{declared.calls.Claim.TheVariants.Gave, FirstRefusal.{◌⇒◌, first_refusal}}
-use Rattle.vb_model.specs.{Refusals.{refusal_of, is_outside}, Status.{contains, driver_ok}}
-use Rattle.vb_model.{specs.Requests.Request, proofs.Wanting.{not_refused_pages, refused_backs}}
+use Rattle.vb_model.specs.declared.calls.Claim.TheVariants.{Gave}
+use Rattle.vb_model.specs.Refusals.{refusal_of, is_outside}
+use Rattle.vb_model.proofs.Wanting.{not_refused_pages, refused_backs}
 use Rattle.vb_ram.specs.{Pages.{Pages, frame_at, Covers, Wrote, Supplied}, Part.Part}
 use Rattle.vb_frames.specs.{declared.keeper.Refused.Refused as KeeperRefused, Out.claim_in}
 use Rattle.vb_guest.proofs.Rogues.{driver_same, keeps_part, rogue_after, left_by, rogue_stands}

@@ -3,11 +3,14 @@
 use Rattle.std.proofs.Common.{◌≡◌, ◌↔◌, ◌⊎◌, ℕ, ◌<◌, ◌≤◌, true, false, List, [], ◌∷◌, refl}
 use Rattle.std.specs.Prelude.{Option, Some, None, Bool, IsSome, length, replicate}
 use Rattle.std.specs.Prelude.{slice_index_or}
-use Rattle.vb_model.specs.declared.{places.Place.Place, replies.LastStatistics.LastStatistics}
+use Rattle.vb_virtio.specs.declared.statistics.LastStatistics.{LastStatistics}
+use Rattle.vb_virtio.specs.Queues.{Request}
+use Rattle.vb_virtio.specs.Layout.{is_start_page}
+use Rattle.vb_model.specs.declared.places.Place.{Place}
 use Rattle.vb_model.specs.declared.places.Place.TheVariants.{Free, Lent}
 use Rattle.vb_model.specs.Guest.{Guest, Config, fresh}
-use Rattle.vb_model.specs.Requests.{Request, Requests, no_requests, NoBuffer, BufferTaken}
-use Rattle.vb_model.specs.{Pages.{block_at}, Layout.is_start_page}
+use Rattle.vb_model.specs.Requests.{Requests, no_requests, NoBuffer, BufferTaken}
+use Rattle.vb_model.specs.Pages.{block_at}
 use Rattle.vb_model.specs.{Consistent.IsConsistent, Orderly.IsOrderly}
 use Rattle.vb_ram.specs.{Pages.{Pages, frame_at, contents_at}, Part.{Part, QueuePart, no_part}}
 use Rattle.vb_driver.specs.State.{DriverState, fresh_driver}

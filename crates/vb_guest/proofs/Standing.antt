@@ -1,11 +1,14 @@
--- What stands for a guest once its frames are accounted for: from steps of an honest guest to steps
+-- What represents a guest once its frames are accounted for: from steps of an honest guest to steps
 -- over its supply.
 use Rattle.std.proofs.Common.{◌≡◌, ℕ, ◌+◌, Bool, false, List, [], sym, ◌∙◌, ap, subst, arith}
 use Rattle.vb_model.specs.declared.{calls.{Call.Call, Claim.Claim}, replies.Reply.Reply}
-use Rattle.{vb_model.specs.{Tests.one_if, Guest.Guest, Orderly.times}, vb_ram.specs.Pages.Pages}
+use Rattle.vb_virtio.specs.Tests.{one_if, times}
+use Rattle.vb_model.specs.Guest.{Guest}
+use Rattle.vb_ram.specs.Pages.{Pages}
 use Rattle.{vb_ram.specs.Part.Part, vb_device.specs.Own.has, vb_driver.specs.State.DriverState}
 use Rattle.vb_guest.specs.{Stands.{Honest, Rogue, OwnFrames, Stands, StandsBy}, Steps.backing_count}
-use Rattle.vb_guest.specs.{Steps.{AreOut, StepsAlone, StepsOver, StepsFreeing}, Supply.supply_of}
+use Rattle.vb_guest.specs.{Steps.{Frees, AreOut, StepsAlone, StepsOver, StepsFreeing}, Supply.supply_of}
+use Rattle.vb_model.specs.Rogue.{GuestStep}
 use Rattle.vb_guest.specs.{Supply.{Moves, nothing, AreLoose}, Promises.{EachStepsAlone, EachSteps}}
 use Rattle.vb_guest.{specs.Promises.moment, proofs.Moving.{used_own, used_out, by_keeps, moves_as}}
 use Rattle.vb_guest.proofs.{Closing.honest_own, Handing.handed_back, Kept.SameOwn, Rogues.rogue_own}
@@ -109,12 +112,17 @@ each_quiet none is answer steps keeps g stands =
 -- ---- frames that pages lost
 
 -- they are out
-pub freed_loose : {New Other : Guest → Type 0} {keeps : Bool} {m1 : Pages} {p1 : Part}
-    {p2 : Part} {d : DriverState} {g : Guest} (out : List Bool) {call : Call} {reply : Reply}
+pub frees : {New : Guest → Type 0} {loose : List ℕ} {g : Guest} {call : Call} {reply : Reply}
+    → StepsFreeing New loose g call reply → Frees New (λ new. GuestStep g call [] reply new) loose g
+frees step =
+    record { new = step.new; stands = step.stands; step = step.step; freed = step.freed }
+
+pub freed_loose : {New Other Step Jump : Guest → Type 0} {keeps : Bool} {m1 : Pages} {p1 : Part}
+    {p2 : Part} {d : DriverState} {g : Guest} (out : List Bool)
     → Stands keeps m1 p1 d g → (keeps ≡ false → AreOut g out)
-    → SameOwn p1 p2 → (Honest m1 p1 d g → StepsFreeing New p2.loose g call reply) → (Rogue m1 p1 d g
-    → StepsFreeing Other p2.loose g call reply) → AreLoose p2.loose (supply_of p2 out)
-freed_loose {p2} {g = g} out {call} {reply} stands held same honest rogue n =
+    → SameOwn p1 p2 → (Honest m1 p1 d g → Frees New Step p2.loose g)
+    → (Rogue m1 p1 d g → Frees Other Jump p2.loose g) → AreLoose p2.loose (supply_of p2 out)
+freed_loose {p2 = p2} {g = g} out stands held same honest rogue n =
     let lost = by_guest stands (λ h. sum (honest h)) (λ r. sum (rogue r)) in
     by_keeps (supply_of p2 out) (λ e. (let k = sym stands.own.flag ∙ sym same.flag ∙ e in
     omega (
@@ -125,7 +133,7 @@ freed_loose {p2} {g = g} out {call} {reply} stands held same honest rogue n =
       ap (λ (l : List ℕ). one_if (has l n)) same.numbers,
     ))) (λ e. (let k = sym stands.own.flag ∙ sym same.flag ∙ e in
     omega (arith, lost.1 n, held k n, ap one_if (used_out (supply_of p2 out) n e)))) where
-      sum : {New : Guest → Type 0} → StepsFreeing New p2.loose g call reply
+      sum : {New Step : Guest → Type 0} → Frees New Step p2.loose g
           → (new : Guest) × ((n : ℕ) → times n p2.loose + backing_count n new ≡ backing_count n g)
       sum step = (step.new, step.freed)
 

@@ -3,8 +3,11 @@ use Rattle.std.specs.Prelude.{◌≡◌, ℕ, ◌≤◌, Bool, true, false, if�
 use Rattle.std.{specs.Prelude.{IsSome, replicate, refl}, proofs.lemmas.Bool.false_from_ne_true}
 use Rattle.std.proofs.{lemmas.List.length-replicate, Common.{sym, ap, subst, arith, inr}}
 use Rattle.vb_model.specs.Requests.{no_requests, StatisticsBuffer, NoBuffer, BufferPosted, Figures}
-use Rattle.vb_model.specs.Layout.{reserved_pages, ring_page, is_ring_page, is_start_page}
-use Rattle.vb_model.{specs.{Guest.{Guest, stats_vq}, Driver.figures}, proofs.Shapes.ring_reserved}
+use Rattle.vb_virtio.specs.Layout.{reserved_pages, ring_page, is_ring_page, is_start_page}
+use Rattle.vb_virtio.specs.Features.{stats_vq}
+use Rattle.vb_virtio.proofs.Shapes.{ring_reserved}
+use Rattle.vb_model.specs.Guest.{Guest}
+use Rattle.vb_model.specs.Driver.{figures}
 use Rattle.vb_ram.specs.{Pages.{Pages, page_at, frame_at}, Part.{Part, no_queue}}
 use Rattle.{vb_ring.specs.{Ends.DriverEnd, Layout.IsSize}, vb_status.specs.After.part_after_reset}
 use Rattle.vb_driver.specs.State.{DriverState, IsDriver, fresh_side, fresh_statistics, fresh_report}

@@ -1,11 +1,18 @@
 -- A guest's new fill of the statistics buffer is a step of the definitions.
 use Rattle.std.{proofs.Common.{sym, ◌∙◌, ap, subst, arith, inr}, specs.Prelude.{◌≡◌, ℕ, Bool, true}}
 use Rattle.std.specs.Prelude.{false, not, [], Result, Ok, Err, Option, Some, None, slice_get, refl}
-use Rattle.vb_model.{proofs.Shapes.reserved_least, specs.Driver.{figures, Fills}}
-use Rattle.vb_model.specs.{FirstRefusal.first_refusal, Guest.{Guest, stats_vq}, Refusals.refusal_of}
+use Rattle.vb_virtio.proofs.Shapes.{reserved_least}
+use Rattle.vb_virtio.specs.FirstRefusal.{first_refusal}
+use Rattle.vb_virtio.specs.Features.{stats_vq}
+use Rattle.vb_virtio.specs.Status.{is_up}
+use Rattle.vb_virtio.specs.declared.refusals.Refusal.{Refusal}
+use Rattle.vb_virtio.specs.declared.refusals.Refusal.TheVariants.{NotReady}
+use Rattle.vb_model.specs.Driver.{figures, Fills}
+use Rattle.vb_model.specs.Guest.{Guest}
+use Rattle.vb_model.specs.Refusals.{refusal_of}
 use Rattle.vb_model.specs.Requests.{Figures, StatisticsBuffer, NoBuffer, BufferPosted, BufferTaken}
-use Rattle.vb_model.specs.{Requests.BufferDone, Tables.is_up, declared.calls.Call.TheVariants.Stats}
-use Rattle.vb_model.specs.declared.replies.Refusal.{Refusal, TheVariants.NotReady}
+use Rattle.vb_model.specs.Requests.{BufferDone}
+use Rattle.vb_model.specs.declared.calls.Call.TheVariants.{Stats}
 use Rattle.vb_model.specs.declared.replies.Reply.TheVariants.{Filled, NotUsed}
 use Rattle.{vb_ram.specs.{Pages.Pages, Part.Part}, vb_ring.specs.Ends.{DriverEnd, used_answer}}
 use Rattle.vb_driver.specs.{State.{DriverState, figures_of}, Answers.stats_causes, Calls.FillsBy}

@@ -2,8 +2,9 @@
 use Rattle.std.{proofs.Common.{sym, ◌∙◌, ap, subst, arith, eq-eqb}, specs.List.range_with_len}
 use Rattle.std.specs.Prelude.{◌≡◌, ℕ, zero, suc, ◌+◌, ◌<◌, ◌≤◌, ◌==◌, ◌||◌, Bool, true, false, not}
 use Rattle.std.specs.Prelude.{List, [], ◌∷◌, length, Option, None, IsSome, filter, count_by, refl}
-use Rattle.vb_model.specs.Driver.{given, claim_refusal, AreClaimsFor, AllDistinct}
-use Rattle.vb_model.specs.{Guest.{backed, all_backed}, Orderly.times, Tests.{is_in, each_from}}
+use Rattle.vb_virtio.specs.Tests.{AllDistinct, times, is_in, each_from}
+use Rattle.vb_model.specs.Driver.{given, claim_refusal, AreClaimsFor}
+use Rattle.vb_model.specs.Guest.{backed, all_backed}
 use Rattle.vb_model.specs.declared.calls.Claim.{Claim, TheVariants.{Gave, GaveNoFrame}}
 use Rattle.{vb_model.specs.declared.calls.Claim.TheVariants.GaveNoMemory, vb_ram.specs.Pages.Pages}
 use Rattle.{vb_ram.specs.Pages.{page_at, frame_at, Supplied}, vb_guest.proofs.Moving.times_first}
@@ -127,7 +128,7 @@ frames_given {n} pages numbers {m1} {m2} {frames} distinct below supplied has =
     filled_by (λ m l. HasFrames m n l) n pages numbers m1 m2 frames (λ old
     new page frame before lt bare all did. frames_supplied lt all did) distinct below supplied has
 
--- each frame that was given is behind a page more
+-- each frame that was given backs a page more
 pub frames_filled : (x : ℕ) {n : ℕ} (pages : List ℕ) (claims : List Claim)
     {m1 : Pages} (m2 : Pages) {frames : List (Option ℕ)} → claim_refusal claims ≡ None
     → AreClaimsFor pages claims → AllDistinct pages → ((p : ℕ) → is_in p pages ≡ true → p < n)

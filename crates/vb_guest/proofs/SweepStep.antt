@@ -3,8 +3,11 @@ use Rattle.std.proofs.Common.{◌≡◌, ℕ, ◌<◌, ◌≤◌, Bool, true, fa
 use Rattle.std.proofs.Common.{Result, Option, Some, None, is_some, sym, ◌∙◌, ap, subst, arith, inr}
 use Rattle.{std.specs.Prelude.refl, vb_model.specs.{Consistent.IsConsistent, Refusals.refusal_of}}
 use Rattle.vb_model.specs.{Pages.{place_of, is_reserved}, Guest.{Guest, is_ballooned, unbacked}}
-use Rattle.vb_model.specs.{Layout.reserved_pages, declared.replies.Reply.{Reply, TheVariants.Swept}}
-use Rattle.vb_model.specs.declared.{replies.Refusal.Refusal, calls.Call.TheVariants.Sweep}
+use Rattle.vb_virtio.specs.Layout.{reserved_pages}
+use Rattle.vb_virtio.specs.declared.refusals.Refusal.{Refusal}
+use Rattle.vb_model.specs.declared.replies.Reply.{Reply}
+use Rattle.vb_model.specs.declared.replies.Reply.TheVariants.{Swept}
+use Rattle.vb_model.specs.declared.calls.Call.TheVariants.{Sweep}
 use Rattle.{vb_model.proofs.PageSteps.naming-all, vb_ram.specs.{Pages.{Pages, frame_at}, Part.Part}}
 use Rattle.vb_device.specs.{Discards.discarded, Conditions.sweep_refusal, Calls.SweepsBy}
 use Rattle.{vb_driver.specs.State.DriverState, vb_guest.proofs.Offered.high_page}

@@ -3,12 +3,16 @@ use Rattle.{std.proofs.Common.{sym, ◌∙◌, ap, subst, arith, inr}, vb_ram.pr
 use Rattle.std.specs.Prelude.{true, ◌≡◌, ℕ, ◌*◌, List, [], length, Result, Ok, Option, Some, None}
 use Rattle.{std.specs.Prelude.{slice_get, refl, if◌then◌else◌}, vb_chain.specs.Table.descriptor_at}
 use Rattle.vb_model.specs.{declared.calls.Call.TheVariants.Take, Requests.{BufferTaken, BufferDone}}
-use Rattle.vb_model.specs.declared.replies.{LastStatistics.LastStatistics, Refusal.Refusal}
+use Rattle.vb_virtio.specs.declared.statistics.LastStatistics.{LastStatistics}
+use Rattle.vb_virtio.specs.declared.refusals.Refusal.{Refusal}
+use Rattle.vb_virtio.specs.Queues.{Request, has_chains}
+use Rattle.vb_virtio.specs.Layout.{ring_page}
 use Rattle.vb_model.specs.{declared.replies.Reply.TheVariants.{Taken, Empty}, Device.TakesBuffer}
 use Rattle.{vb_model.specs.Guest.Guest, vb_ram.specs.{Part.Part, Pages.Pages}}
-use Rattle.vb_model.specs.Requests.{Request, Figures, StatisticsBuffer, NoBuffer, BufferPosted}
-use Rattle.{vb_model.specs.Layout.ring_page, vb_driver.specs.{Coding.AreFigures, State.DriverState}}
-use Rattle.vb_model.specs.{Refusals.{refusal_of, is_taken, taken_count}, Tables.has_chains}
+use Rattle.vb_model.specs.Requests.{Figures, StatisticsBuffer, NoBuffer, BufferPosted}
+use Rattle.vb_driver.specs.Coding.{AreFigures}
+use Rattle.vb_driver.specs.State.{DriverState}
+use Rattle.vb_model.specs.Refusals.{refusal_of, is_taken, taken_count}
 use Rattle.{vb_chain.specs.Chain.ChainGives, vb_guest.specs.Steps.StepsAlone}
 use Rattle.vb_device.specs.{Queues.queue_part, Calls.{TakesBy, taking}, Conditions.take_refusal}
 use Rattle.vb_guest.proofs.BufferChain.{buffer_pieces, buffer_chain, buffer_names, buffer_says}

@@ -1,12 +1,17 @@
 -- A guest's take is a step of the definitions.
 use Rattle.std.specs.Prelude.{◌≡◌, ℕ, ◌*◌, ◌≤◌, List, [], ◌∷◌, ◌++◌, length, slice_get, Result, Ok}
 use Rattle.std.{specs.Prelude.{Option, None, All, refl}, proofs.Common.{sym, ◌∙◌, ap, subst, arith}}
-use Rattle.vb_model.specs.Requests.{Request, Requests, Kind, Inflating, Deflating, Reporting_free}
-use Rattle.vb_model.specs.{Requests.queue_of, declared.replies.Reply.TheVariants.{Taken, Empty}}
-use Rattle.vb_model.specs.declared.replies.{Refusal.TheVariants.NoQueue, Reply.Reply}
-use Rattle.vb_model.specs.{Guest.{Guest, requests, with_requests}, declared.replies.Refusal.Refusal}
+use Rattle.vb_virtio.specs.Queues.{Request, Kind, Inflating, Deflating, Reporting_free, queue_of}
+use Rattle.vb_virtio.specs.declared.refusals.Refusal.TheVariants.{NoQueue}
+use Rattle.vb_virtio.specs.declared.refusals.Refusal.{Refusal}
+use Rattle.vb_virtio.specs.Layout.{ring_page}
+use Rattle.vb_model.specs.Requests.{Requests}
+use Rattle.vb_model.specs.declared.replies.Reply.TheVariants.{Taken, Empty}
+use Rattle.vb_model.specs.declared.replies.Reply.{Reply}
+use Rattle.vb_model.specs.Guest.{Guest, requests, with_requests}
 use Rattle.vb_model.specs.{declared.calls.Call.TheVariants.Take, Device.TakesRequest, Step.Performs}
-use Rattle.{vb_model.specs.{Refusals.refusal_of, Layout.ring_page}, vb_driver.specs.Calls.ring_of}
+use Rattle.vb_model.specs.Refusals.{refusal_of}
+use Rattle.vb_driver.specs.Calls.{ring_of}
 use Rattle.vb_ram.{proofs.Limits.config_limits, specs.{Pages.Pages, Part.Part}}
 use Rattle.vb_chain.specs.{declared.pieces.Piece.Piece, Table.descriptor_at, Chain.ChainGives}
 use Rattle.vb_device.specs.{Calls.{TakesBy, taking, request_of, noting}, Conditions.take_refusal}

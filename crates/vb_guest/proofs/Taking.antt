@@ -1,7 +1,9 @@
 -- The device takes the next posted request, and visits pages of the taken ones.
 use Rattle.std.specs.Prelude.{◌≡◌, ℕ, ◌+◌, ◌%◌, List, [], ◌∷◌, ◌++◌, All, Ok, slice_get}
 use Rattle.std.proofs.{Common.{sym, ap, subst, arith}, lemmas.List.Elements.{All-push, All-tail}}
-use Rattle.vb_model.specs.{Requests.{Request, Requests}, Device.visiting}
+use Rattle.vb_virtio.specs.Queues.{Request}
+use Rattle.vb_model.specs.Requests.{Requests}
+use Rattle.vb_model.specs.Device.{visiting}
 use Rattle.{vb_ram.specs.{Pages.Pages, Part.QueuePart}, vb_ring.specs.Entries.next_entry}
 use Rattle.{vb_ring.specs.Ends.DriverEnd, vb_guest.specs.Line.{QueueLine, RingOf, heads_of}}
 use Rattle.vb_guest.{specs.Ring.RingStands, proofs.Heads.{IgnoresVisits, heads-push}}

@@ -4,11 +4,17 @@ use Rattle.std.specs.Prelude.{◌∷◌, All, Result, Option, Some, None, MatchO
 use Rattle.std.{specs.Prelude.refl, proofs.lemmas.List.Elements.{All-nil, All-cons, All-tail}}
 use Rattle.std.proofs.Common.{sym, ◌∙◌, ap, subst, arith, inr}
 use Rattle.vb_model.proofs.CallSteps.{Idles, Visits as VisitsOf}
-use Rattle.vb_model.specs.{Device.{is_unvisited, visiting, next_page, visited}, Guest.Guest}
-use Rattle.vb_model.specs.{Guest.{requests, unbacked}, Layout.reserved_pages, Refusals.refusal_of}
-use Rattle.vb_model.specs.Requests.{Request, Kind, Inflating, Reporting_free}
-use Rattle.vb_model.specs.{Requests.queue_of, Step.Performs, declared.calls.Call.TheVariants.Work}
-use Rattle.vb_model.specs.declared.replies.{Refusal.Refusal, Reply.{Reply, TheVariants.Worked}}
+use Rattle.vb_virtio.specs.Queues.{is_unvisited, Request, Kind, Inflating, Reporting_free, queue_of}
+use Rattle.vb_virtio.specs.Layout.{reserved_pages}
+use Rattle.vb_virtio.specs.declared.refusals.Refusal.{Refusal}
+use Rattle.vb_model.specs.Device.{visiting, next_page, visited}
+use Rattle.vb_model.specs.Guest.{Guest}
+use Rattle.vb_model.specs.Guest.{requests, unbacked}
+use Rattle.vb_model.specs.Refusals.{refusal_of}
+use Rattle.vb_model.specs.Step.{Performs}
+use Rattle.vb_model.specs.declared.calls.Call.TheVariants.{Work}
+use Rattle.vb_model.specs.declared.replies.Reply.{Reply}
+use Rattle.vb_model.specs.declared.replies.Reply.TheVariants.{Worked}
 use Rattle.vb_ram.specs.{Pages.{Pages, frame_at}, Part.{Part, QueuePart}}
 use Rattle.vb_device.specs.{Calls.{next_visit, Visits, WorksBy}, Queues.{queue_part, with_queue}}
 use Rattle.vb_device.specs.{Conditions.work_refusal, declared.worked.Worked.Worked as WorkedPage}

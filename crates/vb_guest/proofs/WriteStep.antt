@@ -3,13 +3,19 @@ use Rattle.std.specs.Prelude.{◌≡◌, ℕ, ◌≤◌, true, false, List, [], 
 use Rattle.std.{specs.Prelude.{◌<◌, Err, ◌⊎◌}, proofs.Common.{sym, ◌∙◌, ap, subst, arith, inl, inr}}
 use Rattle.{std.specs.Prelude.{Bool, Option, Some, None, IsSome}, vb_ram.specs.Part.Part}
 use Rattle.{std.proofs.lemmas.Bool.{cases_lt, Decides.nat_tests}, vb_guest.specs.Supply.supply_of}
-use Rattle.vb_model.{proofs.Performed.Supplying, specs.Refusals.{◌⇒◌, refusal_of, is_outside}}
-use Rattle.vb_model.specs.{Driver.{overwritten, pages_needed, Written}, Guest.{Guest, backed}}
+use Rattle.vb_virtio.specs.FirstRefusal.{◌⇒◌, first_refusal}
+use Rattle.vb_virtio.specs.Memory.{overwritten}
+use Rattle.vb_virtio.specs.Layout.{reserved_pages}
+use Rattle.vb_virtio.specs.declared.refusals.Refusal.{Refusal}
+use Rattle.vb_virtio.specs.declared.refusals.Refusal.TheVariants.{OutOfRam, NoMemory, NotHeld}
+use Rattle.vb_virtio.specs.declared.refusals.Refusal.TheVariants.{NoFrame as NoFrameLeft}
+use Rattle.vb_model.proofs.Performed.{Supplying}
+use Rattle.vb_model.specs.Refusals.{refusal_of, is_outside}
+use Rattle.vb_model.specs.Driver.{pages_needed, Written}
+use Rattle.vb_model.specs.Guest.{Guest, backed}
 use Rattle.vb_model.specs.{Guest.frame_of, declared.replies.Reply.TheVariants.{Done, Refused}}
-use Rattle.vb_model.specs.{Layout.reserved_pages, Pages.{place_of, is_used}, Refusals.first_refusal}
+use Rattle.vb_model.specs.Pages.{place_of, is_used}
 use Rattle.vb_model.specs.declared.calls.{Call.TheVariants.Write, Claim.{Claim, TheVariants.Gave}}
-use Rattle.vb_model.specs.declared.replies.Refusal.{Refusal, TheVariants.{OutOfRam, NoMemory}}
-use Rattle.vb_model.specs.declared.replies.Refusal.TheVariants.{NotHeld, NoFrame as NoFrameLeft}
 use Rattle.{vb_ram.specs.Pages.{Pages, Covers, Supplied}, vb_driver.specs.State.DriverState}
 use Rattle.vb_ram.specs.{Pages.{frame_at, Wrote}, declared.fault.RamFault.TheVariants.NeedsFrame}
 use Rattle.vb_ram.specs.declared.fault.RamFault.{RamFault, TheVariants.OutOfRam as OutOfMemory}
@@ -166,7 +172,7 @@ write_supplied out1 out2 {m2} {p1}
 
 -- ---- what the memory answered
 
--- a refusal for want of a frame
+-- a refusal for lack of a frame
 pub needs_frame : {mem : Pages} {page off len : ℕ} {r : Result (Unit {0}) RamFault}
     → (Covers mem page off len → IsSome (frame_at mem page) → IsOk r) → ((Covers mem page off len
     → ⊥) → r ≡ Err OutOfMemory) → (Covers mem page off len → len ≡ 0 → IsOk r)

@@ -3,10 +3,14 @@ use Rattle.std.specs.Prelude.{◌≡◌, ◌≢◌, ℕ, ◌+◌, ◌<◌, ◌�
 use Rattle.std.specs.Prelude.{Option, Some, None, slice_set, slice_index_or, count_by, refl, ◌⊎◌}
 use Rattle.std.proofs.{Common.{sym, ◌∙◌, ap, arith, inl, inr}, lemmas.List.ext_get_or}
 use Rattle.std.proofs.lemmas.List.{length-set, get_or-set_same, get_or-set_other, Sums.sum_by-set}
-use Rattle.{std.proofs.lemmas.Bool.{cases_eq, cases_lt}, vb_model.specs.Tests.one_if}
-use Rattle.vb_model.specs.{Tests.each_page, Layout.reserved_pages, Pages.{place_of, is_used}}
-use Rattle.vb_model.specs.{Guest.{Guest, frame_of, backed}, Driver.overwritten, Orderly.IsOrderly}
-use Rattle.vb_model.proofs.Tables.{length-each_from, each_page-get}
+use Rattle.vb_virtio.specs.Tests.{one_if, each_page}
+use Rattle.vb_virtio.specs.Layout.{reserved_pages}
+use Rattle.vb_virtio.specs.Memory.{overwritten}
+use Rattle.vb_virtio.proofs.Tables.{length-each_from, each_page-get}
+use Rattle.std.proofs.lemmas.Bool.{cases_eq, cases_lt}
+use Rattle.vb_model.specs.Pages.{place_of, is_used}
+use Rattle.vb_model.specs.Guest.{Guest, frame_of, backed}
+use Rattle.vb_model.specs.Orderly.{IsOrderly}
 use Rattle.vb_ram.specs.Pages.{Pages, frame_at, number_of, Wrote, Supplied}
 use Rattle.{vb_ram.proofs.Contents.contents_wrote, vb_guest.specs.{Stands.HasPages, Steps.is_frame}}
 

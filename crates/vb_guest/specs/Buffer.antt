@@ -1,9 +1,10 @@
 -- What the driver, the device and guest memory say together of the one statistics buffer (VIRTIO
 -- 1.1, 5.5.6.3).
 use Rattle.std.specs.Prelude.{◌≡◌, ℕ, List, [], ◌∷◌, ⊤}
-use Rattle.vb_model.specs.declared.layout.TheConstants.{STATISTICS_QUEUE}
-use Rattle.vb_model.specs.Layout.{ring_page}
-use Rattle.vb_model.specs.Requests.{Request, StatisticsBuffer, BufferPosted, BufferTaken}
+use Rattle.vb_virtio.specs.declared.layout.TheConstants.{STATISTICS_QUEUE}
+use Rattle.vb_virtio.specs.Layout.{ring_page}
+use Rattle.vb_virtio.specs.Queues.{Request}
+use Rattle.vb_model.specs.Requests.{StatisticsBuffer, BufferPosted, BufferTaken}
 use Rattle.vb_model.specs.Requests.{BufferDone}
 use Rattle.vb_ram.specs.Pages.{Pages}
 use Rattle.vb_ram.specs.Part.{QueuePart}
@@ -29,7 +30,7 @@ abbrev pub taken_requests : StatisticsBuffer → List Request
 taken_requests (BufferTaken figures) = record { head = 0; pages = []; visited = 0 } ∷ []
 taken_requests _ = []
 
--- A posted buffer of a ring of so many descriptors has its figures.
+-- A posted buffer of a ring of n descriptors has its figures.
 abbrev pub HasFigures : ℕ → Pages → StatisticsBuffer → Type 0
 HasFigures size mem (BufferPosted figures) =
     AreFigures mem (ring_page size STATISTICS_QUEUE) figures

@@ -5,10 +5,10 @@ use Rattle.vb_model.specs.declared.calls.Call.{Call}
 use Rattle.vb_model.specs.declared.calls.Call.TheVariants.{Init, Reset, Alloc, Free, Read, Write}
 use Rattle.vb_model.specs.declared.calls.Call.TheVariants.{Scribble, Inflate, Deflate, Oom, Report}
 use Rattle.vb_model.specs.declared.calls.Call.TheVariants.{Stats, Reap, Take, Work, Finish, Sweep}
-use Rattle.vb_model.specs.declared.calls.Call.TheVariants.{Ask, SetTarget}
+use Rattle.vb_model.specs.declared.calls.Call.TheVariants.{Serve, Ask, SetTarget}
 use Rattle.vb_model.specs.declared.calls.Claim.{Claim}
-use Rattle.vb_model.specs.declared.replies.Refusal.{Refusal}
-use Rattle.vb_model.specs.declared.replies.Refusal.TheVariants.{NotHeld}
+use Rattle.vb_virtio.specs.declared.refusals.Refusal.{Refusal}
+use Rattle.vb_virtio.specs.declared.refusals.Refusal.TheVariants.{NotHeld}
 use Rattle.vb_model.specs.declared.replies.Reply.{Reply}
 use Rattle.vb_model.specs.declared.replies.Reply.TheVariants.{Done}
 use Rattle.vb_model.specs.Pages.{place_of, is_used}
@@ -21,6 +21,9 @@ use Rattle.vb_driver.specs.declared.answers.Posted.{Posted}
 use Rattle.vb_driver.specs.declared.answers.Reaped.{Reaped}
 use Rattle.vb_guest.specs.Exact.{InitialisesBy, IsHandedBack, IsQuiet, KeepsFrames, PutsBy, ReadsBy}
 use Rattle.vb_guest.specs.Promises.{Moment}
+use Rattle.vb_guest.specs.Serving.{ServesAllBy}
+use Rattle.vb_guest.specs.Replies.{served_reply}
+use Rattle.vb_guest.specs.declared.served.Served.{Served as ServedChains}
 use Rattle.vb_guest.specs.Replies.{ready_reply, page_reply, done_reply, bytes_reply}
 use Rattle.vb_guest.specs.Replies.{posted_reply, reaped_reply, taken_reply, finished_reply}
 use Rattle.vb_guest.specs.Replies.{worked_reply, swept_reply, filled_reply, asked_reply}
@@ -94,6 +97,9 @@ CallsBy Answers a b claims (Finish q i) reply =
     (r : Result ℕ Refusal) × (reply ≡ finished_reply r)
     × IsHandedBack (λ part. FinishesBy q i a.mem b.mem a.part part r) b.part
     × (b.driver ≡ a.driver)
+CallsBy Answers a b claims (Serve q) reply =
+    (r : Result ServedChains Refusal) × (reply ≡ served_reply r)
+    × ServesAllBy q a.mem b.mem a.part b.part r × (b.driver ≡ a.driver)
 CallsBy Answers a b claims (Sweep page) reply =
     (r : Result Bool Refusal) × (reply ≡ swept_reply r)
     × IsHandedBack (λ part. SweepsBy page a.mem b.mem a.part part r) b.part

@@ -5,9 +5,9 @@ use Rattle.std.specs.Prelude.{None, Result, Ok, Err, IsOk, IsSome, length, take,
 use Rattle.vb_model.specs.declared.calls.Claim.{Claim}
 use Rattle.vb_model.specs.declared.calls.Claim.TheVariants.{Gave, GaveNoFrame, GaveNoMemory}
 use Rattle.vb_model.specs.declared.places.Place.{Place}
-use Rattle.vb_model.specs.declared.replies.Refusal.{Refusal}
-use Rattle.vb_model.specs.declared.replies.Refusal.TheVariants.{AlreadyUp, NotHeld, OutOfRam}
-use Rattle.vb_model.specs.declared.replies.Refusal.TheVariants.{NoFrame as NoFrameLeft, NoMemory}
+use Rattle.vb_virtio.specs.declared.refusals.Refusal.{Refusal}
+use Rattle.vb_virtio.specs.declared.refusals.Refusal.TheVariants.{AlreadyUp, NotHeld, OutOfRam}
+use Rattle.vb_virtio.specs.declared.refusals.Refusal.TheVariants.{NoFrame as NoFrameLeft, NoMemory}
 use Rattle.vb_model.specs.Pages.{place_of, is_used}
 use Rattle.vb_ram.specs.Pages.{Pages, frame_at, contents_at, Covers, Supplied, Wrote}
 use Rattle.vb_ram.specs.Part.{Part}

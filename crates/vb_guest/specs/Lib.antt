@@ -9,4 +9,5 @@ pub mod Promises
 pub mod Replies
 pub mod Lives
 pub mod Exact
+pub mod Serving
 pub mod Dispatch

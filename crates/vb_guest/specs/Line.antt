@@ -1,9 +1,10 @@
 -- What the driver, the device and guest memory say together of a queue of requests.
 use Rattle.std.specs.Prelude.{◌≡◌, ℕ, ◌<◌, ◌≤◌, List, All, length, map, slice_index_or, []}
-use Rattle.vb_model.specs.Limits.{max_outstanding, max_request_pages}
-use Rattle.vb_model.specs.Layout.{reserved_pages, ring_page, buffers_page}
-use Rattle.vb_model.specs.Requests.{Request, Requests}
-use Rattle.vb_model.specs.Driver.{AllDistinct}
+use Rattle.vb_virtio.specs.Limits.{max_outstanding, max_request_pages}
+use Rattle.vb_virtio.specs.Layout.{reserved_pages, ring_page, buffers_page}
+use Rattle.vb_virtio.specs.Queues.{Request}
+use Rattle.vb_virtio.specs.Tests.{AllDistinct}
+use Rattle.vb_model.specs.Requests.{Requests}
 use Rattle.vb_ram.specs.Pages.{Pages}
 use Rattle.vb_ram.specs.Part.{QueuePart}
 use Rattle.vb_ring.specs.Ends.{DriverEnd}
@@ -20,7 +21,7 @@ RingOf mem queue ring part rs =
     RingStands mem queue ring part.next_avail part.next_used
     (heads_of rs.posted) (heads_of rs.taken) (heads_of rs.done)
 
--- Pages that a guest of so many pages, whose queues have this size, asks the device for.
+-- Pages that a guest of n pages, whose queues have this size, asks the device for.
 pub record AreRequested (size count : ℕ) (pages : List ℕ) : Type 0 where
   pub some : 0 < length pages
   pub few : length pages ≤ max_request_pages
@@ -28,8 +29,7 @@ pub record AreRequested (size count : ℕ) (pages : List ℕ) : Type 0 where
   pub below : All (λ page. page < count) pages
   pub distinct : AllDistinct pages
 
--- The driver remembers the pages of the request, and a device takes it from a guest of so many
--- pages.
+-- The driver remembers the pages of the request, and a device takes it from a guest of n pages.
 pub record IsRequest (size count : ℕ) (sent : List (List ℕ)) (r : Request) : Type 0 where
   pub inside : r.head < size
   pub few : r.head < max_outstanding

@@ -3,14 +3,14 @@ use Rattle.std.specs.Prelude.{◌≡◌, ℕ, ◌-◌, Bool, ◌&&◌, List, [],
 use Rattle.std.specs.Prelude.{is_none, Result, Ok, Err, OnOk, OnErr, filter}
 use Rattle.std.specs.List.{range_with_len}
 use Rattle.vb_model.specs.declared.calls.Claim.{Claim}
-use Rattle.vb_model.specs.declared.replies.Refusal.{Refusal}
-use Rattle.vb_model.specs.declared.replies.Refusal.TheVariants.{NoFrame as NoFrameLeft, NoMemory}
-use Rattle.vb_model.specs.Layout.{reserved_pages, is_start_page}
+use Rattle.vb_virtio.specs.declared.refusals.Refusal.{Refusal}
+use Rattle.vb_virtio.specs.declared.refusals.Refusal.TheVariants.{NoFrame as NoFrameLeft, NoMemory}
+use Rattle.vb_virtio.specs.Layout.{reserved_pages, is_start_page}
+use Rattle.vb_virtio.specs.Tests.{times}
 use Rattle.vb_model.specs.Driver.{given, claim_refusal, AreClaimsFor}
 use Rattle.vb_ram.specs.Pages.{Pages, frame_at, Supplied}
 use Rattle.vb_frames.specs.declared.keeper.Refused.{Refused}
 use Rattle.vb_frames.specs.declared.keeper.Refused.TheVariants.{NoFrame, Memory}
-use Rattle.vb_model.specs.Orderly.{times}
 use Rattle.vb_guest.specs.Supply.{Supply, AreClaimed, Moves, nothing}
 
 -- Whether a page is one of rings and buffers and has no frame.
@@ -37,7 +37,7 @@ why_unsupplied (Ok x) = None
 why_unsupplied (Err NoFrame) = Some NoFrameLeft
 why_unsupplied (Err Memory) = Some NoMemory
 
--- One claim is made for each of these pages, up to the first that is refused, and is noted behind
+-- One claim is made for each of these pages, up to the first that is refused, and is noted after
 -- those before: all get the frames that were given, or none does, and the frames that were given go
 -- back.
 pub record SuppliesBy {T : Type 0} (Answers : List Bool → Claim → Type 0) (s1 s2 : Supply)

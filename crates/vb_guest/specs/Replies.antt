@@ -1,7 +1,7 @@
 -- How what a driver or a device answers is replied.
 use Rattle.std.specs.Prelude.{ℕ, Bool, true, false, List, Option, Some, None, Result, Ok, Err}
-use Rattle.vb_model.specs.declared.replies.Refusal.{Refusal}
-use Rattle.vb_model.specs.declared.replies.Refusal.TheVariants.{NoMemory}
+use Rattle.vb_virtio.specs.declared.refusals.Refusal.{Refusal}
+use Rattle.vb_virtio.specs.declared.refusals.Refusal.TheVariants.{NoMemory}
 use Rattle.vb_model.specs.declared.replies.Reply.{Reply}
 use Rattle.vb_model.specs.declared.replies.Reply.TheVariants.{Ready, Done, Page, ReadBytes, Posted}
 use Rattle.vb_model.specs.declared.replies.Reply.TheVariants.{Taken, Empty, Finished, NotUsed}
@@ -10,6 +10,8 @@ use Rattle.vb_model.specs.declared.replies.Reply.TheVariants.{Refused, Idle, Wor
 use Rattle.vb_model.specs.declared.replies.Reply.TheVariants.{Asked, Statistics as Memory}
 use Rattle.vb_model.specs.declared.places.PageRun.{PageRun}
 use Rattle.vb_model.specs.declared.replies.BalloonState.{BalloonState}
+use Rattle.vb_model.specs.declared.replies.Reply.TheVariants.{Served}
+use Rattle.vb_guest.specs.declared.served.Served.{Served as ServedChains}
 use Rattle.vb_request.specs.declared.statistics.Statistics.{Statistics}
 use Rattle.vb_device.specs.declared.worked.Worked.{Worked as WorkedPage}
 use Rattle.vb_driver.specs.declared.answers.Posted.{Posted as PostedRequest}
@@ -36,6 +38,10 @@ worked_reply (Err why) = Refused why
 abbrev pub finished_reply : Result ℕ Refusal → Reply
 finished_reply (Ok head) = Finished head
 finished_reply (Err why) = Refused why
+
+abbrev pub served_reply : Result ServedChains Refusal → Reply
+served_reply (Ok served) = Served served.chains served.broken
+served_reply (Err why) = Refused why
 
 abbrev pub swept_reply : Result Bool Refusal → Reply
 swept_reply (Ok freed) = Swept freed

@@ -1,23 +1,24 @@
 -- What the driver, the device and guest memory say together of the queue of reports (profile).
 use Rattle.std.specs.Prelude.{◌≡◌, ℕ, ⊤, ◌+◌, ◌<◌, ◌≤◌, List, All, length}
-use Rattle.vb_model.specs.declared.layout.TheConstants.{REPORT_QUEUE}
-use Rattle.vb_model.specs.Limits.{max_outstanding, max_order}
-use Rattle.vb_model.specs.Layout.{reserved_pages, ring_page}
+use Rattle.vb_virtio.specs.declared.layout.TheConstants.{REPORT_QUEUE}
+use Rattle.vb_virtio.specs.Limits.{max_outstanding, max_order}
+use Rattle.vb_virtio.specs.Layout.{reserved_pages, ring_page}
+use Rattle.vb_virtio.specs.Queues.{Request}
 use Rattle.vb_model.specs.Pages.{Block, size, pages_of_all}
-use Rattle.vb_model.specs.Requests.{Request, Requests}
+use Rattle.vb_model.specs.Requests.{Requests}
 use Rattle.vb_ram.specs.Pages.{Pages}
 use Rattle.vb_ram.specs.Part.{QueuePart}
 use Rattle.vb_driver.specs.Coding.{AreReported}
 use Rattle.vb_driver.specs.State.{ReportSide}
 use Rattle.vb_guest.specs.Line.{QueueLine}
 
--- A block of a guest of so many pages, whose queues have this size, above the reserved ones.
+-- A block of a guest of n pages, whose queues have this size, above the reserved ones.
 pub record IsOwnBlock (queue_size count : ℕ) (b : Block) : Type 0 where
   pub order : b.order ≤ max_order
   pub above : reserved_pages queue_size ≤ b.start
   pub below : b.start + size b ≤ count
 
--- The request is the report of these blocks, for which a table of so many descriptors has room.
+-- The request is the report of these blocks, for which a table of n descriptors has room.
 pub record IsReport (descriptors count : ℕ) (blocks : List Block) (r : Request) : Type 0 where
   pub head : r.head ≡ 0
   pub names : r.pages ≡ pages_of_all blocks

@@ -1,7 +1,7 @@
 -- What the two ends of a queue's ring and guest memory say together: which heads were published,
 -- taken, used and seen as used (VIRTIO 1.1, 2.6).
 use Rattle.std.specs.Prelude.{◌≡◌, ℕ, ◌+◌, ◌%◌, List, ◌++◌, length, map}
-use Rattle.vb_model.specs.Layout.{ring_page}
+use Rattle.vb_virtio.specs.Layout.{ring_page}
 use Rattle.vb_ram.specs.Pages.{Pages}
 use Rattle.vb_ring.specs.Layout.{IsSize, layout_of}
 use Rattle.vb_ring.specs.Ends.{DriverEnd}

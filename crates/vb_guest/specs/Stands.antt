@@ -1,16 +1,18 @@
 -- What ties a driver, a device's part and guest memory to a guest of the model.
 use Rattle.std.specs.Prelude.{◌≡◌, ℕ, ◌<◌, ◌≤◌, Bool, false, true, List, Option, [], length}
 use Rattle.std.specs.Prelude.{replicate, slice_index_or, IsSome, ◌⊎◌, All}
-use Rattle.vb_model.specs.declared.negotiation.TheConstants.{FAILED_STATUS, READY_STATUS}
-use Rattle.vb_model.specs.Limits.{is_config, page_size}
-use Rattle.vb_model.specs.Layout.{reserved_pages, is_start_page}
+use Rattle.vb_virtio.specs.declared.negotiation.TheConstants.{FAILED_STATUS, READY_STATUS}
+use Rattle.vb_virtio.specs.Limits.{is_config, page_size}
+use Rattle.vb_virtio.specs.Layout.{reserved_pages, is_start_page}
+use Rattle.vb_virtio.specs.Tests.{one_if}
+use Rattle.vb_virtio.specs.Status.{contains, driver_ok}
+use Rattle.vb_virtio.specs.Queues.{Request}
+use Rattle.vb_virtio.specs.declared.statistics.LastStatistics.{LastStatistics}
+use Rattle.vb_virtio.specs.Statistics.{no_statistics}
 use Rattle.vb_model.specs.declared.places.Place.{Place}
-use Rattle.vb_model.specs.Tests.{one_if}
 use Rattle.vb_model.specs.Pages.{Block}
-use Rattle.vb_model.specs.Status.{contains, driver_ok}
-use Rattle.vb_model.specs.Requests.{Request, no_requests, NoBuffer}
-use Rattle.vb_model.specs.declared.replies.LastStatistics.{LastStatistics}
-use Rattle.vb_model.specs.Guest.{Guest, Config, no_statistics, frame_of}
+use Rattle.vb_model.specs.Requests.{no_requests, NoBuffer}
+use Rattle.vb_model.specs.Guest.{Guest, Config, frame_of}
 use Rattle.vb_model.specs.Guest.{is_ballooned}
 use Rattle.vb_model.specs.Consistent.{IsConsistent}
 use Rattle.vb_model.specs.Orderly.{IsOrderly}
@@ -118,7 +120,7 @@ pub record IsIdle (g : Guest) : Type 0 where
   pub actual : g.actual ≡ 0
   pub last : g.last ≡ no_statistics
 
--- The device is initialised: the pages of rings and buffers have frames, and the four queues stand
+-- The device is initialised: the pages of rings and buffers have frames, and the four queues are
 -- there.
 pub record IsRunning (mem : Pages) (part : Part) (d : DriverState) (g : Guest) : Type 0 where
   pub state : g.status ≡ READY_STATUS
@@ -146,7 +148,7 @@ pub record Honest (mem : Pages) (part : Part) (d : DriverState) (g : Guest) : Ty
   pub orderly : IsOrderly g
 
 -- The device says whether it keeps frames of its own. Where it does, those of them that are out are
--- just those behind the guest's pages, each behind one page; else it has none.
+-- just those that back the guest's pages, each one page; else it has none.
 pub record OwnFrames (keeps : Bool) (part : Part) (g : Guest) : Type 0 where
   pub flag : part.keeps ≡ keeps
   pub none : keeps ≡ false → part.own ≡ []
@@ -154,7 +156,7 @@ pub record OwnFrames (keeps : Bool) (part : Part) (g : Guest) : Type 0 where
 
 -- ---- a guest that wrote past its driver
 
--- The request names pages of a guest of so many pages, whose queues have this size: none of them is
+-- The request names pages of a guest of n pages, whose queues have this size: none of them is
 -- reserved.
 pub record IsOwnRequest (size count : ℕ) (r : Request) : Type 0 where
   pub above : All (λ page. reserved_pages size ≤ page) r.pages
@@ -168,7 +170,7 @@ pub record IsRogueUp (size : ℕ) (mem : Pages) (part : Part) : Type 0 where
   pub reports : All (IsOwnRequest size (length mem)) part.report.taken
 
 -- How large the guest is, what its driver and its device keep and are asked for, and the frames
--- behind its pages: nothing of its rings, of its requests, and of what its pages hold.
+-- that back its pages: nothing of its rings, of its requests, and of what its pages hold.
 pub record Rogue (mem : Pages) (part : Part) (d : DriverState) (g : Guest) : Type 0 where
   pub rogue : g.rogue ≡ true
   pub config : is_config g.config.pages g.config.queue_size g.config.processors ≡ true

@@ -4,10 +4,9 @@ use Rattle.std.specs.Prelude.{None, count_by}
 use Rattle.vb_model.specs.declared.calls.Call.{Call}
 use Rattle.vb_model.specs.declared.calls.Claim.{Claim}
 use Rattle.vb_model.specs.declared.replies.Reply.{Reply}
-use Rattle.vb_model.specs.Tests.{one_if}
+use Rattle.vb_virtio.specs.Tests.{one_if, times}
 use Rattle.vb_model.specs.Guest.{Guest}
 use Rattle.vb_model.specs.Rogue.{GuestStep}
-use Rattle.vb_model.specs.Orderly.{times}
 use Rattle.vb_frames.specs.Out.{is_out, AllAnswered}
 use Rattle.vb_model.specs.Life.{after_restart}
 use Rattle.vb_ram.specs.Pages.{Pages, frame_at}
@@ -61,7 +60,14 @@ pub record StepsAlone (New : Guest → Type 0) (g : Guest) (call : Call) (reply 
   pub step : GuestStep g call [] reply new
   pub frames : new.frames ≡ g.frames
 
--- A step that claims nothing, in which pages lose the frames of these numbers and no other.
+-- What leads to another guest, in which pages have lost the frames of these numbers and no other.
+pub record Frees (New Step : Guest → Type 0) (loose : List ℕ) (g : Guest) : Type 0 where
+  pub new : Guest
+  pub stands : New new
+  pub step : Step new
+  pub freed : (n : ℕ) → times n loose + backing_count n new ≡ backing_count n g
+
+-- A step that claims nothing, in which pages lose these frames.
 pub record StepsFreeing (New : Guest → Type 0) (loose : List ℕ) (g : Guest) (call : Call)
     (reply : Reply) : Type 0 where
   pub new : Guest
@@ -69,7 +75,16 @@ pub record StepsFreeing (New : Guest → Type 0) (loose : List ℕ) (g : Guest) 
   pub step : GuestStep g call [] reply new
   pub freed : (n : ℕ) → times n loose + backing_count n new ≡ backing_count n g
 
--- Every frame behind a page of the guest went back to where it came from, and no other frame moved.
+-- The same over the guest's supply of frames.
+pub record Reaches (New Step : Guest → Type 0) (old_supply new_supply : Supply) (g : Guest) :
+    Type 0 where
+  pub new : Guest
+  pub stands : New new
+  pub step : Step new
+  pub moves : Moves old_supply new_supply (λ n. backing_count n new) (λ n. backing_count n g)
+
+-- Every frame that backs a page of the guest went back to where it came from, and no other frame
+-- moved.
 abbrev pub AllReturn : Supply → Supply → Guest → Type 0
 AllReturn old_supply new_supply g = Moves old_supply new_supply nothing (λ n. backing_count n g)
 

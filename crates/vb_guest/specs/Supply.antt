@@ -4,9 +4,8 @@ use Rattle.std.specs.Prelude.{◌≡◌, ℕ, ◌+◌, ◌≤◌, Bool, true, fa
 use Rattle.std.specs.Prelude.{if◌then◌else◌, slice_set, ⊤}
 use Rattle.vb_model.specs.declared.calls.Claim.{Claim}
 use Rattle.vb_model.specs.declared.calls.Claim.TheVariants.{Gave, GaveNoFrame, GaveNoMemory}
-use Rattle.vb_model.specs.Tests.{one_if}
+use Rattle.vb_virtio.specs.Tests.{one_if, times}
 use Rattle.vb_model.specs.Driver.{given}
-use Rattle.vb_model.specs.Orderly.{times}
 use Rattle.vb_ram.specs.Part.{Part}
 use Rattle.vb_device.specs.Own.{has}
 use Rattle.vb_frames.specs.Out.{is_out, IsFree}
@@ -25,8 +24,8 @@ supply_of part out = record { keeps = part.keeps; own = part.own; out = out }
 abbrev pub is_used : Supply → ℕ → Bool
 is_used s n = if s.keeps then has s.own n else is_out s.out n
 
--- So many frames of each number went out, and so many came back. Where the device keeps frames, the
--- keeper's are as before; else the device still has none.
+-- n frames of each number went out, and m came back. Where the device keeps frames, the keeper's
+-- are as before; else the device still has none.
 pub record Moves (s1 s2 : Supply) (gained lost : ℕ → ℕ) : Type 0 where
   pub keeps : s2.keeps ≡ s1.keeps
   pub asked : s1.keeps ≡ false → s2.own ≡ s1.own
@@ -60,6 +59,6 @@ AreClaimed Answers s (GaveNoFrame ∷ claims) =
 AreClaimed Answers s (GaveNoMemory ∷ claims) =
     (mid : Supply) × IsClaimed Answers s mid GaveNoMemory × (claims ≡ [])
 
--- Each of these frames is out, and none stands here twice.
+-- Each of these frames is out, and none is here twice.
 abbrev pub AreLoose : List ℕ → Supply → Type 0
 AreLoose loose s = (n : ℕ) → times n loose ≤ one_if (is_used s n)

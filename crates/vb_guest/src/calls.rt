@@ -12,16 +12,17 @@ use crate::memory::{read, scribble, write};
 use crate::queries::{balloon, pages_at, pages_ballooned, places, statistics};
 use crate::replies::{
     asked_reply, balloon_reply, bytes_reply, done_reply, filled_reply, finished_reply, page_reply,
-    posted_reply, ready_reply, reaped_reply, runs_reply, statistics_reply, swept_reply,
-    taken_reply, worked_reply,
+    posted_reply, ready_reply, reaped_reply, runs_reply, served_reply, statistics_reply,
+    swept_reply, taken_reply, worked_reply,
 };
+use crate::serving::serve;
 use std::alloc::Global;
 use vb_device::Device;
 use vb_driver::Driver;
 use vb_frames::FrameKeeper;
 use vb_model::{Call, Query, Reply};
 
-/// Answers a call on the guest that the driver and the device stand for, which is a step of that
+/// Answers a call on the guest that the driver and the device represent, which is a step of that
 /// guest. Frames that its pages gain are claimed from the device, where it keeps frames of its own,
 /// else from the keeper, and those that they lose go back there. Notes what the claims were
 /// answered.
@@ -66,6 +67,7 @@ pub fn call<D: Device, K: FrameKeeper>(
         Call::Take { queue } => taken_reply(take(device, *queue)),
         Call::Work => worked_reply(work(device, keeper)),
         Call::Finish { queue, index } => finished_reply(finish(device, keeper, *queue, *index)),
+        Call::Serve { queue } => served_reply(serve(device, keeper, *queue)),
         Call::Sweep { page } => swept_reply(sweep(device, keeper, *page)),
         Call::Ask => asked_reply(ask(device)),
         Call::Reset => {
@@ -82,7 +84,7 @@ pub fn call<D: Device, K: FrameKeeper>(
     }
 }
 
-/// Answers a question about the guest that the driver and the device stand for.
+/// Answers a question about the guest that the driver and the device represent.
 pub fn query<D: Device>(alloc: Global, driver: &Driver, device: &D, query: &Query) -> Reply
     requires stands { SomeGuest (D.mem device.now) (D.part device.now) driver.now }
     ensures answer { EachAnswers (D.mem device.now) (D.part device.now) driver.now query.now

@@ -15,7 +15,8 @@ ghost use Rattle.vb_guest.specs.Stands.{Stands};
 use crate::frames::return_loose;
 use vb_device::{Device, Worked};
 use vb_frames::FrameKeeper;
-use vb_model::{Call, Refusal};
+use vb_model::Call;
+use vb_virtio::Refusal;
 
 /// The device takes the next chain of a queue (VIRTIO 1.1, 2.6); answers its head, or none where no
 /// chain is available. Of a statistics buffer it reads what it says. Refused with `NoQueue`,

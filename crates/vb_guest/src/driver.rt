@@ -10,7 +10,8 @@ ghost use Rattle.vb_guest.specs.Replies.{filled_reply};
 
 use vb_device::Device;
 use vb_driver::{Driver, Posted, Reaped};
-use vb_model::{Call, Refusal};
+use vb_model::Call;
+use vb_virtio::Refusal;
 
 /// A processor asks for a block of 2^order pages (Gorman, chapter 6); answers its first page, which
 /// is the one that the processor's list or the page areas give by their rule. Refused with

@@ -1,4 +1,4 @@
-//! One guest: what its balloon driver and its device do, as steps of the guest that they stand for.
+//! One guest: what its balloon driver and its device do, as steps of the guest that they represent.
 #![tactic(auto)]
 
 mod calls;
@@ -9,6 +9,8 @@ mod lives;
 mod memory;
 mod queries;
 mod replies;
+mod served;
+mod serving;
 
 pub use calls::{call, query};
 pub use device::{ask, finish, set_target, sweep, take, work};
@@ -17,3 +19,5 @@ pub use frames::{Claims, MAX_CLAIMS};
 pub use lives::{empty, init, reset, restart};
 pub use memory::{read, scribble, write};
 pub use queries::{balloon, pages, pages_at, pages_ballooned, places, spare, statistics};
+pub use served::Served;
+pub use serving::serve;

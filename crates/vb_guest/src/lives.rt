@@ -3,7 +3,7 @@
 ghost use Rattle.std.specs.Prelude.{◌≡◌, ◌+◌, ◌≤◌, [], length, true, false, None, replicate};
 ghost use Rattle.std.specs.List.{range_with_len};
 ghost use Rattle.vb_model.specs.declared.replies.Reply.TheVariants.{Done};
-ghost use Rattle.vb_model.specs.Orderly.{times};
+ghost use Rattle.vb_virtio.specs.Tests.{times};
 ghost use Rattle.vb_driver.specs.Calls.{ResetsBy};
 ghost use Rattle.vb_driver.specs.State.{DriverState, fresh_driver};
 ghost use Rattle.vb_device.specs.Discards.{frames_behind};
@@ -22,9 +22,10 @@ use bitflags::Flags;
 use vb_device::Device;
 use vb_driver::Driver;
 use vb_frames::{FrameKeeper, Refused};
-use vb_model::{Call, Refusal};
+use vb_model::Call;
 use vb_ram::Shape;
 use vb_status::{Features, Port};
+use vb_virtio::Refusal;
 
 /// Whether a page is one of rings and buffers, and has no frame.
 fn is_bare<D: Device>(device: &D, shape: Shape, page: u32) -> bool
@@ -33,7 +34,7 @@ fn is_bare<D: Device>(device: &D, shape: Shape, page: u32) -> bool
     shape.is_start_page(page) && device.backing(page).is_none()
 }
 
-/// Puts new frames behind those pages of rings and buffers, from this one on, that have none. All
+/// Backs with new frames those pages of rings and buffers, from this one on, that have none. All
 /// are claimed first: where a claim is refused, those that were given go back, and no page has one.
 fn supply_from<D: Device, K: FrameKeeper>(
     device: &mut D,

@@ -15,10 +15,11 @@ use std::alloc::{AllocError, Global};
 use vb_device::Device;
 use vb_driver::Driver;
 use vb_frames::{FrameKeeper, Refused};
-use vb_model::{Bytes, Call, Refusal};
+use vb_model::{Bytes, Call};
 use vb_ram::{Frame, PAGE_SIZE, RamFault};
+use vb_virtio::Refusal;
 
-/// Puts a frame behind a page that has none.
+/// Backs a page that has no frame.
 pub(crate) fn supply<D: Device>(device: &mut D, page: u32, frame: Frame)
     requires inside { page < length (D.mem device.old) }
     requires bare { frame_at (D.mem device.old) page ≡ None }
@@ -44,7 +45,7 @@ fn overwrite<D: Device>(device: &mut D, page: u32, offset: u32, bytes: &Bytes)
     }
 }
 
-/// Puts a frame behind a page that has none, and then writes bytes of it.
+/// Backs a page that has no frame, and then writes bytes of it.
 fn put_fresh<D: Device, K: FrameKeeper>(
     device: &mut D,
     keeper: &mut K,

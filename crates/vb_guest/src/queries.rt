@@ -3,9 +3,9 @@
 ghost use Rattle.std.specs.Prelude.{◌≡◌, ◌≤◌, ℕ, List, [], ◌∷◌, ◌++◌, length, count_by};
 ghost use Rattle.std.specs.Prelude.{IfOk, OnOk};
 ghost use Rattle.vb_model.specs.Balance.{spare};
-ghost use Rattle.vb_model.specs.Tests.{pages_where};
+ghost use Rattle.vb_virtio.specs.Tests.{pages_where};
 ghost use Rattle.vb_model.specs.Queries.{is_place, runs};
-ghost use Rattle.vb_model.specs.declared.limits.TheConstants.{MAX_GUEST_PAGES};
+ghost use Rattle.vb_virtio.specs.declared.limits.TheConstants.{MAX_GUEST_PAGES};
 ghost use Rattle.vb_model.specs.declared.replies.Reply.TheVariants.{Places};
 ghost use Rattle.vb_ram.specs.Pages.{Pages};
 ghost use Rattle.vb_ram.specs.Part.{Part};
@@ -18,8 +18,8 @@ use bitflags::Flags;
 use std::alloc::{AllocError, Global};
 use vb_device::{Device, Statistics};
 use vb_driver::Driver;
-use vb_model::limits::PAGE_SIZE;
 use vb_model::{BalloonState, PageRun, PageRuns, Place, PlaceCounts, Query};
+use vb_virtio::limits::PAGE_SIZE;
 
 /// How many pages each place has.
 pub fn places(driver: &Driver) -> PlaceCounts
@@ -137,7 +137,7 @@ fn ballooned_runs<D: Device>(alloc: Global, device: &D, count: u32) -> Result<Pa
     Ok(PageRuns::new(found))
 }
 
-/// Which pages are at a place, as runs by rising page. Want of memory is the only refusal.
+/// Which pages are at a place, as runs by rising page. An allocation failure is the only refusal.
 pub fn pages_at(alloc: Global, driver: &Driver, place: Place) -> Result<PageRuns, AllocError>
     ensures answer { (mem : Pages) (part : Part) → EachAnswers mem part driver.now
         (Query.PagesAt place) (runs_reply result) }
@@ -147,8 +147,8 @@ pub fn pages_at(alloc: Global, driver: &Driver, place: Place) -> Result<PageRuns
     runs_at(alloc, driver.places_by_page(), place)
 }
 
-/// Which pages the device holds to be ballooned, as runs by rising page. Want of memory is the only
-/// refusal.
+/// Which pages the device holds to be ballooned, as runs by rising page. An allocation failure is
+/// the only refusal.
 pub fn pages_ballooned<D: Device>(alloc: Global, device: &D) -> Result<PageRuns, AllocError>
     requires { (d : DriverState) × SomeGuest (D.mem device.now) (D.part device.now) d }
     ensures { (d : DriverState) → EachAnswers (D.mem device.now) (D.part device.now) d

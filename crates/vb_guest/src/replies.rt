@@ -4,12 +4,14 @@ ghost use Rattle.std.specs.Prelude.{◌≡◌};
 ghost use Rattle.vb_guest.specs.Replies.{ready_reply, page_reply, done_reply, bytes_reply};
 ghost use Rattle.vb_guest.specs.Replies.{posted_reply, reaped_reply, taken_reply, finished_reply};
 ghost use Rattle.vb_guest.specs.Replies.{swept_reply, worked_reply, runs_reply, balloon_reply};
-ghost use Rattle.vb_guest.specs.Replies.{filled_reply, asked_reply, statistics_reply};
+ghost use Rattle.vb_guest.specs.Replies.{filled_reply, asked_reply, statistics_reply, served_reply};
 
+use crate::served::Served;
 use std::alloc::AllocError;
 use vb_device::{Statistics, Worked};
 use vb_driver::{Posted, Reaped};
-use vb_model::{BalloonState, Bytes, LastStatistics, PageRuns, Refusal, Reply};
+use vb_model::{BalloonState, Bytes, PageRuns, Reply};
+use vb_virtio::{LastStatistics, Refusal};
 
 pub(crate) fn ready_reply(answer: Result<(), Refusal>) -> Reply
     ensures { result ≡ ready_reply answer }
@@ -104,6 +106,15 @@ pub(crate) fn finished_reply(answer: Result<u16, Refusal>) -> Reply
         Ok(head) => Reply::Finished {
             head: u32::from(head),
         },
+        Err(refusal) => Reply::Refused(refusal),
+    }
+}
+
+pub(crate) fn served_reply(answer: Result<Served, Refusal>) -> Reply
+    ensures { result ≡ served_reply answer }
+{
+    match answer {
+        Ok(Served { chains, broken }) => Reply::Served { chains, broken },
         Err(refusal) => Reply::Refused(refusal),
     }
 }

@@ -1,7 +1,7 @@
 -- Worked facts of what guests are asked to give.
 use Rattle.std.proofs.Common.{◌≡◌, ℕ, zero, suc, ◌-◌, ◌<◌, ◌≤◌, List, [], ◌∷◌, map, Result, Ok, Err, refl, ap, arith}
 use Rattle.std.specs.Prelude.{slice_index}
-use Rattle.vb_model.specs.Balance.{spare_at}
+use Rattle.vb_virtio.specs.Targets.{spare_at}
 use Rattle.vb_balance.specs.declared.need.NoTargets.{NoTargets}
 use Rattle.vb_balance.specs.declared.need.NoTargets.TheVariants.{Short}
 use Rattle.vb_lender.specs.declared.loan.Loan.{Loan}

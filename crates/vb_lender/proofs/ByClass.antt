@@ -4,7 +4,7 @@ use Rattle.std.proofs.lemmas.Bool.{cases_lt, cases_order}
 use Rattle.std.proofs.lemmas.Bool.Decides.{nat_tests}
 use Rattle.std.proofs.lemmas.List.Sums.{sum_by-cons}
 use Rattle.std.specs.List.{AllByRecursion}
-use Rattle.vb_model.specs.Balance.{Need, AreTargets, GivesBefore, missing, shortage, spare_at}
+use Rattle.vb_virtio.specs.Targets.{Need, AreTargets, GivesBefore, missing, shortage, spare_at}
 use Rattle.vb_lender.specs.declared.loan.Loan.{Loan}
 use Rattle.vb_lender.specs.declared.terms.Share.{Share}
 use Rattle.vb_lender.specs.declared.terms.Terms.{Terms}

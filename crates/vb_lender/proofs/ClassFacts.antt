@@ -1,6 +1,6 @@
 -- Worked facts of what guests are asked to give by class.
 use Rattle.std.proofs.Common.{◌≡◌, inl, inr, ℕ, zero, suc, ◌-◌, ◌<◌, ◌≤◌, List, [], ◌∷◌, map, slice_index, Result, Ok, Err, refl, ap, arith}
-use Rattle.vb_model.specs.Balance.{spare_at}
+use Rattle.vb_virtio.specs.Targets.{spare_at}
 use Rattle.vb_balance.specs.declared.need.NoTargets.{NoTargets}
 use Rattle.vb_balance.specs.declared.need.NoTargets.TheVariants.{Short}
 use Rattle.vb_lender.specs.declared.loan.Loan.{Loan}

@@ -3,7 +3,7 @@
 use Rattle.std.specs.Prelude.{◌≡◌, ◌⊎◌, ℕ, ◌+◌, ◌-◌, ◌<◌, ◌≤◌, ◌^◌, nat_lt, if◌then◌else◌, max, min}
 use Rattle.std.specs.Prelude.{List}
 use Rattle.std.specs.Prelude.{[], ◌∷◌, length, map, sum, sum_by, slice_index, Result, Ok, Err, ◌==◌}
-use Rattle.vb_model.specs.Balance.{Need, GivesBefore, missing, shortage, spare_at}
+use Rattle.vb_virtio.specs.Targets.{Need, GivesBefore, missing, shortage, spare_at}
 use Rattle.vb_balance.specs.declared.need.NoTargets.{NoTargets}
 use Rattle.vb_balance.specs.declared.need.NoTargets.TheVariants.{Short}
 use Rattle.vb_lender.specs.declared.loan.Loan.{Loan}

@@ -1,7 +1,7 @@
 -- What guests are asked to give, so that those that wait get what they wait for.
 use Rattle.std.specs.Prelude.{◌≡◌, ℕ, ◌+◌, ◌-◌, ◌<◌, ◌≤◌, ◌^◌, nat_lt, if◌then◌else◌, min, List}
 use Rattle.std.specs.Prelude.{length, map, sum_by, slice_index, Result, Ok, Err}
-use Rattle.vb_model.specs.Balance.{Need, AreTargets, shortage}
+use Rattle.vb_virtio.specs.Targets.{Need, AreTargets, shortage}
 use Rattle.vb_balance.specs.declared.need.NoTargets.{NoTargets}
 use Rattle.vb_balance.specs.declared.need.NoTargets.TheVariants.{Short}
 use Rattle.vb_lender.specs.declared.loan.Loan.{Loan}

@@ -1,7 +1,7 @@
 //! What guests are asked to give, so that those that wait get what they wait for.
 
 ghost use Rattle.std.specs.Prelude.{◌≡◌, ℕ, ◌+◌, ◌-◌, ◌<◌, ◌≤◌, List, length, map, sum_by};
-ghost use Rattle.vb_model.specs.Balance.{AreTargets, shortage};
+ghost use Rattle.vb_virtio.specs.Targets.{AreTargets, shortage};
 ghost use Rattle.vb_lender.specs.declared.loan.Loan.{Loan};
 ghost use Rattle.vb_lender.specs.Lending.{AreSound, owed, asked_at};
 ghost use Rattle.vb_lender.specs.Line.{IsFirst};

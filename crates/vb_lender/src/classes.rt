@@ -4,7 +4,7 @@
 ghost use Rattle.std.specs.Prelude.{◌≡◌, ℕ, ◌+◌, ◌-◌, ◌*◌, ◌<◌, ◌≤◌, ◌^◌, List, length, map, min};
 ghost use Rattle.std.specs.Prelude.{slice_index, sum_by};
 ghost use Rattle.std.specs.List.{AllByRecursion};
-ghost use Rattle.vb_model.specs.Balance.{AreTargets, missing, shortage};
+ghost use Rattle.vb_virtio.specs.Targets.{AreTargets, missing, shortage};
 ghost use Rattle.vb_lender.specs.declared.loan.Loan.{Loan};
 ghost use Rattle.vb_lender.specs.declared.terms.Share.{Share};
 ghost use Rattle.vb_lender.specs.declared.terms.Terms.{Terms};

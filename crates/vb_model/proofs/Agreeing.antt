@@ -2,21 +2,32 @@
 use Rattle.std.proofs.Common.{List, [], ap, arith, inl, inr, sym, ℕ, ◌++◌, ◌<◌, ◌∙◌, ◌∷◌, ◌≡◌}
 use Rattle.std.{proofs.lemmas.Bool.cases_lt, specs.Prelude.{MatchOption, None, Option, Some}}
 use Rattle.std.specs.Prelude.{if◌then◌else◌}
+use Rattle.std.proofs.Common.{◌+◌, subst}
+use Rattle.vb_model.specs.Device.{ServesBuffer, ServesRequests, taken_chains}
+use Rattle.vb_model.specs.declared.{calls.Call.TheVariants.Serve, replies.Reply.TheVariants.Finished}
+use Rattle.vb_model.specs.declared.replies.Reply.TheVariants.{Served}
 use Rattle.vb_model.proofs.{Cases.supplied, Performed.{Performed, honest_case}}
 use Rattle.vb_model.specs.{Determined.Agree, Device.{Finishes, ReturnsBuffer, TakesBuffer}}
 use Rattle.vb_model.specs.{Device.{TakesRequest, Works, next_page}, Driver.{Fills, Posts, Reaps}}
 use Rattle.vb_model.specs.Driver.{Written, after_posting, claim_refusal, pages_needed}
 use Rattle.vb_model.specs.{Driver.stranded_first, Guest.{Guest, requests}, Life.Negotiates}
-use Rattle.vb_model.specs.{Life.{feature_refusal, lacking}, Refusals.{deflate_count, inflate_count}}
-use Rattle.vb_model.specs.{Refusals.{oom_count, refusal_of}, Requests.{BufferTaken, Deflating}}
-use Rattle.vb_model.specs.Requests.{Inflating, IsLeastHead, Kind, NoBuffer, Reporting_free, Request}
-use Rattle.vb_model.specs.Requests.{Requests, StatisticsBuffer, all_requests, headed, kind_of_queue}
+use Rattle.vb_virtio.specs.Status.{feature_refusal}
+use Rattle.vb_virtio.specs.Queues.{Deflating, Inflating, Kind, Reporting_free, Request}
+use Rattle.vb_virtio.specs.Queues.{kind_of_queue}
+use Rattle.vb_virtio.specs.declared.refusals.Refusal.{Refusal}
+use Rattle.vb_model.specs.Life.{lacking}
+use Rattle.vb_model.specs.Refusals.{deflate_count, inflate_count}
+use Rattle.vb_model.specs.Refusals.{oom_count, refusal_of}
+use Rattle.vb_model.specs.Requests.{BufferTaken}
+use Rattle.vb_model.specs.Requests.{IsLeastHead, NoBuffer}
+use Rattle.vb_model.specs.Requests.{Requests, StatisticsBuffer, all_requests, headed}
 use Rattle.vb_model.specs.{Rogue.Scribbled, Step.HonestStep, declared.calls.Call.Call}
 use Rattle.vb_model.specs.declared.calls.Call.TheVariants.{Alloc, Ask, Deflate, Finish, Free}
 use Rattle.vb_model.specs.declared.calls.Call.TheVariants.{Inflate, Init, Oom, Read, Reap, Report}
 use Rattle.vb_model.specs.declared.calls.Call.TheVariants.{Reset, Scribble, SetTarget, Stats, Sweep}
 use Rattle.vb_model.specs.declared.calls.{Call.TheVariants.{Take, Work, Write}, Claim.Claim}
-use Rattle.vb_model.specs.declared.replies.{Refusal.Refusal, Reply.{Reply, TheVariants.Posted}}
+use Rattle.vb_model.specs.declared.replies.Reply.{Reply}
+use Rattle.vb_model.specs.declared.replies.Reply.TheVariants.{Posted}
 use Rattle.vb_model.specs.declared.replies.Reply.TheVariants.{Refused}
 
 -- ---- two choices of one case
@@ -86,6 +97,21 @@ takes kind (x ∷ rest) g = fixed _ _
 finishes : (kind : Kind) (i : ℕ) (g : Guest) → Fixed (Finishes kind i g)
 finishes kind i g r r' new new' s t = grind arith
 
+serves : (kind : Kind) (posted : List Request) (chains : ℕ) (g : Guest)
+    → Fixed (ServesRequests kind posted chains g)
+serves kind [] chains g r r' new new' s t = fixed _ _ r r' new new' s t
+serves kind (x ∷ rest) chains g r r' new new' s t =
+    let first : s.0 ≡ t.0 = (takes kind (x ∷ rest) g _ _ s.0 t.0 s.2 t.2).1 in
+    let same = subst (λ (y : Guest). Finishes kind 0 y (Finished x.head) s.1) first s.3 in
+    let next : s.1 ≡ t.1 = (finishes kind 0 t.0 _ _ s.1 t.1 same t.3).1 in
+    serves kind rest (chains + 1) t.1 r r' new new'
+    (subst (λ (y : Guest). ServesRequests kind rest (chains + 1) y r new) next s.4) t.4
+
+serves_buffer : (buffer : StatisticsBuffer) (g : Guest) → Fixed (ServesBuffer buffer g)
+serves_buffer buffer g r r' new new' s t =
+    let same = takes_buffer buffer g s.0 t.0 new new' s.1 t.1 in
+    (s.2 ∙ (ap (λ (took : Reply). Served (taken_chains took) None) same.0 ∙ sym t.2), same.1)
+
 posts : (kind : Kind) (pages : List ℕ) (count : ℕ) (g : Guest) → Fixed (Posts kind pages count g)
 posts kind pages count g r r' new new' s t =
     grind (arith, least_same (requests kind g) s.0 t.0 s.1 t.1)
@@ -138,6 +164,10 @@ performs_agree (Reap q) g claims r new r' new' s t =
 performs_agree (Take q) g claims r new r' new' s t = by_case (kind_of_queue q)
     (TakesBuffer g.buffer g) (λ kind. TakesRequest kind (requests kind g).posted g)
     (takes_buffer g.buffer g) (λ kind. takes kind (requests kind g).posted g) r r' new new' s.1 t.1
+performs_agree (Serve q) g claims r new r' new' s t = by_case (kind_of_queue q)
+    (ServesBuffer g.buffer g) (λ kind. ServesRequests kind (requests kind g).posted 0 g)
+    (serves_buffer g.buffer g) (λ kind. serves kind (requests kind g).posted 0 g) r r' new new' s.1
+    t.1
 performs_agree Work g claims r new r' new' s t = works g r r' new new' s.1 t.1
 performs_agree (Finish q i) g claims r new r' new' s t =
     by_case (kind_of_queue q) (λ r new. ⊥) (λ kind. Finishes kind i g)

@@ -1,8 +1,9 @@
 -- Worked facts of what a balance answers: targets, or what stays missing.
 use Rattle.std.proofs.Common.{◌≡◌, ℕ, List, [], ◌∷◌, refl, arith}
-use Rattle.vb_model.specs.declared.replies.Refusal.TheVariants.{Short, NoFrame}
+use Rattle.vb_virtio.specs.declared.refusals.Refusal.TheVariants.{Short, NoFrame}
+use Rattle.vb_virtio.specs.Targets.{Need, AreTargets}
 use Rattle.vb_model.specs.declared.replies.Reply.TheVariants.{Done, Targets, Refused}
-use Rattle.vb_model.specs.Balance.{Need, AreTargets, IsAnswer}
+use Rattle.vb_model.specs.Balance.{IsAnswer}
 
 abbrev Same : ℕ → ℕ → Type 0
 Same a b = a ≡ b
@@ -22,7 +23,7 @@ first_alone = grind arith
 targets_of_the_first : IsAnswer 100 needs (Targets (28 ∷ 0 ∷ []))
 targets_of_the_first = (28 ∷ 0 ∷ [], first_alone, refl)
 
--- whoever answers these targets has that they are targets
+-- an answer of these targets says that they are targets
 are_targets : (a b : ℕ) → IsAnswer 100 needs (Targets (a ∷ b ∷ []))
     → AreTargets needs 100 (a ∷ b ∷ [])
 are_targets a b h2 = grind arith

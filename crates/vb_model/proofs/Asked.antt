@@ -1,4 +1,4 @@
--- An offered page is handed out again only after it was asked back.
+-- An offered page is handed out again only after it was requested back.
 use Rattle.std.proofs.Common.{◌≡◌, ℕ, zero, suc, ◌+◌, ◌-◌, ◌<◌, ◌≤◌, Bool, true, false, List, []}
 use Rattle.std.proofs.Common.{◌∷◌, refl, sym, ap, subst, ◌∙◌, arith, ◌≢◌}
 use Rattle.std.specs.Prelude.{Option, Some, None, slice_get}
@@ -7,7 +7,9 @@ use Rattle.vb_model.proofs.Offered.{Only, only_done, Reaping, PageMove, Stays, S
 use Rattle.vb_model.{proofs.Offered.{Lends, TakesBack, Frees, honest_moves}, specs.Courses.Course}
 use Rattle.vb_model.specs.Courses.{guest_after, BringsTo, ReapedAt, DeflatePostedAt, WasAskedBack}
 use Rattle.vb_model.specs.{Guest.{Guest, tells_host}, GuestRun.{Entry, Called, Looked, OwnStep}}
-use Rattle.vb_model.specs.{Pages.place_of, Requests.{Kind, Inflating, Deflating, place_posted}}
+use Rattle.vb_virtio.specs.Queues.{Kind, Inflating, Deflating}
+use Rattle.vb_model.specs.Pages.{place_of}
+use Rattle.vb_model.specs.Requests.{place_posted}
 use Rattle.vb_model.specs.declared.calls.{Actor.Actor, Call.Call, Claim.Claim}
 use Rattle.vb_model.specs.declared.places.Place.{Place, TheVariants.{Taking, Stranded}}
 use Rattle.vb_model.specs.declared.replies.Reply.{Reply}

@@ -8,8 +8,11 @@ use Rattle.vb_model.{proofs.{Blocks.any_in_range, Samples.{NoneOf, none_of}}, sp
 use Rattle.vb_model.specs.Courses.{BringsTo, DeflatePostedAt, ReapedAt, WasAskedBack, guest_after}
 use Rattle.vb_model.specs.{Courses.posts_deflate, Guest.{Guest, requests, tells_host}}
 use Rattle.vb_model.specs.{GuestRun.{Called, Entry}, Histories.IsSafeCourse, Pages.is_place}
-use Rattle.vb_model.specs.{Pages.place_of, Requests.{Deflating, Inflating, Kind, Request, queue_of}}
-use Rattle.vb_model.specs.{Tests.is_in, declared.{calls.Call.TheVariants.Reap, places.Place.Place}}
+use Rattle.vb_virtio.specs.Queues.{Deflating, Inflating, Kind, Request, queue_of}
+use Rattle.vb_virtio.specs.Tests.{is_in}
+use Rattle.vb_model.specs.Pages.{place_of}
+use Rattle.vb_model.specs.declared.calls.Call.TheVariants.{Reap}
+use Rattle.vb_model.specs.declared.places.Place.{Place}
 use Rattle.vb_model.specs.declared.places.Place.TheVariants.{Giving, Used}
 use Rattle.vb_model.specs.declared.replies.Reply.TheVariants.{Posted, Reaped}
 
@@ -66,7 +69,7 @@ abbrev pub asked_back : Course → (page i k : ℕ) → Bool
 asked_back c page i k = list_any (λ lent. is_some (reaped_at Inflating c page lent) && list_any
     (λ asked. comes_back c page asked k (posted_at c page asked)) (between lent k)) (between i k)
 
--- ---- what was asked back passes the test
+-- ---- what was requested back passes the test
 
 same_list : (xs : List ℕ) → is_same xs xs ≡ true
 same_list [] = refl
@@ -158,7 +161,7 @@ brings_by place _ _ = false
 abbrev pub brings : Course → Place → ℕ → Bool
 brings c place i = brings_by place (guest_after c i) (guest_after c (i + 1))
 
--- the one entry brings page 16 to the host and the other hands it out, and it isn't asked back
+-- the one entry brings page 16 to the host and the other hands it out, and it isn't requested back
 abbrev pub hands_out : Row → Bool
 hands_out (c, (i, k)) = nat_lt i k && (brings c Giving i && (brings c Used k
     && not (asked_back c 16 i k)))

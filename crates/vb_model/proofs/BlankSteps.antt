@@ -4,12 +4,21 @@ use Rattle.std.proofs.Common.{length-take, refl, subst, sym, true, ℕ, ◌+◌,
 use Rattle.std.proofs.lemmas.List.{get_or-replicate, length-replicate, take-append-drop}
 use Rattle.std.specs.Prelude.{None, Option, Some, ◌==◌}
 use Rattle.vb_model.proofs.{Cases.supplied, Outcomes.{Begun, Cleared, Emptied, Outcome, Put}}
-use Rattle.vb_model.proofs.{Outcomes.{Retargeted, Shuffled, Turned, outcome}, Tables.each_page-get}
-use Rattle.vb_model.{proofs.Tables.length-each_from, specs.{Blank.IsBlank, Driver.AreClaimsFor}}
-use Rattle.vb_model.specs.{Driver.{claim_refusal, given, overwritten, pages_needed}, Guest.Config}
-use Rattle.vb_model.specs.Guest.{Guest, all_backed, backed, frame_of, fresh, unbacked, zero_page}
-use Rattle.vb_model.specs.{Life.lacking, Limits.page_size, Refusals.refusal_of, Step.HonestStep}
-use Rattle.vb_model.specs.{Tests.each_page, declared.calls.Call.{Call, TheVariants.Write}}
+use Rattle.vb_virtio.proofs.Tables.{each_page-get, length-each_from}
+use Rattle.vb_virtio.specs.Memory.{overwritten, zero_page}
+use Rattle.vb_virtio.specs.Limits.{page_size}
+use Rattle.vb_virtio.specs.Tests.{each_page}
+use Rattle.vb_model.proofs.Outcomes.{Retargeted, Shuffled, Turned, outcome}
+use Rattle.vb_model.specs.Blank.{IsBlank}
+use Rattle.vb_model.specs.Driver.{AreClaimsFor}
+use Rattle.vb_model.specs.Driver.{claim_refusal, given, pages_needed}
+use Rattle.vb_model.specs.Guest.{Config}
+use Rattle.vb_model.specs.Guest.{Guest, all_backed, backed, frame_of, fresh, unbacked}
+use Rattle.vb_model.specs.Life.{lacking}
+use Rattle.vb_model.specs.Refusals.{refusal_of}
+use Rattle.vb_model.specs.Step.{HonestStep}
+use Rattle.vb_model.specs.declared.calls.Call.{Call}
+use Rattle.vb_model.specs.declared.calls.Call.TheVariants.{Write}
 use Rattle.vb_model.specs.declared.{calls.Claim.Claim, replies.Reply.Reply}
 
 pub length-zero_page : length zero_page ≡ page_size

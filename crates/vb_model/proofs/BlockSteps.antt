@@ -1,8 +1,11 @@
 -- What a block that is allocated or freed changes of each page, and of the counts.
 use Rattle.std.proofs.Common.{Bool, List, [], ap, arith, cond, false, refl, true, ℕ, ◌+◌, ◌∷◌, ◌≡◌}
 use Rattle.std.specs.{List.list_any, Prelude.{count_by, nat_lt, ◌||◌}}
-use Rattle.vb_model.proofs.{Tables.count_by-cons, PageSteps.{SoundSo, exclusive, covers_is}}
-use Rattle.vb_model.specs.{Driver.{with_block, without_block}, Guest.Guest, Tests.{is_in, one_if}}
+use Rattle.vb_virtio.proofs.Tables.{count_by-cons}
+use Rattle.vb_virtio.specs.Tests.{is_in, one_if}
+use Rattle.vb_model.proofs.PageSteps.{SoundSo, exclusive, covers_is}
+use Rattle.vb_model.specs.Driver.{with_block, without_block}
+use Rattle.vb_model.specs.Guest.{Guest}
 use Rattle.vb_model.specs.Pages.{Block, covers, is_free, is_same_block, pages_of}
 use Rattle.vb_model.specs.declared.places.Place.{Place, TheVariants.{Free, Used}}
 

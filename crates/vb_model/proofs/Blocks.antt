@@ -7,11 +7,14 @@ use Rattle.std.proofs.lemmas.Bool.{eq-eqb, false_from_ne_true, le-leb, leb-true,
 use Rattle.std.proofs.lemmas.{Bool.{ne_eqb, or_left, or_right}, Nat.{mod-mul-add, pow-add, pow_pos}}
 use Rattle.std.specs.{List.{flat_map, list_any, range_with_len}, Prelude.{count_by, filter, map}}
 use Rattle.std.specs.Prelude.{nat_le, nat_lt, ◌%◌, ◌&&◌, ◌==◌}
-use Rattle.vb_model.proofs.{Distinct.{times-append, times-cons, times-none}, PageSteps.is_in-range}
-use Rattle.vb_model.{proofs.Tables.{count_by-append, count_by-cons}, specs.Limits.max_order}
-use Rattle.vb_model.specs.{Orderly.times, Pages.{Block, around, blocks_at, blocks_below, covers}}
+use Rattle.vb_virtio.proofs.Distinct.{times-append, times-cons, times-none}
+use Rattle.vb_virtio.proofs.Ranges.{is_in-range}
+use Rattle.vb_virtio.proofs.Tables.{count_by-append, count_by-cons}
+use Rattle.vb_virtio.specs.Limits.{max_order}
+use Rattle.vb_virtio.specs.Tests.{times, one_if}
+use Rattle.vb_model.specs.Pages.{Block, around, blocks_at, blocks_below, covers}
 use Rattle.vb_model.specs.Pages.{is_aligned, is_maximal, is_whole, maximal_blocks, pages_of}
-use Rattle.vb_model.specs.{Pages.{pages_of_all, size}, Tests.one_if}
+use Rattle.vb_model.specs.Pages.{pages_of_all, size}
 
 -- of two aligned blocks round one page, the larger begins where the smaller's first page is rounded
 -- down to
@@ -156,7 +159,7 @@ times_in_range page first count = cases (nat_le first page && nat_lt page (first
       ]
     ]
 
--- how often a page stands in the pages of blocks
+-- how often a page is in the pages of blocks
 pub times_in_blocks : (page : ℕ) (bs : List Block)
     → times page (pages_of_all bs) ≡ count_by (covers page) bs
 times_in_blocks page [] = refl

@@ -12,7 +12,7 @@ use Rattle.vb_model.specs.{Histories.{BothAgree, IsSafeCourse}, Requests.Request
 use Rattle.vb_model.specs.declared.calls.{Actor.TheVariants.Processor, Call.TheVariants.Alloc}
 use Rattle.vb_model.specs.declared.calls.Call.TheVariants.{Inflate, Read, Reap, Sweep, Take, Work}
 use Rattle.vb_model.specs.declared.places.Place.TheVariants.{Free as FreePlace, Reserved, Used}
-use Rattle.vb_model.specs.declared.replies.Refusal.TheVariants.{Broken, RingBroken}
+use Rattle.vb_virtio.specs.declared.refusals.Refusal.TheVariants.{Broken, RingBroken}
 use Rattle.vb_model.specs.declared.replies.Reply.TheVariants.{Idle, Page, Posted, ReadBytes}
 use Rattle.vb_model.specs.declared.replies.Reply.TheVariants.{Refused, Swept}
 

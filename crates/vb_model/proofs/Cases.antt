@@ -3,15 +3,21 @@ use Rattle.std.proofs.Common.{Bool, List, [], cond, false, inl, inr, length, ref
 use Rattle.std.proofs.{Common.{zero, ℕ, ◌++◌, ◌∷◌, ◌≡◌, ◌⊎◌}, lemmas.Bool.{and_from, and_parts}}
 use Rattle.std.specs.{List.list_all, Prelude.{MatchBool, MatchOption, None, Option, Some, filter}}
 use Rattle.std.specs.Prelude.{nat_le, ◌&&◌}
-use Rattle.vb_model.proofs.{PageSteps.can_be_given, Tables.{is_in-append, is_in-take, list_all-at}}
-use Rattle.vb_model.{proofs.Tables.pages_where-passes, specs.Device.{has_frame, visited}}
+use Rattle.vb_virtio.proofs.Tables.{is_in-append, is_in-take, list_all-at, pages_where-passes}
+use Rattle.vb_virtio.specs.FirstRefusal.{Cause, first_refusal}
+use Rattle.vb_virtio.specs.Queues.{Kind}
+use Rattle.vb_virtio.specs.Tests.{is_in, pages_where}
+use Rattle.vb_model.proofs.PageSteps.{can_be_given}
+use Rattle.vb_model.specs.Device.{has_frame, visited}
 use Rattle.vb_model.specs.{Driver.{AllFreePages, given, lowest_lent, stranded_first}, Guest.Guest}
 use Rattle.vb_model.specs.{Guest.all_backed, Pages.{Block, blocks_below, is_aligned, is_free}}
 use Rattle.vb_model.specs.Pages.{is_lent, is_maximal, is_stranded, is_whole, is_wholly_free}
 use Rattle.vb_model.specs.Pages.{maximal_blocks, pages_of, pages_of_all, place_of, reported}
-use Rattle.vb_model.specs.Refusals.{Cause, first_refusal, inflate_count, reported_blocks, room}
-use Rattle.vb_model.specs.{Requests.Kind, Rogue.{GuestStep, RogueStep}, Step.HonestStep}
-use Rattle.vb_model.specs.{Tests.{is_in, pages_where}, declared.calls.{Call.Call, Claim.Claim}}
+use Rattle.vb_model.specs.Refusals.{inflate_count, reported_blocks, room}
+use Rattle.vb_model.specs.Rogue.{GuestStep, RogueStep}
+use Rattle.vb_model.specs.Step.{HonestStep}
+use Rattle.vb_model.specs.declared.calls.Call.{Call}
+use Rattle.vb_model.specs.declared.calls.Claim.{Claim}
 use Rattle.vb_model.specs.declared.places.Place.{Place, TheVariants.{Free as FreePlace, Reserved}}
 use Rattle.vb_model.specs.declared.{places.Place.TheVariants.Stranded, replies.Reply.Reply}
 use Rattle.vb_model.specs.declared.replies.Reply.TheVariants.{Idle, Worked}

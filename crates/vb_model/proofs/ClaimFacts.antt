@@ -2,8 +2,13 @@
 use Rattle.std.proofs.Common.{List, [], ap, arith, refl, replicate, subst, suc, zero, ℕ, ◌++◌, ◌<◌}
 use Rattle.std.proofs.Common.{◌∷◌, ◌≡◌}
 use Rattle.std.specs.Prelude.{None, Option, Some, drop, slice_index_or}
-use Rattle.vb_model.proofs.{Changes.{same_some}, Samples.{differ, down, ready}}
-use Rattle.vb_model.specs.{Guest.{Guest, frame_of, zero_page}, HostFrames.{Gives, IsOut}}
+use Rattle.vb_virtio.proofs.Differ.{differ}
+use Rattle.vb_virtio.specs.Memory.{zero_page}
+use Rattle.vb_virtio.specs.declared.refusals.Refusal.TheVariants.{NoFrame, NoMemory}
+use Rattle.vb_model.proofs.Changes.{same_some}
+use Rattle.vb_model.proofs.Samples.{down, ready}
+use Rattle.vb_model.specs.Guest.{Guest, frame_of}
+use Rattle.vb_model.specs.HostFrames.{Gives, IsOut}
 use Rattle.vb_model.specs.{HostEvents.{Happens, PlugsIn, WorldStep}, Step.{Does, HonestStep}}
 use Rattle.vb_model.specs.World.{World, guest_at}
 use Rattle.vb_model.specs.declared.calls.Call.TheVariants.{Ask, Finish, Reap, Work, Write}
@@ -12,10 +17,10 @@ use Rattle.vb_model.specs.declared.calls.Event.{Event, TheVariants.{Guest as OnG
 use Rattle.vb_model.specs.declared.calls.Event.TheVariants.{Query as OnQuery}
 use Rattle.vb_model.specs.declared.calls.Query.TheVariants.{Places}
 use Rattle.vb_model.specs.declared.places.Place.TheVariants.{Reserved, Used}
-use Rattle.vb_model.specs.declared.replies.Refusal.TheVariants.{NoFrame, NoMemory}
 use Rattle.vb_model.specs.declared.replies.Reply.{Reply, TheVariants.{Done, Refused}}
 
--- ---- frames 0 and 2 are out, behind pages of guest 0; guest 1 writes to its page 16, which has none
+-- ---- frames 0 and 2 are out, backing pages of guest 0; guest 1 writes to its page 16, which has
+-- none
 
 abbrev holding : Guest
 holding = record down { frames = Some 0 ∷ Some 2 ∷ [] }
@@ -139,7 +144,7 @@ not_the_second_of_two new = (
   λ is. no_other_is_out 3 0 (λ e. differ 0 3 refl e) ((given (with_one_frame 3) 4 1 new is).2 0 (omega arith)),
 )
 
--- want of a frame is no answer while one isn't out
+-- a lack of a frame is no answer while one isn't out
 no_claim_refused : (claims : List Claim) (after : Guest)
     → HonestStep writer (Write 16 0 (7 ∷ [])) claims (Refused NoFrame) after
     → claims ≡ GaveNoFrame ∷ []

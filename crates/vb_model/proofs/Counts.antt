@@ -4,12 +4,14 @@ use Rattle.std.proofs.Common.{◌≡◌, ℕ, zero, suc, ◌+◌, ◌<◌, ◌�
 use Rattle.std.proofs.Common.{◌∷◌, ◌++◌, length, get_or, refl, sym, ap, ◌∙◌, arith}
 use Rattle.std.specs.Prelude.{◌==◌, ◌||◌, count_by, slice_get, Some, remove}
 use Rattle.std.proofs.lemmas.Bool.{eqb-true, eq-eqb, not-true}
-use Rattle.vb_model.specs.Requests.{Request, Requests, all_requests, naming, posting, outstanding}
+use Rattle.vb_virtio.specs.Queues.{Request, is_unvisited}
+use Rattle.vb_virtio.specs.Tests.{is_in, one_if, each_from, pages_from, pages_where, AllDistinct}
+use Rattle.vb_virtio.proofs.Tables.{count_by-cons}
+use Rattle.vb_model.specs.Requests.{Requests, all_requests, naming, posting, outstanding}
 use Rattle.vb_model.{specs.declared.places.Place.Place, specs.Pages.{place_of, placed}}
 use Rattle.vb_model.{specs.declared.places.Place.TheVariants.Reserved, specs.Requests.pages_named}
-use Rattle.vb_model.specs.Tests.{is_in, one_if, each_from, pages_from, pages_where}
-use Rattle.vb_model.{specs.Driver.AllDistinct, specs.Device.{visiting, is_unvisited}}
-use Rattle.vb_model.{proofs.Tables.count_by-cons, proofs.PageSteps.{after_take, after_finish}}
+use Rattle.vb_model.specs.Device.{visiting}
+use Rattle.vb_model.proofs.PageSteps.{after_take, after_finish}
 
 -- how many of the n pages from the first one on are among these
 abbrev pub inside : ℕ → ℕ → List ℕ → ℕ

@@ -1,6 +1,7 @@
 -- What holds in each state of a guest's course, and between two of them.
 use Rattle.std.proofs.Common.{◌≡◌, ℕ, zero, suc, ◌+◌, false, List, [], ◌∷◌, sym, subst, arith}
 use Rattle.std.specs.Prelude.{Option, Some, None, slice_get}
+use Rattle.vb_model.proofs.Unchanged.{serve_stays_honest}
 use Rattle.vb_model.proofs.{AttentiveSteps.honest_attentive, BlankSteps.{honest_blank, fresh_blank}}
 use Rattle.vb_model.proofs.{CallSteps.honest_keeps, Changes.same_some, LifeSteps.fresh_consistent}
 use Rattle.vb_model.{proofs.OrderlySteps.{honest_order, fresh_order}, specs.Blank.IsBlank}
@@ -19,7 +20,7 @@ as_guest g call claims reply new honest s = grind arith
 still_honest : (g : Guest) (call : Call) (claims : List Claim) (reply : Reply) (new : Guest)
     → g.rogue ≡ false → is_scribbled call reply ≡ false → HonestStep g call claims reply new
     → new.rogue ≡ false
-still_honest g call claims reply new honest none s = search arith
+still_honest g call claims reply new honest none s = search (arith, serve_stays_honest)
 
 -- what holds of each state
 pub record IsFit (g : Guest) : Type 0 where

@@ -1,42 +1,59 @@
 -- What a call of an honest guest does, with each of its choices made.
 use Rattle.std.proofs.Common.{Bool, List, [], ap, arith, cond, false, inl, inr, length-append, refl}
+use Rattle.std.proofs.Common.{◌+◌}
 use Rattle.std.proofs.Common.{suc, sym, true, zero, ℕ, ◌++◌, ◌<◌, ◌∙◌, ◌∷◌, ◌≡◌, ◌≢◌, ◌≤◌}
 use Rattle.std.proofs.lemmas.{Bool.{leb-false, ltb-false, not-false}, List.length-take-le}
 use Rattle.std.specs.{List.list_any, Prelude.{MatchOption, None, Some, count_by, length, nat_le}}
 use Rattle.std.specs.Prelude.{nat_lt, not, slice_get, ◌&&◌}
 use Rattle.vb_model.proofs.{Blocks.reported_distinct, Cases.{Idles, Visits, inflated_pages}}
 use Rattle.vb_model.proofs.Cases.{lent_pages, match_cases, not_refused, reported_pages, supplied}
-use Rattle.vb_model.proofs.{Counts.length-pages_where, Distinct.{distinct_where, inflated_distinct}}
+use Rattle.vb_virtio.proofs.Distinct.{distinct_where}
+use Rattle.vb_virtio.specs.Queues.{is_unvisited, Deflating, Inflating, Kind, Reporting_free}
+use Rattle.vb_virtio.specs.Queues.{Request, kind_of_queue, queue_of}
+use Rattle.vb_virtio.specs.Status.{feature_refusal, is_up}
+use Rattle.vb_virtio.specs.Limits.{max_order, min_reported_order}
+use Rattle.vb_virtio.specs.Tests.{times, is_in, one_if, pages_where}
+use Rattle.vb_virtio.specs.declared.refusals.Refusal.{Refusal}
+use Rattle.vb_virtio.specs.declared.statistics.LastStatistics.{LastStatistics}
+use Rattle.vb_virtio.specs.declared.refusals.Refusal.TheVariants.{NoMemory}
+use Rattle.vb_model.proofs.Counts.{length-pages_where}
+use Rattle.vb_model.proofs.Distinct.{inflated_distinct}
 use Rattle.vb_model.proofs.{PageSteps.{after_take, can_be_given, naming-cons}, Performed.Performed}
 use Rattle.vb_model.{proofs.Performed.honest_case, specs.{Courses.posts_deflate, Device.Works}}
-use Rattle.vb_model.specs.Device.{ReturnsBuffer, TakesBuffer, TakesRequest, has_frame, is_unvisited}
+use Rattle.vb_model.specs.declared.replies.Reply.TheVariants.{Served}
+use Rattle.vb_model.specs.Device.{ServesBuffer, ServesRequests}
+use Rattle.vb_model.specs.Device.{ReturnsBuffer, TakesBuffer, TakesRequest, has_frame}
 use Rattle.vb_model.specs.{Device.{next_page, settled, used, visited}, Driver.{AreClaimsFor, Fills}}
 use Rattle.vb_model.specs.Driver.{Deflates, Reaps, Written, after_free, after_posting, figures}
 use Rattle.vb_model.specs.Driver.{claim_refusal, lowest_lent, pages_needed, reaped, stranded_first}
 use Rattle.vb_model.specs.{Driver.with_block, Guest.{Guest, is_ballooned, requests, tells_host}}
 use Rattle.vb_model.specs.{Guest.{unbacked, with_requests}, HonestRuns.has_buffer, Life.Negotiates}
-use Rattle.vb_model.specs.{Life.{after_reset, feature_refusal, lacking}, Limits.max_order}
-use Rattle.vb_model.specs.{Limits.min_reported_order, Orderly.times, Pages.{Block, is_free}}
+use Rattle.vb_model.specs.Life.{after_reset, lacking}
+use Rattle.vb_model.specs.Pages.{Block, is_free}
 use Rattle.vb_model.specs.Pages.{is_lent, is_same_block, is_wholly_free, pages_of, pages_of_all}
 use Rattle.vb_model.specs.{Pages.{place_of, placed}, Refusals.{causes, deflate_count, oom_count}}
 use Rattle.vb_model.specs.{Refusals.{refusal_of, reported_blocks, room}, Requests.BufferDone}
-use Rattle.vb_model.specs.Requests.{BufferPosted, BufferTaken, Deflating, Inflating, IsLeastHead}
-use Rattle.vb_model.specs.Requests.{Kind, Reporting_free, Request, StatisticsBuffer, kind_of_queue}
-use Rattle.vb_model.specs.{Requests.{names, naming, outstanding, queue_of}, Rogue.Scribbled}
-use Rattle.vb_model.specs.{Step.HonestStep, Tables.is_up, Tests.{is_in, one_if, pages_where}}
+use Rattle.vb_model.specs.Requests.{BufferPosted, BufferTaken, IsLeastHead}
+use Rattle.vb_model.specs.Requests.{StatisticsBuffer}
+use Rattle.vb_model.specs.Requests.{names, naming, outstanding}
+use Rattle.vb_model.specs.Rogue.{Scribbled}
+use Rattle.vb_model.specs.Step.{HonestStep}
 use Rattle.vb_model.specs.declared.calls.Call.{Call, TheVariants.{Alloc, Ask, Deflate, Finish, Oom}}
 use Rattle.vb_model.specs.declared.calls.Call.TheVariants.{Free, Inflate, Init, Read, Reap, Report}
-use Rattle.vb_model.specs.declared.calls.Call.TheVariants.{Reset, Scribble, SetTarget, Stats, Sweep}
+use Rattle.vb_model.specs.declared.calls.Call.TheVariants.{Reset, Scribble, Serve, SetTarget, Stats}
+use Rattle.vb_model.specs.declared.calls.Call.TheVariants.{Sweep}
 use Rattle.vb_model.specs.declared.calls.{Call.TheVariants.{Take, Work, Write}, Claim.Claim}
-use Rattle.vb_model.specs.declared.{places.Place.{Place, TheVariants.Used}, replies.Refusal.Refusal}
-use Rattle.vb_model.specs.declared.replies.{LastStatistics.LastStatistics, Reply.Reply}
-use Rattle.vb_model.specs.declared.replies.{Refusal.TheVariants.NoMemory, Reply.TheVariants.Done}
+use Rattle.vb_model.specs.declared.places.Place.{Place}
+use Rattle.vb_model.specs.declared.places.Place.TheVariants.{Used}
+use Rattle.vb_model.specs.declared.replies.Reply.{Reply}
+use Rattle.vb_model.specs.declared.replies.Reply.TheVariants.{Done}
 use Rattle.vb_model.specs.declared.replies.Reply.TheVariants.{Finished, Page, Posted, Reaped, Swept}
 use Rattle.vb_model.specs.declared.replies.Reply.TheVariants.{Refused, Taken, Worked}
 
--- a reply that is no refusal
+-- a reply that is a refusal, or tells of a broken rule
 abbrev pub is_refused : Reply → Bool
 is_refused (Refused refusal) = true
+is_refused (Served chains (Some rule)) = true
 is_refused _ = false
 
 -- why nothing changes: the call was refused, or a claim of it, or there was nothing to do
@@ -103,6 +120,9 @@ pub data Deed (call : Call) (g : Guest) (claims : List Claim) (reply : Reply) (n
   Has_finished : (kind : Kind) (i : ℕ) (r : Request) → slice_get (requests kind g).taken i ≡ Some r
       → reply ≡ Finished r.head → new ≡ settled kind r.pages (used kind i r g)
       → Deed call g claims reply new
+  Has_served : (kind : Kind) (chains : ℕ)
+      → ServesRequests kind (requests kind g).posted 0 g reply new → reply ≡ Served chains None
+      → Deed call g claims reply new
   Has_swept : (page : ℕ) → is_ballooned g.ballooned page ≡ true → tells_host g ≡ true
       → reply ≡ Swept (has_frame g page) → new ≡ unbacked (page ∷ []) g
       → Deed call g claims reply new
@@ -141,6 +161,13 @@ returns_buffer (BufferTaken figures) call g claims reply new e s =
     Buffered _ g.last (sym (ap has_buffer e)) (ap is_refused s.0) s.1
 returns_buffer _ call g claims reply new e s = absurd s
 
+serves_buffer : (buffer : StatisticsBuffer) (call : Call) (g : Guest) (claims : List Claim)
+    (reply : Reply) (new : Guest) → g.buffer ≡ buffer → ServesBuffer buffer g reply new
+    → Deed call g claims reply new
+serves_buffer (BufferPosted figures) call g claims reply new e s =
+    Buffered _ _ (sym (ap has_buffer e)) (ap is_refused s.2) s.1.1
+serves_buffer _ call g claims reply new e s = Stayed (Needless (ap is_refused s.2)) s.1.1
+
 the_queue : (q : ℕ) (kind : Kind) → kind_of_queue q ≡ Some kind → Reap q ≡ Reap (queue_of kind)
 the_queue q kind h = grind arith
 
@@ -155,6 +182,13 @@ takes : (kind : Kind) (posted : List Request) (call : Call) (g : Guest) (claims 
     → TakesRequest kind posted g reply new → Deed call g claims reply new
 takes kind [] call g claims reply new e s = Stayed (Needless (ap is_refused s.0)) s.1
 takes kind (r ∷ rest) call g claims reply new e s = Has_taken kind r rest e s.0 s.1
+
+pub served_reply : (kind : Kind) (posted : List Request) (chains : ℕ) (g : Guest) (reply : Reply)
+    (new : Guest) → ServesRequests kind posted chains g reply new
+    → (n : ℕ) × (reply ≡ Served n None)
+served_reply kind [] chains g reply new s = (chains, s.0)
+served_reply kind (r ∷ rest) chains g reply new s =
+    served_reply kind rest (chains + 1) s.1 reply new s.4
 
 slice_get-in : (xs : List ℕ) (i x : ℕ) → slice_get xs i ≡ Some x → is_in x xs ≡ true
 slice_get-in [] i x h = absurd cc
@@ -226,6 +260,14 @@ asks_back count call g claims reply new asks few up now s =
       back = λ e. asks;
     }) (s.2 ∙ ap (Posted s.0) (lent_length g count few)) s.3
 
+pub served : (q : ℕ) (g : Guest) (claims : List Claim) (reply : Reply) (new : Guest)
+    → Performed (Serve q) g claims reply new → Deed (Serve q) g claims reply new
+served q g claims reply new s = elim (match_cases (kind_of_queue q) _ _ s.1) [
+  | inl n ↦ serves_buffer g.buffer (Serve q) g claims reply new refl n.1
+  | inr k ↦ let told = served_reply k.0 (requests k.0 g).posted 0 g reply new k.2 in
+      Has_served k.0 told.0 k.2 told.1
+]
+
 -- ---- a call
 
 performed : (call : Call) (g : Guest) (claims : List Claim) (reply : Reply) (new : Guest)
@@ -284,6 +326,7 @@ performed (Finish q i) g claims reply new e s = elim (match_cases (kind_of_queue
   | inl n ↦ absurd n.1
   | inr k ↦ Has_finished k.0 i k.2.0 k.2.1 k.2.2 k.2.3
 ]
+performed (Serve q) g claims reply new e s = served q g claims reply new s
 performed (Sweep page) g claims reply new e s = let t = not_refused (causes g (Sweep page)) e in
     Has_swept page (not-false _ t.1.1.1.0) (not-false _ t.1.1.0) s.1.0 s.1.1
 performed (Init wanted) g claims reply new e s = supplies _ (Init wanted) g claims reply new s.1

@@ -11,10 +11,12 @@ use Rattle.vb_model.specs.{Driver.{given, pages_needed}, Guest.{Guest, all_backe
 use Rattle.vb_model.specs.{Guest.frame_of, HostFrames.{Gives, IsOut}, Life.lacking}
 use Rattle.vb_model.specs.{Refusals.refusal_of, Rogue.{GuestStep, LosesFrames, pages_to_back}}
 use Rattle.vb_model.specs.{Rogue.unless_refused, Step.bare_pages, StepLaws.FramesEnterByClaims}
-use Rattle.vb_model.specs.{StepLaws.{IsGiven, WantIsAnswered, WantOfFrames}, Tests.is_in}
+use Rattle.vb_virtio.specs.Tests.{is_in}
+use Rattle.vb_virtio.specs.declared.refusals.Refusal.{Refusal}
+use Rattle.vb_virtio.specs.declared.refusals.Refusal.TheVariants.{NoFrame, NoMemory}
+use Rattle.vb_model.specs.StepLaws.{IsGiven, WantIsAnswered, WantOfFrames}
 use Rattle.vb_model.specs.{World.World, declared.calls.{Call.Call, Claim.{Claim, TheVariants.Gave}}}
 use Rattle.vb_model.specs.declared.calls.Claim.TheVariants.{GaveNoFrame, GaveNoMemory}
-use Rattle.vb_model.specs.declared.replies.Refusal.{Refusal, TheVariants.{NoFrame, NoMemory}}
 use Rattle.vb_model.specs.declared.replies.Reply.{Reply, TheVariants.Refused}
 
 -- ---- frames enter by claims
@@ -152,7 +154,7 @@ all_given frames Out (page ∷ pages) (Gave f ∷ claims) got gives a r all =
     later x (inl out) = inl (inl out)
     later x (inr k) = elim (left f x got k) [ inl e ↦ inl (inr e) | inr m ↦ inr m ]
 
--- a claim is refused for want of a frame or of memory
+-- a claim is refused for lack of a frame or memory
 claim_refusals : (claims : List Claim) (refusal : Refusal) → claim_refusal claims ≡ Some refusal
     → (refusal ≡ NoFrame) ⊎ (refusal ≡ NoMemory)
 claim_refusals [] refusal e = absurd cc

@@ -4,6 +4,7 @@ use Rattle.std.proofs.Common.{refl, subst, suc, sym, take, true, zero, ℕ, ◌+
 use Rattle.std.proofs.lemmas.{Bool.eq-eqb, List.{get_or-drop, get_or-take, length-drop}}
 use Rattle.std.{proofs.lemmas.List.length-take-le, specs.Prelude.{IsTrue, None, Option, Some}}
 use Rattle.std.specs.Prelude.{slice_get, ◌==◌, ◌↔◌, ◌≤◌}
+use Rattle.vb_model.specs.declared.replies.Reply.TheVariants.{Served}
 use Rattle.vb_model.proofs.{Asked.told_first, Changes.same_some, Contents.honest_same}
 use Rattle.vb_model.proofs.Courses.{EntryAt, IsFit, Positions, as_guest, fresh_fit, positions}
 use Rattle.vb_model.proofs.{Courses.some_own, Faults.{honest_no_fault, is_fault}}
@@ -12,14 +13,18 @@ use Rattle.vb_model.proofs.{LastWrites.{read_step, write_step}, PageSteps.naming
 use Rattle.vb_model.{proofs.Unchanged.step_keeps, specs.{Consistent.IsConsistent, Courses.Course}}
 use Rattle.vb_model.specs.Courses.{IsAt, IsCall, IsWriteTo, ReadsGiveLastWrites, StaysHeld}
 use Rattle.vb_model.specs.Courses.{StaysOrLoses, byte_after, byte_of, byte_written, guest_after}
-use Rattle.vb_model.specs.{Courses.last_put, Driver.{contents_of, overwritten}, Guest.Config}
+use Rattle.vb_virtio.specs.Memory.{overwritten}
+use Rattle.vb_virtio.specs.declared.refusals.Refusal.TheVariants.{Broken, RingBroken}
+use Rattle.vb_model.specs.Courses.{last_put}
+use Rattle.vb_model.specs.Driver.{contents_of}
+use Rattle.vb_model.specs.Guest.{Config}
 use Rattle.vb_model.specs.{Guest.{Guest, frame_of, is_ballooned}, GuestRun.{Called, Entry}}
 use Rattle.vb_model.specs.GuestRun.{EntryStep, IsHistory, Leads, Looked, OwnStep}
 use Rattle.vb_model.specs.Histories.{BothAgree, IsSafeCourse, IsSafeHistory}
 use Rattle.vb_model.specs.{Requests.all_requests, SafeLaws.UsedPagesStay, Step.HonestStep}
 use Rattle.vb_model.specs.declared.calls.{Actor.Actor, Call.{Call, TheVariants.{Read, Write}}}
 use Rattle.vb_model.specs.declared.{calls.Claim.Claim, places.Place.TheVariants.{Lent, Used}}
-use Rattle.vb_model.specs.declared.replies.{Refusal.TheVariants.{Broken, RingBroken}, Reply.Reply}
+use Rattle.vb_model.specs.declared.replies.Reply.{Reply}
 use Rattle.vb_model.specs.declared.replies.Reply.TheVariants.{Done, ReadBytes, Refused}
 
 -- ---- driver and device
@@ -49,10 +54,15 @@ keeps_frame c p i page frame g new here next used used' has =
 
 not_broken : (c : Course) → Positions c → (i fault : ℕ) (call : Call) (reply : Reply)
     → IsCall c i call reply → (reply ≢ Refused (Broken fault)) × (reply ≢ Refused RingBroken)
+    × ((chains : ℕ) → reply ≢ Served chains (Some fault))
 not_broken c p i fault call reply (actor, claims, at) =
     let m = p.made i (Called actor call claims reply) at in
-    let f = honest_no_fault m.before call claims reply m.next m.step.1 in
-    (λ e. cc, λ e. let t : is_fault reply ≡ true = ap is_fault e in cc)
+    let f = honest_no_fault m.before call claims reply m.next m.step.1 in (
+      λ e. cc,
+      λ e. let t : is_fault reply ≡ true = ap is_fault e in cc,
+      λ chains e. let t : is_fault
+          reply ≡ true = ap is_fault e in cc,
+    )
 
 keeps_contents : (c : Course) → Positions c → (i page : ℕ) (g new : Guest) → guest_after c i
     ≡ Some g → guest_after c (i + 1) ≡ Some new → ¬ IsWriteTo c page i → StaysOrLoses page g new
@@ -135,7 +145,7 @@ index_is [] i own at = absurd cc
 index_is (x ∷ entries) zero own at = cc
 index_is (x ∷ entries) (suc i) own at = index_is entries i own at
 
--- the byte behind one entry
+-- the byte after one entry
 byte_step : (c : Course) → Positions c → (page at i : ℕ) (g new : Guest) → guest_after c i ≡ Some g
     → guest_after c (i + 1) ≡ Some new → IsAt g page Used → IsAt new page Used
     → byte_of new page at ≡ byte_after page at (get_or c.entries i None) (byte_of g page at)
@@ -188,7 +198,7 @@ byte_step c p page at i g new here next used used' = by s.own s.own_is s.step
     by (Some (Called actor call claims reply)) entry s =
         called actor call claims reply (is_write page call reply) refl entry s
 
--- behind many
+-- after many
 bytes_are : (c : Course) → Positions c → (page at i k : ℕ) (g new : Guest) → StaysHeld c page i k
     → guest_after c i ≡ Some g → guest_after c (i + k) ≡ Some new
     → byte_of new page at ≡ last_put c page at i k (byte_of g page at)

@@ -6,7 +6,8 @@ use Rattle.vb_model.specs.GuestRun.{Entry, Called, Looked, Leads, last_guest, al
 use Rattle.vb_model.specs.declared.calls.Actor.TheVariants.{Balancer, Processor}
 use Rattle.vb_model.{specs.declared.calls.Call.Call, specs.declared.replies.Reply.Reply}
 use Rattle.vb_model.specs.declared.calls.Call.TheVariants.{SetTarget, Work}
-use Rattle.vb_model.{specs.declared.replies.Refusal.TheVariants.NotReady, specs.GuestRun.IsHistory}
+use Rattle.vb_virtio.specs.declared.refusals.Refusal.TheVariants.{NotReady}
+use Rattle.vb_model.specs.GuestRun.{IsHistory}
 use Rattle.vb_model.specs.declared.replies.Reply.TheVariants.{Done, Idle, Refused}
 use Rattle.vb_model.{specs.Guest.{Config, Guest, fresh}, specs.Histories.{IsSafeCourse, IsSafeHistory}}
 use Rattle.vb_model.{proofs.Histories.history_is_safe, proofs.Samples.{config, ready, down}}

@@ -1,8 +1,12 @@
--- The host's events are determined, but for the number of a new guest and want of memory.
+-- The host's events are determined, but for the number of a new guest and an allocation failure.
 use Rattle.std.proofs.Common.{Bool, List, [], ap, false, inl, inr, sym, true, ℕ, ◌∙◌, ◌∷◌, ◌≡◌, ◌≢◌}
 use Rattle.std.specs.Prelude.{MatchBool, MatchOption, None, Option, Some, ⊤, ◌==◌}
-use Rattle.vb_model.{proofs.Unique.unique, specs.Balance.{AreTargets, shortage}}
-use Rattle.vb_model.specs.{FirstRefusal.first_refusal, Guest.{Config, Guest, fresh}}
+use Rattle.vb_virtio.proofs.Unique.{unique}
+use Rattle.vb_virtio.specs.Targets.{AreTargets, shortage}
+use Rattle.vb_virtio.specs.FirstRefusal.{first_refusal}
+use Rattle.vb_virtio.specs.declared.refusals.Refusal.{Refusal}
+use Rattle.vb_virtio.specs.declared.refusals.Refusal.TheVariants.{NoMemory, Short}
+use Rattle.vb_model.specs.Guest.{Config, Guest, fresh}
 use Rattle.vb_model.specs.HostEvents.{Calls, Happens, Plugs, PlugsIn, after_balance, needs}
 use Rattle.vb_model.specs.{HostLaws.{CallsLeaveTheHost, HostStepsAgree}, HostRefusals.world_causes}
 use Rattle.vb_model.specs.{Life.after_restart, Queries.Answers, World.{World, guest_at, put_guest}}
@@ -10,8 +14,8 @@ use Rattle.vb_model.specs.{World.with_guest, declared.calls.Event.TheVariants.Ba
 use Rattle.vb_model.specs.declared.calls.Event.TheVariants.{Frames as CountFrames, Guest as OnGuest}
 use Rattle.vb_model.specs.declared.calls.Event.TheVariants.{Plug, Query as OnQuery, Restart, Unplug}
 use Rattle.vb_model.specs.declared.calls.{GuestSize.GuestSize, Query.{Query, TheVariants.PagesAt}}
-use Rattle.vb_model.specs.declared.{calls.Query.TheVariants.PagesBallooned, replies.Refusal.Refusal}
-use Rattle.vb_model.specs.declared.replies.{Refusal.TheVariants.{NoMemory, Short}, Reply.Reply}
+use Rattle.vb_model.specs.declared.calls.Query.TheVariants.{PagesBallooned}
+use Rattle.vb_model.specs.declared.replies.Reply.{Reply}
 use Rattle.vb_model.specs.declared.replies.Reply.TheVariants.{Done, Plugged, Refused, Targets}
 
 -- either the event is refused for this, and nothing is changed, or this happens

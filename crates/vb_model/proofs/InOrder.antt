@@ -4,11 +4,14 @@ use Rattle.std.proofs.Common.{◌∷◌, ◌++◌, length, get_or, take, drop, r
 use Rattle.std.{specs.Prelude.{◌==◌, slice_get, Some, remove}, proofs.lemmas.List.length-append}
 use Rattle.std.{proofs.lemmas.List.Edits.length-remove, proofs.lemmas.List.Sums.sum_by-remove}
 use Rattle.std.proofs.lemmas.Option.{get_or_from_slice_get, slice_get_within}
-use Rattle.vb_model.specs.Requests.{Request, Requests, all_requests, headed, outstanding, posting}
-use Rattle.vb_model.specs.Orderly.{times, IsRequestSound, AllRequestsSound, AreOrderly}
-use Rattle.vb_model.{proofs.PageSteps.{after_take, after_finish, after_reap}, specs.Tests.one_if}
-use Rattle.vb_model.{proofs.Tables.{count_by-append, count_by-cons}, specs.Requests.IsLeastHead}
-use Rattle.vb_model.specs.Device.{visiting, is_unvisited}
+use Rattle.vb_virtio.specs.Queues.{Request, is_unvisited}
+use Rattle.vb_virtio.specs.Tests.{times, one_if}
+use Rattle.vb_virtio.proofs.Tables.{count_by-append, count_by-cons}
+use Rattle.vb_model.specs.Requests.{Requests, all_requests, headed, outstanding, posting}
+use Rattle.vb_model.specs.Orderly.{IsRequestSound, AllRequestsSound, AreOrderly}
+use Rattle.vb_model.proofs.PageSteps.{after_take, after_finish, after_reap}
+use Rattle.vb_model.specs.Requests.{IsLeastHead}
+use Rattle.vb_model.specs.Device.{visiting}
 
 -- ---- how many requests have a head
 

@@ -2,8 +2,13 @@
 use Rattle.std.proofs.lemmas.List.{get_or-take, get_or-drop, get_or_append_left, length-take-le}
 use Rattle.std.proofs.Common.{◌≡◌, ℕ, ◌+◌, ◌<◌, ◌≤◌, List, length, get_or, take, drop, arith}
 use Rattle.std.{proofs.lemmas.List.get_or-append_right, proofs.lemmas.Bool.eq-eqb}
-use Rattle.vb_model.{proofs.Tables.each_page-get, specs.Blank.IsBlank, specs.Courses.byte_written}
-use Rattle.vb_model.specs.{Driver.{contents_of, overwritten}, Guest.Guest, Limits.page_size}
+use Rattle.vb_virtio.proofs.Tables.{each_page-get}
+use Rattle.vb_virtio.specs.Memory.{overwritten}
+use Rattle.vb_virtio.specs.Limits.{page_size}
+use Rattle.vb_model.specs.Blank.{IsBlank}
+use Rattle.vb_model.specs.Courses.{byte_written}
+use Rattle.vb_model.specs.Driver.{contents_of}
+use Rattle.vb_model.specs.Guest.{Guest}
 use Rattle.vb_model.specs.{Step.HonestStep, declared.calls.Call.TheVariants.{Read, Write}}
 use Rattle.vb_model.specs.declared.{calls.Claim.Claim, replies.Reply.TheVariants.{Done, ReadBytes}}
 

@@ -8,10 +8,16 @@ use Rattle.vb_model.specs.Histories.{BothAgree, IsSafeCourse}
 use Rattle.vb_model.specs.HonestRuns.{HonestAreIdleUnlessReady, HonestStay, IsAttentive, IsThere}
 use Rattle.vb_model.specs.HonestRuns.{MakesNoScribble}
 use Rattle.vb_model.specs.{HostEvents.WorldStep, HostLaws.{CallsLeaveTheHost, HostStepsAgree}}
-use Rattle.vb_model.specs.{Limits.is_config, Requests.all_requests, Rogue.{GuestStep, pages_to_back}}
+use Rattle.vb_virtio.specs.Limits.{is_config}
+use Rattle.vb_virtio.specs.Tests.{is_in}
+use Rattle.vb_virtio.specs.declared.refusals.Refusal.{Refusal}
+use Rattle.vb_virtio.specs.declared.refusals.Refusal.TheVariants.{Broken, NoMemory, RingBroken}
+use Rattle.vb_model.specs.Requests.{all_requests}
+use Rattle.vb_model.specs.Rogue.{GuestStep, pages_to_back}
 use Rattle.vb_model.specs.{Run.{History, Run, guest_in}, Safe.IsHonest, Step.HonestStep}
 use Rattle.vb_model.specs.SafeLaws.{HonestMeetNoFault, QuietAgree, UsedPagesStay}
-use Rattle.vb_model.specs.{Sizes.SmallConfigsAreConfigs, Tests.is_in, World.{World, guest_at}}
+use Rattle.vb_model.specs.Sizes.{SmallConfigsAreConfigs}
+use Rattle.vb_model.specs.World.{World, guest_at}
 use Rattle.vb_model.specs.StepLaws.{ClaimsAreNeeded, IsOfOthers, NeededPagesAreBare}
 use Rattle.vb_model.specs.StepLaws.{OthersAreUntouched, RefusalsChangeNothing}
 use Rattle.vb_model.specs.StepLaws.{RefusedEventsChangeNothing, WantsChangeNothing}
@@ -21,8 +27,6 @@ use Rattle.vb_model.specs.declared.calls.Event.{Event, TheVariants.{Balance, Res
 use Rattle.vb_model.specs.declared.calls.Event.TheVariants.{Guest as OnGuest, Query as OnQuery}
 use Rattle.vb_model.specs.declared.calls.Query.TheVariants.{PagesBallooned, Places}
 use Rattle.vb_model.specs.declared.places.Place.TheVariants.{Lent, Used}
-use Rattle.vb_model.specs.declared.replies.Refusal.{Refusal}
-use Rattle.vb_model.specs.declared.replies.Refusal.TheVariants.{Broken, NoMemory, RingBroken}
 use Rattle.vb_model.specs.declared.replies.Reply.{Reply, TheVariants.{Done, Refused}}
 
 -- ---- other guests, rogue or honest: calls, restarts and unpluggings of others leave them, and so
@@ -77,7 +81,8 @@ any_bare_page : NeededPagesAreBare → (g : Guest) (page : ℕ)
     → IsTrue (is_in page (pages_to_back (Init 1) g)) → frame_of g.frames page ≡ None
 any_bare_page law g page is = law g (Init 1) page is
 
--- ---- refusals leave the guest, and the world; so does want of memory, and few events have it
+-- ---- refusals leave the guest, and the world; so does an allocation failure, and few events have
+-- it
 
 any_refusal : RefusalsChangeNothing → (g : Guest) (refusal : Refusal) (new : Guest)
     → HonestStep g (Inflate 1) [] (Refused refusal) new → new ≡ g

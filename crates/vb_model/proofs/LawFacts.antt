@@ -2,10 +2,17 @@
 use Rattle.std.proofs.Common.{List, [], ap, arith, false, inl, inr, length, map, refl, replicate, ℕ}
 use Rattle.std.{proofs.Common.{true, ◌++◌, ◌<◌, ◌∷◌, ◌≡◌, ◌⊎◌}, specs.List.range_with_len}
 use Rattle.std.specs.Prelude.{Bool, IsTrue, None, Option, Some, unwrap_or}
-use Rattle.vb_model.{proofs.Samples.{differ, plug, ready}, specs.{Guest.Guest, HostFrames.IsOut}}
+use Rattle.vb_virtio.proofs.Differ.{differ}
+use Rattle.vb_virtio.specs.Tests.{is_in}
+use Rattle.vb_virtio.specs.declared.refusals.Refusal.TheVariants.{NoDevice, NoFrame, NotHeld}
+use Rattle.vb_virtio.specs.declared.refusals.Refusal.TheVariants.{VersionMissing}
+use Rattle.vb_model.proofs.Samples.{plug, ready}
+use Rattle.vb_model.specs.Guest.{Guest}
+use Rattle.vb_model.specs.HostFrames.{IsOut}
 use Rattle.vb_model.specs.{HostLaws.WorldsAgree, StepLaws.{HasNoFrame, HasNoReservedBallooned}}
 use Rattle.vb_model.specs.StepLaws.{IsOfOthers, IsUnchanged, WantOfFrames, call_may_want}
-use Rattle.vb_model.specs.{StepLaws.may_want_memory, Tests.is_in, World.World}
+use Rattle.vb_model.specs.StepLaws.{may_want_memory}
+use Rattle.vb_model.specs.World.{World}
 use Rattle.vb_model.specs.declared.calls.Call.TheVariants.{Inflate, Init, Read, Reset, Scribble}
 use Rattle.vb_model.specs.declared.calls.{Call.TheVariants.{Take, Work, Write}, Claim.Claim}
 use Rattle.vb_model.specs.declared.calls.{Claim.TheVariants.Gave, Event.{Event, TheVariants.Unplug}}
@@ -14,8 +21,6 @@ use Rattle.vb_model.specs.declared.calls.Event.TheVariants.{Guest as OnGuest, Qu
 use Rattle.vb_model.specs.declared.calls.Query.TheVariants.{Backing, Balloon, Memory, PagesAt}
 use Rattle.vb_model.specs.declared.calls.Query.TheVariants.{PagesBallooned, Places}
 use Rattle.vb_model.specs.declared.places.Place.TheVariants.{Lent, Reserved, Used}
-use Rattle.vb_model.specs.declared.replies.Refusal.TheVariants.{NoDevice, NoFrame, NotHeld}
-use Rattle.vb_model.specs.declared.replies.Refusal.TheVariants.{VersionMissing}
 use Rattle.vb_model.specs.declared.replies.Reply.TheVariants.{Done, Frames, Plugged, Refused}
 
 abbrev Same : ℕ → ℕ → Type 0

@@ -15,7 +15,8 @@ use Rattle.vb_model.specs.declared.calls.Call.{Call, TheVariants.{Deflate, Init,
 use Rattle.vb_model.specs.declared.calls.{Call.TheVariants.{SetTarget, Work, Write}, Claim.Claim}
 use Rattle.vb_model.specs.declared.calls.{Claim.TheVariants.Gave, Event.TheVariants.Restart}
 use Rattle.vb_model.specs.declared.calls.Event.TheVariants.{Guest as OnGuest, Unplug}
-use Rattle.vb_model.specs.declared.replies.{Refusal.TheVariants.{NoFrame, NoMemory}, Reply.Reply}
+use Rattle.vb_virtio.specs.declared.refusals.Refusal.TheVariants.{NoFrame, NoMemory}
+use Rattle.vb_model.specs.declared.replies.Reply.{Reply}
 use Rattle.vb_model.specs.declared.replies.Reply.TheVariants.{Done, Refused}
 
 -- ---- targets and configurations, of rogue guests too

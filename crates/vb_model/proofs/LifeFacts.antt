@@ -3,7 +3,12 @@ use Rattle.std.proofs.Common.{List, [], false, map, refl, replicate, true, ℕ, 
 use Rattle.std.specs.{List.range_with_len, Prelude.{None, Option, Some}}
 use Rattle.vb_model.proofs.Samples.{HappensJustSo, StepsJustSo, config, down, mixed_places, ready}
 use Rattle.vb_model.proofs.Samples.{request}
-use Rattle.vb_model.specs.{Driver.AreClaimsFor, Guest.{Guest, no_statistics, zero_page}}
+use Rattle.vb_virtio.specs.Statistics.{no_statistics}
+use Rattle.vb_virtio.specs.Memory.{zero_page}
+use Rattle.vb_virtio.specs.declared.refusals.Refusal.TheVariants.{AlreadyUp, FeatureNotOffered}
+use Rattle.vb_virtio.specs.declared.refusals.Refusal.TheVariants.{NoFrame, NoMemory, VersionMissing}
+use Rattle.vb_model.specs.Driver.{AreClaimsFor}
+use Rattle.vb_model.specs.Guest.{Guest, is_ready}
 use Rattle.vb_model.specs.{HostFrames.used_frames, Life.after_reset, Step.HonestStep, World.World}
 use Rattle.vb_model.specs.{Life.{after_restart, lacking}, Refusals.refusal_of}
 use Rattle.vb_model.specs.Requests.{BufferPosted, BufferTaken, NoBuffer, Requests, no_requests}
@@ -13,8 +18,6 @@ use Rattle.vb_model.specs.declared.calls.Claim.TheVariants.{GaveNoFrame, GaveNoM
 use Rattle.vb_model.specs.declared.calls.Event.TheVariants.{Restart, Unplug}
 use Rattle.vb_model.specs.declared.places.Place.TheVariants.{Free as FreePlace, Reserved, Stranded}
 use Rattle.vb_model.specs.declared.places.Place.TheVariants.{Used}
-use Rattle.vb_model.specs.declared.replies.Refusal.TheVariants.{AlreadyUp, FeatureNotOffered}
-use Rattle.vb_model.specs.declared.replies.Refusal.TheVariants.{NoFrame, NoMemory, VersionMissing}
 use Rattle.vb_model.specs.declared.replies.Reply.TheVariants.{Done, Ready, Refused}
 
 -- ---- a guest with something in every field
@@ -30,7 +33,7 @@ in_each_stage page = record {
 abbrev full_frames : List (Option ℕ)
 full_frames = map (λ page. Some (page + 100)) (range_with_len 0 40) ++ replicate 24 None
 
--- a short list stands for the bytes of a page that was written
+-- a short list represents the bytes of a page that was written
 abbrev full_contents : List (List ℕ)
 full_contents = replicate 37 zero_page ++ ((1 ∷ []) ∷ (2 ∷ []) ∷ replicate 25 zero_page)
 
@@ -222,3 +225,9 @@ up_already : refusal_of ready (Init 0)
     ∷ refusal_of (after_reset full) (Init 0x100000027) ∷ refusal_of (after_restart full)
     (Init 0x100000027) ∷ [] ≡ Some AlreadyUp ∷ Some AlreadyUp ∷ None ∷ None ∷ []
 up_already = refl
+
+-- ready is 15 and nothing else
+just_15_is_ready : map (λ status. is_ready (record ready { status = status }))
+    (0 ∷ 1 ∷ 3 ∷ 11 ∷ 14 ∷ 15 ∷ 79 ∷ 131 ∷ 143 ∷ []) ≡ false ∷ false ∷ false ∷ false ∷ false ∷ true
+    ∷ false ∷ false ∷ false ∷ []
+just_15_is_ready = refl

@@ -8,7 +8,8 @@ use Rattle.vb_model.{proofs.PageSteps.fresh_page, specs.Life.{after_reset, place
 use Rattle.vb_model.specs.{Consistent.{IsConsistent, IsPageSound}, Pages.{is_lent, place_of}}
 use Rattle.vb_model.specs.declared.places.Place.{TheVariants.{Reserved, Free}, Place}
 use Rattle.vb_model.specs.Guest.{Config, Guest, fresh, is_ballooned, tells_host}
-use Rattle.vb_model.specs.{Layout.reserved_pages, Requests.{given_away, no_requests}}
+use Rattle.vb_virtio.specs.Layout.{reserved_pages}
+use Rattle.vb_model.specs.Requests.{given_away, no_requests}
 
 none_given : (places : List Place) → count_by is_lent places ≡ 0 → 0 ≡ given_away places no_requests
 none_given places none = omega (arith, none)

@@ -5,7 +5,9 @@ use Rattle.std.specs.Prelude.{Option, Some, not, ◌||◌}
 use Rattle.vb_model.proofs.{Cases.match_cases, Changes.{Balanced, Comes_up_short, Sets}}
 use Rattle.vb_model.proofs.{Changes.balance_cases, Wanting.{claims_needed, no_memory_exact}}
 use Rattle.vb_model.proofs.Wanting.{no_want, none_wants, refused_otherwise, wants}
-use Rattle.vb_model.specs.{Driver.{AreClaimsFor, claim_refusal}, FirstRefusal.first_refusal}
+use Rattle.vb_virtio.specs.FirstRefusal.{first_refusal}
+use Rattle.vb_virtio.specs.declared.refusals.Refusal.TheVariants.{NoMemory}
+use Rattle.vb_model.specs.Driver.{AreClaimsFor, claim_refusal}
 use Rattle.vb_model.specs.{Guest.Guest, HostEvents.{Calls, Happens, PlugsIn}}
 use Rattle.vb_model.specs.{HostRefusals.world_causes, Life.after_restart, Queries.Answers}
 use Rattle.vb_model.specs.{Rogue.{is_read, pages_to_back}, StepLaws.WantsChangeNothing}
@@ -15,10 +17,10 @@ use Rattle.vb_model.specs.declared.calls.{Claim.Claim, Event.{Event, TheVariants
 use Rattle.vb_model.specs.declared.calls.Event.TheVariants.{Frames as CountFrames, Guest as OnGuest}
 use Rattle.vb_model.specs.declared.calls.Event.TheVariants.{Plug, Query as OnQuery, Restart, Unplug}
 use Rattle.vb_model.specs.declared.calls.Query.{Query, TheVariants.{PagesAt, PagesBallooned}}
-use Rattle.vb_model.specs.declared.replies.{Refusal.TheVariants.NoMemory, Reply.Reply}
+use Rattle.vb_model.specs.declared.replies.Reply.{Reply}
 use Rattle.vb_model.specs.declared.replies.Reply.TheVariants.{Done, Refused}
 
--- a reply that isn't want of memory
+-- a reply that isn't an allocation failure
 not_wanted : {A : Type 0} (reply : Reply) → Refused NoMemory ≡ reply → wants reply ≡ false → A
 not_wanted reply e f = no_want reply NoMemory f refl (sym e)
 

@@ -2,16 +2,22 @@
 -- agree.
 use Rattle.std.proofs.Common.{List, [], ap, arith, false, map, refl, replicate, true, ℕ, ◌++◌, ◌∷◌}
 use Rattle.std.{proofs.Common.{◌≡◌, ◌⊎◌}, specs.List.range_with_len}
-use Rattle.vb_model.{proofs.Samples.{differ, down, ready, request}, specs.Determined.Agree}
+use Rattle.vb_virtio.proofs.Differ.{differ}
+use Rattle.vb_virtio.specs.Queues.{Request}
+use Rattle.vb_virtio.specs.declared.refusals.Refusal.TheVariants.{NoMemory, NoPages, NotHeld}
+use Rattle.vb_virtio.specs.declared.refusals.Refusal.TheVariants.{OutOfRam}
+use Rattle.vb_model.proofs.Samples.{down, ready, request}
+use Rattle.vb_model.specs.Determined.{Agree}
 use Rattle.vb_model.specs.{Guest.Guest, Orderly.{AreAgreed, IsOrderly, IsRequestSound}}
-use Rattle.vb_model.specs.{Pages.block_at, Requests.{Request, Requests}, declared.calls.Call.Call}
+use Rattle.vb_model.specs.Pages.{block_at}
+use Rattle.vb_model.specs.Requests.{Requests}
+use Rattle.vb_model.specs.declared.calls.Call.{Call}
 use Rattle.vb_model.specs.declared.calls.Call.TheVariants.{Alloc, Ask, Deflate, Finish, Free}
 use Rattle.vb_model.specs.declared.calls.Call.TheVariants.{Inflate, Init, Oom, Read, Reap, Report}
 use Rattle.vb_model.specs.declared.calls.Call.TheVariants.{Reset, Scribble, SetTarget, Stats, Sweep}
 use Rattle.vb_model.specs.declared.calls.Call.TheVariants.{Take, Work, Write}
 use Rattle.vb_model.specs.declared.places.Place.TheVariants.{Free as FreePlace, Reserved}
-use Rattle.vb_model.specs.declared.replies.Refusal.TheVariants.{NoMemory, NoPages, NotHeld}
-use Rattle.vb_model.specs.declared.replies.{Refusal.TheVariants.OutOfRam, Reply.TheVariants.Done}
+use Rattle.vb_model.specs.declared.replies.Reply.TheVariants.{Done}
 use Rattle.vb_model.specs.declared.replies.Reply.TheVariants.{Idle, Page, Posted, Refused}
 
 abbrev Same : ℕ → ℕ → Type 0

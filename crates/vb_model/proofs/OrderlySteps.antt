@@ -5,26 +5,41 @@ use Rattle.std.proofs.lemmas.{Bool.{and_parts, cases_lt, true_from_ne_false}, Li
 use Rattle.std.proofs.lemmas.List.{length-map, FromFn.get_or-map-range_with_len}
 use Rattle.std.{proofs.lemmas.{List.FromFn.length-range_with_len, Nat.pow_pos}, specs.Prelude.None}
 use Rattle.{std.specs.Prelude.{Option, Some, nat_lt, slice_get}, vb_model.specs.Life.Negotiates}
+use Rattle.vb_model.proofs.{Deeds.Has_served, Serving.serving_keeps}
 use Rattle.vb_model.proofs.{Cases.{supplied, wholly_free_pages}, Deeds.{Aimed, Allocated, Buffered}}
 use Rattle.vb_model.proofs.Deeds.{Deed, Freed, Has_finished, Has_posted, Has_reaped, Has_scribbled}
 use Rattle.vb_model.proofs.Deeds.{Has_swept, Has_taken, Has_written, Initialised, IsPosting, Stayed}
 use Rattle.vb_model.proofs.{Deeds.{Visited, Was_reset, deed, leaves}, GuestSteps.report_reporting}
-use Rattle.vb_model.proofs.{Deeds.most, InOrder.orderly_work, PageSteps.{after_take, outside-range}}
+use Rattle.vb_virtio.proofs.Ranges.{outside-range}
+use Rattle.vb_virtio.proofs.Tables.{length-each_from}
+use Rattle.vb_virtio.specs.Layout.{reserved_pages}
+use Rattle.vb_virtio.specs.declared.refusals.Refusal.{Refusal}
+use Rattle.vb_virtio.specs.Status.{feature_refusal}
+use Rattle.vb_virtio.specs.Limits.{max_order}
+use Rattle.vb_virtio.specs.Queues.{Deflating, Inflating, Kind, Reporting_free, Request}
+use Rattle.vb_virtio.specs.Tests.{is_in}
+use Rattle.vb_model.proofs.Deeds.{most}
+use Rattle.vb_model.proofs.InOrder.{orderly_work}
+use Rattle.vb_model.proofs.PageSteps.{after_take}
 use Rattle.vb_model.proofs.GuestSteps.{deflate_there, held_used, inflate_giving, length-reaped}
 use Rattle.vb_model.proofs.{GuestSteps.{not_reserved, placed-get}, LifeSteps.place_of-reset}
 use Rattle.vb_model.proofs.InOrder.{orderly_finish, orderly_posting, orderly_reap, orderly_take}
-use Rattle.vb_model.{proofs.Tables.length-each_from, specs.{Consistent.IsConsistent, Life.lacking}}
+use Rattle.vb_model.specs.Consistent.{IsConsistent}
+use Rattle.vb_model.specs.Life.{lacking}
 use Rattle.vb_model.specs.{Device.{settled, used, visited}, Driver.{after_posting, reaped}}
 use Rattle.vb_model.specs.{Driver.{with_block, without_block}, Guest.{Config, Guest, fresh}}
-use Rattle.vb_model.specs.{Guest.{requests, tells_host, with_requests}, Layout.reserved_pages}
-use Rattle.vb_model.specs.{Life.after_reset, declared.replies.{Refusal.Refusal, Reply.Reply}}
-use Rattle.vb_model.specs.{Life.feature_refusal, declared.places.Place.TheVariants.{Reserved, Used}}
-use Rattle.vb_model.specs.{Limits.max_order, Orderly.{AreBlocks, AreOrderly, IsBlock, IsOrderly}}
+use Rattle.vb_model.specs.Guest.{requests, tells_host, with_requests}
+use Rattle.vb_model.specs.Life.{after_reset}
+use Rattle.vb_model.specs.declared.replies.Reply.{Reply}
+use Rattle.vb_model.specs.declared.places.Place.TheVariants.{Reserved, Used}
+use Rattle.vb_model.specs.Orderly.{AreBlocks, AreOrderly, IsBlock, IsOrderly}
 use Rattle.vb_model.specs.Pages.{Block, is_aligned, is_free, is_giving, is_reporting, is_reserved}
 use Rattle.vb_model.specs.Pages.{is_same_block, is_used, is_wholly_free, pages_of, place_of, placed}
-use Rattle.vb_model.specs.{Pages.size, Requests.{Deflating, Inflating, Kind, Reporting_free}}
-use Rattle.vb_model.specs.Requests.{Request, Requests, names, place_posted, places_reaped}
-use Rattle.vb_model.specs.{Step.HonestStep, Tests.is_in, declared.calls.{Call.Call, Claim.Claim}}
+use Rattle.vb_model.specs.Pages.{size}
+use Rattle.vb_model.specs.Requests.{Requests, names, place_posted, places_reaped}
+use Rattle.vb_model.specs.Step.{HonestStep}
+use Rattle.vb_model.specs.declared.calls.Call.{Call}
+use Rattle.vb_model.specs.declared.calls.Claim.{Claim}
 use Rattle.vb_model.specs.declared.places.Place.{Place, TheVariants.{Free as FreePlace, Lent}}
 
 -- ---- places
@@ -147,7 +162,7 @@ kept_work kind page g h = grind (
   orderly_work _ g.report h.reporting,
 )
 
-kept_finish : (kind : Kind) (i : ℕ) (r : Request) (g : Guest) → IsOrderly g
+pub kept_finish : (kind : Kind) (i : ℕ) (r : Request) (g : Guest) → IsOrderly g
     → slice_get (requests kind g).taken i ≡ Some r
     → IsOrderly (settled kind r.pages (used kind i r g))
 kept_finish kind i r g h e =
@@ -225,6 +240,9 @@ order call g claims reply new c h (Visited kind page named other told e) honest 
     subst IsOrderly (sym e) (kept_work kind page g h)
 order call g claims reply new c h (Has_finished kind i r is told e) honest =
     subst IsOrderly (sym e) (kept_finish kind i r g h is)
+order call g claims reply new c h (Has_served kind chains s told) honest = serving_keeps kind
+    IsOrderly (λ x r rest posted o. kept_take kind x r rest o posted)
+    (λ x r is o. kept_finish kind 0 r x o is) (requests kind g).posted 0 g reply new refl s h
 order call g claims reply new c h (Has_swept page flag tells told e) honest =
     subst IsOrderly (sym e) h
 order call g claims reply new c h (Initialised wanted is passed n) honest =

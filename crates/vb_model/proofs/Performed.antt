@@ -2,11 +2,17 @@
 use Rattle.std.proofs.Common.{◌≡◌, ℕ, refl, List, [], ◌∷◌}
 use Rattle.std.specs.Prelude.{Option, None, Some, MatchOption}
 use Rattle.vb_model.specs.Driver.{given, claim_refusal, AreClaimsFor, pages_needed, Written}
-use Rattle.vb_model.specs.{Driver.Scribbled, FirstRefusal.first_refusal, Guest.{Guest, all_backed}}
-use Rattle.vb_model.specs.{Life.{lacking, feature_causes, Negotiates}, Refusals.refusal_of}
+use Rattle.vb_virtio.specs.FirstRefusal.{first_refusal}
+use Rattle.vb_virtio.specs.Status.{feature_causes}
+use Rattle.vb_virtio.specs.declared.refusals.Refusal.{Refusal}
+use Rattle.vb_model.specs.Driver.{Scribbled}
+use Rattle.vb_model.specs.Guest.{Guest, all_backed}
+use Rattle.vb_model.specs.Life.{lacking, Negotiates}
+use Rattle.vb_model.specs.Refusals.{refusal_of}
 use Rattle.vb_model.specs.{Step.{Does, Performs, HonestStep}, declared.calls.Call.Call}
 use Rattle.vb_model.specs.declared.calls.{Call.TheVariants.{Init, Write, Scribble}, Claim.Claim}
-use Rattle.vb_model.specs.declared.replies.{Refusal.Refusal, Reply.Reply, Reply.TheVariants.Refused}
+use Rattle.vb_model.specs.declared.replies.Reply.{Reply}
+use Rattle.vb_model.specs.declared.replies.Reply.TheVariants.{Refused}
 
 -- these pages' claims were given and the rest was done, or one is the reply and nothing is changed
 abbrev pub Supplying : (pages : List ℕ) (g : Guest) (claims : List Claim) (reply : Reply)

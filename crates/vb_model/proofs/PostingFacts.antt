@@ -2,12 +2,16 @@
 -- page twice, another number; and what an allocation hands out.
 use Rattle.std.proofs.Common.{List, [], ap, arith, false, refl, replicate, subst, sym, true, ℕ}
 use Rattle.std.proofs.Common.{◌++◌, ◌∷◌, ◌≡◌}
-use Rattle.vb_model.specs.{Driver.{with_block}, Pages.{block_at, pages_of}, Tests.{marked}}
+use Rattle.vb_virtio.specs.Tests.{marked, AllDistinct}
+use Rattle.vb_virtio.specs.Queues.{Deflating, Inflating, Kind, Reporting_free}
+use Rattle.vb_virtio.proofs.Differ.{differ}
+use Rattle.vb_model.specs.Driver.{with_block}
+use Rattle.vb_model.specs.Pages.{block_at, pages_of}
 use Rattle.vb_model.specs.declared.places.Place.TheVariants.{Free, Lent, Reserved, Stranded, Used}
-use Rattle.vb_model.specs.Driver.{AllDistinct, Allocates, Inflates, Posts, Reports, after_posting}
-use Rattle.vb_model.specs.Requests.{Deflating, Inflating, IsLeastHead, Kind, Reporting_free}
+use Rattle.vb_model.specs.Driver.{Allocates, Inflates, Posts, Reports, after_posting}
+use Rattle.vb_model.specs.Requests.{IsLeastHead}
 use Rattle.vb_model.{proofs.Agreeing.{least_same}, specs.Guest.{Guest, requests}}
-use Rattle.vb_model.proofs.Samples.{differ, ready, request}
+use Rattle.vb_model.proofs.Samples.{ready, request}
 use Rattle.vb_model.specs.Requests.{Requests, no_requests}
 use Rattle.vb_model.specs.declared.replies.Reply.{Reply, TheVariants.{Page, Posted}}
 
@@ -70,7 +74,7 @@ another_head new = (
 another_count : (new : Guest) → Posts Inflating (16 ∷ []) 1 ready (Posted 0 2) new → ⊥
 another_count new p = differ 2 1 refl (ap count_of p.2)
 
--- a report of all 48 free pages, which stand in two blocks
+-- a report of all 48 free pages, which are in two blocks
 not_reported_so : (new : Guest) → (Reports 0 ready (Posted 1 48) new → ⊥)
     × (Reports 0 ready (Posted 0 47) new → ⊥) × (Reports 17 ready (Posted 0 48) new → ⊥)
 not_reported_so new = (
@@ -90,7 +94,7 @@ just_posted kind pages count g head least reply new p =
       subst (λ (h : ℕ). new ≡ after_posting kind h pages g) e p.3,
     )
 
--- ---- pages 20 and 21 are stranded, and two free pages come behind them
+-- ---- pages 20 and 21 are stranded, and two free pages come after them
 
 abbrev two_stranded : Guest
 two_stranded = record ready {

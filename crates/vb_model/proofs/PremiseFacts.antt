@@ -9,7 +9,8 @@ use Rattle.vb_model.{specs.declared.places.Place.Place, specs.declared.calls.Cla
 use Rattle.vb_model.{specs.declared.calls.Actor.TheVariants.Worker, specs.Pages.{place_of, is_used}}
 use Rattle.vb_model.specs.declared.calls.Call.TheVariants.{Write, Scribble, Reset, Sweep, Work}
 use Rattle.vb_model.{specs.declared.calls.Event.Event, specs.Requests.BufferDone, specs.Guest.Guest}
-use Rattle.vb_model.{specs.declared.replies.Refusal.TheVariants.NoFrame, specs.World.World}
+use Rattle.vb_virtio.specs.declared.refusals.Refusal.TheVariants.{NoFrame}
+use Rattle.vb_model.specs.World.{World}
 use Rattle.vb_model.specs.declared.replies.Reply.TheVariants.{Done, Refused, Swept}
 use Rattle.vb_model.{specs.Run.History, specs.GuestRun.{Called, Looked}, specs.Courses.last_put}
 use Rattle.vb_model.specs.HonestRuns.{IsThere, MakesNoScribble, IsAttentive}
@@ -108,7 +109,7 @@ unplugged_at_last : IsThere (three (Some down) (OnGuest 0 Work) (Some down) (Unp
     → ⊥
 unplugged_at_last there = grind arith
 
--- ---- no scribble: one of another guest is none, nor is one before or behind
+-- ---- no scribble: one of another guest is none, nor is one before or after
 
 abbrev scribbled : Event → Event → History
 scribbled first second = three (Some down) first (Some down) second (Some down)
@@ -146,7 +147,7 @@ writes = record {
   after = replicate 8 (page_16_at Used ready);
 }
 
--- a write counts whoever makes it, and whatever its claims were given
+-- a write of any actor counts, and whatever its claims were given
 abbrev written_by_the_worker : Course
 written_by_the_worker = record {
   first = page_16_at Used ready;

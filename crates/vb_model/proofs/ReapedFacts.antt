@@ -3,7 +3,8 @@ use Rattle.std.{proofs.Common.{[], map, refl, ◌∷◌, ◌≡◌}, specs.Prelu
 use Rattle.vb_model.proofs.{AskedTests.not_reaped, SafeFacts.{goes, made, request_16}}
 use Rattle.vb_model.{proofs.Samples.{page_16_at, ready, request}, specs.GuestRun.{Called, Entry}}
 use Rattle.vb_model.{specs.Courses.{Course, ReapedAt}, proofs.AskedFacts.{coming_back, back, reaps}}
-use Rattle.vb_model.specs.{Guest.Guest, Requests.{Deflating, Inflating, Reporting_free, queue_of}}
+use Rattle.vb_virtio.specs.Queues.{Deflating, Inflating, Reporting_free, queue_of}
+use Rattle.vb_model.specs.Guest.{Guest}
 use Rattle.vb_model.specs.declared.calls.Actor.TheVariants.{Processor, Worker}
 use Rattle.vb_model.specs.declared.{calls.Call.TheVariants.Reap, places.Place.TheVariants.Taking}
 use Rattle.vb_model.specs.declared.replies.Reply.TheVariants.{NotUsed, Reaped}
@@ -19,7 +20,7 @@ reaps_page_16 =
 abbrev with_entry : Guest → Option Entry → Course
 with_entry g own = record { first = g; entries = own ∷ []; after = g ∷ [] }
 
--- whoever made it, and whatever its claims were given
+-- made by any actor, and whatever its claims were given
 reaped_by_the_worker : ReapedAt Deflating
     (with_entry (coming_back Taking ready) (Some (Called (Worker 0) (Reap 1) [] (Reaped 0 1)))) 16 0
 reaped_by_the_worker =

@@ -1,5 +1,6 @@
 -- A refusal changes nothing, but for an initialisation whose features are refused.
 pub use Rattle.vb_model.proofs.Deeds.{is_refused}
+use Rattle.vb_model.proofs.Deeds.{Has_served}
 use Rattle.std.proofs.Common.{Bool, List, [], ap, false, inl, inr, refl, subst, sym, ℕ, ◌∙◌, ◌∷◌}
 use Rattle.std.{proofs.Common.◌≡◌, specs.Prelude.{None, Option, Some}}
 use Rattle.vb_model.proofs.{Cases.{match_cases, supplied}, Deeds.{Aimed, Allocated, Buffered, Deed}}
@@ -7,14 +8,17 @@ use Rattle.vb_model.proofs.Deeds.{Freed, Has_finished, Has_posted, Has_reaped, H
 use Rattle.vb_model.proofs.Deeds.{Has_swept, Has_taken, Has_written, Initialised, Stayed, Visited}
 use Rattle.vb_model.{proofs.Deeds.{Was_reset, is_refused}, specs.{Guest.Guest, HostEvents.Happens}}
 use Rattle.vb_model.specs.{HostEvents.PlugsIn, HostRefusals.world_causes, Life.Negotiates}
-use Rattle.vb_model.specs.{Life.{after_restart, feature_refusal, lacking}, Refusals.first_refusal}
+use Rattle.vb_virtio.specs.Status.{feature_refusal}
+use Rattle.vb_virtio.specs.FirstRefusal.{first_refusal}
+use Rattle.vb_virtio.specs.declared.refusals.Refusal.{Refusal}
+use Rattle.vb_model.specs.Life.{after_restart, lacking}
 use Rattle.vb_model.specs.StepLaws.{IsUnchanged, RefusalsChangeNothing, RefusedEventsChangeNothing}
 use Rattle.vb_model.specs.{StepLaws.with_features_refused, World.{World, guest_at, put_guest}}
 use Rattle.vb_model.specs.declared.calls.{Call.{Call, TheVariants.Init}, Claim.Claim, Event.Event}
 use Rattle.vb_model.specs.declared.calls.Event.TheVariants.{Balance, Frames as CountFrames, Plug}
 use Rattle.vb_model.specs.declared.calls.Event.TheVariants.{Guest as OnGuest, Query as OnQuery}
 use Rattle.vb_model.specs.declared.{calls.Event.TheVariants.{Restart, Unplug}, replies.Reply.Reply}
-use Rattle.vb_model.specs.declared.replies.{Refusal.Refusal, Reply.TheVariants.{Done, Refused}}
+use Rattle.vb_model.specs.declared.replies.Reply.TheVariants.{Done, Refused}
 
 pub not_this : {A : Type 0} (refusal : Refusal) (reply : Reply) → Refused refusal ≡ reply
     → is_refused reply ≡ false → A
@@ -60,6 +64,7 @@ refuses call g claims refusal new (Buffered b last has told e) = absurd cc
 refuses call g claims refusal new (Visited kind page named other told e) =
     not_this refusal _ told refl
 refuses call g claims refusal new (Has_finished kind i r is told e) = not_this refusal _ told refl
+refuses call g claims refusal new (Has_served kind chains s told) = not_this refusal _ told refl
 refuses call g claims refusal new (Has_swept page flag tells told e) = not_this refusal _ told refl
 refuses call g claims refusal new (Has_written page offset bytes is passed are none w) =
     not_this refusal _ w.0 refl

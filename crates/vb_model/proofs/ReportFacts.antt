@@ -3,21 +3,24 @@ use Rattle.std.proofs.Common.{Bool, List, [], arith, false, map, refl, replicate
 use Rattle.std.{proofs.Common.{◌∷◌, ◌≡◌}, specs.Prelude.{None, Option, Some, drop, ◌*◌}}
 use Rattle.std.specs.List.{flat_map, range_with_len}
 use Rattle.vb_model.proofs.PostingFacts.{just_posted}
-use Rattle.vb_model.specs.Requests.{Reporting_free}
+use Rattle.vb_virtio.specs.Queues.{Reporting_free, Request}
+use Rattle.vb_virtio.specs.declared.refusals.Refusal.TheVariants.{NoFeature, NoPages, NotHeld}
+use Rattle.vb_virtio.specs.declared.refusals.Refusal.TheVariants.{NotReady, Nothing, QueueFull}
+use Rattle.vb_virtio.specs.FirstRefusal.{first_refusal}
+use Rattle.vb_virtio.specs.declared.refusals.Refusal.{Refusal}
 use Rattle.vb_model.proofs.Samples.{PerformsJustSo, StepsJustSo, config, down, ready, request}
 use Rattle.vb_model.specs.Pages.{Block, all_free, blocks_at, is_free, is_maximal, is_wholly_free}
 use Rattle.vb_model.specs.Pages.{maximal_free_blocks, place_of}
 use Rattle.vb_model.specs.declared.places.Place.TheVariants.{Free as FreePlace, Giving, Lent, Used}
 use Rattle.vb_model.specs.declared.places.Place.TheVariants.{Reporting, Reserved, Stranded, Taking}
-use Rattle.vb_model.specs.declared.replies.Refusal.TheVariants.{NoFeature, NoPages, NotHeld}
-use Rattle.vb_model.specs.declared.replies.Refusal.TheVariants.{NotReady, Nothing, QueueFull}
 use Rattle.vb_model.proofs.Samples.{without_reporting}
 use Rattle.vb_model.specs.declared.calls.Call.TheVariants.{Alloc, Free, Reap, Report, Reset}
 use Rattle.vb_model.specs.declared.replies.Reply.TheVariants.{Done, NotUsed, Page, Posted, Reaped}
-use Rattle.vb_model.specs.Refusals.{causes, first_refusal, refusal_of, reported_blocks}
-use Rattle.vb_model.specs.{Guest.Guest, Requests.{IsLeastHead, Request, Requests, no_requests}}
+use Rattle.vb_model.specs.Refusals.{causes, refusal_of, reported_blocks}
+use Rattle.vb_model.specs.Guest.{Guest}
+use Rattle.vb_model.specs.Requests.{IsLeastHead, Requests, no_requests}
 use Rattle.vb_model.specs.{Guest.fresh, Step.{HonestStep}, declared.calls.Call.Call}
-use Rattle.vb_model.specs.declared.{places.Place.Place, replies.Refusal.Refusal}
+use Rattle.vb_model.specs.declared.places.Place.{Place}
 
 abbrev block : ℕ → ℕ → Block
 block start order = record { start = start; order = order }
@@ -158,7 +161,7 @@ reported_from_17 = (
   λ reply new s. just_posted Reporting_free (range_with_len 32 32) 32 ready 0 no_head_out reply new s.1,
 )
 
--- heads of other kinds are no matter
+-- heads of other kinds don't matter
 least_head_of_reports : StepsJustSo (record ready { inflate = two_out; deflate = two_out })
     (Report 0) [] (Posted 0 48) (record reporting { inflate = two_out; deflate = two_out })
 least_head_of_reports = (

@@ -3,7 +3,10 @@ use Rattle.std.proofs.Common.{List, [], ap, arith, false, map, refl, replicate, 
 use Rattle.std.{proofs.{Common.{◌∷◌, ◌≡◌}, lemmas.List.get_or-replicate}, specs.List.range_with_len}
 use Rattle.std.specs.Prelude.{None, Option, Some, unwrap_or}
 use Rattle.vb_model.proofs.Samples.{StepsJustSo}
-use Rattle.vb_model.{proofs.Samples.{config, differ, down, ready}, specs.Guest.{Config, Guest}}
+use Rattle.vb_virtio.proofs.Differ.{differ}
+use Rattle.vb_virtio.specs.declared.refusals.Refusal.TheVariants.{NoFrame, NoMemory, OutOfRam}
+use Rattle.vb_model.proofs.Samples.{config, down, ready}
+use Rattle.vb_model.specs.Guest.{Config, Guest}
 use Rattle.vb_model.specs.{Guest.is_ballooned, Refusals.refusal_of, Rogue.{HasAllPages, RogueStep}}
 use Rattle.vb_model.specs.{Rogue.{IsRogueAfter, LosesFrames, pages_to_back}, Step.HonestStep}
 use Rattle.vb_model.specs.declared.calls.Call.TheVariants.{Alloc, Ask, Deflate, Finish, Free, Init}
@@ -12,7 +15,6 @@ use Rattle.vb_model.specs.declared.calls.Call.TheVariants.{Scribble, SetTarget, 
 use Rattle.vb_model.specs.declared.calls.{Call.TheVariants.{Work, Write}, Claim.Claim}
 use Rattle.vb_model.specs.declared.calls.Claim.TheVariants.{Gave, GaveNoFrame, GaveNoMemory}
 use Rattle.vb_model.specs.declared.{places.Place.TheVariants.{Lent, Used}, replies.Reply.Reply}
-use Rattle.vb_model.specs.declared.replies.Refusal.TheVariants.{NoFrame, NoMemory, OutOfRam}
 use Rattle.vb_model.specs.declared.replies.Reply.TheVariants.{Done, Idle, Refused}
 
 -- ---- a scribble is refused outside memory or past the end of its page, whatever place the page is
@@ -189,7 +191,7 @@ frame_not_claimed : (reply : Reply) (new : Guest)
     → RogueStep after (Scribble 18 0 (1 ∷ [])) [] reply new → ⊥
 frame_not_claimed reply new s = (s.scribble 18 0 (1 ∷ []) refl).0
 
--- `target` sets it as ever
+-- `target` sets it as in an honest guest
 target_is_set : (reply : Reply) (new : Guest) → RogueStep after (SetTarget 5) [] reply new
     → new.target ≡ 5
 target_is_set reply new s = s.target
@@ -221,12 +223,12 @@ another_frame : (reply : Reply) → RogueStep holding (Write 18 0 (1 ∷ [])) (G
 another_frame reply s =
     let e : Same 3 4 = ap (λ (o : Option ℕ). unwrap_or o 0) (s.frames 18 4 refl) in omega arith
 
--- a refusal for want of a frame needs a claim
+-- a refusal for lack of a frame needs a claim
 no_frame_without_a_claim : (new : Guest)
     → RogueStep after (Write 18 0 (1 ∷ [])) [] (Refused NoFrame) new → ⊥
 no_frame_without_a_claim new s = let e : None ≡ Some NoFrame = s.no_frame refl in cc
 
--- one for want of memory too, or a read, and it changes nothing
+-- one on an allocation failure too, or a read, and it changes nothing
 no_memory_without_a_claim : (new : Guest)
     → RogueStep after (Write 18 0 (1 ∷ [])) [] (Refused NoMemory) new → ⊥
 no_memory_without_a_claim new s = grind arith

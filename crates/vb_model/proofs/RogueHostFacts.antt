@@ -4,7 +4,8 @@ use Rattle.std.proofs.Common.{◌≡◌, true, false, List, [], ◌∷◌, ◌++
 use Rattle.std.specs.Prelude.{Option, Some, None}
 use Rattle.vb_model.proofs.Samples.{HappensJustSo}
 use Rattle.vb_model.specs.declared.replies.Reply.TheVariants.{Balloon, Done, Frames, Refused}
-use Rattle.vb_model.{specs.declared.replies.Refusal.TheVariants.TooMany, specs.Guest.{Guest, fresh}}
+use Rattle.vb_virtio.specs.declared.refusals.Refusal.TheVariants.{TooMany}
+use Rattle.vb_model.specs.Guest.{Guest, fresh}
 use Rattle.vb_model.{specs.HostEvents.{WorldStep, needs, with_targets}, specs.Queries.Answers}
 use Rattle.vb_model.{specs.declared.calls.Event.TheVariants.Restart, specs.World.World}
 use Rattle.vb_model.{specs.HostFrames.{IsOut, used_frames}, proofs.Samples.{config, ready, plug}}

@@ -1,13 +1,15 @@
 -- Worked facts of what a rogue guest claims, and of what a refusal leaves of it.
 use Rattle.std.proofs.Common.{List, [], false, refl, replicate, true, ℕ, ◌++◌, ◌∷◌, ◌≡◌}
 use Rattle.std.specs.Prelude.{None, Option, Some}
-use Rattle.vb_model.specs.declared.replies.Refusal.TheVariants.{AlreadyUp, Broken, Busy, NoFrame}
-use Rattle.vb_model.specs.declared.replies.Refusal.TheVariants.{FeatureNotOffered, NoMemory}
-use Rattle.vb_model.specs.declared.replies.Refusal.TheVariants.{RingBroken, VersionMissing}
+use Rattle.vb_virtio.specs.declared.refusals.Refusal.TheVariants.{AlreadyUp, Broken, Busy, NoFrame}
+use Rattle.vb_virtio.specs.declared.refusals.Refusal.TheVariants.{FeatureNotOffered, NoMemory}
+use Rattle.vb_virtio.specs.declared.refusals.Refusal.TheVariants.{RingBroken, VersionMissing}
+use Rattle.vb_virtio.specs.Statistics.{no_statistics}
 use Rattle.vb_model.specs.declared.calls.Call.TheVariants.{Init, Reap, Take, Write}
 use Rattle.vb_model.specs.declared.calls.Claim.TheVariants.{Gave, GaveNoFrame, GaveNoMemory}
 use Rattle.vb_model.specs.{Guest.Guest, declared.places.Place.TheVariants.{Lent, Reserved, Used}}
-use Rattle.vb_model.{proofs.Samples.{ready, request}, specs.{Guest.no_statistics, Rogue.RogueStep}}
+use Rattle.vb_model.proofs.Samples.{ready, request}
+use Rattle.vb_model.specs.Rogue.{RogueStep}
 use Rattle.vb_model.specs.declared.{calls.Claim.Claim, replies.Reply.{Reply, TheVariants.Refused}}
 
 -- pages 16 to 62 are used and have no frame, page 63 is lent
@@ -109,7 +111,7 @@ feature_not_offered : (new : Guest)
     }
 feature_not_offered new s = s.refused FeatureNotOffered refl
 
--- for want of a frame or of memory nothing is changed
+-- for lack of a frame or memory nothing is changed
 no_frame_to_start : (new : Guest) → RogueStep told_much (Init 0x100000027) (Gave 0
     ∷ GaveNoFrame ∷ []) (Refused NoFrame) new → new ≡ told_much
 no_frame_to_start new s = s.refused NoFrame refl

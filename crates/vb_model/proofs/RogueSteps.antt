@@ -1,9 +1,12 @@
 -- No reserved page is ever ballooned, in a rogue guest neither.
 use Rattle.std.proofs.Common.{arith, false, inl, inr, refl, true, ℕ, ◌∙◌, ◌≡◌}
 use Rattle.std.{proofs.lemmas.{Bool.{cases_lt, lt-ltb}, List.get_or_past}, specs.Prelude.Some}
+use Rattle.vb_model.proofs.Unchanged.{serve_stays_honest}
 use Rattle.vb_model.proofs.{Changes.{Change, changes}, PageSteps.naming-all}
 use Rattle.vb_model.specs.{Consistent.IsConsistent, Guest.{Guest, is_ballooned}}
-use Rattle.vb_model.specs.{HostEvents.WorldStep, Layout.reserved_pages, Orderly.IsOrderly}
+use Rattle.vb_virtio.specs.Layout.{reserved_pages}
+use Rattle.vb_model.specs.HostEvents.{WorldStep}
+use Rattle.vb_model.specs.Orderly.{IsOrderly}
 use Rattle.vb_model.specs.{Pages.{is_reserved, place_of}, StepLaws.HasNoReservedBallooned}
 use Rattle.vb_model.specs.{World.{World, guest_at}, declared.calls.Event.Event}
 use Rattle.vb_model.specs.declared.{places.Place.{Place, TheVariants.Reserved}, replies.Reply.Reply}
@@ -31,7 +34,7 @@ AllUnreserved w = (n : ℕ) (g : Guest) → guest_at w.guests n ≡ Some g → g
 
 change_unreserved : (w : World) (event : Event) (reply : Reply) (m : ℕ) (new : Guest)
     → AllUnreserved w → Change w event reply m new → new.rogue ≡ true → HasNoReservedBallooned new
-change_unreserved w event reply m new h h6 rogue = search arith
+change_unreserved w event reply m new h h6 rogue = search (arith, serve_stays_honest)
 
 pub step_unreserved : (w : World) (event : Event) (reply : Reply) (v : World) → AllUnreserved w
     → WorldStep w event reply v → AllUnreserved v

@@ -1,7 +1,11 @@
 -- Worked facts of runs, of states, and of the entries of one guest.
 use Rattle.std.proofs.Common.{List, [], ap, arith, false, length, map, refl, replicate, true, ℕ}
 use Rattle.std.{proofs.Common.{◌++◌, ◌∷◌, ◌≡◌}, specs.Prelude.{None, Option, Some, unwrap_or}}
-use Rattle.vb_model.{proofs.Samples.{differ, down, ready}, specs.{Guest.Guest, GuestRun.Alone}}
+use Rattle.vb_virtio.proofs.Differ.{differ}
+use Rattle.vb_virtio.specs.declared.refusals.Refusal.TheVariants.{OutOfRam, Short}
+use Rattle.vb_model.proofs.Samples.{down, ready}
+use Rattle.vb_model.specs.Guest.{Guest}
+use Rattle.vb_model.specs.GuestRun.{Alone}
 use Rattle.vb_model.specs.GuestRun.{AreOwn, Called, Entry, EntryStep, InOneLife, IsOwnEntry, Looked}
 use Rattle.vb_model.specs.{Run.{History, Run, Steps, guest_in, last_world}, World.{World, made}}
 use Rattle.vb_model.specs.declared.calls.{Actor.TheVariants.{Balancer, Processor}, Claim.Claim}
@@ -9,7 +13,7 @@ use Rattle.vb_model.specs.declared.calls.Call.TheVariants.{Ask, Init, Reset, Scr
 use Rattle.vb_model.specs.declared.calls.{Call.TheVariants.{Work, Write}, Claim.TheVariants.Gave}
 use Rattle.vb_model.specs.declared.calls.Event.TheVariants.{Balance, Frames as CountFrames, Restart}
 use Rattle.vb_model.specs.declared.calls.Event.TheVariants.{Guest as OnGuest, Unplug}
-use Rattle.vb_model.specs.declared.replies.{Refusal.TheVariants.{OutOfRam, Short}, Reply.Reply}
+use Rattle.vb_model.specs.declared.replies.Reply.{Reply}
 use Rattle.vb_model.specs.declared.replies.Reply.TheVariants.{Done, Frames, Idle, Refused, Targets}
 
 abbrev world : ℕ → World

@@ -2,7 +2,10 @@
 -- entries, and each step of a run.
 use Rattle.std.proofs.Common.{List, [], subst, false, ℕ, ◌∷◌, ◌≡◌, ◌≢◌}
 use Rattle.std.specs.Prelude.{MatchOption, None, Option, Some}
-use Rattle.vb_model.specs.{Driver.{AreClaimsFor}, FirstRefusal.{first_refusal}, Guest.{Guest}}
+use Rattle.vb_virtio.specs.FirstRefusal.{first_refusal}
+use Rattle.vb_virtio.specs.declared.refusals.Refusal.{Refusal}
+use Rattle.vb_model.specs.Driver.{AreClaimsFor}
+use Rattle.vb_model.specs.Guest.{Guest}
 use Rattle.vb_model.specs.GuestRun.{AreOwn, Called, Entry, EntryStep, InOneLife, IsOwnEntry, Leads}
 use Rattle.vb_model.specs.GuestRun.{OwnStep, is_scribbled}
 use Rattle.vb_model.specs.{HostEvents.{Calls, Happens, WorldStep}, HostFrames.{Gives, IsOut}}
@@ -15,7 +18,6 @@ use Rattle.vb_model.specs.declared.calls.Event.{Event, TheVariants.{Balance, Plu
 use Rattle.vb_model.specs.declared.calls.Event.TheVariants.{Frames as CountFrames, Guest as OnGuest}
 use Rattle.vb_model.specs.declared.calls.Event.TheVariants.{Query as OnQuery}
 use Rattle.vb_model.specs.declared.calls.{GuestSize.{GuestSize}, Query.{Query}}
-use Rattle.vb_model.specs.declared.replies.Refusal.{Refusal}
 use Rattle.vb_model.specs.declared.replies.Reply.{Reply, TheVariants.{Done, Refused, Targets}}
 
 -- ---- a call of an honest guest, and an event of the host, that have a cause to be refused

@@ -6,11 +6,14 @@ use Rattle.{std.specs.Prelude.{Option, Some, None}, vb_model.specs.Histories.IsS
 use Rattle.vb_model.{proofs.Samples.{ready, down, page_16_at, request}, specs.Guest.{Guest, fresh}}
 use Rattle.vb_model.specs.Courses.{Course, StaysHeld, StaysOrLoses, ReadsGiveLastWrites}
 use Rattle.vb_model.specs.{GuestRun.{Entry, Called}, declared.{calls.Call.Call, places.Place.Place}}
-use Rattle.vb_model.specs.{Requests.{Request, Requests}, declared.calls.Actor.TheVariants.Processor}
-use Rattle.vb_model.specs.declared.calls.Call.TheVariants.{Read, Reap, Reset, Stats, Sweep, Take}
-use Rattle.vb_model.specs.declared.{calls.Call.TheVariants.{Work, Write}, replies.Reply.Reply}
-use Rattle.vb_model.specs.declared.replies.Refusal.TheVariants.{RingBroken, Broken, NoFrame}
-use Rattle.vb_model.specs.declared.replies.Reply.TheVariants.{Done, Idle, ReadBytes, Swept, Refused}
+use Rattle.vb_virtio.specs.Queues.{Request}
+use Rattle.vb_virtio.specs.declared.refusals.Refusal.TheVariants.{RingBroken, Broken, NoFrame}
+use Rattle.vb_model.specs.Requests.{Requests}
+use Rattle.vb_model.specs.declared.calls.Actor.TheVariants.{Processor}
+use Rattle.vb_model.specs.declared.calls.Call.TheVariants.{Read, Reap, Reset, Serve, Stats, Sweep}
+use Rattle.vb_model.specs.declared.{calls.Call.TheVariants.{Take, Work, Write}, replies.Reply.Reply}
+use Rattle.vb_model.specs.declared.replies.Reply.TheVariants.{Done, Idle, ReadBytes, Served, Swept}
+use Rattle.vb_model.specs.declared.replies.Reply.TheVariants.{Refused}
 use Rattle.vb_model.specs.declared.places.Place.TheVariants.{Free as FreePlace, Used, Reserved}
 
 -- the guest's own call
@@ -176,7 +179,7 @@ bytes_changed_by_refused : IsSafeCourse
 bytes_changed_by_refused s = not_that_byte Used (s.keeps_contents 0 16
     (with_byte Used None 1) (with_byte Used None 2) refl refl (λ e. cc) (λ own. cc))
 
--- nor is another guest's write to a page of the same number, behind one of the guest's own
+-- nor is another guest's write to a page of the same number, after one of the guest's own
 bytes_changed_by_another : IsSafeCourse (record {
   first = with_byte Used (Some 5) 1;
   entries = made (Write 16 0 (1 ∷ [])) Done ∷ None ∷ [];
@@ -215,8 +218,8 @@ too_few_bytes s =
     let e : Same 1 2 = (s.reads 0 16 0 2 (1 ∷ []) (used_with (Some 5) (1 ∷ 2 ∷ []) ready) refl
     (Processor 0 0, [], refl)).0 in omega (arith, e)
 
--- two writes, with another's event behind each, and then a read that gives what was there before
--- the last one, or before both
+-- two writes, with another's event after each, and then a read that gives what was there before the
+-- last one, or before both
 abbrev written_and_read : ℕ → Course
 written_and_read byte = record {
   first = used_with (Some 5) (1 ∷ 2 ∷ []) down;
@@ -272,7 +275,7 @@ write_forgotten_by_law s = let e : Same 7 8 = last_by_law 7 s in omega (arith, e
 both_forgotten_by_law : ReadsGiveLastWrites (written_unseen 1) → ⊥
 both_forgotten_by_law s = let e : Same 1 8 = last_by_law 1 s in omega (arith, e)
 
--- a write that is done, and the page holds what it did, or the bytes stand elsewhere in it
+-- a write that is done, and the page holds what it did, or the bytes are elsewhere in it
 abbrev written_as : List ℕ → Course
 written_as bytes = goes (used_with (Some 5) (1 ∷ 2 ∷ []) down) (Write 16 0 (7 ∷ [])) Done
     (used_with (Some 5) bytes down)
@@ -314,6 +317,12 @@ broken_chain s = (s.not_broken 0 3 (Take 0) (Refused (Broken 3)) (Processor 0 0,
 
 broken_ring : IsSafeCourse (goes ready (Reap 0) (Refused RingBroken) ready) → ⊥
 broken_ring s = (s.not_broken 0 0 (Reap 0) (Refused RingBroken) (Processor 0 0, [], refl)).1 refl
+
+-- or one of a serve, of however many chains before it
+broken_when_served : (chains : ℕ)
+    → IsSafeCourse (goes ready (Serve 0) (Served chains (Some 3)) ready) → ⊥
+broken_when_served chains s = (s.not_broken 0 3 (Serve 0) (Served chains (Some 3))
+    (Processor 0 0, [], refl)).2 chains refl
 
 -- no call is answered so, of no queue, in no later state
 broken_chain_later : IsSafeCourse (later down (Take 4) (Refused (Broken 9)) down) → ⊥

@@ -1,17 +1,23 @@
 -- What is promised of a safe course reaches all its states and entries: of any guests, by any calls
--- of any actors, first or behind another entry, of any page that the promise speaks of.
+-- of any actors, first or after another entry, of any page that the promise speaks of.
 use Rattle.std.proofs.Common.{List, [], arith, false, inl, inr, refl, sym, true, ℕ, ◌+◌, ◌∙◌, ◌∷◌}
 use Rattle.std.proofs.Common.{◌≡◌, ◌≤◌, ◌⊎◌}
 use Rattle.std.specs.Prelude.{Bool, IsSome, IsTrue, None, Option, Some, drop, length, take}
-use Rattle.vb_model.proofs.Samples.{differ, ready}
-use Rattle.vb_model.specs.{Courses.{Course, IsAt}, Driver.{contents_of, overwritten}}
-use Rattle.vb_model.specs.{Guest.{Guest, frame_of, is_ballooned, version_1}, Status.{contains}}
+use Rattle.vb_model.specs.declared.replies.Reply.TheVariants.{Served}
+use Rattle.vb_virtio.proofs.Differ.{differ}
+use Rattle.vb_virtio.specs.Memory.{overwritten}
+use Rattle.vb_virtio.specs.Features.{version_1}
+use Rattle.vb_virtio.specs.Status.{contains}
+use Rattle.vb_virtio.specs.declared.refusals.Refusal.TheVariants.{Broken, RingBroken}
+use Rattle.vb_model.proofs.Samples.{ready}
+use Rattle.vb_model.specs.Courses.{Course, IsAt}
+use Rattle.vb_model.specs.Driver.{contents_of}
+use Rattle.vb_model.specs.Guest.{Guest, frame_of, is_ballooned}
 use Rattle.vb_model.specs.{GuestRun.{Called, Entry}, Histories.{IsNamed, IsSafeCourse}}
 use Rattle.vb_model.specs.{Pages.{is_place, place_of}, Requests.{given_away}}
 use Rattle.vb_model.specs.declared.calls.{Actor.{Actor}, Call.{Call, TheVariants.{Read, Write}}}
 use Rattle.vb_model.specs.declared.calls.Claim.{Claim}
 use Rattle.vb_model.specs.declared.places.Place.TheVariants.{Giving, Lent, Reserved, Used}
-use Rattle.vb_model.specs.declared.replies.Refusal.TheVariants.{Broken, RingBroken}
 use Rattle.vb_model.specs.declared.replies.Reply.{Reply, TheVariants.{Done, ReadBytes, Refused}}
 
 -- three states, and what came between
@@ -130,11 +136,15 @@ no_fault : (a b c : Guest) (x y : Option Entry) (actor : Actor) (call : Call) (c
     × (IsSafeCourse (course a x b (by actor call claims (Refused (Broken fault))) c) → ⊥)
     × (IsSafeCourse (course a (by actor call claims (Refused RingBroken)) b y c) → ⊥)
     × (IsSafeCourse (course a x b (by actor call claims (Refused RingBroken)) c) → ⊥)
+    × ((chains : ℕ)
+    → IsSafeCourse (course a x b (by actor call claims (Served chains (Some fault))) c) → ⊥)
 no_fault a b c x y actor call claims fault = (
   λ s. (s.not_broken 0 fault call (Refused (Broken fault)) (actor, claims, refl)).0 refl,
   λ s. (s.not_broken 1 fault call (Refused (Broken fault)) (actor, claims, refl)).0 refl,
   λ s. (s.not_broken 0 fault call (Refused RingBroken) (actor, claims, refl)).1 refl,
   λ s. (s.not_broken 1 fault call (Refused RingBroken) (actor, claims, refl)).1 refl,
+  λ chains s. (s.not_broken 1 fault call (Served chains (Some fault)) (actor, claims, refl)).2 chains
+      refl,
 )
 
 -- ---- a page that one entry offers isn't handed out by the next, in whatever guests

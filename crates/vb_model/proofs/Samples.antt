@@ -1,7 +1,9 @@
 -- Guests from which worked facts start.
-use Rattle.std.proofs.{Common.{[], false, ◌≡◌}, lemmas.Bool.{and_parts, eq-eqb}}
-use Rattle.std.specs.{List.list_all, Prelude.{Bool, List, replicate, true, ℕ, ◌++◌, ◌==◌, ◌∷◌}}
-use Rattle.vb_model.specs.{Guest.{Config, Guest, fresh}, Requests.Request, Tables.Negotiated}
+use Rattle.std.proofs.{Common.{[], ◌≡◌}, lemmas.Bool.{and_parts}}
+use Rattle.std.specs.{List.list_all, Prelude.{Bool, List, replicate, true, ℕ, ◌++◌, ◌∷◌}}
+use Rattle.vb_virtio.specs.Queues.{Request}
+use Rattle.vb_model.specs.Guest.{Config, Guest, fresh}
+use Rattle.vb_model.specs.Tables.{Negotiated}
 use Rattle.vb_model.specs.{HostEvents.{WorldStep}, Step.{HonestStep, Performs}, World.{World}}
 use Rattle.vb_model.specs.declared.{calls.Call.{Call}, calls.Claim.{Claim}, replies.Reply.{Reply}}
 use Rattle.vb_model.specs.{Tables.NewRequest, declared.calls.Event.{Event, TheVariants.Plug}}
@@ -48,11 +50,11 @@ mixed = record ready { places = mixed_places }
 abbrev pub page_16_at : Place → Guest → Guest
 page_16_at place g = record g { places = replicate 16 Reserved ++ (place ∷ replicate 47 Free) }
 
--- a request for these pages, of which so many are visited
+-- a request for these pages, of which n are visited
 abbrev pub request : ℕ → List ℕ → ℕ → Request
 request head pages visited = record { head = head; pages = pages; visited = visited }
 
--- a guest of so many pages, descriptors of each queue and processors is to be plugged in
+-- a guest of n pages, descriptors of each queue and processors is to be plugged in
 abbrev pub plug : (pages queue_size processors : ℕ) → Event
 plug pages queue_size processors =
     Plug (record { pages = pages; queue_size = queue_size; processors = processors })
@@ -85,9 +87,6 @@ HappensJustSo w event answer after = WorldStep w event answer after
     × ((reply : Reply) (v : World) → WorldStep w event reply v → (reply ≡ answer) × (v ≡ after))
 
 -- ---- what isn't so
-
-pub differ : {A : Type 0} (a b : ℕ) → (a == b) ≡ false → a ≡ b → A
-differ a b h e = absurd (let t = eq-eqb a b e in cc)
 
 abbrev pub EachNot : {A : Type 0} → (A → Type 0) → List A → Type 0
 EachNot P [] = Unit {0}

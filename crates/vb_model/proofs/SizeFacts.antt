@@ -2,11 +2,13 @@
 use Rattle.std.proofs.Common.{List, [], ap, arith, false, length, map, refl, replicate, true, ℕ}
 use Rattle.std.proofs.Common.{◌++◌, ◌∷◌, ◌≡◌}
 use Rattle.vb_model.proofs.Samples.{StepsJustSo}
-use Rattle.vb_model.{proofs.Samples.{differ}, specs.Sizes.{HasSmallShape}}
+use Rattle.vb_virtio.proofs.Differ.{differ}
+use Rattle.vb_virtio.specs.declared.refusals.Refusal.TheVariants.{NoFrame}
+use Rattle.vb_model.specs.Sizes.{HasSmallShape}
 use Rattle.std.{specs.Prelude.{Option, Some, None, ◌+◌}, specs.List.range_with_len}
 use Rattle.vb_model.specs.declared.calls.{Call.TheVariants.Init, Claim.Claim}
 use Rattle.vb_model.specs.{declared.calls.Claim.TheVariants.{Gave, GaveNoFrame}, Life.lacking}
-use Rattle.vb_model.specs.{declared.replies.Refusal.TheVariants.NoFrame, Driver.AreClaimsFor}
+use Rattle.vb_model.specs.Driver.{AreClaimsFor}
 use Rattle.vb_model.specs.{declared.replies.Reply.TheVariants.{Ready, Refused}, Balance.spare}
 use Rattle.vb_model.specs.Pages.{all_free, maximal_free_blocks, is_wholly_free}
 use Rattle.vb_model.specs.{Requests.BufferPosted, Guest.{Guest, Config, fresh}}
@@ -50,7 +52,7 @@ past_the_end : map (λ order. is_wholly_free down.places (record { start = 64; o
     (3 ∷ 4 ∷ 5 ∷ 6 ∷ []) ≡ true ∷ true ∷ false ∷ false ∷ []
 past_the_end = refl
 
--- ---- initialisation: buffers first, then the rings behind the first 16 pages
+-- ---- initialisation: buffers first, then the rings after the first 16 pages
 
 start : lacking down ≡ 4 ∷ 5 ∷ 6 ∷ 7 ∷ 8 ∷ 9 ∷ 10 ∷ 11 ∷ 12 ∷ 16 ∷ 17 ∷ 18 ∷ 19 ∷ 20 ∷ 21 ∷ 22 ∷ 23
     ∷ []
@@ -59,7 +61,7 @@ start = refl
 start_of_small_queues : lacking one_page_rings ≡ range_with_len 0 13
 start_of_small_queues = refl
 
--- one that has frames behind pages 0 to 20 lacks the last three
+-- one that has frames for pages 0 to 20 lacks the last three
 some_there : lacking (record down { frames = map Some (range_with_len 0 21) ++ replicate 59 None })
     ≡ 21 ∷ 22 ∷ 23 ∷ []
 some_there = refl

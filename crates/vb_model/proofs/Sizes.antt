@@ -1,7 +1,7 @@
 -- Guests of small sizes.
 use Rattle.std.{specs.Prelude.{◌≡◌, ℕ, ◌%◌, ◌≤◌, true, ◌==◌, ◌&&◌}, proofs.Common.arith}
 use Rattle.std.proofs.lemmas.Bool.Decides.{nat_tests}
-use Rattle.vb_model.specs.Limits.{is_power_of_two, is_between}
+use Rattle.vb_virtio.specs.Limits.{is_power_of_two, is_between}
 use Rattle.vb_model.specs.Sizes.{HasSmallShape, SmallConfigsAreConfigs}
 
 pub small_shape : (size : ℕ) → size ≤ 128 → HasSmallShape size

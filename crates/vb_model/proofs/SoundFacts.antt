@@ -1,9 +1,13 @@
 -- Guests whose parts don't agree, and pages that aren't blank, one for each thing that is promised.
 use Rattle.std.proofs.Common.{List, [], ap, arith, false, length, refl, replicate, true, ℕ, ◌++◌}
 use Rattle.std.{proofs.Common.{◌∙◌, ◌∷◌, ◌≡◌}, specs.Prelude.{Bool, None}}
-use Rattle.vb_model.proofs.{BlankSteps.length-zero_page, Samples.{differ, page_16_at, ready}}
+use Rattle.vb_virtio.proofs.Differ.{differ}
+use Rattle.vb_virtio.specs.Memory.{zero_page}
+use Rattle.vb_model.proofs.BlankSteps.{length-zero_page}
+use Rattle.vb_model.proofs.Samples.{page_16_at, ready}
 use Rattle.vb_model.{proofs.Samples.{request, untold}, specs.Blank.IsBlank}
-use Rattle.vb_model.specs.{Consistent.{IsConsistent, IsPageSound}, Guest.{Guest, zero_page}}
+use Rattle.vb_model.specs.Consistent.{IsConsistent, IsPageSound}
+use Rattle.vb_model.specs.Guest.{Guest}
 use Rattle.vb_model.specs.{Pages.Block, Requests.{Requests, no_requests}}
 use Rattle.vb_model.specs.declared.places.Place.{Place, TheVariants.{Free, Giving, Lent, Reporting}}
 use Rattle.vb_model.specs.declared.places.Place.TheVariants.{Reserved, Taking, Used}
@@ -79,7 +83,8 @@ unsound_while_named = (
   λ s. differ 0 1 refl s.taking,
 )
 
--- whether it tells or not, the page is neither lent nor offered, nor reserved, nor asked back twice
+-- whether it tells or not, the page is neither lent nor offered, nor reserved, nor requested back
+-- twice
 abbrev Neither : Place → Requests → Requests → Bool → Type 0
 Neither place inflate deflate flag =
     (Named true place inflate deflate flag → ⊥) × (Named false place inflate deflate flag → ⊥)

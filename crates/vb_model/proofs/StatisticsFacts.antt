@@ -6,11 +6,12 @@ use Rattle.vb_model.specs.declared.replies.Reply.TheVariants.{Asked, Done, Empty
 use Rattle.vb_model.specs.{Requests.BufferDone, declared.replies.Reply.TheVariants.{Ready, Taken}}
 use Rattle.vb_model.specs.Requests.{BufferPosted, BufferTaken, Figures, NoBuffer, StatisticsBuffer}
 use Rattle.vb_model.specs.declared.calls.Call.TheVariants.{Ask, Finish, Reap, Reset, Stats, Take}
-use Rattle.vb_model.specs.declared.replies.Refusal.TheVariants.{Busy, NoFeature, NoQueue, NotReady}
-use Rattle.vb_model.{proofs.Samples.down, specs.declared.replies.Refusal.TheVariants.NotTaken}
+use Rattle.vb_virtio.specs.declared.refusals.Refusal.TheVariants.{Busy, NoFeature, NoQueue}
+use Rattle.vb_virtio.specs.declared.refusals.Refusal.TheVariants.{NotReady, NotTaken}
+use Rattle.vb_virtio.specs.declared.statistics.LastStatistics.{LastStatistics}
+use Rattle.vb_model.proofs.Samples.{down}
 use Rattle.vb_model.{proofs.Samples.{mixed, ready, without_stats_vq}}
 use Rattle.vb_model.specs.{Driver.figures, Guest.Guest, Life.Negotiates, Refusals.refusal_of}
-use Rattle.vb_model.specs.{declared.replies.LastStatistics.LastStatistics}
 
 -- ---- figures, in bytes: the free pages, and all pages, the reserved ones among them
 

@@ -3,29 +3,18 @@
 -- 79 is a ready device that needs a reset, 143 one whose driver gave up, 207 both.
 use Rattle.std.proofs.Common.{List, [], false, map, refl, replicate, true, ℕ, ◌∷◌, ◌≡◌}
 use Rattle.std.specs.Prelude.{None, Option, Some}
-use Rattle.vb_model.{proofs.Samples.{at, new_request}, specs.FirstRefusal.{Cause, first_refusal}}
-use Rattle.vb_model.specs.{Requests.Request, Tables.{ask_causes, driver_causes, finish_causes}}
-use Rattle.vb_model.specs.Tables.{has_fault, inflate_causes, is_not_ready, is_up, most_requests}
+use Rattle.vb_virtio.specs.FirstRefusal.{Cause, first_refusal}
+use Rattle.vb_virtio.specs.Queues.{Request}
+use Rattle.vb_virtio.specs.Status.{work_causes}
+use Rattle.vb_virtio.specs.declared.refusals.Refusal.{Refusal}
+use Rattle.vb_virtio.specs.declared.refusals.Refusal.TheVariants.{Busy, DeflatePending, NeedsReset}
+use Rattle.vb_virtio.specs.declared.refusals.Refusal.TheVariants.{NoFeature, NoQueue, NotBallooned}
+use Rattle.vb_virtio.specs.declared.refusals.Refusal.TheVariants.{NotReady, NotTaken, NotWorked}
+use Rattle.vb_virtio.specs.declared.refusals.Refusal.TheVariants.{Nothing, QueueFull}
+use Rattle.vb_model.proofs.Samples.{at, new_request}
+use Rattle.vb_model.specs.Tables.{ask_causes, driver_causes, finish_causes}
+use Rattle.vb_model.specs.Tables.{inflate_causes, most_requests}
 use Rattle.vb_model.specs.Tables.{reap_causes, request_causes, sweep_causes, take_causes}
-use Rattle.vb_model.specs.{Tables.work_causes, declared.replies.Refusal.{Refusal, TheVariants.Busy}}
-use Rattle.vb_model.specs.declared.replies.Refusal.TheVariants.{DeflatePending, NeedsReset}
-use Rattle.vb_model.specs.declared.replies.Refusal.TheVariants.{NoFeature, NoQueue, NotBallooned}
-use Rattle.vb_model.specs.declared.replies.Refusal.TheVariants.{NotReady, NotTaken, NotWorked}
-use Rattle.vb_model.specs.declared.replies.Refusal.TheVariants.{Nothing, QueueFull}
-
--- ---- the status
-
-driver_is_up : map is_up (0 ∷ 1 ∷ 3 ∷ 11 ∷ 15 ∷ 79 ∷ 131 ∷ 143 ∷ 207 ∷ []) ≡ false ∷ false ∷ false
-    ∷ false ∷ true ∷ false ∷ false ∷ false ∷ false ∷ []
-driver_is_up = refl
-
-device_is_not_ready : map is_not_ready (0 ∷ 11 ∷ 15 ∷ 79 ∷ 131 ∷ 143 ∷ 207 ∷ []) ≡ true ∷ true
-    ∷ false ∷ false ∷ true ∷ true ∷ true ∷ []
-device_is_not_ready = refl
-
-device_has_fault : map has_fault (0 ∷ 15 ∷ 64 ∷ 79 ∷ 143 ∷ 207 ∷ []) ≡ false ∷ false ∷ true ∷ true
-    ∷ false ∷ true ∷ []
-device_has_fault = refl
 
 -- ---- calls by the status
 
@@ -47,7 +36,7 @@ requests_with_a_feature : at_statuses (15 ∷ 79 ∷ 143 ∷ [])
     ∷ replicate 2 (Some NotReady)
 requests_with_a_feature = refl
 
--- the device's calls: not ready, then in need of a reset, then the rest. The feature comes behind
+-- the device's calls: not ready, then in need of a reset, then the rest. The feature comes after
 -- the status, and before the limit, which is 1 chain of queue 2, and 16 of queue 4. Without
 -- MUST_TELL_HOST no page is swept, ballooned or not
 devices_calls : map (at_statuses (11 ∷ 15 ∷ 79 ∷ 143 ∷ 207 ∷ []))
@@ -68,8 +57,8 @@ no_third_queue = refl
 
 -- ---- the driver's calls on a ready device
 
--- with MUST_TELL_HOST, which is bit 0, pending deflates are no matter; without it they come behind
--- a full queue and before a count of 0, and just that bit counts
+-- with MUST_TELL_HOST, which is bit 0, pending deflates don't matter; without it they come after a
+-- full queue and before a count of 0, and just that bit counts
 inflates_in_order : map first_refusal (inflate_causes (at 15 1) 16 (new_request 15 16 0)
     ∷ inflate_causes (at 15 1) 16 (new_request 15 16 1)
     ∷ inflate_causes (at 15 0) 1 (new_request 16 16 0)

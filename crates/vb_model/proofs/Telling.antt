@@ -2,21 +2,30 @@
 use Rattle.std.proofs.Common.{List, [], ap, arith, get_or, length, refl, suc, sym, true, ℕ, ◌++◌}
 use Rattle.std.{proofs.Common.{◌+◌, ◌<◌, ◌∙◌, ◌∷◌, ◌≡◌}, specs.Prelude.{MatchOption, Option}}
 use Rattle.std.specs.Prelude.{count_by, ◌↔◌}
-use Rattle.vb_model.proofs.{Counts.{inside, inside-all}, Distinct.distinct_once}
+use Rattle.vb_virtio.proofs.Distinct.{distinct_once}
+use Rattle.vb_virtio.proofs.Tables.{count_by-cons}
+use Rattle.vb_virtio.specs.FirstRefusal.{first_refusal}
+use Rattle.vb_virtio.specs.Queues.{Deflating, Inflating, Kind, Reporting_free, Request}
+use Rattle.vb_virtio.specs.Tests.{one_if}
+use Rattle.vb_virtio.specs.declared.refusals.Refusal.{Refusal}
+use Rattle.vb_model.proofs.Counts.{inside, inside-all}
 use Rattle.vb_model.proofs.{GuestSteps.{below_end, kept_by_reap}, OrderlySteps.kept_reap}
 use Rattle.vb_model.proofs.{PageSteps.{naming-cons, taking_named}, Performed.HonestCase}
 use Rattle.vb_model.proofs.Performed.{Performed, honest_case, honest_step, performed, performs}
-use Rattle.vb_model.{proofs.Tables.count_by-cons, specs.{Consistent.IsConsistent, Driver.Reaps}}
-use Rattle.vb_model.specs.{Driver.reaped, FirstRefusal.first_refusal, Guest.{Guest, requests}}
+use Rattle.vb_model.specs.Consistent.{IsConsistent}
+use Rattle.vb_model.specs.Driver.{Reaps}
+use Rattle.vb_model.specs.Driver.{reaped}
+use Rattle.vb_model.specs.Guest.{Guest, requests}
 use Rattle.vb_model.specs.{Guest.tells_host, Orderly.{AllRequestsSound, IsOrderly}, Pages.is_lent}
-use Rattle.vb_model.specs.{Pages.{is_taking, place_of}, Refusals.refusal_of, Requests.Deflating}
-use Rattle.vb_model.specs.Requests.{Inflating, Kind, Reporting_free, Request, all_requests}
+use Rattle.vb_model.specs.Pages.{is_taking, place_of}
+use Rattle.vb_model.specs.Refusals.{refusal_of}
+use Rattle.vb_model.specs.Requests.{all_requests}
 use Rattle.vb_model.specs.{Requests.{given_away, names, naming, pages_named}, Step.HonestStep}
 use Rattle.vb_model.specs.Telling.{ToldPerforms, ToldReaps, ToldStep, is_lent_or_taking}
-use Rattle.vb_model.specs.{Telling.{told_causes, told_reaped}, Tests.one_if}
+use Rattle.vb_model.specs.Telling.{told_causes, told_reaped}
 use Rattle.vb_model.specs.declared.calls.{Call.{Call, TheVariants.{Inflate, Sweep}}, Claim.Claim}
 use Rattle.vb_model.specs.declared.places.Place.{Place, TheVariants.Reserved}
-use Rattle.vb_model.specs.declared.replies.{Refusal.Refusal, Reply.Reply}
+use Rattle.vb_model.specs.declared.replies.Reply.{Reply}
 
 -- ---- as many pages are taking as deflate requests name
 

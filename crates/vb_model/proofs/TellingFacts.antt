@@ -1,20 +1,24 @@
--- Worked facts of the rules of a guest that tells the host: what it is refused for, that pages which
--- it asks back are taking, and what a reap leaves.
+-- Worked facts of the rules of a guest that tells the host: what it is refused for, that pages
+-- which it requests back are taking, and what a reap leaves.
 use Rattle.std.proofs.Common.{List, [], ap, arith, false, map, refl, replicate, true, ℕ, ◌++◌, ◌∷◌}
 use Rattle.std.{proofs.Common.{◌≡◌}, specs.Prelude.{None, Option, Some}}
-use Rattle.vb_model.proofs.{Samples.{config, differ, ready, request}, PostingFacts.{head_of, count_of}}
+use Rattle.vb_virtio.proofs.Differ.{differ}
+use Rattle.vb_virtio.specs.FirstRefusal.{first_refusal}
+use Rattle.vb_virtio.specs.Queues.{Deflating, Inflating, Reporting_free, Request}
+use Rattle.vb_virtio.specs.declared.refusals.Refusal.{Refusal}
+use Rattle.vb_virtio.specs.declared.refusals.Refusal.TheVariants.{NeedsReset, NotBallooned}
+use Rattle.vb_virtio.specs.declared.refusals.Refusal.TheVariants.{NotReady, Nothing, QueueFull}
+use Rattle.vb_model.proofs.Samples.{config, ready, request}
+use Rattle.vb_model.proofs.PostingFacts.{head_of, count_of}
 use Rattle.vb_model.proofs.UntoldFacts.{asked, both, no_head_out, three_lent}
-use Rattle.vb_model.specs.{FirstRefusal.{first_refusal}, Guest.{Guest}}
-use Rattle.vb_model.specs.Requests.{Deflating, Inflating, Reporting_free, Request, Requests}
+use Rattle.vb_model.specs.Guest.{Guest}
+use Rattle.vb_model.specs.Requests.{Requests}
 use Rattle.vb_model.specs.Telling.{ToldStep, is_lent_or_taking, told_causes, told_place}
 use Rattle.vb_model.specs.declared.calls.Call.{Call, TheVariants.{Deflate, Inflate, Oom, Reap}}
 use Rattle.vb_model.specs.declared.calls.Call.TheVariants.{SetTarget, Sweep}
 use Rattle.vb_model.specs.declared.calls.Claim.{Claim, TheVariants.{Gave}}
 use Rattle.vb_model.specs.declared.places.Place.{Place, TheVariants.{Free, Giving, Lent, Reporting}}
 use Rattle.vb_model.specs.declared.places.Place.TheVariants.{Reserved, Stranded, Taking, Used}
-use Rattle.vb_model.specs.declared.replies.Refusal.{Refusal}
-use Rattle.vb_model.specs.declared.replies.Refusal.TheVariants.{NeedsReset, NotBallooned, NotReady}
-use Rattle.vb_model.specs.declared.replies.Refusal.TheVariants.{Nothing, QueueFull}
 use Rattle.vb_model.specs.declared.replies.Reply.{Reply, TheVariants.{Done, NotUsed, Posted, Reaped}}
 use Rattle.vb_model.specs.declared.replies.Reply.TheVariants.{Refused}
 
@@ -50,7 +54,7 @@ refused_so : (claims : List Claim) (reply : Reply) (new : Guest)
     → (claims ≡ []) × (reply ≡ Refused QueueFull) × (new ≡ narrow)
 refused_so claims reply new s = s
 
--- ---- pages that are asked back are taking
+-- ---- pages that are requested back are taking
 
 abbrev for_want : Guest → Guest
 for_want g = record g { target = 40 }
@@ -137,7 +141,7 @@ places_that_count : map is_lent_or_taking (Lent ∷ Taking ∷ Free ∷ Used ∷
     ∷ Reporting ∷ Reserved ∷ []) ≡ true ∷ true ∷ replicate 6 false
 places_that_count = refl
 
--- ---- all else is as ever
+-- ---- all else is unchanged
 
 target_set : (reply : Reply) (new : Guest) → ToldStep ready (SetTarget 5) [] reply new
     → (reply ≡ Done) × (new ≡ record ready { target = 5 })

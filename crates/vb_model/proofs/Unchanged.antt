@@ -2,6 +2,7 @@
 -- rogue, but for a scribble.
 use Rattle.std.proofs.Common.{List, ap, arith, inl, inr, refl, true, ℕ, ◌∙◌, ◌≡◌, ◌≢◌, ◌⊎◌}
 use Rattle.std.specs.Prelude.{Option}
+use Rattle.vb_model.specs.declared.calls.Call.TheVariants.{Serve}
 use Rattle.vb_model.proofs.{Cases.by_kind, Outcomes.{Begun, Cleared, Emptied, Outcome, Put}}
 use Rattle.vb_model.{proofs.Outcomes.{Retargeted, Shuffled, Turned, outcome}, specs.Guest.Guest}
 use Rattle.vb_model.specs.{Rogue.{GuestStep, IsRogueAfter, target_after}, Step.HonestStep}
@@ -68,6 +69,14 @@ honest_keep : (call : Call) (g : Guest) (claims : List Claim) (reply : Reply) (n
 honest_keep (SetTarget n) g claims reply new s = aims n g claims reply new s
 honest_keep call g claims reply new s =
     keeps _ g claims reply new (λ n e. cc) (outcome g _ claims reply new s)
+
+pub serve_stays_honest : (q : ℕ) (g : Guest) (claims : List Claim) (reply : Reply) (new : Guest)
+    → HonestStep g (Serve q) claims reply new → new.rogue ≡ g.rogue
+serve_stays_honest q g claims reply new s =
+    elim (honest_keep (Serve q) g claims reply new s).rogue [
+      | inl e ↦ e
+      | inr k ↦ absurd (let bad = k.0.3 in cc)
+    ]
 
 -- why a guest may be rogue after a call
 abbrev pub MayBeRogue : Guest → Call → Type 0

@@ -1,14 +1,20 @@
 -- Worked facts of guests that haven't agreed to tell the host, beside those of guests that have.
 use Rattle.std.proofs.Common.{List, [], ap, arith, false, map, refl, replicate, sym, true, ℕ, ◌++◌}
-use Rattle.{std.proofs.Common.{◌∙◌, ◌∷◌, ◌≡◌}, vb_model.specs.Life.{after_reset, feature_refusal}}
+use Rattle.vb_virtio.specs.Status.{feature_refusal, status_refusal}
+use Rattle.vb_virtio.specs.Queues.{Deflating, Request}
+use Rattle.vb_virtio.specs.Memory.{zero_page}
+use Rattle.vb_virtio.specs.declared.refusals.Refusal.TheVariants.{NoPages, VersionMissing}
+use Rattle.std.proofs.Common.{◌∙◌, ◌∷◌, ◌≡◌}
+use Rattle.vb_model.specs.Life.{after_reset}
 use Rattle.{std.specs.List.range_with_len, vb_model.specs.{Driver.contents_of, Refusals.refusal_of}}
 use Rattle.{std.specs.Prelude.{Bool, None, Some, drop}, vb_model.specs.GuestRun.{Called, Leads}}
 use Rattle.vb_model.proofs.{PostingFacts.{just_posted}, WorkFacts.{just_finished}}
-use Rattle.vb_model.specs.Requests.{BufferPosted, Deflating, IsLeastHead, Request, Requests}
+use Rattle.vb_model.specs.Requests.{BufferPosted, IsLeastHead, Requests}
 use Rattle.vb_model.proofs.Samples.{PerformsJustSo, StepsJustSo, down, mixed_places, ready, request}
 use Rattle.vb_model.proofs.Samples.{untold}
-use Rattle.vb_model.specs.Guest.{Guest, frame_of, is_ballooned, is_ready, tells_host, zero_page}
-use Rattle.vb_model.specs.{Pages.{block_at, place_of}, Requests.no_requests, Status.status_refusal}
+use Rattle.vb_model.specs.Guest.{Guest, frame_of, is_ballooned, is_ready, tells_host}
+use Rattle.vb_model.specs.Pages.{block_at, place_of}
+use Rattle.vb_model.specs.Requests.{no_requests}
 use Rattle.vb_model.specs.Requests.{given_away}
 use Rattle.vb_model.specs.{Step.{HonestStep}, declared.calls.Claim.TheVariants.Gave}
 use Rattle.vb_model.specs.declared.calls.Call.{Call, TheVariants.{Oom, Reap, Reset, Take, Write}}
@@ -16,7 +22,6 @@ use Rattle.vb_model.specs.declared.{calls.Actor.TheVariants.{Processor, Worker},
 use Rattle.vb_model.specs.declared.calls.Call.TheVariants.{Alloc, Deflate, Finish, Inflate, Init}
 use Rattle.vb_model.specs.declared.places.Place.TheVariants.{Free as FreePlace, Giving, Lent, Used}
 use Rattle.vb_model.specs.declared.places.Place.TheVariants.{Reporting, Reserved, Stranded, Taking}
-use Rattle.vb_model.specs.declared.replies.Refusal.TheVariants.{NoPages, VersionMissing}
 use Rattle.vb_model.specs.declared.replies.Reply.TheVariants.{Done, Finished, Page, Posted, Ready}
 use Rattle.vb_model.specs.declared.replies.Reply.TheVariants.{Reaped, Refused, Taken}
 
@@ -57,7 +62,7 @@ told_by_bit_0 : map (λ features. tells_host (record ready { features = features
     ∷ false ∷ true ∷ []
 told_by_bit_0 = refl
 
--- ---- pages are asked back: pages 16 to 18 are lent, and 16 and 17 are above the target
+-- ---- pages are requested back: pages 16 to 18 are lent, and 16 and 17 are above the target
 
 abbrev pub places : Place → Place → Place → List Place
 places of_16 of_17 of_18 = replicate 16 Reserved ++ (of_16 ∷ of_17 ∷ of_18 ∷ replicate 45 FreePlace)
@@ -105,7 +110,7 @@ taking_where_it_tells = (
       new s.1,
 )
 
--- for want of memory alike, whatever the target is
+-- of an oom alike, whatever the target is
 free_at_once_when_short : StepsJustSo (record (three_lent untold) { target = 40 }) (Oom 2) []
     (Posted 0 2) (record (asked FreePlace untold) { target = 40 })
 free_at_once_when_short = (
@@ -234,7 +239,7 @@ taking_still : (new : Guest) → HonestStep (record (asked Taking ready) { defla
     (Reap 1) [] (Reaped 0 2) new → place_of new.places 16 ≡ Taking → ⊥
 taking_still new s e = cc
 
--- a reaped inflate's pages are lent as ever, and a reaped report's are free
+-- a reaped inflate's pages are lent as in other guests, and a reaped report's are free
 lent_once_reaped : StepsJustSo (record untold {
   places = places Giving Giving Used;
   ballooned = flags true false;
@@ -274,7 +279,7 @@ not_finished_so : (new : Guest) → FinishedSo new → (frame_of new.frames 16 �
     × (contents_of new 16 ≡ [] → ⊥) × (is_ballooned new.ballooned 16 ≡ true → ⊥)
 not_finished_so new s = grind arith
 
--- all the way: asked back, handed out, taken, used, reaped
+-- all the way: requested back, handed out, taken, used, reaped
 all_the_way : Leads (three_lent untold) (Some (Called (Processor 0 0) (Deflate 2) [] (Posted 0 2))
     ∷ Some (Called (Processor 0 0) (Alloc 0 0) [] (Page 16))
     ∷ Some (Called (Worker 0) (Take 1) [] (Taken 0))

@@ -3,15 +3,18 @@
 use Rattle.std.proofs.Common.{List, [], false, map, refl, replicate, true, ◌++◌, ◌∷◌, ◌≡◌}
 use Rattle.{std.specs.Prelude.{Bool, None, Some}, vb_model.proofs.UntoldFacts.{each_stage, framed}}
 use Rattle.vb_model.proofs.Samples.{StepsJustSo, at, config, new_request, ready, request, untold}
-use Rattle.vb_model.specs.{FirstRefusal.{Cause, ◌⇒◌}, Requests.{Request, Requests, no_requests}}
+use Rattle.vb_virtio.specs.FirstRefusal.{Cause, ◌⇒◌}
+use Rattle.vb_virtio.specs.Queues.{Request}
+use Rattle.vb_virtio.specs.declared.refusals.Refusal.TheVariants.{QueueFull, DeflatePending}
+use Rattle.vb_virtio.specs.declared.refusals.Refusal.TheVariants.{NeedsReset, Nothing, NoFeature}
+use Rattle.vb_virtio.specs.declared.refusals.Refusal.TheVariants.{NotBallooned, NotReady}
+use Rattle.vb_model.specs.Requests.{Requests, no_requests}
 use Rattle.vb_model.specs.{Guest.Guest, declared.calls.Call.TheVariants.{Report, Sweep, Take, Work}}
-use Rattle.vb_model.specs.{Refusals.refusal_of, declared.replies.Refusal.TheVariants.QueueFull}
+use Rattle.vb_model.specs.Refusals.{refusal_of}
 use Rattle.vb_model.specs.{Step.HonestStep, Tables.{sweep_causes, inflate_causes, request_causes}}
 use Rattle.vb_model.specs.declared.calls.Call.TheVariants.{Alloc, Deflate, Inflate, Oom, Reap}
 use Rattle.vb_model.specs.declared.places.Place.TheVariants.{Free as FreePlace, Giving, Lent}
 use Rattle.vb_model.specs.declared.places.Place.TheVariants.{Reserved, Stranded, Taking}
-use Rattle.vb_model.specs.declared.replies.Refusal.TheVariants.{DeflatePending, NeedsReset, Nothing}
-use Rattle.vb_model.specs.declared.replies.Refusal.TheVariants.{NoFeature, NotBallooned, NotReady}
 use Rattle.vb_model.specs.declared.replies.Reply.TheVariants.{Posted, Refused, Swept}
 use Rattle.vb_model.proofs.UntoldFacts.{places, three_lent, both, posted, asked, no_head_out}
 
@@ -52,7 +55,7 @@ status_before_that : map
     (Inflate 1)) (0 ∷ 11 ∷ 79 ∷ 131 ∷ 143 ∷ []) ≡ replicate 5 (Some NotReady)
 status_before_that = refl
 
--- requests of other kinds are no matter
+-- requests of other kinds don't matter
 other_kinds : refusal_of (record (pending untold no_requests)
     { inflate = posted (request 0 (20 ∷ []) 0); report = posted (request 0 (21 ∷ []) 0) })
     (Inflate 1) ≡ None

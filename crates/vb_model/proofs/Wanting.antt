@@ -1,20 +1,34 @@
--- Which calls claim frames, and what a refusal for want of frames or of memory means.
+-- Which calls claim frames, and what a refusal for lack of frames or memory means.
 use Rattle.std.proofs.Common.{Bool, List, [], ap, arith, cond, false, inl, inr, length, refl, sym}
 use Rattle.std.proofs.{Common.{true, ℕ, ◌<◌, ◌∙◌, ◌∷◌, ◌≡◌, ◌⊎◌}, lemmas.Bool.{eq-eqb, not-true}}
 use Rattle.std.{proofs.lemmas.Bool.{or_left, or_right}, specs.{List.list_all, Prelude.None}}
 use Rattle.std.specs.Prelude.{Option, Some, is_none, not, ◌&&◌, ◌==◌, ◌||◌}
+use Rattle.std.specs.Prelude.{MatchOption}
+use Rattle.vb_model.{proofs.Deeds.served_reply, specs.Device.{ServesBuffer, ServesRequests}}
+use Rattle.vb_virtio.specs.Queues.{Kind, kind_of_queue}
+use Rattle.vb_virtio.proofs.Tables.{list_all-at}
+use Rattle.vb_virtio.specs.Layout.{start_pages}
+use Rattle.vb_virtio.specs.FirstRefusal.{Cause, first_refusal}
+use Rattle.vb_virtio.specs.Tests.{is_in}
+use Rattle.vb_virtio.specs.declared.refusals.Refusal.{Refusal}
+use Rattle.vb_virtio.specs.declared.refusals.Refusal.TheVariants.{NoFrame, NoMemory}
+use Rattle.vb_model.specs.Guest.{requests}
+use Rattle.vb_model.specs.declared.calls.Call.TheVariants.{Serve}
 use Rattle.vb_model.proofs.{Cases.{all_filtered, by_kind, match_cases}, Performed.Performed}
-use Rattle.vb_model.{proofs.{Performed.honest_case, Tables.list_all-at}, specs.Driver.AreClaimsFor}
+use Rattle.vb_model.proofs.Performed.{honest_case}
+use Rattle.vb_model.specs.Driver.{AreClaimsFor}
 use Rattle.vb_model.specs.{Driver.{claim_refusal, pages_needed}, Guest.{Guest, frame_of}}
-use Rattle.vb_model.specs.{HostFrames.Gives, Layout.start_pages, Life.lacking, Refusals.Cause}
-use Rattle.vb_model.specs.{Refusals.{causes, first_refusal, refusal_of}, Rogue.GuestStep}
+use Rattle.vb_model.specs.HostFrames.{Gives}
+use Rattle.vb_model.specs.Life.{lacking}
+use Rattle.vb_model.specs.Refusals.{causes, refusal_of}
+use Rattle.vb_model.specs.Rogue.{GuestStep}
 use Rattle.vb_model.specs.Rogue.{after_refused, is_read, pages_to_back, unless_refused}
 use Rattle.vb_model.specs.{Step.HonestStep, StepLaws.{ClaimsAreNeeded, NeededPagesAreBare}}
 use Rattle.vb_model.specs.StepLaws.{NoFrameIsExact, NoMemoryIsExact, RefusedClaimsAreAnswered}
-use Rattle.vb_model.specs.{Tests.is_in, declared.calls.Call.{Call, TheVariants.{Init, Read}}}
+use Rattle.vb_model.specs.declared.calls.Call.{Call}
+use Rattle.vb_model.specs.declared.calls.Call.TheVariants.{Init, Read}
 use Rattle.vb_model.specs.declared.calls.{Call.TheVariants.{Scribble, Write}, Claim.Claim}
 use Rattle.vb_model.specs.declared.calls.Claim.TheVariants.{Gave, GaveNoFrame, GaveNoMemory}
-use Rattle.vb_model.specs.declared.replies.Refusal.{Refusal, TheVariants.{NoFrame, NoMemory}}
 use Rattle.vb_model.specs.declared.replies.Reply.{Reply, TheVariants.Refused}
 
 -- ---- claims
@@ -103,7 +117,7 @@ want frames Out (page ∷ pages) (Gave f ∷ claims) gives a r =
     later x got (inl (inr e)) = inr (or_left (f == x) (is_in x got) (eq-eqb f x (sym e)))
     later x got (inr k) = inr (or_right (f == x) (is_in x got) k)
 
--- a reply that is a refusal for want of a frame, or of memory
+-- a reply that is a refusal for lack of a frame, or of memory
 abbrev pub is_want : Refusal → Bool
 is_want NoFrame = true
 is_want NoMemory = true
@@ -144,9 +158,19 @@ pub no_want : {A : Type 0} (reply : Reply) (why : Refusal) → wants reply ≡ f
     → is_want why ≡ true → reply ≡ Refused why → A
 no_want reply why f w e = absurd (let t : wants reply ≡ true = ap wants e ∙ w in cc)
 
+-- a reply to a serve is that n chains were served
+serves_wants : (o : Option Kind) (g : Guest) (reply : Reply) (new : Guest)
+    → MatchOption o (ServesBuffer g.buffer g reply new)
+    (λ kind. ServesRequests kind (requests kind g).posted 0 g reply new) → wants reply ≡ false
+serves_wants None g reply new s = ap wants s.2
+serves_wants (Some kind) g reply new s =
+    ap wants (served_reply kind (requests kind g).posted 0 g reply new s).1
+
 performs_lack : (call : Call) (g : Guest) (claims : List Claim) (reply : Reply) (new : Guest)
     (why : Refusal) → Performed call g claims reply new → is_want why ≡ true
     → reply ≡ Refused why → Fails why call g claims new
+performs_lack (Serve q) g claims reply new why s w e =
+    no_want reply why (serves_wants (kind_of_queue q) g reply new s.1) w e
 performs_lack call g claims reply new why s w e = search arith
 
 -- an honest guest's reply that is such a refusal

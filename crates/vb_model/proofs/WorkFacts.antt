@@ -5,16 +5,20 @@ use Rattle.std.proofs.Common.{◌∙◌, ◌∷◌, ◌≡◌}
 use Rattle.std.specs.Prelude.{slice_get}
 use Rattle.vb_model.specs.Device.{Finishes, settled, used}
 use Rattle.vb_model.specs.Guest.{requests}
-use Rattle.vb_model.specs.Requests.{Deflating, Inflating, Kind, Reporting_free}
+use Rattle.vb_virtio.specs.Queues.{Deflating, Inflating, Kind, Reporting_free, Request}
+use Rattle.vb_virtio.specs.Memory.{zero_page}
+use Rattle.vb_virtio.specs.FirstRefusal.{first_refusal}
+use Rattle.vb_virtio.specs.declared.refusals.Refusal.{Refusal}
+use Rattle.vb_virtio.specs.declared.refusals.Refusal.TheVariants.{Busy, NoQueue, NotBallooned}
+use Rattle.vb_virtio.specs.declared.refusals.Refusal.TheVariants.{NotReady, NotTaken, NotWorked}
 use Rattle.vb_model.specs.declared.replies.Reply.{Reply}
 use Rattle.vb_model.proofs.Samples.{PerformsJustSo, StepsJustSo, config, down, ready, request}
 use Rattle.vb_model.proofs.Samples.{without_reporting}
-use Rattle.vb_model.specs.{Guest.{Guest, zero_page}, Refusals.{causes, first_refusal, refusal_of}}
-use Rattle.vb_model.specs.{Requests.{Request, Requests}}
+use Rattle.vb_model.specs.Guest.{Guest}
+use Rattle.vb_model.specs.Refusals.{causes, refusal_of}
+use Rattle.vb_model.specs.Requests.{Requests}
 use Rattle.vb_model.specs.declared.calls.Call.{Call, TheVariants.{Finish, Sweep, Take, Work}}
-use Rattle.vb_model.specs.declared.replies.Refusal.{Refusal, TheVariants.{Busy, NoQueue}}
-use Rattle.vb_model.specs.declared.replies.Refusal.TheVariants.{NotBallooned, NotReady, NotTaken}
-use Rattle.vb_model.specs.declared.replies.{Refusal.TheVariants.NotWorked, Reply.TheVariants.Empty}
+use Rattle.vb_model.specs.declared.replies.Reply.TheVariants.{Empty}
 use Rattle.vb_model.specs.declared.replies.Reply.TheVariants.{Finished, Idle, Swept, Taken, Worked}
 
 -- ---- a guest with taken requests of all kinds
@@ -56,7 +60,7 @@ frames eight = map Some (range_with_len 0 13) ++ (replicate 3 None ++ (eight ++ 
 abbrev all_eight : List (Option ℕ)
 all_eight = Some 17 ∷ None ∷ None ∷ Some 13 ∷ Some 14 ∷ None ∷ Some 15 ∷ Some 16 ∷ []
 
--- what pages 16 to 23 hold; a short list stands for the bytes of a page that was written
+-- what pages 16 to 23 hold; a short list represents the bytes of a page that was written
 abbrev contents : List (List ℕ) → List (List ℕ)
 contents eight = replicate 16 zero_page ++ (eight ++ replicate 40 zero_page)
 

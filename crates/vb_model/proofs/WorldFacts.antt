@@ -10,9 +10,10 @@ use Rattle.vb_model.specs.{World.made, declared.calls.{Call.TheVariants.SetTarge
 use Rattle.vb_model.specs.declared.calls.Claim.{Claim, TheVariants.{Gave, GaveNoFrame, GaveNoMemory}}
 use Rattle.vb_model.specs.declared.calls.Event.TheVariants.{Frames as CountFrames, Guest as OnGuest}
 use Rattle.vb_model.specs.declared.calls.Event.TheVariants.{Query as OnQuery, Restart, Unplug}
-use Rattle.vb_model.specs.declared.{calls.Query.TheVariants.Places, replies.Refusal.Refusal}
-use Rattle.vb_model.specs.declared.replies.Refusal.TheVariants.{BadConfig, NoDevice, NoGuest}
-use Rattle.vb_model.specs.declared.replies.Refusal.TheVariants.{NoMemory, TooMany}
+use Rattle.vb_virtio.specs.declared.refusals.Refusal.{Refusal}
+use Rattle.vb_virtio.specs.declared.refusals.Refusal.TheVariants.{BadConfig, NoDevice, NoGuest}
+use Rattle.vb_virtio.specs.declared.refusals.Refusal.TheVariants.{NoMemory, TooMany}
+use Rattle.vb_model.specs.declared.calls.Query.TheVariants.{Places}
 use Rattle.vb_model.specs.declared.replies.Reply.{Reply, TheVariants.{Done, Frames, Plugged, Refused}}
 
 abbrev world : List (Option Guest) → World
@@ -70,7 +71,7 @@ any_free_number = inr (3, refl, tt, refl, refl)
 no_number_twice : (v : World) → WorldStep (world (Some ready ∷ [])) (plug 128 2 4) (Plugged 0) v → ⊥
 no_number_twice v h1 = grind arith
 
--- want of memory leaves the spare, and the number given up
+-- an allocation failure leaves the spare, and the number given up
 no_memory_for_a_plug : WorldStep gap (plug 128 2 4) (Refused NoMemory) gap
 no_memory_for_a_plug = inl (refl, refl)
 
@@ -209,7 +210,7 @@ none_given_twice g = g.3.1 (inr refl)
 some_frame_is_left : Gives 5 Out (GaveNoFrame ∷ []) → ⊥
 some_frame_is_left g = two_is_not_out (g.0 2 (omega arith))
 
--- want of memory may come while a frame is left, and only then; nothing is claimed after it
+-- an allocation failure may come while a frame is left, and only then; nothing is claimed after it
 no_memory : Gives 5 Out (GaveNoMemory ∷ [])
 no_memory = (2, omega arith, two_is_not_out, refl)
 

@@ -1,7 +1,8 @@
 -- A page has its 4096 bytes, and reads as zeros without a frame.
 use Rattle.std.specs.Prelude.{◌≡◌, ℕ, ◌<◌, List, [], Option, None, length, slice_index_or}
-use Rattle.vb_model.specs.declared.limits.TheConstants.{PAGE_SIZE}
-use Rattle.vb_model.specs.Guest.{Guest, zero_page, frame_of}
+use Rattle.vb_virtio.specs.declared.limits.TheConstants.{PAGE_SIZE}
+use Rattle.vb_virtio.specs.Memory.{zero_page}
+use Rattle.vb_model.specs.Guest.{Guest, frame_of}
 
 -- The tables of frames and contents have an entry for each page, each page has its bytes, and a
 -- page without a frame has zeros.

@@ -12,9 +12,10 @@ use Rattle.vb_model.specs.declared.calls.Claim.{Claim}
 use Rattle.vb_model.specs.declared.replies.Reply.{Reply}
 use Rattle.vb_model.specs.declared.replies.Reply.TheVariants.{Done, ReadBytes, Posted, Reaped}
 use Rattle.vb_model.specs.Pages.{place_of}
-use Rattle.vb_model.specs.Tests.{is_in}
-use Rattle.vb_model.specs.Requests.{Request, Kind, Inflating, Deflating, queue_of}
-use Rattle.vb_model.specs.Guest.{Guest, requests, frame_of, must_tell_host}
+use Rattle.vb_virtio.specs.Tests.{is_in}
+use Rattle.vb_virtio.specs.Queues.{Request, Kind, Inflating, Deflating, queue_of}
+use Rattle.vb_virtio.specs.Features.{must_tell_host}
+use Rattle.vb_model.specs.Guest.{Guest, requests, frame_of}
 use Rattle.vb_model.specs.Driver.{contents_of}
 use Rattle.vb_model.specs.GuestRun.{Entry, Called}
 
@@ -77,8 +78,8 @@ pub record DeflatePostedAt (c : Course) (page j : ℕ) : Type 0 where
   pub posted : after.deflate.posted ≡ before.deflate.posted ++ (request ∷ [])
   pub named : IsTrue (is_in page request.pages)
 
--- Between entries i and k the page was asked back: an inflate request that names it came back, and
--- later a deflate request that names it was posted; which came back, too, where the guest had
+-- Between entries i and k the page was requested back: an inflate request that names it came back,
+-- and later a deflate request that names it was posted; which came back, too, where the guest had
 -- agreed to tell the host when it was posted.
 pub record WasAskedBack (c : Course) (page i k : ℕ) : Type 0 where
   pub lent : ℕ

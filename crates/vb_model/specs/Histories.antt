@@ -3,19 +3,23 @@
 -- The headline needs all of it but the last part; `IsSafeHistory` for guests on threads alone.
 use Rattle.std.specs.Prelude.{◌≡◌, ◌≢◌, ℕ, ◌+◌, ◌<◌, ◌≤◌, List, None, Some, IsSome, length, IsTrue}
 use Rattle.std.specs.Prelude.{◌↔◌, ◌⊎◌, count_by, take, drop}
-use Rattle.vb_model.specs.declared.negotiation.TheConstants.{OFFERED_FEATURES, READY_STATUS}
+use Rattle.vb_virtio.specs.declared.negotiation.TheConstants.{OFFERED_FEATURES, READY_STATUS}
+use Rattle.vb_virtio.specs.declared.refusals.Refusal.TheVariants.{RingBroken, Broken}
+use Rattle.vb_virtio.specs.Tests.{is_in}
+use Rattle.vb_virtio.specs.Queues.{Request}
+use Rattle.vb_virtio.specs.Features.{version_1}
+use Rattle.vb_virtio.specs.Status.{contains}
+use Rattle.vb_virtio.specs.Memory.{overwritten}
 use Rattle.vb_model.specs.declared.places.Place.TheVariants.{Used, Giving, Lent, Reserved}
 use Rattle.vb_model.specs.declared.calls.Call.{Call}
 use Rattle.vb_model.specs.declared.calls.Call.TheVariants.{Read, Write}
-use Rattle.vb_model.specs.declared.replies.Refusal.TheVariants.{RingBroken, Broken}
 use Rattle.vb_model.specs.declared.replies.Reply.{Reply}
+use Rattle.vb_model.specs.declared.replies.Reply.TheVariants.{Served}
 use Rattle.vb_model.specs.declared.replies.Reply.TheVariants.{Done, ReadBytes, Refused}
-use Rattle.vb_model.specs.Tests.{is_in}
 use Rattle.vb_model.specs.Pages.{place_of, is_place}
-use Rattle.vb_model.specs.Requests.{Request, given_away}
-use Rattle.vb_model.specs.Guest.{Guest, Config, fresh, frame_of, is_ballooned, version_1}
-use Rattle.vb_model.specs.Status.{contains}
-use Rattle.vb_model.specs.Driver.{contents_of, overwritten}
+use Rattle.vb_model.specs.Requests.{given_away}
+use Rattle.vb_model.specs.Guest.{Guest, Config, fresh, frame_of, is_ballooned}
+use Rattle.vb_model.specs.Driver.{contents_of}
 use Rattle.vb_model.specs.GuestRun.{Entry, Leads, last_guest, all_entries}
 use Rattle.vb_model.specs.Courses.{Course, guest_after, IsCall, IsAt, BringsTo, WasAskedBack}
 
@@ -47,7 +51,7 @@ pub record IsSafeCourse (c : Course) : Type 0 where
   pub reads : (i page offset len : ℕ) (bytes : List ℕ) (g : Guest) → guest_after c i ≡ Some g
       → IsCall c i (Read page offset len) (ReadBytes bytes)
       → (length bytes ≡ len) × (bytes ≡ take len (drop offset (contents_of g page)))
-  -- a page that was offered is handed out again only after it was asked back
+  -- a page that was offered is handed out again only after it was requested back
   pub told_first : (page i k : ℕ) → i < k → BringsTo c page Giving i → BringsTo c page Used k
       → WasAskedBack c page i k
   -- what the device calls ballooned, the driver calls lent, but for requests on their way
@@ -60,6 +64,7 @@ pub record IsSafeCourse (c : Course) : Type 0 where
       → g.actual ≡ given_away g.places g.deflate
   pub not_broken : (i fault : ℕ) (call : Call) (reply : Reply) → IsCall c i call reply
       → (reply ≢ Refused (Broken fault)) × (reply ≢ Refused RingBroken)
+      × ((chains : ℕ) → reply ≢ Served chains (Some fault))
 
 -- The entries lead through states that are safe, from plug on or from a restart, with the target
 -- kept then.

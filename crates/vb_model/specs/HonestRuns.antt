@@ -3,11 +3,12 @@
 -- begins with, too).
 use Rattle.std.specs.Prelude.{◌≡◌, ◌≢◌, ℕ, ◌+◌, ◌<◌, ◌≤◌, Bool, true, false, ◌==◌, ◌&&◌}
 use Rattle.std.specs.Prelude.{List, Some, IsFalse, slice_get}
-use Rattle.vb_model.specs.declared.negotiation.TheConstants.{READY_STATUS}
+use Rattle.vb_virtio.specs.declared.negotiation.TheConstants.{READY_STATUS}
+use Rattle.vb_virtio.specs.Features.{stats_vq}
 use Rattle.vb_model.specs.declared.calls.Call.TheVariants.{Scribble}
 use Rattle.vb_model.specs.declared.calls.Event.TheVariants.{Guest as OnGuest}
 use Rattle.vb_model.specs.Requests.{Requests, no_requests, StatisticsBuffer, NoBuffer}
-use Rattle.vb_model.specs.Guest.{Guest, stats_vq}
+use Rattle.vb_model.specs.Guest.{Guest}
 use Rattle.vb_model.specs.Run.{History, Run, guest_in}
 use Rattle.vb_model.specs.Safe.{IsHonest}
 

@@ -10,16 +10,17 @@ use Rattle.vb_model.specs.declared.calls.GuestSize.{GuestSize}
 use Rattle.vb_model.specs.declared.calls.Event.TheVariants.{Plug, Unplug, Restart, Guest as OnGuest}
 use Rattle.vb_model.specs.declared.calls.Event.TheVariants.{Query as OnQuery, Balance}
 use Rattle.vb_model.specs.declared.calls.Event.TheVariants.{Frames as CountFrames}
-use Rattle.vb_model.specs.declared.replies.Refusal.TheVariants.{NoMemory}
+use Rattle.vb_virtio.specs.declared.refusals.Refusal.TheVariants.{NoMemory}
+use Rattle.vb_virtio.specs.FirstRefusal.{first_refusal}
+use Rattle.vb_virtio.specs.Targets.{Need}
 use Rattle.vb_model.specs.declared.replies.Reply.{Reply}
 use Rattle.vb_model.specs.declared.replies.Reply.TheVariants.{Plugged, Done, Targets}
 use Rattle.vb_model.specs.declared.replies.Reply.TheVariants.{Frames}
 use Rattle.vb_model.specs.declared.replies.Reply.TheVariants.{Refused}
 use Rattle.vb_model.specs.Guest.{Guest, Config, fresh}
-use Rattle.vb_model.specs.FirstRefusal.{first_refusal}
 use Rattle.vb_model.specs.declared.calls.Claim.{Claim}
 use Rattle.vb_model.specs.Rogue.{GuestStep}
-use Rattle.vb_model.specs.Balance.{Need, spare, IsAnswer}
+use Rattle.vb_model.specs.Balance.{spare, IsAnswer}
 use Rattle.vb_model.specs.HostFrames.{IsOut, Gives, used_frames}
 use Rattle.vb_model.specs.HostRefusals.{world_causes}
 use Rattle.vb_model.specs.Queries.{Answers}

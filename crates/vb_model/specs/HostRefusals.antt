@@ -6,11 +6,11 @@ use Rattle.std.specs.Prelude.{count_by}
 use Rattle.vb_model.specs.declared.calls.Event.{Event}
 use Rattle.vb_model.specs.declared.calls.Event.TheVariants.{Plug, Unplug, Restart, Guest as OnGuest}
 use Rattle.vb_model.specs.declared.calls.Event.TheVariants.{Query as OnQuery}
-use Rattle.vb_model.specs.declared.replies.Refusal.TheVariants.{NoGuest, BadConfig, TooMany}
-use Rattle.vb_model.specs.declared.replies.Refusal.TheVariants.{NoDevice}
-use Rattle.vb_model.specs.Limits.{is_config}
-use Rattle.vb_model.specs.declared.limits.TheConstants.{MAX_GUESTS}
-use Rattle.vb_model.specs.FirstRefusal.{Cause, ◌⇒◌}
+use Rattle.vb_virtio.specs.declared.refusals.Refusal.TheVariants.{NoGuest, BadConfig, TooMany}
+use Rattle.vb_virtio.specs.declared.refusals.Refusal.TheVariants.{NoDevice}
+use Rattle.vb_virtio.specs.Limits.{is_config}
+use Rattle.vb_virtio.specs.declared.limits.TheConstants.{MAX_GUESTS}
+use Rattle.vb_virtio.specs.FirstRefusal.{Cause, ◌⇒◌}
 use Rattle.vb_model.specs.World.{World, guest_at}
 
 abbrev pub plugged_count : World → ℕ

@@ -2,16 +2,18 @@
 -- they may, its status is one of three, and it is ready with features that it has agreed on.
 use Rattle.std.specs.Prelude.{◌≡◌, ℕ, ◌+◌, ◌<◌, ◌≤◌, List, [], ◌∷◌, length}
 use Rattle.std.specs.Prelude.{nat_lt, min, ⊤, ◌⊎◌, IsTrue}
-use Rattle.vb_model.specs.declared.negotiation.TheConstants.{FAILED_STATUS, OFFERED_FEATURES}
-use Rattle.vb_model.specs.declared.negotiation.TheConstants.{READY_STATUS}
+use Rattle.vb_virtio.specs.declared.negotiation.TheConstants.{FAILED_STATUS, OFFERED_FEATURES}
+use Rattle.vb_virtio.specs.declared.negotiation.TheConstants.{READY_STATUS}
+use Rattle.vb_virtio.specs.declared.limits.TheConstants.{MAX_OUTSTANDING, MAX_ORDER}
+use Rattle.vb_virtio.specs.Layout.{reserved_pages}
+use Rattle.vb_virtio.specs.Queues.{Request}
+use Rattle.vb_virtio.specs.Features.{version_1}
+use Rattle.vb_virtio.specs.Status.{contains}
+use Rattle.vb_virtio.specs.Tests.{times}
 use Rattle.vb_model.specs.declared.places.Place.{Place}
-use Rattle.vb_model.specs.declared.limits.TheConstants.{MAX_OUTSTANDING, MAX_ORDER}
-use Rattle.vb_model.specs.Layout.{reserved_pages}
-pub use Rattle.vb_model.specs.Tests.{times}
 use Rattle.vb_model.specs.Pages.{Block, size, is_aligned, place_of, is_reserved}
-use Rattle.vb_model.specs.Requests.{Request, Requests, all_requests, headed, outstanding}
-use Rattle.vb_model.specs.Guest.{Guest, version_1}
-use Rattle.vb_model.specs.Status.{contains}
+use Rattle.vb_model.specs.Requests.{Requests, all_requests, headed, outstanding}
+use Rattle.vb_model.specs.Guest.{Guest}
 
 -- its pages are distinct, and no more were visited than there are
 pub record IsRequestSound (r : Request) : Type 0 where
@@ -22,7 +24,7 @@ abbrev pub AllRequestsSound : List Request → Type 0
 AllRequestsSound [] = ⊤
 AllRequestsSound (r ∷ rs) = IsRequestSound r × AllRequestsSound rs
 
--- the requests of one kind have different heads, and there are at most so many
+-- the requests of one kind have different heads, and there are at most n
 pub record AreOrderly (most : ℕ) (rs : Requests) : Type 0 where
   pub heads : (head : ℕ) → headed head (all_requests rs) ≤ 1
   pub few : outstanding rs ≤ most
@@ -30,7 +32,7 @@ pub record AreOrderly (most : ℕ) (rs : Requests) : Type 0 where
   pub taken : AllRequestsSound rs.taken
   pub done : AllRequestsSound rs.done
 
--- a block of an order that there is, at a multiple of its size, within so many pages
+-- a block of an order that there is, at a multiple of its size, within n pages
 pub record IsBlock (pages : ℕ) (b : Block) : Type 0 where
   pub order : b.order ≤ MAX_ORDER
   pub aligned : IsTrue (is_aligned b)

@@ -10,14 +10,14 @@ use Rattle.vb_model.specs.declared.calls.Query.TheVariants.{Places as QueryPlace
 use Rattle.vb_model.specs.declared.calls.Query.TheVariants.{PagesBallooned, Balloon as QueryBalloon}
 use Rattle.vb_model.specs.declared.calls.Query.TheVariants.{Memory as QueryMemory}
 use Rattle.vb_model.specs.declared.calls.Query.TheVariants.{Backing as QueryBacking}
-use Rattle.vb_model.specs.declared.replies.Refusal.TheVariants.{NoMemory}
+use Rattle.vb_virtio.specs.declared.refusals.Refusal.TheVariants.{NoMemory}
+use Rattle.vb_virtio.specs.Tests.{pages_where}
 use Rattle.vb_model.specs.declared.replies.Reply.{Reply}
 use Rattle.vb_model.specs.declared.replies.Reply.TheVariants.{Places, Pages}
 use Rattle.vb_model.specs.declared.replies.Reply.TheVariants.{Balloon, Statistics, Backing}
 use Rattle.vb_model.specs.declared.replies.Reply.TheVariants.{Refused}
 use Rattle.vb_model.specs.declared.places.PageRun.{PageRun}
 use Rattle.vb_model.specs.declared.places.PlaceCounts.{PlaceCounts}
-use Rattle.vb_model.specs.Tests.{pages_where}
 pub use Rattle.vb_model.specs.Pages.{is_place}
 use Rattle.vb_model.specs.Guest.{Guest, frame_of, ballooned_count}
 

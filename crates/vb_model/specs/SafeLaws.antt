@@ -3,8 +3,9 @@ use Rattle.std.specs.Prelude.{◌≡◌, ◌≢◌, ℕ, ◌+◌, [], Some, slic
 use Rattle.vb_model.specs.declared.places.Place.TheVariants.{Used, Lent}
 use Rattle.vb_model.specs.declared.calls.Call.{Call}
 use Rattle.vb_model.specs.declared.calls.Event.TheVariants.{Guest as OnGuest}
-use Rattle.vb_model.specs.declared.replies.Refusal.TheVariants.{RingBroken, Broken}
+use Rattle.vb_virtio.specs.declared.refusals.Refusal.TheVariants.{RingBroken, Broken}
 use Rattle.vb_model.specs.declared.replies.Reply.{Reply}
+use Rattle.vb_model.specs.declared.replies.Reply.TheVariants.{Served}
 use Rattle.vb_model.specs.declared.replies.Reply.TheVariants.{Refused}
 use Rattle.vb_model.specs.Requests.{all_requests}
 use Rattle.vb_model.specs.Guest.{Guest, is_ballooned}
@@ -46,3 +47,4 @@ HonestMeetNoFault =
     (w : World) (n : ℕ) (call : Call) (reply : Reply) (v : World) (g : Guest) (fault : ℕ)
     → WorldStep w (OnGuest n call) reply v → guest_at w.guests n ≡ Some g → IsFalse g.rogue
     → (reply ≢ Refused (Broken fault)) × (reply ≢ Refused RingBroken)
+    × ((chains : ℕ) → reply ≢ Served chains (Some fault))

@@ -1,7 +1,12 @@
 -- What one event may change: targets, configurations, other guests, frames; and who claims frames.
 use Rattle.std.specs.Prelude.{◌≡◌, ◌≢◌, ℕ, ◌<◌, Bool, true, false, not, ◌||◌, List, [], Option}
 use Rattle.std.specs.Prelude.{Some, None, length, slice_get, IsTrue, ◌⊎◌}
-use Rattle.vb_model.specs.declared.negotiation.TheConstants.{FAILED_STATUS}
+use Rattle.vb_virtio.specs.declared.negotiation.TheConstants.{FAILED_STATUS}
+use Rattle.vb_virtio.specs.declared.refusals.Refusal.{Refusal}
+use Rattle.vb_virtio.specs.declared.refusals.Refusal.TheVariants.{NoFrame, NoMemory}
+use Rattle.vb_virtio.specs.Layout.{reserved_pages}
+use Rattle.vb_virtio.specs.Tests.{is_in}
+use Rattle.vb_virtio.specs.Status.{feature_refusal}
 use Rattle.vb_model.specs.declared.calls.Call.{Call}
 use Rattle.vb_model.specs.declared.calls.Call.TheVariants.{Init, Scribble, SetTarget}
 use Rattle.vb_model.specs.declared.calls.Claim.{Claim}
@@ -11,15 +16,11 @@ use Rattle.vb_model.specs.declared.calls.Event.TheVariants.{Guest as OnGuest, Qu
 use Rattle.vb_model.specs.declared.calls.Event.TheVariants.{Balance}
 use Rattle.vb_model.specs.declared.calls.Query.{Query}
 use Rattle.vb_model.specs.declared.calls.Query.TheVariants.{PagesAt, PagesBallooned}
-use Rattle.vb_model.specs.declared.replies.Refusal.{Refusal}
-use Rattle.vb_model.specs.declared.replies.Refusal.TheVariants.{NoFrame, NoMemory}
 use Rattle.vb_model.specs.declared.replies.Reply.{Reply}
 use Rattle.vb_model.specs.declared.replies.Reply.TheVariants.{Done, Refused}
-use Rattle.vb_model.specs.Layout.{reserved_pages}
-use Rattle.vb_model.specs.Tests.{is_in}
 use Rattle.vb_model.specs.Guest.{Guest, frame_of, all_backed, is_ballooned}
 use Rattle.vb_model.specs.Driver.{given, claim_refusal, AreClaimsFor}
-use Rattle.vb_model.specs.Life.{lacking, feature_refusal, accepted_before}
+use Rattle.vb_model.specs.Life.{lacking, accepted_before}
 use Rattle.vb_model.specs.Rogue.{pages_to_back, is_read}
 use Rattle.vb_model.specs.Step.{HonestStep}
 use Rattle.vb_model.specs.Rogue.{GuestStep}
@@ -147,10 +148,10 @@ WantIsAnswered =
     → WorldStep w (OnGuest n call) reply v → WantOfFrames w (pages_to_back call g)
     → (reply ≡ Refused NoFrame) ⊎ (reply ≡ Refused NoMemory)
 
--- ---- want of memory
+-- ---- an allocation failure
 
--- a call of a guest, honest or rogue, is refused for want of memory only where a claim of its was,
--- or for bytes that it is answered with; and nothing is changed
+-- a call of a guest, honest or rogue, is refused on an allocation failure only where a claim of its
+-- was, or for bytes that it is answered with; and nothing is changed
 abbrev pub NoMemoryIsExact : Type 0
 NoMemoryIsExact =
     (g : Guest) (call : Call) (claims : List Claim) (new : Guest)

@@ -1,28 +1,26 @@
 -- How many pages the driver's calls move, and what each call is refused for, in the order in which
--- it is tested (profile).
--- Both stand here once, over plain values; a guest, a driver and a device each put in their own.
--- The headline needs all of it but the last part.
+-- it is tested (profile). Both are here once, over plain values; a guest, a driver and a device
+-- each put in their own. The headline needs all of it but the last part.
 use Rattle.std.specs.Prelude.{◌++◌}
 use Rattle.std.specs.Prelude.{ℕ, ◌+◌, ◌-◌, Bool, false, not, ◌==◌, ◌&&◌, ◌||◌, nat_lt, nat_le, List}
 use Rattle.std.specs.Prelude.{[], ◌∷◌, if◌then◌else◌, Option, is_some, is_none}
 use Rattle.std.specs.Prelude.{min, max, count_by, unwrap_or, option_map}
 use Rattle.std.specs.List.{list_any, range_with_len}
-use Rattle.vb_model.specs.declared.layout.TheConstants.{DEFLATE_QUEUE, STATISTICS_QUEUE}
-use Rattle.vb_model.specs.declared.layout.TheConstants.{REPORT_QUEUE}
+use Rattle.vb_virtio.specs.declared.layout.TheConstants.{DEFLATE_QUEUE, STATISTICS_QUEUE}
+use Rattle.vb_virtio.specs.declared.refusals.Refusal.TheVariants.{BadOrder, BadCpu, NotReady}
+use Rattle.vb_virtio.specs.declared.refusals.Refusal.TheVariants.{QueueFull}
+use Rattle.vb_virtio.specs.declared.refusals.Refusal.TheVariants.{DeflatePending, Nothing}
+use Rattle.vb_virtio.specs.declared.refusals.Refusal.TheVariants.{NoFeature, NoQueue, Busy}
+use Rattle.vb_virtio.specs.declared.refusals.Refusal.TheVariants.{NotTaken, NotWorked, NotBallooned}
+use Rattle.vb_virtio.specs.declared.limits.TheConstants.{MAX_ORDER, MAX_OUTSTANDING}
+use Rattle.vb_virtio.specs.declared.limits.TheConstants.{MAX_REQUEST_PAGES}
+use Rattle.vb_virtio.specs.Queues.{Request, is_unvisited, kind_of_queue, lacks_feature}
+use Rattle.vb_virtio.specs.Features.{must_tell_host}
+use Rattle.vb_virtio.specs.FirstRefusal.{Cause, ◌⇒◌}
+use Rattle.vb_virtio.specs.Status.{work_causes, is_up}
 use Rattle.vb_model.specs.declared.places.Place.{Place}
 use Rattle.vb_model.specs.declared.places.Place.TheVariants.{Free, Giving, Lent, Stranded}
-use Rattle.vb_model.specs.declared.replies.Refusal.TheVariants.{BadOrder, BadCpu}
-use Rattle.vb_model.specs.declared.replies.Refusal.TheVariants.{NotReady, NeedsReset, QueueFull}
-use Rattle.vb_model.specs.declared.replies.Refusal.TheVariants.{DeflatePending}
-use Rattle.vb_model.specs.declared.replies.Refusal.TheVariants.{Nothing, NoFeature, NoQueue, Busy}
-use Rattle.vb_model.specs.declared.replies.Refusal.TheVariants.{NotTaken, NotWorked, NotBallooned}
-use Rattle.vb_model.specs.declared.limits.TheConstants.{MAX_ORDER}
-use Rattle.vb_model.specs.declared.limits.TheConstants.{MAX_OUTSTANDING, MAX_REQUEST_PAGES}
 use Rattle.vb_model.specs.Pages.{Block, block_at, is_place, is_wholly_free, is_same_block}
-use Rattle.vb_model.specs.Requests.{Request, is_unvisited, kind_of_queue}
-use Rattle.vb_model.specs.Guest.{must_tell_host, stats_vq, reporting}
-use Rattle.vb_model.specs.FirstRefusal.{Cause, ◌⇒◌}
-use Rattle.vb_model.specs.Status.{contains, driver_ok, needs_reset, failed}
 
 -- what a device and its driver have come to
 pub record Negotiated : Type 0 where
@@ -48,7 +46,7 @@ pages_to_inflate places target n =
     min (min n MAX_REQUEST_PAGES)
     (min (max stranded missing) (stranded + count_by (is_place Free) places))
 
--- a deflate asks back what is above the target
+-- a deflate requests back what is above the target
 abbrev pub pages_to_deflate : (places : List Place) (target n : ℕ) → ℕ
 pages_to_deflate places target n =
     let lent : ℕ = count_by (is_place Lent) places in
@@ -61,25 +59,6 @@ pages_when_short places n = min (min n MAX_REQUEST_PAGES) (count_by (is_place Le
 -- how many requests of queue 0 or 1, or blocks of a report, there may be at this queue size
 abbrev pub most_requests : ℕ → ℕ
 most_requests queue_size = min queue_size MAX_OUTSTANDING
-
--- ---- the status: VIRTIO 1.1, 2.1
-
--- the device is initialised, and neither it nor its driver has failed
-abbrev pub is_up : ℕ → Bool
-is_up status =
-    contains status driver_ok && not (contains status needs_reset || contains status failed)
-
--- the driver isn't done with the initialisation, or has given up
-abbrev pub is_not_ready : ℕ → Bool
-is_not_ready status = not (contains status driver_ok) || contains status failed
-
--- ---- queues
-
--- the queue stands or falls with a feature that wasn't negotiated
-abbrev pub lacks_feature : (features q : ℕ) → Bool
-lacks_feature features q =
-    (q == STATISTICS_QUEUE) && not (stats_vq features)
-    || (q == REPORT_QUEUE) && not (reporting features)
 
 -- ---- pages of the guest's own (Gorman, chapter 6)
 
@@ -129,19 +108,23 @@ reap_causes q now =
 
 -- ---- the device's calls
 
--- of each of them, and of work nothing else
-abbrev pub work_causes : ℕ → List Cause
-work_causes status =
-    (is_not_ready status ⇒ NotReady) ∷ (contains status needs_reset ⇒ NeedsReset) ∷ []
-
--- of a take, before guest memory is read, where so many chains of the queue are taken
-abbrev pub take_causes : (q : ℕ) → Negotiated → (taken : ℕ) → List Cause
-take_causes q now taken =
+-- of what takes chains of the queue, before guest memory is read, where it is busy or isn't
+abbrev pub chain_causes : (q : ℕ) → Negotiated → (busy : Bool) → List Cause
+chain_causes q now busy =
     (not (is_some (kind_of_queue q) || (q == STATISTICS_QUEUE)) ⇒ NoQueue)
     ∷ work_causes now.status
     ++ (lacks_feature now.features q ⇒ NoQueue)
-    ∷ (nat_le (if q == STATISTICS_QUEUE then 1 else MAX_OUTSTANDING) taken ⇒ Busy)
+    ∷ (busy ⇒ Busy)
     ∷ []
+
+-- of a take, where n chains of the queue are taken
+abbrev pub take_causes : (q : ℕ) → Negotiated → (taken : ℕ) → List Cause
+take_causes q now taken =
+    chain_causes q now (nat_le (if q == STATISTICS_QUEUE then 1 else MAX_OUTSTANDING) taken)
+
+-- of a serve, which none may be taken before
+abbrev pub serve_causes : (q : ℕ) → Negotiated → (taken : ℕ) → List Cause
+serve_causes q now taken = chain_causes q now (nat_lt 0 taken)
 
 -- of a finish of this taken request, if there is one
 abbrev pub finish_causes : (q : ℕ) → Negotiated → (paced : Bool) (taken : Option Request)
@@ -154,7 +137,7 @@ finish_causes q now paced taken =
     ⇒ NotWorked)
     ∷ []
 
--- of a sweep: without MUST_TELL_HOST a guest may use a ballooned page that it has asked back
+-- of a sweep: without MUST_TELL_HOST a guest may use a ballooned page that it has requested back
 abbrev pub sweep_causes : Negotiated → (ballooned : Bool) → List Cause
 sweep_causes now ballooned =
     work_causes now.status
@@ -168,20 +151,9 @@ ask_causes status taken = work_causes status ++ (not taken ⇒ NotTaken) ∷ []
 
 -- ---- for laws and proofs
 
-abbrev pub is_queue_of_requests : ℕ → Bool
-is_queue_of_requests q = is_some (kind_of_queue q)
-
--- a chain can be taken from a queue of this number
-abbrev pub has_chains : ℕ → Bool
-has_chains q = is_queue_of_requests q || (q == STATISTICS_QUEUE)
-
--- of a queue so many chains may be taken at a time
+-- of a queue n chains may be taken at a time
 abbrev pub most_taken : ℕ → ℕ
 most_taken q = if q == STATISTICS_QUEUE then 1 else MAX_OUTSTANDING
 
 abbrev pub has_unvisited : Option Request → Bool
 has_unvisited taken = unwrap_or (option_map is_unvisited taken) false
-
--- a broken rule was met
-abbrev pub has_fault : ℕ → Bool
-has_fault status = contains status needs_reset

@@ -7,16 +7,18 @@ use Rattle.vb_model.specs.declared.places.Place.TheVariants.{Free, Lent, Taking}
 use Rattle.vb_model.specs.declared.calls.Call.{Call}
 use Rattle.vb_model.specs.declared.calls.Call.TheVariants.{Inflate, Deflate, Oom, Reap, Sweep}
 use Rattle.vb_model.specs.declared.calls.Claim.{Claim}
-use Rattle.vb_model.specs.declared.replies.Refusal.TheVariants.{NotReady, NeedsReset, QueueFull}
-use Rattle.vb_model.specs.declared.replies.Refusal.TheVariants.{Nothing, NotBallooned}
+use Rattle.vb_virtio.specs.declared.refusals.Refusal.TheVariants.{NotReady, NeedsReset, QueueFull}
+use Rattle.vb_virtio.specs.declared.refusals.Refusal.TheVariants.{Nothing, NotBallooned}
+use Rattle.vb_virtio.specs.Queues.{Request, Kind, Inflating, Deflating, Reporting_free}
+use Rattle.vb_virtio.specs.Queues.{kind_of_queue}
+use Rattle.vb_virtio.specs.Status.{is_up, is_not_ready, has_fault}
+use Rattle.vb_virtio.specs.FirstRefusal.{Cause, ◌⇒◌, first_refusal}
 use Rattle.vb_model.specs.declared.replies.Reply.{Reply}
 use Rattle.vb_model.specs.declared.replies.Reply.TheVariants.{Posted, Reaped, NotUsed, Refused}
 use Rattle.vb_model.specs.Pages.{is_lent, is_taking, placed}
-use Rattle.vb_model.specs.Requests.{Request, posting, outstanding, IsLeastHead, Kind, Inflating}
-use Rattle.vb_model.specs.Requests.{Deflating, Reporting_free, kind_of_queue}
+use Rattle.vb_model.specs.Requests.{posting, outstanding, IsLeastHead}
 use Rattle.vb_model.specs.Guest.{Guest, requests, with_requests, is_ballooned, tells_host}
-use Rattle.vb_model.specs.Tables.{is_up, is_not_ready, has_fault}
-use Rattle.vb_model.specs.Refusals.{Cause, ◌⇒◌, first_refusal, causes, room}
+use Rattle.vb_model.specs.Refusals.{causes, room}
 use Rattle.vb_model.specs.Refusals.{inflate_count, deflate_count, oom_count}
 use Rattle.vb_model.specs.Driver.{lowest_lent}
 use Rattle.vb_model.specs.Step.{Performs, HonestStep}
@@ -37,7 +39,7 @@ told_causes g (Sweep page) =
     ∷ []
 told_causes g call = causes g call
 
--- pages that are asked back are taking
+-- pages that are requested back are taking
 abbrev pub CallsBack : ℕ → Guest → Reply → Guest → Type 0
 CallsBack count g reply new =
     (head : ℕ) × IsLeastHead g.deflate head × (reply ≡ Posted head count)

@@ -74,7 +74,7 @@ impl PageRuns {
     {
         &self.items
     }
-    /// The same list once more. Refused for want of memory alone.
+    /// A copy of the list. Refused on an allocation failure alone.
     pub fn copy(&self, alloc: Global) -> Result<PageRuns, AllocError>
         ensures { IfOk result (λ copy. copy ≡ self.now) }
     {

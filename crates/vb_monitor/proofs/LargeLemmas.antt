@@ -4,7 +4,8 @@ use Rattle.std.specs.Prelude.{not, ◌&&◌, ◌||◌, nat_le, nat_lt, count_by}
 use Rattle.std.specs.List.{range_with_len}
 use Rattle.std.proofs.Math.Nat.{mul-le-mul_left, mul-div-le, lt-mul-div-succ}
 use Rattle.std.proofs.lemmas.Bool.{cases_lt, and_parts, and_from, or_left, or_right, or_cases, le-leb, lt-ltb, leb-true, ltb-true, lt-leb, le-ltb}
-use Rattle.vb_model.{specs.Tests.one_if, proofs.Tables.count_by-cons}
+use Rattle.vb_virtio.specs.Tests.{one_if}
+use Rattle.vb_virtio.proofs.Tables.{count_by-cons}
 use Rattle.vb_core.specs.Ballooned.{is_ballooned}
 use Rattle.vb_monitor.specs.Large.{is_between, is_of_large, AllGiven, GoesWith, Begins, Here, After, Stops, Behind, Before, RowGoes, NoneGoes, outside}
 

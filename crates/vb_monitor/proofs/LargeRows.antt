@@ -3,7 +3,7 @@ use Rattle.std.proofs.Common.{◌≡◌, ◌∙◌, inl, inr, ap, sym, subst, ar
 use Rattle.std.{proofs.Common.{◌≤◌, ◌<◌, Bool, true, List}, proofs.lemmas.Bool.Decides.nat_tests}
 use Rattle.std.{proofs.Math.Nat.mul-le-mul_left, proofs.lemmas.Nat.div-add-mod'}
 use Rattle.std.proofs.lemmas.Bool.{cases_lt}
-use Rattle.vb_model.specs.Limits.{page_size}
+use Rattle.vb_virtio.specs.Limits.{page_size}
 use Rattle.vb_monitor.{specs.declared.regions.Region.Region, proofs.LargeLemmas.between_says}
 use Rattle.vb_monitor.specs.declared.cuts.Cut.{Cut}
 use Rattle.vb_monitor.specs.Large.{RowGoes, NoneGoes, may_go, small_pages, first_of, end_of_part}

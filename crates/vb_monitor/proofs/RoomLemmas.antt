@@ -12,7 +12,7 @@ use Rattle.std.{specs.Prelude.{nat_le, ◌&&◌}, proofs.lemmas.Bool.Decides.nat
 use Rattle.vb_chain.{specs.declared.fault.ChainFault.ChainFault, specs.declared.pieces.Piece.Piece}
 use Rattle.vb_request.{specs.Request.{numbers_of, is_request_length}, proofs.Once.numbers_of-length}
 use Rattle.vb_request.specs.Report.{report_request}
-use Rattle.vb_model.specs.declared.limits.TheConstants.{MAX_QUEUE_SIZE}
+use Rattle.vb_virtio.specs.declared.limits.TheConstants.{MAX_QUEUE_SIZE}
 use Rattle.vb_monitor.specs.declared.room.TheConstants.{MAX_RUNS}
 
 fits_then : (kind : Kind) (known fits copied : Bool) (d : Device) →

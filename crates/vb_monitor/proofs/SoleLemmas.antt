@@ -13,7 +13,7 @@ use Rattle.vb_monitor.specs.declared.{regions.Region.Region, cuts.Cut.Cut, sole.
 use Rattle.vb_monitor.specs.Sole.{LiesIn, lies_in, lying, has_page, pages_of, is_shared}
 use Rattle.vb_monitor.specs.Sole.{sole_of, sole_cut, sole_at, alone_at}
 use Rattle.vb_monitor.{specs.Sole.IsSole, proofs.RegionLemmas.cut_here, proofs.OrderLemmas.one_more}
-use Rattle.vb_model.specs.Limits.{page_size}
+use Rattle.vb_virtio.specs.Limits.{page_size}
 use Rattle.vb_core.{specs.declared.settings.TheConstants.MEMORY_LIMIT, specs.declared.runs.Run.Run}
 
 -- ---- a region that has all pages of a run

@@ -17,7 +17,7 @@ use Rattle.std.proofs.Common.{◌≡◌, ◌∙◌, ap, sym, subst, refl, arith,
 use Rattle.std.proofs.Common.{false, List, [], ◌∷◌, length, map, take, Option, Some, None, Result}
 use Rattle.std.proofs.Common.{Ok, Err}
 use Rattle.std.{specs.Prelude.{◌&&◌, ◌==◌, nat_le, not, IsOk}, proofs.lemmas.Bool.Decides.nat_tests}
-use Rattle.vb_model.specs.Tests.{one_if}
+use Rattle.vb_virtio.specs.Tests.{one_if}
 use Rattle.vb_chain.{specs.declared.pieces.Piece.Piece, specs.declared.fault.ChainFault.ChainFault}
 use Rattle.vb_ring.specs.declared.device.Taken.{Taken}
 

@@ -5,7 +5,7 @@ use Rattle.std.{proofs.Common.{not, [], ◌++◌, ◌*◌, ◌+◌}, specs.Prelu
 use Rattle.std.specs.{Prelude.{if◌then◌else◌, slice_index, IsOk}, List.list_any}
 use Rattle.std.proofs.lemmas.{Bool.Decides.nat_tests, List.{get_or-map, append_assoc, length-map}}
 use Rattle.std.proofs.lemmas.List.{Folds.list_any_none, FromFn.length-map-range_with_len}
-use Rattle.vb_model.specs.declared.limits.TheConstants.{MAX_REPORT_PIECES}
+use Rattle.vb_virtio.specs.declared.limits.TheConstants.{MAX_REPORT_PIECES}
 use Rattle.vb_chain.{specs.declared.pieces.Piece.Piece, specs.declared.fault.ChainFault.ChainFault}
 use Rattle.vb_chain.{specs.declared.descriptor.Descriptor.Descriptor, specs.Chain.ChainGives}
 use Rattle.vb_chain.specs.Rules.{piece_of, first_fault}

@@ -2,7 +2,7 @@
 use Rattle.std.proofs.Common.{◌≡◌, ◌∙◌, sym, subst, refl, arith, ℕ, zero, suc, ◌+◌, ◌*◌}
 use Rattle.std.proofs.Common.{◌≤◌, Bool, true, false, List, [], ◌∷◌, Option, Some, None}
 use Rattle.std.{proofs.Common.{Result, Ok, Err}, specs.Prelude.{◌==◌}}
-use Rattle.vb_model.specs.declared.limits.TheConstants.{MAX_QUEUE_SIZE}
+use Rattle.vb_virtio.specs.declared.limits.TheConstants.{MAX_QUEUE_SIZE}
 use Rattle.vb_chain.specs.declared.{fault.ChainFault.ChainFault}
 use Rattle.vb_core.{specs.declared.kinds.Kind.Kind, specs.declared.ring.Virtqueue.Virtqueue}
 use Rattle.vb_core.specs.declared.kinds.Kind.TheVariants.{Inflate, Deflate, Statistics, Report}

@@ -3,8 +3,8 @@
 use Rattle.std.proofs.Common.{◌≡◌, ◌∙◌, ap, sym, subst, refl, arith, ℕ, ◌+◌, ◌*◌, ◌/◌, ◌≤◌, Bool}
 use Rattle.std.proofs.Common.{true, false, List}
 use Rattle.std.proofs.Common.{[], ◌∷◌, ◌++◌, length, take, Option, Some, None, Result, Ok, Err}
-use Rattle.vb_model.specs.declared.layout.TheConstants.{STATISTIC_SIZE}
-use Rattle.vb_model.specs.declared.limits.TheConstants.{MAX_REQUEST_PAGES}
+use Rattle.vb_virtio.specs.declared.layout.TheConstants.{STATISTIC_SIZE}
+use Rattle.vb_virtio.specs.declared.limits.TheConstants.{MAX_REQUEST_PAGES}
 use Rattle.vb_chain.specs.declared.{pieces.Piece.Piece, fault.ChainFault.ChainFault}
 use Rattle.vb_request.{specs.Request.request_length, specs.Statistics.statistics_length}
 use Rattle.vb_core.specs.declared.kinds.Kind.TheVariants.{Inflate, Deflate, Statistics, Report}

@@ -5,9 +5,9 @@ use Rattle.std.specs.Prelude.{min, nat_le, nat_lt}
 use Rattle.std.specs.Prelude.{List, [], ◌∷◌, ◌++◌, length, take, drop, Option, Some, None}
 use Rattle.std.specs.Prelude.{if◌then◌else◌, Result, Ok, Err}
 use Rattle.std.specs.Int.{w16, w32, w64, from_le_bytes}
-use Rattle.vb_model.specs.declared.limits.TheConstants.{MAX_QUEUE_SIZE, MAX_REQUEST_PAGES}
-use Rattle.vb_model.specs.declared.layout.TheConstants.{STATISTIC_SIZE}
-use Rattle.vb_model.specs.Limits.{page_size}
+use Rattle.vb_virtio.specs.declared.limits.TheConstants.{MAX_QUEUE_SIZE, MAX_REQUEST_PAGES}
+use Rattle.vb_virtio.specs.declared.layout.TheConstants.{STATISTIC_SIZE}
+use Rattle.vb_virtio.specs.Limits.{page_size}
 use Rattle.vb_chain.specs.declared.descriptor.Descriptor.{Descriptor}
 use Rattle.vb_chain.specs.declared.pieces.Piece.{Piece}
 use Rattle.vb_chain.specs.declared.fault.ChainFault.{ChainFault}

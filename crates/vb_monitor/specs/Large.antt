@@ -5,8 +5,8 @@ use Rattle.std.specs.Prelude.{not, ◌==◌, ◌&&◌, ◌||◌, nat_le, nat_lt,
 use Rattle.std.specs.Prelude.{count_by}
 use Rattle.std.specs.List.{range_with_len}
 use Rattle.std.specs.Int.{is_power_of_two}
-use Rattle.vb_model.specs.Limits.{page_size}
-use Rattle.vb_model.specs.Guest.{must_tell_host}
+use Rattle.vb_virtio.specs.Limits.{page_size}
+use Rattle.vb_virtio.specs.Features.{must_tell_host}
 use Rattle.vb_core.specs.declared.device.Device.{Device}
 use Rattle.vb_core.specs.Ballooned.{is_ballooned}
 use Rattle.vb_monitor.specs.declared.regions.Region.{Region}

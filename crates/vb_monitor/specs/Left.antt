@@ -1,7 +1,7 @@
 -- How much a notice does yet at most, as a number that each step makes smaller.
 use Rattle.std.specs.Prelude.{ℕ, ◌+◌, ◌-◌, ◌*◌, List, length}
-use Rattle.vb_model.specs.declared.limits.TheConstants.{MAX_QUEUE_SIZE}
-use Rattle.vb_model.specs.Tests.{one_if}
+use Rattle.vb_virtio.specs.declared.limits.TheConstants.{MAX_QUEUE_SIZE}
+use Rattle.vb_virtio.specs.Tests.{one_if}
 use Rattle.vb_monitor.specs.declared.room.TheConstants.{MAX_RUNS}
 use Rattle.vb_monitor.specs.declared.regions.Region.{Region}
 use Rattle.vb_monitor.specs.declared.step.Step.{Step}

@@ -4,7 +4,7 @@ use Rattle.std.specs.Prelude.{not, nat_lt, nat_le, min}
 use Rattle.std.specs.Prelude.{max, List, [], ◌∷◌, ◌++◌, length, take, drop, if◌then◌else◌, Option}
 use Rattle.std.specs.Prelude.{Some, None, option_and_then}
 use Rattle.std.specs.List.{list_any, slice_get}
-use Rattle.vb_model.specs.Limits.{page_size}
+use Rattle.vb_virtio.specs.Limits.{page_size}
 use Rattle.vb_core.specs.declared.settings.TheConstants.{MEMORY_LIMIT}
 use Rattle.vb_core.specs.declared.runs.Run.{Run}
 use Rattle.vb_monitor.specs.declared.regions.TheConstants.{FILE_LIMIT}

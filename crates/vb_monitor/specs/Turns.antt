@@ -1,7 +1,7 @@
 -- Which access may come, by what those before it say: what is read, told, discarded and written.
 use Rattle.std.specs.Prelude.{◌≡◌, ℕ, ◌+◌, ◌*◌, ◌/◌, Bool, true, false, List, [], ◌∷◌, length}
 use Rattle.std.specs.Prelude.{map, take, Option, Some, None, Ok}
-use Rattle.vb_model.specs.declared.layout.TheConstants.{STATISTIC_SIZE}
+use Rattle.vb_virtio.specs.declared.layout.TheConstants.{STATISTIC_SIZE}
 use Rattle.vb_chain.specs.declared.pieces.Piece.{Piece}
 use Rattle.vb_request.specs.Request.{numbers_of}
 use Rattle.vb_request.specs.Report.{report_request}

@@ -3,7 +3,7 @@
 
 ghost use Rattle.std.specs.Prelude.{◌≡◌, ℕ, ◌+◌, ◌-◌, ◌*◌, ◌/◌, ◌^◌, ◌<◌, ◌≤◌, true, false};
 ghost use Rattle.std.specs.Prelude.{MatchOption};
-ghost use Rattle.vb_model.specs.Limits.{page_size};
+ghost use Rattle.vb_virtio.specs.Limits.{page_size};
 ghost use Rattle.vb_core.specs.declared.settings.TheConstants.{MEMORY_LIMIT};
 ghost use Rattle.vb_core.specs.Ballooned.{is_ballooned};
 ghost use Rattle.vb_monitor.specs.declared.large.TheConstants.{LARGEST_PAGE};

@@ -6,7 +6,7 @@ ghost use Rattle.vb_core.specs.declared.kinds.Kind.{Kind};
 ghost use Rattle.vb_core.specs.declared.kinds.Kind.TheVariants.{Report};
 ghost use Rattle.vb_core.specs.declared.report.Reported.{Reported};
 ghost use Rattle.vb_core.specs.Report.{ReportsBy};
-ghost use Rattle.vb_model.specs.declared.limits.TheConstants.{MAX_REPORT_PIECES};
+ghost use Rattle.vb_virtio.specs.declared.limits.TheConstants.{MAX_REPORT_PIECES};
 ghost use Rattle.vb_core.specs.declared.device.Device.{Device};
 ghost use Rattle.vb_monitor.specs.declared.regions.Region.{Region};
 ghost use Rattle.vb_monitor.specs.declared.outcome.Budget.{Budget};

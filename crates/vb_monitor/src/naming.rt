@@ -1,7 +1,7 @@
 //! What the pieces of a chain, and their bytes, come to.
 
 ghost use Rattle.std.specs.Prelude.{◌≡◌, ◌≤◌, ℕ, List, length, take};
-ghost use Rattle.vb_model.specs.declared.limits.TheConstants.{MAX_QUEUE_SIZE};
+ghost use Rattle.vb_virtio.specs.declared.limits.TheConstants.{MAX_QUEUE_SIZE};
 ghost use Rattle.vb_core.specs.declared.next.ChainPiece.{ChainPiece};
 ghost use Rattle.vb_core.specs.declared.runs.Run.{Run};
 ghost use Rattle.vb_core.specs.declared.statistics.Statistic.{Statistic};

@@ -4,7 +4,7 @@ ghost use Rattle.std.specs.Prelude.{◌≡◌, ◌+◌, ◌≤◌, ◌<◌, ◌^
 ghost use Rattle.vb_monitor.specs.Regions.{is_region, holds, spot};
 
 use vb_core::MEMORY_LIMIT;
-use vb_model::limits::PAGE_SIZE;
+use vb_virtio::limits::PAGE_SIZE;
 
 /// Bytes of a page.
 pub(crate) const PAGE_BYTES: u64 = PAGE_SIZE as u64;

@@ -2,8 +2,8 @@
 
 use vb_chain::MAX_DESCRIPTORS;
 use vb_core::{Run, Statistic};
-use vb_model::layout::{MAX_STATISTICS_LENGTH, REQUEST_BUFFER_SIZE, STATISTIC_SIZE};
-use vb_model::limits::MAX_REQUEST_PAGES;
+use vb_virtio::layout::{MAX_STATISTICS_LENGTH, REQUEST_BUFFER_SIZE, STATISTIC_SIZE};
+use vb_virtio::limits::MAX_REQUEST_PAGES;
 
 /// Pieces that a chain has at most.
 pub const MAX_PIECES: usize = MAX_DESCRIPTORS;

@@ -3,7 +3,7 @@
 
 ghost use Rattle.std.specs.Prelude.{◌≡◌, ◌+◌, ◌<◌, ◌≤◌, ◌++◌, true, false, List, [], None};
 ghost use Rattle.std.specs.Prelude.{Some, IfSome, IfOk, length, take, drop};
-ghost use Rattle.vb_model.specs.declared.limits.TheConstants.{MAX_REQUEST_PAGES};
+ghost use Rattle.vb_virtio.specs.declared.limits.TheConstants.{MAX_REQUEST_PAGES};
 ghost use Rattle.vb_core.specs.declared.runs.Run.{Run};
 ghost use Rattle.vb_core.specs.Name.{NamesBy};
 ghost use Rattle.vb_monitor.specs.declared.room.TheConstants.{MAX_RUNS};

@@ -25,7 +25,7 @@ use crate::rows::{RowEnd, RowWalk, ring_fault, row_bytes, walk_row};
 use crate::{Phase, Region, Step, Tally, Walk};
 use vb_chain::{ChainFault, DESCRIPTOR_SIZE, Descriptor};
 use vb_core::{ChainPiece, Device, Kind, Run, Statistic, Virtqueue};
-use vb_model::limits::MAX_QUEUE_SIZE;
+use vb_virtio::limits::MAX_QUEUE_SIZE;
 
 /// How many descriptors a ring has: never more than a queue may have.
 pub(crate) fn descriptors(ring: &Virtqueue) -> u16

@@ -1,7 +1,9 @@
 -- Sets of pages, processors' lists and blocks, worked out: of eight pages the first two are reserved.
 use Rattle.std.proofs.Common.{◌≡◌, ℕ, zero, suc, ◌<◌, ◌≤◌, true, false, List, [], ◌∷◌, ◌++◌, map, slice_index}
 use Rattle.std.{proofs.Common.{length, refl, arith, ap}, specs.Prelude.{Bool, Some, None, nat_lt}}
-use Rattle.{vb_model.specs.{Pages.Block, Tests.one_if}, vb_pages.specs.Held.blocks_of}
+use Rattle.vb_virtio.specs.Tests.{one_if}
+use Rattle.vb_model.specs.Pages.{Block}
+use Rattle.vb_pages.specs.Held.{blocks_of}
 use Rattle.vb_pages.specs.Areas.{block_at, with_pages, without_pages, unreserved, IsBlock, LiesIn}
 use Rattle.vb_pages.specs.FreePages.{FreePages, times_free, free_count, is_free_in, drained, Pops}
 use Rattle.vb_pages.specs.PageState.{PageState, freed, is_free_page, is_held_page, is_unreserved}

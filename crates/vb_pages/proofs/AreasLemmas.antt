@@ -4,7 +4,9 @@ use Rattle.std.proofs.Common.{length, Option, Some, None, replicate, refl, â—Œâˆ
 use Rattle.std.{specs.Prelude.{count_by, nat_le}, proofs.lemmas.List.length-replicate}
 use Rattle.std.proofs.lemmas.List.FromFn.{get_or-map-range_with_len, length-map-range_with_len}
 use Rattle.{std.proofs.Math.Pow.pow_mono, vb_pages.specs.Tiles.{set_of, IsTiled, IsLowestListed}}
-use Rattle.vb_model.{specs.{Tests.one_if, Pages.pages_of}, proofs.Tables.count_by-cons}
+use Rattle.vb_virtio.specs.Tests.{one_if}
+use Rattle.vb_virtio.proofs.Tables.{count_by-cons}
+use Rattle.vb_model.specs.Pages.{pages_of}
 use Rattle.vb_pages.specs.Areas.{has, with_pages, without_pages, unreserved, block_at, LiesIn}
 use Rattle.vb_pages.specs.Areas.{LiesOutside, IsMaximal, IsChosen, IsLowestFrom}
 use Rattle.vb_pages.specs.declared.{table.TheConstants.MAX_PAGES, block.FreeBlock.FreeBlock}

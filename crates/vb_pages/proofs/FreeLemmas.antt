@@ -7,7 +7,8 @@ use Rattle.std.proofs.lemmas.List.{length-map, take_more, flat_map_more, take_al
 use Rattle.std.proofs.lemmas.{List.{get_or_default, drop_all, append-nil}, Bool.lt-ltb}
 use Rattle.std.specs.{List.flat_map, Prelude.{◌==◌, count_by, nat_lt, MatchOption}}
 use Rattle.std.proofs.Common.{refl, sym, ◌∙◌, ap, subst, arith, length-append}
-use Rattle.vb_model.{specs.Tests.{is_in, one_if}, proofs.PageSteps.covers_is}
+use Rattle.vb_virtio.specs.Tests.{is_in, one_if}
+use Rattle.vb_model.proofs.PageSteps.{covers_is}
 use Rattle.{vb_model.specs.Pages.{pages_of, covers}, vb_pages.proofs.AreasLemmas.length-unreserved}
 use Rattle.vb_pages.proofs.ListsLemmas.{times, times-append, times-one, times_out, one_if_le, Once}
 use Rattle.vb_pages.proofs.ListsLemmas.{with_times, with_none, with_append_turned, covers_one}

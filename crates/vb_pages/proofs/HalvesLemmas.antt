@@ -2,7 +2,9 @@
 use Rattle.std.proofs.Common.{◌≡◌, ℕ, suc, ◌+◌, ◌-◌, ◌^◌, ◌<◌, ◌≤◌, min, Bool, true, false, List}
 use Rattle.std.proofs.Common.{set, Option, Some, None, refl, sym, ◌∙◌, ap, subst, arith}
 use Rattle.{std.proofs.lemmas.List.length-set, vb_pages.proofs.TableLemmas.is_there}
-use Rattle.{vb_model.specs.{Pages.pages_of, Tests.is_in}, vb_pages.proofs.TilesLemmas.added_merged}
+use Rattle.vb_virtio.specs.Tests.{is_in}
+use Rattle.vb_model.specs.Pages.{pages_of}
+use Rattle.vb_pages.proofs.TilesLemmas.{added_merged}
 use Rattle.vb_pages.proofs.Aligned.{right_half, aligned_down, end_aligned, pow_twice}
 use Rattle.vb_pages.proofs.Sets.{with_cases, without_parts, in_block, block_bounds, halves_turned}
 use Rattle.vb_pages.proofs.Sets.{has-without_pages, with_without, without_with, halves}
@@ -105,7 +107,7 @@ part_left t s k j placed e = ap (without_pages (pages_of (block_at s j)))
     ∙ with_without (pages_of (block_at s k)) (set_of t)
     (λ p h. let q = block_bounds s k p h in listed_inside t placed s k e p q.0 q.1))
 
--- a block of order w whose upper half, of so many pages, goes in
+-- a block of order w whose upper half, of n pages, goes in
 module _ (t : List (Option ℕ)) (s w size : ℕ) (tiled : IsTiled t) (room : HasRoom t s w)
     (some : 0 < w) (size_is : size ≡ 2 ^ (w - 1)) where
   w_is : w ≡ suc (w - 1)

@@ -3,8 +3,10 @@ use Rattle.std.proofs.Common.{◌≡◌, ℕ, ◌+◌, ◌%◌, ◌^◌, ◌<◌
 use Rattle.std.{proofs.lemmas.List.Folds.list_any-append, specs.Prelude.{◌==◌, count_by, nat_lt}}
 use Rattle.std.proofs.lemmas.Bool.{cases_Bool, both_ways, or_cases, or_parts, eq-eqb, ltb-true}
 use Rattle.std.proofs.Common.{[], ◌∷◌, ◌++◌, length, Some, refl, sym, ◌∙◌, ap, arith, length-append}
-use Rattle.vb_model.{proofs.PageSteps.covers_is, specs.Tests.{is_in, one_if}}
-use Rattle.vb_model.{proofs.Tables.{count_by-cons, count_by-append}, specs.Pages.{pages_of, covers}}
+use Rattle.vb_virtio.specs.Tests.{is_in, one_if}
+use Rattle.vb_virtio.proofs.Tables.{count_by-cons, count_by-append}
+use Rattle.vb_model.proofs.PageSteps.{covers_is}
+use Rattle.vb_model.specs.Pages.{pages_of, covers}
 use Rattle.vb_pages.proofs.Sets.{with_union, with_cases, with_old, with_new, without_parts}
 use Rattle.vb_pages.specs.Areas.{has, with_pages, without_pages, block_at, HasNoBlock, TakesBlock}
 use Rattle.vb_pages.{specs.{Areas.IsBlock, FreePages.TakesPages}, proofs.AreasLemmas.taken_inside}

@@ -1,5 +1,6 @@
 -- The numbers of the allocator, as plain numbers.
-use Rattle.{std.proofs.Common.{◌≡◌, [], ◌∷◌}, vb_model.specs.declared.limits.TheConstants.MAX_ORDER}
+use Rattle.vb_virtio.specs.declared.limits.TheConstants.{MAX_ORDER}
+use Rattle.std.proofs.Common.{◌≡◌, [], ◌∷◌}
 use Rattle.{std.proofs.Common.refl, vb_pages.specs.declared.lists.TheConstants.{LIST_SIZE, BATCH}}
 use Rattle.vb_pages.specs.declared.{table.TheConstants.MAX_PAGES, free.TheConstants.REQUEST_PAGES}
 

@@ -5,8 +5,10 @@ use Rattle.std.proofs.lemmas.Bool.{or_parts, and_parts, and_from, le-leb, leb-tr
 use Rattle.std.proofs.{Common.{IfSome, refl, ap, arith}, lemmas.Bool.{ltb-true, false_from_ne_true}}
 use Rattle.std.specs.{List.list_any, Prelude.{◌||◌, ◌&&◌, count_by, nat_lt, nat_le}}
 use Rattle.{std.proofs.lemmas.Nat.pow_pos, vb_model.proofs.BlockSteps.count-without_block}
-use Rattle.{vb_model.specs.Tests.{is_in, one_if}, vb_pages.proofs.ServingLemmas.length-takes_pages}
-use Rattle.vb_model.{specs.Driver.{with_block, without_block}, proofs.Tables.count_by-cons}
+use Rattle.vb_virtio.specs.Tests.{is_in, one_if}
+use Rattle.vb_virtio.proofs.Tables.{count_by-cons}
+use Rattle.vb_pages.proofs.ServingLemmas.{length-takes_pages}
+use Rattle.vb_model.specs.Driver.{with_block, without_block}
 use Rattle.vb_model.specs.Pages.{Block, pages_of, covers, is_same_block}
 use Rattle.vb_pages.specs.Areas.{has, with_pages, without_pages, unreserved, block_at, IsBlock}
 use Rattle.vb_pages.specs.FreePages.{FreePages, in_lists, is_free_in, times_free, drained}

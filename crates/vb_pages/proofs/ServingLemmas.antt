@@ -6,7 +6,8 @@ use Rattle.std.proofs.lemmas.List.{get_or-set_same, get_or-set_other, set-get_or
 use Rattle.std.proofs.lemmas.List.{length-map, length-reverse, reverse-append, nil_from_length}
 use Rattle.std.proofs.lemmas.List.Sorted.{sum_by-IsPermutation, length_permutation}
 use Rattle.{std.specs.Prelude.{◌==◌, count_by, sum_by}, vb_model.specs.Pages.{pages_of, covers}}
-use Rattle.{std.proofs.Common.length-append, vb_model.specs.Tests.one_if}
+use Rattle.vb_virtio.specs.Tests.{one_if}
+use Rattle.std.proofs.Common.{length-append}
 use Rattle.vb_pages.proofs.AreasLemmas.{count_without_block, count_zero, taken_inside}
 use Rattle.vb_pages.proofs.ListsLemmas.{times, times-append, times-one, takes_times}
 use Rattle.vb_pages.specs.Areas.{has, block_at, IsBlock, HasNoBlock, TakesBlock}
@@ -141,7 +142,7 @@ serves_times f new cpu order start sound l h p = elim h [
 
 -- ---- single pages, one after the other
 
--- so many pages were taken, and so many are left
+-- n pages were taken, and m are left
 pub record AreTakenSoFar (set : List Bool) (i : ℕ) (new : List Bool) (out : List ℕ) : Type 0 where
   pub takes : TakesPages set out new
   pub long : length out ≡ i

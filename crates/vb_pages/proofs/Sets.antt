@@ -6,8 +6,9 @@ use Rattle.std.proofs.lemmas.List.{same_lists, get_or_default, get_or_past, get_
 use Rattle.{std.specs.List.range_with_len, vb_model.specs.Pages.pages_of}
 use Rattle.std.{proofs.lemmas.Bool.false_from_ne_true, specs.Prelude.{count_by, slice_set as put}}
 use Rattle.std.proofs.{Common.arith, lemmas.{List.{get_or-set_other, length-set}, Nat.pow_pos}}
-use Rattle.vb_model.proofs.Tables.{length-each_from, each_page-get, count_by-cons}
-use Rattle.vb_model.{proofs.PageSteps.{is_in-range, outside-range}, specs.Tests.{is_in, one_if}}
+use Rattle.vb_virtio.proofs.Tables.{length-each_from, each_page-get, count_by-cons}
+use Rattle.vb_virtio.proofs.Ranges.{is_in-range, outside-range}
+use Rattle.vb_virtio.specs.Tests.{is_in, one_if}
 use Rattle.vb_pages.specs.Areas.{has, with_pages, without_pages, block_at}
 
 pub same_bool : (a b : Bool) → (a ≡ true → b ≡ true) → (b ≡ true → a ≡ true) → a ≡ b

@@ -6,8 +6,8 @@ use Rattle.std.specs.Prelude.{◌&&◌, ◌||◌, nat_le, max, List, length, map
 use Rattle.std.specs.Prelude.{None, IsTrue}
 use Rattle.std.specs.Int.{div_ceil}
 use Rattle.std.specs.List.{range_with_len}
-use Rattle.vb_model.specs.Tests.{is_in, each_page, has_bit}
-use Rattle.vb_model.specs.Limits.{max_order}
+use Rattle.vb_virtio.specs.Tests.{is_in, each_page, has_bit}
+use Rattle.vb_virtio.specs.Limits.{max_order}
 pub use Rattle.vb_model.specs.Pages.{block_at}
 -- a set of pages is a flag a page; a page that isn't there isn't in it
 pub use Rattle.vb_bits.specs.Sets.{has}
@@ -76,7 +76,7 @@ pub record IsLowestFrom (set : List Bool) (order from : ℕ) (b : Block) : Type 
   pub lowest : (c : Block) → IsMaximal set c → order ≤ c.order → from ≤ c.start → b.start ≤ c.start
 
 -- the set's maximal blocks of this order as bits: bit b of word w is 1 exactly if one starts at
--- page (64 w + b) * 2^order; the words are the fewest that so many pages need, at least one
+-- page (64 w + b) * 2^order; the words are the fewest that n pages need, at least one
 pub record AreBlockBits (set : List Bool) (order : ℕ) (words : List ℕ) : Type 0 where
   pub fewest : length words ≡ max 1 (div_ceil (length set / 2 ^ order) WORD_BITS)
   pub tells : (w b : ℕ) → b < WORD_BITS → (has_bit (slice_index words w) b ≡ true) ↔

@@ -6,9 +6,9 @@ use Rattle.std.specs.Prelude.{count_by, IsPermutation}
 use Rattle.std.specs.Ordering.{nat_cmp}
 use Rattle.std.specs.List.{flat_map}
 use Rattle.std.specs.List.Sorted.{IsSorted}
-use Rattle.vb_model.specs.Tests.{is_in, one_if}
+use Rattle.vb_virtio.specs.Tests.{is_in, one_if}
+use Rattle.vb_virtio.specs.declared.limits.TheConstants.{MAX_PROCESSORS}
 use Rattle.vb_model.specs.Pages.{pages_of}
-use Rattle.vb_model.specs.declared.limits.TheConstants.{MAX_PROCESSORS}
 use Rattle.vb_pages.specs.declared.table.TheConstants.{MAX_PAGES}
 use Rattle.vb_pages.specs.declared.lists.TheConstants.{LIST_SIZE, BATCH}
 use Rattle.vb_pages.specs.Areas.{has, with_pages, block_at, IsBlock, HasNoBlock, TakesBlock}
@@ -35,7 +35,7 @@ times_free f page = one_if (has f.areas page) + count_by (λ p. p == page) (in_l
 abbrev pub free_count : FreePages → ℕ
 free_count f = count_by (λ flag. flag) f.areas + length (in_lists f)
 
--- the processor's list: what was put in last stands last
+-- the processor's list: what was put in last is last
 abbrev pub list_of : FreePages → ℕ → List ℕ
 list_of f cpu = slice_index_or f.lists cpu []
 

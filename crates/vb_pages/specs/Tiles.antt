@@ -2,7 +2,7 @@
 use Rattle.std.specs.Prelude.{◌≡◌, ℕ, suc, ◌+◌, ◌-◌, ◌%◌, ◌^◌, ◌<◌, ◌≤◌, Bool, List, length, map}
 use Rattle.std.specs.Prelude.{Option, Some, None, ◌⊎◌}
 use Rattle.std.specs.List.{list_any, range_with_len}
-use Rattle.vb_model.specs.Limits.{max_order}
+use Rattle.vb_virtio.specs.Limits.{max_order}
 use Rattle.vb_pages.specs.declared.table.TheConstants.{MAX_PAGES}
 use Rattle.vb_pages.specs.Table.{order_at, is_order, AreBlocks}
 use Rattle.vb_pages.specs.declared.block.FreeBlock.{FreeBlock}

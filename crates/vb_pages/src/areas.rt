@@ -12,7 +12,7 @@ use crate::block::{FreeBlock, size_of};
 use crate::table::{MAX_PAGES, Table};
 use std::alloc::{AllocError, Global};
 use std::marker::Model;
-use vb_model::limits::MAX_ORDER;
+use vb_virtio::limits::MAX_ORDER;
 
 /// Where the other half of the next larger block starts.
 fn buddy_of(start: u32, order: u32) -> u32
@@ -141,7 +141,7 @@ impl Model for Areas {
 }
 
 impl Areas {
-    /// All of so many pages but the reserved ones, which are the first ones.
+    /// All of `pages` pages but the reserved ones, which are the first ones.
     pub fn new(alloc: Global, pages: u32, reserved: u32) -> Result<Self, AllocError>
         requires { pages ≤ MAX_PAGES }
         ensures { IfOk result (λ a. a ≡ unreserved pages reserved) }

@@ -2,7 +2,7 @@
 
 ghost use Rattle.std.specs.Prelude.{◌≡◌, ◌^◌, ◌≤◌};
 
-use vb_model::limits::MAX_ORDER;
+use vb_virtio::limits::MAX_ORDER;
 
 /// A free block: 2^order pages from a multiple of as many on.
 #[derive(Clone, Copy, Debug, Default, PartialEq, Eq)]

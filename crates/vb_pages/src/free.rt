@@ -4,7 +4,7 @@ ghost use Rattle.std.specs.Prelude.{◌≡◌, ℕ, ◌+◌, ◌<◌, ◌≤◌,
 ghost use Rattle.std.specs.Prelude.{map, ◌==◌, replicate, MatchOption, IfOk};
 ghost use Rattle.std.specs.Prelude.{count_by, nat_lt};
 ghost use Rattle.std.specs.List.{flat_map};
-ghost use Rattle.vb_model.specs.Tests.{one_if};
+ghost use Rattle.vb_virtio.specs.Tests.{one_if};
 ghost use Rattle.vb_model.specs.Pages.{pages_of};
 ghost use Rattle.vb_pages.specs.Areas.{has, with_pages, without_pages, unreserved, block_at};
 ghost use Rattle.vb_pages.specs.Areas.{IsMaximal, IsLowestFrom};
@@ -20,7 +20,7 @@ use crate::table::MAX_PAGES;
 use arrayvec::ArrayVec;
 use std::alloc::{AllocError, Global};
 use std::marker::Model;
-use vb_model::limits::{MAX_ORDER, MAX_PROCESSORS, MAX_REQUEST_PAGES};
+use vb_virtio::limits::{MAX_ORDER, MAX_PROCESSORS, MAX_REQUEST_PAGES};
 
 /// Pages that one request names, as a capacity.
 pub(crate) const REQUEST_PAGES: usize = MAX_REQUEST_PAGES as usize;
@@ -40,7 +40,7 @@ fn drain_lists(areas: &mut Areas, lists: &mut [PageList])
     }
 }
 
-/// Takes so many single pages, one after the other.
+/// Takes `count` single pages, one after the other.
 fn take_singles(areas: &mut Areas, count: u32, out: &mut ArrayVec<u32, { REQUEST_PAGES }>)
     requires most { count ≤ MAX_REQUEST_PAGES }
     requires empty { out.old.items ≡ [] }
@@ -86,7 +86,7 @@ impl Model for FreePages {
 }
 
 impl FreePages {
-    /// All of so many pages but the reserved ones, with an empty list for each processor.
+    /// All of `pages` pages but the reserved ones, with an empty list for each processor.
     pub fn new(alloc: Global, pages: u32, cpus: u32, reserved: u32) -> Result<Self, AllocError>
         requires pages { pages ≤ MAX_PAGES }
         requires cpus { cpus ≤ MAX_PROCESSORS }
@@ -188,7 +188,7 @@ impl FreePages {
         self.areas.give(start, order);
     }
 
-    /// Takes so many single pages, one after the other, after all lists were drained.
+    /// Takes `count` single pages, one after the other, after all lists were drained.
     pub fn take_pages(&mut self, count: u32, out: &mut ArrayVec<u32, { REQUEST_PAGES }>)
         requires most { count ≤ MAX_REQUEST_PAGES }
         requires empty { out.old.items ≡ [] }

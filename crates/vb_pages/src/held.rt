@@ -10,7 +10,7 @@ use crate::block::size_of;
 use crate::table::{MAX_PAGES, Table};
 use std::alloc::{AllocError, Global};
 use std::marker::Model;
-use vb_model::limits::MAX_ORDER;
+use vb_virtio::limits::MAX_ORDER;
 
 /// The held blocks.
 #[derive(Drop)]
@@ -32,7 +32,7 @@ impl Model for Held {
 }
 
 impl Held {
-    /// No held blocks among so many pages.
+    /// No held blocks among `pages` pages.
     pub fn new(alloc: Global, pages: u32) -> Result<Self, AllocError>
         requires { pages ≤ MAX_PAGES }
         ensures { IfOk result (λ h. h ≡ record { pages = pages; blocks = [] }) }

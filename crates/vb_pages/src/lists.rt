@@ -2,7 +2,7 @@
 
 ghost use Rattle.std.specs.Prelude.{◌≡◌, ℕ, ◌+◌, ◌<◌, ◌≤◌, ◌==◌, List, [], ◌∷◌, ◌++◌, length};
 ghost use Rattle.std.specs.Prelude.{take, drop, MatchOption, count_by, nat_lt};
-ghost use Rattle.vb_model.specs.Tests.{one_if};
+ghost use Rattle.vb_virtio.specs.Tests.{one_if};
 ghost use Rattle.vb_pages.specs.Areas.{has, with_pages};
 ghost use Rattle.vb_pages.specs.FreePages.{Refills, TakesSingle};
 

@@ -3,7 +3,7 @@
 ghost use Rattle.std.specs.Prelude.{◌≡◌, ℕ, ◌+◌, ◌<◌, ◌≤◌, ◌↔◌, ◌⊎◌, ◌==◌, ◌&&◌, ◌||◌, not};
 ghost use Rattle.std.specs.Prelude.{[], length, map, Ok, Err, IfOk, OnOk, OnErr};
 ghost use Rattle.std.specs.Prelude.{IfSome, IsTrue, count_by, false};
-ghost use Rattle.vb_model.specs.Tests.{is_in, one_if};
+ghost use Rattle.vb_virtio.specs.Tests.{is_in, one_if};
 ghost use Rattle.vb_model.specs.Pages.{covers};
 ghost use Rattle.vb_model.specs.Driver.{with_block};
 ghost use Rattle.vb_pages.specs.Areas.{block_at, IsBlock, AreBlockBits};
@@ -21,7 +21,7 @@ use crate::{FreeBlock, MAX_PAGES, PageFault};
 use arrayvec::ArrayVec;
 use std::alloc::{AllocError, Global};
 use std::marker::Model;
-use vb_model::limits::{MAX_ORDER, MAX_REQUEST_PAGES};
+use vb_virtio::limits::{MAX_ORDER, MAX_REQUEST_PAGES};
 
 /// The pages of a guest: free ones in the buddy areas and in a list for each processor, and held
 /// blocks.
@@ -44,9 +44,9 @@ impl Model for Pages {
 }
 
 impl Pages {
-    /// Pages for a guest of so many, at most 262,144, and of so many processors, at most 4. The
-    /// first `reserved` ones are never free; all others are. All memory is taken here, and want of
-    /// it is the only refusal.
+    /// Pages for a guest of `pages`, at most 262,144, and of `cpus` processors, at most 4. The
+    /// first `reserved` ones are never free; all others are. All memory is taken here, and an
+    /// allocation failure is the only refusal.
     pub fn new(alloc: Global, pages: u32, cpus: u32, reserved: u32) -> Result<Self, AllocError>
         requires { IsGuestSize pages cpus }
         ensures { IfOk result (λ p. p ≡ new_page_state pages cpus reserved) }

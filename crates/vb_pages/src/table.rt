@@ -4,14 +4,14 @@ ghost use Rattle.std.specs.Prelude.{◌≡◌, ℕ, ◌+◌, ◌*◌, ◌/◌, �
 ghost use Rattle.std.specs.Prelude.{List, length, replicate, slice_index, slice_set};
 ghost use Rattle.std.specs.Prelude.{Some, None, IfOk, IsTrue};
 ghost use Rattle.std.specs.Int.{div_ceil};
-ghost use Rattle.vb_model.specs.Tests.{has_bit};
+ghost use Rattle.vb_virtio.specs.Tests.{has_bit};
 ghost use Rattle.vb_pages.specs.Table.{order_at, set_of_order, AreBlocks, IsLowestStart};
 
 use crate::block::size_of;
 use std::alloc::{AllocError, Global};
 use std::marker::Model;
 use vb_bits::{BitSet, MAX_BOUND, WORD_BITS};
-use vb_model::limits::MAX_ORDER;
+use vb_virtio::limits::MAX_ORDER;
 
 /// The most pages that there may be: as many as a set has room for.
 pub const MAX_PAGES: u32 = MAX_BOUND;
@@ -37,7 +37,7 @@ impl Model for Table {
 }
 
 impl Table {
-    /// A table of so many pages, without a block.
+    /// A table of `pages` pages, without a block.
     pub fn new(alloc: Global, pages: u32) -> Result<Self, AllocError>
         requires { pages ≤ MAX_PAGES }
         ensures { IfOk result (λ t. t ≡ replicate pages None) }

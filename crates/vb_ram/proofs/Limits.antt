@@ -1,7 +1,7 @@
 -- What a guest within the limits has, for the crates above.
 use Rattle.std.{specs.Prelude.{◌≡◌, ℕ, ◌≤◌, true}, proofs.Common.arith}
 use Rattle.std.{proofs.lemmas.Bool.Decides.nat_tests, proofs.lemmas.Bool.and_parts}
-use Rattle.vb_model.specs.Limits.{is_config, is_between}
+use Rattle.vb_virtio.specs.Limits.{is_config, is_between}
 use Rattle.vb_ram.specs.Limits.{AreWithinLimits}
 
 -- the numbers between two are those that the test finds

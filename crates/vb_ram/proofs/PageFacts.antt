@@ -1,7 +1,7 @@
 -- Worked facts of what a write, a supply and a discard make of guest memory, and of what they leave.
 use Rattle.std.proofs.Common.{◌≡◌, ◌≢◌, ℕ, zero, suc, ◌<◌, ◌≤◌, List, [], ◌∷◌, arith, refl, map, ap}
 use Rattle.std.specs.Prelude.{◌+◌, Option, Some, None, length, slice_index}
-use Rattle.vb_model.specs.Guest.{zero_page}
+use Rattle.vb_virtio.specs.Memory.{zero_page}
 use Rattle.vb_ram.specs.Pages.{Pages, byte_of, byte_at, page_at, frame_at, contents_at, number_of}
 use Rattle.vb_ram.specs.Pages.{field, IsWhole, Covers, SameBut, Wrote, Cleared}
 use Rattle.vb_ram.specs.Pages.{PutField, SameIn, Supplied, Discarded}

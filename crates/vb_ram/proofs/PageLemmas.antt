@@ -3,7 +3,7 @@ use Rattle.std.proofs.Common.{◌≡◌, ℕ, zero, suc, ◌+◌, ◌<◌, List,
 use Rattle.std.proofs.lemmas.List.{get_or-set_same, get_or-set_other, get_or_default, length-set}
 use Rattle.std.proofs.Common.{set, replicate, refl, sym, ◌∙◌, ap, subst, arith}
 use Rattle.std.proofs.lemmas.List.{get_or_past}
-use Rattle.vb_model.specs.Guest.{zero_page}
+use Rattle.vb_virtio.specs.Memory.{zero_page}
 use Rattle.vb_ram.specs.Pages.{Page, Pages, byte_of, byte_at, contents_of, page_at, IsWhole, Wrote}
 use Rattle.vb_ram.{specs.Pages.{Supplied, Cleared, SameBut}, specs.Memory.IsMemory, specs.Put.PutAt}
 use Rattle.vb_ram.proofs.Contents.{length-zero_page, zero_page-at}
@@ -57,6 +57,6 @@ cleared old new p put = let from_start : (k : ℕ) → 0 + k ≡ k = λ k. omega
       (from_start (length zero_page) ∙ length-zero_page) put.rest;
 }
 
--- the page of zeros stands where it was put
+-- the page of zeros is where it was put
 pub put_zeros : (old : List ℕ) → length old ≡ 4096 → PutAt old zero_page 0 zero_page
 put_zeros old whole = grind (arith, get_or_past, length-zero_page)

@@ -1,8 +1,8 @@
 -- What a guest within the limits has.
 use Rattle.std.specs.Prelude.{ℕ, ◌≤◌}
-use Rattle.vb_model.specs.declared.limits.TheConstants.{MIN_GUEST_PAGES, MAX_GUEST_PAGES}
-use Rattle.vb_model.specs.declared.limits.TheConstants.{MIN_QUEUE_SIZE, MAX_QUEUE_SIZE}
-use Rattle.vb_model.specs.declared.limits.TheConstants.{MAX_PROCESSORS}
+use Rattle.vb_virtio.specs.declared.limits.TheConstants.{MIN_GUEST_PAGES, MAX_GUEST_PAGES}
+use Rattle.vb_virtio.specs.declared.limits.TheConstants.{MIN_QUEUE_SIZE, MAX_QUEUE_SIZE}
+use Rattle.vb_virtio.specs.declared.limits.TheConstants.{MAX_PROCESSORS}
 
 -- The sizes of a guest lie between these limits.
 pub record AreWithinLimits (pages queue_size processors : ℕ) : Type 0 where

@@ -1,10 +1,10 @@
 -- What a device keeps beside the bytes of its guest's memory.
 use Rattle.std.specs.Prelude.{ℕ, Bool, false, List, []}
-use Rattle.vb_model.specs.Requests.{Request}
-use Rattle.vb_model.specs.declared.replies.LastStatistics.{LastStatistics}
-use Rattle.vb_model.specs.Guest.{no_statistics}
+use Rattle.vb_virtio.specs.Queues.{Request}
+use Rattle.vb_virtio.specs.declared.statistics.LastStatistics.{LastStatistics}
+use Rattle.vb_virtio.specs.Statistics.{no_statistics}
 
--- Of one queue: how many available entries were taken and how many used entries written, both
+-- Of one queue: how many available entries were taken and how many used elements written, both
 -- modulo 65,536, and the chains that are taken, oldest first (VIRTIO 1.1, 2.6).
 pub record QueuePart : Type 0 where
   pub next_avail : ℕ

@@ -1,13 +1,13 @@
 //! How large a guest is.
 
 ghost use Rattle.std.specs.Prelude.{◌≡◌, ◌%◌, Option, Some, None, if◌then◌else◌, ◌==◌, ◌&&◌};
-ghost use Rattle.vb_model.specs.declared.limits.TheConstants.{MIN_GUEST_PAGES, MAX_GUEST_PAGES};
-ghost use Rattle.vb_model.specs.declared.limits.TheConstants.{MIN_QUEUE_SIZE, MAX_QUEUE_SIZE};
-ghost use Rattle.vb_model.specs.declared.limits.TheConstants.{GUEST_PAGES_STEP};
-ghost use Rattle.vb_model.specs.Limits.{is_config, is_between, is_power_of_two};
+ghost use Rattle.vb_virtio.specs.declared.limits.TheConstants.{MIN_GUEST_PAGES, MAX_GUEST_PAGES};
+ghost use Rattle.vb_virtio.specs.declared.limits.TheConstants.{MIN_QUEUE_SIZE, MAX_QUEUE_SIZE};
+ghost use Rattle.vb_virtio.specs.declared.limits.TheConstants.{GUEST_PAGES_STEP};
+ghost use Rattle.vb_virtio.specs.Limits.{is_config, is_between, is_power_of_two};
 
 use crate::Shape;
-use vb_model::limits::{
+use vb_virtio::limits::{
     GUEST_PAGES_STEP, MAX_GUEST_PAGES, MAX_PROCESSORS, MAX_QUEUE_SIZE, MIN_GUEST_PAGES,
     MIN_QUEUE_SIZE,
 };
@@ -40,7 +40,7 @@ impl Config {
         })
     }
 
-    /// Where rings and buffers stand in the guest's memory.
+    /// Where rings and buffers are in the guest's memory.
     pub fn shape(&self) -> Shape
         ensures { result ≡ record { queue_size = self.now.queue_size } }
     {

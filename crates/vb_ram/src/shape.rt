@@ -1,16 +1,16 @@
-//! Where rings and buffers stand in a guest's memory.
+//! Where rings and buffers are in a guest's memory.
 
 ghost use Rattle.std.specs.Prelude.{◌≡◌};
-ghost use Rattle.vb_model.specs.Layout.{takes_two_pages, reserved_pages, ring_number, ring_page};
-ghost use Rattle.vb_model.specs.Layout.{is_ring_page, is_start_page};
+ghost use Rattle.vb_virtio.specs.Layout.{takes_two_pages, reserved_pages, ring_number, ring_page};
+ghost use Rattle.vb_virtio.specs.Layout.{is_ring_page, is_start_page};
 
-use vb_model::layout::{
+use vb_virtio::layout::{
     DEFLATE_QUEUE, FIRST_RING_PAGE, FIRST_RING_PAGE_OF_TWO, INFLATE_BUFFERS_PAGE, INFLATE_QUEUE,
     MAX_QUEUE_SIZE_OF_A_PAGE, RESERVED_PAGES, RESERVED_PAGES_OF_TWO, STATISTICS_PAGE,
     STATISTICS_QUEUE,
 };
 
-/// Where rings and buffers stand in the memory of a guest whose queues have so many descriptors
+/// Where rings and buffers are in the memory of a guest whose queues have `queue_size` descriptors
 /// (profile). Each question about it is asked here.
 #[derive(Clone, Copy, Debug, PartialEq, Eq)]
 pub struct Shape {

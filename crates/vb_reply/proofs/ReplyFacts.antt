@@ -1,15 +1,16 @@
 -- The text of each reply and of each refusal, worked out.
 use Rattle.std.proofs.Common.{◌≡◌, true, false, [], ◌∷◌, Some, None, codes, refl, map}
-use Rattle.vb_model.specs.declared.replies.Refusal.TheVariants.{NoGuest, BadConfig, TooMany}
-use Rattle.vb_model.specs.declared.replies.Refusal.TheVariants.{NoDevice, BadOrder, BadCpu, NoPages}
-use Rattle.vb_model.specs.declared.replies.Refusal.TheVariants.{NotHeld, NotReady, QueueFull}
-use Rattle.vb_model.specs.declared.replies.Refusal.TheVariants.{DeflatePending, Nothing, RingBroken}
-use Rattle.vb_model.specs.declared.replies.Refusal.TheVariants.{NoFeature, AlreadyUp}
-use Rattle.vb_model.specs.declared.replies.Refusal.TheVariants.{FeatureNotOffered, VersionMissing}
-use Rattle.vb_model.specs.declared.replies.Refusal.TheVariants.{Short, ClearsBit, OutOfOrder}
-use Rattle.vb_model.specs.declared.replies.Refusal.TheVariants.{NoQueue, NeedsReset, Busy, Broken}
-use Rattle.vb_model.specs.declared.replies.Refusal.TheVariants.{NotTaken, NotWorked, NotBallooned}
-use Rattle.vb_model.specs.declared.replies.Refusal.TheVariants.{OutOfRam, NoFrame, NoMemory}
+use Rattle.vb_virtio.specs.declared.refusals.Refusal.TheVariants.{NoGuest, BadConfig, TooMany}
+use Rattle.vb_virtio.specs.declared.refusals.Refusal.TheVariants.{NoDevice, BadOrder, BadCpu}
+use Rattle.vb_virtio.specs.declared.refusals.Refusal.TheVariants.{NoPages, NotHeld, NotReady}
+use Rattle.vb_virtio.specs.declared.refusals.Refusal.TheVariants.{QueueFull, DeflatePending}
+use Rattle.vb_virtio.specs.declared.refusals.Refusal.TheVariants.{Nothing, RingBroken, NoFeature}
+use Rattle.vb_virtio.specs.declared.refusals.Refusal.TheVariants.{AlreadyUp, FeatureNotOffered}
+use Rattle.vb_virtio.specs.declared.refusals.Refusal.TheVariants.{VersionMissing, Short, ClearsBit}
+use Rattle.vb_virtio.specs.declared.refusals.Refusal.TheVariants.{OutOfOrder, NoQueue, NeedsReset}
+use Rattle.vb_virtio.specs.declared.refusals.Refusal.TheVariants.{Busy, Broken, NotTaken, NotWorked}
+use Rattle.vb_virtio.specs.declared.refusals.Refusal.TheVariants.{NotBallooned, OutOfRam, NoFrame}
+use Rattle.vb_virtio.specs.declared.refusals.Refusal.TheVariants.{NoMemory}
 use Rattle.vb_model.specs.declared.replies.Reply.TheVariants.{Plugged, Done, Ready, Page, ReadBytes}
 use Rattle.vb_model.specs.declared.replies.Reply.TheVariants.{Posted, Filled, NotUsed, Reaped}
 use Rattle.vb_model.specs.declared.replies.Reply.TheVariants.{Taken, Empty, Worked, Idle, Finished}

@@ -6,25 +6,25 @@ use Rattle.std.specs.List.{flat_map}
 use Rattle.hex.specs.Hex.{encode_lower}
 use Rattle.vb_model.specs.declared.places.PageRun.{PageRun}
 use Rattle.vb_model.specs.declared.places.PlaceCounts.{PlaceCounts}
-use Rattle.vb_model.specs.declared.replies.Refusal.{Refusal}
-use Rattle.vb_model.specs.declared.replies.Refusal.TheVariants.{NoGuest, BadConfig, TooMany}
-use Rattle.vb_model.specs.declared.replies.Refusal.TheVariants.{NoDevice, BadOrder, BadCpu, NoPages}
-use Rattle.vb_model.specs.declared.replies.Refusal.TheVariants.{NotHeld, NotReady, QueueFull}
-use Rattle.vb_model.specs.declared.replies.Refusal.TheVariants.{DeflatePending}
-use Rattle.vb_model.specs.declared.replies.Refusal.TheVariants.{Nothing, RingBroken, NoFeature}
-use Rattle.vb_model.specs.declared.replies.Refusal.TheVariants.{AlreadyUp, FeatureNotOffered}
-use Rattle.vb_model.specs.declared.replies.Refusal.TheVariants.{VersionMissing}
-use Rattle.vb_model.specs.declared.replies.Refusal.TheVariants.{ClearsBit, OutOfOrder, NoQueue}
-use Rattle.vb_model.specs.declared.replies.Refusal.TheVariants.{NeedsReset, Busy, Broken, NotTaken}
-use Rattle.vb_model.specs.declared.replies.Refusal.TheVariants.{NotWorked, NotBallooned, OutOfRam}
-use Rattle.vb_model.specs.declared.replies.Refusal.TheVariants.{NoFrame, NoMemory, Short}
+use Rattle.vb_virtio.specs.declared.refusals.Refusal.{Refusal}
+use Rattle.vb_virtio.specs.declared.refusals.Refusal.TheVariants.{NoGuest, BadConfig, TooMany}
+use Rattle.vb_virtio.specs.declared.refusals.Refusal.TheVariants.{NoDevice, BadOrder, BadCpu}
+use Rattle.vb_virtio.specs.declared.refusals.Refusal.TheVariants.{NoPages, NotHeld, NotReady}
+use Rattle.vb_virtio.specs.declared.refusals.Refusal.TheVariants.{QueueFull, DeflatePending}
+use Rattle.vb_virtio.specs.declared.refusals.Refusal.TheVariants.{Nothing, RingBroken, NoFeature}
+use Rattle.vb_virtio.specs.declared.refusals.Refusal.TheVariants.{AlreadyUp, FeatureNotOffered}
+use Rattle.vb_virtio.specs.declared.refusals.Refusal.TheVariants.{VersionMissing, ClearsBit}
+use Rattle.vb_virtio.specs.declared.refusals.Refusal.TheVariants.{OutOfOrder, NoQueue, NeedsReset}
+use Rattle.vb_virtio.specs.declared.refusals.Refusal.TheVariants.{Busy, Broken, NotTaken, NotWorked}
+use Rattle.vb_virtio.specs.declared.refusals.Refusal.TheVariants.{NotBallooned, OutOfRam, NoFrame}
+use Rattle.vb_virtio.specs.declared.refusals.Refusal.TheVariants.{NoMemory, Short}
 use Rattle.vb_model.specs.declared.replies.Reply.{Reply}
 use Rattle.vb_model.specs.declared.replies.Reply.TheVariants.{Plugged, Done, Ready, Page, ReadBytes}
 use Rattle.vb_model.specs.declared.replies.Reply.TheVariants.{Posted, Filled, NotUsed, Reaped}
 use Rattle.vb_model.specs.declared.replies.Reply.TheVariants.{Taken, Empty, Worked, Idle, Finished}
 use Rattle.vb_model.specs.declared.replies.Reply.TheVariants.{Swept, Asked, Targets, Places, Pages}
 use Rattle.vb_model.specs.declared.replies.Reply.TheVariants.{Balloon, Statistics, Backing, Frames}
-use Rattle.vb_model.specs.declared.replies.Reply.TheVariants.{Refused}
+use Rattle.vb_model.specs.declared.replies.Reply.TheVariants.{Refused, Served}
 
 abbrev pub refusal_text : Refusal → List ℕ
 refusal_text NoGuest = codes "no guest"
@@ -58,7 +58,7 @@ refusal_text NoFrame = codes "no frame"
 refusal_text NoMemory = codes "memory"
 refusal_text (Short missing) = codes "short " ++ decimal missing
 
--- pages FIRST to LAST behind a space, one page alone by its number
+-- pages FIRST to LAST after a space, one page alone by its number
 abbrev pub run_text : PageRun → List ℕ
 run_text run =
     if run.first == run.last then codes " " ++ decimal run.first
@@ -76,7 +76,7 @@ freed_text false = codes "bare"
 abbrev pub bytes_text : List ℕ → List ℕ
 bytes_text bytes = codes "bytes " ++ encode_lower bytes
 
--- a target behind a space
+-- a target after a space
 abbrev pub target_text : ℕ → List ℕ
 target_text target = codes " " ++ decimal target
 
@@ -112,6 +112,9 @@ reply_text (Worked page freed) =
     codes "worked " ++ (decimal page ++ (codes " " ++ freed_text freed))
 reply_text Idle = codes "idle"
 reply_text (Finished head) = codes "finished " ++ decimal head
+reply_text (Served chains None) = codes "served " ++ decimal chains
+reply_text (Served chains (Some rule)) =
+    codes "served " ++ (decimal chains ++ (codes " broken C" ++ decimal rule))
 reply_text (Swept freed) = codes "swept " ++ freed_text freed
 reply_text Asked = codes "asked"
 reply_text (Targets pages) = targets_text pages

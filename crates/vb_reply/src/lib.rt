@@ -2,10 +2,11 @@
 //!
 //! `write_reply` writes a reply's line, `write_replies` those of many, and `put_reply` one after
 //! others as replies come. `docs/SCRIPTS.md` has all lines; `vb_script` reads those of events.
-//! Who answers the events is no matter here.
+//! Any implementation may answer the events.
 #![tactic(auto)]
 
 mod held;
+mod refusals;
 mod replies;
 
 pub use held::{Failed, Held, release};

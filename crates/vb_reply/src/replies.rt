@@ -4,18 +4,19 @@ ghost use Rattle.std.specs.Prelude.{◌≡◌, ◌++◌, ◌∷◌, [], codes, O
 ghost use Rattle.std.specs.Fmt.{decimal};
 ghost use Rattle.std.specs.Io.KnownBytes.{Appends};
 ghost use Rattle.std.specs.List.{flat_map};
-ghost use Rattle.vb_model.specs.declared.replies.Refusal.TheVariants.{Short};
 ghost use Rattle.vb_model.specs.declared.replies.Reply.TheVariants.{Balloon, Plugged, Swept};
-ghost use Rattle.vb_model.specs.declared.replies.Reply.TheVariants.{Worked};
+ghost use Rattle.vb_model.specs.declared.replies.Reply.TheVariants.{Served, Worked};
 ghost use Rattle.vb_reply.specs.Held.{Puts};
 ghost use Rattle.vb_reply.specs.Replies.{bytes_text, counts_text, freed_text, line_of};
-ghost use Rattle.vb_reply.specs.Replies.{refusal_text, reply_text, run_text, runs_text};
+ghost use Rattle.vb_reply.specs.Replies.{reply_text, run_text, runs_text};
 ghost use Rattle.vb_reply.specs.Replies.{statistic_text, target_text, targets_text};
 
 use crate::held::{Failed, Held, put, put_digits, put_number, put_with, release};
+use crate::refusals::put_refusal;
 use std::io;
 use std::io::Write;
-use vb_model::{BalloonState, LastStatistics, PageRun, PlaceCounts, Refusal, Reply};
+use vb_model::{BalloonState, PageRun, PlaceCounts, Reply};
+use vb_virtio::LastStatistics;
 
 /// Writes what an event was answered as one line, which ends in a line feed. Fails where a write to
 /// `out` does; what was written until then is part of the line.
@@ -97,6 +98,7 @@ fn put_text<W: Write>(out: &mut W, held: &mut Held, reply: &Reply) -> Result<(),
         Reply::Worked { page, freed } => put_worked(out, held, *page, *freed),
         Reply::Idle => put(out, held, b"idle"),
         Reply::Finished { head } => put_with(out, held, b"finished ", *head),
+        Reply::Served { chains, broken } => put_served(out, held, *chains, *broken),
         Reply::Swept { freed } => put_swept(out, held, *freed),
         Reply::Asked => put(out, held, b"asked"),
         Reply::Targets { pages } => put_targets(out, held, pages.as_slice()),
@@ -139,6 +141,22 @@ fn put_worked<W: Write>(out: &mut W, held: &mut Held, page: u32, freed: bool) ->
     put(out, held, freed_word(freed))
 }
 
+/// Puts how many chains were served, and which rule the next one breaks, if it breaks one.
+fn put_served<W: Write>(
+    out: &mut W,
+    held: &mut Held,
+    chains: u32,
+    broken: Option<u32>,
+) -> Result<(), Failed>
+    ensures { OnOk result (Puts (W.contents out.old) held.old.text.items (W.contents out.new)
+        held.new.text.items (reply_text (Served chains broken))) }
+{
+    match broken {
+        None => put_with(out, held, b"served ", chains),
+        Some(rule) => put_two(out, held, b"served ", chains, b" broken C", rule),
+    }
+}
+
 /// Puts that a page was swept, and whether it had a frame.
 fn put_swept<W: Write>(out: &mut W, held: &mut Held, freed: bool) -> Result<(), Failed>
     ensures { OnOk result (Puts (W.contents out.old) held.old.text.items (W.contents out.new)
@@ -174,7 +192,7 @@ fn put_bytes<W: Write>(out: &mut W, held: &mut Held, bytes: &[u8]) -> Result<(),
     put_digits(out, held, bytes)
 }
 
-/// Puts a number behind each of two texts.
+/// Puts a number after each of two texts.
 fn put_two<W: Write>(
     out: &mut W,
     held: &mut Held,
@@ -203,7 +221,7 @@ fn put_targets<W: Write>(out: &mut W, held: &mut Held, targets: &[u32]) -> Resul
     Ok(())
 }
 
-/// Puts a target behind a space.
+/// Puts a target after a space.
 fn put_target<W: Write>(out: &mut W, held: &mut Held, target: u32) -> Result<(), Failed>
     ensures { OnOk result
         (Puts (W.contents out.old) held.old.text.items (W.contents out.new)
@@ -246,7 +264,7 @@ fn put_runs<W: Write>(out: &mut W, held: &mut Held, runs: &[PageRun]) -> Result<
     Ok(())
 }
 
-/// Puts a run of pages behind a space.
+/// Puts a run of pages after a space.
 fn put_run<W: Write>(out: &mut W, held: &mut Held, run: PageRun) -> Result<(), Failed>
     ensures { OnOk result (Puts (W.contents out.old) held.old.text.items (W.contents out.new)
         held.new.text.items (run_text run)) }
@@ -274,7 +292,7 @@ fn put_statistics<W: Write>(
     put_statistic(out, held, last.total)
 }
 
-/// Puts one statistic behind a space.
+/// Puts one statistic after a space.
 fn put_statistic<W: Write>(out: &mut W, held: &mut Held, value: Option<u64>) -> Result<(), Failed>
     ensures { OnOk result
         (Puts (W.contents out.old) held.old.text.items (W.contents out.new)
@@ -286,60 +304,11 @@ fn put_statistic<W: Write>(out: &mut W, held: &mut Held, value: Option<u64>) -> 
     }
 }
 
-/// Puts why an event was refused.
-fn put_refusal<W: Write>(out: &mut W, held: &mut Held, refusal: Refusal) -> Result<(), Failed>
-    ensures { OnOk result
-        (Puts (W.contents out.old) held.old.text.items (W.contents out.new)
-        held.new.text.items (refusal_text refusal)) }
-{
-    match refusal {
-        Refusal::NoGuest => put(out, held, b"no guest"),
-        Refusal::BadConfig => put(out, held, b"bad config"),
-        Refusal::TooMany => put(out, held, b"too many"),
-        Refusal::NoDevice => put(out, held, b"no device"),
-        Refusal::BadOrder => put(out, held, b"bad order"),
-        Refusal::BadCpu => put(out, held, b"bad cpu"),
-        Refusal::NoPages => put(out, held, b"no pages"),
-        Refusal::NotHeld => put(out, held, b"not held"),
-        Refusal::NotReady => put(out, held, b"not ready"),
-        Refusal::QueueFull => put(out, held, b"queue full"),
-        Refusal::DeflatePending => put(out, held, b"deflate pending"),
-        Refusal::Nothing => put(out, held, b"nothing"),
-        Refusal::RingBroken => put(out, held, b"ring broken"),
-        Refusal::NoFeature => put(out, held, b"no feature"),
-        Refusal::AlreadyUp => put(out, held, b"already up"),
-        Refusal::FeatureNotOffered => put(out, held, b"feature not offered"),
-        Refusal::VersionMissing => put(out, held, b"version missing"),
-        Refusal::ClearsBit => put(out, held, b"clears bit"),
-        Refusal::OutOfOrder => put(out, held, b"out of order"),
-        Refusal::NoQueue => put(out, held, b"no queue"),
-        Refusal::NeedsReset => put(out, held, b"needs reset"),
-        Refusal::Busy => put(out, held, b"busy"),
-        Refusal::Broken { rule } => put_with(out, held, b"broken C", rule),
-        Refusal::NotTaken => put(out, held, b"not taken"),
-        Refusal::NotWorked => put(out, held, b"not worked"),
-        Refusal::NotBallooned => put(out, held, b"not ballooned"),
-        Refusal::OutOfRam => put(out, held, b"out of ram"),
-        Refusal::NoFrame => put(out, held, b"no frame"),
-        Refusal::NoMemory => put(out, held, b"memory"),
-        Refusal::Short { missing } => put_short(out, held, missing),
-    }
-}
-
-/// Puts a statistic that is known, behind a space.
+/// Puts a statistic that is known, after a space.
 fn put_known<W: Write>(out: &mut W, held: &mut Held, value: u64) -> Result<(), Failed>
     ensures { OnOk result (Puts (W.contents out.old) held.old.text.items (W.contents out.new)
         held.new.text.items (statistic_text (Some value))) }
 {
     put(out, held, b" ")?;
     put_number(out, held, value)
-}
-
-/// Puts how many pages stay missing.
-fn put_short<W: Write>(out: &mut W, held: &mut Held, missing: u64) -> Result<(), Failed>
-    ensures { OnOk result (Puts (W.contents out.old) held.old.text.items (W.contents out.new)
-        held.new.text.items (refusal_text (Short missing))) }
-{
-    put(out, held, b"short ")?;
-    put_number(out, held, missing)
 }

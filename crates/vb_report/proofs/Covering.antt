@@ -3,9 +3,10 @@ use Rattle.std.proofs.Common.{◌≡◌, ℕ, Bool, true, false, List, [], ◌�
 use Rattle.std.proofs.lemmas.{Bool.{or_cases, false_from_ne_true}, List.Folds.list_any-append}
 use Rattle.std.specs.{List.list_any, Prelude.{◌||◌, All}}
 use Rattle.std.proofs.{Common.{ap, arith}, lemmas.List.Elements.{All-head, All-tail}}
-use Rattle.vb_model.specs.Tests.{is_in, one_if}
-use Rattle.vb_model.proofs.Distinct.{distinct_list, distinct_once, times-some}
-use Rattle.vb_model.{proofs.{PageSteps.covers_is, Tables.count_by-cons}, specs.Driver.AllDistinct}
+use Rattle.vb_virtio.specs.Tests.{is_in, one_if, AllDistinct}
+use Rattle.vb_virtio.proofs.Distinct.{distinct_list, distinct_once, times-some}
+use Rattle.vb_virtio.proofs.Tables.{count_by-cons}
+use Rattle.vb_model.proofs.PageSteps.{covers_is}
 use Rattle.vb_model.{proofs.Blocks.times_in_blocks, specs.Pages.{Block, covers, pages_of_all}}
 use Rattle.vb_pages.specs.declared.block.FreeBlock.{FreeBlock}
 use Rattle.vb_report.specs.Blocks.{block_of, blocks_of, is_covered}

@@ -4,7 +4,8 @@ use Rattle.std.specs.Prelude.{◌||◌, All}
 use Rattle.std.proofs.lemmas.List.Elements.{All-head, All-tail, All-nil, All-cons}
 use Rattle.std.proofs.lemmas.Bool.{or_cases, or_from, or_parts, both_ways, false_from_ne_true}
 use Rattle.std.proofs.Common.{inr, sym, ◌∙◌, ap, subst, arith, drop, get_or, add-one, drop-cons}
-use Rattle.vb_model.specs.{Pages.{Block, size, covers, pages_of, pages_of_all}, Tests.is_in}
+use Rattle.vb_virtio.specs.Tests.{is_in}
+use Rattle.vb_model.specs.Pages.{Block, size, covers, pages_of, pages_of_all}
 use Rattle.vb_pages.proofs.Sets.{length-with_pages, same_bool, with_old, with_new, with_cases}
 use Rattle.vb_pages.specs.PageState.{PageState, page_count, is_free_page, HasRoomIn}
 use Rattle.vb_pages.specs.{PageState.with_free_block, declared.block.FreeBlock.FreeBlock}

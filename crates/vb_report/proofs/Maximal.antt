@@ -4,7 +4,8 @@ use Rattle.std.proofs.lemmas.Bool.{cases_lt, and_parts, and_from, eqb-true, not-
 use Rattle.std.specs.List.{list_all, list_any, range_with_len}
 use Rattle.std.proofs.lemmas.{Bool.{not_from_false, false_from_ne_true, both_ways}, Nat.pow_pos}
 use Rattle.std.{proofs.Common.{inl, inr, refl, sym, ◌∙◌, arith}, specs.Prelude.not}
-use Rattle.vb_model.proofs.{Blocks.any_in_range, Tables.list_all-at}
+use Rattle.vb_virtio.proofs.Tables.{list_all-at}
+use Rattle.vb_model.proofs.Blocks.{any_in_range}
 use Rattle.vb_model.specs.Pages.{Block, size, pages_of, is_aligned, around, is_whole, is_maximal}
 use Rattle.vb_pages.proofs.Aligned.{aligned_step, aligned_same, aligned_down, end_aligned}
 use Rattle.vb_pages.proofs.{Aligned.floor_aligned, Sets.in_block, TilesLemmas.any_range}

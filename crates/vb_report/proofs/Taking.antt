@@ -7,9 +7,10 @@ use Rattle.std.proofs.lemmas.{List.{map-append, length-map, length-take}, Nat.po
 use Rattle.std.{proofs.lemmas.Bool.false_from_ne_true, specs.Prelude.{not, ◌&&◌, ◌||◌, filter, All}}
 use Rattle.std.proofs.Common.{◌∙◌, ap, subst, arith, append_assoc, length-append, append-nil}
 use Rattle.vb_model.specs.Pages.{Block, size, covers, pages_of, pages_of_all, maximal_blocks}
-use Rattle.vb_model.specs.Tests.{is_in, times}
+use Rattle.vb_virtio.specs.Tests.{is_in, times, AllDistinct}
+use Rattle.vb_virtio.proofs.Distinct.{distinct_once}
 use Rattle.vb_model.proofs.{Blocks.reported_distinct, CallSteps.reported_pass, PageSteps.covers_is}
-use Rattle.vb_model.{proofs.Distinct.distinct_once, specs.{Driver.AllDistinct, Pages.reported}}
+use Rattle.vb_model.specs.Pages.{reported}
 use Rattle.vb_pages.proofs.Sets.{is_inside, without_parts, without_old, same_sets}
 use Rattle.vb_pages.specs.Areas.{has, with_pages, without_pages, IsBlock, LiesIn, LiesWithin}
 use Rattle.vb_pages.specs.PageState.{PageState, page_count, is_free_page, HasRoomIn, reserved_count}

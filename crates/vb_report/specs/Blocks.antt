@@ -1,10 +1,10 @@
 -- What page reporting does (profile).
 use Rattle.std.specs.Prelude.{ℕ, ◌*◌, ◌≤◌, Bool, true, List, map, All}
 use Rattle.std.specs.List.{list_any}
-use Rattle.vb_model.specs.Limits.{page_size, max_order}
+use Rattle.vb_virtio.specs.Limits.{page_size, max_order}
+use Rattle.vb_virtio.specs.Tests.{AllDistinct}
 use Rattle.vb_model.specs.Pages.{Block, block_at, size, covers, pages_of_all, reported}
 use Rattle.vb_model.specs.Pages.{maximal_blocks}
-use Rattle.vb_model.specs.Driver.{AllDistinct}
 use Rattle.vb_chain.specs.declared.pieces.Piece.{Piece}
 use Rattle.vb_pages.specs.declared.block.FreeBlock.{FreeBlock}
 use Rattle.vb_pages.specs.Areas.{with_pages, without_pages}

@@ -2,10 +2,10 @@
 
 ghost use Rattle.std.specs.Prelude.{◌≡◌, ℕ, ◌<◌, ◌≤◌, ◌&&◌, ◌||◌, not, Bool, [], length, map};
 ghost use Rattle.std.specs.Prelude.{IsTrue, All};
-ghost use Rattle.vb_model.specs.Limits.{max_outstanding};
-ghost use Rattle.vb_model.specs.Tests.{is_in};
+ghost use Rattle.vb_virtio.specs.Limits.{max_outstanding};
+ghost use Rattle.vb_virtio.specs.Tests.{is_in};
 ghost use Rattle.vb_model.specs.Pages.{pages_of_all, reported, maximal_blocks};
-ghost use Rattle.vb_model.specs.Driver.{AllDistinct};
+ghost use Rattle.vb_virtio.specs.Tests.{AllDistinct};
 ghost use Rattle.vb_pages.specs.declared.table.TheConstants.{MAX_PAGES};
 ghost use Rattle.vb_pages.specs.FreePages.{drained};
 ghost use Rattle.vb_pages.specs.PageState.{page_count, reserved_count, is_free_page};
@@ -14,8 +14,8 @@ ghost use Rattle.vb_report.specs.Blocks.{block_of, blocks_of, is_covered, blocks
 ghost use Rattle.vb_report.specs.Blocks.{without_blocks, with_blocks, HasOrder, HaveRoom};
 
 use arrayvec::ArrayVec;
-use vb_model::limits;
 use vb_pages::{FreeBlock, Pages};
+use vb_virtio::limits;
 
 /// The blocks that one report names at most (profile).
 pub const MAX_BLOCKS: usize = limits::MAX_OUTSTANDING as usize;

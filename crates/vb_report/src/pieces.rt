@@ -1,14 +1,14 @@
 //! What a report says of its blocks: pieces of guest memory, as a chain of descriptors has them.
 
 ghost use Rattle.std.specs.Prelude.{◌≡◌, ◌≤◌, length, All};
-ghost use Rattle.vb_model.specs.Limits.{max_outstanding};
+ghost use Rattle.vb_virtio.specs.Limits.{max_outstanding};
 ghost use Rattle.vb_report.specs.Blocks.{block_of, blocks_of, piece_of, pieces_of, HasOrder};
 
 use crate::MAX_BLOCKS;
 use arrayvec::ArrayVec;
 use vb_chain::Piece;
-use vb_model::limits;
 use vb_pages::FreeBlock;
+use vb_virtio::limits;
 
 /// The pieces of a report, one for each block, in their order.
 pub type Pieces = ArrayVec<Piece, MAX_BLOCKS>;

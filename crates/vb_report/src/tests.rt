@@ -8,9 +8,9 @@ use Step::{Alloc, Count, FreePage, Report, ReportAndReap};
 use std::alloc::{AllocError, Global};
 use std::test::Fail;
 use vb_chain::Piece;
-use vb_model::layout::{RESERVED_PAGES, RESERVED_PAGES_OF_TWO};
-use vb_model::limits::MAX_OUTSTANDING;
 use vb_pages::{FreeBlock, PageFault, Pages};
+use vb_virtio::layout::{RESERVED_PAGES, RESERVED_PAGES_OF_TWO};
+use vb_virtio::limits::MAX_OUTSTANDING;
 
 /// One call of an example.
 enum Step {
@@ -20,7 +20,7 @@ enum Step {
     FreePage(u32),
     /// A report takes blocks from a page on, as many as there is room for.
     Report(u32, u32),
-    /// The same, and they come back.
+    /// A report takes blocks from a page on, and they come back.
     ReportAndReap(u32, u32),
     /// How many pages are free.
     Count,
@@ -83,7 +83,7 @@ fn first_wrong_line(pages: &mut Pages, lines: &[(Step, Answer)]) -> Option<usize
 }
 
 /// The first line whose call isn't answered so, when they are made one after the other on a new
-/// guest of so many pages, of which so many are reserved, and one processor.
+/// guest of n pages, of which m are reserved, and one processor.
 fn first_wrong(
     alloc: Global,
     size: u32,
@@ -183,7 +183,7 @@ const EIGHTY_PAGES: [(Step, Answer); 5] = [
     (Count, Free(0)),
 ];
 
-/// Calls on a new guest of so many pages, of which so many are reserved.
+/// Calls on a new guest of n pages, of which m are reserved.
 struct Example {
     name: &'static str,
     pages: u32,

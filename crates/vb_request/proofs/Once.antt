@@ -5,7 +5,7 @@ use Rattle.std.proofs.Common.{sym, ◌∙◌, eq-eqb, ap, arith, ◌/◌, get_or
 use Rattle.std.proofs.{Common.add-one, lemmas.Bool.eqb-true, lemmas.List.Elements.filter-append}
 use Rattle.std.proofs.lemmas.List.{append-nil, take_more, take-append-drop, length_push}
 use Rattle.std.proofs.lemmas.List.FromFn.{length-map-range_with_len, get_or-map-range_with_len}
-use Rattle.vb_model.specs.Tests.{is_in}
+use Rattle.vb_virtio.specs.Tests.{is_in}
 use Rattle.vb_chain.specs.declared.fault.ChainFault.{ChainFault}
 use Rattle.vb_request.specs.Request.{each_once, number_fault, first_of_both, first_number_fault}
 use Rattle.vb_request.specs.Request.{numbers_of, number_at}
@@ -99,7 +99,7 @@ sound_more reserved count ns k number lt at before here = grind (
   first_fault-append reserved count (take k ns) (get_or ns k 0 ∷ []),
 )
 
--- one more number, put behind the others where it is new
+-- one more number, put after the others where it is new
 pub once_more : (ns pages new : List ℕ) (k number : ℕ) → k < length ns → get_or ns k 0 ≡ number
     → pages ≡ each_once (take k ns) → new ≡ (if is_in number pages then pages else pages
     ++ number ∷ []) → new ≡ each_once (take (k + 1) ns)

@@ -5,7 +5,7 @@ use Rattle.std.specs.Prelude.{filter, if◌then◌else◌, Option, Some, None, O
 use Rattle.std.{specs.Prelude.cond, proofs.Common.{sym, ◌∙◌, ap, arith, take, drop, eq-eqb, rules}}
 use Rattle.std.proofs.lemmas.{Bool.{lt-ltb, le-leb, lt-leb, le-ltb}, List.{ext_get_or, get_or-take}}
 use Rattle.std.proofs.lemmas.List.{get_or-drop, append-nil, FromFn.get_or-map-range_with_len}
-use Rattle.vb_model.{specs.Tests.is_in, specs.Driver.AllDistinct}
+use Rattle.vb_virtio.specs.Tests.{is_in, AllDistinct}
 use Rattle.vb_ram.{specs.Pages.{Pages, byte_at}, proofs.FieldLaws.field_4}
 use Rattle.vb_chain.{specs.declared.pieces.Piece.Piece, specs.declared.fault.ChainFault.ChainFault}
 use Rattle.vb_chain.specs.declared.fault.ChainFault.TheVariants.{BadPage, ReservedPage}

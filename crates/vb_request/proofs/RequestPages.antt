@@ -4,7 +4,7 @@ use Rattle.std.specs.Prelude.{◌==◌, ◌||◌, nat_le, nat_lt, IsTrue, List, 
 use Rattle.std.specs.Prelude.{filter, if◌then◌else◌, Option, Some, None, Ok, Err, refl, cond}
 use Rattle.std.{proofs.Common.{rules, sym, subst, arith}, proofs.lemmas.Bool.{ltb-false, leb-false}}
 use Rattle.std.proofs.lemmas.List.Elements.{All-filter}
-use Rattle.vb_model.{specs.Tests.is_in, specs.Driver.AllDistinct}
+use Rattle.vb_virtio.specs.Tests.{is_in, AllDistinct}
 use Rattle.vb_ram.specs.Pages.{Pages}
 use Rattle.vb_chain.specs.declared.fault.ChainFault.TheVariants.{WrongDirection, BadLength, BadPage}
 use Rattle.vb_chain.{specs.declared.pieces.Piece.Piece, specs.declared.fault.ChainFault.ChainFault}

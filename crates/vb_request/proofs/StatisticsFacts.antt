@@ -1,7 +1,7 @@
 -- Statistics, what they say of a guest's memory, and what is wrong with a buffer, worked out.
 use Rattle.std.proofs.Common.{◌≡◌, ℕ, true, false, List, [], ◌∷◌, map, refl}
 use Rattle.std.specs.Prelude.{Option, Some, None, Ok, Err}
-use Rattle.vb_model.specs.declared.replies.LastStatistics.{LastStatistics}
+use Rattle.vb_virtio.specs.declared.statistics.LastStatistics.{LastStatistics}
 use Rattle.vb_ram.specs.Pages.{Pages, byte_at}
 use Rattle.vb_chain.specs.declared.pieces.Piece.{Piece}
 use Rattle.vb_chain.specs.declared.fault.ChainFault.TheVariants.{WrongDirection, BadLength}
@@ -56,7 +56,7 @@ lengths : map is_statistics_length (0 ∷ 10 ∷ 15 ∷ 1020 ∷ 1030 ∷ [])
     ≡ true ∷ true ∷ false ∷ true ∷ false ∷ []
 lengths = refl
 
--- all pieces count together; one to be written is told first, wherever it stands
+-- all pieces count together; one to be written is told first, wherever it is
 of_pieces : map statistics_length ([] ∷ (read 0 13 ∷ read 0 7 ∷ []) ∷ (read 0 10 ∷ read 0 5 ∷ [])
     ∷ (read 0 5 ∷ record { addr = 0; len = 10; writable = true } ∷ []) ∷ [])
     ≡ Ok 0 ∷ Ok 20 ∷ Err BadLength ∷ Err WrongDirection ∷ []

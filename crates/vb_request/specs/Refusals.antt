@@ -1,10 +1,11 @@
 -- What a device refuses by its status, its features and the rules of chains alone (VIRTIO 1.1, 2.1;
 -- numbers and order are the profile's).
 use Rattle.std.specs.Prelude.{ℕ, not, [], ◌∷◌, Option}
-use Rattle.vb_model.specs.declared.replies.Refusal.{Refusal}
-use Rattle.vb_model.specs.declared.replies.Refusal.TheVariants.{NoQueue, NotReady, NeedsReset}
-use Rattle.vb_model.specs.FirstRefusal.{◌⇒◌, first_refusal}
-use Rattle.vb_model.specs.Tables.{has_chains, is_not_ready, has_fault, lacks_feature, work_causes}
+use Rattle.vb_virtio.specs.declared.refusals.Refusal.{Refusal}
+use Rattle.vb_virtio.specs.declared.refusals.Refusal.TheVariants.{NoQueue, NotReady, NeedsReset}
+use Rattle.vb_virtio.specs.FirstRefusal.{◌⇒◌, first_refusal}
+use Rattle.vb_virtio.specs.Queues.{has_chains, lacks_feature}
+use Rattle.vb_virtio.specs.Status.{is_not_ready, has_fault, work_causes}
 use Rattle.vb_chain.specs.declared.fault.ChainFault.{ChainFault}
 use Rattle.vb_chain.specs.declared.fault.ChainFault.TheVariants.{BadHead, BadNext, TooLong}
 use Rattle.vb_chain.specs.declared.fault.ChainFault.TheVariants.{Indirect, WrongDirection, OutOfRam}

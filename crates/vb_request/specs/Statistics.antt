@@ -5,9 +5,9 @@ use Rattle.std.specs.Prelude.{length, map, take, drop, if◌then◌else◌, Opti
 use Rattle.std.specs.Prelude.{Ok, Err}
 use Rattle.std.specs.List.{list_any, range_with_len}
 use Rattle.std.specs.Int.{w16, w64, from_le_bytes}
-use Rattle.vb_model.specs.declared.layout.TheConstants.{FREE_MEMORY_TAG, TOTAL_MEMORY_TAG}
-use Rattle.vb_model.specs.declared.layout.TheConstants.{STATISTIC_SIZE, MAX_STATISTICS_LENGTH}
-use Rattle.vb_model.specs.declared.replies.LastStatistics.{LastStatistics}
+use Rattle.vb_virtio.specs.declared.layout.TheConstants.{FREE_MEMORY_TAG, TOTAL_MEMORY_TAG}
+use Rattle.vb_virtio.specs.declared.layout.TheConstants.{STATISTIC_SIZE, MAX_STATISTICS_LENGTH}
+use Rattle.vb_virtio.specs.declared.statistics.LastStatistics.{LastStatistics}
 use Rattle.vb_ram.specs.Pages.{Pages}
 use Rattle.vb_chain.specs.declared.pieces.Piece.{Piece}
 use Rattle.vb_chain.specs.declared.fault.ChainFault.{ChainFault}

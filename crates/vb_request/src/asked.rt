@@ -1,15 +1,15 @@
 //! What a chain of each queue asks.
 
 ghost use Rattle.std.specs.Prelude.{◌≡◌, ◌≤◌, ◌+◌, ◌*◌, All, IfErr, OnOk, OnErr, Ok, Err, length};
-ghost use Rattle.vb_model.specs.declared.limits.TheConstants.{MAX_QUEUE_SIZE};
-ghost use Rattle.vb_model.specs.Limits.{page_size};
-ghost use Rattle.vb_model.specs.Layout.{reserved_pages};
+ghost use Rattle.vb_virtio.specs.declared.limits.TheConstants.{MAX_QUEUE_SIZE};
+ghost use Rattle.vb_virtio.specs.Limits.{page_size};
+ghost use Rattle.vb_virtio.specs.Layout.{reserved_pages};
 ghost use Rattle.vb_request.specs.Asked.{request_of, noted};
 
 use crate::{NamedPages, Statistics, read_report_into, read_request_into, read_statistics};
 use vb_chain::{ChainFault, Piece};
-use vb_model::layout::{REPORT_QUEUE, STATISTICS_QUEUE};
 use vb_ram::{GuestBytes, Shape};
+use vb_virtio::layout::{REPORT_QUEUE, STATISTICS_QUEUE};
 
 /// Puts the pages that a chain of these pieces names on the queue of this number, which is 4 for
 /// reports, of a guest of this shape, into room that the caller keeps; or finds the first rule that

@@ -2,16 +2,16 @@
 
 ghost use Rattle.std.specs.Prelude.{◌≡◌, ◌+◌, ◌*◌, ◌/◌, ◌%◌, ◌^◌, ◌<◌, ◌≤◌, ◌++◌, [], All, length};
 ghost use Rattle.std.specs.List.{list_any};
-ghost use Rattle.vb_model.specs.declared.layout.TheConstants.{REQUEST_BUFFER_SIZE};
-ghost use Rattle.vb_model.specs.declared.limits.TheConstants.{MAX_QUEUE_SIZE};
-ghost use Rattle.vb_model.specs.Limits.{page_size};
+ghost use Rattle.vb_virtio.specs.declared.layout.TheConstants.{REQUEST_BUFFER_SIZE};
+ghost use Rattle.vb_virtio.specs.declared.limits.TheConstants.{MAX_QUEUE_SIZE};
+ghost use Rattle.vb_virtio.specs.Limits.{page_size};
 ghost use Rattle.vb_request.specs.Request.{bytes_from, bytes_of, total_length};
 
 use std::marker::Model;
 use vb_chain::Piece;
-use vb_model::layout::REQUEST_BUFFER_SIZE;
-use vb_model::limits::PAGE_SIZE;
 use vb_ram::GuestBytes;
+use vb_virtio::layout::REQUEST_BUFFER_SIZE;
+use vb_virtio::limits::PAGE_SIZE;
 
 /// Bytes of a page.
 const PAGE_BYTES: u64 = PAGE_SIZE as u64;
@@ -31,7 +31,7 @@ pub(crate) struct ChainBytes {
 
 impl Model for ChainBytes {
     ghost use Rattle.std.specs.Prelude.{◌≤◌, ℕ, List, take};
-    ghost use Rattle.vb_model.specs.declared.layout.TheConstants.{REQUEST_BUFFER_SIZE};
+    ghost use Rattle.vb_virtio.specs.declared.layout.TheConstants.{REQUEST_BUFFER_SIZE};
 
     ghost Value = { List ℕ };
 
@@ -72,7 +72,7 @@ impl ChainBytes {
         &self.bytes[..self.len]
     }
 
-    /// Reads bytes of one page and puts them behind the others.
+    /// Reads bytes of one page and puts them after the others.
     fn append_run<G: GuestBytes>(&mut self, ram: &G, addr: u64, len: usize)
         requires inside { addr + len ≤ page_size * length (G.mem ram.now) }
         requires one_page { addr % page_size + len ≤ page_size }
@@ -88,7 +88,7 @@ impl ChainBytes {
         self.len = end;
     }
 
-    /// Reads a piece's bytes and puts them behind the others: a piece of a chain that is read lies
+    /// Reads a piece's bytes and puts them after the others: a piece of a chain that is read lies
     /// in one page or in two.
     fn append<G: GuestBytes>(&mut self, ram: &G, addr: u64, len: u32)
         requires inside { addr + len ≤ page_size * length (G.mem ram.now) }

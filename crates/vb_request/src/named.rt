@@ -2,8 +2,8 @@
 
 ghost use Rattle.std.specs.Prelude.{◌≡◌, ◌≤◌, ◌+◌, ◌*◌, ◌^◌, [], All, length, slice_get};
 ghost use Rattle.std.specs.Prelude.{Ok, Err, OnOk, IfErr};
-ghost use Rattle.vb_model.specs.declared.limits.TheConstants.{MAX_QUEUE_SIZE, MAX_REPORT_PIECES};
-ghost use Rattle.vb_model.specs.Limits.{page_size};
+ghost use Rattle.vb_virtio.specs.declared.limits.TheConstants.{MAX_QUEUE_SIZE, MAX_REPORT_PIECES};
+ghost use Rattle.vb_virtio.specs.Limits.{page_size};
 ghost use Rattle.vb_request.specs.Request.{page_request};
 ghost use Rattle.vb_request.specs.Report.{pages_of_pieces, RunsFrom};
 
@@ -12,8 +12,8 @@ use crate::request::page_request;
 use arrayvec::ArrayVec;
 use std::marker::Model;
 use vb_chain::{ChainFault, Piece};
-use vb_model::limits::{MAX_REPORT_PIECES, MAX_REQUEST_PAGES};
 use vb_ram::GuestBytes;
+use vb_virtio::limits::{MAX_REPORT_PIECES, MAX_REQUEST_PAGES};
 
 /// Pages of a request, at most.
 const MAX_PAGES: usize = MAX_REQUEST_PAGES as usize;
@@ -82,7 +82,7 @@ fn put_pieces(kept: &mut ReportPieces, pieces: &[Piece])
 /// The pages that a chain names, in order.
 ///
 /// A request lists them, each once, at most 256. Of a report the pieces are kept, at most 32, and
-/// no list of pages, which a guest could make 2,000,000 long; a page may stand in several pieces.
+/// no list of pages, which a guest could make 2,000,000 long; a page may be in several pieces.
 #[derive(Drop)]
 pub struct NamedPages {
     /// One or the other.
@@ -91,7 +91,7 @@ pub struct NamedPages {
 
 impl Model for NamedPages {
     ghost use Rattle.std.specs.Prelude.{◌+◌, ◌*◌, ◌^◌, ◌≤◌, ℕ, List, All};
-    ghost use Rattle.vb_model.specs.Limits.{page_size};
+    ghost use Rattle.vb_virtio.specs.Limits.{page_size};
     ghost use Rattle.vb_request.specs.Kept.{kept_pages, kept_pieces};
 
     ghost Value = { List ℕ };
@@ -181,7 +181,7 @@ impl NamedPages {
     }
 
     /// A run that begins with the page of this number, from 0; none where there are no more than
-    /// that. How many pages it has behind that one is left open.
+    /// that. How many pages it has after that one is left open.
     pub fn run(&self, k: u32) -> Option<NamedRun>
         ensures { RunsFrom self.now k result }
     {

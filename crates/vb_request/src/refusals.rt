@@ -1,16 +1,17 @@
 //! What a device refuses by its status, its features and the rules of chains alone.
 
 ghost use Rattle.std.specs.Prelude.{◌≡◌};
-ghost use Rattle.vb_model.specs.declared.replies.Refusal.TheVariants.{Broken};
-ghost use Rattle.vb_model.specs.Tables.{is_not_ready, has_fault, lacks_feature};
+ghost use Rattle.vb_virtio.specs.declared.refusals.Refusal.TheVariants.{Broken};
+ghost use Rattle.vb_virtio.specs.Status.{is_not_ready, has_fault};
+ghost use Rattle.vb_virtio.specs.Queues.{lacks_feature};
 ghost use Rattle.vb_status.specs.Bits.{status_bits, feature_bits};
 ghost use Rattle.vb_request.specs.Refusals.{rule_of, readiness_refusal, take_refusal_by};
 
 use bitflags::Flags;
 use vb_chain::ChainFault;
-use vb_model::Refusal;
-use vb_model::layout::{REPORT_QUEUE, STATISTICS_QUEUE};
 use vb_status::{Features, Status};
+use vb_virtio::Refusal;
+use vb_virtio::layout::{REPORT_QUEUE, STATISTICS_QUEUE};
 
 /// The number of the rule that a fault breaks, from 1 to 10.
 pub fn rule_of(fault: ChainFault) -> u32
@@ -56,8 +57,8 @@ pub fn readiness_refusal(status: Status) -> Option<Refusal>
     }
 }
 
-/// Whether the queue of this number, which is 4 for reports, stands or falls with a feature that
-/// the driver didn't accept: STATS_VQ that of statistics, and REPORTING that of reports.
+/// Whether the queue of this number, which is 4 for reports, depends on a feature that the driver
+/// didn't accept: STATS_VQ that of statistics, and REPORTING that of reports.
 pub fn lacks_feature(queue: u32, features: Features) -> bool
     ensures { result ≡ lacks_feature (feature_bits features) queue }
 {

@@ -3,8 +3,8 @@
 ghost use Rattle.std.specs.Prelude.{◌≡◌, ◌+◌, ◌*◌, ◌<◌, ◌≤◌, ◌^◌, not, All, MatchResult, Ok, Err};
 ghost use Rattle.std.specs.Prelude.{IfOk, IfErr, OnOk, OnErr, length};
 ghost use Rattle.std.specs.List.{list_any};
-ghost use Rattle.vb_model.specs.declared.limits.TheConstants.{MAX_REPORT_PIECES};
-ghost use Rattle.vb_model.specs.Limits.{page_size};
+ghost use Rattle.vb_virtio.specs.declared.limits.TheConstants.{MAX_REPORT_PIECES};
+ghost use Rattle.vb_virtio.specs.Limits.{page_size};
 ghost use Rattle.vb_request.specs.Report.{RunsFrom};
 ghost use Rattle.vb_request.specs.Report.{pages_of_pieces, has_bad_length, piece_fault};
 ghost use Rattle.vb_request.specs.Report.{first_piece_fault, report_request};
@@ -12,7 +12,7 @@ ghost use Rattle.vb_request.specs.Report.{first_piece_fault, report_request};
 use crate::NamedPages;
 use crate::named::{MAX_PIECES, NamedRun};
 use vb_chain::{ChainFault, Piece};
-use vb_model::limits::PAGE_SIZE;
+use vb_virtio::limits::PAGE_SIZE;
 
 /// Bytes of a page.
 const PAGE_BYTES: u64 = PAGE_SIZE as u64;
@@ -119,8 +119,8 @@ pub fn check_report(pieces: &[Piece], reserved: u32) -> Result<(), ChainFault>
 }
 
 /// The pages that a chain of these pieces names on the queue of reports: those of each piece in
-/// turn, rising; a page that is named again stands there again. The guest's first `reserved` pages
-/// are reserved.
+/// turn, rising; a page that is named again is there again. The guest's first `reserved` pages are
+/// reserved.
 ///
 /// The pieces lie in a guest's memory, as those of a chain do that `vb_chain::walk` gives: no page
 /// has a number of 2^32 or more. Refused as by `check_report`.
@@ -137,8 +137,8 @@ pub fn read_report(pieces: &[Piece], reserved: u32) -> Result<NamedPages, ChainF
     }
 }
 
-/// The same, into room that the caller keeps. What it named before is gone, but where the report is
-/// refused: then it names what it did.
+/// Reads a report as `read_report` does, into room that the caller keeps. What the room named
+/// before is gone, but where the report is refused: then it names what it did.
 pub fn read_report_into(
     pieces: &[Piece],
     reserved: u32,

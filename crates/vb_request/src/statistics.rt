@@ -2,10 +2,10 @@
 
 ghost use Rattle.std.specs.Prelude.{◌≡◌, ◌+◌, ◌*◌, ◌==◌, ◌≤◌, MatchResult, IfOk, Ok, Err, Some};
 ghost use Rattle.std.specs.Prelude.{if◌then◌else◌, All, [], length};
-ghost use Rattle.vb_model.specs.Limits.{page_size};
-ghost use Rattle.vb_model.specs.declared.limits.TheConstants.{MAX_QUEUE_SIZE};
-ghost use Rattle.vb_model.specs.declared.layout.TheConstants.{MAX_STATISTICS_LENGTH};
-ghost use Rattle.vb_model.specs.declared.layout.TheConstants.{FREE_MEMORY_TAG, TOTAL_MEMORY_TAG};
+ghost use Rattle.vb_virtio.specs.Limits.{page_size};
+ghost use Rattle.vb_virtio.specs.declared.limits.TheConstants.{MAX_QUEUE_SIZE};
+ghost use Rattle.vb_virtio.specs.declared.layout.TheConstants.{MAX_STATISTICS_LENGTH};
+ghost use Rattle.vb_virtio.specs.declared.layout.TheConstants.{FREE_MEMORY_TAG, TOTAL_MEMORY_TAG};
 ghost use Rattle.vb_request.specs.Statistics.{statistic_at, statistics_of, last_of};
 ghost use Rattle.vb_request.specs.Statistics.{is_statistics_length, statistics_length};
 ghost use Rattle.vb_request.specs.Statistics.{statistics_request, statistics_in};
@@ -13,8 +13,8 @@ ghost use Rattle.vb_request.specs.Statistics.{statistics_request, statistics_in}
 use crate::buffer::{ChainBytes, gather, has_writable, total_length};
 use byteorder::{ByteOrder, LittleEndian};
 use vb_chain::{ChainFault, Piece};
-use vb_model::layout::{FREE_MEMORY_TAG, MAX_STATISTICS_LENGTH, STATISTIC_SIZE, TOTAL_MEMORY_TAG};
 use vb_ram::GuestBytes;
+use vb_virtio::layout::{FREE_MEMORY_TAG, MAX_STATISTICS_LENGTH, STATISTIC_SIZE, TOTAL_MEMORY_TAG};
 
 /// The figures of a guest's last buffer of statistics, in bytes, as far as it had them (VIRTIO 1.1,
 /// 5.5.6.4).
@@ -51,7 +51,7 @@ impl Statistics {
     }
 }
 
-/// Whether a buffer of statistics may have so many bytes: at most 1020, and a multiple of 10.
+/// Whether a buffer of statistics may have `total` bytes: at most 1020, and a multiple of 10.
 pub fn is_statistics_length(total: u64) -> bool
     ensures { result ≡ is_statistics_length total }
 {

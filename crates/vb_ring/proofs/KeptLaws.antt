@@ -4,7 +4,9 @@ use Rattle.std.specs.Prelude.{◌≡◌, ℕ, ◌+◌, ◌-◌, ◌<◌, ◌≤�
 use Rattle.std.specs.Prelude.{None, ◌++◌, if◌then◌else◌, replicate, take, length, slice_index, refl}
 use Rattle.std.proofs.{lemmas.List.length-replicate, Common.{sym, ◌∙◌, ap, subst, arith, set}}
 use Rattle.{std.specs.Prelude.slice_index_or, vb_ring.specs.Ends.{is_unused, claimed, released}}
-use Rattle.{std.specs.Prelude.is_none, vb_model.{proofs.Tables.length-each_from, specs.Tests.is_in}}
+use Rattle.vb_virtio.proofs.Tables.{length-each_from}
+use Rattle.vb_virtio.specs.Tests.{is_in}
+use Rattle.std.specs.Prelude.{is_none}
 use Rattle.vb_ring.proofs.OwnerLaws.{Claims, claims, Releases, releases, is_in-some, is_in-at}
 use Rattle.vb_ring.specs.{Kept.{LiesBetween, AreKept, IsFreeChain}, Numbers.numbers}
 use Rattle.vb_ring.{proofs.Numbers.{numbers_none, numbers_has}, specs.Entries.{is_own, is_head}}

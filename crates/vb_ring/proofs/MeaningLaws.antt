@@ -5,7 +5,8 @@ use Rattle.std.specs.Prelude.{replicate, slice_index, slice_index_or, refl}
 use Rattle.std.proofs.Common.{sym, ◌∙◌, ap, subst, arith, inl, inr, add-one}
 use Rattle.{std.proofs.lemmas.Bool.{cases_eq, cases_lt, ltb-true}, vb_ring.specs.Numbers.numbers}
 use Rattle.std.proofs.lemmas.List.{length_push, get_or-take, length-take-le, take-append-le}
-use Rattle.{vb_model.specs.Tests.{is_in, one_if}, vb_ram.specs.Pages.{Pages, byte_at, page_at}}
+use Rattle.vb_virtio.specs.Tests.{is_in, one_if}
+use Rattle.vb_ram.specs.Pages.{Pages, byte_at, page_at}
 use Rattle.vb_chain.specs.declared.{descriptor.Descriptor.Descriptor, pieces.Piece.Piece}
 use Rattle.vb_chain.{specs.Written.{linked, empty}, proofs.TableLaws.descriptor_apart}
 use Rattle.{vb_chain.proofs.ChainLaws.flags_next, vb_ring.proofs.HeadCounts.times-take}
@@ -116,12 +117,12 @@ pub next_path-free : (r : DriverEnd) (n k : ℕ) → k < length (next_path r n)
     × (slice_index_or r.owner (slice_index (next_path r n) k) None ≡ None)
 next_path-free r n k h = grind (arith, take_inside, numbers_pass)
 
--- No descriptor stands twice on it.
+-- No descriptor is twice on it.
 pub next_path-rise : (r : DriverEnd) (n j k : ℕ) → j < k → k < length (next_path r n)
     → slice_index (next_path r n) j < slice_index (next_path r n) k
 next_path-rise r n j k l h = grind (arith, take_inside, numbers_rise)
 
--- Each free descriptor below its last one stands on it.
+-- Each free descriptor below its last one is on it.
 pub next_path-lowest : (r : DriverEnd) (n i : ℕ) → is_unused r.owner i ≡ true
     → 0 < length (next_path r n)
     → i < slice_index (next_path r n) (length (next_path r n) - 1) → is_in i (next_path r n) ≡ true

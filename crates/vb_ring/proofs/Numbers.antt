@@ -2,7 +2,9 @@
 use Rattle.std.proofs.lemmas.List.{length_push, get_or_append_left, get_or_push, length-take}
 use Rattle.std.specs.Prelude.{◌≡◌, ◌≢◌, ◌⊎◌, ℕ, zero, suc, ◌+◌, ◌<◌, ◌≤◌, Bool, true, false, []}
 use Rattle.std.specs.Prelude.{◌∷◌, ◌++◌, length, slice_index, if◌then◌else◌, refl, slice_get, Some}
-use Rattle.{std.specs.Prelude.take, vb_model.specs.Tests.one_if, vb_ring.specs.Numbers.numbers}
+use Rattle.vb_virtio.specs.Tests.{one_if}
+use Rattle.std.specs.Prelude.{take}
+use Rattle.vb_ring.specs.Numbers.{numbers}
 use Rattle.std.proofs.lemmas.{List.{take_all, take-append-le}, Option.slice_get-get_or}
 use Rattle.std.proofs.{Common.{sym, ◌∙◌, ap, arith, inl, inr, add-one}, lemmas.Bool.cases_eq}
 

@@ -3,9 +3,11 @@ use Rattle.std.specs.Prelude.{◌≡◌, ◌≢◌, ℕ, zero, suc, ◌<◌, ◌
 use Rattle.std.specs.Prelude.{◌∷◌, ◌+◌, Option, Some, None, is_none, if◌then◌else◌, length, take}
 use Rattle.std.proofs.lemmas.List.{length-map, get_or-map, get_or_past, get_or-take, length-take}
 use Rattle.std.specs.{Prelude.{replicate, slice_index, slice_index_or, refl}, List.list_any}
-use Rattle.{std.proofs.Common.{sym, ◌∙◌, ap, arith, eq-eqb}, vb_model.proofs.Tables.each_page-get}
+use Rattle.vb_virtio.proofs.Tables.{each_page-get}
+use Rattle.vb_virtio.specs.Tests.{is_in}
+use Rattle.std.proofs.Common.{sym, ◌∙◌, ap, arith, eq-eqb}
 use Rattle.std.proofs.lemmas.{Bool.eqb-true, List.{get_or-replicate, length-replicate}}
-use Rattle.{vb_model.specs.Tests.is_in, vb_ring.proofs.Numbers.length_gain}
+use Rattle.vb_ring.proofs.Numbers.{length_gain}
 use Rattle.vb_ring.specs.{Entries.{is_own, is_head}, Numbers.numbers, Ends.{claimed, released}}
 
 -- A number that equals itself.
@@ -14,13 +16,13 @@ same_number n = eq-eqb n n refl
 
 -- ---- members
 
--- What stands in a list is in it.
+-- What is in a list is in it.
 pub is_in-at : (xs : List ℕ) (k : ℕ) → k < length xs → is_in (slice_index xs k) xs ≡ true
 is_in-at [] k h = absurd (omega arith)
 is_in-at (x ∷ xs) zero h = ap (λ (b : Bool). b || list_any (λ m. m == x) xs) (same_number x)
 is_in-at (x ∷ xs) (suc k) h = grind (arith, is_in-at xs k (omega arith))
 
--- What is in a list stands somewhere in it.
+-- What is in a list is somewhere in it.
 pub is_in-some : (xs : List ℕ) (n : ℕ) → is_in n xs ≡ true
     → (k : ℕ) × (k < length xs) × (slice_index xs k ≡ n)
 is_in-some [] n h = cc
@@ -31,11 +33,11 @@ is_in-some (x ∷ xs) n h = at (x == n) refl (is_in-some xs n) where
   at false e more = let rest : is_in n xs ≡ true = ap (λ (b : Bool). b || is_in n xs) (sym e) ∙ h in
       let found = more rest in (suc found.0, omega (arith, found.1), found.2)
 
--- Not in a list, a number stands nowhere in it.
+-- Not in a list, a number is nowhere in it.
 pub not_in : (xs : List ℕ) (n k : ℕ) → is_in n xs ≡ false → k < length xs → slice_index xs k ≢ n
 not_in xs n k h l e = grind (arith, is_in-at)
 
--- A number that stands nowhere in a list isn't in it.
+-- A number that is nowhere in a list isn't in it.
 pub nowhere_in : (xs : List ℕ) (n : ℕ) → ((k : ℕ) → k < length xs → slice_index xs k ≢ n)
     → is_in n xs ≡ false
 nowhere_in xs n h = grind (arith, is_in-some)

@@ -1,5 +1,7 @@
 -- Where the parts of a ring lie, whatever its size: for the crates above too.
-use Rattle.{std.proofs.Common.{ℕ, arith}, vb_model.{proofs.Shapes.InRing, specs.Layout.ring_page}}
+use Rattle.vb_virtio.proofs.Shapes.{InRing}
+use Rattle.vb_virtio.specs.Layout.{ring_page}
+use Rattle.std.proofs.Common.{ℕ, arith}
 use Rattle.vb_ring.proofs.Powers.{size_cases}
 use Rattle.vb_ring.specs.{Layout.{IsSize, Fits, layout_of}, declared.layout.Layout.Layout}
 

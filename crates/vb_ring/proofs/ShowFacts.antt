@@ -3,7 +3,7 @@
 use Rattle.std.proofs.Common.{◌≡◌, ◌↔◌, ℕ, zero, suc, ◌+◌, ◌*◌, ◌%◌, ◌<◌, ◌≤◌, true, false, List}
 use Rattle.std.proofs.Common.{[], ◌∷◌, refl, arith, ap, ◌∙◌}
 use Rattle.std.specs.Prelude.{Option, Some, None, IsSome, length, replicate, slice_index_or}
-use Rattle.vb_model.specs.Tests.{one_if}
+use Rattle.vb_virtio.specs.Tests.{one_if}
 use Rattle.vb_ram.specs.Pages.{Pages, field, byte_at, page_at, frame_at, contents_at}
 use Rattle.vb_chain.specs.{declared.descriptor.Descriptor.Descriptor, Table.descriptor_at}
 use Rattle.vb_ring.specs.{declared.layout.Layout.Layout, Layout.{layout_of, Fits, IsSize}}

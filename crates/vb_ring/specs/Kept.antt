@@ -1,7 +1,7 @@
 -- What the driver's table keeps beside the owners.
 use Rattle.std.specs.Prelude.{◌≡◌, ℕ, ◌-◌, ◌<◌, ◌≤◌, true, false, List, Option, Some, None, length}
 use Rattle.std.specs.Prelude.{slice_index, slice_index_or}
-use Rattle.vb_model.specs.Tests.{is_in}
+use Rattle.vb_virtio.specs.Tests.{is_in}
 use Rattle.vb_chain.specs.declared.pieces.TheConstants.{MAX_DESCRIPTORS}
 use Rattle.vb_ring.specs.Entries.{is_head}
 use Rattle.vb_ring.specs.Numbers.{numbers}
@@ -13,8 +13,8 @@ pub record LiesBetween (owner : List (Option ℕ)) (last : List ℕ) (i h : ℕ)
   pub from : h ≤ i
   pub to : i ≤ slice_index last h
 
--- Of a table of so many descriptors: how many chains are out, where each of them ends, and a number
--- below which none is free.
+-- Of a table of n descriptors: how many chains are out, where each of them ends, and a number below
+-- which none is free.
 pub record AreKept (owner : List (Option ℕ)) (count out : ℕ) (last : List ℕ) (from : ℕ) :
     Type 0 where
   pub size : length owner ≡ count

@@ -1,7 +1,7 @@
 -- Where the parts of a split virtqueue lie (VIRTIO 1.1, 2.6).
 use Rattle.std.specs.Prelude.{◌≡◌, ℕ, ◌+◌, ◌*◌, ◌/◌, ◌%◌, ◌<◌, ◌≤◌, IsSome, length}
 use Rattle.std.specs.Int.{next_multiple_of}
-use Rattle.vb_model.specs.declared.limits.TheConstants.{PAGE_SIZE, MIN_QUEUE_SIZE, MAX_QUEUE_SIZE}
+use Rattle.vb_virtio.specs.declared.limits.TheConstants.{PAGE_SIZE, MIN_QUEUE_SIZE, MAX_QUEUE_SIZE}
 use Rattle.vb_ram.specs.Pages.{Pages, frame_at}
 use Rattle.vb_chain.specs.declared.descriptor.TheConstants.{DESCRIPTOR_SIZE}
 use Rattle.vb_ring.specs.declared.layout.RingArea.{RingArea}
@@ -14,7 +14,7 @@ pub record IsSize (q : ℕ) : Type 0 where
   pub most : q ≤ MAX_QUEUE_SIZE
   pub divides : 65536 % q ≡ 0
 
--- Where byte n of a ring stands that begins with this page.
+-- Where byte n of a ring is that begins with this page.
 abbrev pub area_at : ℕ → ℕ → RingArea
 area_at page n = record { page = page + n / PAGE_SIZE; offset = n % PAGE_SIZE }
 

@@ -2,8 +2,8 @@
 -- oldest first (VIRTIO 1.1, 2.6).
 use Rattle.std.specs.Prelude.{◌≡◌, ◌≢◌, ℕ, ◌+◌, ◌%◌, ◌<◌, ◌≤◌, true, List, Some, None}
 use Rattle.std.specs.Prelude.{length, take, map, slice_index, slice_index_or}
-use Rattle.vb_model.specs.Tests.{one_if}
-pub use Rattle.vb_model.specs.Tests.{times}
+use Rattle.vb_virtio.specs.Tests.{one_if}
+pub use Rattle.vb_virtio.specs.Tests.{times}
 use Rattle.vb_ram.specs.Pages.{Pages, field}
 use Rattle.vb_chain.specs.declared.descriptor.Descriptor.{Descriptor}
 use Rattle.vb_chain.specs.Table.{descriptor_at}
@@ -55,8 +55,8 @@ pub record IsTablePath (d : ℕ → Descriptor) (q head : ℕ) (path : List ℕ)
   pub inside : (k : ℕ) → k < length path → slice_index path k < q
 
 -- The bytes of a ring of q descriptors show these lists: the indices and the last entries say them;
--- the used heads are among the published ones, as often as they stand there; at most q are
--- published and not used, no head twice, and the chains of two of them share no descriptor.
+-- the used heads are among the published ones, as often as they are there; at most q are published
+-- and not used, no head twice, and the chains of two of them share no descriptor.
 pub record Shows (mem : Pages) (l : Layout) (q : ℕ) (heads : List ℕ) (elems : List UsedElem) :
     Type 0 where
   pub entries : ShowsEntries mem l q heads elems
@@ -69,7 +69,7 @@ pub record Shows (mem : Pages) (l : Layout) (q : ℕ) (heads : List ℕ) (elems 
       IsTablePath (descriptor_at mem l.table) q j b →
       (k n : ℕ) → k < length a → n < length b → slice_index a k ≢ slice_index b n
 
--- A driver's end stands by a ring that shows these lists, of whose used elements it has seen the
+-- A driver's end agrees with a ring that shows these lists, of whose used elements it has seen the
 -- first s: its table has just the heads that were published and not seen as used, and each
 -- descriptor on a path from one of these belongs to that head.
 pub record Tracks (mem : Pages) (r : DriverEnd) (heads : List ℕ) (elems : List UsedElem) (s : ℕ) :

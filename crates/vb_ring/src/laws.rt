@@ -1,7 +1,7 @@
 //! Laws about the definitions. Each is the contract of a function that does nothing.
 
 ghost use Rattle.std.specs.Prelude.{◌≡◌, ℕ, ◌<◌, ◌≤◌, List, [], Some, None, Ok, slice_index_or};
-ghost use Rattle.vb_model.specs.declared.limits.TheConstants.{PAGE_SIZE};
+ghost use Rattle.vb_virtio.specs.declared.limits.TheConstants.{PAGE_SIZE};
 ghost use Rattle.vb_ram.specs.Pages.{Pages, byte_at, page_at};
 ghost use Rattle.vb_chain.specs.declared.pieces.Piece.{Piece};
 ghost use Rattle.vb_chain.specs.Table.{descriptor_at};

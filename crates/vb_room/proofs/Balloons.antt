@@ -4,12 +4,15 @@ use Rattle.std.proofs.lemmas.Bool.{eqb-true}
 use Rattle.std.specs.Prelude.{None, Some, count_by, not, slice_get, ◌==◌, ◌&&◌, ◌||◌}
 use Rattle.vb_model.proofs.Cases.{match_cases}
 use Rattle.vb_model.proofs.Counts.{inside}
-use Rattle.vb_model.proofs.Tables.{count_by-cons}
+use Rattle.vb_virtio.proofs.Tables.{count_by-cons}
+use Rattle.vb_virtio.specs.Features.{must_tell_host}
+use Rattle.vb_virtio.specs.Queues.{Deflating, Inflating, Kind, Reporting_free, Request}
+use Rattle.vb_virtio.specs.Tests.{each_from, is_in, one_if}
 use Rattle.vb_model.specs.Device.{TakesBuffer, TakesRequest, ReturnsBuffer, Works, settled, used, visited, next_page}
 use Rattle.vb_model.specs.Driver.{Fills, Reaps}
-use Rattle.vb_model.specs.Guest.{Guest, ballooned_count, is_ballooned, must_tell_host, tells_host, with_requests}
-use Rattle.vb_model.specs.Requests.{BufferDone, BufferPosted, BufferTaken, Deflating, Inflating, Kind, Reporting_free, Request, Requests, StatisticsBuffer}
-use Rattle.vb_model.specs.Tests.{each_from, is_in, one_if}
+use Rattle.vb_model.specs.Guest.{Guest, ballooned_count, is_ballooned, tells_host, with_requests}
+use Rattle.vb_model.specs.Requests.{BufferDone, BufferPosted, BufferTaken, Requests}
+use Rattle.vb_model.specs.Requests.{StatisticsBuffer}
 use Rattle.vb_model.specs.declared.calls.Call.{Call}
 use Rattle.vb_model.specs.declared.replies.Reply.{Reply}
 use Rattle.vb_room.specs.Counts.{CountsSo, pages_of_request}
@@ -139,7 +142,7 @@ pub record SameBalloon (g new : Guest) : Type 0 where
   pub features : new.features ≡ g.features
   pub rogue : new.rogue ≡ g.rogue
 
-same_count : (g new : Guest) → SameBalloon g new → counted new ≡ counted g
+pub same_count : (g new : Guest) → SameBalloon g new → counted new ≡ counted g
 same_count g new s = ap (λ (r : Bool). count_of r new.features new.ballooned) s.rogue
     ∙ (ap (λ (f : ℕ). count_of g.rogue f new.ballooned) s.features
     ∙ ap (λ (flags : List Bool). count_of g.rogue g.features flags) s.flags)

@@ -9,7 +9,8 @@ use Rattle.vb_model.specs.Guest.{Guest, backed_count}
 use Rattle.vb_model.specs.HostEvents.{Happens, PlugsIn, WorldStep, after_balance, Calls}
 use Rattle.vb_model.specs.HostRefusals.{world_causes}
 use Rattle.vb_model.specs.Life.{after_restart}
-use Rattle.vb_model.specs.FirstRefusal.{first_refusal}
+use Rattle.vb_virtio.specs.FirstRefusal.{first_refusal}
+use Rattle.vb_virtio.specs.declared.refusals.Refusal.TheVariants.{NoFrame}
 use Rattle.vb_model.specs.Rogue.{pages_to_back}
 use Rattle.vb_model.specs.Run.{History, Run, last_world, states}
 use Rattle.vb_model.specs.World.{World, guest_at, made, put_guest}
@@ -17,7 +18,6 @@ use Rattle.vb_model.specs.declared.calls.Call.{Call}
 use Rattle.vb_model.specs.declared.calls.Event.{Event}
 use Rattle.vb_model.specs.declared.calls.Event.TheVariants.{Balance, Plug, Restart, Unplug}
 use Rattle.vb_model.specs.declared.calls.Event.TheVariants.{Frames as CountFrames, Guest as OnGuest, Query as OnQuery}
-use Rattle.vb_model.specs.declared.replies.Refusal.TheVariants.{NoFrame}
 use Rattle.vb_model.specs.declared.replies.Reply.{Reply}
 use Rattle.vb_model.specs.declared.replies.Reply.TheVariants.{Done, Refused, Targets}
 use Rattle.vb_lender.specs.declared.loan.Loan.{Loan}

@@ -6,7 +6,7 @@ use Rattle.vb_model.specs.declared.calls.Claim.TheVariants.{GaveNoFrame}
 use Rattle.vb_model.specs.declared.calls.Event.{Event}
 use Rattle.vb_model.specs.declared.calls.Event.TheVariants.{Frames as CountFrames, Guest as OnGuest, Plug, Restart, Unplug}
 use Rattle.vb_model.specs.declared.places.Place.TheVariants.{Free, Reserved, Used}
-use Rattle.vb_model.specs.declared.replies.Refusal.TheVariants.{NoFrame, NoMemory}
+use Rattle.vb_virtio.specs.declared.refusals.Refusal.TheVariants.{NoFrame, NoMemory}
 use Rattle.vb_model.specs.declared.replies.Reply.TheVariants.{Done, Frames, Plugged, Refused}
 use Rattle.vb_model.specs.Guest.{Guest, fresh}
 use Rattle.vb_model.specs.HostEvents.{WorldStep}

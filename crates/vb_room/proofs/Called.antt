@@ -1,28 +1,34 @@
 -- Each call, whatever it is answered, leaves as many pages that count as the table says.
-use Rattle.std.proofs.Common.{Bool, List, ap, arith, cond, false, inl, inr, refl, subst, sym, true, ℕ, ◌+◌, ◌∙◌, ◌≤◌, ◌≡◌, ◌≢◌}
+use Rattle.std.proofs.Common.{Bool, List, [], ◌∷◌, ap, arith, cond, false, inl, inr, refl, subst, sym, true, ℕ, ◌+◌, ◌∙◌, ◌≤◌, ◌≡◌, ◌≢◌}
 use Rattle.std.specs.Prelude.{None, Option, Some, count_by, length, not, slice_get, ◌&&◌}
 use Rattle.vb_model.proofs.Cases.{by_kind, match_cases}
 use Rattle.vb_model.proofs.Changes.{Effect, Has_called, Is_aimed, Is_gone, Is_new, Is_plugged, Same, effect, same_some}
 use Rattle.vb_model.proofs.Outcomes.{begun}
 use Rattle.vb_model.proofs.Performed.{Performed, honest_case}
-use Rattle.vb_model.specs.Device.{settled, used}
+use Rattle.vb_model.proofs.Counts.{named-append}
+use Rattle.vb_model.proofs.PageSteps.{after_take}
+use Rattle.vb_model.proofs.Serving.{serving_keeps}
+use Rattle.std.specs.Prelude.{remove}
+use Rattle.vb_model.specs.Device.{ServesRequests, settled, used}
 use Rattle.vb_model.specs.Driver.{claim_refusal}
-use Rattle.vb_model.specs.FirstRefusal.{first_refusal}
-use Rattle.vb_model.specs.Guest.{Guest, requests, tells_host}
+use Rattle.vb_virtio.specs.FirstRefusal.{first_refusal}
+use Rattle.vb_virtio.specs.Status.{feature_causes}
+use Rattle.vb_virtio.specs.Queues.{Deflating, Inflating, Kind, Reporting_free, Request}
+use Rattle.vb_virtio.specs.Queues.{kind_of_queue}
+use Rattle.vb_model.specs.Guest.{Guest, requests, tells_host, with_requests}
 use Rattle.vb_model.specs.HostEvents.{WorldStep}
-use Rattle.vb_model.specs.Life.{feature_causes}
 use Rattle.vb_model.specs.Refusals.{refusal_of}
-use Rattle.vb_model.specs.Requests.{Deflating, Inflating, Kind, Reporting_free, Request, kind_of_queue}
+use Rattle.vb_model.specs.Requests.{pages_named}
 use Rattle.vb_model.specs.Rogue.{GuestStep}
 use Rattle.vb_model.specs.World.{World, guest_at}
 use Rattle.vb_model.specs.declared.calls.Call.{Call}
-use Rattle.vb_model.specs.declared.calls.Call.TheVariants.{Alloc, Ask, Deflate, Finish, Free, Inflate, Init, Oom, Read, Reap, Report, Reset, Scribble, SetTarget, Stats, Sweep, Take, Work, Write}
+use Rattle.vb_model.specs.declared.calls.Call.TheVariants.{Alloc, Ask, Deflate, Finish, Free, Inflate, Init, Oom, Read, Reap, Report, Reset, Scribble, Serve, SetTarget, Stats, Sweep, Take, Work, Write}
 use Rattle.vb_model.specs.declared.calls.Claim.{Claim}
 use Rattle.vb_model.specs.declared.calls.Event.TheVariants.{Guest as OnGuest}
 use Rattle.vb_model.specs.declared.replies.Reply.{Reply}
-use Rattle.vb_room.proofs.Balloons.{SameBalloon, by_flags, clears, counted_few, counted_rogue, fills_same, inside_few, itself, no_flag, no_flags, reaps_same, returns_same, same_by, same_so, set_more, set_no_less, takes_buffer_same, takes_same, works_same}
+use Rattle.vb_room.proofs.Balloons.{same_count, with_same, SameBalloon, by_flags, clears, counted_few, counted_rogue, fills_same, inside_few, itself, no_flag, no_flags, reaps_same, returns_same, same_by, same_so, set_more, set_no_less, takes_buffer_same, takes_same, works_same}
 use Rattle.vb_room.proofs.Bare.{AllBare, IsBare, in_runs, init_idle}
-use Rattle.vb_room.specs.Counts.{CallsCountSo, CountsSo, finish_puts_in, finish_takes_out, pages_of_request}
+use Rattle.vb_room.specs.Counts.{serve_puts_in, serve_takes_out, pages_in_queue, CallsCountSo, CountsSo, finish_puts_in, finish_takes_out, pages_of_request}
 use Rattle.vb_room.specs.Tie.{counted}
 
 -- ---- a finish
@@ -50,6 +56,69 @@ finishes Reporting_free i r g new is e =
 
 finish_so : (o : Option Kind) (q i : ℕ) (g new : Guest) → kind_of_queue q ≡ o → FinishesSo o i g new → CountsSo (Finish q i) g new
 finish_so o q i g new e s = let t = subst (λ (k : Option Kind). FinishesSo k i g new) (sym e) s in record { least = t.0; most = t.1 }
+
+-- ---- a serve: each request is taken, and finished before the next one
+
+abbrev left : Kind → Guest → ℕ
+left kind g = pages_in_queue (requests kind g)
+
+taken_left : (kind : Kind) (r : Request) (rest : List Request) (g : Guest) → (requests kind g).posted ≡ r ∷ rest
+    → left kind (with_requests kind (after_take r rest (requests kind g)) g) ≡ left kind g
+taken_left Inflating r rest g e = omega (arith, ap pages_named e, named-append g.inflate.taken (record r { visited = 0 } ∷ []))
+taken_left Deflating r rest g e = omega (arith, ap pages_named e, named-append g.deflate.taken (record r { visited = 0 } ∷ []))
+taken_left Reporting_free r rest g e = omega (arith, ap pages_named e, named-append g.report.taken (record r { visited = 0 } ∷ []))
+
+removed : (rs : List Request) (x : Request) → slice_get rs 0 ≡ Some x → pages_named (remove rs 0) + length x.pages ≡ pages_named rs
+removed [] x e = absurd cc
+removed (r ∷ rs) x e = omega (arith, ap (λ (y : Request). length y.pages) (let same : r ≡ x = cc in same))
+
+of_first : (rs : List Request) (x : Request) → slice_get rs 0 ≡ Some x → pages_of_request rs 0 ≡ length x.pages
+of_first rs x e = rw e refl
+
+finished_left : (kind : Kind) (x : Request) (g : Guest) → slice_get (requests kind g).taken 0 ≡ Some x
+    → (left kind (settled kind x.pages (used kind 0 x g)) + length x.pages ≡ left kind g)
+    × (pages_of_request (requests kind g).taken 0 ≡ length x.pages)
+finished_left Inflating x g e = (omega (arith, removed g.inflate.taken x e), of_first g.inflate.taken x e)
+finished_left Deflating x g e = (omega (arith, removed g.deflate.taken x e), of_first g.deflate.taken x e)
+finished_left Reporting_free x g e = (omega (arith, removed g.report.taken x e), of_first g.report.taken x e)
+
+-- as many more or less as pages were left
+abbrev ServesSo : Kind → Guest → Guest → Type 0
+ServesSo kind g new = (counted g + serve_takes_out (Some kind) new ≤ counted new + serve_takes_out (Some kind) g)
+    × (counted new + serve_puts_in (Some kind) new ≤ counted g + serve_puts_in (Some kind) g)
+
+serves_on : (kind : Kind) (a b c : Guest) → ServesSo kind a b → ServesSo kind b c → ServesSo kind a c
+serves_on kind a b c s t = (omega (arith, s.0, t.0), omega (arith, s.1, t.1))
+
+serves_take : (kind : Kind) (g new : Guest) → SameBalloon g new → left kind new ≡ left kind g → ServesSo kind g new
+serves_take Inflating g new s e = let c = same_count g new s in (omega (arith, c), omega (arith, c, e))
+serves_take Deflating g new s e = let c = same_count g new s in (omega (arith, c, e), omega (arith, c))
+serves_take Reporting_free g new s e = let c = same_count g new s in (omega (arith, c), omega (arith, c))
+
+serves_finish : (kind : Kind) (x : Request) (g new : Guest) → FinishesSo (Some kind) 0 g new
+    → left kind new + length x.pages ≡ left kind g → pages_of_request (requests kind g).taken 0 ≡ length x.pages → ServesSo kind g new
+serves_finish Inflating x g new s e f = (omega (arith, s.0), omega (arith, s.1, e, f))
+serves_finish Deflating x g new s e f = (omega (arith, s.0, e, f), omega (arith, s.1))
+serves_finish Reporting_free x g new s e f = (omega (arith, s.0), omega (arith, s.1))
+
+-- what the serve of a queue leaves, step by step
+serves : (kind : Kind) (g new : Guest) (reply : Reply) → ServesRequests kind (requests kind g).posted 0 g reply new → ServesSo kind g new
+serves kind g new reply s = serving_keeps kind (ServesSo kind g)
+    (λ x r rest e h. serves_on kind g x (with_requests kind (after_take r rest (requests kind x)) x) h
+    (serves_take kind x (with_requests kind (after_take r rest (requests kind x)) x) (with_same kind _ x) (taken_left kind r rest x e)))
+    (λ x r e h. let done = finished_left kind r x e in
+    serves_on kind g x (settled kind r.pages (used kind 0 r x)) h
+    (serves_finish kind r x (settled kind r.pages (used kind 0 r x)) (finishes kind 0 r x _ e refl) done.0 done.1))
+    (requests kind g).posted 0 g reply new refl s (omega arith, omega arith)
+
+serve_so : (o : Option Kind) (q : ℕ) (kind : Kind) (g new : Guest) → kind_of_queue q ≡ Some kind → ServesSo kind g new → CountsSo (Serve q) g new
+serve_so o q kind g new e s =
+    let least : counted g ≤ counted new + serve_takes_out (Some kind) g = omega (arith, s.0) in
+    let most : counted new ≤ counted g + serve_puts_in (Some kind) g = omega (arith, s.1) in
+    record {
+      least = subst (λ (k : Option Kind). counted g ≤ counted new + serve_takes_out k g) (sym e) least;
+      most = subst (λ (k : Option Kind). counted new ≤ counted g + serve_puts_in k g) (sym e) most;
+    }
 
 -- ---- an initialisation: of a guest that isn't ready nothing counts
 
@@ -112,6 +181,10 @@ performed_so Work g claims reply new h e s = same_so _ g new (works_same g reply
 performed_so (Finish q i) g claims reply new h e s = elim (match_cases (kind_of_queue q) _ _ s.1) [
   | inl none ↦ absurd none.1
   | inr k ↦ finish_so (Some k.0) q i g new k.1 (finishes k.0 i k.2.0 g new k.2.1 k.2.3)
+]
+performed_so (Serve q) g claims reply new h e s = elim (match_cases (kind_of_queue q) _ _ s.1) [
+  | inl none ↦ same_so _ g new (takes_buffer_same g.buffer g none.1.0 new none.1.1)
+  | inr k ↦ serve_so (Some k.0) q k.0 g new k.1 (serves k.0 g new reply k.2)
 ]
 performed_so (Sweep page) g claims reply new h e s = by_change _ g new _ s.1.1 (record { flags = refl; features = refl; rogue = refl })
 performed_so Ask g claims reply new h e s = same_so _ g new (returns_same g.buffer g reply new s.1)

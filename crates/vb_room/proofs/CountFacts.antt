@@ -1,11 +1,12 @@
 -- Worked facts of what each call puts into a balloon and takes out of it.
 use Rattle.std.proofs.Common.{◌≡◌, ℕ, ◌≤◌, true, List, [], ◌∷◌, map, replicate, refl, arith}
 use Rattle.vb_model.specs.declared.calls.Call.{Call}
-use Rattle.vb_model.specs.declared.calls.Call.TheVariants.{Alloc, Ask, Deflate, Finish, Free, Inflate, Init, Oom, Read, Reap, Report, Reset, Scribble, SetTarget, Stats, Sweep, Take, Work, Write}
+use Rattle.vb_model.specs.declared.calls.Call.TheVariants.{Alloc, Ask, Deflate, Finish, Free, Inflate, Init, Oom, Read, Reap, Report, Reset, Scribble, Serve, SetTarget, Stats, Sweep, Take, Work, Write}
 use Rattle.vb_model.specs.Device.{settled}
 use Rattle.vb_model.specs.Guest.{Guest}
 use Rattle.vb_model.specs.Life.{after_reset}
-use Rattle.vb_model.specs.Requests.{Deflating, Inflating, Reporting_free, Request, no_requests}
+use Rattle.vb_virtio.specs.Queues.{Deflating, Inflating, Reporting_free, Request}
+use Rattle.vb_model.specs.Requests.{no_requests}
 use Rattle.vb_room.proofs.TieFacts.{rogue, some, untold}
 use Rattle.vb_room.specs.Counts.{CountsSo, pages_of_request, puts_in, takes_out}
 use Rattle.vb_room.specs.Tie.{counted}
@@ -39,6 +40,11 @@ finishes_take = refl
 abbrev others : List Call
 others = Init 0 ∷ Alloc 0 0 ∷ Free 0 0 0 ∷ Read 0 0 0 ∷ Write 0 0 [] ∷ Inflate 4 ∷ Deflate 4 ∷ Oom 4
     ∷ Report 0 ∷ Stats ∷ Reap 0 ∷ Reap 1 ∷ Take 0 ∷ Take 1 ∷ Work ∷ Sweep 20 ∷ Ask ∷ SetTarget 9 ∷ []
+
+-- of a queue all requests are served, and of the statistics' none puts in or takes out
+serves : (map (λ call. puts_in call (busy some)) (Serve 0 ∷ Serve 1 ∷ Serve 2 ∷ Serve 4 ∷ []) ≡ 4 ∷ 0 ∷ 0 ∷ 0 ∷ [])
+    × (map (λ call. takes_out call (busy some)) (Serve 0 ∷ Serve 1 ∷ Serve 2 ∷ Serve 4 ∷ []) ≡ 0 ∷ 3 ∷ 0 ∷ 0 ∷ [])
+serves = (refl, refl)
 
 others_put_nothing : map (λ call. puts_in call (busy some)) (Reset ∷ Scribble 0 0 [] ∷ others) ≡ replicate 20 0
 others_put_nothing = refl

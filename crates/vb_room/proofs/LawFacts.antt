@@ -3,7 +3,7 @@ use Rattle.std.proofs.Common.{◌≡◌, inl, inr, ◌≤◌, true, List, [], �
 use Rattle.std.specs.Prelude.{None, Some, slice_get}
 use Rattle.vb_model.specs.declared.calls.Call.TheVariants.{Scribble, Work, Write}
 use Rattle.vb_model.specs.declared.calls.Event.TheVariants.{Frames as CountFrames, Guest as OnGuest}
-use Rattle.vb_model.specs.declared.replies.Refusal.TheVariants.{NoFrame}
+use Rattle.vb_virtio.specs.declared.refusals.Refusal.TheVariants.{NoFrame}
 use Rattle.vb_model.specs.declared.replies.Reply.TheVariants.{Done, Frames, Refused}
 use Rattle.vb_model.specs.Guest.{Guest, frame_of, is_ballooned, tells_host}
 use Rattle.vb_model.specs.HostEvents.{WorldStep}

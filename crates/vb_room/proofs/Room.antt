@@ -13,17 +13,17 @@ use Rattle.vb_model.proofs.Kept.{used_page}
 use Rattle.vb_model.proofs.Outcomes.{Begun, Cleared, Emptied, Outcome, Put, Retargeted as Turned_to, Shuffled, Turned, outcome}
 use Rattle.vb_model.proofs.RogueSteps.{honest_unreserved}
 use Rattle.vb_model.proofs.Runs.{Good, Positions, positions}
-use Rattle.vb_model.proofs.Tables.{length-each_from}
+use Rattle.vb_virtio.proofs.Tables.{length-each_from}
+use Rattle.vb_virtio.specs.Tests.{AllDistinct, is_in, one_if}
+use Rattle.vb_virtio.specs.Layout.{is_start_page, reserved_pages, start_pages}
 use Rattle.vb_model.proofs.Wanting.{needed_pages_bare, no_frame_exact}
-use Rattle.vb_model.specs.Driver.{AllDistinct, given, pages_needed}
+use Rattle.vb_model.specs.Driver.{given, pages_needed}
 use Rattle.vb_model.specs.Guest.{Guest, all_backed, backed, backed_count, ballooned_count, frame_of, is_ballooned, tells_host, unbacked}
-use Rattle.vb_model.specs.Layout.{is_start_page, reserved_pages, start_pages}
 use Rattle.vb_model.specs.Life.{lacking}
 use Rattle.vb_model.specs.Refusals.{causes, is_outside, refusal_of}
 use Rattle.vb_model.specs.Rogue.{pages_to_back}
 use Rattle.vb_model.specs.Run.{History, Run, states}
 use Rattle.vb_model.specs.Step.{bare_pages}
-use Rattle.vb_model.specs.Tests.{is_in, one_if}
 use Rattle.vb_model.specs.World.{World, guest_at, made}
 use Rattle.vb_model.specs.declared.calls.Call.{Call, TheVariants.{Init, Scribble, Write}}
 use Rattle.vb_model.specs.declared.calls.Claim.{Claim}

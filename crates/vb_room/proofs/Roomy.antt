@@ -10,10 +10,10 @@ use Rattle.vb_model.proofs.Runs.{Positions, positions}
 use Rattle.vb_model.specs.Guest.{Config, Guest, fresh}
 use Rattle.vb_model.specs.HostEvents.{Calls, Happens, PlugsIn, WorldStep, after_balance, with_targets}
 use Rattle.vb_model.specs.HostRefusals.{world_causes}
-use Rattle.vb_model.specs.Layout.{reserved_pages}
+use Rattle.vb_virtio.specs.Layout.{reserved_pages}
+use Rattle.vb_virtio.specs.Limits.{is_config}
+use Rattle.vb_virtio.specs.FirstRefusal.{first_refusal}
 use Rattle.vb_model.specs.Life.{after_restart}
-use Rattle.vb_model.specs.Limits.{is_config}
-use Rattle.vb_model.specs.Refusals.{first_refusal}
 use Rattle.vb_model.specs.Run.{History, Run, states}
 use Rattle.vb_model.specs.World.{World, guest_at, made, put_guest, with_guest}
 use Rattle.vb_model.specs.declared.calls.Event.{Event}

@@ -5,7 +5,7 @@ use Rattle.std.specs.Prelude.{replicate, slice_get}
 use Rattle.vb_model.specs.declared.calls.Call.{Call}
 use Rattle.vb_model.specs.declared.calls.Event.{Event}
 use Rattle.vb_model.specs.declared.calls.Event.TheVariants.{Guest as OnGuest, Plug, Restart}
-use Rattle.vb_model.specs.declared.replies.Refusal.TheVariants.{NoFrame}
+use Rattle.vb_virtio.specs.declared.refusals.Refusal.TheVariants.{NoFrame}
 use Rattle.vb_model.specs.declared.replies.Reply.{Reply}
 use Rattle.vb_model.specs.declared.replies.Reply.TheVariants.{Plugged, Refused}
 use Rattle.vb_model.specs.Guest.{Guest}
@@ -96,7 +96,7 @@ opened frames spares budget places = record {
 -- ---- what holds then
 
 -- In a state the loans together are no more than the frames, each guest has its loan, and no call
--- of a guest is refused for want of a frame; but for a scribble of a guest whose balloon still
+-- of a guest is refused for lack of a frame; but for a scribble of a guest whose balloon still
 -- counts.
 pub record IsCovered (b : Both) : Type 0 where
   pub within : owed b.lending.loans ≤ b.world.frames

@@ -5,7 +5,7 @@ use Rattle.std.specs.Prelude.{List, Some, None, slice_get, sum_by, filter_map}
 use Rattle.vb_model.specs.declared.calls.Call.{Call}
 use Rattle.vb_model.specs.declared.calls.Call.TheVariants.{Scribble}
 use Rattle.vb_model.specs.declared.calls.Event.TheVariants.{Guest as OnGuest}
-use Rattle.vb_model.specs.declared.replies.Refusal.TheVariants.{NoFrame}
+use Rattle.vb_virtio.specs.declared.refusals.Refusal.TheVariants.{NoFrame}
 use Rattle.vb_model.specs.declared.replies.Reply.TheVariants.{Refused}
 use Rattle.vb_model.specs.Guest.{Guest, ballooned_count, is_ballooned, frame_of, tells_host}
 use Rattle.vb_model.specs.World.{World, guest_at}
@@ -38,7 +38,7 @@ is_scribble (Scribble page offset bytes) = true
 is_scribble _ = false
 
 -- In a state of a run in which all guests may hold no more frames than there are, no call of a
--- guest is refused for want of a frame: of an honest guest none but a scribble, of a rogue one none
+-- guest is refused for lack of a frame: of an honest guest none but a scribble, of a rogue one none
 -- at all.
 abbrev pub NoneLacksAFrame : Type 0
 NoneLacksAFrame =

@@ -3,7 +3,7 @@ use Rattle.std.specs.Prelude.{◌≡◌, ◌⊎◌, ℕ, ◌≤◌, Bool, true, 
 use Rattle.std.specs.Prelude.{List, Some, slice_get}
 use Rattle.vb_model.specs.declared.calls.Call.{Call}
 use Rattle.vb_model.specs.declared.calls.Event.TheVariants.{Guest as OnGuest}
-use Rattle.vb_model.specs.declared.replies.Refusal.TheVariants.{NoFrame}
+use Rattle.vb_virtio.specs.declared.refusals.Refusal.TheVariants.{NoFrame}
 use Rattle.vb_model.specs.declared.replies.Reply.TheVariants.{Refused}
 use Rattle.vb_model.specs.Guest.{Guest, ballooned_count, tells_host}
 use Rattle.vb_model.specs.World.{World, guest_at}

@@ -1,13 +1,15 @@
--- What a call or a look leaves behind a guest's lock.
+-- What a call or a look leaves under a guest's lock.
 use Rattle.std.proofs.Common.{Bool, List, Some, [], ap, false, inl, inr, length, refl, slice_get, ℕ}
 use Rattle.std.proofs.Common.{slice_set, subst, suc, sym, take, true, zero, ⊎_elim, ◌++◌, ◌+◌, ◌∙◌}
 use Rattle.std.{proofs.Common.{◌∷◌, ◌≡◌, ◌⊎◌}, specs.Prelude.{Err, IfOk, IsOkAnd, MatchBool, Ok}}
 use Rattle.std.specs.Prelude.{MatchOption, MatchResult, Option, Result, slice_index_or}
 use Rattle.std.{proofs.lemmas.List.Elements.All-nil, specs.declared.alloc.AllocError.AllocError}
 use Rattle.vb_model.specs.{Balance.spare, Guest.{Guest, fresh}, GuestRun.{Called, Looked}}
-use Rattle.vb_model.specs.{Limits.is_config, declared.calls.Actor.TheVariants.{Balancer, Processor}}
+use Rattle.vb_virtio.specs.Limits.{is_config}
+use Rattle.vb_virtio.specs.declared.negotiation.TheConstants.{OFFERED_FEATURES}
+use Rattle.vb_model.specs.declared.calls.Actor.TheVariants.{Balancer, Processor}
 use Rattle.vb_model.specs.declared.calls.{Actor.Actor, Call.{Call, TheVariants.Init}, Claim.Claim}
-use Rattle.vb_model.specs.declared.{negotiation.TheConstants.OFFERED_FEATURES, replies.Reply.Reply}
+use Rattle.vb_model.specs.declared.replies.Reply.{Reply}
 use Rattle.{vb_ram.specs.declared.config.Config.Config as Sizes, vb_run.specs.Made.IsMade}
 use Rattle.vb_run.specs.Past.{AreBegun, IsAside, IsKept, Past, Progress, just_started, unknown}
 use Rattle.vb_run.proofs.Tended.{is_quiet, plain_entry, service_plain, stands_plain, started}

@@ -5,10 +5,10 @@ use Rattle.std.{specs.Prelude.{slice_index_or, Contains}, proofs.lemmas.List.Ele
 use Rattle.vb_model.specs.declared.calls.Call.TheVariants.{Init, Stats, Reap, Take, Work, Finish}
 use Rattle.vb_model.specs.declared.replies.Reply.TheVariants.{Done, Ready, Filled, Idle, Empty}
 use Rattle.vb_model.specs.declared.calls.Actor.TheVariants.{Starter, Processor, Worker, Balancer}
-use Rattle.vb_model.specs.declared.calls.Call.{Call, TheVariants.{Ask, SetTarget, Sweep}}
+use Rattle.vb_model.specs.declared.calls.Call.{Call, TheVariants.{Ask, Serve, SetTarget, Sweep}}
 use Rattle.vb_model.specs.declared.calls.Claim.TheVariants.{Gave, GaveNoFrame}
 use Rattle.vb_model.specs.declared.replies.Reply.TheVariants.{Taken, Worked, Finished, Refused}
-use Rattle.vb_model.specs.declared.replies.Refusal.TheVariants.{NoFrame, NotTaken}
+use Rattle.vb_virtio.specs.declared.refusals.Refusal.TheVariants.{NoFrame, NotTaken}
 use Rattle.vb_run.specs.{Services.services, Made.{IsMade, AreMade}}
 
 -- ---- which calls are a worker's: takes of the four queues, a visit, the first chain of each but
@@ -75,6 +75,10 @@ reap_of_a_worker : IsMade 1 2 (Called (Worker 1) (Reap 0) [] Done) → ⊥
 reap_of_a_worker (same, service, found) =
     let no : false ≡ true = only_services (Reap 0) service in absurd cc
 
+serve_of_a_worker : IsMade 1 2 (Called (Worker 1) (Serve 0) [] Done) → ⊥
+serve_of_a_worker (same, service, found) =
+    let no : false ≡ true = only_services (Serve 0) service in absurd cc
+
 sweep_of_a_worker : IsMade 1 2 (Called (Worker 1) (Sweep 16) [] Done) → ⊥
 sweep_of_a_worker (same, service, found) =
     let no : false ≡ true = only_services (Sweep 16) service in absurd cc
@@ -104,7 +108,7 @@ abbrev features_in : List Entry → ℕ
 features_in (Called actor (Init features) claims reply ∷ rest) = features
 features_in _ = 0
 
--- ---- whole histories: a start, whatever it was answered, and such entries behind it
+-- ---- whole histories: a start, whatever it was answered, and such entries after it
 
 made : AreMade 1 2 (
     Called Starter (Init 0x100000027) (Gave 5 ∷ []) Ready ∷ Looked 16 32

@@ -5,9 +5,13 @@ use Rattle.std.specs.Prelude.{None, Option, Some, ◌-◌, filter_map, slice_get
 use Rattle.{std.specs.declared.vec.Vec.Vec, vb_ram.specs.declared.config.Config.Config as Sizes}
 use Rattle.{vb_model.proofs.Unchanged.step_keeps, vb_run.specs.Rounds.{Rounded, round_entries}}
 use Rattle.{vb_model.specs.Balance.spare, vb_run.specs.{Notes.replies_in, declared.plan.Plan.Plan}}
-use Rattle.vb_model.specs.{Guest.{Config, Guest, fresh}, Tests.times, declared.calls.Claim.Claim}
+use Rattle.vb_virtio.specs.Tests.{times}
+use Rattle.vb_virtio.specs.Layout.{reserved_pages}
+use Rattle.vb_virtio.specs.Queues.{Request}
+use Rattle.vb_model.specs.Guest.{Config, Guest, fresh}
+use Rattle.vb_model.specs.declared.calls.Claim.{Claim}
 use Rattle.vb_model.specs.GuestRun.{Called, Entry, IsHistory, Leads, Looked, all_entries}
-use Rattle.vb_model.specs.{Layout.reserved_pages, Requests.Request, declared.replies.Reply.Reply}
+use Rattle.vb_model.specs.declared.replies.Reply.{Reply}
 use Rattle.vb_model.specs.declared.calls.Actor.{Actor, TheVariants.{Balancer, Processor, Worker}}
 use Rattle.vb_model.specs.declared.calls.Call.{Call, TheVariants.{Alloc, SetTarget, Stats, Work}}
 use Rattle.vb_model.specs.declared.replies.Reply.TheVariants.{Done, Filled, Idle, NotUsed, Page}
@@ -27,7 +31,7 @@ down = fresh config 0
 abbrev ready : Guest
 ready = record down { status = 15; features = 0x100000027 }
 
--- ---- frames behind a guest's pages, by rising page
+-- ---- frames that back a guest's pages, by rising page
 
 frames_by_page : frames_behind
     (record ready { frames = None ∷ Some 5 ∷ None ∷ Some 3 ∷ Some 9 ∷ None ∷ [] }) ≡ 5 ∷ 3 ∷ 9 ∷ []
@@ -112,7 +116,7 @@ abbrev OfTwo : List ℕ → List ℕ → Type 0 → Type 0
 OfTwo a b answer = (first second : GuestReport) → first.frames.items ≡ a → second.frames.items ≡ b
     → AreApart (first ∷ second ∷ []) → answer
 
--- how often the frame stands among those of both
+-- how often the frame is among those of both
 both : (a b : List ℕ) (frame : ℕ) → OfTwo a b (times frame a + times frame b ≤ 1)
 both a b frame first second of_first of_second apart =
     let l : (0 + times frame first.frames.items) + times frame second.frames.items ≤ 1 =
@@ -256,7 +260,7 @@ request_at_the_end : (plan : GuestPlan) (paced : Bool) (rounds : List Rounded)
 request_at_the_end plan paced rounds report is r posted =
     let e : Same 1 0 = ap (λ l. length l) (sym posted ∙ is.served.deflate.0) in omega arith
 
--- Its frames are those behind the guest's pages.
+-- Its frames are those that back the guest's pages.
 abbrev Frames : List (Option ℕ) → List ℕ → Type 0 → Type 0
 Frames behind reported answer = (plan : GuestPlan) (paced : Bool) (rounds : List Rounded)
     (report : GuestReport) (is : IsGuestReport 16 1 plan paced rounds report)

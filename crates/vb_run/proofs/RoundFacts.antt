@@ -1,10 +1,11 @@
 -- Worked facts of the balancer's rounds: a look in each round, and a target where the round has one
 -- for the guest.
 use Rattle.std.proofs.Common.{◌≡◌, ◌∙◌, ℕ, List, [], ◌∷◌, refl, map, true, false, arith}
-use Rattle.vb_model.specs.{declared.calls.Actor.TheVariants.{Balancer, Worker}, Balance.Need}
+use Rattle.vb_virtio.specs.Targets.{Need}
+use Rattle.vb_virtio.specs.declared.refusals.Refusal.TheVariants.{Short, NoFrame}
+use Rattle.vb_model.specs.declared.calls.Actor.TheVariants.{Balancer, Worker}
 use Rattle.vb_model.specs.declared.calls.Call.TheVariants.{Ask, SetTarget}
 use Rattle.vb_model.specs.{declared.calls.Claim.TheVariants.GaveNoFrame, GuestRun.{Called, Looked}}
-use Rattle.vb_model.specs.declared.replies.Refusal.TheVariants.{Short, NoFrame}
 use Rattle.vb_model.specs.declared.replies.Reply.TheVariants.{Done, Targets, Refused}
 use Rattle.vb_run.specs.{Reports.IsRound, declared.plan.{GuestPlan.GuestPlan, Plan.Plan}}
 use Rattle.vb_run.specs.Rounds.{Rounded, is_of_round, round_entries}
@@ -48,7 +49,7 @@ entries_of_rounds = refl
 
 -- ---- rounds of a report: over all guests of the plan, for its frames
 
--- a plan of two guests with so many frames
+-- a plan of two guests with n frames
 abbrev OfPlan : (pages more frames : ℕ) → (Plan → Type 0) → Type 0
 OfPlan pages more frames Holds = (plan : Plan) (g h : GuestPlan) → plan.guests.items ≡ g
     ∷ h ∷ [] → g.config.pages ≡ pages → h.config.pages ≡ more → plan.frames ≡ frames → Holds plan

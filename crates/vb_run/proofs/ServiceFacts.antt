@@ -4,10 +4,12 @@ use Rattle.{std.specs.Prelude.length, vb_model.specs.Requests.{BufferTaken, Buff
 use Rattle.vb_model.proofs.{LifeSteps.fresh_consistent, OrderlySteps.fresh_order}
 use Rattle.vb_model.{proofs.Performed.performed, specs.Guest.{Guest, Config, fresh}}
 use Rattle.vb_model.specs.Orderly.{IsOrderly}
-use Rattle.vb_model.specs.Requests.{Request, Requests, no_requests, NoBuffer, BufferPosted}
+use Rattle.vb_virtio.specs.Queues.{Request}
+use Rattle.vb_virtio.specs.declared.negotiation.TheConstants.{OFFERED_FEATURES}
+use Rattle.vb_virtio.specs.declared.refusals.Refusal.{Refusal}
+use Rattle.vb_virtio.specs.declared.refusals.Refusal.TheVariants.{NotReady, NotTaken}
+use Rattle.vb_model.specs.Requests.{Requests, no_requests, NoBuffer, BufferPosted}
 use Rattle.vb_model.specs.declared.calls.Call.TheVariants.{Take, Work, Finish, Ask, SetTarget}
-use Rattle.vb_model.specs.declared.negotiation.TheConstants.{OFFERED_FEATURES}
-use Rattle.vb_model.specs.declared.replies.Refusal.{Refusal, TheVariants.{NotReady, NotTaken}}
 use Rattle.vb_model.specs.declared.replies.Reply.TheVariants.{Done, Taken, Empty, Worked, Idle}
 use Rattle.vb_model.specs.declared.replies.Reply.TheVariants.{Finished, Asked, Refused}
 use Rattle.vb_run.specs.Services.{services, found_nothing, IsServed, is_waiting, IsTended, IsQuiet}
@@ -37,7 +39,7 @@ replies_to_a_worker : map found_nothing (Empty ∷ Idle ∷ Refused NotReady ∷
     ≡ true ∷ true ∷ true ∷ true ∷ false ∷ false ∷ false ∷ false ∷ false ∷ false ∷ []
 replies_to_a_worker = refl
 
--- each refusal, for want of a frame or of memory too
+-- each refusal, for lack of a frame or memory too
 refusals_to_a_worker : (refusal : Refusal) → found_nothing (Refused refusal) ≡ true
 refusals_to_a_worker refusal = refl
 

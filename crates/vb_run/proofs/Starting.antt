@@ -2,7 +2,8 @@
 use Rattle.std.proofs.Common.{◌≡◌, refl, subst, ℕ, zero, suc, ◌+◌, Bool, true, List, [], ◌∷◌, ◌++◌}
 use Rattle.std.proofs.{Common.{length, Some, slice_get, arith, drop, map}, lemmas.Bool.and_parts}
 use Rattle.{std.specs.declared.{alloc.Global.Global, vec.Vec.Vec}, vb_run.specs.Rounds.Rounded}
-use Rattle.vb_model.specs.{declared.calls.Call.Call, Limits.is_config}
+use Rattle.vb_virtio.specs.Limits.{is_config}
+use Rattle.vb_model.specs.declared.calls.Call.{Call}
 use Rattle.vb_run.specs.{declared.plan.GuestPlan.GuestPlan, Past.{Progress, AreBegun, IsScript}}
 use Rattle.vb_run.specs.{Plans.{are_scripts, is_script, is_guest_plan}, Reports.IsGuestReport}
 use Rattle.vb_run.{specs.declared.report.GuestReport.GuestReport, proofs.Lists.each_push}
@@ -28,7 +29,7 @@ pub begun_push : (scripts : List Progress) (calls : List Call) → AreBegun scri
 begun_push scripts calls begun own = each_push (λ cpu s. (s.place ≡ 0) × IsScript cpu s.calls)
     scripts (record { calls = calls; place = 0 }) begun (refl, own)
 
--- what is left of a list from a place on begins with what stands there
+-- what is left of a list from a place on begins with what is there
 pub drop_head : {X : Type 0} (xs : List X) (n : ℕ) (x : X) (rest : List X)
     → drop n xs ≡ x ∷ rest → (slice_get xs n ≡ Some x) × (drop (n + 1) xs ≡ rest)
 drop_head [] zero x rest e = cc

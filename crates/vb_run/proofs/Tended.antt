@@ -1,5 +1,5 @@
 -- Calls of processors and workers leave a tended guest tended, and what a worker that finds nothing
--- more to do leaves behind.
+-- more to do leaves.
 use Rattle.std.proofs.Common.{◌≡◌, ◌≢◌, ℕ, zero, suc, Bool, true, false, cond, List, [], ◌∷◌, refl}
 use Rattle.std.{proofs.Common.{sym, ap, subst, ◌∙◌, ◌⊎◌, inl, inr, arith}, specs.List.list_all}
 use Rattle.std.specs.Prelude.{◌==◌, ◌<◌, Option, Some, None, MatchOption, length, slice_get}
@@ -9,16 +9,25 @@ use Rattle.vb_model.proofs.{CallSteps.{Idles, Visits}, LifeSteps.fresh_consisten
 use Rattle.vb_model.proofs.{OrderlySteps.{honest_order, fresh_order}, Performed.Performed}
 use Rattle.vb_model.proofs.{Performed.honest_case, Unchanged.{step_keeps, IsScribble}}
 use Rattle.vb_model.specs.{Consistent.IsConsistent, Device.{TakesRequest, ReturnsBuffer, next_page}}
-use Rattle.vb_model.specs.{Device.is_unvisited, Driver.Reaps, FirstRefusal.first_refusal}
+use Rattle.vb_virtio.specs.Queues.{is_unvisited, Request, Kind, Inflating, Deflating}
+use Rattle.vb_virtio.specs.Queues.{Reporting_free}
+use Rattle.vb_virtio.specs.FirstRefusal.{first_refusal}
+use Rattle.vb_virtio.specs.Limits.{is_config}
+use Rattle.vb_virtio.specs.Status.{work_causes}
+use Rattle.vb_virtio.specs.declared.negotiation.TheConstants.{OFFERED_FEATURES}
+use Rattle.vb_model.specs.Driver.{Reaps}
 use Rattle.vb_model.specs.{Guest.{Guest, Config, fresh}, GuestRun.{Called, EntryStep, is_scribbled}}
-use Rattle.vb_model.specs.{HonestRuns.IsAttentive, Limits.is_config, Orderly.IsOrderly}
-use Rattle.vb_model.specs.{Refusals.{refusal_of, taken_of}, Requests.{Request, Kind, Inflating}}
-use Rattle.vb_model.specs.{Requests.{Deflating, Reporting_free, StatisticsBuffer}, Rogue.GuestStep}
-use Rattle.vb_model.specs.{Step.HonestStep, Tables.{take_causes, finish_causes, work_causes}}
+use Rattle.vb_model.specs.HonestRuns.{IsAttentive}
+use Rattle.vb_model.specs.Orderly.{IsOrderly}
+use Rattle.vb_model.specs.Refusals.{refusal_of, taken_of}
+use Rattle.vb_model.specs.Requests.{StatisticsBuffer}
+use Rattle.vb_model.specs.Rogue.{GuestStep}
+use Rattle.vb_model.specs.Step.{HonestStep}
+use Rattle.vb_model.specs.Tables.{take_causes, finish_causes}
 use Rattle.vb_model.specs.{Tables.Negotiated, declared.replies.Reply.{Reply, TheVariants.Refused}}
 use Rattle.vb_model.specs.declared.calls.{Actor.{Actor, TheVariants.Starter}, Call.Call}
 use Rattle.vb_model.specs.declared.calls.Call.TheVariants.{Init, Scribble, Take, Work, Finish, Ask}
-use Rattle.vb_model.specs.declared.{calls.Claim.Claim, negotiation.TheConstants.OFFERED_FEATURES}
+use Rattle.vb_model.specs.declared.calls.Claim.{Claim}
 use Rattle.vb_run.specs.Plans.{may_stand, is_actor_call}
 use Rattle.vb_run.specs.Services.{services, found_nothing, IsQuiet, IsTended, IsServed, is_waiting}
 
@@ -55,7 +64,7 @@ takes_quiet : (kind : Kind) (posted : List Request) (g : Guest) (reply : Reply) 
 takes_quiet kind [] g reply new s t = s.1
 takes_quiet kind (r ∷ rest) g reply new s t = found reply _ s.0 refl t
 
--- the device's calls, but for a sweep
+-- the device's calls, but for a serve and a sweep
 abbrev is_service : Call → Bool
 is_service (Take q) = true
 is_service Work = true

@@ -1,7 +1,7 @@
 -- What a guest's history says, as its notes keep it.
 use Rattle.std.specs.Prelude.{ℕ, ◌==◌, List, [], Option, Some, None, map, filter_map}
 use Rattle.std.specs.Prelude.{slice_index_or, if◌then◌else◌}
-use Rattle.vb_model.specs.declared.negotiation.TheConstants.{OFFERED_FEATURES}
+use Rattle.vb_virtio.specs.declared.negotiation.TheConstants.{OFFERED_FEATURES}
 use Rattle.vb_model.specs.declared.calls.Actor.{Actor}
 use Rattle.vb_model.specs.declared.calls.Actor.TheVariants.{Starter, Processor, Worker, Balancer}
 use Rattle.vb_model.specs.declared.calls.Call.{Call}
@@ -30,7 +30,7 @@ call_in scripts (ByProcessor cpu place) =
 call_in scripts (ByWorker service) = slice_index_or services service Work
 call_in scripts (ByBalancer pages) = SetTarget pages
 
--- the entry that a note of this guest, whose processors have these scripts, stands for
+-- the entry that a note of this guest, whose processors have these scripts, represents
 abbrev pub noted_entry : ℕ → List (List Call) → Note → Entry
 noted_entry guest scripts (CalledNote caller claims reply) =
     Called (actor_in guest caller) (call_in scripts caller) claims.items reply

@@ -7,15 +7,14 @@ use Rattle.std.specs.declared.alloc.Global.{Global}
 use Rattle.vb_model.specs.declared.calls.Call.{Call}
 use Rattle.vb_model.specs.declared.calls.Call.TheVariants.{Alloc, Free, Read, Write, Inflate}
 use Rattle.vb_model.specs.declared.calls.Call.TheVariants.{Deflate, Oom, Report, Stats, Reap}
-use Rattle.vb_model.specs.declared.calls.Call.TheVariants.{Init, Reset, Scribble, Sweep}
-use Rattle.vb_model.specs.Limits.{is_config, max_guests}
+use Rattle.vb_model.specs.declared.calls.Call.TheVariants.{Init, Reset, Scribble, Serve, Sweep}
+use Rattle.vb_virtio.specs.Limits.{is_config, max_guests}
 use Rattle.vb_run.specs.declared.plan.GuestPlan.{GuestPlan}
 use Rattle.vb_run.specs.declared.plan.Plan.{Plan}
 use Rattle.vb_run.specs.declared.plan.TheConstants.{MAX_SCRIPT_CALLS}
 pub use Rattle.vb_slot.specs.Spare.{config_of}
 
--- a call that may stand in this processor's script: one of the guest's own, and of no other
--- processor
+-- a call that may be in this processor's script: one of the guest's own, and of no other processor
 abbrev pub may_stand : ℕ → Call → Bool
 may_stand cpu (Alloc c order) = c == cpu
 may_stand cpu (Free c start order) = c == cpu
@@ -48,6 +47,7 @@ abbrev pub is_actor_call : Call → Bool
 is_actor_call (Init wanted) = false
 is_actor_call Reset = false
 is_actor_call (Scribble page offset bytes) = false
+is_actor_call (Serve q) = false
 is_actor_call (Sweep page) = false
 is_actor_call _ = true
 

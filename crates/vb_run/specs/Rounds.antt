@@ -4,7 +4,7 @@ use Rattle.vb_model.specs.declared.calls.Actor.TheVariants.{Balancer}
 use Rattle.vb_model.specs.declared.calls.Call.TheVariants.{SetTarget}
 use Rattle.vb_model.specs.declared.replies.Reply.{Reply}
 use Rattle.vb_model.specs.declared.replies.Reply.TheVariants.{Done, Targets}
-use Rattle.vb_model.specs.Balance.{Need, spare_at}
+use Rattle.vb_virtio.specs.Targets.{Need, spare_at}
 use Rattle.vb_model.specs.GuestRun.{Entry, Called, Looked}
 
 pub record Rounded : Type 0 where

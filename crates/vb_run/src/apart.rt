@@ -1,7 +1,7 @@
 //! Whether guests have their frames for themselves.
 
 ghost use Rattle.std.specs.Prelude.{◌≡◌, ◌↔◌, ◌≤◌, ◌<◌, ℕ, true, IfOk, sum_by};
-ghost use Rattle.vb_model.specs.Tests.{times};
+ghost use Rattle.vb_virtio.specs.Tests.{times};
 ghost use Rattle.vb_run.specs.Reports.{AreApart};
 ghost use Rattle.vb_run.specs.Rising.{IsRising};
 
@@ -32,7 +32,7 @@ fn all_frames(alloc: Global, reports: &[GuestReport]) -> Result<Vec<u32>, AllocE
     Ok(all)
 }
 
-/// Whether no frame stands twice among those of all guests.
+/// Whether no frame is twice among those of all guests.
 pub(crate) fn are_apart(alloc: Global, reports: &[GuestReport]) -> Result<bool, AllocError>
     ensures { IfOk result (λ apart. (apart ≡ true) ↔ AreApart reports.now) }
 {

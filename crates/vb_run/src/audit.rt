@@ -4,7 +4,7 @@ ghost use Rattle.std.specs.Prelude.{◌≡◌, ◌↔◌, ◌≤◌, ◌<◌, tr
 ghost use Rattle.std.specs.Prelude.{Some, slice_get, map, All, ◌++◌};
 ghost use Rattle.std.specs.Prelude.{slice_index_or, drop};
 ghost use Rattle.vb_model.specs.declared.calls.Actor.TheVariants.{Balancer};
-ghost use Rattle.vb_model.specs.Balance.{spare_at};
+ghost use Rattle.vb_virtio.specs.Targets.{spare_at};
 ghost use Rattle.vb_run.specs.Entries.{is_same, entries_by, actor_of};
 ghost use Rattle.vb_run.specs.Notes.{history_of, noted_entry};
 ghost use Rattle.vb_run.specs.Reports.{IsRound};
@@ -120,7 +120,7 @@ fn is_same_entry(guest: u32, note: &Note, other: &Entry) -> bool
     }
 }
 
-/// Whether this note stands at a place of the expected entries, and is one of a round.
+/// Whether this note is at a place of the expected entries, and is one of a round.
 fn is_at(guest: u32, expected: &[Entry], place: usize, note: &Note) -> bool
     ensures { (result ≡ true)
         ↔ ((slice_get expected.now place ≡ Some (noted_entry guest [] note.now))

@@ -5,8 +5,9 @@ ghost use Rattle.vb_model.specs.Balance.{IsAnswer};
 
 use std::marker::Model;
 use vb_balance::{GuestNeed, targets};
-use vb_model::limits::MAX_GUESTS;
-use vb_model::{Refusal, Reply};
+use vb_model::Reply;
+use vb_virtio::Refusal;
+use vb_virtio::limits::MAX_GUESTS;
 
 /// What the balancer saw of each guest, and its answer.
 #[derive(Drop)]
@@ -28,7 +29,7 @@ impl Model for Round {
 }
 
 impl Round {
-    /// The round of these looks, for so many frames.
+    /// The round of these looks, for `frames` frames.
     pub(crate) fn new(frames: u32, needs: Vec<GuestNeed>) -> Round
         requires few { length needs.items ≤ MAX_GUESTS }
         ensures frames { result.frames ≡ frames }

@@ -6,8 +6,8 @@ ghost use Rattle.std.specs.Prelude.{slice_index_or};
 ghost use Rattle.vb_model.specs.declared.calls.Call.TheVariants.{Take, Finish};
 ghost use Rattle.vb_run.specs.Services.{services, found_nothing};
 
-use vb_model::layout::{DEFLATE_QUEUE, INFLATE_QUEUE, REPORT_QUEUE, STATISTICS_QUEUE};
 use vb_model::{Call, Reply};
+use vb_virtio::layout::{DEFLATE_QUEUE, INFLATE_QUEUE, REPORT_QUEUE, STATISTICS_QUEUE};
 
 /// How many calls a worker makes until it has looked for everything that there may be to do.
 pub(crate) const SERVICES: usize = 9;

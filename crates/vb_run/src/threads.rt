@@ -14,11 +14,11 @@ use std::sync::{Mutex, Wait};
 use std::thread;
 use std::thread::Threads;
 use vb_balance::GuestNeed;
-use vb_model::limits::MAX_GUESTS;
 use vb_model::{Actor, Call, Reply};
 use vb_slot::GuestSlot;
+use vb_virtio::limits::MAX_GUESTS;
 
-/// A guest behind its lock, with its doorbell.
+/// A guest under its lock, with its doorbell.
 #[derive(Drop)]
 pub(crate) struct Seat<S: GuestSlot, L: AsSlice<Call> + Drop> {
     /// The guest's number.

@@ -7,7 +7,7 @@ use Rattle.{hex.specs.Hex.{decode_pairs, decode_of}, vb_model.specs.declared.pla
 use Rattle.vb_model.specs.declared.calls.Call.TheVariants.{Init, Reset, Alloc}
 use Rattle.vb_model.specs.declared.calls.Call.TheVariants.{Free, Read, Write, Scribble, Inflate}
 use Rattle.vb_model.specs.declared.calls.Call.TheVariants.{Deflate, Oom, Report, Stats, Reap, Take}
-use Rattle.vb_model.specs.declared.calls.Call.TheVariants.{Work, Finish, Sweep, Ask, SetTarget}
+use Rattle.vb_model.specs.declared.calls.Call.TheVariants.{Work, Finish, Serve, Sweep, Ask, SetTarget}
 use Rattle.vb_model.specs.declared.calls.Query.TheVariants.{Places, PagesAt, PagesBallooned}
 use Rattle.vb_model.specs.declared.calls.Query.TheVariants.{Balloon, Memory, Backing}
 use Rattle.vb_model.specs.declared.calls.Event.{Event, TheVariants.{Guest, Query, Balance, Frames}}
@@ -40,11 +40,11 @@ unfolding form_of number_of features_of decode_pairs
 drivers = refl
 
 devices_and_questions : says (codes "take 3 4") ∷ says (codes "work 3") ∷ says (codes "finish 3 1 2")
-    ∷ says (codes "sweep 3 20") ∷ says (codes "ask 3") ∷ says (codes "target 3 5") ∷ says (codes "places 3")
+    ∷ says (codes "serve 3 4") ∷ says (codes "sweep 3 20") ∷ says (codes "ask 3") ∷ says (codes "target 3 5") ∷ says (codes "places 3")
     ∷ says (codes "pages 3 stranded") ∷ says (codes "pages 3 ballooned") ∷ says (codes "balloon 3")
     ∷ says (codes "memory 3") ∷ says (codes "backing 3 20") ∷ []
     ≡ Some (Guest 3 (Take 4)) ∷ Some (Guest 3 Work) ∷ Some (Guest 3 (Finish 1 2))
-    ∷ Some (Guest 3 (Sweep 20)) ∷ Some (Guest 3 Ask) ∷ Some (Guest 3 (SetTarget 5)) ∷ Some (Query 3 Places)
+    ∷ Some (Guest 3 (Serve 4)) ∷ Some (Guest 3 (Sweep 20)) ∷ Some (Guest 3 Ask) ∷ Some (Guest 3 (SetTarget 5)) ∷ Some (Query 3 Places)
     ∷ Some (Query 3 (PagesAt Stranded)) ∷ Some (Query 3 PagesBallooned) ∷ Some (Query 3 Balloon)
     ∷ Some (Query 3 Memory) ∷ Some (Query 3 (Backing 20)) ∷ []
 unfolding form_of number_of pages_query_of

@@ -1,7 +1,7 @@
 -- The event that a line of words names.
 use Rattle.std.specs.Prelude.{ℕ, List, [], ◌∷◌, Option, Some, None, Bool, true, false}
 use Rattle.std.specs.Option.{option_map, option_and_then}
-use Rattle.vb_model.specs.declared.negotiation.TheConstants.{OFFERED_FEATURES}
+use Rattle.vb_virtio.specs.declared.negotiation.TheConstants.{OFFERED_FEATURES}
 use Rattle.vb_model.specs.declared.calls.Call.TheVariants.{Init as CallInit, Reset as CallReset}
 use Rattle.vb_model.specs.declared.calls.Call.TheVariants.{Alloc as CallAlloc, Free as CallFree}
 use Rattle.vb_model.specs.declared.calls.Call.TheVariants.{Read as CallRead, Write as CallWrite}
@@ -12,6 +12,7 @@ use Rattle.vb_model.specs.declared.calls.Call.TheVariants.{Report as CallReport,
 use Rattle.vb_model.specs.declared.calls.Call.TheVariants.{Reap as CallReap, Take as CallTake}
 use Rattle.vb_model.specs.declared.calls.Call.TheVariants.{Work as CallWork, Finish as CallFinish}
 use Rattle.vb_model.specs.declared.calls.Call.TheVariants.{Sweep as CallSweep, Ask as CallAsk}
+use Rattle.vb_model.specs.declared.calls.Call.TheVariants.{Serve as CallServe}
 use Rattle.vb_model.specs.declared.calls.Call.TheVariants.{SetTarget}
 use Rattle.vb_model.specs.declared.calls.Query.TheVariants.{Places as QueryPlaces}
 use Rattle.vb_model.specs.declared.calls.Query.TheVariants.{Balloon as QueryBalloon}
@@ -31,7 +32,7 @@ use Rattle.vb_script.specs.declared.names.OneNumber.TheVariants.{Work, Ask, Bala
 use Rattle.vb_script.specs.declared.names.OneNumber.TheVariants.{Balloon, Memory}
 use Rattle.vb_script.specs.declared.names.TwoNumbers.{TwoNumbers}
 use Rattle.vb_script.specs.declared.names.TwoNumbers.TheVariants.{Inflate, Deflate, Oom, Report}
-use Rattle.vb_script.specs.declared.names.TwoNumbers.TheVariants.{Reap, Take, Sweep, Target}
+use Rattle.vb_script.specs.declared.names.TwoNumbers.TheVariants.{Reap, Take, Serve, Sweep, Target}
 use Rattle.vb_script.specs.declared.names.TwoNumbers.TheVariants.{Backing}
 use Rattle.vb_script.specs.declared.names.ThreeNumbers.{ThreeNumbers}
 use Rattle.vb_script.specs.declared.names.ThreeNumbers.TheVariants.{Plug, Alloc, Finish}
@@ -65,6 +66,7 @@ two_number Oom guest pages = OnGuest guest (CallOom pages)
 two_number Report guest from = OnGuest guest (CallReport from)
 two_number Reap guest queue = OnGuest guest (CallReap queue)
 two_number Take guest queue = OnGuest guest (CallTake queue)
+two_number Serve guest queue = OnGuest guest (CallServe queue)
 two_number Sweep guest page = OnGuest guest (CallSweep page)
 two_number Target guest pages = OnGuest guest (SetTarget pages)
 two_number Backing guest page = OnQuery guest (QueryBacking page)
@@ -113,7 +115,7 @@ bytes_event name words = do
   bytes ← bytes_of all.3
   Some (with_bytes name all.0 all.1 all.2 bytes)
 
--- what the words behind an event's say of it
+-- what the words after an event's say of it
 abbrev pub said : Form → List (List ℕ) → Option Event
 said Frames [] = Some CountFrames
 said Frames (word ∷ words) = None

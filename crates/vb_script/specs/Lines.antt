@@ -3,7 +3,7 @@ use Rattle.std.specs.Prelude.{ℕ, ◌&&◌, nat_le, Bool, true, false, if◌the
 use Rattle.std.specs.Prelude.{Option, Some, None, Result, Ok, Err, codes}
 use Rattle.std.specs.Option.{option_and_then}
 use Rattle.std.specs.Str.{bytes_eq}
-use Rattle.vb_model.specs.declared.limits.TheConstants.{MAX_FRAMES}
+use Rattle.vb_virtio.specs.declared.limits.TheConstants.{MAX_FRAMES}
 use Rattle.vb_script.specs.declared.lines.LineFault.{LineFault}
 use Rattle.vb_script.specs.declared.lines.LineFault.TheVariants.{Bad}
 use Rattle.vb_script.specs.declared.lines.Pace.{Pace}

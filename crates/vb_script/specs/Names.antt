@@ -14,7 +14,7 @@ use Rattle.vb_script.specs.declared.names.OneNumber.TheVariants.{Unplug, Restart
 use Rattle.vb_script.specs.declared.names.OneNumber.TheVariants.{Work, Ask, Balance, Places}
 use Rattle.vb_script.specs.declared.names.OneNumber.TheVariants.{Balloon, Memory}
 use Rattle.vb_script.specs.declared.names.TwoNumbers.TheVariants.{Inflate, Deflate, Oom, Report}
-use Rattle.vb_script.specs.declared.names.TwoNumbers.TheVariants.{Reap, Take, Sweep, Target}
+use Rattle.vb_script.specs.declared.names.TwoNumbers.TheVariants.{Reap, Take, Serve, Sweep, Target}
 use Rattle.vb_script.specs.declared.names.TwoNumbers.TheVariants.{Backing}
 use Rattle.vb_script.specs.declared.names.ThreeNumbers.TheVariants.{Plug, Alloc, Finish}
 use Rattle.vb_script.specs.declared.names.FourNumbers.TheVariants.{Free, Read}
@@ -56,6 +56,7 @@ forms =
     ∷ (codes "take", Two Take)
     ∷ (codes "work", One Work)
     ∷ (codes "finish", Three Finish)
+    ∷ (codes "serve", Two Serve)
     ∷ (codes "sweep", Two Sweep)
     ∷ (codes "ask", One Ask)
     ∷ (codes "target", Two Target)
@@ -68,7 +69,7 @@ forms =
     ∷ (codes "frames", Frames)
     ∷ []
 
--- which words stand behind an event's
+-- which words come after an event's
 unfoldable pub form_of : List ℕ → Option Form
 form_of word = meaning_of forms word
 

@@ -19,8 +19,8 @@ use crate::reading::Item;
 use crate::values::{bytes, features, number, positive};
 use crate::words::Words;
 use std::alloc::Global;
-use vb_model::negotiation::OFFERED_FEATURES;
 use vb_model::{Bytes, Call, Event, GuestSize, Query};
+use vb_virtio::negotiation::OFFERED_FEATURES;
 
 impl Item for Event {
     ghost use Rattle.vb_script.specs.Texts.{events};
@@ -37,7 +37,7 @@ impl Item for Event {
     }
 }
 
-/// The event that a line's first word and those behind it name. Words that name none make a bad
+/// The event that a line's first word and those after it name. Words that name none make a bad
 /// line.
 pub fn event(alloc: Global, word: &[u8], words: &mut Words<'_>) -> Result<Event, LineFault>
     ensures ok { IfOk result
@@ -60,7 +60,7 @@ pub fn event(alloc: Global, word: &[u8], words: &mut Words<'_>) -> Result<Event,
     }
 }
 
-/// What stands behind an event's word.
+/// What comes after an event's word.
 fn form_of(word: &[u8]) -> Option<Form>
     ensures { result ≡ form_of word.now }
 {
@@ -177,6 +177,7 @@ fn of_two(name: TwoNumbers, guest: u32, number: u32) -> Event
         TwoNumbers::Report => on_guest(guest, Call::Report { from: number }),
         TwoNumbers::Reap => on_guest(guest, Call::Reap { queue: number }),
         TwoNumbers::Take => on_guest(guest, Call::Take { queue: number }),
+        TwoNumbers::Serve => on_guest(guest, Call::Serve { queue: number }),
         TwoNumbers::Sweep => on_guest(guest, Call::Sweep { page: number }),
         TwoNumbers::Target => on_guest(guest, Call::SetTarget { pages: number }),
         TwoNumbers::Backing => asking(guest, Query::Backing { page: number }),

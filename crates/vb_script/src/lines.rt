@@ -2,7 +2,7 @@
 
 ghost use Rattle.std.specs.Option.{option_and_then};
 ghost use Rattle.std.specs.Prelude.{◌≡◌, ◌≤◌, IfSome};
-ghost use Rattle.vb_model.specs.declared.limits.TheConstants.{MAX_FRAMES};
+ghost use Rattle.vb_virtio.specs.declared.limits.TheConstants.{MAX_FRAMES};
 ghost use Rattle.vb_script.specs.Lines.{host_of, is_paced};
 ghost use Rattle.vb_script.specs.Names.{pace_of};
 ghost use Rattle.vb_script.specs.Words.{only_word, words_left, words_of};
@@ -11,7 +11,7 @@ use crate::names::{PACES, find};
 use crate::values::number;
 use crate::words::Words;
 use std::alloc::AllocError;
-use vb_model::limits::MAX_FRAMES;
+use vb_virtio::limits::MAX_FRAMES;
 
 /// Why a line gives nothing.
 #[derive(Clone, Copy, Debug, PartialEq, Eq)]

@@ -14,7 +14,7 @@ use crate::script::{Reading, ThreadsGuest, ThreadsScript};
 use crate::threads::ThreadsLine;
 use std::alloc::{AllocError, Global};
 use vb_model::Call;
-use vb_model::limits::MAX_PROCESSORS;
+use vb_virtio::limits::MAX_PROCESSORS;
 
 /// A guest's configuration, as it is written.
 #[derive(Clone, Copy)]
@@ -177,7 +177,8 @@ fn guest_with(
     })
 }
 
-/// The scripts of a guest's processors, of which it has so many. Goes over the lines once for each.
+/// The scripts of a guest's processors, of which it has `processors`. Goes over the lines once for
+/// each.
 fn scripts_by(
     alloc: Global,
     guest: usize,

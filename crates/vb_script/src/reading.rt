@@ -3,7 +3,7 @@
 ghost use Rattle.std.specs.Prelude.{◌≡◌, ◌≤◌, ◌/◌, ◌+◌, ◌∷◌, true, vec_capacity};
 ghost use Rattle.std.specs.Prelude.{IfErr, IfOk, IsSome, OnErr, OnOk};
 ghost use Rattle.std.specs.Option.{option_map};
-ghost use Rattle.vb_model.specs.declared.limits.TheConstants.{MAX_FRAMES};
+ghost use Rattle.vb_virtio.specs.declared.limits.TheConstants.{MAX_FRAMES};
 ghost use Rattle.vb_script.specs.Plans.{planned_by, threads_script_of};
 ghost use Rattle.vb_script.specs.Scripts.{IfBadLine, fault_at, lines_left, said_by, told_by};
 ghost use Rattle.vb_script.specs.Texts.{Language, begins_with_host, host_told, script_of, told_in};
@@ -141,7 +141,7 @@ pub fn read<T: Item>(alloc: Global, text: &[u8]) -> Result<Option<Reading<T>>, S
     Ok(Some(read))
 }
 
-/// Reads what stands after the first line of a script whose host has this many frames.
+/// Reads what comes after the first line of a script whose host has this many frames.
 fn read_rest<T: Item>(
     alloc: Global,
     frames: u32,
@@ -164,7 +164,7 @@ fn read_rest<T: Item>(
 }
 
 impl<T: Item> Reading<T> {
-    /// What the first line says, with room for as many lines as may stand in this many bytes.
+    /// What the first line says, with room for as many lines as may be in this many bytes.
     fn of_host(alloc: Global, frames: u32, bytes: usize) -> Result<Reading<T>, AllocError>
         requires some { 1 ≤ frames }
         requires bound { frames ≤ MAX_FRAMES }

@@ -1,16 +1,16 @@
 //! Scripts: a host, its spare devices, and what happens.
 
 ghost use Rattle.std.specs.Prelude.{◌≡◌, ◌≤◌, vec_capacity, vec_len};
-ghost use Rattle.vb_model.specs.declared.limits.TheConstants.{MAX_FRAMES};
+ghost use Rattle.vb_virtio.specs.declared.limits.TheConstants.{MAX_FRAMES};
 
 use crate::lines::Pace;
 use vb_model::{Call, Event};
 
 /// What a script says: the first line the host's frames, the next ones its spare devices, all
-/// others what happens. Whoever has one can run it: its numbers are within their bounds.
+/// others what happens. Any such script can be run: its numbers are within their bounds.
 #[derive(Drop)]
 pub struct Script {
-    /// Frames of the host, from 1 to `MAX_FRAMES` of `vb_model`.
+    /// Frames of the host, from 1 to `MAX_FRAMES` of `vb_virtio`.
     pub frames: u32,
     /// The spare devices, at most 64, in the order in which plugs take them.
     pub spares: Vec<Pace>,
@@ -25,7 +25,7 @@ pub struct Script {
 /// What a text says, as far as it was read.
 #[derive(Drop)]
 pub struct Reading<T> {
-    /// Frames of the host, from 1 to `MAX_FRAMES` of `vb_model`.
+    /// Frames of the host, from 1 to `MAX_FRAMES` of `vb_virtio`.
     pub frames: u32,
     /// The spare devices, at most 64, in order.
     pub spares: Vec<Pace>,
@@ -37,12 +37,12 @@ pub struct Reading<T> {
     pub ghost room_for_spares: { 64 ≤ vec_capacity spares },
 }
 
-/// What a script for guests on threads says: a plan. Whoever has one can try to run it: what a
+/// What a script for guests on threads says: a plan, which may be refused when it is run: what a
 /// guest's configuration may be, how many guests there may be and which processor a call may name
 /// is for the runner to say.
 #[derive(Drop)]
 pub struct ThreadsScript {
-    /// Frames of the host, from 1 to `MAX_FRAMES` of `vb_model`.
+    /// Frames of the host, from 1 to `MAX_FRAMES` of `vb_virtio`.
     pub frames: u32,
     /// The guests in the order of their plugs, from 1 to 64 of them. A guest's number is its place
     /// here.

@@ -10,7 +10,7 @@ ghost use Rattle.vb_script.specs.Words.{number_of};
 use crate::lines::LineFault;
 use std::alloc::Global;
 use vb_model::Bytes;
-use vb_model::limits::PAGE_SIZE;
+use vb_virtio::limits::PAGE_SIZE;
 
 /// Hexadecimal digits of a line's features.
 const FEATURE_DIGITS: usize = 16;
@@ -32,7 +32,7 @@ pub fn number(word: &[u8]) -> Option<u32>
     Some(value)
 }
 
-/// The number with one more digit behind it.
+/// The number with one more digit after it.
 fn with_digit(value: u32, digit: u8) -> Option<u32>
     ensures { SomeIff result
         (IsDigit digit × (value * 10 + (digit - 48) < 2 ^ 32))

@@ -4,7 +4,8 @@ use Rattle.std.proofs.Common.{eqb, List, [], ◌∷◌, length, set, refl, sym, 
 use Rattle.std.proofs.Common.{arith, eq-eqb, ne_eqb, eqb-true, get_or-set_same, get_or-set_other}
 use Rattle.std.{proofs.{Common.length-set, lemmas.List.set-get_or}, specs.Prelude.slice_index}
 use Rattle.atomic_table.{specs.Table.{Me, Allows, step}, proofs.Lists.{at_set, set_again}}
-use Rattle.{vb_model.specs.Tests.one_if, vb_device.specs.Own.{has, without}}
+use Rattle.vb_virtio.specs.Tests.{one_if}
+use Rattle.vb_device.specs.Own.{has, without}
 use Rattle.vb_shared.proofs.Lists.{has_without, has_not_without, without_none}
 use Rattle.vb_shared.specs.Rule.{pass, count, count_all, AllTied, IsKept, Kept, StepKind, TryClaim}
 use Rattle.vb_shared.specs.{Rule.{PutBack, word_after, held_after}, Steps.{claimed, returned}}

@@ -4,7 +4,7 @@ use Rattle.std.proofs.Common.{ℕ, zero, suc, ◌+◌, ◌<◌, ◌≤◌, eqb, 
 use Rattle.std.proofs.Common.{refl, sym, ap, ◌∙◌, subst, arith, eq-eqb, ne_eqb, eqb-true, replicate}
 use Rattle.atomic_table.specs.Table.{Me, Allows, Splits, Joins, step, opening, keeps}
 use Rattle.{atomic_table.proofs.Lists.{at_set, at_snoc}, vb_shared.proofs.Lists.zeros}
-use Rattle.vb_model.specs.Tests.{one_if}
+use Rattle.vb_virtio.specs.Tests.{one_if}
 use Rattle.vb_shared.specs.{Steps.Apart, declared.rule.{Holding.Holding, View.View, Size.Size}}
 use Rattle.vb_shared.specs.Steps.{met, no_view, first_of, rest_of, new_holdings, opening_view}
 use Rattle.vb_shared.specs.Rule.{view_of, count, count_all, AllTied, IsKept, Kept, pass, FrameRule}

@@ -7,12 +7,12 @@ ghost use Rattle.vb_shared.specs.Leases.{AnswersAs};
 use crate::FramePass;
 use std::alloc::{AllocError, Global};
 use vb_device::{Claimed, Device, Statistics, Worked};
-use vb_model::Refusal;
 use vb_ram::{Config, Frame, GuestBytes, RamFault, SupplyRefused};
 use vb_status::{Features, Port, Status, StatusFault};
+use vb_virtio::Refusal;
 
-/// A device that gives its guest the frames that its pass claims, and is the device round which it
-/// stands in all else. Its drop gives every frame back.
+/// A device that gives its guest the frames that its pass claims, and is the device that it wraps
+/// in all else. Its drop gives every frame back.
 pub struct Leased<D: Device> {
     /// The device that does the work.
     device: D,
@@ -124,6 +124,10 @@ impl<D: Device> Device for Leased<D> {
 
     fn finish(&mut self, queue: u32, index: u32) -> Result<u16, Refusal> {
         self.device.finish(queue, index)
+    }
+
+    fn serve(&mut self, queue: u32) -> Result<Option<u16>, Refusal> {
+        self.device.serve(queue)
     }
 
     fn sweep(&mut self, page: u32) -> Result<bool, Refusal> {

@@ -1,25 +1,10 @@
 //! Runs a script: events on a host and its guests, or guests on threads.
 #![tactic(auto)]
 
-mod arguments;
-mod command;
-mod fault;
-mod host;
-mod input;
-mod lines;
-mod plans;
-mod play;
-mod ports;
-mod run;
-#[cfg(test)]
-mod tests;
-mod threads;
-
-use arguments::ArgumentsFault;
-use command::run_command;
 use std::env;
 use std::process::ExitCode;
 use std::rt::Env;
+use vb_command::{ArgumentsFault, run_command};
 
 fn main(rt: HostRuntime) -> ExitCode {
     let words = command_line(&rt);

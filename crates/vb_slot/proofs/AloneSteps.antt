@@ -2,7 +2,9 @@
 use Rattle.std.{specs.Prelude.{◌≡◌, ℕ, ◌≤◌}, proofs.Common.{sym, ◌∙◌, ap, arith, suc, zero}}
 use Rattle.std.specs.Prelude.{Bool, true, false, List, [], ◌∷◌, refl, if◌then◌else◌, Option, None}
 use Rattle.vb_model.specs.declared.{calls.Call.Call, replies.Reply.{Reply, TheVariants.Backing}}
-use Rattle.vb_model.specs.{declared.calls.Claim.Claim, Guest.{Guest, Config, fresh}, Tests.one_if}
+use Rattle.vb_virtio.specs.Tests.{one_if}
+use Rattle.vb_model.specs.declared.calls.Claim.{Claim}
+use Rattle.vb_model.specs.Guest.{Guest, Config, fresh}
 use Rattle.{vb_frames.specs.Out.is_out, vb_guest.{specs.Stands.Stands, proofs.Fresh.backs_none}}
 use Rattle.{vb_ram.specs.{Pages.Pages, Part.Part}, vb_device.specs.Own.has}
 use Rattle.{vb_driver.specs.State.DriverState, vb_slot.specs.Alone.{AreBehind, IsAlone, StepsTo}}
@@ -37,7 +39,7 @@ from_keeper : (p : Part) (out : List Bool) (n : ℕ) → p.keeps ≡ false
 from_keeper p out n e =
     ap (λ (keeps : Bool). one_if (if keeps then has p.own n else is_out out n)) e
 
--- the frames of the device are those behind the pages afterwards too
+-- the frames of the device are those that back the pages afterwards too
 stays_behind : (keeps : Bool) (Answers : List Bool → Claim → Type 0) (m1 m2 : Pages) (p1 p2 : Part)
     (d1 d2 : DriverState) (was left : Bool) (claims : List Claim) (g : Guest) (call : Call)
     (reply : Reply) → was ≡ true → Stands keeps m1 p1 d1 g → AreBehind p1.own g

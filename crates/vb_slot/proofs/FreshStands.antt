@@ -1,7 +1,9 @@
--- A slot stands for its guest as it is plugged in.
+-- A slot represents its guest as it is plugged in.
 use Rattle.std.specs.Prelude.{◌≡◌, ℕ, true, List, [], None, replicate, refl}
 use Rattle.{std.proofs.Common.{sym, ◌∙◌, ap, subst}, vb_device.specs.Calls.{IsUnused, attached}}
-use Rattle.vb_model.specs.{Limits.is_config, Tests.one_if, Guest.{Guest, Config, fresh}}
+use Rattle.vb_virtio.specs.Limits.{is_config}
+use Rattle.vb_virtio.specs.Tests.{one_if}
+use Rattle.vb_model.specs.Guest.{Guest, Config, fresh}
 use Rattle.vb_ram.specs.{Pages.Pages, Part.Part, declared.config.Config.Config as Sizes}
 use Rattle.{vb_device.specs.Own.has, vb_driver.specs.State.{DriverState, fresh_driver}}
 use Rattle.vb_guest.{specs.Stands.{Honest, Stands}, proofs.Fresh.{backs_none, fresh_honest}}

@@ -4,9 +4,9 @@ ghost use Rattle.std.specs.Prelude.{◌≡◌};
 
 use std::alloc::{AllocError, Global};
 use vb_device::{Claimed, Device, Statistics, Worked};
-use vb_model::Refusal;
 use vb_ram::{Config, Frame, GuestBytes, RamFault, SupplyRefused};
 use vb_status::{Features, Port, Status, StatusFault};
+use vb_virtio::Refusal;
 
 /// A boxed device, which every call is forwarded to.
 #[derive(Drop)]
@@ -99,6 +99,10 @@ impl Device for BoxedDevice {
 
     fn finish(&mut self, queue: u32, index: u32) -> Result<u16, Refusal> {
         self.device.finish(queue, index)
+    }
+
+    fn serve(&mut self, queue: u32) -> Result<Option<u16>, Refusal> {
+        self.device.serve(queue)
     }
 
     fn sweep(&mut self, page: u32) -> Result<bool, Refusal> {

@@ -2,7 +2,7 @@
 
 ghost use Rattle.std.specs.Prelude.{◌≡◌, IfOk, IfErr, true, []};
 ghost use Rattle.vb_model.specs.Guest.{Guest, fresh};
-ghost use Rattle.vb_model.specs.Limits.{is_config};
+ghost use Rattle.vb_virtio.specs.Limits.{is_config};
 ghost use Rattle.vb_model.specs.Queries.{Answers};
 ghost use Rattle.vb_slot.specs.Alone.{AreBehind};
 ghost use Rattle.vb_slot.specs.Spare.{IsNew, config_of};
@@ -59,7 +59,7 @@ pub struct LoneSlot {
 
 impl LoneSlot {
     /// A guest of this size as it is plugged in, on a device that no guest has yet, and of whose
-    /// own frames, if it keeps such, none is out. Refused for want of memory alone.
+    /// own frames, if it keeps such, none is out. Refused on an allocation failure alone.
     pub fn new(
         alloc: Global,
         device: Box<dyn Device + Send>,

@@ -68,13 +68,13 @@ impl Slot {
 impl Slot {
     ghost use Rattle.std.specs.Prelude.{◌≡◌, true, false, IfOk, IfErr, [], None, replicate};
     ghost use Rattle.vb_model.specs.Guest.{fresh};
-    ghost use Rattle.vb_model.specs.Limits.{is_config};
+    ghost use Rattle.vb_virtio.specs.Limits.{is_config};
     ghost use Rattle.vb_device.specs.Calls.{IsUnused, attached};
     ghost use Rattle.vb_driver.specs.State.{fresh_driver};
     ghost use Rattle.vb_slot.specs.Slots.{claims_of, driver_of, memory_of, part_of};
 
     /// A guest of this size as it is plugged in, on a device that no guest has yet, and of whose
-    /// own frames, if it keeps such, none is out. Refused for want of memory alone.
+    /// own frames, if it keeps such, none is out. Refused on an allocation failure alone.
     pub fn new(
         alloc: Global,
         device: Box<dyn Device + Send>,

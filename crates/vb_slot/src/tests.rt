@@ -14,8 +14,9 @@ use keeping::KeepingDevice;
 use std::alloc::Global;
 use std::process::Abort;
 use vb_device::{Claimed, Device};
-use vb_model::{Bytes, Call, Claim, Query, Refusal, Reply};
+use vb_model::{Bytes, Call, Claim, Query, Reply};
 use vb_ram::Config;
+use vb_virtio::Refusal;
 
 /// All features that the device offers.
 const FEATURES: u64 = 0x1_0000_0027;
@@ -108,7 +109,7 @@ const THIRTEEN: [Claim; 13] = [
     Claim::Gave(12),
 ];
 
-/// The first twelve frames, and none behind them.
+/// The first twelve frames, and none after them.
 const TWELVE: [Claim; 13] = [
     Claim::Gave(0),
     Claim::Gave(1),
@@ -455,7 +456,7 @@ fn count_frames(slot: &mut Slot) -> u32 {
     given
 }
 
-/// Expects that a guest whose device has so many frames answers each row so, and that the device
+/// Expects that a guest whose device has `frames` frames answers each row so, and that the device
 /// has them all once the guest is gone.
 fn expect(rt: &impl Abort, alloc: Global, frames: u32, table: &[Row]) {
     let Ok(device) = KeepingDevice::new(alloc, frames) else {

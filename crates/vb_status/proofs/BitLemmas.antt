@@ -2,7 +2,7 @@
 use Rattle.std.proofs.Common.{◌≡◌, ℕ, zero, suc, ◌*◌, ◌^◌, ◌<◌, eqb, bit_and, ap, ◌∙◌, arith}
 use Rattle.std.{specs.Int.bit_at, proofs.Math.Pow.pow_pos, proofs.lemmas.Bool.Decides.nat_tests}
 use Rattle.std.proofs.lemmas.Nat.Bits.{and_pow, bit_at-lt}
-use Rattle.vb_model.specs.Tests.{has_bit}
+use Rattle.vb_virtio.specs.Tests.{has_bit}
 
 -- a digit times its weight is the weight where the digit is 1
 times_is : (p b : ℕ) → 0 < p → b < 2 → eqb (b * p) p ≡ eqb b 1

@@ -2,8 +2,8 @@
 use Rattle.std.proofs.Common.{◌≡◌, ◌≢◌, ℕ, zero, suc, ◌+◌, ◌<◌, Bool, true, false, not, eqb, ◌&&◌}
 use Rattle.std.proofs.Common.{◌||◌, List, [], ◌∷◌, None, cond, refl, sym, subst, ap, ◌∙◌, ◌⊎◌, inl}
 use Rattle.std.proofs.{Common.{inr, below_more, arith}, lemmas.Bool.{false≢true, eqb-true, eq-eqb}}
-use Rattle.vb_model.specs.Refusals.{first_refusal}
-use Rattle.vb_model.specs.Status.{contains, is_out_of_order, status_causes}
+use Rattle.vb_virtio.specs.FirstRefusal.{first_refusal}
+use Rattle.vb_virtio.specs.Status.{contains, is_out_of_order, status_causes}
 use Rattle.vb_status.specs.Agreement.{StatusRequest, Write, Negotiate, Agreement}
 use Rattle.vb_status.specs.Agreement.{refusal_of_request, after_request, Leads, AreSteps, changes}
 use Rattle.vb_status.{specs.Agreement.unplugged, proofs.Accepted.accepted_write}

@@ -1,7 +1,7 @@
 -- What a write of the status does to a device: VIRTIO 1.1, 2.1 and 3.1.1.
 use Rattle.std.specs.Prelude.{ℕ, false, ◌==◌, length, replicate, if◌then◌else◌}
-use Rattle.vb_model.specs.Guest.{no_statistics}
-use Rattle.vb_model.specs.Status.{adds, driver_ok}
+use Rattle.vb_virtio.specs.Statistics.{no_statistics}
+use Rattle.vb_virtio.specs.Status.{adds, driver_ok}
 use Rattle.vb_ram.specs.Part.{Part, no_queue}
 
 -- the queues at index 0, with nothing taken

@@ -2,11 +2,9 @@
 -- VIRTIO 1.1, 3.1.1.
 use Rattle.std.specs.Prelude.{◌≡◌, ℕ, ◌^◌, ◌<◌, ◌==◌, List, [], ◌∷◌, Option, Some}
 use Rattle.std.specs.Prelude.{None, if◌then◌else◌, ◌≢◌}
-use Rattle.vb_model.specs.declared.negotiation.TheConstants.{OFFERED_FEATURES, READY_STATUS}
-use Rattle.vb_model.specs.declared.replies.Refusal.{Refusal}
-use Rattle.vb_model.specs.Life.{feature_refusal}
-use Rattle.vb_model.specs.Status.{contains, status_refusal}
-use Rattle.vb_model.specs.Status.{negotiate_refusal}
+use Rattle.vb_virtio.specs.declared.negotiation.TheConstants.{OFFERED_FEATURES, READY_STATUS}
+use Rattle.vb_virtio.specs.declared.refusals.Refusal.{Refusal}
+use Rattle.vb_virtio.specs.Status.{feature_refusal, contains, status_refusal, negotiate_refusal}
 
 pub data StatusRequest : Type 0 where
   Write : ℕ → StatusRequest
@@ -64,7 +62,7 @@ abbrev pub initialisation : ℕ → List StatusRequest
 initialisation wanted =
     Write 0 ∷ Write 1 ∷ Write 3 ∷ Negotiate wanted ∷ Write 11 ∷ Write READY_STATUS ∷ []
 
--- where it stands after an initialisation: ready, or at ACKNOWLEDGE and DRIVER with what was
+-- where it comes after an initialisation: ready, or at ACKNOWLEDGE and DRIVER with what was
 -- negotiated
 abbrev pub initialised : ℕ → Agreement × Option Refusal
 initialised wanted =

@@ -4,7 +4,7 @@ ghost use Rattle.std.specs.Prelude.{⊤, ◌∷◌, [], codes};
 
 use bitflags::{Flag, Flags, bitflag_items};
 use thiserror::Error;
-use vb_model::negotiation::OFFERED_FEATURES;
+use vb_virtio::negotiation::OFFERED_FEATURES;
 
 /// A device's status, a register of 8 bits: how far its driver has initialised it
 /// (VIRTIO 1.1, 2.1).
@@ -72,8 +72,8 @@ impl Features {
     pub const OFFERED: Features = Features(OFFERED_FEATURES);
 
     ghost use Rattle.std.specs.Prelude.{◌≡◌};
-    ghost use Rattle.vb_model.specs.Guest.{must_tell_host, stats_vq, deflate_on_oom, reporting};
-    ghost use Rattle.vb_model.specs.Guest.{version_1};
+    ghost use Rattle.vb_virtio.specs.Features.{must_tell_host, stats_vq, deflate_on_oom, reporting};
+    ghost use Rattle.vb_virtio.specs.Features.{version_1};
     ghost use Rattle.vb_status.specs.Bits.{feature_bits};
 
     /// Whether a page that is given up is used again only after the host was told.

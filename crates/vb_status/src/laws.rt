@@ -1,8 +1,8 @@
 //! What the rules of status and features come to.
 
 ghost use Rattle.std.specs.Prelude.{◌≡◌, ℕ, true, None, [], ◌∷◌, List, IsTrue};
-ghost use Rattle.vb_model.specs.Guest.{version_1};
-ghost use Rattle.vb_model.specs.Status.{status_refusal, contains, features_ok};
+ghost use Rattle.vb_virtio.specs.Features.{version_1};
+ghost use Rattle.vb_virtio.specs.Status.{status_refusal, contains, features_ok};
 ghost use Rattle.vb_status.specs.Agreement.{StatusRequest, Agreement, Leads, AreSteps, unplugged};
 ghost use Rattle.vb_status.specs.Agreement.{changes, outcome, initialisation, initialised};
 

@@ -1,7 +1,7 @@
 //! What a driver sees of its device.
 
 ghost use Rattle.std.specs.Prelude.{◌≡◌, OnOk, OnErr};
-ghost use Rattle.vb_model.specs.Status.{status_refusal, negotiate_refusal};
+ghost use Rattle.vb_virtio.specs.Status.{status_refusal, negotiate_refusal};
 ghost use Rattle.vb_status.specs.After.{after_status};
 ghost use Rattle.vb_status.specs.Answers.{answered_refusal};
 ghost use Rattle.vb_status.specs.Bits.{status_bits, feature_bits};

@@ -1,11 +1,11 @@
 //! Which writes of the status and which features are accepted.
 
 ghost use Rattle.std.specs.Prelude.{◌≡◌, IfOk};
-ghost use Rattle.vb_model.specs.Guest.{version_1};
-ghost use Rattle.vb_model.specs.Refusals.{first_refusal};
-ghost use Rattle.vb_model.specs.Status.{status_refusal, negotiate_refusal, needed_causes, adds};
-ghost use Rattle.vb_model.specs.Status.{adds_any, adds_more, skips, is_broken, is_out_of_order};
-ghost use Rattle.vb_model.specs.Status.{steps, not_for_drivers};
+ghost use Rattle.vb_virtio.specs.Features.{version_1};
+ghost use Rattle.vb_virtio.specs.FirstRefusal.{first_refusal};
+ghost use Rattle.vb_virtio.specs.Status.{status_refusal, negotiate_refusal, needed_causes, adds};
+ghost use Rattle.vb_virtio.specs.Status.{adds_any, adds_more, skips, is_broken, is_out_of_order};
+ghost use Rattle.vb_virtio.specs.Status.{steps, not_for_drivers};
 ghost use Rattle.vb_status.specs.Answers.{answered_refusal};
 ghost use Rattle.vb_status.specs.Bits.{status_bits, feature_bits};
 

@@ -3,7 +3,10 @@ use Rattle.std.proofs.Common.{◌≡◌, ℕ, zero, suc, ◌+◌, ◌<◌, ◌�
 use Rattle.std.{specs.Option.option_to_list, specs.Prelude.slice_index}
 use Rattle.std.proofs.Common.{sym, ap, ◌∙◌, arith, Option, Some, None, is_some, count_by}
 use Rattle.std.proofs.lemmas.List.{append-nil, append_assoc}
-use Rattle.vb_model.{specs.Balance.{Need, need}, specs.Guest.Guest, proofs.Tables.count_by-cons}
+use Rattle.vb_virtio.specs.Targets.{Need}
+use Rattle.vb_virtio.proofs.Tables.{count_by-cons}
+use Rattle.vb_model.specs.Balance.{need}
+use Rattle.vb_model.specs.Guest.{Guest}
 use Rattle.vb_model.specs.{World.{World, guest_at, with_guest}, HostEvents.{with_targets, needs}}
 
 plus_one : (n : ℕ) → n + 1 ≡ suc n
@@ -41,7 +44,7 @@ need_of floor (Some g) = Some (need floor g)
 abbrev pub need_at : ℕ → List (Option Guest) → ℕ → Option Need
 need_at floor gs k = need_of floor (guest_at gs k)
 
--- so many of them
+-- n of them
 pub first_few : (floor : ℕ) (gs : List (Option Guest)) (n : ℕ)
     → length (first_of n (need_at floor gs)) ≤ count_by is_some gs
 first_few floor gs zero = omega arith

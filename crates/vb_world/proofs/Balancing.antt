@@ -4,11 +4,14 @@ use Rattle.std.proofs.Common.{None, Option, Some, [], ap, arith, count_by, false
 use Rattle.std.proofs.Common.{length, refl, subst, sym, true, ℕ, ◌++◌, ◌+◌, ◌<◌, ◌∙◌, ◌∷◌, ◌≡◌, ◌≤◌}
 use Rattle.std.proofs.lemmas.{Bool.Decides.eqb_tells, List.{append-nil, get_or_past, length-append}}
 use Rattle.{std.specs.Option.option_to_list, slab.specs.Slab.{Slab, get, with_value}}
-use Rattle.vb_model.{proofs.Tables.count_by-cons, specs.declared.calls.Event.TheVariants.Balance}
-use Rattle.vb_model.specs.{Balance.{AreTargets, Need, need, shortage}, Limits.max_guests}
+use Rattle.vb_virtio.proofs.Tables.{count_by-cons}
+use Rattle.vb_virtio.specs.Targets.{AreTargets, Need, shortage}
+use Rattle.vb_virtio.specs.Limits.{max_guests}
+use Rattle.vb_virtio.specs.declared.refusals.Refusal.TheVariants.{Short}
+use Rattle.vb_model.specs.declared.calls.Event.TheVariants.{Balance}
+use Rattle.vb_model.specs.Balance.{need}
 use Rattle.vb_model.specs.{Guest.Guest, HostEvents.{WorldStep, needs, with_targets}}
 use Rattle.vb_model.specs.{HostRefusals.plugged_count, World.{World, guest_at, with_guest}}
-use Rattle.vb_model.specs.declared.replies.Refusal.TheVariants.{Short}
 use Rattle.vb_model.specs.declared.replies.Reply.TheVariants.{Refused, Targets}
 use Rattle.vb_world.proofs.Aiming.{aimed, aimed_at, aimed_more, aimed_same, all_aimed, all_needs}
 use Rattle.vb_world.proofs.Aiming.{first_few, first_more, first_of, need_at, need_of, nobody, rank}

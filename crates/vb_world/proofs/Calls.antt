@@ -7,9 +7,11 @@ use Rattle.slab.specs.Slab.{Slab, get, slab_len, with_value, Updates}
 use Rattle.vb_model.proofs.Changes.{with_guest-same, with_guest-other}
 use Rattle.vb_model.specs.{Guest.Guest, HostFrames.{used_frames, Gives, IsOut}, Queries.Answers}
 use Rattle.vb_model.specs.{HostEvents.WorldStep, World.{World, guest_at, with_guest, put_guest}}
-use Rattle.vb_model.specs.{HostRefusals.plugged_count, Limits.max_guests}
+use Rattle.vb_virtio.specs.Limits.{max_guests}
+use Rattle.vb_virtio.specs.declared.refusals.Refusal.TheVariants.{NoGuest}
+use Rattle.vb_model.specs.HostRefusals.{plugged_count}
 use Rattle.vb_model.specs.declared.calls.{Call.Call, Event.TheVariants.Frames as CountFrames}
-use Rattle.vb_model.specs.declared.{calls.Query.Query, replies.Refusal.TheVariants.NoGuest}
+use Rattle.vb_model.specs.declared.calls.Query.{Query}
 use Rattle.vb_model.specs.declared.replies.Reply.{Reply, TheVariants.{Frames, Refused}}
 use Rattle.{vb_frames.specs.Out.{is_out, TableAnswers}, vb_world.specs.Hosts.{IsHost, StandsAt}}
 use Rattle.vb_frames.proofs.{Returns.same_gives, Least.table_gives}

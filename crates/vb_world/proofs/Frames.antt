@@ -3,8 +3,11 @@ use Rattle.std.{proofs.Common.{◌≡◌, ◌≢◌, ℕ, zero, suc}, specs.Prel
 use Rattle.std.proofs.Common.{◌+◌, ◌<◌, Bool, true, List, [], ◌∷◌, length, refl, sym, ap, ◌∙◌, inl}
 use Rattle.std.proofs.Common.{inr, arith, sum_by, Option, Some, None, is_some, count_by, filter_map}
 use Rattle.std.proofs.lemmas.{List.Sums.sum_by-cons, Bool.{false≢true, Decides.eqb_tells}}
-use Rattle.vb_model.{specs.Guest.{Guest, backed_count}, proofs.Tables.count_by-cons}
-use Rattle.vb_model.specs.{World.{World, guest_at}, HostFrames.used_frames, Tests.one_if}
+use Rattle.vb_virtio.proofs.Tables.{count_by-cons}
+use Rattle.vb_virtio.specs.Tests.{one_if}
+use Rattle.vb_model.specs.Guest.{Guest, backed_count}
+use Rattle.vb_model.specs.World.{World, guest_at}
+use Rattle.vb_model.specs.HostFrames.{used_frames}
 use Rattle.{vb_slot.specs.Steps.is_frame, vb_frames.specs.Out.is_out}
 use Rattle.vb_world.{specs.Hosts.{backing_at, backing_of}, proofs.Guests.backs_out}
 

@@ -1,10 +1,14 @@
 -- Sums and counts over all guests, where one of them changes.
-use Rattle.{std.proofs.Common.{◌≡◌, inl}, vb_model.{specs.Guest.Guest, proofs.Tables.count_by-cons}}
+use Rattle.vb_virtio.proofs.Tables.{count_by-cons}
+use Rattle.vb_virtio.specs.Tests.{one_if}
+use Rattle.std.proofs.Common.{◌≡◌, inl}
+use Rattle.vb_model.specs.Guest.{Guest}
 use Rattle.std.proofs.Common.{ℕ, ◌≤◌, true, cond, List, ◌∷◌, ap, ◌∙◌, arith, Option, Some, None}
 use Rattle.std.proofs.Common.{zero, suc, ◌+◌, Bool, false, [], refl, inr, sum_by, is_some, count_by}
 use Rattle.{std.specs.Prelude.{◌==◌, slice_index_or}, vb_slot.specs.Steps.{is_frame, backing_count}}
 use Rattle.std.proofs.lemmas.{List.Sums.sum_by-cons, Bool.{cases_lt, Decides.eqb_tells}}
-use Rattle.vb_model.specs.{Tests.one_if, HostFrames.IsOut, World.{World, guest_at, with_guest}}
+use Rattle.vb_model.specs.HostFrames.{IsOut}
+use Rattle.vb_model.specs.World.{World, guest_at, with_guest}
 use Rattle.{vb_frames.specs.Out.is_out, vb_world.specs.Hosts.{backing_at, backing_of}}
 
 pub sum-with : (m : Option Guest → ℕ) → m None ≡ 0
@@ -37,7 +41,7 @@ backing-part f zero (y ∷ gs) g e =
 backing-part f (suc n) (y ∷ gs) g e =
     omega (arith, sum_by-cons (backing_at f) y gs, backing-part f n gs g e)
 
--- ---- frames behind pages
+-- ---- frames that back pages
 
 same_number : (f : ℕ) → (f == f) ≡ true
 same_number f = grind arith

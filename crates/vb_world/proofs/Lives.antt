@@ -5,13 +5,14 @@ use Rattle.slab.specs.Slab.{Slab, Updates, get, slab_len, with_value}
 use Rattle.vb_model.specs.{Guest.Guest, HostEvents.WorldStep, World.{World, guest_at, put_guest}}
 use Rattle.vb_model.specs.{Life.after_restart, declared.calls.Event.TheVariants.{Restart, Unplug}}
 use Rattle.vb_model.specs.declared.replies.Reply.TheVariants.{Done, Refused}
-use Rattle.vb_model.specs.{HostRefusals.plugged_count, declared.replies.Refusal.TheVariants.NoGuest}
+use Rattle.vb_virtio.specs.declared.refusals.Refusal.TheVariants.{NoGuest}
+use Rattle.vb_model.specs.HostRefusals.{plugged_count}
 use Rattle.vb_slot.specs.{Steps.{AllReturn, backing_count}, Supply.{Supply, nothing}}
 use Rattle.vb_world.proofs.Calls.{guest_of, host_updated, host_with, no_guest}
 use Rattle.vb_world.specs.Hosts.{IsHost, backing_at}
 use Rattle.vb_world.proofs.{KeeperFrames.{KeeperMoves, moves_asked}, Guests.count-with}
 
--- the keeper's frames that came back are those behind the guest's pages
+-- the keeper's frames that came back are those that back the guest's pages
 pub returned : (s1 s2 : Supply) (g : Guest) → s1.keeps ≡ false → AllReturn s1 s2 g
     → KeeperMoves s1.out s2.out nothing (λ f. backing_count f g)
 returned s1 s2 g asked moves = moves_asked s1 s2 nothing (λ f. backing_count f g) asked moves

@@ -8,11 +8,12 @@ use Rattle.std.proofs.lemmas.Bool.{cases_lt, Decides.{eqb_tells, nat_tests}}
 use Rattle.{slab.specs.Slab.{Slab, get, slab_len, Updates}, vb_ram.specs.{Pages.Pages, Part.Part}}
 use Rattle.vb_model.proofs.Changes.{with_guest-same, with_guest-other}
 use Rattle.vb_model.specs.{Guest.{Guest, Config, fresh}, World.{World, guest_at, with_guest, made}}
-use Rattle.vb_model.specs.{HostEvents.{Plugs, PlugsIn, WorldStep}, Limits.{max_guests, is_config}}
+use Rattle.vb_virtio.specs.Limits.{max_guests, is_config}
+use Rattle.vb_virtio.specs.declared.refusals.Refusal.TheVariants.{NoMemory, TooMany, NoDevice}
+use Rattle.vb_virtio.specs.declared.refusals.Refusal.TheVariants.{BadConfig}
+use Rattle.vb_model.specs.HostEvents.{Plugs, PlugsIn, WorldStep}
 use Rattle.{vb_model.specs.HostRefusals.plugged_count, vb_slot.specs.Spare.IsSpare}
 use Rattle.vb_model.specs.declared.calls.{Event.{Event, TheVariants.Plug}, GuestSize.GuestSize}
-use Rattle.vb_model.specs.declared.replies.Refusal.TheVariants.{NoMemory, TooMany, NoDevice}
-use Rattle.vb_model.specs.declared.replies.Refusal.TheVariants.{BadConfig}
 use Rattle.vb_model.specs.declared.replies.Reply.{Reply, TheVariants.{Plugged, Refused}}
 use Rattle.{vb_slot.proofs.Fresh.backs_none, vb_world.proofs.Guests.{backing-with, count-with}}
 use Rattle.vb_world.{specs.Hosts.{IsHost, StandsAt, AreSpares, backing_at}, proofs.Calls.no_guest}
@@ -160,7 +161,7 @@ module _ {S D : Type 0} (Stand : S → Guest → Type 0) (Spare : D → Bool →
     of (d ∷ ds) [] h l = absurd h
     of (d ∷ ds) (p ∷ ps) h l = inl (refl, refl)
 
-  -- the device stands where it stood
+  -- the device is where it was
   pub device_back : (d d' : D) (rest : List D) → IsHost Stand Spare slots out devices w
       → devices ≡ d ∷ rest → ((p : Bool) → Spare d p → Spare d' p)
       → IsHost Stand Spare slots out (d' ∷ rest) w

@@ -11,7 +11,7 @@ ghost use Rattle.vb_model.specs.declared.calls.Event.TheVariants.{Plug, Guest as
 ghost use Rattle.vb_model.specs.declared.calls.Event.TheVariants.{Unplug, Restart, Balance};
 ghost use Rattle.vb_model.specs.declared.calls.Event.TheVariants.{Query as OnQuery};
 ghost use Rattle.vb_model.specs.declared.calls.Event.TheVariants.{Frames as CountFrames};
-ghost use Rattle.vb_model.specs.Limits.{is_config, max_guests};
+ghost use Rattle.vb_virtio.specs.Limits.{is_config, max_guests};
 ghost use Rattle.slab.specs.Slab.{slab_len};
 ghost use Rattle.vb_slot.specs.Spare.{IsSpare};
 ghost use Rattle.vb_world.specs.Hosts.{IsWorld};
@@ -22,10 +22,11 @@ use std::alloc::{AllocError, Global};
 use vb_balance::{GuestNeed, targets};
 use vb_device::Device;
 use vb_frames::FrameTable;
-use vb_model::limits::{MAX_FRAMES, MAX_GUESTS};
-use vb_model::{Call, Event, GuestSize, Query, Refusal, Reply};
+use vb_model::{Call, Event, GuestSize, Query, Reply};
 use vb_ram::Config;
 use vb_slot::Slot;
+use vb_virtio::Refusal;
+use vb_virtio::limits::{MAX_FRAMES, MAX_GUESTS};
 
 /// As many guests as there may be, as a capacity.
 const GUESTS: usize = MAX_GUESTS as usize;
@@ -41,8 +42,8 @@ pub struct World {
     spares: Vec<Box<dyn Device + Send>>,
 }
 
-/// Adds a device behind the spare ones. Refused for want of memory alone, which there isn't where
-/// the list has room; the list is as it was then, and the device gone.
+/// Adds a device after the spare ones. Refused on an allocation failure alone, which there isn't
+/// where the list has room; the list is as it was then, and the device gone.
 pub fn add_spare(
     spares: &mut Vec<Box<dyn Device + Send>>,
     device: Box<dyn Device + Send>,
@@ -70,8 +71,9 @@ fn put_first(devices: &mut Vec<Box<dyn Device + Send>>, device: Box<dyn Device +
 }
 
 impl World {
-    /// A host of so many frames, 1 to 65,536, without guests. A plug takes the first of the spare
-    /// devices that are left, and the guest has its pace. Want of memory is the only refusal.
+    /// A host of `frames` frames, 1 to 65,536, without guests. A plug takes the first of the spare
+    /// devices that are left, and the guest has its pace. An allocation failure is the only
+    /// refusal.
     pub fn new(
         alloc: Global,
         frames: u32,
@@ -278,8 +280,8 @@ impl World {
 
     /// Lets events happen, one after the other, and gives what each is answered.
     ///
-    /// Want of memory for the replies is the only refusal, and comes before the first event. Where
-    /// there is no event there is none.
+    /// An allocation failure for the replies is the only refusal, and comes before the first event.
+    /// Where there is no event there is none.
     pub fn run(&mut self, alloc: Global, events: &[Event]) -> Result<Vec<Reply>, AllocError>
         requires made { (frames : ℕ) × (spares : List Bool) ×
             IsWorld mem part self.old (made frames spares) }

@@ -1,14 +1,16 @@
 //! Chains of a device's queues: settled, visited and used.
 
-ghost use Rattle.std.specs.Prelude.{◌≡◌, ◌==◌, ◌&&◌, not, ◌<◌, [], true, IfNone, IfOk};
+ghost use Rattle.std.specs.Prelude.{◌≡◌, ◌==◌, ◌&&◌, not, ◌<◌, [], true, false, None, IfNone, IfOk};
 ghost use Rattle.std.specs.Prelude.{OnSome, length};
-ghost use Rattle.vb_model.specs.declared.layout.TheConstants.{DEFLATE_QUEUE, STATISTICS_QUEUE};
-ghost use Rattle.vb_model.specs.Status.{contains, driver_ok};
+ghost use Rattle.vb_virtio.specs.declared.layout.TheConstants.{DEFLATE_QUEUE, STATISTICS_QUEUE};
+ghost use Rattle.vb_virtio.specs.Status.{contains, driver_ok};
 ghost use Rattle.vb_status.specs.Bits.{status_bits};
 ghost use Rattle.vb_ring.specs.Layout.{IsBacked};
 ghost use Rattle.vb_device.specs.Queues.{queue_layout};
 ghost use Rattle.vb_device.specs.BaseCalls.{SettlesBy, UsesChain, CanUse, TakesBuffer};
 ghost use Rattle.vb_device.specs.BaseCalls.{VisitsNext, visited_queue, page_to_visit, with_visit};
+ghost use Rattle.vb_device.specs.Calls.{UsesFirst};
+ghost use Rattle.vb_device.specs.Conditions.{serve_refusal, use_refusal};
 ghost use Rattle.vb_device.specs.QueueState.{status_after};
 
 use crate::Worked;
@@ -16,11 +18,11 @@ use crate::balloon::BalloonDevice;
 use crate::pace::Pace;
 use crate::queues::{INFLATES, REPORTS, STATISTICS, index_of};
 use bitflags::Flags;
-use vb_model::Refusal;
-use vb_model::layout::DEFLATE_QUEUE;
-#[cfg(test)]
-use vb_model::layout::{REPORT_QUEUE, STATISTICS_QUEUE};
 use vb_status::Status;
+use vb_virtio::Refusal;
+#[cfg(test)]
+use vb_virtio::layout::REPORT_QUEUE;
+use vb_virtio::layout::{DEFLATE_QUEUE, STATISTICS_QUEUE};
 
 /// Sets DEVICE_NEEDS_RESET where a take found a broken rule.
 pub(super) fn note_fault(status: &mut Status, taken: &Result<Option<u16>, Refusal>)
@@ -31,21 +33,22 @@ pub(super) fn note_fault(status: &mut Status, taken: &Result<Option<u16>, Refusa
     }
 }
 
-/// Whether a device visits the pages of this queue's requests before it finishes them.
-fn visits_first(paced: bool, queue: u32) -> bool
-    ensures { result ≡ (paced && not (queue == DEFLATE_QUEUE)) }
+/// Whether the pages of this queue's requests are visited before they are finished, where a device
+/// visits pages or doesn't.
+fn visits_first(visits: bool, queue: u32) -> bool
+    ensures { result ≡ (visits && not (queue == DEFLATE_QUEUE)) }
 {
-    paced && queue != DEFLATE_QUEUE
+    visits && queue != DEFLATE_QUEUE
 }
 
 impl<P: Pace> BalloonDevice<P> {
-    /// All of `finish` but for the used entry: marks the pages of the request, takes it out, and
-    /// its pages' frames away. Nothing is written.
-    pub(crate) fn settle(&mut self, queue: u32, index: u32) -> Result<u16, Refusal>
+    /// All of `finish` but for the used element: marks the pages of the request, takes it out, and
+    /// its pages' frames away. Nothing is written. The pages are to be visited first, or aren't.
+    pub(crate) fn settle(&mut self, queue: u32, index: u32, visits: bool) -> Result<u16, Refusal>
         requires backed { contains self.old.part.status driver_ok ≡ true →
             IsBacked self.old.mem (queue_layout queue self.old.part) }
         requires none { self.old.part.loose ≡ [] }
-        ensures by { SettlesBy queue index self.old.mem self.new.mem
+        ensures by { SettlesBy visits queue index self.old.mem self.new.mem
             self.old.part self.new.part result }
         ensures ready { IfOk result (λ head. CanUse queue head self.new.mem self.new.part) }
     {
@@ -53,7 +56,7 @@ impl<P: Pace> BalloonDevice<P> {
             return Err(why);
         }
         let place = index_of(queue);
-        let request = self.queues[place].taken(index, visits_first(P::IS_PACED, queue))?;
+        let request = self.queues[place].taken(index, visits_first(visits, queue))?;
         let head = request.head();
         self.queues[place].take_out(&mut self.ram, &mut self.loose, &mut self.ballooned, index);
         Ok(head)
@@ -80,6 +83,39 @@ impl<P: Pace> BalloonDevice<P> {
     {
         let place = index_of(queue);
         self.queues[place].add_used(&mut self.ram, head);
+    }
+
+    /// What a serve is refused for before guest memory is read.
+    pub(super) fn serve_refusal(&self, queue: u32) -> Option<Refusal>
+        ensures { result ≡ serve_refusal queue self.now.part }
+    {
+        if let Some(why) = self.take_refusal(queue) {
+            return Some(why);
+        }
+        if self.queues[index_of(queue)].is_idle() {
+            None
+        } else {
+            Some(Refusal::Busy)
+        }
+    }
+
+    /// Uses the first taken chain of a queue, whatever was visited of its pages; a buffer of
+    /// statistics stays taken.
+    pub(super) fn use_first(&mut self, queue: u32)
+        requires taken { (queue == STATISTICS_QUEUE) ≡ false →
+            use_refusal false queue 0 self.old.part ≡ None }
+        requires backed { contains self.old.part.status driver_ok ≡ true →
+            IsBacked self.old.mem (queue_layout queue self.old.part) }
+        requires none { self.old.part.loose ≡ [] }
+        ensures { UsesFirst queue self.old.mem self.new.mem self.old.part self.new.part }
+    {
+        if queue == STATISTICS_QUEUE {
+            return;
+        }
+        match self.settle(queue, 0, false) {
+            Ok(head) => self.use_chain(queue, head),
+            Err(_) => unreachable!(),
+        }
     }
 
     /// Takes the statistics buffer out, if it is taken; answers its head.

@@ -10,9 +10,9 @@ use crate::balloon::BalloonDevice;
 use crate::pace::Pace;
 use crate::queues::set_all_ready;
 use bitflags::Flags;
-use vb_model::Refusal;
-use vb_model::layout::{DEFLATE_QUEUE, INFLATE_QUEUE, REPORT_QUEUE};
 use vb_status::{Features, Port, Status, StatusFault, negotiate, write_status};
+use vb_virtio::Refusal;
+use vb_virtio::layout::{DEFLATE_QUEUE, INFLATE_QUEUE, REPORT_QUEUE};
 
 impl<P: Pace> BalloonDevice<P> {
     /// `NotReady` where the driver isn't done with the initialisation or has given up, and

@@ -3,8 +3,8 @@
 use super::requests::INFLATE;
 use super::{Answer, Host, Scenario, Sight, Step, expect};
 use crate::{BalloonDevice, Immediate};
-use vb_model::Refusal;
 use vb_ram::Shape;
+use vb_virtio::Refusal;
 
 const NOT_ATTACHED: &'static [(Step, Answer)] = &[
     (Step::Take(0), Answer::Refused(Refusal::NotReady)),

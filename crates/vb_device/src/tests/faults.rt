@@ -6,7 +6,7 @@ use super::bytes::{
 use super::requests::INFLATE;
 use super::{Answer, Scenario, Sight, Step, expect};
 use crate::Immediate;
-use vb_model::Refusal;
+use vb_virtio::Refusal;
 
 /// Numbers 20, 64 and 3.
 const ONE_RIGHT: [u8; 12] = [20, 0, 0, 0, 64, 0, 0, 0, 3, 0, 0, 0];

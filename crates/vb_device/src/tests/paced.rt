@@ -5,7 +5,7 @@ use super::requests::{DEFLATE, TAKEN, TWO_TAKEN};
 use super::statistics_and_reports::TAKEN_TWICE;
 use super::{Answer, Scenario, Sight, Step, expect};
 use crate::Paced;
-use vb_model::Refusal;
+use vb_virtio::Refusal;
 
 /// Its pages are visited one by one; page 19 gets a frame after its visit.
 const VISITED: &'static [(Step, Answer)] = &[

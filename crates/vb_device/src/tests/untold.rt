@@ -4,7 +4,7 @@ use super::bytes::{AVAILABLE, NUMBERS, SIXTEEN_BYTES};
 use super::requests::DEFLATE;
 use super::{Answer, Scenario, Sight, Step, expect};
 use crate::{Immediate, Paced};
-use vb_model::Refusal;
+use vb_virtio::Refusal;
 
 /// All features but MUST_TELL_HOST.
 const UNTOLD: u64 = 0x1_0000_0026;

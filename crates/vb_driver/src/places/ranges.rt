@@ -3,9 +3,9 @@
 ghost use Rattle.std.specs.Prelude.{◌≡◌, ◌≤◌, ◌<◌, ◌+◌, ◌-◌, ◌^◌, ◌||◌, ℕ, true, length, All};
 ghost use Rattle.std.specs.List.{range_with_len};
 ghost use Rattle.vb_bits.specs.Sets.{has};
-ghost use Rattle.vb_model.specs.Tests.{is_in};
+ghost use Rattle.vb_virtio.specs.Tests.{is_in};
 ghost use Rattle.vb_model.specs.Pages.{placed, place_of, pages_of, pages_of_all};
-ghost use Rattle.vb_model.specs.Limits.{max_order, max_outstanding};
+ghost use Rattle.vb_virtio.specs.Limits.{max_order, max_outstanding};
 ghost use Rattle.vb_driver.specs.Answers.{block_at};
 ghost use Rattle.vb_report.specs.Blocks.{blocks_of};
 ghost use Rattle.vb_driver.specs.State.{IsAreaBlock};

@@ -12,11 +12,12 @@ use pages::{Block, Pages};
 use requests::Requests;
 pub(crate) use rows::{Act, Row, Said, rows_of};
 use std::alloc::{AllocError, Global};
-use vb_model::layout::{DEFLATE_QUEUE, INFLATE_QUEUE, REPORT_QUEUE, STATISTICS_QUEUE};
-use vb_model::limits::{MAX_ORDER, PAGE_SIZE};
-use vb_model::{Claim, Place, Refusal};
+use vb_model::{Claim, Place};
 use vb_ram::Config;
 use vb_run::Entry;
+use vb_virtio::Refusal;
+use vb_virtio::layout::{DEFLATE_QUEUE, INFLATE_QUEUE, REPORT_QUEUE, STATISTICS_QUEUE};
+use vb_virtio::limits::{MAX_ORDER, PAGE_SIZE};
 
 /// The features that a driver accepts by itself.
 const ALL_FEATURES: u64 = 0x1_0000_0027;
@@ -90,7 +91,7 @@ fn has_frame(claim: Claim) -> bool {
     matches!(claim, Claim::Gave(_))
 }
 
-/// Whether the row is refused so at the last claim, of which at most so many are made: none of the
+/// Whether the row is refused so at the last claim, of which at most `most` are made: none of the
 /// frames stays, and nothing has changed.
 fn is_refused(row: &Row<'_>, refusal: Refusal, most: usize) -> bool {
     let given = row.claims.iter().filter(|claim| has_frame(**claim));
@@ -139,7 +140,7 @@ impl PlainGuest {
         !has_buffer && !self.requests.is_waiting()
     }
 
-    /// The frames behind its pages, by rising page.
+    /// The frames that back its pages, by rising page.
     pub fn frames(&self, alloc: Global) -> Result<Vec<u32>, AllocError> {
         self.pages.frames(alloc)
     }

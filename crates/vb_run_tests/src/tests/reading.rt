@@ -1,7 +1,8 @@
 //! What the tests read in a report.
 
-use vb_model::{Refusal, Reply};
+use vb_model::Reply;
 use vb_run::{Caller, Note, Report};
+use vb_virtio::Refusal;
 
 /// How many pages the first guest could spare when the balancer looked first.
 pub(super) fn first_look(report: &Report) -> Option<u32> {
@@ -35,7 +36,7 @@ pub(super) fn sets_a_target(report: &Report) -> bool {
 pub(super) enum Balanced {
     /// A first target.
     Target(u32),
-    /// So many pages stay missing.
+    /// n pages stay missing.
     Short(u64),
 }
 

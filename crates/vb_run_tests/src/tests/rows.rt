@@ -8,8 +8,9 @@ use std::sync::Wait;
 use std::test::Fail;
 use std::thread::Threads;
 use std::time::Clock;
-use vb_model::{Refusal, Reply};
+use vb_model::Reply;
 use vb_run::{Bells, Caller, GuestReport, Note, OpenGate};
+use vb_virtio::Refusal;
 
 /// A run of one plan, and what it leaves at each guest.
 pub(super) struct Row {

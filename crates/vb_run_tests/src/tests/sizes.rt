@@ -5,9 +5,9 @@ use crate::tests::plans::{Balances, Guests, Line, SMALL};
 use std::alloc::{AllocError, Global};
 use std::sync::Wait;
 use std::thread::Threads;
-use vb_model::limits::MAX_FRAMES;
 use vb_ram::Config;
 use vb_run::{Bells, OpenGate, Report};
+use vb_virtio::limits::MAX_FRAMES;
 
 /// A guest of two processors, and what the balancer does.
 struct Row {

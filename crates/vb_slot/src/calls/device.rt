@@ -6,14 +6,17 @@ ghost use Rattle.vb_model.specs.Guest.{Guest};
 ghost use Rattle.vb_device.specs.Calls.{TakesBy, WorksBy, FinishesBy, SweepsBy, AsksBy};
 ghost use Rattle.vb_guest.specs.Exact.{IsHandedBack, KeepsFrames};
 ghost use Rattle.vb_guest.specs.Replies.{taken_reply, finished_reply, worked_reply, swept_reply};
-ghost use Rattle.vb_guest.specs.Replies.{asked_reply};
+ghost use Rattle.vb_guest.specs.Replies.{asked_reply, served_reply};
+ghost use Rattle.vb_guest.specs.Serving.{ServesAllBy};
 ghost use Rattle.vb_slot.specs.Slots.{stands_for, claims_of, memory_of, part_of, driver_of};
 ghost use Rattle.vb_slot.specs.Slots.{HasGuest, HasGuestOut, SlotSteps, SlotStepsAlone};
 
 use crate::slot::{Slot, forget};
 use vb_device::Worked;
 use vb_frames::FrameKeeper;
-use vb_model::{Call, Refusal};
+use vb_guest::Served;
+use vb_model::Call;
+use vb_virtio::Refusal;
 
 impl Slot {
     /// The device takes the next chain of a queue (VIRTIO 1.1, 2.6): a request (0 and 1), the
@@ -76,6 +79,27 @@ impl Slot {
     {
         forget(&mut self.claims);
         vb_guest::finish(&mut self.device, keeper, queue, index)
+    }
+
+    /// The device serves a queue: each chain that is available is taken, its pages are visited, and
+    /// it is used before the next one; of the queue of statistics (2) the buffer alone is taken,
+    /// and stays taken until `ask`. Answers how many chains were served, and which rule the next
+    /// one breaks, if it breaks one: the device needs a reset then. Refused with `NoQueue`,
+    /// `NotReady`, `NeedsReset`, `NoQueue` where the queue's feature wasn't accepted, and `Busy`
+    /// where any chain of the queue is taken, tested in this order.
+    pub fn serve<K: FrameKeeper>(&mut self, keeper: &mut K, queue: u32) -> Result<Served, Refusal>
+        requires { HasGuestOut mem part self.old (K.out keeper.old) }
+        ensures step { SlotSteps K.answers mem part self.old (K.out keeper.old) self.new
+            (K.out keeper.new) (Call.Serve queue) (served_reply result) }
+        ensures exact { ServesAllBy queue (memory_of mem self.old) (memory_of mem self.new)
+            (part_of part self.old) (part_of part self.new) result }
+        ensures driver { driver_of self.new ≡ driver_of self.old }
+        ensures quiet { KeepsFrames (memory_of mem self.old) (memory_of mem self.new)
+            → keeper.new ≡ keeper.old }
+        ensures unasked { (part_of part self.old).keeps ≡ true → keeper.new ≡ keeper.old }
+    {
+        forget(&mut self.claims);
+        vb_guest::serve(&mut self.device, keeper, queue)
     }
 
     /// The host discards what it still has of a ballooned page; answers whether it had a frame.

@@ -11,7 +11,8 @@ ghost use Rattle.vb_slot.specs.Slots.{IsUntouched, HasGuest, SlotSteps, SlotStep
 use crate::slot::{Slot, forget};
 use std::alloc::Global;
 use vb_frames::FrameKeeper;
-use vb_model::{Bytes, Call, Refusal};
+use vb_model::{Bytes, Call};
+use vb_virtio::Refusal;
 
 impl Slot {
     /// A processor asks for a block of 2^order pages (Gorman, chapter 6); answers its first page,

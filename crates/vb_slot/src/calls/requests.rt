@@ -12,7 +12,8 @@ ghost use Rattle.vb_slot.specs.Slots.{HasGuest, SlotSteps, SlotStepsAlone};
 use crate::slot::{Slot, forget};
 use vb_driver::{Posted, Reaped};
 use vb_frames::FrameKeeper;
-use vb_model::{Call, Refusal};
+use vb_model::Call;
+use vb_virtio::Refusal;
 
 impl Slot {
     /// The driver initialises the device with these features (VIRTIO 1.1, 3.1.1). Refused with

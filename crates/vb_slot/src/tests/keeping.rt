@@ -2,17 +2,17 @@
 
 ghost use Rattle.std.specs.Prelude.{◌≡◌, ◌≤◌, ◌<◌, ◌+◌, ◌++◌, ◌∷◌, ℕ, [], true, false, not, filter};
 ghost use Rattle.std.specs.Prelude.{length, vec_len, vec_capacity, nat_lt, IfOk, ◌==◌};
-ghost use Rattle.vb_model.specs.Tests.{times, one_if};
+ghost use Rattle.vb_virtio.specs.Tests.{times, one_if};
 ghost use Rattle.vb_ram.specs.Part.{Part};
 ghost use Rattle.vb_device.specs.Calls.{IsUnused, Claims, PutsBack};
 
 use std::alloc::{AllocError, Global};
 use vb_device::{Claimed, Device, ImmediateDevice, Statistics, Worked};
-use vb_model::Refusal;
 use vb_ram::{Config, Frame, GuestBytes, RamFault, SupplyRefused};
 use vb_status::{Features, Port, Status, StatusFault};
+use vb_virtio::Refusal;
 
-/// Puts a number behind the others, for which there is room.
+/// Puts a number after the others, for which there is room.
 fn put_last(numbers: &mut Vec<u32>, number: u32)
     requires room { vec_len numbers.old < vec_capacity numbers.old }
     ensures items { numbers.new.items ≡ numbers.old.items ++ number ∷ [] }
@@ -24,7 +24,7 @@ fn put_last(numbers: &mut Vec<u32>, number: u32)
     }
 }
 
-/// Takes a number away, wherever it stands.
+/// Takes a number away, wherever it is.
 fn take_away(numbers: &mut Vec<u32>, number: u32)
     ensures items { numbers.new.items ≡ filter (λ n. not (n == number)) numbers.old.items }
     ensures capacity { vec_capacity numbers.old ≤ vec_capacity numbers.new }
@@ -32,7 +32,7 @@ fn take_away(numbers: &mut Vec<u32>, number: u32)
     numbers.retain(|other| *other != number);
 }
 
-/// No numbers, and room for so many.
+/// No numbers, and room for `limit`.
 fn room_for(alloc: Global, limit: u32) -> Result<Vec<u32>, AllocError>
     ensures none { IfOk result (λ numbers. numbers.items ≡ []) }
     ensures room { IfOk result (λ numbers. limit ≤ vec_capacity numbers) }
@@ -60,7 +60,7 @@ struct Pool {
 }
 
 impl Pool {
-    /// All frames of a device that has so many, with room for their numbers: none is out.
+    /// All frames of a device that has `limit`, with room for their numbers: none is out.
     fn of(alloc: Global, limit: u32, out: Vec<u32>, free: Vec<u32>) -> Pool
         requires empty { (out.items ≡ []) × (free.items ≡ []) }
         requires room { (limit ≤ vec_capacity out) × (limit ≤ vec_capacity free) }
@@ -75,7 +75,7 @@ impl Pool {
         }
     }
 
-    /// All frames of a device that has so many: none is out.
+    /// All frames of a device that has `limit`: none is out.
     fn new(alloc: Global, limit: u32) -> Result<Pool, AllocError>
         ensures { IfOk result (λ pool. pool.out.items ≡ []) }
     {
@@ -148,7 +148,7 @@ pub(super) struct KeepingDevice {
 }
 
 impl KeepingDevice {
-    /// A device that no guest has yet, with so many frames.
+    /// A device that no guest has yet, with `frames` frames.
     pub(super) fn new(alloc: Global, frames: u32) -> Result<KeepingDevice, AllocError>
         ensures unused { IfOk result (λ device. IsUnused device.inner.mem device.inner.part) }
         ensures paced { IfOk result (λ device. device.inner.part.paced ≡ false) }
@@ -248,6 +248,10 @@ impl Device for KeepingDevice {
 
     fn finish(&mut self, queue: u32, index: u32) -> Result<u16, Refusal> {
         self.inner.finish(queue, index)
+    }
+
+    fn serve(&mut self, queue: u32) -> Result<Option<u16>, Refusal> {
+        self.inner.serve(queue)
     }
 
     fn sweep(&mut self, page: u32) -> Result<bool, Refusal> {

@@ -11,8 +11,9 @@ use crate::{GuestSlot, LoneSlot};
 use std::alloc::Global;
 use std::process::Abort;
 use vb_device::{Device, ImmediateDevice};
-use vb_model::{Call, Claim, Query, Refusal};
+use vb_model::{Call, Claim, Query};
 use vb_ram::Config;
+use vb_virtio::Refusal;
 
 /// A device of sixteen frames.
 static OWN_FRAMES: [Row; 18] = [

@@ -11,8 +11,9 @@ use std::alloc::Global;
 use std::process::Abort;
 use vb_device::ImmediateDevice;
 use vb_frames::{FrameKeeper, FrameTable, Refused};
-use vb_model::{Bytes, Claim, Refusal};
+use vb_model::{Bytes, Claim};
 use vb_ram::{Config, Frame};
+use vb_virtio::Refusal;
 
 /// A host's frames, of which one claim finds no memory.
 #[derive(Drop)]

@@ -5,10 +5,9 @@ use std::alloc::{AllocError, Global};
 use std::io;
 use std::io::{ErrorKind, Write};
 use std::process::Abort;
-use vb_model::{
-    BalloonState, Bytes, LastStatistics, Numbers, PageRun, PageRuns, PlaceCounts, Refusal, Reply,
-};
+use vb_model::{BalloonState, Bytes, PageRun, PageRuns, PlaceCounts, Reply};
 use vb_reply::{write_replies, write_reply};
+use vb_virtio::{LastStatistics, Numbers, Refusal};
 
 /// The text that is written of a reply.
 fn written(alloc: Global, reply: &Reply) -> Vec<u8> {
@@ -49,6 +48,20 @@ fn requests(rt: HostRuntime) {
     check(&rt, alloc, Reply::Reaped { head, pages }, "reaped 1 44");
     check(&rt, alloc, Reply::Taken { head }, "taken 1");
     check(&rt, alloc, Reply::Finished { head }, "finished 1");
+}
+
+#[test]
+fn served_chains(rt: HostRuntime) {
+    let alloc = rt.alloc();
+    let (chains, broken) = (0, None);
+    check(&rt, alloc, Reply::Served { chains, broken }, "served 0");
+    let (chains, broken) = (256, Some(10));
+    check(
+        &rt,
+        alloc,
+        Reply::Served { chains, broken },
+        "served 256 broken C10",
+    );
 }
 
 #[test]
@@ -234,7 +247,7 @@ enum Items {
 }
 
 impl Items {
-    /// The reply with so many of them.
+    /// The reply with `count` of them.
     fn reply(&self, alloc: Global, count: usize) -> Result<Reply, AllocError> {
         Ok(match self {
             Items::Bytes(byte) => Reply::ReadBytes {
@@ -250,7 +263,7 @@ impl Items {
     }
 }
 
-/// So many targets, as far as there is room.
+/// n targets, as far as there is room.
 fn targets_of(target: u32, count: usize) -> Numbers {
     let mut targets = ArrayVec::new();
     for _ in 0..count {
@@ -287,7 +300,7 @@ static LONG: [(Items, usize, &str, &str); 12] = [
     (Items::Runs(ALL_PAGES), 8192, "pages", " 0-4294967295"),
 ];
 
-/// A text of this start, so many times this part, and a line feed.
+/// A text of this start, `count` times this part, and a line feed.
 fn repeated(alloc: Global, start: &str, part: &str, count: usize) -> Result<Vec<u8>, AllocError> {
     let mut text = Vec::from_slice(alloc, start.as_bytes())?;
     for _ in 0..count {

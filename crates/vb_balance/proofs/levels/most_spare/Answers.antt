@@ -1,6 +1,6 @@
 use Rattle.std.proofs.Common.{ℕ, ◌≤◌, ap, arith}
 use borrow.Author.Count.{below_more}
-use Rattle.vb_model.specs.Balance.{Need, spare_at}
+use Rattle.vb_virtio.specs.Targets.{Need, spare_at}
 use Rattle.vb_balance.proofs.Spares.{spare_of}
 use Rattle.vb_balance.proofs.levels.most_spare.Goals as goal
 

@@ -1,5 +1,5 @@
 use Rattle.std.proofs.Common.{ℕ, ◌<◌, ◌≤◌, slice_index}
-use Rattle.vb_model.specs.Balance.{spare_at}
+use Rattle.vb_virtio.specs.Targets.{spare_at}
 use Rattle.vb_balance.proofs.serving.asks_too_much.Given as goal
 
 abbrev pub invariant-loop-i : goal.invariant-loop-i

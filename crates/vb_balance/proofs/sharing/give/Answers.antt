@@ -1,5 +1,5 @@
 use Rattle.std.proofs.Common.{◌≡◌, ap, arith}
-use Rattle.vb_model.specs.Balance.{Need}
+use Rattle.vb_virtio.specs.Targets.{Need}
 use Rattle.vb_balance.proofs.Shares.{one_more, gives_at_it, gives_elsewhere}
 use Rattle.vb_balance.proofs.sharing.give.Goals as goal
 use Rattle.vb_balance.proofs.sharing.give.Goals.{then-need-level, else-need-level}

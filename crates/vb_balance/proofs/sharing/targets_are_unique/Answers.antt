@@ -1,4 +1,4 @@
-use Rattle.vb_model.proofs.Unique.{unique}
+use Rattle.vb_virtio.proofs.Unique.{unique}
 use Rattle.vb_balance.proofs.sharing.targets_are_unique.Goals as goal
 
 pub returns : goal.returns

@@ -1,6 +1,6 @@
 use Rattle.std.proofs.Common.{◌≡◌, ◌∙◌, ◌-◌, ◌/◌, ◌^◌, ℕ, ap, arith, ltb, min}
 use Rattle.std.proofs.lemmas.Bool.Decides.{nat_tests}
-use Rattle.vb_model.specs.Tests.{has_bit}
+use Rattle.vb_virtio.specs.Tests.{has_bit}
 use Rattle.vb_bits.proofs.Bits.{low_bits}
 use Rattle.vb_bits.proofs.word.low_ones.Goals as goal
 

@@ -1,4 +1,4 @@
-use Rattle.vb_model.specs.Tests.{is_in}
+use Rattle.vb_virtio.specs.Tests.{is_in}
 use Rattle.vb_core.proofs.MarkLemmas.{put_none, put_as, put_more, put_in_run, none_reaches, reaches}
 use Rattle.vb_core.specs.Runs.{pages_of_run}
 use Rattle.vb_core.proofs.MarkLemmas.{is_before, none_before, all_before, none_past}

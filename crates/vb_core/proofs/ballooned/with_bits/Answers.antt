@@ -1,5 +1,5 @@
 use Rattle.std.proofs.Common.{ap, sym, ◌∙◌, Bool, cond, arith}
-use Rattle.vb_model.specs.Tests.{has_bit}
+use Rattle.vb_virtio.specs.Tests.{has_bit}
 use Rattle.vb_core.proofs.MarkLemmas.{or_bit, without_bit}
 use Rattle.vb_core.proofs.ballooned.with_bits.Goals as goal
 

@@ -1,6 +1,6 @@
 use Rattle.std.proofs.Common.{◌<◌, ◌*◌, ◌^◌, ℕ, Option, None, Ok, subst, sym, refl}
 use Rattle.std.specs.Prelude.{All}
-use Rattle.vb_model.specs.Limits.{page_size}
+use Rattle.vb_virtio.specs.Limits.{page_size}
 use Rattle.vb_chain.specs.declared.pieces.Piece.{Piece}
 use Rattle.vb_ring.specs.Calls.{popped}
 use Rattle.vb_core.{specs.Next.PopsCopies, proofs.NextLemmas.pieces_inside}

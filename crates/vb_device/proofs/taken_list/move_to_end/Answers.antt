@@ -1,6 +1,6 @@
 use Rattle.std.proofs.Common.{◌∙◌, ◌++◌, ◌∷◌, ◌-◌, [], List, ap, arith, remove, length}
 use Rattle.std.{proofs.lemmas.Option.get_or_from_slice_get, proofs.lemmas.Slice.put_mid-rotated}
-use Rattle.vb_model.specs.Requests.{Request}
+use Rattle.vb_virtio.specs.Queues.{Request}
 use Rattle.vb_device.proofs.taken_list.move_to_end.Goals as goal
 
 pub returns : goal.returns

@@ -1,6 +1,7 @@
 use Rattle.std.proofs.Common.{◌≡◌, ◌∙◌, sym, arith, true, false, is_some}
 use Rattle.{std.proofs.lemmas.Bool.{false_from_ne_true, both_ways}, vb_ram.specs.Pages.frame_at}
-use Rattle.vb_model.{specs.Layout.is_start_page, proofs.Shapes.start_reserved}
+use Rattle.vb_virtio.specs.Layout.{is_start_page}
+use Rattle.vb_virtio.proofs.Shapes.{start_reserved}
 use Rattle.vb_driver.{specs.Answers.has_frames, proofs.Shapes.{all_frames, frames_there}}
 use Rattle.vb_driver.proofs.memory.all_backed.Goals as goal
 

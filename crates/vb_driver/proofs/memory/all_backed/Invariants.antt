@@ -1,5 +1,6 @@
 use Rattle.std.proofs.Common.{◌≡◌, ℕ, ◌<◌, true, is_some}
-use Rattle.{vb_model.specs.Layout.is_start_page, vb_ram.specs.Pages.frame_at}
+use Rattle.vb_virtio.specs.Layout.{is_start_page}
+use Rattle.vb_ram.specs.Pages.{frame_at}
 use Rattle.vb_driver.proofs.memory.all_backed.Given as goal
 
 abbrev pub invariant-loop-page : goal.invariant-loop-page

@@ -1,5 +1,6 @@
 use Rattle.std.proofs.Common.{◌∙◌, sym, ap, arith}
-use Rattle.vb_model.{specs.Layout.is_ring_page, proofs.Shapes.ring_reserved}
+use Rattle.vb_virtio.specs.Layout.{is_ring_page}
+use Rattle.vb_virtio.proofs.Shapes.{ring_reserved}
 use Rattle.vb_driver.proofs.Zeroing.{pages_more, pages_past, pages_all, zeroed_none}
 use Rattle.vb_driver.proofs.memory.zero_rings.Goals.{then-is_ring_page, else-is_ring_page}
 use Rattle.vb_driver.proofs.memory.zero_rings.Goals as goal

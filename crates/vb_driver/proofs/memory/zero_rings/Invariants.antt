@@ -1,4 +1,5 @@
-use Rattle.{std.proofs.Common.◌≡◌, vb_model.specs.Layout.is_ring_page}
+use Rattle.vb_virtio.specs.Layout.{is_ring_page}
+use Rattle.std.proofs.Common.{◌≡◌}
 use Rattle.vb_driver.{specs.Coding.AreZeroed, proofs.Zeroing.passed}
 use Rattle.vb_driver.proofs.memory.zero_rings.Given as goal
 

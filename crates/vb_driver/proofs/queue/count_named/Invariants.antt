@@ -1,5 +1,5 @@
 use Rattle.std.proofs.Common.{◌≡◌, ◌≤◌, ◌*◌, List, ℕ, take, length, sum_by}
-use Rattle.vb_model.specs.Limits.{max_request_pages}
+use Rattle.vb_virtio.specs.Limits.{max_request_pages}
 use Rattle.vb_driver.proofs.queue.count_named.Given as goal
 
 abbrev pub invariant-loop-request : goal.invariant-loop-request

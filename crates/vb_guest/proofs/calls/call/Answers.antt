@@ -99,6 +99,14 @@ returns-in-Finish g c = record {
   quiet = record { unasked = c.finish.ensures.unasked; quiet = λ none kept. c.finish.ensures.quiet kept };
 }
 
+pub returns-in-Serve : goal.returns-in-Serve
+returns-in-Serve g c = record {
+  step = λ keeps guest stands. rw (c.clear.ensures, c.in-Serve.is, c.served_reply.ensures)
+      (c.serve.ensures.step _ keeps guest stands);
+  exact = rw (c.in-Serve.is) (c.serve.result, c.served_reply.ensures, c.serve.ensures.exact, refl);
+  quiet = record { unasked = c.serve.ensures.unasked; quiet = λ none kept. c.serve.ensures.quiet kept };
+}
+
 pub returns-in-Sweep : goal.returns-in-Sweep
 returns-in-Sweep g c = record {
   step = λ keeps guest stands. rw (c.clear.ensures, c.in-Sweep.is, c.swept_reply.ensures)

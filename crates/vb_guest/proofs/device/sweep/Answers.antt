@@ -1,5 +1,5 @@
 use Rattle.std.proofs.Common.{◌∙◌}
-use Rattle.vb_guest.proofs.{Standing.{none_loose, still_none, freed_loose, steps_freed}, SweepStep.sweep_step}
+use Rattle.vb_guest.proofs.{Standing.{none_loose, still_none, freed_loose, frees, steps_freed}, SweepStep.sweep_step}
 use Rattle.vb_guest.proofs.{RogueDevice.sweep_rogue, Quiet.freeing_quiet, Kept.sweep_kept}
 use Rattle.vb_guest.proofs.device.sweep.Goals as goal
 
@@ -11,7 +11,8 @@ pub return_loose-requires : goal.return_loose-requires
 return_loose-requires g c = let (d, (keeps, guest, stands, held)) = c.requires in
     let did = c.sweep-answer.ensures in let same = sweep_kept did in record {
       none = still_none stands same;
-      loose = freed_loose _ stands held same (sweep_step did) (sweep_rogue did);
+      loose = freed_loose _ stands held same (λ h. frees (sweep_step did h))
+          (λ r. frees (sweep_rogue did r));
     }
 
 pub returns-clause-step : goal.returns-clause-step
@@ -26,8 +27,8 @@ returns-clause-exact g c = let back = c.return_loose.ensures in
 pub returns-clause-quiet : goal.returns-clause-quiet
 returns-clause-quiet g c = λ kept. let (d, (keeps, guest, stands, held)) = c.requires in
     let did = c.sweep-answer.ensures in let back = c.return_loose.ensures in
-    back.quiet (freeing_quiet (g.D.GuestBytes.part c.sweep-answer.new.self) _ _ stands back.mem kept
-    (sweep_step did) (sweep_rogue did))
+    back.quiet (freeing_quiet (g.D.GuestBytes.part c.sweep-answer.new.self) stands back.mem kept
+    (λ h. frees (sweep_step did h)) (λ r. frees (sweep_rogue did r)))
 
 pub returns-clause-unasked : goal.returns-clause-unasked
 returns-clause-unasked g c = λ e.

@@ -1,5 +1,6 @@
 use Rattle.std.proofs.Common.{◌≡◌, true, [], length}
-use Rattle.{vb_model.specs.Orderly.times, vb_guest.specs.Supply.{supply_of, Moves, AreLoose}}
+use Rattle.vb_virtio.specs.Tests.{times}
+use Rattle.vb_guest.specs.Supply.{supply_of, Moves, AreLoose}
 use Rattle.vb_guest.proofs.frames.return_loose.Given as goal
 
 abbrev pub invariant-loop-frame : goal.invariant-loop-frame

@@ -1,5 +1,6 @@
 use Rattle.std.proofs.Common.{◌≡◌, ◌∙◌, ◌∷◌, [], ◌+◌, ◌<◌, ℕ, List, sym, ap, subst, true, length}
-use Rattle.{std.proofs.Common.{arith, rules, length-append}, vb_model.specs.Layout.reserved_pages}
+use Rattle.vb_virtio.specs.Layout.{reserved_pages}
+use Rattle.std.proofs.Common.{arith, rules, length-append}
 use Rattle.{vb_model.specs.declared.calls.Claim.TheVariants.Gave, vb_ram.specs.Pages.Pages}
 use Rattle.vb_guest.proofs.Claiming.{bare_skips, bare_takes, err_is, still_inside, still_bare}
 use Rattle.vb_guest.proofs.Claiming.{still_used, supplies_none, supplies_rest, supplies_refused}

@@ -1,4 +1,5 @@
-use Rattle.{std.proofs.Common.◌-◌, vb_model.specs.Layout.reserved_pages}
+use Rattle.vb_virtio.specs.Layout.{reserved_pages}
+use Rattle.std.proofs.Common.{◌-◌}
 use Rattle.vb_guest.proofs.lives.+supply_from.Given as goal
 
 abbrev pub decreases-supply_from : goal.decreases-supply_from

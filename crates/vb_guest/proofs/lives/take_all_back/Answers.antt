@@ -1,6 +1,8 @@
 use Rattle.std.proofs.Common.{◌∙◌, List, Bool, length, ap, subst}
 use Rattle.std.{proofs.Common.arith, specs.List.range_with_len}
-use Rattle.{vb_model.specs.{Tests.one_if, Orderly.times}, vb_ram.specs.{Pages.Pages, Part.Part}}
+use Rattle.vb_virtio.specs.Tests.{one_if, times}
+use Rattle.vb_ram.specs.Pages.{Pages}
+use Rattle.vb_ram.specs.Part.{Part}
 use Rattle.vb_guest.specs.Supply.{Supply, supply_of, is_used, Moves, nothing}
 use Rattle.vb_guest.proofs.{Moving.moves_as, Quiet.{no_frames, none_behind}, RestartStep.none_had}
 use Rattle.vb_guest.proofs.lives.take_all_back.Goals as goal

@@ -1,4 +1,6 @@
-use Rattle.{std.proofs.Common.{◌≡◌, take}, vb_model.specs.{Tests.pages_where, Queries.runs}}
+use Rattle.vb_virtio.specs.Tests.{pages_where}
+use Rattle.std.proofs.Common.{◌≡◌, take}
+use Rattle.vb_model.specs.Queries.{runs}
 use Rattle.vb_guest.proofs.queries.ballooned_runs.Given as goal
 
 abbrev pub invariant-loop-page : goal.invariant-loop-page

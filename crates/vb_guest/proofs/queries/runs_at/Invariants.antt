@@ -1,5 +1,6 @@
 use Rattle.std.proofs.Common.{◌≡◌, take}
-use Rattle.vb_model.{specs.Tests.pages_where, specs.Queries.{is_place, runs}}
+use Rattle.vb_virtio.specs.Tests.{pages_where}
+use Rattle.vb_model.specs.Queries.{is_place, runs}
 use Rattle.vb_guest.proofs.queries.runs_at.Given as goal
 
 abbrev pub invariant-loop-page : goal.invariant-loop-page

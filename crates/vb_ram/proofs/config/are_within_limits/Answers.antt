@@ -1,5 +1,5 @@
 use Rattle.std.proofs.Common.{◌∙◌, ap, ◌%◌, Bool, ◌==◌, ◌&&◌}
-use Rattle.vb_model.specs.Limits.{is_between, is_power_of_two}
+use Rattle.vb_virtio.specs.Limits.{is_between, is_power_of_two}
 use Rattle.vb_ram.proofs.config.are_within_limits.Goals as goal
 
 pub returns : goal.returns

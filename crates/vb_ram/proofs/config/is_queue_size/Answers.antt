@@ -1,5 +1,5 @@
 use Rattle.std.proofs.Common.{◌∙◌, ap, Bool, ◌&&◌}
-use Rattle.vb_model.specs.Limits.{is_between}
+use Rattle.vb_virtio.specs.Limits.{is_between}
 use Rattle.vb_ram.proofs.config.is_queue_size.Goals as goal
 
 pub returns : goal.returns

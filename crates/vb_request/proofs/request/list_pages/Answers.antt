@@ -1,6 +1,6 @@
 use Rattle.std.proofs.Common.{◌≡◌, ◌∙◌, ◌<◌, ◌/◌, ℕ, List, Option, Some, None, Ok, sym, ap, arith}
 use Rattle.std.{proofs.Common.{take, length, get_or, rules}, proofs.lemmas.List.take_all}
-use Rattle.vb_model.specs.Tests.{is_in}
+use Rattle.vb_virtio.specs.Tests.{is_in}
 use Rattle.vb_chain.specs.declared.fault.ChainFault.{ChainFault}
 use Rattle.vb_request.specs.Request.{numbers_of, number_fault, each_once, first_number_fault}
 use Rattle.vb_request.proofs.Once.{numbers_of-length, numbers_of-at, fault_here, sound_more}

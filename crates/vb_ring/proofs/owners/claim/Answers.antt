@@ -2,7 +2,8 @@ use Rattle.std.proofs.Common.{◌≡◌, ◌≢◌, ◌∙◌, sym, ap, ℕ, ◌
 use Rattle.std.{proofs.Common.{Bool, true, false, arith, refl}, proofs.lemmas.Bool.cases_eq}
 use Rattle.std.specs.Prelude.{slice_index, slice_index_or, if◌then◌else◌}
 use Rattle.std.proofs.lemmas.List.{length-set, get_or-set_same, get_or-set_other, ext_get_or}
-use Rattle.vb_model.{specs.Tests.is_in, proofs.Tables.length-each_from}
+use Rattle.vb_virtio.specs.Tests.{is_in}
+use Rattle.vb_virtio.proofs.Tables.{length-each_from}
 use Rattle.vb_ring.{specs.Ends.claimed, proofs.OwnerLaws.{is_in-some, not_in, claimed-at}}
 use Rattle.vb_ring.proofs.owners.claim.Goals as goal
 

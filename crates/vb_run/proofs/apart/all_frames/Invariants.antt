@@ -1,4 +1,6 @@
-use Rattle.{std.{proofs.Common.{◌≡◌, ℕ, take}, specs.Prelude.sum_by}, vb_model.specs.Tests.times}
+use Rattle.vb_virtio.specs.Tests.{times}
+use Rattle.std.proofs.Common.{◌≡◌, ℕ, take}
+use Rattle.std.specs.Prelude.{sum_by}
 use Rattle.vb_run.proofs.apart.all_frames.Given as goal
 
 abbrev pub invariant-loop-report : goal.invariant-loop-report

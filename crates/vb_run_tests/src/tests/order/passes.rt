@@ -6,8 +6,8 @@ use crate::tests::plain::{Act, Said, rows_of};
 use crate::tests::replay::{Pair, pairs_by};
 use std::alloc::{AllocError, Global};
 use vb_model::Actor;
-use vb_model::layout::{DEFLATE_QUEUE, INFLATE_QUEUE, REPORT_QUEUE, STATISTICS_QUEUE};
 use vb_run::{Bells, Entry};
+use vb_virtio::layout::{DEFLATE_QUEUE, INFLATE_QUEUE, REPORT_QUEUE, STATISTICS_QUEUE};
 
 /// The calls by which a worker looks for everything that there may be to do: chains of each of four
 /// queues, a page, a request of each of three queues that is done, and statistics.
@@ -228,7 +228,7 @@ fn are_entries(
     Ok(entries.get(..found.len()) == Some(found.as_slice()))
 }
 
-/// Whether the worker's call of this number comes behind all notes of its guest's processors.
+/// Whether the worker's call of this number comes after all notes of its guest's processors.
 fn is_behind(notes: &[Note], guest: u32, number: u64) -> bool {
     let mut has_begun = false;
     for note in notes {
@@ -247,7 +247,7 @@ fn is_behind(notes: &[Note], guest: u32, number: u64) -> bool {
     has_begun
 }
 
-/// How often a doorbell is rung after so many calls.
+/// How often a doorbell is rung after `calls` calls.
 fn rings(bells: Bells, calls: u64) -> u64 {
     match bells {
         Bells::Plain | Bells::Late => calls,

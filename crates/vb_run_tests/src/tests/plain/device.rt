@@ -1,11 +1,11 @@
-//! The calls of the device behind a plain guest.
+//! The calls of the device of a plain guest.
 
 use super::requests::Stage;
 use super::{Buffer, PlainGuest, Said};
 use std::alloc::AllocError;
-use vb_model::Refusal;
-use vb_model::layout::{DEFLATE_QUEUE, INFLATE_QUEUE, REPORT_QUEUE};
-use vb_model::limits::MAX_OUTSTANDING;
+use vb_virtio::Refusal;
+use vb_virtio::layout::{DEFLATE_QUEUE, INFLATE_QUEUE, REPORT_QUEUE};
+use vb_virtio::limits::MAX_OUTSTANDING;
 
 impl PlainGuest {
     pub(super) fn take(&mut self, queue: u32) -> Result<Said<'static>, AllocError> {

@@ -3,9 +3,10 @@
 use super::requests::Stage;
 use super::{Buffer, PlainGuest, Said};
 use std::alloc::{AllocError, Global};
-use vb_model::layout::{DEFLATE_QUEUE, INFLATE_QUEUE, REPORT_QUEUE};
-use vb_model::limits::{MAX_OUTSTANDING, MAX_REQUEST_PAGES};
-use vb_model::{Place, Refusal};
+use vb_model::Place;
+use vb_virtio::Refusal;
+use vb_virtio::layout::{DEFLATE_QUEUE, INFLATE_QUEUE, REPORT_QUEUE};
+use vb_virtio::limits::{MAX_OUTSTANDING, MAX_REQUEST_PAGES};
 
 /// Where pages are while a request of the queue names them.
 fn place_during(queue: u32) -> Place {
@@ -69,7 +70,7 @@ impl PlainGuest {
         self.post(REPORT_QUEUE, 1, named)
     }
 
-    /// A request for these pages, where so many may be out.
+    /// A request for these pages, where n may be out.
     fn post(
         &mut self,
         queue: u32,

@@ -6,9 +6,10 @@ use crate::tests::replay::{Case, first_missed};
 use std::alloc::{AllocError, Global};
 use std::process::Abort;
 use std::test::Fail;
-use vb_model::{Actor, Claim, Refusal};
+use vb_model::{Actor, Claim};
 use vb_ram::Config;
 use vb_run::GuestPlan;
+use vb_virtio::Refusal;
 
 type Line = (Act<'static>, &'static [Claim], Said<'static>);
 

@@ -2,7 +2,7 @@
 //! it is now.
 
 use std::alloc::{AllocError, Global};
-use vb_model::limits::MAX_OUTSTANDING;
+use vb_virtio::limits::MAX_OUTSTANDING;
 
 /// Where a request is.
 #[derive(Clone, Copy, PartialEq, Eq)]

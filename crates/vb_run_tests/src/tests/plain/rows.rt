@@ -1,8 +1,9 @@
 //! A history in plain values: rows that can be copied and compared.
 
 use std::alloc::{AllocError, Global};
-use vb_model::{Actor, Call, Claim, Refusal, Reply};
+use vb_model::{Actor, Call, Claim, Reply};
 use vb_run::{Entry, Step};
+use vb_virtio::Refusal;
 
 /// A call that threads make, or the balancer's look. Where it names a queue, a block or bytes, so
 /// does this; a worker's `Finish` is that of request 0.

@@ -1,7 +1,8 @@
 //! Blocks of pages, and what is refused before a driver is up.
 
 use super::{ALL, Answer, DONE, Line, NO, Sight, Step, YES, expect};
-use vb_model::{Place, Refusal};
+use vb_model::Place;
+use vb_virtio::Refusal;
 
 static BLOCKS: [Line; 16] = [
     (Step::See(Sight::Counts(48, 0)), YES),

@@ -2,14 +2,15 @@
 //! out by hand, and of each page just what `place` tells of it.
 
 ghost use Rattle.std.specs.Prelude.{◌≡◌, true};
-ghost use Rattle.vb_model.specs.Limits.{is_config};
+ghost use Rattle.vb_virtio.specs.Limits.{is_config};
 
 use super::{ALL, Answer, Guest, Request, Table, small_queues};
 use std::alloc::Global;
 use std::process::Abort;
 use vb_driver::Driver;
-use vb_model::{Place, Refusal};
+use vb_model::Place;
 use vb_status::Port;
+use vb_virtio::Refusal;
 
 /// What is done with a guest.
 #[derive(Clone, Copy)]
@@ -19,10 +20,10 @@ pub(super) enum Step {
     SetTarget(u32),
     Inflate(u32),
     Deflate(u32),
-    /// The device has used the request with head 0 of a queue, and so many of the queue by then,
-    /// and the driver takes it back.
+    /// The device has used the request with head 0 of a queue, and n of the queue by then, and the
+    /// driver takes it back.
     Reap(u32, u8),
-    /// So many blocks of an order are allocated.
+    /// n blocks of an order are allocated.
     Hold(u32, u32),
     Reset,
     Restart,
@@ -141,7 +142,7 @@ pub(super) fn first_wrong(guest: &mut Guest, words: usize, lines: &[Line]) -> Op
     None
 }
 
-/// Expects that a guest of so many pages has so many words, and after each line those that it says.
+/// Expects that a guest of n pages has m words, and after each line those that it says.
 fn expect(rt: &impl Abort, alloc: Global, pages: u32, words: usize, lines: &'static [Line])
     requires { is_config pages 8 1 ≡ true }
 {

@@ -1,7 +1,8 @@
 //! Initialisations, resets, and new lives of a guest.
 
 use super::{ALL, Answer, DONE, Line, Sight, Step, YES, expect};
-use vb_model::{Place, Refusal};
+use vb_model::Place;
+use vb_virtio::Refusal;
 
 static LIVES: [Line; 22] = [
     (Step::Alloc(0, 3), Ok(Answer::Page(16))),

@@ -1,7 +1,8 @@
 //! Reports of free blocks.
 
 use super::{ALL, AVAILABLE, Answer, DONE, Line, Sight, Step, YES, expect};
-use vb_model::{Place, Refusal};
+use vb_model::Place;
+use vb_virtio::Refusal;
 
 static REPORTS: [Line; 22] = [
     (Step::Report(0), Err(Refusal::NotReady)),

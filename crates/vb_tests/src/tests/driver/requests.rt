@@ -1,12 +1,13 @@
 //! Inflates and deflates, and how their requests come back.
 
 use super::{ALL, AVAILABLE, Answer, DONE, Line, Sight, Step, YES, expect};
-use vb_model::{Place, Refusal};
+use vb_model::Place;
+use vb_virtio::Refusal;
 
 /// A request for pages 17 to 20.
 const NUMBERS: [u8; 16] = [17, 0, 0, 0, 18, 0, 0, 0, 19, 0, 0, 0, 20, 0, 0, 0];
 
-/// A descriptor of 16 bytes at address 0x4000 that the device reads, with no other behind it.
+/// A descriptor of 16 bytes at address 0x4000 that the device reads, with no other after it.
 const DESCRIPTOR: [u8; 16] = [0, 0x40, 0, 0, 0, 0, 0, 0, 16, 0, 0, 0, 0, 0, 0, 0];
 
 static REQUEST: [Line; 7] = [

@@ -1,7 +1,7 @@
 //! The statistics buffer.
 
 use super::{ALL, AVAILABLE, Answer, DONE, Line, NO, Sight, Step, YES, expect};
-use vb_model::Refusal;
+use vb_virtio::Refusal;
 
 /// The descriptor of the statistics buffer: 20 bytes at address 0xc000 that the device reads.
 const FIGURES_AT: [u8; 16] = [0, 0xc0, 0, 0, 0, 0, 0, 0, 20, 0, 0, 0, 0, 0, 0, 0];

@@ -5,7 +5,7 @@ use vb_model::{Call, Event, Place, Query};
 use vb_script::{Pace, Script, ScriptFault, parse};
 
 /// Lines of events, each with its numbers in order, and its bytes. Numbers that a line lacks are 0.
-static EVENTS: [(&str, [u32; 4], &[u8]); 24] = [
+static EVENTS: [(&str, [u32; 4], &[u8]); 25] = [
     ("plug 64 8 1", [64, 8, 1, 0], b""),
     ("unplug 7", [7, 0, 0, 0], b""),
     ("restart 7", [7, 0, 0, 0], b""),
@@ -21,6 +21,7 @@ static EVENTS: [(&str, [u32; 4], &[u8]); 24] = [
     ("take 7 1", [7, 1, 0, 0], b""),
     ("work 7", [7, 0, 0, 0], b""),
     ("finish 7 1 2", [7, 1, 2, 0], b""),
+    ("serve 7 20", [7, 20, 0, 0], b""),
     ("sweep 7 20", [7, 20, 0, 0], b""),
     ("ask 7", [7, 0, 0, 0], b""),
     ("target 7 4", [7, 4, 0, 0], b""),
@@ -91,6 +92,7 @@ fn shown_small(call: &Call) -> (&'static str, u32) {
         Call::Reap { queue } => ("reap", *queue),
         Call::Take { queue } => ("take", *queue),
         Call::Work => ("work", 0),
+        Call::Serve { queue } => ("serve", *queue),
         Call::Sweep { page } => ("sweep", *page),
         Call::Ask => ("ask", 0),
         Call::SetTarget { pages } => ("target", *pages),
@@ -368,7 +370,7 @@ fn hosts(rt: HostRuntime) {
     }
 }
 
-/// Lines behind that of the host, and the spare devices that they bring.
+/// Lines after that of the host, and the spare devices that they bring.
 static SPARES: [(&[u8], Result<Option<Pace>, ScriptFault>); 10] = [
     (b"spare immediate", Ok(Some(Pace::Immediate))),
     (b"spare paced", Ok(Some(Pace::Paced))),

@@ -27,7 +27,7 @@ fn sizes(script: &ThreadsScript) -> (u32, usize, u32, u32) {
 }
 
 /// Texts, and what they are read to: no plan, a plan, or a bad line.
-static TEXTS: [(&[u8], Outline); 69] = [
+static TEXTS: [(&[u8], Outline); 70] = [
     (b"", Ok(None)),
     (b"\n#\n\n", Ok(None)),
     (b"host 64\n", Ok(None)),
@@ -112,6 +112,10 @@ static TEXTS: [(&[u8], Outline); 69] = [
     ),
     (
         b"host 64\nspare paced\nplug 64 8 1\nfinish 0 0 0",
+        Err(ScriptFault::BadLine(4)),
+    ),
+    (
+        b"host 64\nspare paced\nplug 64 8 1\nserve 0 0",
         Err(ScriptFault::BadLine(4)),
     ),
     (

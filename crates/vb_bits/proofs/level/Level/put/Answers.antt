@@ -1,6 +1,6 @@
 use Rattle.std.proofs.Common.{◌≡◌, ◌≢◌, ◌/◌, ◌%◌, ◌<◌, ℕ, List, Bool, length, get_or, set, ap, ◌∙◌}
 use Rattle.std.{proofs.Common.arith, proofs.lemmas.List.{get_or-set_same, get_or_read}}
-use Rattle.vb_model.specs.Tests.{has_bit}
+use Rattle.vb_virtio.specs.Tests.{has_bit}
 use Rattle.vb_bits.proofs.Words.{bound_is, put, put_flags, word_is_zero, IsWritten}
 use Rattle.vb_bits.proofs.level.Level.put.Goals as goal
 

@@ -1,6 +1,6 @@
 use Rattle.std.proofs.Common.{Option, ◌≡◌, ◌+◌, ◌*◌, ℕ, List, Bool, get_or, ap, ◌∙◌, arith}
 use Rattle.std.specs.Option.{unwrap_or}
-use Rattle.vb_model.specs.Tests.{has_bit}
+use Rattle.vb_virtio.specs.Tests.{has_bit}
 use Rattle.vb_bits.{specs.Sets.has, proofs.Words.bit_is_flag}
 use Rattle.vb_bits.proofs.level.Level.word.Goals as goal
 

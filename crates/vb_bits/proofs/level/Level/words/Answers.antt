@@ -1,5 +1,5 @@
 use Rattle.std.proofs.Common.{◌≡◌, ◌+◌, ◌*◌, ℕ, List, Bool, length, get_or, ap, ◌∙◌, arith}
-use Rattle.vb_model.specs.Tests.{has_bit}
+use Rattle.vb_virtio.specs.Tests.{has_bit}
 use Rattle.vb_bits.{specs.Sets.has, proofs.Words.{bound_is, bit_is_flag}}
 use Rattle.vb_bits.proofs.level.Level.words.Goals as goal
 

@@ -1,8 +1,10 @@
 use Rattle.std.proofs.Common.{◌≡◌, ◌∙◌, ℕ, Bool, None, Some, get_or, true, sym, ap, subst, rules}
 use Rattle.{std.proofs.Common.List, vb_device.specs.{Base.{queue_at, IsBase}, State.DeviceState}}
 use Rattle.std.{specs.Prelude.{length, slice_get, vec_capacity}, proofs.Math.ListN.set}
-use Rattle.{vb_model.specs.declared.replies.LastStatistics.LastStatistics, vb_ram.specs.Pages.Pages}
-use Rattle.vb_model.specs.{Tables.has_chains, Status.{contains, driver_ok}, Requests.Request}
+use Rattle.vb_virtio.specs.declared.statistics.LastStatistics.{LastStatistics}
+use Rattle.vb_virtio.specs.Queues.{has_chains, Request}
+use Rattle.vb_virtio.specs.Status.{contains, driver_ok}
+use Rattle.vb_ram.specs.Pages.{Pages}
 use Rattle.{vb_status.specs.Bits.{status_bits, feature_bits}, vb_device.proofs.Marks.after-length}
 use Rattle.vb_device.specs.{Calls.without_frames, BaseCalls.queue_refusal, QueueState.QueueState}
 use Rattle.vb_device.proofs.Finishes.{without_taken, base_used, has_pages, can_use, kept_length}

@@ -1,6 +1,8 @@
 use Rattle.std.proofs.Common.{◌≡◌, ◌∙◌, [], None, true, get_or, ap, sym, refl, arith, rules}
-use Rattle.vb_model.specs.{declared.replies.LastStatistics.LastStatistics, Status.contains}
-use Rattle.{vb_model.specs.Status.driver_ok, vb_device.specs.{State.DeviceState, Base.queue_at}}
+use Rattle.vb_virtio.specs.declared.statistics.LastStatistics.{LastStatistics}
+use Rattle.vb_virtio.specs.Status.{contains, driver_ok}
+use Rattle.vb_device.specs.State.{DeviceState}
+use Rattle.vb_device.specs.Base.{queue_at}
 use Rattle.vb_device.proofs.{Discards.discarded_none, FourQueues.entry_is, TakesBy.status_ok}
 use Rattle.{vb_device.proofs.Finishes.can_use, vb_status.specs.Bits.{status_bits, feature_bits}}
 use Rattle.vb_request.specs.Refusals.{readiness_refusal}

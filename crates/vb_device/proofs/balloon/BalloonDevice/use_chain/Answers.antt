@@ -1,6 +1,7 @@
 use Rattle.std.proofs.Common.{ℕ, ◌≡◌, get_or, ◌∙◌, ap, true}
-use Rattle.vb_model.specs.{declared.replies.LastStatistics.LastStatistics, Status.contains}
-use Rattle.{vb_model.specs.Status.driver_ok, vb_status.specs.Bits.{status_bits, feature_bits}}
+use Rattle.vb_virtio.specs.declared.statistics.LastStatistics.{LastStatistics}
+use Rattle.vb_virtio.specs.Status.{contains, driver_ok}
+use Rattle.vb_status.specs.Bits.{status_bits, feature_bits}
 use Rattle.vb_device.specs.{State.DeviceState, QueueState.QueueState, Base.queue_at}
 use Rattle.vb_device.proofs.{Finishes.used_at, FourQueues.entry_is}
 use Rattle.vb_device.proofs.balloon.BalloonDevice.use_chain.Goals as goal

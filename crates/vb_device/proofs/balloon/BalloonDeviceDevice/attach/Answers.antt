@@ -1,6 +1,8 @@
 use Rattle.std.proofs.Common.{◌≡◌, ◌∙◌, List, Bool, None, false, ap, sym, arith, rules}
 use Rattle.std.{specs.Prelude.length, proofs.lemmas.List.length-replicate}
-use Rattle.{vb_model.specs.Status.{contains, driver_ok}, vb_ram.specs.{Pages.Pages, Part.Part}}
+use Rattle.vb_virtio.specs.Status.{contains, driver_ok}
+use Rattle.vb_ram.specs.Pages.{Pages}
+use Rattle.vb_ram.specs.Part.{Part}
 use Rattle.vb_ram.{proofs.Limits.config_limits, specs.declared.shape.Shape.Shape}
 use Rattle.vb_device.{specs.{State.DeviceState, Base.new_queues}, proofs.FourQueues.base_new}
 use Rattle.{vb_device.proofs.Sizes.{size_is_power, size_is}, vb_status.specs.Bits.status_bits}

@@ -1,5 +1,6 @@
 use Rattle.{std.proofs.Common.{arith, ◌≡◌, true, None, sym}, vb_device.specs.QueueState.TakesNext}
-use Rattle.vb_model.specs.{declared.replies.LastStatistics.LastStatistics, Tables.has_chains}
+use Rattle.vb_virtio.specs.declared.statistics.LastStatistics.{LastStatistics}
+use Rattle.vb_virtio.specs.Queues.{has_chains}
 use Rattle.{vb_status.specs.Bits.{status_bits, feature_bits}, vb_device.proofs.FourQueues.entry_is}
 use Rattle.vb_request.specs.{declared.statistics.Statistics.Statistics, Refusals.take_refusal_by}
 use Rattle.vb_device.{proofs.TakesBy.{takes_refused, take_known, status_ok}, specs.Base.queue_at}

@@ -1,7 +1,8 @@
 use Rattle.std.proofs.{Common.{◌≡◌, true, ◌∙◌, ℕ, ◌∷◌, [], Result}, lemmas.List.Elements.All-append}
 use Rattle.std.proofs.Common.{false, rules, ◌*◌, List, Option, Ok, Err, sym, ap}
 use Rattle.{std.specs.Prelude.length, vb_device.specs.QueueState.{QueueState, IsTaken, is_full}}
-use Rattle.vb_model.specs.{Requests.Request, declared.replies.LastStatistics.LastStatistics}
+use Rattle.vb_virtio.specs.Queues.{Request}
+use Rattle.vb_virtio.specs.declared.statistics.LastStatistics.{LastStatistics}
 use Rattle.{vb_ram.specs.Pages.Pages, vb_ring.specs.{declared.device.Taken.Taken, Ends.DeviceEnd}}
 use Rattle.vb_chain.specs.declared.{fault.ChainFault.ChainFault, pieces.Piece.Piece}
 use Rattle.{vb_chain.specs.Table.descriptor_at, vb_request.proofs.Chains.chain_fits}

@@ -1,7 +1,8 @@
 use Rattle.std.proofs.Common.{◌≡◌, ◌∙◌, ◌<◌, ◌-◌, ◌++◌, ◌∷◌, [], ℕ, List, get_or, take, drop}
 use Rattle.std.proofs.{Common.{remove, length, ap, arith}, Math.Seq.take-append_seam}
 use Rattle.std.proofs.lemmas.List.{append_assoc, length-take, Edits.length-remove}
-use Rattle.{std.proofs.lemmas.Option.slice_get-get_or, vb_model.specs.Requests.Request}
+use Rattle.vb_virtio.specs.Queues.{Request}
+use Rattle.std.proofs.lemmas.Option.{slice_get-get_or}
 use Rattle.vb_device.proofs.taken_list.TakenList.forget.Goals as goal
 
 pub returns : goal.returns

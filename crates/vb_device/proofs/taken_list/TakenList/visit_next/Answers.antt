@@ -1,7 +1,8 @@
 use Rattle.std.proofs.Common.{◌≡◌, ◌∙◌, ◌<◌, ℕ, true, List, Some, None, get_or, take, sym, ap, arith}
 use Rattle.std.{proofs.Common.slice_get, proofs.Math.ListN.set, proofs.Math.Seq.take-set-lt}
 use Rattle.std.{proofs.lemmas.List.{get_or-take, length-take}, specs.List.position}
-use Rattle.vb_model.{specs.Requests.Request, specs.Device.{is_unvisited, visiting, next_page}}
+use Rattle.vb_virtio.specs.Queues.{Request, is_unvisited}
+use Rattle.vb_model.specs.Device.{visiting, next_page}
 use Rattle.vb_device.proofs.Visits.{once_more, visits_at, visits_none}
 use Rattle.vb_device.proofs.taken_list.TakenList.visit_next.Goals as goal
 

@@ -1,5 +1,6 @@
 use Rattle.std.proofs.Common.{arith, ◌≡◌, ◌<◌, ◌≤◌, sym, subst, ℕ, true, false, length}
-use Rattle.vb_model.specs.{Tests.is_in, Pages.pages_of_all}
+use Rattle.vb_virtio.specs.Tests.{is_in}
+use Rattle.vb_model.specs.Pages.{pages_of_all}
 use Rattle.{vb_pages.specs.PageState.{PageState, reserved_count}, vb_report.specs.Blocks.blocks_of}
 use Rattle.vb_driver.specs.Areas.{flags_of, is_free_at, is_covered}
 use Rattle.vb_driver.proofs.ReportAreas.{have_room, given_blocks}

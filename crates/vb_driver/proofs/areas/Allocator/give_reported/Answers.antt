@@ -1,6 +1,8 @@
 use Rattle.std.proofs.Common.{◌≡◌, ◌∙◌}
 use Rattle.std.proofs.Common.{sym, ap, arith, ℕ, List, Bool, true, cond, take, ◌+◌, ◌++◌, ◌∷◌, []}
-use Rattle.vb_model.specs.{declared.places.Place.{Place, TheVariants.Reserved}, Tests.pages_where}
+use Rattle.vb_virtio.specs.Tests.{pages_where}
+use Rattle.vb_model.specs.declared.places.Place.{Place}
+use Rattle.vb_model.specs.declared.places.Place.TheVariants.{Reserved}
 use Rattle.{vb_model.specs.Pages.is_reporting, vb_pages.specs.PageState.PageState}
 use Rattle.vb_pages.{specs.Areas.with_pages, proofs.ListsLemmas.{with_none, with_append_turned}}
 use Rattle.vb_driver.proofs.Placing.{length-marked, marked-get, marked_none, marked_append}

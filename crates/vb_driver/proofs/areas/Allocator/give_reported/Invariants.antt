@@ -1,5 +1,6 @@
 use Rattle.std.proofs.Common.{◌≡◌, true, take}
-use Rattle.vb_model.{specs.Tests.pages_where, specs.Pages.is_reporting}
+use Rattle.vb_virtio.specs.Tests.{pages_where}
+use Rattle.vb_model.specs.Pages.{is_reporting}
 use Rattle.vb_driver.{specs.Areas.{Becomes, flags_of, areas_with}, specs.Places.marked}
 use Rattle.vb_driver.proofs.areas.Allocator.give_reported.Given as goal
 

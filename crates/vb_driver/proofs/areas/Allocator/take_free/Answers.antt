@@ -1,4 +1,6 @@
-use Rattle.{std.proofs.Common.arith, vb_model.{specs.Orderly.times, proofs.Distinct.distinct_once}}
+use Rattle.vb_virtio.specs.Tests.{times}
+use Rattle.vb_virtio.proofs.Distinct.{distinct_once}
+use Rattle.std.proofs.Common.{arith}
 use Rattle.vb_pages.specs.PageState.{PageState, is_free_page}
 use Rattle.vb_driver.proofs.Allocating.{count_flags, taken_state, taken_free, taken_once}
 use Rattle.vb_driver.proofs.areas.Allocator.take_free.Goals as goal

@@ -1,6 +1,7 @@
 use Rattle.std.proofs.Common.{◌≡◌, ◌∙◌, sym, ap, arith, refl, ℕ, List, true, false}
 use Rattle.vb_model.specs.{declared.places.Place.TheVariants.{Free, Lent}, Pages.{placed, is_lent}}
-use Rattle.{vb_model.specs.Tests.is_in, vb_driver.proofs.Moving.{lowest_is, IsOut, is_out}}
+use Rattle.vb_virtio.specs.Tests.{is_in}
+use Rattle.vb_driver.proofs.Moving.{lowest_is, IsOut, is_out}
 use Rattle.vb_driver.proofs.{Moving.asked_freed, Counting.at_is, Naming.once_lowest}
 use Rattle.vb_driver.specs.{Areas.flags_of, State.{IsDriver, tells_host}, Calls.lowest_lent}
 use Rattle.vb_driver.specs.{State.DriverState, Places.marked, contracts.driver.Driver.the_view}

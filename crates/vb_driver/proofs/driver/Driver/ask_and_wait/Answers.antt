@@ -1,6 +1,7 @@
 use Rattle.std.proofs.Common.{arith, ◌≡◌, sym, subst, ℕ, List, true}
 use Rattle.vb_model.specs.{declared.places.Place.{TheVariants.Taking, Place}, Pages.placed}
-use Rattle.vb_model.specs.Requests.{Deflating, place_posted}
+use Rattle.vb_virtio.specs.Queues.{Deflating}
+use Rattle.vb_model.specs.Requests.{place_posted}
 use Rattle.vb_driver.{specs.State.{RequestSide, DriverState, IsDriver}, proofs.Moving.asked_kept}
 use Rattle.vb_driver.specs.{State.tells_host, contracts.driver.Driver.the_view, Calls.areas_asked}
 use Rattle.vb_driver.proofs.driver.Driver.ask_and_wait.Goals as goal

@@ -1,6 +1,8 @@
 use Rattle.std.proofs.Common.{◌≡◌, ◌∙◌, sym, ap, ℕ, bit_or, false, None, Some, is_err}
-use Rattle.vb_model.specs.{declared.replies.Refusal.Refusal, Life.accepted_before}
-use Rattle.{vb_model.specs.Status.{negotiate_refusal, status_refusal}, vb_ram.specs.Part.Part}
+use Rattle.vb_virtio.specs.declared.refusals.Refusal.{Refusal}
+use Rattle.vb_virtio.specs.Status.{negotiate_refusal, status_refusal}
+use Rattle.vb_model.specs.Life.{accepted_before}
+use Rattle.vb_ram.specs.Part.{Part}
 use Rattle.vb_status.specs.{After.part_after_reset, Answers.refusal_of_fault}
 use Rattle.vb_driver.specs.{State.DriverState, Calls.GivesUp, contracts.driver.Driver.the_view}
 use Rattle.vb_driver.proofs.Starting.{offered_then, accepted_then, none_ok, at_ok}

@@ -1,4 +1,5 @@
-use Rattle.{std.proofs.Common.{◌≡◌, ◌∙◌, arith, ap, ℕ}, vb_model.specs.Layout.reserved_pages}
+use Rattle.vb_virtio.specs.Layout.{reserved_pages}
+use Rattle.std.proofs.Common.{◌≡◌, ◌∙◌, arith, ap, ℕ}
 use Rattle.{vb_model.specs.Pages.all_free, vb_ram.specs.declared.shape.Shape.Shape}
 use Rattle.vb_ram.{specs.Limits.AreWithinLimits, proofs.Limits.config_limits}
 use Rattle.{vb_status.specs.Bits.feature_bits, vb_pages.specs.PageState.new_page_state}

@@ -1,6 +1,8 @@
 use Rattle.std.proofs.Common.{◌≡◌, ◌<◌, ◌∙◌, sym, ap, refl, ℕ, List, true, false}
 use Rattle.vb_model.specs.declared.places.Place.TheVariants.{Free, Taking}
-use Rattle.{vb_model.specs.{Tests.is_in, Pages.placed}, vb_driver.proofs.Moving.freed_taking}
+use Rattle.vb_virtio.specs.Tests.{is_in}
+use Rattle.vb_model.specs.Pages.{placed}
+use Rattle.vb_driver.proofs.Moving.{freed_taking}
 use Rattle.vb_driver.proofs.Moving.{freed_once, IsOut, is_out, freed_kept, forgotten_kept}
 use Rattle.vb_driver.specs.{Places.marked, Areas.flags_of, State.DriverState}
 use Rattle.vb_driver.specs.{State.{sent_by, IsDriver, tells_host}, contracts.driver.Driver.the_view}

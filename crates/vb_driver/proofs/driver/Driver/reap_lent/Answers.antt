@@ -1,5 +1,7 @@
 use Rattle.std.proofs.Common.{◌≡◌, ◌∙◌, sym, ap, ℕ, List}
-use Rattle.vb_model.specs.{Tests.is_in, Pages.placed, declared.places.Place.TheVariants.Lent}
+use Rattle.vb_virtio.specs.Tests.{is_in}
+use Rattle.vb_model.specs.Pages.{placed}
+use Rattle.vb_model.specs.declared.places.Place.TheVariants.{Lent}
 use Rattle.vb_driver.{specs.State.sent_by, specs.contracts.driver.Driver.the_view}
 use Rattle.vb_driver.proofs.Moving.{lent_inside, lent_kept}
 use Rattle.vb_driver.proofs.driver.Driver.reap_lent.Goals as goal

@@ -1,5 +1,6 @@
 use Rattle.std.proofs.Common.{◌≡◌, ◌∙◌, sym, ap, refl, rules, ℕ, List, true}
-use Rattle.vb_model.specs.{declared.places.Place.TheVariants.{Free, Reporting}, Tests.is_in}
+use Rattle.vb_virtio.specs.Tests.{is_in}
+use Rattle.vb_model.specs.declared.places.Place.TheVariants.{Free, Reporting}
 use Rattle.{vb_model.specs.Pages.{Block, pages_of_all, placed}, vb_report.specs.Blocks.blocks_of}
 use Rattle.vb_driver.proofs.{Moving.{IsOut, is_out}, ReportMoves.{reported_place, reported_once}}
 use Rattle.vb_driver.proofs.{ReportMoves.returned_kept, ReportTables.taken_report_queue}

@@ -1,6 +1,7 @@
 use Rattle.std.proofs.Common.{arith, ◌≡◌, ◌∙◌, ap, ℕ, List, true}
 use Rattle.{std.proofs.Common.false, vb_model.specs.declared.places.Place.TheVariants.Reporting}
-use Rattle.vb_model.specs.{Driver.AllDistinct, Pages.{Block, pages_of_all, placed}, Tests.is_in}
+use Rattle.vb_virtio.specs.Tests.{AllDistinct, is_in}
+use Rattle.vb_model.specs.Pages.{Block, pages_of_all, placed}
 use Rattle.{vb_report.specs.Blocks.blocks_of, vb_driver.specs.Areas.{flags_of, is_free_at}}
 use Rattle.vb_driver.specs.{Places.marked, State.IsReportQueue, contracts.driver.Driver.the_view}
 use Rattle.vb_driver.proofs.{Owning.unallocated_kept, ReportMoves.reported_kept}

@@ -1,6 +1,8 @@
 use Rattle.{std.{specs.Prelude.{◌≡◌, true}, proofs.Common.List}, vb_status.specs.Bits.feature_bits}
 use Rattle.std.proofs.{lemmas.List.length-map, Common.{◌∙◌, sym, ap, subst, refl, ℕ, map, length}}
-use Rattle.vb_model.specs.{Tests.pages_where, declared.places.Place.{Place, TheVariants.Reporting}}
+use Rattle.vb_virtio.specs.Tests.{pages_where}
+use Rattle.vb_model.specs.declared.places.Place.{Place}
+use Rattle.vb_model.specs.declared.places.Place.TheVariants.{Reporting}
 use Rattle.vb_model.specs.{Pages.{Block, place_of, is_free, is_reporting}, Life.place_after_reset}
 use Rattle.vb_driver.specs.{contracts.driver.Driver.the_view, Calls.with_nothing_out}
 use Rattle.vb_driver.specs.{State.{DriverState, IsDriver}, Areas.{AreFor, flags_of}, Places.marked}

@@ -1,5 +1,6 @@
 use Rattle.std.proofs.Common.{◌∙◌, sym, ap, subst}
-use Rattle.{vb_model.specs.Layout.reserved_pages, vb_ram.specs.declared.shape.Shape.Shape}
+use Rattle.vb_virtio.specs.Layout.{reserved_pages}
+use Rattle.vb_ram.specs.declared.shape.Shape.{Shape}
 use Rattle.vb_driver.{specs.State.IsDriver, proofs.{Resetting.fresh_kept, Restarting.restarted}}
 use Rattle.vb_driver.proofs.driver.Driver.restart.Goals as goal
 

@@ -1,5 +1,6 @@
 use Rattle.std.proofs.Common.{◌≡◌, ◌∙◌, sym, ap, refl, ℕ, List, take, true}
-use Rattle.vb_model.{specs.Tests.{is_in, pages_where}, specs.Pages.{placed, is_lent}}
+use Rattle.vb_virtio.specs.Tests.{is_in, pages_where}
+use Rattle.vb_model.specs.Pages.{placed, is_lent}
 use Rattle.vb_model.specs.declared.places.Place.TheVariants.{Taking}
 use Rattle.vb_driver.{proofs.Moving.lowest_is, proofs.Keeping.there_by}
 use Rattle.vb_driver.proofs.places.PlaceTable.take_lowest_lent.Goals as goal

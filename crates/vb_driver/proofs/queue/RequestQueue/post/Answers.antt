@@ -1,7 +1,8 @@
 use Rattle.std.proofs.Common.{◌≡◌, ◌∙◌, ◌<◌, ◌+◌, ◌*◌, sym, ap, subst, arith, refl, ℕ, set, Some}
 use Rattle.std.proofs.{Common.{Ok, List, length, is_some}, Math.Nat.div-add-mod}
-use Rattle.vb_model.specs.Layout.{buffers_page, buffer_page, buffer_offset, is_start_page}
-use Rattle.{vb_model.proofs.Shapes.start_of_buffer, vb_ram.specs.Pages.SameBut}
+use Rattle.vb_virtio.specs.Layout.{buffers_page, buffer_page, buffer_offset, is_start_page}
+use Rattle.vb_virtio.proofs.Shapes.{start_of_buffer}
+use Rattle.vb_ram.specs.Pages.{SameBut}
 use Rattle.vb_ring.specs.{declared.layout.Layout.Layout, Ends.{after_add, next_head}}
 use Rattle.vb_driver.specs.{State.RequestSide, Calls.Posts, contracts.queue.RequestQueue.the_view}
 use Rattle.vb_driver.proofs.{Buffers.names_at, Posting.{Sending, added_head, posts_by}}

@@ -1,5 +1,7 @@
 use Rattle.{std.proofs.Common.{◌≡◌, ◌∙◌, ap, arith, ℕ}, vb_driver.proofs.ReportTables.none_owned}
-use Rattle.{vb_model.specs.Layout.ring_page, vb_ring.specs.{Ends.DriverEnd, Layout.layout_of}}
+use Rattle.vb_virtio.specs.Layout.{ring_page}
+use Rattle.vb_ring.specs.Ends.{DriverEnd}
+use Rattle.vb_ring.specs.Layout.{layout_of}
 use Rattle.vb_driver.proofs.queue.RequestQueue.renew.Goals as goal
 
 pub invariant_of-self : goal.invariant_of-self

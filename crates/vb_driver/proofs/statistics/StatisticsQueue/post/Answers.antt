@@ -1,5 +1,6 @@
 use Rattle.std.proofs.Common.{◌≡◌, subst, arith, refl, is_some}
-use Rattle.{vb_model.proofs.Shapes.start_of_buffer, vb_ring.specs.Ends.{DriverEnd, outstanding}}
+use Rattle.vb_virtio.proofs.Shapes.{start_of_buffer}
+use Rattle.vb_ring.specs.Ends.{DriverEnd, outstanding}
 use Rattle.vb_driver.{specs.{State.IsStatisticsQueue, Calls.PostsBuffer}, proofs.Shapes.ring_backed}
 use Rattle.vb_driver.proofs.Filling.{Filling, fills_by, filled_queue, not_full}
 use Rattle.vb_driver.proofs.statistics.StatisticsQueue.post.Goals as goal

@@ -1,6 +1,6 @@
 use Rattle.{std.proofs.Common.{◌≡◌, ap, ◌∙◌}, vb_pages.specs.PageState.{PageState, is_free_page}}
 use Rattle.vb_pages.proofs.PagesLemmas.{state_of, singles_kept, singles_left, singles_room}
-use Rattle.vb_model.specs.Tests.{one_if}
+use Rattle.vb_virtio.specs.Tests.{one_if}
 use Rattle.vb_pages.proofs.pages.Pages.take_free.Goals as goal
 
 pub invariant_of-self : goal.invariant_of-self

@@ -1,5 +1,5 @@
 use Rattle.std.proofs.Common.{◌≡◌, ℕ, List, ◌∙◌, ap, arith, length}
-use Rattle.vb_model.specs.Guest.{zero_page}
+use Rattle.vb_virtio.specs.Memory.{zero_page}
 use Rattle.vb_ram.{specs.Blank.shown, specs.Pages.Page}
 use Rattle.vb_ram.proofs.frame.Frame.clear.Goals as goal
 

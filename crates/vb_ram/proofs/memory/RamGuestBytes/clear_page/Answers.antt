@@ -1,5 +1,5 @@
 use Rattle.std.proofs.Common.{◌≡◌, ◌<◌, length, set, List, ℕ, Option, Some, ◌∙◌, sym, ap, arith, subst}
-use Rattle.vb_model.specs.Guest.{zero_page}
+use Rattle.vb_virtio.specs.Memory.{zero_page}
 use Rattle.vb_ram.specs.{Pages.{Page, Pages, Cleared, contents_of, page_at}, Put.PutAt}
 use Rattle.vb_ram.proofs.{Contents.length-zero_page, PageLemmas.{page_read, wrote, cleared}}
 use Rattle.vb_ram.proofs.PageLemmas.{put_zeros, is_memory-set}

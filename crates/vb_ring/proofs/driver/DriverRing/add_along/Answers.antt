@@ -1,6 +1,6 @@
 use Rattle.std.proofs.Common.{◌≡◌, ◌∙◌, ◌+◌, ◌%◌, Ok, length, take, sym, ap, subst, arith}
 use Rattle.std.specs.Prelude.{slice_index}
-use Rattle.vb_model.proofs.Tables.{length-each_from}
+use Rattle.vb_virtio.proofs.Tables.{length-each_from}
 use Rattle.vb_chain.specs.Written.{IsRoute}
 use Rattle.vb_ring.specs.contracts.driver.DriverRing.{the_view}
 use Rattle.vb_ring.{specs.Numbers.numbers, specs.Ends.{DriverEnd, is_unused, next_path}}

@@ -1,5 +1,6 @@
 use Rattle.{std.proofs.Common.{◌∙◌, sym, ap, List, length}, vb_model.specs.HostEvents.with_targets}
-use Rattle.{vb_model.specs.Balance.Need, vb_world.proofs.Balancing.{balanced, short, as_many_needs}}
+use Rattle.vb_virtio.specs.Targets.{Need}
+use Rattle.vb_world.proofs.Balancing.{balanced, short, as_many_needs}
 use Rattle.vb_world.proofs.world.World.balance.Goals as goal
 
 pub set_targets-requires-clause-one_each : goal.set_targets-requires-clause-one_each

@@ -1,5 +1,6 @@
 use Rattle.std.proofs.Common.{sym, ◌∙◌, ap, refl, false, arith}
-use Rattle.{arrayvec.specs.ArrayVec.ArrayVec, vb_model.specs.Balance.Need}
+use Rattle.vb_virtio.specs.Targets.{Need}
+use Rattle.arrayvec.specs.ArrayVec.{ArrayVec}
 use Rattle.vb_world.proofs.{Calls.guest_of, world.World.needs.Goals.{in-Some, in_default}}
 use Rattle.vb_world.proofs.Balancing.{need_found, need_missing, need_room, needs_found}
 use Rattle.vb_world.proofs.world.World.needs.Goals as goal

@@ -1,6 +1,7 @@
 use Rattle.std.proofs.Common.{◌≡◌, ◌∙◌, ◌++◌, ◌∷◌, ◌≤◌, ℕ, List, [], sym, ap, arith, refl}
 use Rattle.std.proofs.lemmas.Bool.{eq-eqb}
-use Rattle.{vb_model.specs.Tests.{times, one_if}, vb_ram.specs.Pages.Page}
+use Rattle.vb_virtio.specs.Tests.{times, one_if}
+use Rattle.vb_ram.specs.Pages.{Page}
 use Rattle.{vb_device.specs.Own.has, vb_slot.proofs.Numbers.{last, with_last, absent, not_both}}
 use Rattle.vb_slot.proofs.tests.keeping.Pool.claim.Goals as goal
 

@@ -1,6 +1,8 @@
 use Rattle.std.proofs.Common.{◌≡◌, ◌∙◌, ◌∷◌, ℕ, List, [], length, sym, ap, arith, refl}
 use Rattle.std.proofs.lemmas.List.{length-append}
-use Rattle.{vb_model.specs.Tests.times, vb_ram.specs.Pages.Page, vb_device.specs.Own.has}
+use Rattle.vb_virtio.specs.Tests.{times}
+use Rattle.vb_ram.specs.Pages.{Page}
+use Rattle.vb_device.specs.Own.{has}
 use Rattle.vb_slot.proofs.Numbers.{last, with_last, below_next, next_absent}
 use Rattle.vb_slot.proofs.tests.keeping.Pool.give_new.Goals as goal
 

@@ -1,5 +1,5 @@
 use Rattle.std.{proofs.Common.{arith, ap, length, List, ℕ}, proofs.lemmas.Bool.le-ltb}
-use Rattle.vb_model.specs.Tests.{times, one_if}
+use Rattle.vb_virtio.specs.Tests.{times, one_if}
 use Rattle.vb_slot.proofs.tests.keeping.Pool.of.Goals as goal
 
 pub invariant_of-result : goal.invariant_of-result

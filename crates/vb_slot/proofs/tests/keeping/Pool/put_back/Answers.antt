@@ -1,5 +1,7 @@
 use Rattle.std.proofs.{Common.{◌≡◌, ◌∙◌, ◌∷◌, ℕ, List, [], length, true}, lemmas.List.length-append}
-use Rattle.{std.proofs.Common.{sym, ap, arith}, vb_model.specs.Tests.times, vb_device.specs.Own.has}
+use Rattle.vb_virtio.specs.Tests.{times}
+use Rattle.std.proofs.Common.{sym, ap, arith}
+use Rattle.vb_device.specs.Own.{has}
 use Rattle.vb_slot.proofs.Numbers.{present, one_place, goes_over, without_length}
 use Rattle.vb_slot.proofs.tests.keeping.Pool.put_back.Goals as goal
 

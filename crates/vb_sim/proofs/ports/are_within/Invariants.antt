@@ -1,6 +1,0 @@
-use Rattle.std.proofs.Common.{take}
-use Rattle.vb_sim.specs.Threads.{AreWithin}
-use Rattle.vb_sim.proofs.ports.are_within.Given as goal
-
-abbrev pub invariant-loop-report : goal.invariant-loop-report
-invariant-loop-report l = AreWithin l.frames (take l.report-index l.reports)

@@ -1,7 +1,0 @@
-use Rattle.vb_sim.proofs.Listing.{attached_list}
-use Rattle.vb_sim.proofs.tests.listed.ListedDeviceDevice.attach.Goals as goal
-
-pub invariant_of-self-2 : goal.invariant_of-self-2
-invariant_of-self-2 c =
-    attached_list c.self.inside.inner.part c.attach.new.self.part c.args.config _ _ _
-    c.in_ok-attach.ensures.part c.in_ok-list.ensures.0 c.in_ok-list.ensures.1 c.in_ok-list.ensures.2

@@ -1,8 +1,0 @@
-/* The memory that a wrong device discards in. */
-#ifndef WRONG_H
-#define WRONG_H
-#include "guest_memory.h"
-
-extern const struct guest_memory *wrong_memory;
-
-#endif

@@ -1,0 +1,48 @@
+/* A guest's memory, as a vhost-user client hands it over: regions of files, mapped here. */
+#ifndef GUEST_MEMORY_H
+#define GUEST_MEMORY_H
+#include "balloon.h"
+
+enum { MOST_REGIONS = 32 };
+
+/* As a message has it: where a region stands in the guest, in the client, and in its file. */
+struct region_place {
+    uint64_t guest, size, user, offset;
+};
+
+struct guest_memory {
+    struct balloon_region regions[MOST_REGIONS];
+    uint64_t user[MOST_REGIONS];    /* where each stands in the client */
+    unsigned count;
+};
+
+/* Unmaps all regions and closes their files. */
+void memory_clear(struct guest_memory *memory);
+
+/* Maps one more region. Takes the file; false where it can't be mapped: it isn't whole pages of its file, it wraps, there is one
+ * at these addresses of the guest or of the client, its file ends before, or isn't a memfd, one of tmpfs or hugetlbfs, or a plain
+ * file; or there are MOST_REGIONS. */
+bool memory_add(struct guest_memory *memory, struct region_place place, int file);
+
+/* Unmaps the region of this place, wherever it begins in its file; false where there is none. */
+bool memory_remove(struct guest_memory *memory, struct region_place place);
+
+/* Maps these regions in place of those before. Takes the files; false where one can't be mapped. */
+bool memory_map(struct guest_memory *memory, const struct region_place *places, const int *files, unsigned count);
+
+/* The guest's address of an address in the client; false where it lies in no region. */
+bool memory_of_user(const struct guest_memory *memory, uint64_t user, uint64_t *address);
+
+/* Whether all these bytes of the guest are memory, whichever regions they lie in. */
+bool memory_holds(const struct guest_memory *memory, uint64_t guest, uint64_t length);
+
+/* A word of the guest, little-endian; false where it isn't memory. */
+bool memory_word(const struct guest_memory *memory, uint64_t guest, uint16_t *word);
+
+/* What the files hold on the host, in KiB. */
+uint64_t memory_held(const struct guest_memory *memory);
+
+/* How many pages the regions have. */
+uint64_t memory_pages(const struct guest_memory *memory);
+
+#endif

@@ -1,0 +1,167 @@
+#define _GNU_SOURCE
+#include "process.h"
+
+#include "say.h"
+#include "vb.h"
+
+#include <errno.h>
+#include <fcntl.h>
+#include <signal.h>
+#include <stdio.h>
+#include <stdlib.h>
+#include <string.h>
+#include <sys/resource.h>
+#include <sys/signalfd.h>
+#include <sys/socket.h>
+#include <sys/stat.h>
+#include <unistd.h>
+
+bool process_is_shut;
+
+/* Milliseconds of a rest. */
+enum { REST = 100 };
+
+/* Whether SIGHUP is for the configuration, and doesn't end the process. */
+static bool hangup_reloads;
+
+/* The signals that end the process. */
+static sigset_t ending(void)
+{
+    sigset_t signals;
+    sigemptyset(&signals);
+    sigaddset(&signals, SIGTERM);
+    sigaddset(&signals, SIGINT);
+    if (!hangup_reloads)
+        sigaddset(&signals, SIGHUP);
+    return signals;
+}
+
+/* Standard output and error once more, by files that don't block; the same where they can't be opened anew. */
+static int standard[STDERR_FILENO + 1] = {STDIN_FILENO, STDOUT_FILENO, STDERR_FILENO};
+
+static void open_anew(int file)
+{
+    char path[32];
+    struct stat its;
+    if (fstat(file, &its) || !(S_ISFIFO(its.st_mode) || S_ISCHR(its.st_mode)))
+        return; /* a plain file doesn't wait, and has its place in the old one; a socket is sent to */
+    snprintf(path, sizeof path, "/proc/self/fd/%d", file);
+    int anew = open(path, O_WRONLY | O_NONBLOCK | O_CLOEXEC | O_NOCTTY);
+    standard[file] = anew < 0 ? file : anew;
+}
+
+int file_of_output(void)
+{
+    return standard[STDOUT_FILENO];
+}
+
+ssize_t file_put(int file, const void *bytes, size_t length)
+{
+    struct pollfd its = {standard[file], POLLOUT, 0};
+    if (poll(&its, 1, 0) <= 0 || !(its.revents & (POLLOUT | POLLERR | POLLHUP)))
+        return -1;
+    ssize_t sent = send(its.fd, bytes, length, MSG_DONTWAIT | MSG_NOSIGNAL);
+    return sent >= 0 || errno != ENOTSOCK ? sent : write(its.fd, bytes, length);
+}
+
+void process_begin(void)
+{
+    for (int file = 0; file <= STDERR_FILENO; file++)
+        if (fcntl(file, F_GETFD) < 0 && open("/dev/null", O_RDWR) != file)
+            abort();
+    open_anew(STDOUT_FILENO);
+    open_anew(STDERR_FILENO);
+    setvbuf(stdout, NULL, _IOLBF, 0);
+    signal(SIGPIPE, SIG_IGN);
+    sigset_t signals = ending();
+    sigprocmask(SIG_BLOCK, &signals, NULL);
+}
+
+bool process_answers(int count, char **words, const char *name, const char *help)
+{
+    for (int i = 1; i < count; i++) {
+        if (!strcmp(words[i], "--help"))
+            return puts(help), true;
+        if (!strcmp(words[i], "--version"))
+            return printf("%s %s\n", name, VB_VERSION), true;
+    }
+    return false;
+}
+
+void process_allow_files(unsigned wanted)
+{
+    struct rlimit limit;
+    if (getrlimit(RLIMIT_NOFILE, &limit) || limit.rlim_cur >= wanted)
+        return;
+    limit.rlim_cur = limit.rlim_max < wanted ? limit.rlim_max : wanted;
+    if (setrlimit(RLIMIT_NOFILE, &limit) || limit.rlim_cur < wanted)
+        complain("%u files may be wanted, and %llu may be open (RLIMIT_NOFILE)", wanted, (unsigned long long)limit.rlim_cur);
+}
+
+int process_end(void)
+{
+    sigset_t signals = ending();
+    int file = signalfd(-1, &signals, SFD_CLOEXEC | SFD_NONBLOCK);
+    if (file < 0)
+        complain("signals can't be waited for: %s", strerror(errno));
+    return file;
+}
+
+int process_reload(void)
+{
+    sigset_t signals;
+    sigemptyset(&signals);
+    sigaddset(&signals, SIGHUP);
+    hangup_reloads = true;
+    int file = signalfd(-1, &signals, SFD_CLOEXEC | SFD_NONBLOCK);
+    if (file < 0)
+        complain("signals can't be waited for: %s", strerror(errno));
+    return file;
+}
+
+bool process_took_reload(int file)
+{
+    struct signalfd_siginfo signal;
+    return read(file, &signal, sizeof signal) == (ssize_t)sizeof signal;
+}
+
+int poll_some(struct pollfd *files, nfds_t count, int limit)
+{
+    struct pollfd some[MOST_POLLED];
+    nfds_t asked = 0, number = 0;
+    for (nfds_t i = 0; i < count; i++)
+        if (files[i].fd >= 0)
+            some[asked++] = files[i];
+    int found = poll(some, asked, limit);
+    bool waited = found >= 0 || errno == EINTR;
+    if (!waited) {
+        complain("files can't be waited for: %s", strerror(errno));
+        poll(NULL, 0, REST);
+    }
+    for (nfds_t i = 0; i < count; i++)
+        files[i].revents = files[i].fd >= 0 ? some[number++].revents : 0;
+    for (nfds_t i = 0; found < 0 && i < count; i++)
+        files[i].revents = 0;
+    return found;
+}
+
+int file_number(int file, const char *name)
+{
+    char path[32], text[512];
+    if (process_is_shut)
+        return -1;
+    snprintf(path, sizeof path, "/proc/self/fdinfo/%d", file);
+    int info = open(path, O_RDONLY | O_CLOEXEC);
+    ssize_t length = info < 0 ? -1 : read(info, text, sizeof text - 1);
+    if (info >= 0)
+        file_close(info);
+    text[length > 0 ? length : 0] = 0;
+    const char *at = strstr(text, name);
+    return at ? atoi(at + strlen(name)) : -1;
+}
+
+void file_close(int file)
+{
+    if (close(file))
+        complain("a file can't be closed: %s", strerror(errno));
+}

@@ -1,0 +1,258 @@
+/* The lender of a host: it lends its guests more memory than the host has, and asks each for pages so that the host's budget suffices.
+ * Each guest has a process of its own, which alone touches what a client sends. */
+#ifndef HOST_H
+#define HOST_H
+#include "message.h"
+
+#include "extra.h"
+#include "vb_lending.h"
+#include "view.h"
+
+#include "../guest/process.h"
+#include "../guest/say.h"
+
+#include <stdio.h>
+
+enum {
+    MOST_GUESTS = 64,
+    MOST_NAME = 32,             /* bytes of a name, with its end */
+    MOST_PATH = 108,            /* of a socket's */
+    SILENT_AFTER = 3,           /* periods without statistics, and a guest counts as one that doesn't answer */
+    PAGES_PER_MIB = 256,
+};
+
+/* A guest's place on the host, which it may leave and come back to. */
+struct seat {
+    struct host *host;
+    struct speaker speaker;     /* for what is said of its clients */
+    char name[MOST_NAME], path[MOST_PATH], later_path[MOST_PATH];
+    int listener;               /* where its client comes */
+    struct guest_terms terms;
+    /* Its process. */
+    bool here;                  /* there is one */
+    pid_t process;              /* its number; of a process that an earlier lender has started, what it says itself */
+    int process_file;           /* readable once it has ended; -1 of a process that an earlier lender has started: its channel ends */
+    int channel;                /* -1: none */
+    bool gone;                  /* its client has gone; the process hasn't ended yet */
+    bool adopts;                /* the first report of a process that an earlier lender has started is still to come */
+    int64_t comes_at;           /* before this no client is taken */
+    int64_t asked_at;           /* when the first order to look that isn't answered was given; 0: all are answered */
+    uint64_t number, answered;  /* of the last order to look; of the last one that is answered */
+    unsigned read;              /* messages of it that were read since the last refill */
+    uint64_t clients, lost;
+    struct lending_message report;      /* the last one; zeros without one */
+    /* What was made of it. */
+    uint32_t pages;             /* of its memory that has room */
+    uint32_t free, available, ballooned_then;
+    bool known, tells_available;
+    unsigned silent;            /* periods since its last statistics */
+    int64_t heard_at;
+    uint64_t heard, taken;      /* its counters when they were last looked at */
+    int64_t paused_until;       /* it has taken pages itself: until then it is asked for no more than it has given */
+    uint32_t target, told;      /* what was decided, and what it is asked for so far */
+    enum guest_wait waits_for;
+    int64_t waits_since;
+    uint32_t wait_answered;     /* the last of its waits that was answered, and how */
+    bool wait_admitted;
+};
+
+/* What was decided, and why. */
+enum reason { BY_GUESTS, BY_BUDGET, BY_SPARE, BY_MISSING };
+struct share { char name[MOST_NAME]; VbNeed need; uint32_t most, old, target; };
+struct decision {
+    int64_t at;                 /* by the monotonic clock, in milliseconds */
+    uint32_t frames, floor;
+    uint64_t missing;           /* 0, or by how much the guests fall short */
+    enum reason reason;
+    char who[MOST_NAME];        /* BY_SPARE: who is asked for more than it can spare */
+    unsigned count;
+    struct share shares[2 * MOST_GUESTS];
+};
+
+enum { MOST_DECISIONS = 512 };
+
+struct host_counters {
+    uint64_t looks, above, peak;                /* peak: KiB */
+    uint64_t decisions, changed;                /* changed: targets */
+    uint64_t shorts, admitted, refused, gone;   /* shorts: decisions that found the guests short */
+};
+
+/* The answers of standard output that nobody has read yet. */
+struct answers {
+    FILE *out;
+    char *bytes;
+    size_t length, sent;
+};
+
+/* Lines of standard input that weren't obeyed yet. */
+struct input {
+    char bytes[4096];
+    size_t length;
+    bool cut, ended;
+};
+
+/* A line whose answer waits for new reports. */
+struct question {
+    char line[256];             /* empty: none */
+    uint64_t number;            /* reports with a later number are new */
+    uint64_t ask;               /* the number of the order to ask a guest, and whether it could be asked */
+    bool asked;
+    int64_t until;
+};
+
+struct host {
+    const char *folder, *program;
+    uint64_t features;
+    bool strict, strict_pages, events, no_sandbox, end_with_lender;
+    struct seat *seats[MOST_GUESTS];
+    unsigned count;
+    struct seat *leaving[MOST_GUESTS];  /* seats that were taken away, whose processes haven't ended yet */
+    unsigned leaving_count;
+    uint32_t frames, floor;     /* pages: the budget, and what each guest is to keep free */
+    uint32_t step;              /* a target grows by one part of so many of the guest in a second; 0: at once */
+    int64_t period;             /* milliseconds */
+    int64_t rests_until;        /* clients aren't taken before this, as there was no file left for one */
+    int64_t refills_at;         /* when messages are read again of processes that have sent too many */
+    int64_t decides_at;         /* what guests do isn't decided on before this */
+    int64_t stepped_at;         /* when targets were last let grow */
+    int end;                    /* has something to read once a signal tells the host to end */
+    bool leaves;                /* it ends alone, and guests' processes live on */
+    bool anew;                  /* the guests, the budget or the floor have changed */
+    enum reason reason;         /* which of them */
+    bool news;                  /* what the guests can spare may have changed */
+    uint64_t missing;           /* as the last decision had it */
+    uint64_t looks_asked;       /* the number of the last order to look */
+    struct host_counters counters;
+    struct decision log[MOST_DECISIONS];        /* the last ones: decision n has its place at n % MOST_DECISIONS */
+    uint64_t printed;           /* how many decisions `log` has printed or lost */
+    struct input input;
+    struct answers answers;
+    struct question question;
+    struct host_extra extras[MOST_EXTRAS];
+    unsigned extra_count;
+};
+
+/* The guests, the budget or the floor have changed: targets are decided anew at the next look. */
+void host_changed(struct host *host, enum reason reason);
+
+/* Serves until a line or a signal says to quit or to leave; returns the program's status. */
+int host_run(struct host *host);
+
+/* ---- folder.c */
+
+/* Whether the folder is this host's alone; says why not. It stays so until the process ends. */
+bool folder_lock(const char *folder);
+
+/* Makes a seat for each guest that an earlier lender has left in the folder. */
+void folder_take_over(struct host *host);
+
+/* Removes the socket of an earlier host, and nothing else. */
+void remove_socket(const char *path);
+
+/* Whether a guest may have this name: letters, digits, dashes and underscores. */
+bool is_name(const char *name);
+
+/* ---- seats.c */
+
+/* The seat of this name, or NULL. */
+struct seat *seat_of(const struct host *host, const char *name);
+
+/* Makes a seat, whose socket waits for its client, or takes over its process; NULL, or why it can't. */
+const char *seat_add(struct host *host, const char *name, const struct guest_terms *terms);
+
+/* Ends the service of its client, if there is one, and takes the seat away; NULL, or why it can't. */
+const char *seat_remove(struct host *host, struct seat *seat);
+
+/* Nobody is there, and nobody was. */
+void seat_clear(struct seat *seat);
+
+/* Whether somebody is there, and whether its driver is ready; whether its statistics come, and its process answers. */
+bool seat_is_taken(const struct seat *seat);
+bool seat_is_ready(const struct seat *seat);
+bool seat_answers(const struct seat *seat);
+bool seat_reports(const struct seat *seat);
+
+/* Frees what a seat is made of. */
+void seat_free(struct seat *seat);
+
+/* ---- start.c */
+
+/* Starts a process for the client that waits at its socket. */
+void seat_start(struct seat *seat);
+
+/* Takes over the process of an earlier lender, if there is one. */
+void seat_take_over(struct seat *seat);
+
+/* Its process has ended. */
+void seat_ended(struct seat *seat);
+
+/* ---- orders.c */
+
+/* Orders its process to look, and to ask the guest for statistics; or to remind it of its target. */
+void seat_look(struct seat *seat, bool asks);
+void seat_remind(struct seat *seat);
+
+/* Decides how many pages the host wants in its balloon, and tells it as many as a step allows. */
+void seat_set_target(struct seat *seat, uint32_t pages);
+
+/* Lets what it is asked for grow by what `milliseconds` allow, and says again what it hasn't heard. */
+void seat_step(struct seat *seat, int64_t milliseconds);
+
+/* Has its process keep its terms for a later lender. */
+void seat_keep_terms(struct seat *seat);
+
+/* Tells its process to end. */
+void seat_leave(struct seat *seat);
+
+/* Answers its process, which waits for pages: whether they may be had. */
+void seat_answer(struct seat *seat, bool admitted);
+
+/* ---- reports.c */
+
+/* Reads what its process has sent, at most so many messages, and notes what came of it; returns how many it read. */
+unsigned seat_read(struct seat *seat, unsigned most);
+
+/* ---- policy.c */
+
+/* What a guest can spare now. */
+uint32_t policy_spare(const struct seat *seat);
+
+/* A guest has told its statistics, or has taken pages back by itself. */
+void policy_hears(struct seat *seat);
+void policy_sees_taken(struct seat *seat);
+
+/* By how many frames a guest of so many pages, which gives none at first, finds too few: 0, or so many pages. */
+uint64_t policy_lacks(struct host *host, const struct seat *newcomer, uint32_t pages);
+
+/* Sets targets where those that there are no longer serve. */
+void policy_decide(struct host *host);
+
+/* What all guests hold, in KiB. */
+uint64_t host_held(const struct host *host);
+
+/* ---- journal.c */
+
+/* Keeps a decision for the line `log`. */
+void journal_add(struct host *host, const struct decision *decision);
+
+/* Prints the decisions since the last time, each on a line. */
+void journal_print(struct host *host);
+
+/* ---- lines.c, input.c */
+
+/* Obeys one line of the control pipe; false where it says to quit or to leave. */
+bool host_line(struct host *host, const char *line);
+
+/* Answers the line that waits for new reports, if they have come. */
+void question_answer(struct host *host);
+
+/* Reads what has come of standard input, and obeys whole lines, as long as all answers were read; false where one says to quit. */
+void input_read(struct input *input);
+bool input_obey(struct host *host);
+
+/* Begins the answers; writes what there is room for; whether all were read. */
+bool answers_begin(struct answers *answers);
+void answers_send(struct answers *answers);
+bool answers_were_read(const struct answers *answers);
+
+#endif

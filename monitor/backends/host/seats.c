@@ -1,0 +1,157 @@
+/* Who is served, and where: a socket for each guest of the host. */
+#include "host.h"
+
+#include <stdlib.h>
+#include <sys/socket.h>
+#include <sys/un.h>
+#include <sys/wait.h>
+#include <unistd.h>
+
+bool seat_is_taken(const struct seat *seat)
+{
+    return seat->here && !seat->gone;
+}
+
+bool seat_is_ready(const struct seat *seat)
+{
+    return seat_is_taken(seat) && seat->report.ready;
+}
+
+bool seat_answers(const struct seat *seat)
+{
+    return seat->known && seat->silent <= SILENT_AFTER;
+}
+
+bool seat_reports(const struct seat *seat)
+{
+    return !seat_is_taken(seat) || seat->asked_at == 0 || host_now() - seat->asked_at <= SILENT_AFTER * seat->host->period;
+}
+
+struct seat *seat_of(const struct host *host, const char *name)
+{
+    for (unsigned i = 0; i < host->count; i++)
+        if (!strcmp(host->seats[i]->name, name))
+            return host->seats[i];
+    return NULL;
+}
+
+void seat_clear(struct seat *seat)
+{
+    memset(&seat->report, 0, sizeof seat->report);
+    seat->pages = seat->free = seat->available = seat->ballooned_then = seat->target = seat->told = seat->silent = 0;
+    seat->known = seat->tells_available = seat->gone = seat->adopts = false;
+    seat->heard = seat->taken = seat->number = seat->answered = seat->lost = 0;
+    seat->heard_at = seat->paused_until = seat->asked_at = seat->waits_since = 0;
+    seat->waits_for = WAITS_FOR_NOTHING;
+    seat->wait_answered = 0;
+}
+
+/* Makes a seat's socket; false where it can't, with errno. */
+static bool listen_at(struct seat *seat)
+{
+    struct sockaddr_un address = {.sun_family = AF_UNIX};
+    strcpy(address.sun_path, seat->path);
+    remove_socket(seat->path);
+    seat->listener = socket(AF_UNIX, SOCK_STREAM | SOCK_CLOEXEC | SOCK_NONBLOCK, 0);
+    if (seat->listener < 0)
+        return false;
+    if (!bind(seat->listener, (struct sockaddr *)&address, sizeof address) && !listen(seat->listener, 1))
+        return true;
+    int why = errno;
+    file_close(seat->listener);
+    return errno = why, false;
+}
+
+void seat_free(struct seat *seat)
+{
+    if (seat->channel >= 0)
+        file_close(seat->channel);
+    if (seat->process_file >= 0)
+        file_close(seat->process_file);
+    free(seat);
+}
+
+/* Names a seat and its two sockets; false where a path is too long. */
+static bool name_seat(struct seat *seat, const char *name)
+{
+    const char *folder = seat->host->folder;
+    strcpy(seat->name, name);
+    seat->speaker.name = seat->name;
+    return snprintf(seat->path, sizeof seat->path, "%s/%s", folder, name) < MOST_PATH
+        && snprintf(seat->later_path, sizeof seat->later_path, "%s/.%s", folder, name) < MOST_PATH;
+}
+
+const char *seat_add(struct host *host, const char *name, const struct guest_terms *terms)
+{
+    if (!is_name(name) || seat_of(host, name))
+        return "a name has 1 to 31 letters, digits, - and _, and no other guest has it";
+    if (host->count == MOST_GUESTS)
+        return "there are as many guests as can be";
+    struct seat *seat = calloc(1, sizeof *seat);
+    if (!seat)
+        return strerror(ENOMEM);
+    seat->host = host;
+    seat->terms = *terms;
+    seat->channel = seat->process_file = -1;
+    bool named = name_seat(seat, name);
+    if (!named || !listen_at(seat)) {
+        int why = errno;
+        free(seat);
+        return strerror(named ? why : ENAMETOOLONG);
+    }
+    host->seats[host->count++] = seat;
+    seat_take_over(seat);
+    return NULL;
+}
+
+/* A process that has a socket alone, and ends once the other end of a pipe is closed; nobody waits for it. */
+static void keep_alone(int listener, int pipe)
+{
+    char byte;
+    if (fork() != 0)
+        _exit(0);
+    dup2(listener, STDOUT_FILENO);
+    dup2(pipe, STDIN_FILENO);
+    close_range(STDERR_FILENO, ~0U, 0);
+    _exit(read(STDIN_FILENO, &byte, 1) != 0);
+}
+
+/* Closes a socket where clients wait. What they have sent is let go with it, which may take long: so another process closes it last. */
+static void close_listener(int listener)
+{
+    int ends[2];
+    pid_t child = -1;
+    if (!pipe2(ends, O_CLOEXEC)) {
+        child = fork();
+        if (child == 0)
+            keep_alone(listener, ends[0]);
+        file_close(ends[0]);
+    }
+    if (child > 0)
+        waitpid(child, NULL, 0);
+    file_close(listener);
+    if (child >= 0)
+        file_close(ends[1]);
+}
+
+const char *seat_remove(struct host *host, struct seat *seat)
+{
+    unsigned number = 0;
+    if (seat->here && host->leaving_count == MOST_GUESTS)
+        return "too many guests are leaving";
+    while (host->seats[number] != seat)
+        number++;
+    host->count--;
+    memmove(host->seats + number, host->seats + number + 1, (host->count - number) * sizeof host->seats[0]);
+    remove_socket(seat->path);
+    remove_socket(seat->later_path);
+    close_listener(seat->listener);
+    seat->listener = -1;
+    if (!seat->here) {
+        seat_free(seat);
+        return NULL;
+    }
+    seat_leave(seat);
+    host->leaving[host->leaving_count++] = seat;
+    return NULL;
+}

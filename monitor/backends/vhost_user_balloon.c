@@ -1,0 +1,130 @@
+/* A memory balloon for one guest, as a vhost-user backend: for QEMU's generic device, for the virtio_uml driver of User
+ * Mode Linux, and for any other client of that protocol.
+ *
+ *     vhost_user_balloon SOCKET [--features HEX] [--strict] [--keep] [--events] [--state FILE] [--lines N]
+ *
+ * It makes the socket, says `listening`, and serves the client that comes, until that one goes (status 0) or breaks a
+ * rule (status 1, and one line on standard error that says which). Standard input is the control pipe, each line is
+ * answered by one on standard output:
+ *
+ *     target PAGES    the host wants so many pages in the balloon
+ *     counters        names and numbers: target, actual, what the memory's files hold on the host, what was served
+ *     ask             ask the guest for new statistics
+ *     statistics      how often the guest told them, and what it said last
+ *     quit            end; so do the end of the input, and the signals SIGTERM, SIGINT and SIGHUP
+ *
+ * --features: what the device offers (100000027: MUST_TELL_HOST, STATS_VQ, DEFLATE_ON_OOM, REPORTING, VERSION_1).
+ * --strict: a page number past the end breaks a rule, in place of being skipped. --keep: the host keeps all memory.
+ * --events: notifications as messages aren't offered, so a client uses events. --state: the device is kept in this file,
+ * and a backend that finds one there goes on with its target and its `actual`. --lines: what is said in a second at most (20).
+ * --help and --version are answered.
+ */
+#include "guest/backend.h"
+#include "guest/inbox.h"
+#include "guest/lent.h"
+#include "guest/state.h"
+
+#include <errno.h>
+#include <stdio.h>
+#include <sys/socket.h>
+#include <sys/stat.h>
+#include <sys/un.h>
+#include <unistd.h>
+
+/* Removes the socket of an earlier backend, and nothing else. */
+static void remove_socket(const char *path)
+{
+    struct stat file;
+    if (!lstat(path, &file) && S_ISSOCK(file.st_mode))
+        unlink(path);
+}
+
+/* Makes the socket where the client comes; -1 where it can't. */
+static int listener_of(const char *path)
+{
+    struct sockaddr_un address = {.sun_family = AF_UNIX};
+    if (strlen(path) >= sizeof address.sun_path)
+        return errno = ENAMETOOLONG, -1;
+    strcpy(address.sun_path, path);
+    remove_socket(path);
+    int listener = socket(AF_UNIX, SOCK_STREAM | SOCK_CLOEXEC | SOCK_NONBLOCK, 0);
+    if (listener >= 0 && (bind(listener, (struct sockaddr *)&address, sizeof address) || listen(listener, 1))) {
+        int why = errno;
+        close(listener);
+        return errno = why, -1;
+    }
+    return listener;
+}
+
+/* Nobody else may come. */
+static void stop_listening(struct backend *backend)
+{
+    remove_socket(backend->options->client);
+    file_close(backend->listener);
+    backend->listener = -1;
+}
+
+/* A client may have gone again before it is taken; where there is no room for its file, it waits for a while. */
+static void accept_client(struct backend *backend)
+{
+    backend->socket = accept4(backend->listener, NULL, NULL, SOCK_CLOEXEC | SOCK_NONBLOCK);
+    if (backend->socket >= 0) {
+        stop_listening(backend);
+        return;
+    }
+    backend->rests = errno != EAGAIN && errno != ECONNABORTED && errno != EINTR;
+    if (backend->rests)
+        complain("a client can't be taken: %s", strerror(errno));
+}
+
+/* Serves the client's next message, if it is there whole: 1; 0 where the client has gone; -1 where it can't be served any
+ * longer. */
+static int serve(struct backend *backend)
+{
+    static struct inbox inbox;
+    if (backend->socket < 0)
+        return accept_client(backend), 1;
+    enum stream_state state = inbox_read(backend->socket, &inbox);
+    if (state == STREAM_WAITS || state == STREAM_GONE)
+        return state == STREAM_WAITS;
+    if (state == STREAM_WRONG)
+        return refuse("the client's bytes are no message"), -1;
+    if (message_serve(backend, &inbox.message))
+        return 1;
+    return backend->gone ? 0 : -1;
+}
+
+static const char help[] =
+    "vhost_user_balloon SOCKET [--features HEX] [--strict] [--keep] [--events] [--state FILE] [--lines N]";
+
+int main(int count, char **words)
+{
+    static struct backend backend;
+    static struct options options;
+    process_begin();
+    if (process_answers(count, words, "vhost_user_balloon", help))
+        return 0;
+    if (!backend_options(&options, count, words)) {
+        fprintf(stderr, "%s\n", help);
+        return 2;
+    }
+    if (options.is_lent)
+        return lent_run(&options);
+    process_allow_files(FILES_OF_PROCESS + FILES_OF_CLIENT);
+    if (!backend_start(&backend, &options) || !state_load(&backend))
+        return 2;
+    backend.tell = client_tell;
+    backend.listener = listener_of(options.client);
+    if (backend.listener >= 0) {
+        puts("listening");
+        int status = backend_run(&backend, serve);
+        backend_leave(&backend);
+        if (backend.socket < 0)
+            stop_listening(&backend);
+        if (backend.socket >= 0 || backend.ended)
+            return status;
+        errno = ECANCELED; /* the control pipe has ended */
+    }
+    fprintf(stderr, "vhost_user_balloon: %s: %s\n", options.client, strerror(errno));
+    return 2;
+}
