@@ -125,6 +125,8 @@ static bool begin(struct lent *lent, const struct options *options)
         return false;
     lent->channel = move_up(CHANNEL_FILE);
     lent->later = move_up(LATER_FILE);
+    if (listen(lent->later, 1))     /* once more: who connects is told this process's number by the kernel */
+        return false;
     lent->end = process_end();
     lent->look = lent_now() + LOOK_EVERY;
     lent->backend.tell = client_tell;

@@ -49,7 +49,7 @@ void lent_report(struct lent *lent, uint64_t number, bool asked)
         .waits = lent->waits, .target = device->target, .actual = device->actual, .ballooned = backend->ballooned,
         .status = device->status, .ready = backend_is_ready(backend), .asked = asked, .ballooned_then = lent->ballooned_then,
         .taken_since = lent->taken_since, .has_terms = lent->has_terms, .terms = lent->terms, .counters = backend->counters,
-        .process = (uint32_t)getpid(), .figure_count = backend->figure_count};
+        .figure_count = backend->figure_count};
     memcpy(message.figures, backend->figures, sizeof message.figures);
     send_to_lender(lent, &message);
     lent->news = false;

@@ -31,7 +31,7 @@ static const struct allowed calls[] = {
     /* What sort of file a kick is. */
     ANY(readlink), ANY(readlinkat),
     /* The C library, signals, the end. */
-    ANY(brk), ANY(mremap), ANY(clock_gettime), ANY(gettimeofday), ANY(getrandom), ANY(getpid), ANY(rt_sigaction), ANY(rt_sigprocmask),
+    ANY(brk), ANY(mremap), ANY(clock_gettime), ANY(gettimeofday), ANY(getrandom), ANY(rt_sigaction), ANY(rt_sigprocmask),
     ANY(rt_sigreturn), ANY(restart_syscall), ANY(futex), ANY(exit), ANY(exit_group),
 };
 

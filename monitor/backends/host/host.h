@@ -30,8 +30,8 @@ struct seat {
     struct guest_terms terms;
     /* Its process. */
     bool here;                  /* there is one */
-    pid_t process;              /* its number; of a process that an earlier lender has started, what it says itself */
-    int process_file;           /* readable once it has ended; -1 of a process that an earlier lender has started: its channel ends */
+    pid_t process;              /* its number, by the kernel's word */
+    int process_file;           /* readable once it has ended; -1: its channel ends then */
     int channel;                /* -1: none */
     bool gone;                  /* its client has gone; the process hasn't ended yet */
     bool adopts;                /* the first report of a process that an earlier lender has started is still to come */

@@ -47,7 +47,6 @@ struct lending_message {
     uint32_t ballooned_then;    /* what was in the balloon at its last statistics, or when it took pages itself after them */
     uint32_t taken_since;       /* it has taken pages itself after its last statistics */
     uint32_t has_terms;         /* unless 0, `terms` are those of a lender */
-    uint32_t process;           /* its number */
     uint32_t figure_count;
     struct kept_terms terms;
     struct counters counters;

@@ -43,7 +43,6 @@ static void adopt(struct seat *seat)
 {
     const struct lending_message *report = &seat->report;
     seat->adopts = false;
-    seat->process = (pid_t)report->process;
     seat->target = seat->told = report->target;
     seat->taken = report->counters.taken;
     if (report->has_terms)

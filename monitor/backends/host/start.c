@@ -8,6 +8,7 @@
 #include <sys/socket.h>
 #include <sys/un.h>
 #include <sys/wait.h>
+#include <unistd.h>
 
 extern char **environ;
 
@@ -153,13 +154,20 @@ static int connect_later(const char *path)
 
 void seat_take_over(struct seat *seat)
 {
+    struct ucred its;
+    socklen_t size = sizeof its;
     int channel = connect_later(seat->later_path);
-    if (channel < 0) {
+    bool known = channel >= 0 && !getsockopt(channel, SOL_SOCKET, SO_PEERCRED, &its, &size) && its.uid == geteuid();
+    if (!known) {
+        if (channel >= 0)
+            file_close(channel);
         remove_socket(seat->later_path);
         return;
     }
     seat_clear(seat);
     seat->channel = channel;
+    seat->process = its.pid;
+    seat->process_file = pidfd_open(its.pid, 0);
     seat->here = seat->adopts = true;
     seat->heard_at = host_now();
     seat->clients++;
@@ -170,7 +178,7 @@ void seat_take_over(struct seat *seat)
 static void explain(const struct seat *seat)
 {
     int status = 0;
-    if (seat->process_file < 0 || waitpid(seat->process, &status, WNOHANG) != seat->process)
+    if (waitpid(seat->process, &status, WNOHANG) != seat->process)
         complain("its process has ended");
     else if (WIFSIGNALED(status) && WTERMSIG(status) == SIGSYS)
         complain("its process has ended by a system call that isn't allowed");
@@ -188,7 +196,7 @@ void seat_ended(struct seat *seat)
         explain(seat);
         seat->host->counters.gone++;
         say_gone();
-    } else if (seat->process_file >= 0) {
+    } else {
         waitpid(seat->process, NULL, WNOHANG);
     }
     speaker_ends();
