@@ -31,7 +31,7 @@ const NO_PIECE: Piece = Piece {
 /// them, so a caller that reads many chains keeps one and lets it be filled.
 #[derive(Drop)]
 pub struct Chain {
-    /// They, in order; past `len` unused.
+    /// The pieces, in order; past `len` unused.
     pieces: [Piece; MAX_DESCRIPTORS],
     /// How many there are.
     len: usize,

@@ -22,7 +22,7 @@ pub enum Asked {
 /// Why a command line asks for nothing.
 #[derive(Clone, Copy, Debug, PartialEq, Eq, thiserror::Error)]
 pub enum ArgumentsFault {
-    /// It isn't understood.
+    /// The command line isn't understood.
     #[error("usage: vb_sim run | threads [--bells MODE]")]
     Refused,
     /// There was no memory to read it.

@@ -25,7 +25,7 @@ pub(crate) const MAX_TAKEN: usize = MAX_OUTSTANDING as usize;
 /// used from there, since the pages of one take a kilobyte.
 #[derive(Drop)]
 pub(crate) struct TakenList {
-    /// They, in order; past `len` is room for those that are taken next.
+    /// The taken requests, in order; past `len` is room for later ones.
     requests: [TakenRequest; MAX_TAKEN],
     /// How many there are.
     len: usize,

@@ -223,7 +223,7 @@ impl Driver {
         ensures { ReapsBy (P.mem port.old) (P.mem port.new) (P.part port.old) (P.part port.new)
             self.old self.new queue result }
     {
-        // Read for the proof, which has what holds of each driver where the call is refused, too.
+        // A no-op read: it gives the prover the type's invariant on the path of a refusal.
         let _places = &self.places;
         if queue == INFLATE_QUEUE {
             self.reap_lent(port)

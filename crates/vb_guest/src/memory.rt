@@ -193,7 +193,7 @@ fn read_bytes<D: Device>(
     ensures { IfOk result
         (λ bytes. bytes ≡ take len (drop offset (contents_at (D.mem device.now) page))) }
 {
-    // Asked for the proof: that each page has `PAGE_SIZE` bytes is a clause of this call alone.
+    // A no-op call: its clause tells the prover that each page has `PAGE_SIZE` bytes.
     let _frame = device.backing(page);
     let mut bytes = vec![in alloc; 0; len as usize]?;
     match device.read(page, offset as usize, &mut bytes) {

@@ -36,7 +36,7 @@ impl PartialEq for Bytes {
 }
 
 impl Bytes {
-    /// These bytes.
+    /// Makes bytes of a list.
     pub fn new(items: Vec<u8>) -> Bytes
         ensures { result ≡ items.items }
     {

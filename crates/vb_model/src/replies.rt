@@ -25,7 +25,7 @@ pub struct BalloonState {
 pub enum Reply {
     /// The new guest's number.
     Plugged { guest: usize },
-    /// It was done.
+    /// The event was done.
     Done,
     /// The driver is initialised.
     Ready,
@@ -72,7 +72,7 @@ pub enum Reply {
     Backing { frame: Option<u32> },
     /// How many frames are in use, and how many are not.
     Frames { used: u32, free: u32 },
-    /// It was refused.
+    /// The event was refused.
     Refused(Refusal),
 }
 

@@ -23,7 +23,7 @@ const BUFFER_BYTES: usize = REQUEST_BUFFER_SIZE as usize;
 /// The bytes of a chain, all its pieces in a row.
 #[derive(Drop)]
 pub(crate) struct ChainBytes {
-    /// They, in order; past `len` unused.
+    /// The bytes, in order; past `len` unused.
     bytes: [u8; BUFFER_BYTES],
     /// How many there are.
     len: usize,

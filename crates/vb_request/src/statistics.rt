@@ -126,7 +126,7 @@ pub fn read_statistics<G: GuestBytes>(ram: &G, pieces: &[Piece]) -> Result<Stati
     ensures total { IfOk result
         (λ said. said.total ≡ (statistics_in (G.mem ram.now) pieces.now).total) }
 {
-    // Asked for the proof: that memory has fewer than 2^32 pages is a clause of this call alone.
+    // A no-op call: its clause tells the prover that memory has fewer than 2^32 pages.
     let _few = ram.pages();
     match statistics_length(pieces) {
         Err(fault) => Err(fault),

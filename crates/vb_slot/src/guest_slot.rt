@@ -16,7 +16,7 @@ pub trait GuestSlot: Drop {
     ghost use Rattle.vb_model.specs.declared.calls.Claim.{Claim};
     ghost use Rattle.vb_model.specs.Guest.{Guest};
 
-    /// It represents this guest.
+    /// The slot represents this guest.
     ghost stands: { Self → Guest → Type 0 };
 
     /// The numbers of its device's own frames that are out.

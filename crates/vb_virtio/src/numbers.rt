@@ -26,7 +26,7 @@ impl Model for Numbers {
 }
 
 impl Numbers {
-    /// These numbers.
+    /// Makes numbers of a list.
     pub fn new(items: ArrayVec<u32, GUESTS>) -> Numbers
         ensures { result ≡ items.items }
     {

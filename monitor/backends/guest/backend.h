@@ -25,6 +25,7 @@ struct options {
     bool is_lent;               /* a lender has started the process, for the guest of the name `client` */
     bool ends_with_lender;      /* the kernel ends it as its lender ends */
     bool open;                  /* it isn't shut in a sandbox */
+    bool lives_on;              /* the end of the control pipe isn't the end of the process */
 };
 
 struct backend {
@@ -97,6 +98,7 @@ struct control_line {
     char bytes[256];
     size_t length;
     bool cut;                   /* it is longer than that, and its first bytes are gone */
+    bool ended;                 /* the pipe has ended */
 };
 
 /* Reads what stands in the control pipe, and has its whole lines obeyed, as long as `obey` answers 1; returns what that

@@ -132,8 +132,8 @@ static bool begin(struct lent *lent, const struct options *options)
     lent->backend.tell = client_tell;
     lent->backend.admit = admit;
     lent_speaks(lent);
-    process_is_shut = !options->open;
-    return lent->end >= 0 && (options->open || sandbox_enter());
+    process_is_shut = HAS_SANDBOX && !options->open;
+    return lent->end >= 0 && (!process_is_shut || sandbox_enter());
 }
 
 int lent_run(const struct options *options)

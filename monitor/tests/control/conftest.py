@@ -49,11 +49,12 @@ def program(tmp_path_factory):
 class Host:
     """A host's process, in a folder of its own."""
 
-    def __init__(self, program, folder, *options, environment=None):
+    def __init__(self, program, folder, *options, environment=None, files=()):
         self.folder, self.control = str(folder), f"{folder}/.control"
         self.log = open(f"{folder}/log", "ab+")
         self.process = subprocess.Popen(
-            [program, "--no-sandbox", "--step", "0", *options], stdin=subprocess.PIPE, stdout=subprocess.PIPE, stderr=self.log, env={**os.environ, **(environment or {})}
+            [program, "--step", "0", *options], stdin=subprocess.PIPE, stdout=subprocess.PIPE, stderr=self.log, pass_fds=files,
+            env={**os.environ, **(environment or {})},
         )
         self.lines = Lines(self.process.stdout, "the host")
 

@@ -11,7 +11,7 @@ import urllib.request
 import pytest
 from conftest import CLIENT, ROOT, bigvasta, eventually
 
-RULES = os.path.join(CLIENT, "prometheus")
+RULES = os.path.join(ROOT, "packaging", "prometheus")
 PAGE, MIB = 4096, 1 << 20
 
 pytestmark = pytest.mark.skipif(not shutil.which("promtool"), reason="promtool isn't there: apt-get install prometheus")
