@@ -9,7 +9,7 @@ import time
 import pytest
 from bigvasta.connection import Connection
 from bigvasta.statuses import Refused
-from conftest import Host, eventually, limit_from_now
+from hosts import Host, eventually, limit_from_now
 
 MIB, PAGE = 1 << 20, 4096
 PAGES = "a whole number of bytes in pages of 4096, up to 17592186036224"

@@ -6,17 +6,16 @@ import signal
 import socket
 import subprocess
 
-import linux_kit
 import pytest
-from conftest import CHECKS, LIMIT, ROOT, eventually, limit_from_now
+from hosts import LIMIT, ROOT, eventually, limit_from_now
 from linux_guest import Lines
 from vhost_client import Client
 
 
-@pytest.fixture(scope="module")
-def backend(tmp_path_factory):
+@pytest.fixture(scope="session")
+def backend(programs):
     """The backend's program, with the compiler's checks."""
-    return linux_kit.build(str(tmp_path_factory.mktemp("backend")), linux_kit.core_of(), "vhost_user_balloon", flags=CHECKS)
+    return programs("vhost_user_balloon")
 
 
 class Running:

@@ -9,7 +9,7 @@ import subprocess
 
 import pytest
 from bigvasta.cli import parser
-from conftest import CLIENT, ROOT, Host, eventually, limit_from_now
+from hosts import CLIENT, ROOT, Host, eventually, limit_from_now
 
 MAN = os.path.join(ROOT, "docs", "man")
 PAGES = ("bigvasta.1", "bigvasta-host.conf.5", "vhost_user_host.1", "vhost_user_balloon.1")

@@ -12,7 +12,7 @@ import time
 
 import pytest
 from bigvasta.connection import Connection
-from conftest import ROOT, Host, bigvasta, eventually, limit_from_now
+from hosts import ROOT, Host, bigvasta, eventually, limit_from_now
 
 SYSTEMD = os.path.join(ROOT, "packaging", "systemd")
 UNITS = ("bigvasta-host.service", "bigvasta-metrics.service")

@@ -6,7 +6,7 @@ import shutil
 import subprocess
 
 import pytest
-from conftest import CLIENT, Host, eventually, limit_from_now
+from hosts import CLIENT, Host, eventually, limit_from_now
 
 PAGE, MIB = 4096, 1 << 20
 
