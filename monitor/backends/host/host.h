@@ -19,6 +19,7 @@ enum {
     MOST_PATH = 108,            /* of a socket's */
     SILENT_AFTER = 3,           /* periods without statistics, and a guest counts as one that doesn't answer */
     PAGES_PER_MIB = 256,
+    LATER_MARK = '+',           /* before a guest's name: the socket where a later lender finds its process */
 };
 
 /* A guest's place on the host, which it may leave and come back to. */

@@ -78,7 +78,7 @@ static bool name_seat(struct seat *seat, const char *name)
     strcpy(seat->name, name);
     seat->speaker.name = seat->name;
     return snprintf(seat->path, sizeof seat->path, "%s/%s", folder, name) < MOST_PATH
-        && snprintf(seat->later_path, sizeof seat->later_path, "%s/.%s", folder, name) < MOST_PATH;
+        && snprintf(seat->later_path, sizeof seat->later_path, "%s/%c%s", folder, LATER_MARK, name) < MOST_PATH;
 }
 
 const char *seat_add(struct host *host, const char *name, const struct guest_terms *terms)

@@ -67,8 +67,20 @@ class Host(Backend):
             except (OSError, Fault) as fault:
                 raise Fault(f"the host doesn't answer {line!r}: {self.why() or fault}") from None
 
+    def why(self):
+        """Returns the last thing that it said on standard error."""
+        self.hear()
+        return super().why()
+
+    def hear(self):
+        """Has it say what guests' processes have told it so far: it answers a line after that."""
+        if self.process.poll() is None and self.lock.acquire(blocking=False):
+            self.lock.release()
+            self.ask("floor")
+
     def why_of(self, name):
         """Returns the last thing that it said of a guest that it refused."""
+        self.hear()
         with open(self.log, encoding="latin-1") as log:
             said = [it.strip() for it in log if it.startswith(f"refused {name}:")]
         return said[-1] if said else "nothing"
