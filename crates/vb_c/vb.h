@@ -2,7 +2,7 @@
  *
  * The library keeps nothing: a device is one plain struct in the caller's memory, which may be copied, and which calls alone write;
  * vb_save makes bytes of it that another version or machine reads. It allocates nothing, touches no guest memory and discards
- * nothing: it reads private copies that the caller makes, and answers what is to be done. Any argument gets an answer or a named
+ * nothing: it answers what is to be done, and reads what the caller has read or copied. Any argument gets an answer or a named
  * refusal, but that a pointer with a length must point to that many elements (or the length is 0), and that one call at a time works
  * on a device.
  *
@@ -33,8 +33,8 @@ enum {                          /* answers: `code` */
     VB_NOT_READY = 3,           /* DRIVER_OK isn't set (vb_start_queue: FEATURES_OK isn't), or FAILED is */
     VB_NEEDS_RESET = 4,         /* a rule was broken before */
     VB_NO_QUEUE = 5,            /* no queue of that kind, or not with the negotiated features */
-    VB_MISPLACED = 6,           /* the queue has no place, or copies don't have its size */
-    VB_BAD_ARGUMENT = 7,        /* too little room, a head that is no descriptor, settings out of range */
+    VB_MISPLACED = 6,           /* the queue has no place */
+    VB_BAD_ARGUMENT = 7,        /* an argument out of range (settings, regions, a page), or too little room */
     VB_SHORT = 8,               /* the guests can't spare enough (`vb_targets`) */
     VB_BAD_LENGTH = 9,          /* of a saved state: more or fewer bytes than it has (`vb_save`: less room) */
     VB_NOT_A_STATE = 10,        /* the bytes don't begin as a saved state does */
@@ -66,8 +66,8 @@ enum { VB_LOOK = 1, VB_EMPTY = 2 };    /* what a write of the status asks for */
 enum { VB_F_PAGE_POISON = 16 };    /* a feature: the driver says in poison_val what its free pages hold (VIRTIO 1.2, 5.5.3) */
 
 typedef struct {
-    uint64_t memory_end;        /* bytes: where guest memory ends, from 8192 on and below 2^44; the last part of a page
-                                   doesn't count. Holes below it are the caller's. */
+    uint64_t memory_end;        /* bytes: where guest memory ends, below 2^44; the last part of a page doesn't
+                                   count. Holes below it are the caller's. */
     uint64_t offered;           /* features: of bits 0, 1, 2, 4 (VB_F_PAGE_POISON), 5 and 32, with bit 32 (VERSION_1) */
     uint32_t reserved_pages;    /* pages at the start that no request may name; none: 0 */
     uint8_t needs_must_tell;    /* unless 0: FEATURES_OK is refused without MUST_TELL_HOST */
@@ -93,10 +93,6 @@ typedef struct { uint64_t address; uint32_t length; uint8_t writable; } VbPiece;
 typedef struct { uint32_t first, count; } VbRun;                  /* pages first .. first + count - 1 */
 typedef struct { uint16_t tag; uint64_t value; } VbStatistic;
 
-typedef struct { uint32_t code, rule, head, pieces, bytes; } VbChain;
-typedef struct { uint32_t code, rule, head, runs, pages, skipped; } VbNamed;
-typedef struct { uint32_t code, rule, count; } VbFigures;
-typedef struct { uint32_t code; uint64_t element_at, index_at; uint32_t id, length; uint16_t index; } VbUsed;
 typedef struct { uint32_t code; uint64_t pages; } VbMarked;
 typedef struct { uint32_t pages, spare; } VbNeed;                 /* a guest's pages, and how many it can spare */
 typedef struct { uint32_t code; uint64_t missing; } VbTargets;
@@ -169,12 +165,7 @@ VB_ASSERT(VB_HAS(Settings, 24) && VB_AT(Settings, offered, 8) && VB_AT(Settings,
           && VB_AT(Device, deflate, 72) && VB_AT(Device, statistics, 104) && VB_AT(Device, report, 136)
           && VB_AT(Device, poison, 168) && VB_AT(Device, status, 172) && VB_HAS(Balloon, 184) && VB_AT(Balloon, held, 176));
 VB_ASSERT(VB_HAS(Piece, 16) && VB_AT(Piece, length, 8) && VB_AT(Piece, writable, 12) && VB_HAS(Run, 8) && VB_AT(Run, count, 4)
-          && VB_HAS(Statistic, 16) && VB_AT(Statistic, value, 8) && VB_HAS(Chain, 20) && VB_AT(Chain, rule, 4)
-          && VB_AT(Chain, head, 8) && VB_AT(Chain, pieces, 12) && VB_AT(Chain, bytes, 16) && VB_HAS(Named, 24)
-          && VB_AT(Named, rule, 4) && VB_AT(Named, head, 8) && VB_AT(Named, runs, 12) && VB_AT(Named, pages, 16)
-          && VB_AT(Named, skipped, 20) && VB_HAS(Figures, 12) && VB_AT(Figures, rule, 4) && VB_AT(Figures, count, 8)
-          && VB_HAS(Used, 40) && VB_AT(Used, element_at, 8) && VB_AT(Used, index_at, 16) && VB_AT(Used, id, 24)
-          && VB_AT(Used, length, 28) && VB_AT(Used, index, 32) && VB_HAS(Marked, 16) && VB_AT(Marked, pages, 8)
+          && VB_HAS(Statistic, 16) && VB_AT(Statistic, value, 8) && VB_HAS(Marked, 16) && VB_AT(Marked, pages, 8)
           && VB_HAS(Need, 8) && VB_AT(Need, spare, 4) && VB_HAS(Targets, 16) && VB_AT(Targets, missing, 8));
 VB_ASSERT(VB_HAS(Region, 24) && VB_AT(Region, length, 8) && VB_AT(Region, in_file, 16) && VB_HAS(Spot, 16)
           && VB_AT(Spot, offset, 8) && VB_HAS(Cut, 32) && VB_AT(Cut, offset, 8) && VB_AT(Cut, in_file, 16)
@@ -214,28 +205,6 @@ uint32_t vb_write_config(VbDevice *device, uint32_t offset, const uint8_t *bytes
 /* 1 where the pages of a report keep what is in them: the driver negotiated PAGE_POISON, and poison_val isn't 0. A notice
  * doesn't ask for such pages to be discarded, since they would read as zeros. Else 0. */
 uint32_t vb_keeps_reports(const VbDevice *device);
-
-/* The chain that stands next on the queue of inflates, deflates or statistics, with its pieces in order.
- * avail: a copy of the available ring, 4 + 2 size bytes: index first, then an acquire fence, then the rest.
- * table: a copy of the 16 size bytes of the table, made after it. Nothing moves; VB_BROKEN sets the status.
- * room at least size. A chain of wrong direction or length is broken here. */
-VbChain vb_next(VbDevice *device, uint32_t kind, const uint8_t *avail, size_t avail_length, const uint8_t *table,
-                size_t table_length, VbPiece *pieces, size_t room);
-/* Takes the chain that stood next on the queue of inflates or deflates: `bytes` is a private copy of all its pieces'
- * bytes in a row, each copied once. The pages it names, as runs: a number that follows the last run or stands right
- * before it joins it. room at least length / 4; a length that vb_next doesn't answer is VB_BAD_ARGUMENT. head is 0. */
-VbNamed vb_name(VbDevice *device, uint32_t kind, const uint8_t *bytes, size_t length, VbRun *runs, size_t room);
-/* Takes the chain that stands next on the queue of reports: its pages are free in the guest. A run for each
- * piece, in order. A piece that isn't whole pages of memory breaks a rule, whatever is skipped else. room at least 32. */
-VbNamed vb_report(VbDevice *device, const uint8_t *avail, size_t avail_length, const uint8_t *table,
-                  size_t table_length, VbRun *runs, size_t room);
-/* Takes the statistics buffer that stood next: what it says, in order, any tags. Keep its head, and vb_use it to ask for
- * new ones. room at least length / 10; a length that vb_next doesn't answer is VB_BAD_ARGUMENT. */
-VbFigures vb_statistics(VbDevice *device, const uint8_t *bytes, size_t length, VbStatistic *figures, size_t room);
-/* Gives a taken chain back: write id and length (little-endian, 8 bytes) at element_at, then a release fence, then index
- * at index_at, then interrupt. An inflate's pages are discarded before. VB_OK, or why not, and then nothing moves: a head
- * that is no descriptor of the queue, which has none without a place, is VB_BAD_ARGUMENT. */
-VbUsed vb_use(VbDevice *device, uint32_t kind, uint32_t head);
 
 /* ---- notices over the memory of a running guest
  *
@@ -292,7 +261,7 @@ uint32_t vb_may_tell(const VbDevice *device);
 
 /* Puts the device into the front of `out`, as VB_STATE_BYTES bytes that vb_restore takes: little-endian numbers of a
  * format with a version, a length and a checksum (docs/INTEGRATION.md has it). `held` is 1 more than the head of the
- * statistics buffer that was taken and waits for its vb_use; 0 where none does. VB_OK; VB_BAD_LENGTH where there is less
+ * statistics buffer that was taken and isn't given back; 0 where none is. VB_OK; VB_BAD_LENGTH where there is less
  * room; VB_IMPOSSIBLE where no calls lead to such a device: a struct that was written to, memory_end set below a queue's
  * place, or a `held` that is no descriptor of the queue. Then nothing is changed. */
 uint32_t vb_save(const VbDevice *device, uint32_t held, uint8_t *out, size_t room);
@@ -304,7 +273,7 @@ uint32_t vb_restore(VbDevice *device, uint32_t *held, const uint8_t *bytes, size
 /* The set of the pages in the balloon, for a monitor that wants to know them: words of its own, where page p is bit
  * p % 64 of word p / 64. Zeros are the empty set, and so it is again once the driver resets the device. */
 
-/* After vb_name answered VB_OK: puts the pages of its runs into the set (VB_INFLATE), or takes them out (VB_DEFLATE).
+/* Once pages are told (VB_TELL_PAGES): puts the pages of the runs into the set (VB_INFLATE), or takes them out (VB_DEFLATE).
  * `pages`: how many that changed; one that is named twice, or was so before, counts no more than once. VB_OK; VB_NO_QUEUE
  * for another kind; VB_BAD_ARGUMENT where a page of any run is past the last word's, and then nothing is changed. */
 VbMarked vb_mark(uint32_t kind, const VbRun *runs, size_t count, uint64_t *set, size_t words);

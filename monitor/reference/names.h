@@ -11,11 +11,6 @@
 #define vb_read_config reference_read_config
 #define vb_write_config reference_write_config
 #define vb_keeps_reports reference_keeps_reports
-#define vb_next reference_next
-#define vb_name reference_name
-#define vb_report reference_report
-#define vb_statistics reference_statistics
-#define vb_use reference_use
 #define vb_mark reference_mark
 #define vb_is_ballooned reference_is_ballooned
 #define vb_large_pages reference_large_pages

@@ -131,7 +131,7 @@ static uint32_t after_entry(const Call *call, uint16_t head)
 }
 
 static uint32_t serve_bytes(const Call *call);
-static uint32_t tell_pages(const Call *call, const VbNamed *named);
+static uint32_t tell_pages(const Call *call, const Named *named);
 
 /* Asks for the next part of the pieces, each within a page; `number` is the piece, `flag` says that its first part is
  * copied, `from` how many bytes are. */
@@ -169,7 +169,7 @@ static uint32_t after_part(const Call *call)
 static uint32_t serve_report(const Call *call)
 {
     VbDevice *device = &call->balloon->device;
-    VbNamed named = { .code = VB_OK };
+    Named named = { .code = VB_OK };
     uint32_t count = call->notice->count, rule = report_rule(device, call->room->pieces, count);
     if (rule)
         return fail(call, rule);

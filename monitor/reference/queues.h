@@ -75,11 +75,3 @@ static uint32_t refusal(const VbDevice *device, uint32_t kind, const VbQueue *qu
 {
     return refusal_at(device, DRIVER_OK, kind, queue);
 }
-
-static uint32_t ring_refusal(const VbDevice *device, uint32_t kind, const VbQueue *queue, size_t avail, size_t table)
-{
-    uint32_t code = refusal(device, kind, queue);
-    if (code == VB_OK && (avail != RING_HEADER_SIZE + (size_t)AVAIL_ENTRY_SIZE * queue->size || table != (size_t)DESCRIPTOR_SIZE * queue->size))
-        return VB_MISPLACED;
-    return code;
-}

@@ -5,15 +5,15 @@
 static uint32_t give_back(const Call *call)
 {
     VbNotice *notice = call->notice;
-    VbUsed used = vb_use(&call->balloon->device, notice->kind, notice->head);
+    Used used = use(&call->balloon->device, notice->kind, call->queue, notice->head);
     if (used.code != VB_OK)
         return end(call, used.code);
     if (!find_spot(call, used.element_at, USED_FIELD_SIZE, &notice->id_at)
         || !find_spot(call, used.element_at + USED_LENGTH_AT, USED_FIELD_SIZE, &notice->length_at)
         || !find_spot(call, used.index_at, RING_WORD_SIZE, &notice->index_at))
         return fail(call, OUT_OF_RAM);
-    notice->id = used.id;
-    notice->used_length = used.length;
+    notice->id = notice->head;
+    notice->used_length = 0;
     notice->used_index = used.index;
     return wait_for(call, AT_GIVEN, VB_GIVE_BACK);
 }
@@ -64,7 +64,7 @@ static uint32_t ask_cut(const Call *call)
     return wait_for(call, AT_CUT, VB_DISCARD);
 }
 
-static uint32_t tell_pages(const Call *call, const VbNamed *named)
+static uint32_t tell_pages(const Call *call, const Named *named)
 {
     VbNotice *notice = call->notice;
     if (named->code != VB_OK) {
@@ -86,13 +86,13 @@ static uint32_t serve_bytes(const Call *call)
     VbDevice *device = &call->balloon->device;
     size_t length = notice->from;
     if (notice->kind != VB_STATISTICS) {
-        VbNamed named = vb_name(device, notice->kind, call->room->bytes, length, call->room->runs, VB_MAX_RUNS);
+        Named named = name(device, notice->kind, call->room->bytes, length, call->room->runs);
         return tell_pages(call, &named);
     }
-    VbFigures said = vb_statistics(device, call->room->bytes, length, call->room->figures, VB_MAX_FIGURES);
-    if (said.code != VB_OK)
-        return end(call, said.code);
-    notice->figures = said.count;
+    uint32_t count = 0, code = tell_figures(device, call->room->bytes, length, call->room->figures, &count);
+    if (code != VB_OK)
+        return end(call, code);
+    notice->figures = count;
     notice->taken = 1;
     call->balloon->held = 1 + notice->head;
     return wait_for(call, AT_FIGURES, VB_TELL_FIGURES);

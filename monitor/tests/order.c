@@ -64,7 +64,7 @@ static void put_descriptor(uint64_t number, uint64_t address, uint64_t length, u
     put_bytes(table + 16 * number + 14, next, 2);
 }
 
-/* A chain of two pieces, one behind the other; 20 bytes, or a page and a page. */
+/* A chain of two pieces, one after the other; 20 bytes, or a page and a page. */
 static void offer(uint32_t kind)
 {
     const bool report = kind == VB_REPORT;
@@ -111,7 +111,7 @@ enum { READS = false, WRITES = true };
 #define ENTERED_AT(entry) { FENCE, __ATOMIC_ACQUIRE, READS }, { ENTRY, entry, READS }
 #define ENTERED { INDEX, 0, READS }, ENTERED_AT(0)
 #define COPIED(number) { DESCRIPTOR, number, READS }
-/* The first descriptor alone, then the one that it names with all behind it. */
+/* The first descriptor alone, then the one that it names with all after it. */
 #define NEXT_TAKEN(entry) ENTERED_AT(entry), COPIED(3), COPIED(6), COPIED(7)
 #define TAKEN { INDEX, 0, READS }, NEXT_TAKEN(0)
 #define GIVEN_AT(number) { ELEMENT, 2 * (number), WRITES }, { ELEMENT, 2 * (number) + 1, WRITES }, \
@@ -192,7 +192,7 @@ static void publish_third(void *context, uint32_t kind, const VbRun *runs, uint3
         memory[AVAIL + 2] = 3;
 }
 
-/* The index is read once: two chains that stand there are served, and the third by the next kick. */
+/* The index is read once: two chains that are there are served, and the third by the next kick. */
 static void the_index_is_read_once(void)
 {
     begin(VB_DEFLATE, 1);
@@ -212,7 +212,7 @@ static void the_index_is_read_once(void)
         { INDEX, 0, READS }, NEXT_TAKEN(2), { BYTES, 0, READS }, { TOLD, VB_DEFLATE, READS }, GIVEN_AT(2), ASKED });
 }
 
-/* Descriptors in a row: the first alone, then the others at once, with what stands behind them in the table. */
+/* Descriptors in a row: the first alone, then the others at once, with what comes after them in the table. */
 static void a_chain_in_a_row_is_copied_at_once(void)
 {
     begin(VB_REPORT, 1);
@@ -223,7 +223,7 @@ static void a_chain_in_a_row_is_copied_at_once(void)
         { DISCARD, NAMED + 1, WRITES }, { DISCARD, NAMED + 2, WRITES }, GIVEN, ASKED });
 }
 
-/* 6 is in the row from 2 on, and 1 isn't: it is copied, with all behind it once more. */
+/* 6 is in the row from 2 on, and 1 isn't: it is copied, with all after it once more. */
 static void a_jump_out_of_a_row_is_copied_again(void)
 {
     begin(VB_REPORT, 1);

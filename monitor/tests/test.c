@@ -6,8 +6,6 @@
 _Static_assert(sizeof(VbSettings) == 24 && sizeof(VbQueue) == 32 && sizeof(VbDevice) == 176, "a device's state");
 _Static_assert(sizeof(VbQueueStart) == 32, "where a queue starts");
 _Static_assert(sizeof(VbPiece) == 16 && sizeof(VbRun) == 8 && sizeof(VbStatistic) == 16, "lists");
-_Static_assert(sizeof(VbChain) == 20 && sizeof(VbNamed) == 24 && sizeof(VbFigures) == 12, "answers");
-_Static_assert(sizeof(VbUsed) == 40, "what is written");
 _Static_assert(sizeof(VbMarked) == 16, "what is marked");
 
 int main(void)

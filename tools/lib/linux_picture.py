@@ -47,7 +47,7 @@ def draw_memory(axes, samples):
 
 
 def draw_steps(library, axes, rows):
-    """Draws a thin line where each step ends, and says above it which one that was; one that ends at once stands beside."""
+    """Draws a thin line where each step ends, and says above it which one that was; one that ends at once is written beside it."""
     down = axes.get_xaxis_transform()
     above = library.transforms.offset_copy(down, axes.figure, y=12, units="points")
     axes.vlines([point.seconds for _, point in rows], 0, 1, color="#777777", linewidth=0.5, transform=down)
@@ -71,7 +71,7 @@ def explain(library, axes):
 
 
 def draw(library, path, memory, samples, rows):
-    """Draws the picture of a guest of so many MiB, and saves it as what its name says."""
+    """Draws the picture of a guest of `memory` MiB, and saves it as what its name says."""
     if not samples:
         raise Fault("the run is too short for a picture")
     figure = library.figure.Figure(figsize=(10, 4.6))

@@ -1,12 +1,11 @@
 -- What calls leave of a device that has something in each field: just so, and with no field changed that
 -- isn't theirs. A definition that lets another field change, or the answer, is refused here.
 use Rattle.std.proofs.Common.{◌≡◌, refl, ap, arith, ℕ}
-use Rattle.vb_core.specs.declared.kinds.Kind.TheVariants.{Inflate, Statistics}
-use Rattle.vb_core.specs.declared.device.Denial.TheVariants.{BadArgument}
+use Rattle.vb_core.specs.declared.kinds.Kind.TheVariants.{Statistics}
 use Rattle.vb_core.specs.{declared.device.Device.Device, Devices.{new_device, placed}}
 use Rattle.vb_monitor.{specs.declared.balloon.Balloon.Balloon, specs.Places.Lies}
-use Rattle.vb_c.specs.{Chains.Uses, Registers.{Negotiates, WritesStatus, Places}}
-use Rattle.vb_c.specs.{Places.{MapsAnew, PlacesOver}, declared.answers.VbUsed.VbUsed}
+use Rattle.vb_c.specs.Registers.{Negotiates, WritesStatus, Places}
+use Rattle.vb_c.specs.Places.{MapsAnew, PlacesOver}
 use Rattle.vb_c.proofs.Samples.{Same, settings, two, first_alone}
 
 -- no field of it is as a device has it that was just made
@@ -29,20 +28,6 @@ driving = record full { status = 3 }
 
 abbrev target_of : Device → ℕ
 target_of d = d.target
-
--- ---- a refused use: its whole answer, and the device
-
-not_used : (d : Device) (u : VbUsed) → Uses Inflate 16 (record full { status = 15 }) d u →
-    (u ≡ record { code = 7; element_at = 0; index_at = 0; id = 0; length = 0; index = 0 })
-    × (d ≡ record full { status = 15 })
-unfolding lib.Count.ones
-not_used d u h = h.denied BadArgument refl
-
-element_although_refused : (d : Device) → Uses Inflate 16 (record full { status = 15 }) d
-    (record { code = 7; element_at = 0x1904; index_at = 0; id = 0; length = 0; index = 0 }) → ⊥
-unfolding lib.Count.ones
-element_although_refused d h =
-    let e : Same 0x1904 0 = ap (λ (u : VbUsed). u.element_at) (h.denied BadArgument refl).0 in omega arith
 
 -- ---- features
 

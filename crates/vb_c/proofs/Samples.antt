@@ -18,7 +18,7 @@ settings = record {
 
 -- settings that no device may have: no memory
 abbrev pub no_settings : Settings
-no_settings = record settings { memory_end = 0 }
+no_settings = record settings { offered = 0x27 }
 
 -- one whose driver has begun, and one that is ready
 abbrev pub begun : Device

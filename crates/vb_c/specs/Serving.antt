@@ -5,7 +5,7 @@ use Rattle.vb_core.specs.declared.kinds.Kind.{Kind}
 use Rattle.vb_core.specs.declared.kinds.Kind.TheVariants.{Statistics}
 use Rattle.vb_core.specs.declared.device.Device.{Device}
 use Rattle.vb_core.specs.declared.device.Denial.TheVariants.{BadArgument, NoQueue}
-use Rattle.vb_core.specs.declared.next.ChainPiece.{ChainPiece}
+use Rattle.vb_core.specs.declared.pieces.ChainPiece.{ChainPiece}
 use Rattle.vb_core.specs.declared.runs.Run.{Run}
 use Rattle.vb_core.specs.declared.statistics.Statistic.{Statistic}
 use Rattle.vb_monitor.specs.declared.regions.Region.{Region}

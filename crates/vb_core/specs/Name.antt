@@ -10,11 +10,16 @@ use Rattle.vb_core.specs.declared.kinds.Kind.TheVariants.{Inflate, Deflate, Stat
 use Rattle.vb_core.specs.declared.runs.Run.{Run}
 use Rattle.vb_core.specs.declared.name.Named.{Named}
 use Rattle.vb_core.specs.declared.device.Denial.{Denial}
+use Rattle.vb_core.specs.declared.device.Denial.TheVariants.{Broken}
 use Rattle.vb_core.specs.declared.device.Device.{Device}
 use Rattle.vb_core.specs.Settings.{memory_pages, skips}
 use Rattle.vb_core.specs.Runs.{Tell}
 use Rattle.vb_core.specs.Devices.{needing_reset, with_one_taken, call_denial}
-use Rattle.vb_core.specs.Next.{told}
+
+-- A fault as the device tells it.
+abbrev pub told : {T : Type 0} → Result T ChainFault → Result T Denial
+told (Err fault) = Err (Broken fault)
+told (Ok x) = Ok x
 
 -- The kind's chains are requests, which name pages by numbers.
 abbrev pub is_request : Kind → Bool
@@ -50,7 +55,7 @@ pub record NamesRuns (skipping : Bool) (reserved count : ℕ) (ns : List ℕ) (r
 -- What a request is refused for, with so much room and so many bytes.
 abbrev pub name_denial : Kind → ℕ → ℕ → Device → Option Denial
 name_denial kind len room d =
-    call_denial kind (is_request kind) (is_request_length len && nat_le (len / 4) room) true d
+    call_denial kind (is_request kind) (is_request_length len && nat_le (len / 4) room) d
 
 -- The device after a request: taken, or broken.
 abbrev pub after_request : Kind → Result Named ChainFault → Device → Device

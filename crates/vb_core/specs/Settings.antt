@@ -1,11 +1,11 @@
 -- What a monitor settles for a device.
-use Rattle.std.specs.Prelude.{ℕ, ◌/◌, Bool, not, ◌==◌, ◌&&◌, nat_le, nat_lt, bit_and, bit_or}
+use Rattle.std.specs.Prelude.{ℕ, ◌/◌, Bool, not, ◌==◌, ◌&&◌, nat_lt, bit_and, bit_or}
 use Rattle.vb_virtio.specs.declared.negotiation.TheConstants.{OFFERED_FEATURES}
 use Rattle.vb_virtio.specs.Limits.{page_size}
 use Rattle.vb_virtio.specs.Features.{version_1}
 use Rattle.vb_virtio.specs.Status.{contains}
 use Rattle.vb_core.specs.declared.settings.Settings.{Settings}
-use Rattle.vb_core.specs.declared.settings.TheConstants.{MEMORY_LIMIT, LEAST_MEMORY, PAGE_POISON}
+use Rattle.vb_core.specs.declared.settings.TheConstants.{MEMORY_LIMIT, PAGE_POISON}
 
 -- The features that a device may offer: those of the definitions, and PAGE_POISON (VIRTIO 1.2,
 -- 5.5.3).
@@ -22,8 +22,7 @@ without_poison features = bit_and features 0xffffffffffffffef
 -- Settings that a device may have.
 abbrev pub are_settings : Settings → Bool
 are_settings s =
-    nat_le LEAST_MEMORY s.memory_end
-    && nat_lt s.memory_end MEMORY_LIMIT
+    nat_lt s.memory_end MEMORY_LIMIT
     && contains known_features s.offered
     && version_1 s.offered
 

@@ -24,4 +24,4 @@ AreFigures bytes figures =
 abbrev pub statistics_denial : ℕ → ℕ → Device → Option Denial
 statistics_denial len room d =
     call_denial Statistics true
-    (is_statistics_length len && nat_le (len / STATISTIC_SIZE) room) true d
+    (is_statistics_length len && nat_le (len / STATISTIC_SIZE) room) d

@@ -1,6 +1,6 @@
-//! The pages that a request names, in a private copy of its bytes.
+//! The pages that a request names, by its bytes.
 
-ghost use Rattle.std.specs.Prelude.{◌≡◌, ◌≤◌, ◌<◌, ◌/◌, ◌^◌, length};
+ghost use Rattle.std.specs.Prelude.{◌≡◌, ◌≤◌, ◌<◌, ◌/◌, length};
 ghost use Rattle.vb_virtio.specs.declared.layout.TheConstants.{REQUEST_BUFFER_SIZE};
 ghost use Rattle.vb_request.specs.Request.{numbers_of, number_fault};
 ghost use Rattle.vb_core.specs.Name.{is_request, NamesRuns, NamesBy};
@@ -104,7 +104,7 @@ impl Device {
         ensures { NamesBy kind bytes.now (length runs.old) runs.new self.old self.new result }
     {
         let fits = is_request_length(bytes.len() as u64) && runs.len() >= bytes.len() / 4;
-        if let Some(why) = self.call_denial(kind, kind.is_request(), fits, true) {
+        if let Some(why) = self.call_denial(kind, kind.is_request(), fits) {
             return Err(why);
         }
         let limits = Limits {

@@ -1,6 +1,6 @@
 //! What a monitor settles for a device.
 
-ghost use Rattle.std.specs.Prelude.{◌≡◌, ◌<◌, ◌≤◌, ◌^◌, ◌==◌, not, true};
+ghost use Rattle.std.specs.Prelude.{◌≡◌, ◌<◌, ◌^◌, ◌==◌, true};
 ghost use Rattle.vb_core.specs.Settings.{are_settings, memory_pages, needs_must_tell, skips};
 ghost use Rattle.vb_core.specs.Settings.{page_poison, without_poison};
 
@@ -11,9 +11,6 @@ use vb_virtio::negotiation::OFFERED_FEATURES;
 
 /// Guest memory ends before this address, so that 32 bits number its pages.
 pub const MEMORY_LIMIT: u64 = 1 << 44;
-
-/// Guest memory ends at this address at least: it has two pages.
-pub const LEAST_MEMORY: u64 = 8192;
 
 /// The feature PAGE_POISON: the driver says in `poison_val` what its free pages hold (VIRTIO 1.2,
 /// 5.5.3).
@@ -59,19 +56,15 @@ pub struct Settings {
 }
 
 impl Settings {
-    /// Whether a device may have these settings: memory ends from 8192 on and below 2^44, and each
-    /// feature that is offered is known, VERSION_1 among them.
+    /// Whether a device may have these settings: memory ends below 2^44, and each feature that is
+    /// offered is known, VERSION_1 among them.
     pub fn are_possible(&self) -> bool
         ensures value { result ≡ are_settings self.now }
-        ensures bounds { result ≡ true →
-            (2 ≤ memory_pages self.now) × (memory_pages self.now < 2 ^ 32) }
+        ensures bounds { result ≡ true → memory_pages self.now < 2 ^ 32 }
     {
         let offered = Features::from_bits_retain(self.offered);
         let known = Features::from_bits_retain(KNOWN);
-        self.memory_end >= LEAST_MEMORY
-            && self.memory_end < MEMORY_LIMIT
-            && known.contains(offered)
-            && offered.version_1()
+        self.memory_end < MEMORY_LIMIT && known.contains(offered) && offered.version_1()
     }
 
     /// How many pages of 4096 bytes memory has.

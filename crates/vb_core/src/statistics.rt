@@ -51,7 +51,7 @@ impl Device {
     {
         let count = bytes.len() / 10;
         let fits = is_statistics_length(bytes.len() as u64) && figures.len() >= count;
-        if let Some(why) = self.call_denial(Kind::Statistics, true, fits, true) {
+        if let Some(why) = self.call_denial(Kind::Statistics, true, fits) {
             return Err(why);
         }
         put_figures(bytes, figures);

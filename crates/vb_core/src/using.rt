@@ -58,7 +58,7 @@ impl Device {
             (self.new ≡ with_ring kind (with_used (ring_of kind self.old)) self.old) }
     {
         let fits = head < u32::from(self.ring(kind).size);
-        if let Some(why) = self.call_denial(kind, true, fits, true) {
+        if let Some(why) = self.call_denial(kind, true, fits) {
             return Err(why);
         }
         let entry = self.used_entry(kind, head);

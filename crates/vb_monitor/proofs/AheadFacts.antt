@@ -4,10 +4,10 @@ use Rattle.vb_chain.specs.declared.fault.ChainFault.{ChainFault}
 use Rattle.vb_chain.specs.declared.fault.ChainFault.TheVariants.{BadHead, OutOfRam, TooLong, WrongDirection}
 use Rattle.vb_core.specs.declared.kinds.Kind.{Kind}
 use Rattle.vb_core.specs.declared.kinds.Kind.TheVariants.{Inflate, Statistics}
-use Rattle.vb_core.specs.declared.{next.ChainPiece.ChainPiece}
+use Rattle.vb_core.specs.declared.{pieces.ChainPiece.ChainPiece}
 use Rattle.vb_core.specs.declared.device.{Denial.Denial, Device.Device}
 use Rattle.vb_core.specs.declared.device.Denial.TheVariants.{Broken, BadArgument}
-use Rattle.vb_core.specs.{Next.pieces_in}
+use Rattle.vb_core.specs.{Pieces.pieces_in}
 use Rattle.vb_monitor.specs.declared.outcome.{Tally.Tally, Outcome.Outcome}
 use Rattle.vb_monitor.specs.declared.step.{Walk.Walk, Place.Place}
 use Rattle.vb_monitor.specs.declared.step.Phase.TheVariants.{AwaitsIndex, AwaitsEntry, AwaitsDescriptor, AwaitsPart}

@@ -103,8 +103,8 @@ there : map (is_memory two) (0 ∷ 0x14fff ∷ 0x15000 ∷ 0x15fff ∷ 0x16000 �
     ≡ true ∷ true ∷ false ∷ false ∷ true ∷ true ∷ false ∷ []
 there = refl
 
--- where the settings end counts no longer; no region, or a part of a page, is none's
+-- where the settings end counts no longer; memory may be empty, and no part of a page is a region
 may_be : may_be_memory settings two ∷ may_be_memory (record settings { memory_end = 0 }) (low ∷ [])
     ∷ may_be_memory settings [] ∷ may_be_memory settings (low ∷ record low { length = 0x800 } ∷ [])
-    ∷ may_be_memory (record settings { offered = 0x27 }) two ∷ [] ≡ true ∷ true ∷ false ∷ false ∷ false ∷ []
+    ∷ may_be_memory (record settings { offered = 0x27 }) two ∷ [] ≡ true ∷ true ∷ true ∷ false ∷ false ∷ []
 may_be = refl

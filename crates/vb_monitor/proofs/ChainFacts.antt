@@ -10,7 +10,7 @@ use Rattle.vb_monitor.specs.declared.outcome.Outcome.{Outcome}
 use Rattle.vb_monitor.specs.Accesses.{Access, ReadWord, CopyBytes, Full}
 use Rattle.vb_monitor.specs.Ends.{Whole, wants_interrupt, Ends, Breaks}
 use Rattle.vb_monitor.specs.Pieces.{parts_of, all_parts, CopiesParts, PartBy, fits_behind}
-use Rattle.vb_core.specs.Next.{pieces_in}
+use Rattle.vb_core.specs.Pieces.{pieces_in}
 use Rattle.vb_monitor.specs.Giving.{Then}
 use Rattle.vb_monitor.specs.Chains.{descriptor_of, memory_end, descriptors, table_fault, GoesOn, no_row, Follows, ServesPieces, with_held}
 use Rattle.vb_monitor.proofs.Samples.{flags_are_read, Same, two, at, ring, ready, tally, piece, first_descriptor, last_descriptor, with_two, number, descriptor, part, discard, flags}

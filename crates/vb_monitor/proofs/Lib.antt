@@ -65,7 +65,6 @@ mod UsualFacts
 mod ServedFacts
 pub mod RoomLemmas
 pub mod ServedLemmas
-pub mod StillBytes
 pub mod StillWalk
 pub mod StillParts
 pub mod StillFound
@@ -74,3 +73,4 @@ pub mod StillLaws
 pub mod StillReports
 mod StillReadFacts
 mod StillFacts
+mod StillNextFacts

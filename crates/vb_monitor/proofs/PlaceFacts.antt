@@ -73,7 +73,7 @@ ends_as_said : balloon_over (record settings { memory_end = 0x8000 }) (low ∷ [
     Some (record { device = new_device (record settings { memory_end = 0x8000 }); held = 0 })
 ends_as_said = refl
 
-no_regions : balloon_over settings [] ≡ None
+no_regions : balloon_over settings [] ≡ Some (record { device = new_device settings; held = 0 })
 no_regions = refl
 
 no_page_and_a_half : may_be_memory settings (record low { length = 0x1800 } ∷ []) ≡ false

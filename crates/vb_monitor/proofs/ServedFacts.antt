@@ -1,8 +1,8 @@
 -- Worked facts of what is done at once of a chain whose pages were named.
-use Rattle.vb_core.specs.Next.{pieces_in}
+use Rattle.vb_core.specs.Pieces.{pieces_in}
 use Rattle.std.proofs.Common.{◌≡◌, refl, ℕ, Bool, true, false, [], ◌∷◌, map, Option, Some, None}
 use Rattle.vb_core.specs.declared.kinds.Kind.TheVariants.{Inflate, Deflate, Statistics, Report}
-use Rattle.vb_core.specs.declared.{next.ChainPiece.ChainPiece, ring.Virtqueue.Virtqueue}
+use Rattle.vb_core.specs.declared.{pieces.ChainPiece.ChainPiece, ring.Virtqueue.Virtqueue}
 use Rattle.vb_core.specs.{declared.kinds.Kind.Kind, Devices.with_ring}
 use Rattle.vb_monitor.specs.declared.usual.NextWord.{NextWord, TheVariants.{Entry, Flags}}
 use Rattle.vb_monitor.{specs.declared.step.Place.Place}

@@ -11,7 +11,7 @@ use Rattle.vb_core.specs.declared.{kinds.Kind.Kind, device.Device.Device, device
 use Rattle.vb_core.specs.{declared.runs.Run.Run, declared.name.Named.Named, Rings.{used_entry, with_used}}
 use Rattle.vb_core.specs.declared.ring.UsedEntry.{UsedEntry}
 use Rattle.vb_core.specs.Devices.{ring_of, call_denial, queue_denial}
-use Rattle.vb_core.specs.{Name.{is_request, NamesBy, name_denial, after_request}, Next.told}
+use Rattle.vb_core.specs.Name.{is_request, NamesBy, name_denial, after_request, told}
 use Rattle.vb_core.specs.Using.{use_denial}
 use Rattle.vb_monitor.specs.declared.{regions.{Region.Region, Spot.Spot}, giving.UsedSpots.UsedSpots}
 use Rattle.vb_monitor.specs.{Regions.{holds, spot_from, cuts_from, cuts_of}, declared.cuts.Cut.Cut}
@@ -30,7 +30,7 @@ use Rattle.vb_monitor.proofs.{NextLemmas.copies_none, RoomLemmas.few_named}
 -- ---- a queue that is served stays so
 
 opened : (kind : Kind) (known fits : Bool) (d : Device) →
-    call_denial kind known fits true d ≡ None → queue_denial kind d ≡ None
+    call_denial kind known fits d ≡ None → queue_denial kind d ≡ None
 opened kind true true d e = e
 opened kind false fits d e = absurd cc
 opened kind true false d e = absurd cc
@@ -53,7 +53,7 @@ may_use : (kind : Kind) (head : ℕ) (d : Device) → head < (ring_of kind d).si
     queue_denial kind d ≡ None → use_denial kind head d ≡ None
 may_use kind head d lt e =
     let fits : nat_lt head (ring_of kind d).size ≡ true = grind (arith, nat_tests) in
-    ap (λ (b : Bool). call_denial kind true b true d) fits ∙ e
+    ap (λ (b : Bool). call_denial kind true b d) fits ∙ e
 
 -- the used index says nothing of what is read next
 same_word : (o : Result Bool ChainFault) (rs : List Region) (t : Tally) (r : Virtqueue) →

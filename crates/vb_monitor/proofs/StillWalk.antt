@@ -14,13 +14,9 @@ use Rattle.vb_monitor.specs.{Accesses.{Access, CopyBytes}, Ends.{Whole, Breaks},
 use Rattle.vb_monitor.specs.Chains.{descriptor_of, descriptors, memory_end, table_fault, Follows}
 use Rattle.vb_monitor.specs.Chains.{TableRow, row_of, no_row, in_row, unless_apart, so_many_behind}
 use Rattle.vb_monitor.specs.Chains.{DescriptorBy, GoesOn, AfterDescriptor, RowAt, FollowsBy}
-use Rattle.vb_monitor.{proofs.TableRowLemmas.{first_in_row, in_row_is, none_in_none}}
-use Rattle.vb_monitor.specs.Still.{bytes_from, Holds}
+use Rattle.vb_monitor.proofs.TableRowLemmas.{first_in_row, in_row_is, none_in_none}
+use Rattle.vb_monitor.specs.Still.{bytes_from, Holds, in_memory}
 use Rattle.vb_monitor.specs.Still.{StaysUntil}
-
--- the descriptors that memory has from an address on
-abbrev pub in_memory : (ℕ → ℕ) → ℕ → ℕ → Descriptor
-in_memory byte table i = descriptor_of (bytes_from byte (table + 16 * i) 16)
 
 -- the whole chain is served, behind what was read
 pub record IsWhole (still : List Access → Type 0) (whole : List Piece → List Access →

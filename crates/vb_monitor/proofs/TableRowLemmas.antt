@@ -7,8 +7,8 @@ use Rattle.std.proofs.lemmas.{Bool.Decides.nat_tests, List.take-take}
 use Rattle.vb_chain.specs.Rules.{has_next, is_writable, piece_of, first_fault}
 use Rattle.vb_chain.specs.declared.{pieces.Piece.Piece, fault.ChainFault.{ChainFault, TheVariants.TooLong}}
 use Rattle.vb_chain.specs.declared.descriptor.Descriptor.{Descriptor}
-use Rattle.vb_core.{specs.Next.pieces_in, specs.Devices.ring_of, proofs.PieceLemmas.{none_in, length_in}}
-use Rattle.vb_core.specs.declared.next.ChainPiece.{ChainPiece}
+use Rattle.vb_core.{specs.Pieces.pieces_in, specs.Devices.ring_of, proofs.PieceLemmas.{none_in, length_in}}
+use Rattle.vb_core.specs.declared.pieces.ChainPiece.{ChainPiece}
 use Rattle.vb_core.specs.declared.{device.Device.Device}
 use Rattle.vb_monitor.specs.declared.{regions.Spot.Spot, outcome.Tally.Tally}
 use Rattle.vb_monitor.specs.{Accesses.Access, Ends.{Whole, Breaks}, Regions.spot}

@@ -3,7 +3,7 @@ use Rattle.std.specs.Prelude.{ℕ, Bool, true, false, not, ◌&&◌, ◌==◌, n
 use Rattle.std.specs.Prelude.{length, take, Option, Some, None, is_some, if◌then◌else◌}
 use Rattle.vb_core.specs.declared.kinds.Kind.{Kind}
 use Rattle.vb_core.specs.declared.kinds.Kind.TheVariants.{Inflate, Deflate, Statistics, Report}
-use Rattle.vb_core.specs.declared.next.ChainPiece.{ChainPiece}
+use Rattle.vb_core.specs.declared.pieces.ChainPiece.{ChainPiece}
 use Rattle.vb_core.specs.declared.device.Device.{Device}
 use Rattle.vb_core.specs.declared.ring.UsedEntry.{UsedEntry}
 use Rattle.vb_core.specs.declared.runs.Run.{Run}
@@ -17,7 +17,7 @@ use Rattle.vb_monitor.specs.declared.parts.Part.{Part}
 use Rattle.vb_monitor.specs.Regions.{holds, cuts_of}
 use Rattle.vb_monitor.specs.Giving.{used_spots, with_given}
 use Rattle.vb_monitor.specs.Usual.{word_place}
-use Rattle.vb_core.specs.Next.{pieces_in}
+use Rattle.vb_core.specs.Pieces.{pieces_in}
 use Rattle.vb_monitor.specs.Machine.{behind_part}
 
 abbrev pub none_left : List Part → Bool

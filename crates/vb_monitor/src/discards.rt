@@ -1,7 +1,7 @@
 //! The discards of a chain's runs, part by part.
 
 ghost use Rattle.std.specs.Prelude.{◌≡◌, ◌≤◌, ℕ, true, false, List, [], take, drop};
-ghost use Rattle.vb_core.specs.declared.next.ChainPiece.{ChainPiece};
+ghost use Rattle.vb_core.specs.declared.pieces.ChainPiece.{ChainPiece};
 ghost use Rattle.vb_core.specs.declared.runs.Run.{Run};
 ghost use Rattle.vb_core.specs.declared.statistics.Statistic.{Statistic};
 ghost use Rattle.vb_core.specs.declared.device.Device.{Device};

@@ -2,7 +2,7 @@
 
 ghost use Rattle.std.specs.Prelude.{◌≡◌, ◌≤◌, ℕ, List, length, take};
 ghost use Rattle.vb_virtio.specs.declared.limits.TheConstants.{MAX_QUEUE_SIZE};
-ghost use Rattle.vb_core.specs.declared.next.ChainPiece.{ChainPiece};
+ghost use Rattle.vb_core.specs.declared.pieces.ChainPiece.{ChainPiece};
 ghost use Rattle.vb_core.specs.declared.runs.Run.{Run};
 ghost use Rattle.vb_core.specs.declared.statistics.Statistic.{Statistic};
 ghost use Rattle.vb_core.specs.declared.device.Device.{Device};
@@ -12,7 +12,7 @@ ghost use Rattle.vb_core.specs.Statistics.{statistics_denial};
 ghost use Rattle.vb_monitor.specs.declared.room.TheConstants.{MAX_FIGURES};
 ghost use Rattle.vb_monitor.specs.declared.step.Phase.TheVariants.{TellsPages};
 ghost use Rattle.vb_monitor.specs.Giving.{spent};
-ghost use Rattle.vb_core.specs.Next.{pieces_in};
+ghost use Rattle.vb_core.specs.Pieces.{pieces_in};
 ghost use Rattle.vb_monitor.specs.Chains.{NamesBytes, NamesReport, FiguresBy, CopiesBy};
 ghost use Rattle.vb_monitor.specs.Machine.{Fits, Ahead, whole, room_of, next_chain, serves, served};
 ghost use Rattle.vb_monitor.specs.Left.{left, of_chains, once_named, once_whole};

@@ -2,7 +2,7 @@
 
 ghost use Rattle.std.specs.Prelude.{◌≡◌, ◌∷◌, [], false, drop, MatchOption};
 ghost use Rattle.vb_monitor.specs.Pieces.{first_part, second_part, all_parts};
-ghost use Rattle.vb_core.specs.Next.{piece_in, pieces_in};
+ghost use Rattle.vb_core.specs.Pieces.{piece_in, pieces_in};
 ghost use Rattle.vb_monitor.specs.Machine.{behind_part};
 ghost use Rattle.std.specs.Prelude.{◌≤◌, ◌<◌, IfSome, length};
 

@@ -8,7 +8,7 @@ ghost use Rattle.vb_virtio.specs.declared.limits.TheConstants.{MAX_QUEUE_SIZE, M
 ghost use Rattle.vb_request.specs.Request.{request_length, total_length};
 ghost use Rattle.vb_request.specs.Statistics.{statistics_length};
 ghost use Rattle.vb_core.specs.Report.{NamesPiecesBy};
-ghost use Rattle.vb_core.specs.Next.{piece_in, pieces_in};
+ghost use Rattle.vb_core.specs.Pieces.{piece_in, pieces_in};
 
 use crate::room::{MAX_PIECES, MAX_RUNS};
 use vb_chain::{ChainFault, Descriptor};

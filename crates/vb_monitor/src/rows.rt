@@ -6,7 +6,7 @@ ghost use Rattle.vb_chain.specs.Rules.{is_writable};
 ghost use Rattle.vb_chain.specs.declared.descriptor.TheConstants.{DESCRIPTOR_SIZE};
 ghost use Rattle.vb_core.specs.declared.device.Device.{Device};
 ghost use Rattle.vb_core.specs.Devices.{ring_of};
-ghost use Rattle.vb_core.specs.Next.{pieces_in};
+ghost use Rattle.vb_core.specs.Pieces.{pieces_in};
 ghost use Rattle.vb_virtio.specs.declared.limits.TheConstants.{MAX_QUEUE_SIZE};
 ghost use Rattle.vb_monitor.specs.declared.outcome.Tally.{Tally};
 ghost use Rattle.vb_monitor.specs.Accesses.{Access};

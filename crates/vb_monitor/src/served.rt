@@ -20,7 +20,7 @@ ghost use Rattle.vb_monitor.specs.Giving.{GivesBack, cuts_for, is_kept, with_giv
 ghost use Rattle.vb_monitor.specs.Machine.{Room, AheadAt, whole, next_chain};
 ghost use Rattle.vb_monitor.specs.Orders.{cuts_left, giving};
 ghost use Rattle.vb_monitor.specs.Pieces.{all_parts};
-ghost use Rattle.vb_core.specs.Next.{pieces_in};
+ghost use Rattle.vb_core.specs.Pieces.{pieces_in};
 ghost use Rattle.vb_monitor.specs.Machine.{behind_part};
 ghost use Rattle.vb_monitor.specs.Served.{word_behind, is_last, none_left, goes_on};
 ghost use Rattle.vb_monitor.specs.Served.{few_parts};

@@ -1,7 +1,7 @@
 //! A notice over a running guest's memory.
 
 ghost use Rattle.std.specs.Prelude.{◌≡◌, ◌+◌, ◌≤◌, List};
-ghost use Rattle.vb_core.specs.declared.next.ChainPiece.{ChainPiece};
+ghost use Rattle.vb_core.specs.declared.pieces.ChainPiece.{ChainPiece};
 ghost use Rattle.vb_monitor.specs.declared.room.TheConstants.{MAX_BYTES};
 ghost use Rattle.vb_monitor.specs.Accesses.{Steps, Makes};
 ghost use Rattle.vb_monitor.specs.Notices.{Serves};

@@ -14,7 +14,7 @@ ghost use Rattle.vb_monitor.specs.Accesses.{Access};
 ghost use Rattle.vb_monitor.specs.Chains.{AfterDescriptor, Follows, descriptors, descriptor_of};
 ghost use Rattle.vb_monitor.specs.Chains.{memory_end};
 ghost use Rattle.vb_monitor.specs.Notices.{Looks};
-ghost use Rattle.vb_core.specs.Next.{pieces_in};
+ghost use Rattle.vb_core.specs.Pieces.{pieces_in};
 ghost use Rattle.vb_monitor.specs.Single.{index_place, is_single, single_place, single_of};
 ghost use Rattle.vb_monitor.specs.Machine.{Room, Fits, AheadAt, whole, room_of, serves, row_in};
 ghost use Rattle.vb_monitor.specs.Machine.{row_bytes};

@@ -1,5 +1,7 @@
 """What the tests of a host that an operator runs have in common: its programs, a host in a folder of its own, and its guests."""
 
+import os
+
 import linux_kit
 import pytest
 from hosts import Answering, Host, limit_from_now
@@ -8,7 +10,9 @@ from programs import CHECKS
 
 @pytest.fixture(scope="session")
 def program(tmp_path_factory):
-    """The host's program with the compiler's checks, beside that of its guests."""
+    """The host's program, beside that of its guests: one that the environment names, or one that is built with the compiler's checks."""
+    if "HOST_PROGRAM" in os.environ:
+        return os.environ["HOST_PROGRAM"]
     return linux_kit.build(str(tmp_path_factory.mktemp("programs")), linux_kit.core_of(), "vhost_user_host", flags=CHECKS)
 
 

@@ -231,6 +231,7 @@ def test_followers_hear_each_event_once_and_in_order(host, arrive):
         it.join(10)
     assert said[0] == said[1]
     numbers = [it["number"] for it in said[0]]
+    assert numbers, "who follows is told of nothing"
     assert numbers == list(range(numbers[0], numbers[0] + len(numbers)))
     names = [it["event"] for it in said[0] if it["event"] not in ("decision", "state")]
     assert names == ["added", "arrived", "answers", "budget", "gone", "removed"], names

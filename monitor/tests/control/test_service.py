@@ -155,6 +155,19 @@ def test_units(unit, tmp_path):
     assert ran.returncode == 0 and exposure <= 2.0, exposure
 
 
+def test_the_user_and_the_folder_of_sockets(tmp_path):
+    if not shutil.which("systemd-sysusers") or os.geteuid():
+        pytest.skip("systemd-sysusers isn't there, or this isn't root")
+    (tmp_path / "etc").mkdir()
+    for program, file in (("systemd-sysusers", "sysusers.d/bigvasta.conf"), ("systemd-tmpfiles", "tmpfiles.d/bigvasta.conf")):
+        words = [program, f"--root={tmp_path}", *(["--create"] if program.endswith("tmpfiles") else []), os.path.join(os.path.dirname(SYSTEMD), file)]
+        ran = subprocess.run(words, capture_output=True, text=True, timeout=60)
+        assert ran.returncode == 0, ran
+    user = next(it.split(":") for it in (tmp_path / "etc/passwd").read_text().splitlines() if it.startswith("bigvasta:"))
+    folder = os.stat(tmp_path / "run/bigvasta")
+    assert (user[6], oct(folder.st_mode & 0o7777), folder.st_uid) == ("/usr/sbin/nologin", "0o750", int(user[2]))
+
+
 def test_what_the_units_start():
     for unit, words in zip(UNITS, ("/usr/bin/vhost_user_host --config /etc/bigvasta/host.conf", "/usr/bin/bigvasta metrics --listen localhost:9750")):
         with open(f"{SYSTEMD}/{unit}", encoding="utf-8") as file:

@@ -143,7 +143,7 @@ class Seats:
         return client
 
     def chance(self, program, messages, seed):
-        """Sends so many messages, by a client at each seat; returns what the clients say."""
+        """Sends `messages` messages, by a client at each seat; returns what the clients say."""
         running = [
             subprocess.Popen([program, path, str(messages // SEATS), str(seed * SEATS + it)], stdout=subprocess.PIPE, text=True)
             for it, path in enumerate(self.paths)

@@ -246,7 +246,7 @@ class Machine:
             raise Fault(f"{fault}; the backend said: {why}") from None
 
     def set_target(self, mib):
-        """Asks for a balloon of so many MiB."""
+        """Asks for a balloon of `mib` MiB."""
         answer = self.backend.ask(f"target {mib * PAGES_PER_MIB}")
         if answer != "ok":
             raise Fault(f"the backend answers a target of {mib} MiB: {answer}")

@@ -11,11 +11,12 @@ from typing import NamedTuple
 import linux_kit
 from linux_guest import ANSWER_LIMIT, PAGES_PER_MIB, Backend, Guest
 from linux_kit import Fault
+from programs import CHECKS
 
 # Seconds between two looks at what the host holds.
 LOOK_EVERY = 0.05
 
-# MiB that a guest keeps all the time, those that it fills by chance and frees, and those that Linux takes of it.
+# MiB that a guest keeps all the time, those that it fills at random and frees, and those that Linux takes of it.
 KEPT, LEAST_FILL, MOST_FILL, LINUX = 10, 20, 160, 56
 
 # MiB for each guest that the guests leave of the budget, where they use no more than there is.
@@ -178,7 +179,7 @@ class Ledger:
         self.limit, self.used, self.lock = limit, 0.0, threading.Lock()
 
     def take(self, mib):
-        """Takes so many MiB if there are so many left; returns whether there are."""
+        """Takes `mib` MiB if they are left; returns whether there are."""
         with self.lock:
             if self.limit is not None and self.used + mib > self.limit:
                 return False
@@ -186,7 +187,7 @@ class Ledger:
             return True
 
     def give(self, mib):
-        """Gives back so many MiB."""
+        """Gives back `mib` MiB."""
         with self.lock:
             self.used -= mib
 
@@ -261,7 +262,7 @@ class Town:
         return Sample(time.monotonic() - self.begin, held, targets, spare, self.host.counters()["short"] / PAGES_PER_MIB)
 
     def watch(self, seconds, every=None):
-        """Takes samples for so many seconds; calls `every` with one each second."""
+        """Takes samples for `seconds` seconds; calls `every` with one each second."""
         end, line = time.monotonic() + seconds, 0.0
         while time.monotonic() < end and not self.ended.is_set():
             self.samples.append(self.sample())
@@ -271,7 +272,7 @@ class Town:
             self.ended.wait(LOOK_EVERY)
 
     def live(self, seconds, seed, limit=None, every=None):
-        """Lets all guests work for so many seconds, by this seed, and use no more than so many MiB together."""
+        """Lets all guests work for `seconds` seconds, by this seed, and use no more than `limit` MiB together."""
         ledger, end = Ledger(limit), time.monotonic() + seconds
         if limit is not None:
             ledger.take(self.used_mib())
@@ -303,3 +304,16 @@ def build(folder, core, wrong=False, flags=()):
     """Compiles a host over this core, and the program of its guests' processes; with hosts in it that are wrong on purpose, where they
     are asked for."""
     return linux_kit.build(folder, core, "vhost_user_host", wrong=wrong, flags=flags)
+
+
+class Programs(dict):
+    """The hosts under test by name, each compiled as it is first wanted."""
+
+    def __init__(self, folder, core):
+        super().__init__()
+        self.folder, self.core = folder, core
+
+    def __missing__(self, name):
+        os.makedirs(f"{self.folder}/{name}")
+        self[name] = build(f"{self.folder}/{name}", self.core, wrong=name == "wrong", flags=CHECKS if name == "checked" else ())
+        return self[name]

@@ -53,7 +53,8 @@ FLAGS = ("-std=c11", "-O2", "-Wall", "-Wextra", "-Werror")
 # host do (wrong_backend.c, wrong_host.c).
 AUDIT_WRAPPED = ("vb_begin", "vb_ask", "vb_go_on", "poll")
 WRONG_PARTS = {
-    "vhost_user_balloon": ("../tests/mutants/wrong_backend",), "vhost_user_host": ("../tests/mutants/wrong_host",),
+    "vhost_user_balloon": ("../tests/mutants/wrong_backend",),
+    "vhost_user_host": ("../tests/mutants/wrong_host", "../tests/mutants/wrong_control"),
     "lent": ("../tests/mutants/wrong_lent",),
 }
 WRONG_WRAPPED = {
@@ -64,6 +65,8 @@ WRONG_WRAPPED = {
     ),
     "vhost_user_host": (
         "vb_loan_class_targets", "vb_spare", "vb_needs_targets", "host_changed",
+        "fields_refusal", "request_answer", "client_line_is_too_long", "client_is_served", "decisions_kept_from", "events_look", "socket_listen",
+        "word_read", "config_read", "config_stays", "process_took_reload", "notify_ready", "notify_lives", "notify_keep",
     ),
     "lent": ("counters_taken", "marks_follow"),
 }

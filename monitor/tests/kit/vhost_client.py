@@ -10,7 +10,7 @@ import struct
 PAGE = 4096
 PAGES_OF_REGION = 64
 
-# Two regions with a hole between them: where they stand in the guest and in the client.
+# Two regions with a hole between them: where they are in the guest and in the client.
 REGIONS = ((0x100000, 0x7F0000000000), (0x180000, 0x7F1000000000))
 
 GET_FEATURES, SET_FEATURES, SET_OWNER, RESET_OWNER, SET_MEM_TABLE = 1, 2, 3, 4, 5
@@ -42,7 +42,7 @@ LIMIT = 20
 # Words that are no decimal number, nor one of 64 bits: what C's strtoul would take is among them.
 NO_NUMBERS = ("", "x", " 5", "+5", "-1", "5 ", "5x", "0x5", "-18446744073709551615", "18446744073709551621")
 
-# What may stand in front of a line so that nothing of it is obeyed: more bytes than a line may have, or a byte 0.
+# What may be in front of a line so that nothing of it is obeyed: more bytes than a line may have, or a byte 0.
 NO_LINES = (*("x" * it for it in (127, 128, 254, 255, 256, 257, 511, 512, 513)), "\0", "x\0")
 
 
@@ -263,7 +263,7 @@ class Client:
         return self.kick(number)
 
     def used(self, number):
-        """Returns the used index, and the entries that stand there."""
+        """Returns the used index, and the entries that are there."""
         at = self.table(number) + 2 * PAGE
         (index,) = struct.unpack("<H", self.read(at + 2, 2))
         return index, [struct.unpack("<II", self.read(at + 4 + 8 * (it % SIZE), 8)) for it in range(index)]

@@ -69,7 +69,7 @@ class Served(Client):
         self.write(self.table(number) + PAGE, struct.pack(f"<HH{size}H", 1, size, *range(size)))
 
     def are_used(self, numbers, count):
-        """Waits until so many chains of each queue are used: whether they are, in time."""
+        """Waits until `count` chains of each queue are used: whether they are, in time."""
         end = time.monotonic() + LIMIT
         while any(self.read(self.table(it) + 2 * PAGE + 2, 2) != struct.pack("<H", count) for it in numbers):
             if time.monotonic() > end:
@@ -78,7 +78,7 @@ class Served(Client):
         return True
 
     def are_served(self, numbers, count):
-        """Makes whole queues of so many chains available, and kicks each once, all at a time: whether all are served, in time."""
+        """Makes whole queues of `count` chains available, and kicks each once, all at a time: whether all are served, in time."""
         for it in numbers:
             self.describe_all(it, count)
         self.socket.sendall(b"".join(struct.pack("<IIIII", VRING_KICK, 1, 8, it, 0) for it in numbers))

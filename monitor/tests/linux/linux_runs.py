@@ -62,7 +62,7 @@ def inflate_filled(machine, mib):
 
 
 def await_reports(machine, mib):
-    """After a hog of so many MiB that was freed: most of them are reported, and the host holds less."""
+    """After a hog of `mib` MiB that was freed: most of them are reported, and the host holds less."""
     before, reported = machine.guest.held_mib(), machine.backend.counters()["reported"]
     end = time.monotonic() + REPORT_LIMIT
     # A report has blocks of 4 MiB, so some of what is free stays.
@@ -155,7 +155,7 @@ def unload_run(machine, _):
         counters = machine.backend.counters()
         # On PCI, Linux itself acknowledges the device that nobody drives.
         demand(counters["status"] in (0, 1) and counters["actual"] == 0, f"after an unload: {counters}")
-        # The target stands: the driver inflates as soon as it is there.
+        # The target is set: the driver inflates as soon as it is there.
         machine.guest.do("load")
         settle(machine, "the balloon of a driver that was loaded again")
         audit(machine)

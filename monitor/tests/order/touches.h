@@ -7,7 +7,7 @@
 
 enum { SIZE = 8, PAGES = 32, MOST_TOUCHES = 4096, TRAP_FLAG = 0x100, WRITE_FAULT = 2 };
 
-/* The parts lie so that ring indices stand on other pages than the entries. */
+/* The parts lie so that ring indices are on other pages than the entries. */
 static const uint64_t AVAIL = 0x1ffc, USED = 0x6ffc, BUFFER = 0x8ffd, NAMED = 16, BORDER = 0x5000;
 static uint64_t table = 0x4000;
 

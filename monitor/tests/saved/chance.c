@@ -82,7 +82,7 @@ static void any_step(void)
     struct balloon *balloon = &guest.balloon;
     struct balloon_result result;
     uint32_t kind = chance(4);
-    switch (chance(13)) {
+    switch (chance(12)) {
     case 0: balloon_write_status(balloon, statuses[chance(5) * (chance(4) > 0) + chance(2) * chance(8)], &result); break;
     case 1: balloon_write_status(balloon, (uint8_t)(balloon->state.device.status | 1u << chance(8)), &result); break;
     case 2: balloon_negotiate(balloon, features[chance(8)]); break;
@@ -94,8 +94,7 @@ static void any_step(void)
     case 8: balloon_ask_statistics(balloon); break;
     case 9: balloon_write_config(balloon, 4 * chance(5), (const uint8_t[]){ (uint8_t)chance(3), 0, 0, 0 }, 4); break;
     case 10: balloon_start_queue(balloon, kind, any_start(kind)); break;
-    case 11: any_stop(kind); break;
-    default: vb_use(&balloon->state.device, kind, chance(70)); break;
+    default: any_stop(kind); break;
     }
 }
 

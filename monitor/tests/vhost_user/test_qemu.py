@@ -128,14 +128,14 @@ class Machine:
             return linux_kit.last_line(log.read())
 
     def wait(self, condition, limit):
-        """Demands that something comes about in so many seconds."""
+        """Demands that something comes about within `limit` seconds."""
         end = time.monotonic() + limit
         while not condition(self.backend.counters()):
             assert time.monotonic() < end, f"{self.backend.counters()}: {self.backend.why()}"
             time.sleep(0.05)
 
     def inflate(self, mib):
-        """Asks for a balloon of so many MiB, and demands that it is there."""
+        """Asks for a balloon of `mib` MiB, and demands that it is there."""
         self.backend.ask(f"target {mib * PAGES_PER_MIB}")
         self.wait(lambda now: now["inflated"] - now["deflated"] == mib * PAGES_PER_MIB, TARGET_LIMIT)
         if self.device != DISK:

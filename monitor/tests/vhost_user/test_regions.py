@@ -1,4 +1,4 @@
-"""Tests of rings in memory of several regions: their parts go over borders, and stand while the memory is handed over anew."""
+"""Tests of rings in memory of several regions: their parts go over borders, and stay while the memory is handed over anew."""
 
 import struct
 import time
@@ -10,7 +10,7 @@ from vhost_demands import MOST_CHAINS
 
 GUEST, USER = REGIONS[0]
 
-# Table, available ring and used ring begin on these pages, and so many bytes into them; each goes on on the next page. So the
+# Table, available ring and used ring begin on these pages, and this many bytes into them; each goes on on the next page. So the
 # used ring's element of number 127 has its id on one page, and its length on the other one.
 PARTS, BEGINS = (0, 4, 8), (PAGE - 128, PAGE - 128, PAGE - 1024)
 
@@ -24,7 +24,7 @@ AWAY = 1000
 
 
 def hand_over(client, regions, answered=True):
-    """Hands over regions of one file: their first pages, how many, and where they stand in the guest and in the client."""
+    """Hands over regions of one file: their first pages, how many, and where they are in the guest and in the client."""
     table = struct.pack("<II", len(regions), 0)
     for first, count, guest, user in regions:
         table += struct.pack("<QQQQ", GUEST + guest * PAGE, count * PAGE, USER + user * PAGE, first * PAGE)

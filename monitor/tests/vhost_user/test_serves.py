@@ -237,7 +237,7 @@ def test_statistics_before_the_driver_is_ready(serve_well):
 
 def test_queues_without_gaps(serve_well):
     client = serve_well()
-    client.start(0x100000021)  # the queue behind the last one doesn't run
+    client.start(0x100000021)  # the queue after the last one doesn't run
     client.describe(2, 0, REGIONS[1][0], PAGE, WRITE)
     client.publish(2, 0)
     client.kick(2)

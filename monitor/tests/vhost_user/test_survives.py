@@ -19,7 +19,7 @@ def send_message(chance, client):
 
 
 def scribble(chance, client):
-    """Writes into a ring, mostly nearly what would be right, and kicks."""
+    """Writes into a ring, usually nearly what would be right, and kicks."""
     number = chance.randrange(4)
     for head in range(chance.randint(1, SIZE)):
         address = chance.choice((BUFFERS, REGIONS[1][0], REGIONS[1][0] + PAGES_OF_REGION * PAGE - 64, chance.getrandbits(64)))

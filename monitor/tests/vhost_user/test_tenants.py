@@ -1,4 +1,4 @@
-"""Tests of a backend whose client means harm: files that could make it wait or never rest, memory that could be taken away from
+"""Tests of a backend with a hostile client: files that could make it wait or never rest, memory that could be taken away from
 under it, turns that are long, and a machine that has no files or no room left."""
 
 import ctypes

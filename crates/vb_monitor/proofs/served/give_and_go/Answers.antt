@@ -8,7 +8,7 @@ use Rattle.vb_monitor.proofs.served.give_and_go.Goals as goal
 
 pub used_entry-entry-requires : goal.used_entry-entry-requires
 used_entry-entry-requires c =
-    (open_call c.args.kind true true true c.args.device.now c.requires).place
+    (open_call c.args.kind true true c.args.device.now c.requires).place
 
 pub returns-in-Some-clause-goes : goal.returns-in-Some-clause-goes
 returns-in-Some-clause-goes c after outcome room rest h =

@@ -1,13 +1,11 @@
-//! What no clause says: rings of real drivers, requests from outside, and each call once.
+//! What no clause says: requests from outside, and each call once.
 
 mod ballooned;
-mod real_rings;
 
 use bitflags::Flags;
-use real_rings::{RINGS, RealRing};
 use std::process::Abort;
 use vb_chain::ChainFault;
-use vb_core::{ChainPiece, Denial, Device, Kind, Run, Settings, Statistic, Virtqueue};
+use vb_core::{Denial, Device, Kind, Run, Settings, Statistic, Virtqueue};
 use vb_status::Features;
 
 /// A guest of 512 MiB, and all features.
@@ -17,13 +15,6 @@ const SETTINGS: Settings = Settings {
     reserved_pages: 0,
     needs_must_tell: 0,
     skips_bad_pages: 0,
-};
-
-/// No piece.
-const NO_BUFFER: ChainPiece = ChainPiece {
-    address: 0,
-    length: 0,
-    writable: 0,
 };
 
 /// A ring of eight descriptors.
@@ -58,118 +49,6 @@ fn put(bytes: &mut [u8], at: u32, word: &[u8]) {
             bytes[place] = *byte;
         }
     }
-}
-
-/// A table of descriptors that begins with these.
-fn table_of(rows: &[[u64; 2]]) -> [u8; 4096] {
-    let mut table = [0; 4096];
-    let mut at: u32 = 0;
-    for row in rows {
-        put(&mut table, at, &row[0].to_le_bytes());
-        put(&mut table, at.wrapping_add(8), &row[1].to_le_bytes());
-        at = at.wrapping_add(16);
-    }
-    table
-}
-
-/// An available ring with this index, whose entries are 0.
-fn avail_of(index: u16) -> [u8; 516] {
-    let mut avail = [0; 516];
-    put(&mut avail, 2, &index.to_le_bytes());
-    avail
-}
-
-/// Whether the pieces are the expected ones, all to be read.
-fn are_pieces(expected: &[(u64, u32)], pieces: &[ChainPiece]) -> bool {
-    for (k, (address, length)) in expected.iter().enumerate() {
-        if k >= pieces.len() {
-            return false;
-        }
-        let piece = pieces[k];
-        if piece.address != *address || piece.length != *length || piece.writable != 0 {
-            return false;
-        }
-    }
-    true
-}
-
-/// Whether the runs are the pages of the expected pieces.
-fn are_runs(expected: &[(u64, u32)], runs: &[Run]) -> bool {
-    for (k, (address, length)) in expected.iter().enumerate() {
-        if k >= runs.len() {
-            return false;
-        }
-        let run = runs[k];
-        if u64::from(run.first) != *address / 4096 || run.count != *length / 4096 {
-            return false;
-        }
-    }
-    true
-}
-
-/// Whether the chain that is next is read so.
-fn is_next(device: &mut Device, ring: &RealRing, avail: &[u8], table: &[u8]) -> bool {
-    let mut pieces = [NO_BUFFER; 256];
-    match device.next(ring.kind, avail, table, &mut pieces) {
-        Ok(Some(next)) => {
-            next.head == 0
-                && next.pieces as usize == ring.pieces.len()
-                && are_pieces(ring.pieces, &pieces)
-        }
-        _ => false,
-    }
-}
-
-/// Whether the report that is next is read so.
-fn is_report(device: &mut Device, ring: &RealRing, avail: &[u8], table: &[u8]) -> bool {
-    let mut runs = [Run::NONE; 32];
-    match device.report(avail, table, &mut runs) {
-        Ok(Some(found)) => {
-            found.head == 0
-                && found.runs as usize == ring.pieces.len()
-                && are_runs(ring.pieces, &runs)
-        }
-        _ => false,
-    }
-}
-
-/// Whether a real ring's next chain is read as its driver meant it.
-fn is_read_so(ring: &RealRing) -> bool {
-    let at = Virtqueue {
-        table: ring.places[0],
-        avail: ring.places[1],
-        used: ring.places[2],
-        size: ring.size,
-        next_avail: ring.taken,
-        next_used: ring.taken,
-    };
-    let mut device = ready(SETTINGS, ring.kind, at);
-    let avail = avail_of(ring.index);
-    let table = table_of(ring.table);
-    let entries = 4 + 2 * usize::from(ring.size);
-    let descriptors = 16 * usize::from(ring.size);
-    if entries > avail.len() || descriptors > table.len() {
-        return false;
-    }
-    match ring.kind {
-        Kind::Report => is_report(&mut device, ring, &avail[..entries], &table[..descriptors]),
-        _ => is_next(&mut device, ring, &avail[..entries], &table[..descriptors]),
-    }
-}
-
-/// The number of the first ring that isn't read as its driver meant it.
-fn first_other_ring() -> Option<usize> {
-    for (k, ring) in RINGS.iter().enumerate() {
-        if !is_read_so(ring) {
-            return Some(k);
-        }
-    }
-    None
-}
-
-#[test]
-fn real_rings_are_read(rt: HostRuntime) {
-    assert!(rt; first_other_ring().is_none());
 }
 
 /// A request, and the runs that it names: two at the most.
