@@ -65,5 +65,6 @@ advanced q served beside part =
 abbrev pub ServesChainBy : QueueRegisters → ℕ → Pages → Pages → Beside → Beside → ServedChain →
     Type 0
 ServesChainBy registers q m1 m2 b1 b2 served =
-    (part : Part) → HasRegisters registers q part → HasBeside b1 part → serve_refusal q part ≡ None →
+    (part : Part) → HasRegisters registers q part → HasBeside b1 part →
+    serve_refusal q part ≡ None →
     ServesBy q m1 m2 part (advanced q served b2 part) served.answer

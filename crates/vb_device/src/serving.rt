@@ -27,7 +27,7 @@ pub struct QueueRegisters {
     pub queue_size: u16,
     /// How many available entries were taken, modulo 65,536.
     pub next_avail: u16,
-    /// How many used entries were added, modulo 65,536.
+    /// How many used elements were added, modulo 65,536.
     pub next_used: u16,
 }
 
@@ -36,7 +36,7 @@ pub struct QueueRegisters {
 pub struct ServedChain {
     /// How many available entries are taken now, modulo 65,536.
     pub next_avail: u16,
-    /// How many used entries are added now, modulo 65,536.
+    /// How many used elements are added now, modulo 65,536.
     pub next_used: u16,
     /// The head of a buffer of statistics that was taken, and is held.
     pub held: Option<u16>,

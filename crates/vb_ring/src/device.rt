@@ -132,7 +132,7 @@ impl Queue {
         self.next_avail
     }
 
-    /// How many used entries it added, modulo 65,536.
+    /// How many used elements it added, modulo 65,536.
     pub fn next_used(&self) -> u16
         ensures { result ≡ self.now.next_used }
     {

@@ -7,7 +7,7 @@ use Rattle.vb_chain.specs.declared.{descriptor.Descriptor.Descriptor, fault.Chai
 use Rattle.vb_chain.specs.{Rules.{has_next, first_fault}, declared.pieces.Piece.Piece}
 use Rattle.vb_chain.specs.Chain.{IsPath, fault_at, ChainGives, FaultGives}
 
--- The two give the same descriptors of a table of so many.
+-- The two give the same descriptors of a table of n.
 abbrev pub Agree : ℕ → (ℕ → Descriptor) → (ℕ → Descriptor) → Type 0
 Agree q d e = (i : ℕ) → i < q → d i ≡ e i
 

@@ -10,14 +10,15 @@ use Rattle.vb_core.specs.declared.ring.UsedEntry.{UsedEntry}
 use Rattle.vb_core.specs.declared.device.{Denial.Denial, Device.Device}
 use Rattle.vb_core.specs.Devices.{ring_of}
 use Rattle.vb_monitor.specs.declared.{regions.Spot.Spot, cuts.Cut.Cut}
-use Rattle.vb_monitor.specs.declared.outcome.{Tally.Tally, Outcome.Outcome}
+use Rattle.vb_monitor.specs.declared.outcome.{HeldChain.HeldChain, Tally.Tally, Outcome.Outcome}
 use Rattle.vb_monitor.specs.Accesses.{Access, ReadWord, Release, Full, Discard, WriteNumber}
 use Rattle.vb_monitor.specs.Accesses.{WriteWord, Steps}
 use Rattle.vb_monitor.specs.Regions.{spot}
 use Rattle.vb_monitor.specs.Ends.{Whole, EndsWhere, FlagsAt}
 use Rattle.vb_monitor.specs.Giving.{UsedAt, three_spots, with_given}
-use Rattle.vb_monitor.specs.Notices.{AfterIndex, TakesNext, AfterGiven, ServesPublished, stands}
-use Rattle.vb_monitor.specs.{Served.goes_on, Machine.next_chain}
+use Rattle.vb_monitor.specs.Notices.{AfterIndex, TakesNext, AfterGiven, AfterGivenBy, ServesPublished}
+use Rattle.vb_monitor.specs.Notices.{stands}
+use Rattle.vb_monitor.specs.Machine.{next_chain}
 use Rattle.vb_served.specs.{Store.{Store, After, Puts}, One.{Discards, Gives}}
 use Rattle.vb_served.proofs.StaysLemmas.{IsPlain}
 
@@ -52,22 +53,16 @@ index_so w d t (Ok true) s u log ok given steps h =
     flags_so w d t None true (spot w.regions (ring_of w.kind d).avail 2) s u log steps
     (subst (λ (b : Bool). EndsWhere b w d t None true log) given h)
 
--- a request's kind goes on by the index
-given_so : (kind : Kind) (w : Whole) (d : Device) (t : Tally) (s u : Store) (log : List Access) →
-    goes_on kind ≡ true → t.chains ≡ 0 → t.given ≡ true →
+-- where no chain is held the notice goes on by the index
+given_so : (w : Whole) (d : Device) (t : Tally) (s u : Store) (log : List Access) →
+    t.held ≡ None → t.chains ≡ 0 → t.given ≡ true →
     IsOk (stands (ring_of w.kind d) t.published) → Steps After s log u →
-    AfterGiven kind w (ServesPublished t.chains w) d t log →
+    AfterGiven w (ServesPublished t.chains w) d t log →
     (u ≡ s) × (w.device ≡ d) × (w.outcome.why ≡ None)
-given_so Inflate w d t s u log is none given ok steps h =
+given_so w d t s u log free none given ok steps h =
     index_so w d t (stands (ring_of w.kind d) t.published) s u log ok given steps
-    (subst (λ (n : ℕ). ServesPublished n w d t log) none h)
-given_so Deflate w d t s u log is none given ok steps h =
-    index_so w d t (stands (ring_of w.kind d) t.published) s u log ok given steps
-    (subst (λ (n : ℕ). ServesPublished n w d t log) none h)
-given_so Statistics w d t s u log is none given ok steps h = absurd cc
-given_so Report w d t s u log is none given ok steps h =
-    index_so w d t (stands (ring_of w.kind d) t.published) s u log ok given steps
-    (subst (λ (n : ℕ). ServesPublished n w d t log) none h)
+    (subst (λ (n : ℕ). ServesPublished n w d t log) none
+    (subst (λ (o : Option HeldChain). AfterGivenBy o w (ServesPublished t.chains w) d t log) free h))
 
 -- ---- discards and the used element
 
@@ -86,7 +81,7 @@ apart s u (cut ∷ cuts) rest (next, lost, more) =
 -- the chain is given back where its element is guest memory, and the notice ends
 pub used_so : (w : Whole) (d d2 : Device) (t : Tally) (e : UsedEntry) (a b c : Option Spot)
     (s u : Store)
-    (log : List Access) → goes_on w.kind ≡ true → t.chains ≡ 0 → IsPlain w.regions →
+    (log : List Access) → t.held ≡ None → t.chains ≡ 0 → IsPlain w.regions →
     spot w.regions e.element_at 4 ≡ a → spot w.regions (e.element_at + 4) 4 ≡ b →
     spot w.regions e.index_at 2 ≡ c → three_spots a b c ≢ None →
     IsOk (stands (ring_of w.kind d2) t.published) → Steps After s log u →
@@ -102,7 +97,7 @@ used_so w d d2 t e (Some a) (Some b) (Some c) s u log is none plain ea eb ec the
     ∷ WriteWord c e.index ∷ h.rest) u =
     subst (λ (l : List Access). Steps After s l u) h.asks steps in
     let (s1, put_id, (s2, put_length, (s3, same, (s4, put_index, rest)))) = made in
-    let (last, device, ends) = given_so w.kind w d2 (with_given t) s4 u h.rest is none refl ok rest
+    let (last, device, ends) = given_so w d2 (with_given t) s4 u h.rest is none refl ok rest
     h.goes_on in (
       record {
         with_id = s1;

@@ -25,5 +25,7 @@ pub mod TieRequests
 pub mod TieStatistics
 pub mod TieReports
 pub mod TieQueues
+pub mod RegisterLemmas
+pub mod ServerLemmas
 mod StoreFacts
 mod OneFacts

@@ -1,4 +1,4 @@
--- Frames that pages lose: each is loose then, or behind its page as before.
+-- Frames that pages lose: each is loose then, or backs its page as before.
 use Rattle.std.proofs.Common.{◌≡◌, ◌∙◌, ap, sym, subst, refl, arith, inl, inr, ℕ, zero, suc, ◌+◌, ◌<◌, ◌≤◌}
 use Rattle.std.proofs.Common.{Bool, true, false, List, [], ◌∷◌, ◌++◌, length, get_or, take, add-one}
 use Rattle.std.proofs.Common.{Option, Some, None, ◌⊎◌}
@@ -21,7 +21,7 @@ abbrev pub is_frame : ℕ → Option Page → Bool
 is_frame n None = false
 is_frame n (Some page) = page.number == n
 
--- how many pages the frame of this number is behind
+-- how many pages the frame of this number backs
 abbrev pub backing : ℕ → Pages → ℕ
 backing n mem = count_by (is_frame n) mem
 

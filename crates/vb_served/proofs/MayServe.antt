@@ -33,9 +33,10 @@ use Rattle.vb_monitor.proofs.StillAnswers.{first_of}
 use Rattle.vb_served.specs.One.{all_of}
 use Rattle.vb_served.proofs.WholeMemory.{Lies, lies, mapped, used_there, pieces_there}
 
--- the device is of a memory of so many pages
+-- the device is of a memory of n pages
 pub record IsOf (d : Device) (n : ℕ) : Type 0 where
   pub end : d.settings.memory_end ≡ 4096 * n
+  pub holds : d.settings.holds_deflates ≡ 0
 
 -- the chain of this head may be given back once it was taken, its element is guest memory, and then
 -- no more entries are ahead than the queue has
@@ -154,7 +155,7 @@ lies_taken : (end : ℕ) (r : Virtqueue) → Lies end r → Lies end (with_taken
 lies_taken end r at =
     record { size = at.size; table = at.table; avail = at.avail; used = at.used }
 
--- an entry that stands there is ahead, and no further than the queue has
+-- an entry that is available is ahead, and no further than the queue has
 stands_by_so : (z fits : Bool) →
     (if z then Ok false else (if fits then Ok true else Err IndexJump)) ≡ Ok true →
     (z ≡ false) × (fits ≡ true)

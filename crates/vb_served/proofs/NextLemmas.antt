@@ -38,6 +38,7 @@ record IsOpen (kind : Kind) (d1 : Device) (t : Tally) (s : Store) : Type 0 where
   of : IsOf d1 (length s.mem)
   open_so : queue_denial kind d1 ≡ None
   next_avail : (ring_of kind d1).next_avail < 65536
+  held : t.held ≡ None
   given : t.given ≡ false
   keeps : t.keeps ≡ false
 
@@ -85,6 +86,8 @@ walked kind d1 d2 outcome t s u head log is none index there same (inl h) =
     Found h.pieces is.open_so there gives
     (by_kind kind d1 d2 outcome t (head_in (byte s) r) h.pieces s u h.rest (record {
       open_so = is.open_so;
+      holds = is.of.holds;
+      held = is.held;
       none = none;
       given = is.given;
       keeps = is.keeps;
@@ -158,7 +161,7 @@ by_entry kind d1 d2 outcome t s u (Some at) log is none index there e mapped sta
     by_head kind d1 d2 outcome t s u h.head (nat_lt h.head (descriptors r)) h.rest is none index
     there (all.1.0 (r.avail + entry_offset r) e) refl all.1.1 h.goes_on
 
--- the budget has room for the chain that stands there
+-- the budget has room for the chain that is available
 unspent : (w : Whole) (d : Device) (t : Tally) (n : ℕ) (log : List Access) →
     (t.pages == 0) ≡ false → TakesNext (suc n) w d t log →
     TakesChain w (next_chain w (with_chains n t)) d (with_chains n t) log
@@ -186,6 +189,7 @@ by_index kind d1 d2 outcome t s u (Ok true) log is some index e stays h =
       of = is.of;
       open_so = is.open_so;
       next_avail = is.next_avail;
+      held = is.held;
       given = is.given;
       keeps = is.keeps;
     }) refl index e refl (ring_mapped (length s.mem) kind d1 is.of is.open_so).entry stays
@@ -209,6 +213,7 @@ by_place kind d1 d2 outcome t s u (Some at) log is some e mapped stays h =
       of = is.of;
       open_so = is.open_so;
       next_avail = is.next_avail;
+      held = is.held;
       given = is.given;
       keeps = is.keeps;
     }) some read refl all.1
@@ -219,21 +224,22 @@ by_place kind d1 d2 outcome t s u (Some at) log is some e mapped stays h =
 
 looks : (kind : Kind) (d1 d2 : Device) (outcome : Outcome) (t : Tally) (s u : Store)
     (o : Option Denial) (log : List Access) → IsOf d1 (length s.mem) →
-    (ring_of kind d1).next_avail < 65536 → t.given ≡ false → t.keeps ≡ false →
+    (ring_of kind d1).next_avail < 65536 → t.held ≡ None → t.given ≡ false → t.keeps ≡ false →
     (t.pages == 0) ≡ false → queue_denial kind d1 ≡ o → Still s u log →
     LooksBy o (over (length s.mem) kind d2 outcome)
     (ServesPublished 1 (over (length s.mem) kind d2 outcome)) d1 t log →
     ServesNext kind d1 d2 outcome s u
-looks kind d1 d2 outcome t s u (Some why) log of few given keeps some e stays h =
+looks kind d1 d2 outcome t s u (Some why) log of few free given keeps some e stays h =
     let (so, device, still) = ends_so (Still s u) t.given (over (length s.mem) kind d2 outcome) d1 t
     (Some why) false log given stays h in
     Denied why e (record { ends = so; device = device; memory = still })
-looks kind d1 d2 outcome t s u None log of few given keeps some e stays h =
+looks kind d1 d2 outcome t s u None log of few free given keeps some e stays h =
     let r = ring_of kind d1 in
     by_place kind d1 d2 outcome t s u (spot (all_of (length s.mem)) (r.avail + 2) 2) log (record {
       of = of;
       open_so = e;
       next_avail = few;
+      held = free;
       given = given;
       keeps = keeps;
     }) some refl (ring_mapped (length s.mem) kind d1 of e).index stays h
@@ -246,7 +252,7 @@ pub next_so : (kind : Kind) (budget : Budget) (d1 d2 : Device) (outcome : Outcom
 next_so kind budget d1 d2 outcome s u chains some keeps of few made =
     let n = length s.mem in
     let w = over n kind d2 outcome in
-    looks kind d1 d2 outcome (fresh budget) s u (queue_denial kind d1) made.log of few refl keeps
+    looks kind d1 d2 outcome (fresh budget) s u (queue_denial kind d1) made.log of few refl refl keeps
     some refl (stays_so s u (all_of n) made.log (record { place = plain_all n }) made.steps)
     (subst (λ (m : ℕ). LooksBy (queue_denial kind d1) w (ServesPublished m w) d1 (fresh budget)
     made.log) chains made.is)

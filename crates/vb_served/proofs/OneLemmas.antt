@@ -24,11 +24,13 @@ use Rattle.vb_monitor.specs.Accesses.{Access, TellFigures, Discard, Steps}
 use Rattle.vb_monitor.specs.Regions.{spot}
 use Rattle.vb_monitor.specs.Ends.{Whole, Breaks, EndsWhere}
 use Rattle.vb_monitor.specs.Giving.{GivesBackBy, AfterName, after_use, cuts_for, is_kept, spent}
-use Rattle.vb_monitor.specs.Giving.{used_spots, TellsThen}
+use Rattle.vb_monitor.specs.Giving.{used_spots, TellsThen, OnceTold, with_held, with_named, held_if, DiscardsThen}
 use Rattle.vb_monitor.specs.Notices.{stands}
 use Rattle.vb_monitor.specs.Chains.{AfterBytes, CopiesBy, FiguresBy, TellsFigures, NamesReport}
-use Rattle.vb_monitor.specs.Chains.{with_held}
-use Rattle.vb_monitor.specs.{Served.goes_on, Pieces.all_parts}
+use Rattle.vb_monitor.specs.{Pieces.all_parts}
+use Rattle.vb_monitor.specs.declared.outcome.{HeldChain.HeldChain}
+use Rattle.vb_core.specs.Settings.{holds_chains}
+use Rattle.vb_core.specs.declared.settings.Settings.{Settings}
 use Rattle.vb_monitor.specs.Machine.{next_chain, serves, whole}
 use Rattle.vb_monitor.specs.Still.{bytes_of, StaysUntil, AfterReads, ArePartsMapped}
 use Rattle.vb_monitor.proofs.{StillFound.ends_so, StillParts.served_by_bytes}
@@ -42,31 +44,43 @@ use Rattle.vb_served.proofs.RoomLemmas.{request_room, buffer_room, buffer_bytes}
 
 -- ---- what was named
 
+settings_kept : (kind : Kind) (d : Device) → (with_one_taken kind d).settings ≡ d.settings
+settings_kept Inflate d = refl
+settings_kept Deflate d = refl
+settings_kept Statistics d = refl
+settings_kept Report d = refl
+
 -- runs are told, and the chain is given back
 pub by_telling : (w : Whole) (d : Device) (t : Tally) (head pages : ℕ) (runs : List Run)
-    (named : Named) (s u : Store) (log : List Access) → goes_on w.kind ≡ true → t.chains ≡ 0 →
+    (named : Named) (s u : Store) (log : List Access) → holds_chains w.kind d.settings ≡ false →
+    t.held ≡ None → t.chains ≡ 0 →
     t.keeps ≡ false → IsPlain w.regions → w.regions ≡ all_of (length s.mem) →
     use_denial w.kind head d ≡ None →
     used_spots w.regions (used_entry (ring_of w.kind d) head) ≢ None →
     IsOk (stands (ring_of w.kind (after_use w.kind d)) t.published) →
     StaysUntil (Between s u) (byte s) w.regions log →
-    TellsThen w (next_chain w t) d (spent pages t) head runs named log →
+    TellsThen w (next_chain w t) d (with_named w.kind d.settings head pages t) head runs named log →
     Settles w.kind head runs d w.device w.outcome.why s u
-by_telling w d t head pages runs named s u log is none keeps plain all open_so there_so ok stays h =
+by_telling w d t head pages runs named s u log is free none keeps plain all open_so there_so ok stays h0 =
+    let h = subst (λ (b : Bool). TellsThen w (next_chain w t) d (held_if b head pages (spent pages t)) head
+    runs named log) is h0 in
     let e = used_entry (ring_of w.kind d) head in
     let cuts = cuts_for w.kind (is_kept w.kind t.keeps (keeps_reports d)) w.regions runs in
+    let gone : DiscardsThen w (next_chain w t) d (spent pages t) head cuts h.rest =
+    subst (λ (o : Option HeldChain). OnceTold o w (next_chain w t) d (spent pages t) head cuts h.rest) free
+    h.goes_on in
     let (s1, same, after_told) = subst (λ (l : List Access). StaysUntil (Between s u) (byte s)
     w.regions l) h.asks stays in
     let marked = with_marks w.kind runs s in
-    let made : Steps After marked (map Discard cuts ++ h.discards.rest) u =
-    subst (λ (l : List Access). Steps After marked l u) h.discards.asks
+    let made : Steps After marked (map Discard cuts ++ gone.rest) u =
+    subst (λ (l : List Access). Steps After marked l u) gone.asks
     (from_same marked s1 u h.rest same after_told) in
-    let parts = apart marked u cuts h.discards.rest made in
+    let parts = apart marked u cuts gone.rest made in
     let gives = subst (λ (o : Option Denial). GivesBackBy o w (next_chain w t) d
-    (spent pages t) head h.discards.rest) open_so h.discards.gives_back in
+    (spent pages t) head gone.rest) open_so gone.gives_back in
     let (given_back, device, ends) = used_so w d (after_use w.kind d) (spent pages t) e
     (spot w.regions e.element_at 4) (spot w.regions (e.element_at + 4) 4)
-    (spot w.regions e.index_at 2) parts.between u h.discards.rest is none plain refl refl refl
+    (spot w.regions e.index_at 2) parts.between u gone.rest free none plain refl refl refl
     there_so ok parts.then_so gives in
     record {
       between = parts.between;
@@ -82,20 +96,23 @@ by_telling w d t head pages runs named s u log is none keeps plain all open_so t
 
 -- pages that were named are told and given up, and else nothing is done
 by_name : (w : Whole) (d1 d : Device) (t : Tally) (head : ℕ) (runs : List Run) (s u : Store)
-    (answer : Result Named Denial) (log : List Access) → goes_on w.kind ≡ true → t.chains ≡ 0 →
+    (answer : Result Named Denial) (log : List Access) → holds_chains w.kind d1.settings ≡ false →
+    t.held ≡ None → t.chains ≡ 0 →
     t.given ≡ false → t.keeps ≡ false → IsPlain w.regions → w.regions ≡ all_of (length s.mem) →
     MayServe w.regions w.kind d1 head t.published →
     ((named : Named) → answer ≡ Ok named → d ≡ with_one_taken w.kind d1) →
     StaysUntil (Between s u) (byte s) w.regions log →
     AfterName w (next_chain w t) d t head runs answer log →
     NamesOne w.kind head runs d w.device w.outcome.why s u answer
-by_name w d1 d t head runs s u (Err why) log on none given keeps plain all may taken stays h =
+by_name w d1 d t head runs s u (Err why) log on free none given keeps plain all may taken stays h =
     let (so, device, still) = ends_so (StaysUntil (Between s u) (byte s) w.regions) t.given w d t
     (Some why) false log given stays h in
     record { ends = so; device = device; memory = still }
-by_name w d1 d t head runs s u (Ok named) log on none given keeps plain all may taken stays h =
+by_name w d1 d t head runs s u (Ok named) log on free none given keeps plain all may taken stays h =
     let same : d ≡ with_one_taken w.kind d1 = taken named refl in
-    by_telling w d t head named.pages (take named.runs runs) named s u log on none keeps plain all
+    by_telling w d t head named.pages (take named.runs runs) named s u log
+    (ap (λ (x : Device). holds_chains w.kind x.settings) same
+    ∙ (ap (λ (x : Settings). holds_chains w.kind x) (settings_kept w.kind d1) ∙ on)) free none keeps plain all
     (subst (λ (x : Device). use_denial w.kind head x ≡ None) (sym same) may.open_so)
     (subst (λ (x : Device). used_spots w.regions (used_entry (ring_of w.kind x) head) ≢ None)
     (sym same) may.there_so)
@@ -112,6 +129,8 @@ over n kind d2 outcome = whole (all_of n) kind d2 outcome
 pub record IsFound (kind : Kind) (d1 : Device) (t : Tally) (head : ℕ) (pieces : List Piece)
     (s : Store) : Type 0 where
   pub open_so : queue_denial kind d1 ≡ None
+  pub holds : d1.settings.holds_deflates ≡ 0
+  pub held : t.held ≡ None
   pub none : t.chains ≡ 0
   pub given : t.given ≡ false
   pub keeps : t.keeps ≡ false
@@ -151,12 +170,15 @@ by_inflate d1 d2 outcome t head pieces s u (Ok n) log is e stays h =
       device = x.device;
       answer = x.answer;
       names = x.names;
-      serves = by_name w d1 x.device t head x.runs s u x.answer on.rest refl is.none is.given
+      serves = by_name w d1 x.device t head x.runs s u x.answer on.rest refl is.held is.none is.given
           is.keeps is.plain refl is.may (λ named same. named_device Inflate
           (bytes_of (byte s) pieces) x.runs d1 x.device named
           (subst (λ (r : Result Named Denial). NamesBy Inflate (bytes_of (byte s) pieces) 256 x.runs
           d1 x.device r) same x.names)) on.still_so x.goes_on;
     }
+
+held_not : (d : Device) → d.settings.holds_deflates ≡ 0 → holds_chains Deflate d.settings ≡ false
+held_not d e = grind (arith, e)
 
 by_deflate : (d1 d2 : Device) (outcome : Outcome) (t : Tally) (head : ℕ) (pieces : List Piece)
     (s u : Store) (o : Result ℕ ChainFault) (log : List Access) →
@@ -178,7 +200,7 @@ by_deflate d1 d2 outcome t head pieces s u (Ok n) log is e stays h =
       device = x.device;
       answer = x.answer;
       names = x.names;
-      serves = by_name w d1 x.device t head x.runs s u x.answer on.rest refl is.none is.given
+      serves = by_name w d1 x.device t head x.runs s u x.answer on.rest (held_not d1 is.holds) is.held is.none is.given
           is.keeps is.plain refl is.may (λ named same. named_device Deflate
           (bytes_of (byte s) pieces) x.runs d1 x.device named
           (subst (λ (r : Result Named Denial). NamesBy Deflate (bytes_of (byte s) pieces) 256 x.runs
@@ -197,7 +219,7 @@ by_report d1 d2 outcome t head pieces s u log is stays h =
       device = h.device;
       answer = h.answer;
       names = h.names;
-      serves = by_name w d1 h.device t head h.runs s u h.answer log refl is.none is.given is.keeps
+      serves = by_name w d1 h.device t head h.runs s u h.answer log refl is.held is.none is.given is.keeps
           is.plain refl is.may (λ named same. reported_device pieces h.runs d1 h.device named
           (subst (λ (r : Result Named Denial). NamesPiecesBy pieces 256 h.runs d1 h.device r) same
           h.names)) stays h.goes_on;
@@ -214,7 +236,7 @@ by_figures d1 d2 outcome t head bytes s u log given stays h =
     let figures = take (length bytes / 10) h.figures in
     let (s1, told, rest) = subst (λ (l : List Access). Still s u l) h.tells.asks stays in
     let (so, device, still) = ends_so (Steps_to s1 u) t.given
-    (over (length s.mem) Statistics d2 outcome) (with_one_taken Statistics d1) (with_held head t)
+    (over (length s.mem) Statistics d2 outcome) (with_one_taken Statistics d1) (with_held head 0 t)
     None false h.tells.rest given rest h.tells.ends in
     record {
       figures = h.figures;
@@ -223,7 +245,7 @@ by_figures d1 d2 outcome t head bytes s u log given stays h =
       device = device;
       ends = so;
       held = held_so t.given (over (length s.mem) Statistics d2 outcome)
-          (with_one_taken Statistics d1) (with_held head t) None false h.tells.rest given
+          (with_one_taken Statistics d1) (with_held head 0 t) None false h.tells.rest given
           h.tells.ends;
     }
   where

@@ -14,7 +14,7 @@ use Rattle.vb_device.specs.{Conditions.take_refusal, Faults.{Breaks, needing_res
 clash : {A : Type 0} (o : Option A) (x : A) → o ≡ None → o ≡ Some x → ⊥
 clash o x e f = let bad : None ≡ Some x = sym e ∙ f in cc
 
--- two answers of what stands next
+-- two answers of what is next
 abbrev Next : Type 0
 Next = Result (Option ℕ) ChainFault
 

@@ -57,7 +57,7 @@ strict_so kind d p s a =
 end_is : (kind : Kind) (d : Device) (p : Part) (s : Store) → IsAlike kind d p s → memory_end d ≡ end_of s.mem
 end_is kind d p s a = ap (λ (n : ℕ). 4096 * n) (pages_so kind d p s a)
 
--- ---- what stands next
+-- ---- what is next
 
 pub next_is : (kind : Kind) (d : Device) (p : Part) (s : Store) → IsTie kind d p s →
     next_available (queue_of kind) s.mem p
@@ -100,7 +100,7 @@ fault_so kind d p s fault tie gives =
     (subst (λ (n : ℕ). FaultGives (descriptor_in (byte s) r) r.size n h fault)
     (end_is kind d p s tie.alike) gives))
 
--- the head that a notice used is the one that stands next
+-- the head that a notice used is the next one
 pub heads_so : {E F : Type 0} (o : Result (Option ℕ) F) (h k : ℕ) → o ≡ Ok (Some h) →
     ◌≡◌ {A = Result (Option ℕ) E} (Ok (Some h)) (Ok (Some k)) → o ≡ Ok (Some k)
 heads_so o h k next e = let same : h ≡ k = cc in next ∙ ap (λ (x : ℕ). Ok (Some x)) same

@@ -185,9 +185,11 @@ tie_statistics d1 d2 outcome s t p1 pieces (Ok n) tie next gives e did =
       below = λ k is same. below_so h k same (subst (λ (n : ℕ). h < n) tie.alike.ring.size gives.chain.inside);
     }
   where
-    held_so : {E : Type 0} (h k : ℕ) → outcome.tally.held ≡ Some h →
-        ◌≡◌ {A = Result (Option ℕ) E} (Ok (Some h)) (Ok (Some k)) → outcome.tally.held ≡ Some k
-    held_so h k f e = let same : h ≡ k = cc in f ∙ ap Some same
+    held_so : {E : Type 0} (h k : ℕ) → outcome.tally.held ≡ Some (record { head = h; pages = 0 }) →
+        ◌≡◌ {A = Result (Option ℕ) E} (Ok (Some h)) (Ok (Some k)) →
+        outcome.tally.held ≡ Some (record { head = k; pages = 0 })
+    held_so h k f e = let same : h ≡ k = cc in
+        f ∙ ap (λ (n : ℕ). Some (record { head = n; pages = 0 })) same
 
     below_so : {E : Type 0} (h k : ℕ) → ◌≡◌ {A = Result (Option ℕ) E} (Ok (Some h)) (Ok (Some k)) →
         h < p1.queue_size → k < p1.queue_size

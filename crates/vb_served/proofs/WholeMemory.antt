@@ -16,8 +16,15 @@ use Rattle.vb_monitor.specs.Giving.{used_spots, three_spots}
 use Rattle.vb_monitor.specs.Notices.{entry_offset}
 use Rattle.vb_monitor.specs.Pieces.{first_part, second_part, unless_empty, parts_of, all_parts}
 use Rattle.vb_monitor.specs.Still.{IsMapped, ArePartsMapped}
-use Rattle.vb_monitor.proofs.StillFound.{offset_fits}
+use Rattle.vb_monitor.proofs.StillFound.{offset_so}
 use Rattle.vb_served.specs.One.{all_of}
+
+-- the next entry is one of the ring's
+offset_fits : (r : Virtqueue) → 2 ≤ r.size → entry_offset r + 2 ≤ 4 + 2 * r.size
+offset_fits r least =
+    let at : entry_offset r ≡ 4 + 2 * (r.next_avail % r.size) = offset_so r least in
+    let below : r.next_avail % r.size < r.size = grind arith in
+    omega (arith, at, below)
 
 abbrev offset_of : Option Spot → ℕ
 offset_of None = 0

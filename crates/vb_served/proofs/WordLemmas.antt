@@ -1,4 +1,4 @@
--- Words and descriptors by addresses are those of the pages that they stand in.
+-- Words and descriptors by addresses are those of the pages that they lie in.
 use Rattle.std.proofs.Common.{◌≡◌, ◌∙◌, ap, sym, refl, arith, ℕ, ◌+◌, ◌*◌, ◌/◌, ◌%◌, ◌<◌, ◌≤◌}
 use Rattle.std.proofs.Common.{[], ◌∷◌, take, drop, Result, Ok, Err, Option, Some, None, Bool}
 use Rattle.std.specs.Prelude.{slice_index, ◌==◌, nat_le}
@@ -124,7 +124,7 @@ same_head mem r q part size alike =
     below_so : (n size : ℕ) → 2 ≤ size → n % size < size
     below_so n size least = grind arith
 
--- what stands next is the same
+-- what is next is the same
 pub same_next : (mem : Pages) (r : Virtqueue) (q : ℕ) (part : Part) → IsSize part.queue_size →
     AreRings r q part → next_available q mem part ≡
     found_by (stands r (index_in (byte_of_address mem) r)) (head_in (byte_of_address mem) r)

@@ -1,4 +1,4 @@
--- A device of plain data stands for one that owns its guest's memory.
+-- A device of plain data represents one that owns its guest's memory.
 use Rattle.std.specs.Prelude.{◌≡◌, ℕ, ◌+◌, ◌*◌, true, false}
 use Rattle.vb_virtio.specs.Limits.{page_size}
 use Rattle.vb_virtio.specs.Layout.{reserved_pages}

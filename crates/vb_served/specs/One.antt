@@ -59,7 +59,7 @@ NextGives byte r end pieces = ChainGives (descriptor_in byte r) r.size end (head
 abbrev pub NextFault : (ℕ → ℕ) → Virtqueue → ℕ → ChainFault → Type 0
 NextFault byte r end fault = FaultGives (descriptor_in byte r) r.size end (head_in byte r) fault
 
--- All of a memory of so many pages, as one region in which a place is an address.
+-- All of a memory of this many pages, as one region in which a place is an address.
 abbrev pub all_of : ℕ → List Region
 all_of pages = record { guest = 0; length = page_size * pages; in_file = 0 } ∷ []
 
@@ -134,7 +134,7 @@ pub record HoldsBuffer (head : ℕ) (bytes : List ℕ) (d1 d2 : Device) (outcome
   pub told : t ≡ with_figures (take (length bytes / STATISTIC_SIZE) figures) s
   pub device : d2 ≡ with_one_taken Statistics d1
   pub ends : outcome.why ≡ None
-  pub held : outcome.tally.held ≡ Some head
+  pub held : outcome.tally.held ≡ Some (record { head = head; pages = 0 })
 
 abbrev pub RequestBy : Result ℕ ChainFault → Kind → ℕ → List Piece → Device → Device → Outcome →
     Store → Store → Type 0

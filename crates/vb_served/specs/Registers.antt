@@ -1,4 +1,4 @@
--- A device of plain data that stands where a device that owns its memory stands in a queue.
+-- A device of plain data that is as far in a queue as a device that owns its memory.
 use Rattle.std.specs.Prelude.{ℕ, ◌*◌}
 use Rattle.vb_virtio.specs.declared.negotiation.TheConstants.{OFFERED_FEATURES}
 use Rattle.vb_virtio.specs.Layout.{reserved_pages, ring_page}
@@ -11,7 +11,7 @@ use Rattle.vb_core.specs.declared.settings.Settings.{Settings}
 use Rattle.vb_device.specs.declared.serving.QueueRegisters.{QueueRegisters}
 use Rattle.vb_served.specs.Alike.{address_of}
 
--- The settings of a memory of so many pages with rings of this size: wrong numbers break a rule.
+-- The settings of a memory of n pages with rings of this size: wrong numbers break a rule.
 abbrev pub settings_for : ℕ → ℕ → Settings
 settings_for size pages = record {
   memory_end = page_size * pages;
@@ -19,6 +19,7 @@ settings_for size pages = record {
   reserved_pages = reserved_pages size;
   needs_must_tell = 0;
   skips_bad_pages = 0;
+  holds_deflates = 0;
 }
 
 -- The ring of a queue.

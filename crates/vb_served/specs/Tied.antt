@@ -1,5 +1,6 @@
 -- A notice of one chain, and the device for which it is served.
-use Rattle.std.specs.Prelude.{◌≡◌, ℕ, ◌+◌, ◌%◌, ◌<◌, ◌==◌, if◌then◌else◌, length, IfSome, Option, Some, None, Result, Ok, Err}
+use Rattle.std.specs.Prelude.{◌≡◌, ℕ, ◌+◌, ◌%◌, ◌<◌, ◌==◌, if◌then◌else◌, length, IfSome, Option}
+use Rattle.std.specs.Prelude.{Some, None, Result, Ok, Err}
 use Rattle.vb_virtio.specs.declared.refusals.Refusal.{Refusal}
 use Rattle.vb_virtio.specs.declared.refusals.Refusal.TheVariants.{Broken, NotReady}
 use Rattle.vb_chain.specs.declared.fault.ChainFault.{ChainFault}
@@ -40,14 +41,14 @@ held_by Inflate result = None
 held_by Deflate result = None
 held_by Report result = None
 
--- How many entries are taken then, where so many were.
+-- How many entries are taken then, where n were.
 abbrev pub taken_by : Result (Option ℕ) Refusal → ℕ → ℕ
 taken_by (Ok (Some head)) n = (n + 1) % 65536
 taken_by (Ok None) n = n
 taken_by (Err why) n = n
 
--- What a device answers where a notice ended so, and so many entries were taken before and are now,
--- of which this head stood next.
+-- What a device answers where a notice ended so, by how many entries were taken before and are now,
+-- and by the head that was next.
 abbrev pub answer_of : Option Denial → ℕ → ℕ → ℕ → Result (Option ℕ) Refusal
 answer_of (Some (BreaksIt fault)) before now head = Err (Broken (rule_of fault))
 answer_of (Some _) before now head = Err NotReady
@@ -77,7 +78,7 @@ pub record IsServedAlike (kind : Kind) (d1 d2 : Device) (outcome : Outcome) (s t
   pub ends : outcome.why ≡ reason_of result fault
   pub broken : (refusal : Refusal) → result ≡ Err refusal → refusal ≡ Broken (rule_of fault)
   pub held : (head : ℕ) → kind ≡ Statistics → result ≡ Ok (Some head) →
-      outcome.tally.held ≡ Some head
+      outcome.tally.held ≡ Some (record { head = head; pages = 0 })
   pub alike : IsAlike kind d2 part t
   pub shape : part ≡ advanced (queue_of kind) (chain_of kind d2 result) (beside t) p1
   pub taken : (ring_of kind d2).next_avail ≡ taken_by result (ring_of kind d1).next_avail
@@ -85,7 +86,7 @@ pub record IsServedAlike (kind : Kind) (d1 d2 : Device) (outcome : Outcome) (s t
   pub head : (h : ℕ) → result ≡ Ok (Some h) → next_available (queue_of kind) s.mem p1 ≡ Ok (Some h)
   pub below : (h : ℕ) → kind ≡ Statistics → result ≡ Ok (Some h) → h < p1.queue_size
 
--- What was done is what each device does that stands where these registers say, over the same
+-- What was done is what each device does that has these registers, over the same
 -- memory; memory has as many pages as before, and a buffer that is held is one of the queue's.
 pub record ServesKind (registers : QueueRegisters) (q : ℕ) (s t : Store)
     (served : ServedChain) : Type 0 where

@@ -8,6 +8,8 @@ mod marking;
 mod one;
 mod reading;
 mod server;
+#[cfg(test)]
+mod tests;
 
 pub use loose_ram::LooseRam;
 pub use one::serve_one;

@@ -72,8 +72,8 @@ fn discard_if_there(ram: &mut Ram, loose: &mut Vec<Frame>, page: u64)
 }
 
 impl LooseRam {
-    /// This memory with these loose frames, as many at most as pages have none, room for one of each
-    /// page, this set of ballooned pages and these last statistics.
+    /// This memory with these loose frames, as many at most as pages have none, with room for one
+    /// of each page, this set of ballooned pages and these last statistics.
     pub fn new(ram: Ram, loose: Vec<Frame>, ballooned: BitSet, last: Statistics) -> LooseRam
         requires few { length loose.items + count_by is_some ram ≤ length ram }
         requires room { length ram ≤ vec_capacity loose }
@@ -134,7 +134,7 @@ impl LooseRam {
         }
     }
 
-    /// Takes the frames of so many pages away, from this one on.
+    /// Takes the frames of `count` pages away, from this one on.
     fn discard_pages(&mut self, first: u64, count: u64)
         requires few { first + count < 2 ^ 64 }
         ensures mem { self.new.mem ≡ discarded (range_with_len first count) self.old.mem }

@@ -17,7 +17,7 @@ const ONE_CHAIN: Budget = Budget {
     keeps: false,
 };
 
-/// The region that is all of a memory of so many pages.
+/// The region that is all of a memory of n pages.
 fn whole_memory(pages: u32) -> [Region; 1]
     ensures { result ≡ all_of pages }
 {
@@ -48,6 +48,7 @@ pub fn serve_one(
     figures: &mut [Statistic; MAX_FIGURES],
 ) -> Outcome
     requires end { device.old.settings.memory_end ≡ page_size * length memory.old.mem }
+    requires holds { device.old.settings.holds_deflates ≡ 0 }
     ensures { ServesNext kind device.old device.new result memory.old memory.new }
 {
     // Asked for the proof: that a count has 16 bits is a clause of this call alone.

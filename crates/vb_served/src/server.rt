@@ -1,6 +1,6 @@
 //! A notice of the monitor serves the chains of a device's queue.
 
-ghost use Rattle.std.specs.Prelude.{◌≡◌, ◌<◌, ◌*◌, [], true, length};
+ghost use Rattle.std.specs.Prelude.{◌≡◌, ◌+◌, ◌*◌, [], true, length};
 ghost use Rattle.std.specs.Int.{w16, from_le_bytes};
 ghost use Rattle.vb_virtio.specs.Layout.{ring_page};
 ghost use Rattle.vb_virtio.specs.Limits.{page_size};
@@ -28,7 +28,7 @@ use vb_device::{QueueRegisters, ServedChain, ServesChains};
 use vb_monitor::{MAX_BYTES, MAX_FIGURES, MAX_PIECES, MAX_RUNS, Outcome};
 use vb_ram::{Frame, GuestBytes, Ram, Shape};
 use vb_request::{Statistics, broken};
-use vb_ring::{Layout, RingArea};
+use vb_ring::{AVAIL_ENTRY_SIZE, Layout, RING_HEADER_SIZE, RingArea};
 use vb_virtio::Refusal;
 use vb_virtio::layout::{DEFLATE_QUEUE, INFLATE_QUEUE, STATISTICS_QUEUE};
 use vb_virtio::negotiation::OFFERED_FEATURES;
@@ -71,7 +71,7 @@ fn ring_for(registers: QueueRegisters, queue: u32) -> Virtqueue
     }
 }
 
-/// The device of plain data that stands where these registers say.
+/// The device of plain data that has these registers.
 fn device_for(registers: QueueRegisters, queue: u32, pages: u32) -> Device
     requires { IsSize registers.queue_size }
     ensures { result ≡ device_for registers queue pages }
@@ -87,6 +87,7 @@ fn device_for(registers: QueueRegisters, queue: u32, pages: u32) -> Device
             reserved_pages: shape.reserved_pages(),
             needs_must_tell: 0,
             skips_bad_pages: 0,
+            holds_deflates: 0,
         },
         features: registers.features.bits(),
         target: 0,
@@ -100,13 +101,13 @@ fn device_for(registers: QueueRegisters, queue: u32, pages: u32) -> Device
     }
 }
 
-/// The head of the entry that stands next.
+/// The head of the next entry.
 fn head_of(memory: &LooseRam, ring: Virtqueue) -> u16
     requires { IsSize ring.size }
     ensures { result ≡ from_le_bytes w16
         (bytes_from memory.now.mem (ring.avail + entry_offset ring) 2) }
 {
-    let entry = 4 + 2 * u64::from(ring.next_avail % ring.size);
+    let entry = RING_HEADER_SIZE + AVAIL_ENTRY_SIZE * u64::from(ring.next_avail % ring.size);
     let mut bytes = [0; 2];
     memory.read(ring.avail + entry, &mut bytes);
     u16::from_le_bytes(bytes)
@@ -145,6 +146,7 @@ fn held_by(kind: Kind, answer: Result<Option<u16>, Refusal>) -> Option<u16>
 /// Serves one chain, in room of its own.
 fn serve_in_room(memory: &mut LooseRam, device: &mut Device, kind: Kind) -> Outcome
     requires end { device.old.settings.memory_end ≡ page_size * length memory.old.mem }
+    requires holds { device.old.settings.holds_deflates ≡ 0 }
     ensures { ServesNext kind device.old device.new result memory.old memory.new }
 {
     let piece = ChainPiece {
@@ -167,7 +169,7 @@ fn serve_in_room(memory: &mut LooseRam, device: &mut Device, kind: Kind) -> Outc
     )
 }
 
-/// Serves the next chain of a queue over memory, by where its device stands there.
+/// Serves the next chain of a queue over memory, by how far its device is there.
 fn serve_over(memory: &mut LooseRam, registers: QueueRegisters, queue: u32) -> ServedChain
     requires known { has_chains queue ≡ true }
     requires size { IsSize registers.queue_size }
@@ -192,7 +194,7 @@ fn serve_over(memory: &mut LooseRam, registers: QueueRegisters, queue: u32) -> S
 
 /// A notice of the monitor, in place of a device's own calls.
 pub struct Notices {
-    /// For what stands where memory is lent.
+    /// For the empty values that take a lent memory's place.
     alloc: Global,
 }
 

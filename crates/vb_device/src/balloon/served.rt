@@ -30,8 +30,9 @@ impl<P: Pace> BalloonDevice<P> {
         }
     }
 
-    /// Serves the next chain of a queue, as `Device::serve` does, by who serves it over the device's
-    /// memory; answers its head, or none where no chain is available. Refused as `serve` is.
+    /// Serves the next chain of a queue, as `Device::serve` does, by a server that goes over the
+    /// device's memory; answers its head, or none where no chain is available. Refused as `serve`
+    /// is.
     pub fn serve_by<S: ServesChains>(
         &mut self,
         server: &mut S,
