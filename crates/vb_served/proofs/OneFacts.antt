@@ -53,6 +53,7 @@ settings = record {
   reserved_pages = 1;
   needs_must_tell = 0;
   skips_bad_pages = 0;
+  holds_deflates = 0;
 }
 
 abbrev ready : Device
@@ -161,7 +162,7 @@ twenty = 4 ∷ 0 ∷ 20 ∷ 0 ∷ 0 ∷ 0 ∷ 0 ∷ 0 ∷ 0 ∷ 0 ∷ []
 
 a_buffer : (after : Device) (outcome : Outcome) (new : Store)
     (h : HoldsBuffer 3 twenty ready after outcome old new) →
-    (new ≡ with_figures (take 1 h.figures) old) × (outcome.tally.held ≡ Some 3)
+    (new ≡ with_figures (take 1 h.figures) old) × (outcome.tally.held ≡ Some (record { head = 3; pages = 0 }))
     × (after.statistics.next_avail ≡ 1) × (after.statistics.next_used ≡ 0)
 a_buffer after outcome new h = (
   h.told,

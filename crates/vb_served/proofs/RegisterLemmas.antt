@@ -1,6 +1,7 @@
 -- A device of plain data that has registers is alike to each device that has them.
-use Rattle.std.proofs.Common.{◌≡◌, ◌∙◌, ap, sym, subst, refl, arith, inl, inr, ℕ, zero, suc, ◌+◌, ◌*◌, ◌/◌, ◌%◌, ◌<◌, ◌≤◌}
+use Rattle.std.proofs.Common.{◌≡◌, ◌∙◌, ap, sym, subst, refl, arith, inl, inr, ℕ, zero, suc, ◌+◌, ◌*◌, ◌/◌, ◌%◌, ◌<◌, ◌≤◌, ◌^◌, ◌-◌}
 use Rattle.std.proofs.Common.{Bool, true, false, List, [], ◌∷◌, length, Option, Some, None, Result, Ok, Err}
+use Rattle.std.proofs.lemmas.Bool.{ltb-false}
 use Rattle.std.proofs.lemmas.Bool.{cases_eq, and_parts}
 use Rattle.std.specs.Prelude.{not, ◌||◌, ◌&&◌, ◌==◌, nat_le, nat_lt, if◌then◌else◌}
 use Rattle.std.specs.Int.{next_multiple_of}
@@ -71,7 +72,16 @@ either true b h e = h
 either false b h e = cc
 
 both : (a b : Bool) → a ≡ true → b ≡ true → (a && b) ≡ true
-both a b x y = cc
+both true true x y = refl
+both true false x y = absurd cc
+both false b x y = absurd cc
+
+three : (a b c : Bool) → a ≡ true → b ≡ true → c ≡ true → (a && b && c) ≡ true
+three a b c x y z = both (a && b) c (both a b x y) z
+
+all_four : (a b c d : Bool) → a ≡ true → b ≡ true → c ≡ true → d ≡ true →
+    (a && b && c && d) ≡ true
+all_four a b c d x y z w = both (a && b && c) d (three a b c x y z) w
 
 -- what is computed for each size: it is one of the core's too, and the used ring is aligned
 abbrev used_at : ℕ → ℕ
@@ -98,8 +108,8 @@ size_so q is = and_parts (is_size q) (used_at q % 4 == 0) (either ((65536 % q ==
 part_so : (end at align len : ℕ) → (at % align == 0) ≡ true → at + len ≤ end →
     is_part end at align len ≡ true
 part_so end at align len aligned fits =
-    both (at % align == 0) (nat_le at end && nat_le len (end - at)) aligned
-    (both (nat_le at end) (nat_le len (end - at)) (grind (arith, fits)) (grind (arith, fits)))
+    three (at % align == 0) (nat_le at end) (nat_le len (end - at)) aligned (grind (arith, fits))
+    (grind (arith, fits))
 
 is_zero : (n : ℕ) → n ≡ 0 → (n == 0) ≡ true
 is_zero n e = grind arith
@@ -122,17 +132,18 @@ place_of r q mem size backed =
     is_zero _ (even page r.queue_size) in
     let used : ((4096 * l.used.page + l.used.offset) % 4 == 0) ≡ true =
     is_zero _ (fourth page (used_at r.queue_size) (of_zero _ (size_so r.queue_size size).1)) in
-    both (is_size r.queue_size) _ (size_so r.queue_size size).0
-    (both (is_part end (4096 * l.table) 16 (16 * r.queue_size)) _
+    all_four (is_size r.queue_size) (is_part end (4096 * l.table) 16 (16 * r.queue_size))
+    (is_part end (4096 * l.avail.page + l.avail.offset) 2 (6 + 2 * r.queue_size))
+    (is_part end (4096 * l.used.page + l.used.offset) 4 (6 + 8 * r.queue_size))
+    (size_so r.queue_size size).0
     (part_so end (4096 * l.table) 16 (16 * r.queue_size) (is_zero _ (sixteenth page))
     (omega (arith, backed_inside mem l.table backed.table, size.most)))
-    (both (is_part end (4096 * l.avail.page + l.avail.offset) 2 (6 + 2 * r.queue_size)) _
     (part_so end (4096 * l.avail.page + l.avail.offset) 2 (6 + 2 * r.queue_size) avail
     (inside_so l.avail.page l.avail.offset (6 + 2 * r.queue_size) (length mem)
     (backed_inside mem l.avail.page backed.avail) fits.avail))
     (part_so end (4096 * l.used.page + l.used.offset) 4 (6 + 8 * r.queue_size) used
     (inside_so l.used.page l.used.offset (6 + 8 * r.queue_size) (length mem)
-    (backed_inside mem l.used.page backed.used) fits.used))))
+    (backed_inside mem l.used.page backed.used) fits.used))
   where
     sixteenth : (page : ℕ) → (4096 * page) % 16 ≡ 0
     sixteenth page = omega arith
@@ -180,11 +191,11 @@ open_denial true true f l p a b c d e = absurd cc
 open_denial false n f l p a b c d e = absurd cc
 
 settings_so : (size n : ℕ) → 4096 * n < MEMORY_LIMIT → are_settings (settings_for size n) ≡ true
-settings_so size n lt = both (nat_lt (4096 * n) MEMORY_LIMIT) true (grind (arith, lt)) refl
+settings_so size n lt = three (nat_lt (4096 * n) MEMORY_LIMIT) true true (grind (arith, lt)) refl refl
 
 empty_so : {A : Type 0} (xs : List A) → nat_lt 0 (length xs) ≡ false → xs ≡ []
 empty_so [] e = refl
-empty_so (x ∷ xs) e = absurd (let few = e in cc)
+empty_so (x ∷ xs) e = absurd (let few = ltb-false 0 (length (x ∷ xs)) e in omega (arith, few))
 
 -- ---- the tie
 
@@ -211,6 +222,9 @@ rings_so kind r p n has =
 no_poison : (b : Bool) → (b && not (0 == 0)) ≡ false
 no_poison true = refl
 no_poison false = refl
+
+low_ring_page : (size q : ℕ) → ring_page size q < 65536
+low_ring_page size q = grind arith
 
 pub tie_so : (kind : Kind) (r : QueueRegisters) (p : Part) (s : Store) → IsSize r.queue_size →
     IsBacked s.mem (layout_of (ring_page r.queue_size (queue_of kind)) r.queue_size) → s.loose ≡ [] →
@@ -246,7 +260,7 @@ tie_so kind r p s size backed none_loose few avail used has lie free =
         size = sized;
         is_end = record {
           fits = fits_at (ring_page p.queue_size q) p.queue_size sized;
-          page = low_page p.queue_size q;
+          page = low_ring_page p.queue_size q;
           next_avail = subst (λ (n : ℕ). n < 65536) (sym has.next_avail) avail;
           next_used = subst (λ (n : ℕ). n < 65536) (sym has.next_used) used;
         };
@@ -268,8 +282,22 @@ tie_so kind r p s size backed none_loose few avail used has lie free =
       none_taken = none;
     }
   where
-    low_page : (size q : ℕ) → ring_page size q < 65536
-    low_page size q = grind arith
-
     some_taken : (q : ℕ) → nat_le (most_taken q) 0 ≡ false
     some_taken q = grind arith
+
+-- the ring of the registers, by which the device was made
+pub ring_is : (kind : Kind) (r : QueueRegisters) (q n : ℕ) (d : Device) (x : Virtqueue) →
+    d ≡ device_for r q n → x ≡ ring_of kind d → x ≡ ring_for r q
+ring_is kind r q n d x e f =
+    f ∙ (ap (λ (y : Device). ring_of kind y) e ∙ ring_same kind r q n)
+
+-- it is in the first pages
+pub low_ring : (r : QueueRegisters) (q : ℕ) → IsSize r.queue_size → (ring_for r q).avail < 2 ^ 63
+low_ring r q size = low (ring_page r.queue_size q) r.queue_size (low_ring_page r.queue_size q) size.most
+  where
+    low : (page size : ℕ) → page < 65536 → size ≤ 256 →
+        4096 * (page + 16 * size / 4096) + 16 * size % 4096 < 2 ^ 63
+    low page size lt most =
+        let same : 4096 * (page + 16 * size / 4096) + 16 * size % 4096 ≡ 4096 * page + 16 * size = omega arith in
+        let far : 4096 * page + 16 * size < 9223372036854775808 = omega (arith, lt, most) in
+        subst (λ (n : ℕ). n < 2 ^ 63) (sym same) far

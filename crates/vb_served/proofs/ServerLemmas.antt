@@ -1,6 +1,6 @@
 -- Notices in place of a device's own calls.
 use Rattle.std.proofs.Common.{◌≡◌, ◌∙◌, ap, sym, subst, refl, arith, inl, inr, ℕ, zero, suc, ◌+◌, ◌*◌, ◌/◌, ◌%◌, ◌<◌, ◌≤◌}
-use Rattle.std.proofs.Common.{Bool, true, false, List, [], ◌∷◌, length, Option, Some, None, Result, Ok, Err}
+use Rattle.std.proofs.Common.{Bool, true, false, List, [], ◌∷◌, length, Option, Some, None, Result, Ok, Err, rules}
 use Rattle.std.proofs.lemmas.Bool.{cases_eq, and_parts}
 use Rattle.std.specs.Prelude.{not, ◌||◌, ◌&&◌, ◌==◌, nat_le, nat_lt, if◌then◌else◌}
 use Rattle.std.specs.Int.{next_multiple_of}
@@ -154,10 +154,10 @@ pub record IsAsked (kind : Kind) (r : QueueRegisters) (s : Store) : Type 0 where
   pub used : r.next_used < 65536
   pub open_so : take_refusal_by (queue_of kind) (status_bits r.status) (feature_bits r.features) ≡ None
 
-abbrev device_of : Kind → QueueRegisters → Store → Device
+abbrev pub device_of : Kind → QueueRegisters → Store → Device
 device_of kind r s = device_for r (queue_of kind) (length s.mem)
 
-abbrev head_for : Kind → QueueRegisters → Store → ℕ
+abbrev pub head_for : Kind → QueueRegisters → Store → ℕ
 head_for kind r s = head_in (byte s) (ring_for r (queue_of kind))
 
 tied : (kind : Kind) (r : QueueRegisters) (s : Store) (p : Part) → IsAsked kind r s →

@@ -1,13 +1,13 @@
 //! A notice of the monitor serves the chains of a device's queue.
 
-ghost use Rattle.std.specs.Prelude.{◌≡◌, ◌+◌, ◌*◌, [], true, length};
+ghost use Rattle.std.specs.Prelude.{◌≡◌, ◌+◌, ◌*◌, ◌<◌, ◌^◌, [], true, length, None};
 ghost use Rattle.std.specs.Int.{w16, from_le_bytes};
 ghost use Rattle.vb_virtio.specs.Layout.{ring_page};
 ghost use Rattle.vb_virtio.specs.Limits.{page_size};
 ghost use Rattle.vb_virtio.specs.Queues.{has_chains};
-ghost use Rattle.vb_virtio.specs.Status.{contains, driver_ok};
-ghost use Rattle.vb_status.specs.Bits.{status_bits};
+ghost use Rattle.vb_status.specs.Bits.{status_bits, feature_bits};
 ghost use Rattle.vb_ring.specs.Layout.{IsBacked, IsSize, layout_of};
+ghost use Rattle.vb_request.specs.Refusals.{take_refusal_by};
 ghost use Rattle.vb_request.specs.Request.{bytes_from};
 ghost use Rattle.vb_core.specs.Devices.{ring_of};
 ghost use Rattle.vb_core.specs.Kinds.{queue_of};
@@ -103,7 +103,8 @@ fn device_for(registers: QueueRegisters, queue: u32, pages: u32) -> Device
 
 /// The head of the next entry.
 fn head_of(memory: &LooseRam, ring: Virtqueue) -> u16
-    requires { IsSize ring.size }
+    requires size { IsSize ring.size }
+    requires low { ring.avail < 2 ^ 63 }
     ensures { result ≡ from_le_bytes w16
         (bytes_from memory.now.mem (ring.avail + entry_offset ring) 2) }
 {
@@ -169,6 +170,22 @@ fn serve_in_room(memory: &mut LooseRam, device: &mut Device, kind: Kind) -> Outc
     )
 }
 
+/// A number of 16 bits.
+fn short(number: u16) -> u16
+    ensures is { result ≡ number }
+    ensures few { result < 65536 }
+{
+    number
+}
+
+/// A number of 32 bits.
+fn long(number: u32) -> u32
+    ensures is { result ≡ number }
+    ensures few { result < 4294967296 }
+{
+    number
+}
+
 /// Serves the next chain of a queue over memory, by how far its device is there.
 fn serve_over(memory: &mut LooseRam, registers: QueueRegisters, queue: u32) -> ServedChain
     requires known { has_chains queue ≡ true }
@@ -176,10 +193,16 @@ fn serve_over(memory: &mut LooseRam, registers: QueueRegisters, queue: u32) -> S
     requires backed { IsBacked memory.old.mem (layout_of (ring_page registers.queue_size queue)
         registers.queue_size) }
     requires none { memory.old.loose ≡ [] }
+    requires open_so { take_refusal_by queue (status_bits registers.status)
+        (feature_bits registers.features) ≡ None }
     ensures served { ServesKind registers queue memory.old memory.new result }
 {
+    // Asked for the proof: that numbers have 16 and 32 bits is a clause of these calls alone.
+    let _avail = short(registers.next_avail);
+    let _used = short(registers.next_used);
+    let pages = long(memory.pages());
     let kind = kind_of(queue);
-    let mut device = device_for(registers, queue, memory.pages());
+    let mut device = device_for(registers, queue, pages);
     let head = head_of(memory, device.ring(kind));
     let outcome = serve_in_room(memory, &mut device, kind);
     let ring = device.ring(kind);
