@@ -1,23 +1,20 @@
 -- Devices that are alike stay so.
-use Rattle.std.proofs.Common.{◌≡◌, ◌∙◌, ap, sym, subst, refl, arith, inl, inr, ◌⊎◌, ℕ, ◌+◌, ◌*◌, ◌%◌, ◌<◌, ◌≤◌}
-use Rattle.std.proofs.Common.{Bool, true, false, List, [], length, Option, Some, None}
+use Rattle.std.proofs.Common.{◌≡◌, ap, sym, subst, inl, inr, ◌⊎◌, ℕ, ◌<◌, ◌≤◌}
+use Rattle.std.proofs.Common.{List, length, Option, Some, None}
 use Rattle.std.specs.Prelude.{IsSome, All, bit_or}
 use Rattle.std.proofs.lemmas.{Bool.cases_lt, List.get_or_past}
-use Rattle.vb_virtio.specs.Layout.{reserved_pages, ring_page}
-use Rattle.vb_ram.specs.{Pages.{Page, Pages, page_at, frame_at, number_of}, Part.{Part, QueuePart}}
-use Rattle.vb_chain.specs.declared.{fault.ChainFault.ChainFault, pieces.Piece.Piece}
-use Rattle.vb_ring.specs.{Ends.IsDeviceEnd, Layout.{IsSize, IsBacked}}
+use Rattle.vb_virtio.specs.Layout.{reserved_pages}
+use Rattle.vb_ram.specs.{Pages.{Page, Pages, page_at, frame_at, number_of}, Part.{Part}}
+use Rattle.vb_ring.specs.{Layout.{IsSize, IsBacked}}
 use Rattle.vb_core.specs.declared.kinds.Kind.{Kind}
 use Rattle.vb_core.specs.declared.kinds.Kind.TheVariants.{Inflate, Deflate, Statistics, Report}
 use Rattle.vb_core.specs.declared.device.Device.{Device}
 use Rattle.vb_core.specs.Kinds.{queue_of}
-use Rattle.vb_core.specs.Devices.{needing_reset, ring_of, with_one_taken}
+use Rattle.vb_core.specs.Devices.{needing_reset, ring_of}
 use Rattle.vb_device.specs.Discards.{discarded}
-use Rattle.vb_device.specs.Calls.{taking, noting, using}
 use Rattle.vb_device.specs.Faults.{needing_reset as part_needing_reset}
-use Rattle.vb_device.specs.Queues.{queue_part, with_queue, queue_layout, queue_end}
+use Rattle.vb_device.specs.Queues.{queue_layout}
 use Rattle.vb_device.proofs.{Discards.reserved_still, Rings.backed_still}
-use Rattle.vb_monitor.specs.Giving.{after_use}
 use Rattle.vb_served.specs.{Store.Store, Alike.{IsAlike, AreRings}}
 
 -- a rule is broken

@@ -1,21 +1,20 @@
 -- What a notice discards of runs, over all of a memory, is their pages.
-use Rattle.std.proofs.Common.{◌≡◌, ◌∙◌, ap, sym, subst, refl, arith, ℕ, zero, suc, ◌+◌, ◌*◌, ◌/◌, ◌<◌, ◌≤◌}
+use Rattle.std.proofs.Common.{◌≡◌, ◌∙◌, ap, sym, subst, refl, arith, ℕ, ◌+◌, ◌*◌, ◌/◌, ◌<◌, ◌≤◌}
 use Rattle.std.proofs.Common.{Bool, true, false, List, [], ◌∷◌, ◌++◌, length, get_or}
-use Rattle.std.specs.Prelude.{◌==◌, ◌||◌, ◌-◌, cond, if◌then◌else◌, min, max}
+use Rattle.std.specs.Prelude.{◌==◌, ◌-◌, cond, if◌then◌else◌}
 use Rattle.std.specs.List.{range_with_len}
 use Rattle.std.proofs.lemmas.Bool.Decides.{nat_tests}
 use Rattle.std.proofs.lemmas.List.{ext_get_or}
 use Rattle.vb_virtio.specs.Tests.{is_in, times}
 use Rattle.vb_virtio.proofs.Tables.{count_by-append}
-use Rattle.vb_ram.specs.Pages.{Pages}
 use Rattle.vb_request.specs.Request.{each_once}
 use Rattle.vb_core.specs.declared.{runs.Run.Run, settings.TheConstants.MEMORY_LIMIT}
 use Rattle.vb_core.specs.Runs.{pages_of_run, pages_of_runs}
 use Rattle.vb_device.specs.Discards.{discarded, frames_behind, flagged}
-use Rattle.vb_device.proofs.{Discards.{discarded_none, discarded-length}, Marks.{flagged-at, flagged-length}}
+use Rattle.vb_device.proofs.{Discards.{discarded_none}, Marks.{flagged-at, flagged-length}}
 use Rattle.vb_monitor.specs.declared.{regions.Region.Region, cuts.Cut.Cut}
 use Rattle.vb_monitor.specs.Regions.{cuts_from, cuts_of, cut_of, meets, first_both, end_both}
-use Rattle.vb_served.specs.Store.{Store, After, pages_of_cut}
+use Rattle.vb_served.specs.Store.{Store, pages_of_cut}
 use Rattle.vb_served.specs.One.{all_of, Discards}
 use Rattle.vb_served.proofs.LostFrames.{backing, all_lost, discarded_both}
 

@@ -1,14 +1,14 @@
 -- A used element that is written by addresses is one that a queue adds.
-use Rattle.std.proofs.Common.{◌≡◌, ◌∙◌, ap, sym, subst, refl, arith, ℕ, ◌+◌, ◌*◌, ◌/◌, ◌%◌, ◌<◌, ◌≤◌}
-use Rattle.std.proofs.Common.{List, length, Option, Some, None}
+use Rattle.std.proofs.Common.{◌≡◌, ◌∙◌, ap, sym, subst, arith, ℕ, ◌+◌, ◌*◌, ◌/◌, ◌%◌, ◌<◌, ◌≤◌}
+use Rattle.std.proofs.Common.{List, length}
 use Rattle.std.specs.Prelude.{IsSome, ◌^◌}
 use Rattle.std.specs.Int.{w16, w32, to_le_bytes}
-use Rattle.vb_ram.specs.Pages.{Pages, frame_at, Covers, Wrote, PutField}
+use Rattle.vb_ram.specs.Pages.{Pages, frame_at, Wrote, PutField}
 use Rattle.vb_ram.{specs.Part.Part, proofs.FieldLaws.{put_2, put_4}}
-use Rattle.vb_ring.specs.{Ends.IsDeviceEnd, Calls.{AddsUsedBy, PutsUsed}, Layout.{IsSize, IsBacked}}
+use Rattle.vb_ring.specs.{Ends.IsDeviceEnd, Calls.{AddsUsedBy, PutsUsed}, Layout.{IsSize}}
 use Rattle.vb_ring.specs.Entries.{used_index, used_place}
 use Rattle.vb_ring.proofs.{Puts.puts_used, Assemble.adds_used_by}
-use Rattle.vb_core.specs.declared.ring.{Virtqueue.Virtqueue, UsedEntry.UsedEntry}
+use Rattle.vb_core.specs.declared.ring.{Virtqueue.Virtqueue}
 use Rattle.vb_core.specs.Rings.{used_entry}
 use Rattle.vb_device.specs.Queues.{queue_part, queue_layout, queue_end}
 use Rattle.vb_served.specs.{Store.{Store, Puts}, One.Gives, Alike.AreRings}

@@ -4,8 +4,6 @@ use Rattle.std.proofs.Common.{List, [], ◌∷◌, ◌++◌, map, Option, Some, 
 use Rattle.std.specs.Prelude.{IsOk}
 use Rattle.std.specs.Int.{w16, w32, to_le_bytes}
 use Rattle.vb_chain.specs.declared.fault.ChainFault.{ChainFault}
-use Rattle.vb_core.specs.declared.kinds.Kind.{Kind}
-use Rattle.vb_core.specs.declared.kinds.Kind.TheVariants.{Inflate, Deflate, Statistics, Report}
 use Rattle.vb_core.specs.declared.ring.UsedEntry.{UsedEntry}
 use Rattle.vb_core.specs.declared.device.{Denial.Denial, Device.Device}
 use Rattle.vb_core.specs.Devices.{ring_of}

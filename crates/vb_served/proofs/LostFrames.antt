@@ -1,6 +1,6 @@
 -- Frames that pages lose: each is loose then, or backs its page as before.
 use Rattle.std.proofs.Common.{◌≡◌, ◌∙◌, ap, sym, subst, refl, arith, inl, inr, ℕ, zero, suc, ◌+◌, ◌<◌, ◌≤◌}
-use Rattle.std.proofs.Common.{Bool, true, false, List, [], ◌∷◌, ◌++◌, length, get_or, take, add-one}
+use Rattle.std.proofs.Common.{Bool, true, false, List, [], ◌++◌, length, get_or, take, add-one}
 use Rattle.std.proofs.Common.{Option, Some, None, ◌⊎◌}
 use Rattle.std.specs.Prelude.{◌==◌, ◌||◌, cond, count_by}
 use Rattle.std.specs.Option.{option_to_list}

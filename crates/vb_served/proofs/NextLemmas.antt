@@ -1,5 +1,5 @@
 -- The next chain of a queue is served, by what memory says of it.
-use Rattle.std.proofs.Common.{◌≡◌, ◌≢◌, ◌∙◌, ap, sym, subst, refl, arith, inl, inr, ℕ, suc, zero}
+use Rattle.std.proofs.Common.{◌≡◌, ◌≢◌, sym, subst, refl, arith, inl, inr, ℕ, suc}
 use Rattle.std.proofs.Common.{◌+◌, ◌<◌, ◌≤◌, Bool, true, false, List, [], ◌∷◌, length, Option, Some}
 use Rattle.std.proofs.Common.{None, Result, Ok, Err}
 use Rattle.std.specs.Prelude.{◌==◌, nat_lt}
@@ -13,7 +13,7 @@ use Rattle.vb_core.specs.declared.ring.Virtqueue.{Virtqueue}
 use Rattle.vb_core.specs.declared.device.{Denial.Denial, Device.Device, Denial.TheVariants.Broken}
 use Rattle.vb_core.specs.Devices.{ring_of, needing_reset, queue_denial}
 use Rattle.vb_core.proofs.{DenialLemmas.open_call, RingLemmas.placed_size}
-use Rattle.vb_monitor.specs.declared.{regions.Region.Region, regions.Spot.Spot}
+use Rattle.vb_monitor.specs.declared.{regions.Spot.Spot}
 use Rattle.vb_monitor.specs.declared.outcome.{Budget.Budget, Tally.Tally, Outcome.Outcome}
 use Rattle.vb_monitor.specs.Accesses.{Access, ReadWord, Acquire, Makes}
 use Rattle.vb_monitor.specs.Regions.{spot}
@@ -23,13 +23,13 @@ use Rattle.vb_monitor.specs.Machine.{next_chain, serves}
 use Rattle.vb_monitor.specs.Notices.{entry_offset, stands, HeadBy, EntryAt, TakesChain, AfterIndex}
 use Rattle.vb_monitor.specs.Notices.{IndexAt, LooksBy, TakesUnlessSpent, TakesNext, with_chains}
 use Rattle.vb_monitor.specs.Notices.{fresh, with_published, ServesPublished, Serves}
-use Rattle.vb_monitor.specs.Still.{IsMapped, StaysUntil, index_in}
+use Rattle.vb_monitor.specs.Still.{StaysUntil, index_in}
 use Rattle.vb_monitor.proofs.{StillFound.ends_so, StillWalk.{Walk, walks, none_shows}}
 use Rattle.vb_served.specs.Store.{Store, After}
-use Rattle.vb_served.specs.One.{byte, all_of, head_in, descriptor_in, Leaves, BreaksRule}
+use Rattle.vb_served.specs.One.{byte, all_of, head_in, descriptor_in, BreaksRule}
 use Rattle.vb_served.specs.One.{ServesNext, Denied, Jumped, NoneThere, Broke, Found}
-use Rattle.vb_served.proofs.StaysLemmas.{IsPlain, Between, stays_so}
-use Rattle.vb_served.proofs.OneLemmas.{over, IsFound, by_kind}
+use Rattle.vb_served.proofs.StaysLemmas.{Between, stays_so}
+use Rattle.vb_served.proofs.OneLemmas.{over, by_kind}
 use Rattle.vb_served.proofs.MayServe.{IsOf, MayServe, ring_mapped, parts_mapped, may_give}
 use Rattle.vb_served.proofs.WholeMemory.{plain_all}
 

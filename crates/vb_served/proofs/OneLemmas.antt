@@ -1,6 +1,6 @@
 -- A chain of each kind is served.
-use Rattle.std.proofs.Common.{◌≡◌, ◌≢◌, ◌∙◌, ap, sym, subst, refl, arith, ℕ, zero, ◌+◌, ◌≤◌, Bool}
-use Rattle.std.proofs.Common.{true, false, List, [], ◌∷◌, ◌++◌, length, map, take, Option, Some}
+use Rattle.std.proofs.Common.{◌≡◌, ◌≢◌, ◌∙◌, ap, sym, subst, refl, arith, ℕ, ◌+◌, ◌≤◌, Bool}
+use Rattle.std.proofs.Common.{true, false, List, ◌++◌, length, map, take, Option, Some}
 use Rattle.std.proofs.Common.{None, Result, Ok, Err}
 use Rattle.std.specs.Prelude.{IsOk, ◌&&◌, ◌/◌, nat_le}
 use Rattle.std.proofs.lemmas.Bool.Decides.{nat_tests}
@@ -9,7 +9,7 @@ use Rattle.vb_request.specs.Request.{request_length}
 use Rattle.vb_request.specs.Statistics.{statistics_length, is_statistics_length}
 use Rattle.vb_core.specs.declared.kinds.Kind.{Kind}
 use Rattle.vb_core.specs.declared.kinds.Kind.TheVariants.{Inflate, Deflate, Statistics, Report}
-use Rattle.vb_core.specs.declared.{runs.Run.Run, name.Named.Named, statistics.Statistic.Statistic}
+use Rattle.vb_core.specs.declared.{runs.Run.Run, name.Named.Named}
 use Rattle.vb_core.specs.declared.device.{Denial.Denial, Device.Device, Denial.TheVariants.Broken}
 use Rattle.vb_core.specs.Name.{NamesBy}
 use Rattle.vb_core.specs.Report.{NamesPiecesBy}
@@ -18,24 +18,24 @@ use Rattle.vb_core.specs.Devices.{ring_of, needing_reset, queue_denial, with_one
 use Rattle.vb_core.specs.Config.{keeps_reports}
 use Rattle.vb_core.specs.Statistics.{statistics_denial}
 use Rattle.vb_core.specs.Using.{use_denial}
-use Rattle.vb_monitor.specs.declared.{regions.Region.Region, cuts.Cut.Cut}
+use Rattle.vb_monitor.specs.declared.{regions.Region.Region}
 use Rattle.vb_monitor.specs.declared.outcome.{Tally.Tally, Outcome.Outcome}
-use Rattle.vb_monitor.specs.Accesses.{Access, TellFigures, Discard, Steps}
+use Rattle.vb_monitor.specs.Accesses.{Access, Discard, Steps}
 use Rattle.vb_monitor.specs.Regions.{spot}
 use Rattle.vb_monitor.specs.Ends.{Whole, Breaks, EndsWhere}
 use Rattle.vb_monitor.specs.Giving.{GivesBackBy, AfterName, after_use, cuts_for, is_kept, spent}
 use Rattle.vb_monitor.specs.Giving.{used_spots, TellsThen, OnceTold, with_held, with_named, held_if, DiscardsThen}
 use Rattle.vb_monitor.specs.Notices.{stands}
-use Rattle.vb_monitor.specs.Chains.{AfterBytes, CopiesBy, FiguresBy, TellsFigures, NamesReport}
+use Rattle.vb_monitor.specs.Chains.{CopiesBy, FiguresBy, TellsFigures, NamesReport}
 use Rattle.vb_monitor.specs.{Pieces.all_parts}
 use Rattle.vb_monitor.specs.declared.outcome.{HeldChain.HeldChain}
 use Rattle.vb_core.specs.Settings.{holds_chains}
 use Rattle.vb_core.specs.declared.settings.Settings.{Settings}
 use Rattle.vb_monitor.specs.Machine.{next_chain, serves, whole}
-use Rattle.vb_monitor.specs.Still.{bytes_of, StaysUntil, AfterReads, ArePartsMapped}
+use Rattle.vb_monitor.specs.Still.{bytes_of, StaysUntil, ArePartsMapped}
 use Rattle.vb_monitor.proofs.{StillFound.ends_so, StillParts.served_by_bytes}
-use Rattle.vb_served.specs.Store.{Store, After, with_marks, with_figures}
-use Rattle.vb_served.specs.One.{byte, Discards, NamesOne, Settles, ServesRequest, ServesReport}
+use Rattle.vb_served.specs.Store.{Store, After, with_marks}
+use Rattle.vb_served.specs.One.{byte, Discards, NamesOne, Settles, ServesReport}
 use Rattle.vb_served.specs.One.{BreaksRule, HoldsBuffer, RequestBy, BufferBy, ServesChain, all_of}
 use Rattle.vb_served.proofs.StaysLemmas.{IsPlain, Between, from_same}
 use Rattle.vb_served.proofs.EndLemmas.{apart, used_so}

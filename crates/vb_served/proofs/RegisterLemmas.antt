@@ -1,48 +1,37 @@
 -- A device of plain data that has registers is alike to each device that has them.
 use Rattle.std.proofs.Common.{◌≡◌, ◌∙◌, ap, sym, subst, refl, arith, inl, inr, ℕ, zero, suc, ◌+◌, ◌*◌, ◌/◌, ◌%◌, ◌<◌, ◌≤◌, ◌^◌, ◌-◌}
-use Rattle.std.proofs.Common.{Bool, true, false, List, [], ◌∷◌, length, Option, Some, None, Result, Ok, Err}
+use Rattle.std.proofs.Common.{Bool, true, false, List, [], ◌∷◌, length, None}
 use Rattle.std.proofs.lemmas.Bool.{ltb-false}
 use Rattle.std.proofs.lemmas.Bool.{cases_eq, and_parts}
-use Rattle.std.specs.Prelude.{not, ◌||◌, ◌&&◌, ◌==◌, nat_le, nat_lt, if◌then◌else◌}
+use Rattle.std.specs.Prelude.{not, ◌||◌, ◌&&◌, ◌==◌, nat_le, nat_lt}
 use Rattle.std.specs.Int.{next_multiple_of}
-use Rattle.vb_virtio.specs.declared.refusals.Refusal.{Refusal}
-use Rattle.vb_virtio.specs.declared.refusals.Refusal.TheVariants.{NoQueue, NotReady, NeedsReset, Busy, Broken}
+use Rattle.vb_virtio.specs.declared.refusals.Refusal.TheVariants.{NoQueue, NotReady, NeedsReset, Busy}
 use Rattle.vb_virtio.specs.FirstRefusal.{◌⇒◌, first_refusal}
 use Rattle.vb_virtio.specs.Layout.{ring_page}
 use Rattle.vb_virtio.specs.Queues.{has_chains, lacks_feature}
 use Rattle.vb_virtio.specs.Status.{is_not_ready, has_fault}
-use Rattle.vb_ram.specs.{Pages.Pages, Part.{Part, no_part, no_queue}}
-use Rattle.vb_status.specs.Bits.{status_bits, feature_bits}
-use Rattle.vb_chain.specs.declared.fault.ChainFault.{ChainFault}
+use Rattle.vb_ram.specs.{Pages.Pages, Part.{Part}}
+use Rattle.vb_status.specs.Bits.{feature_bits}
 use Rattle.vb_ring.specs.Layout.{IsSize, IsBacked, Fits, layout_of}
 use Rattle.vb_ring.proofs.Shapes.{fits_at}
-use Rattle.vb_request.specs.Refusals.{rule_of, take_refusal_by}
 use Rattle.vb_core.specs.declared.kinds.Kind.{Kind}
 use Rattle.vb_core.specs.declared.kinds.Kind.TheVariants.{Inflate, Deflate, Statistics, Report}
-use Rattle.vb_core.specs.declared.device.{Denial.Denial, Device.Device}
+use Rattle.vb_core.specs.declared.device.{Device.Device}
 use Rattle.vb_core.specs.declared.device.Denial.TheVariants.{NoQueue as NoQueueDenied, BadArgument}
 use Rattle.vb_core.specs.declared.device.Denial.TheVariants.{NotReady as NotReadyDenied}
 use Rattle.vb_core.specs.declared.device.Denial.TheVariants.{NeedsReset as NeedsResetDenied, Misplaced}
-use Rattle.vb_core.specs.declared.device.Denial.TheVariants.{Broken as BreaksIt}
 use Rattle.vb_core.specs.declared.settings.TheConstants.{MEMORY_LIMIT}
-use Rattle.vb_core.specs.{Kinds.queue_of, Config.keeps_reports, Settings.are_settings}
+use Rattle.vb_core.specs.{Kinds.queue_of, Settings.are_settings}
 use Rattle.vb_core.specs.Rings.{has_place, is_part, is_size}
-use Rattle.vb_core.specs.Devices.{ring_of, queue_denial, first_denial, ◌⇛◌}
-use Rattle.vb_device.specs.Queues.{queue_part, with_queue, next_available}
-use Rattle.vb_device.specs.Conditions.{serve_refusal, take_refusal}
-use Rattle.vb_device.specs.Calls.{ServesBy, TakesBy, FollowsTake}
-use Rattle.vb_device.specs.ServedChains.{HasRegisters, HasBeside, advanced}
-use Rattle.vb_device.specs.declared.serving.{QueueRegisters.QueueRegisters, ServedChain.ServedChain}
-use Rattle.vb_monitor.specs.declared.outcome.Outcome.{Outcome}
-use Rattle.vb_monitor.specs.Notices.{stands}
-use Rattle.vb_monitor.specs.Still.{index_in}
-use Rattle.vb_monitor.proofs.StillFound.{found_by}
-use Rattle.vb_served.specs.{Store.Store, Alike.{IsAlike, AreRings}, Registers.{device_for, ring_for}}
+use Rattle.vb_core.specs.Devices.{ring_of, first_denial, ◌⇛◌}
+use Rattle.vb_device.specs.Queues.{queue_part}
+use Rattle.vb_device.specs.Conditions.{serve_refusal}
+use Rattle.vb_device.specs.ServedChains.{HasRegisters, HasBeside}
+use Rattle.vb_device.specs.declared.serving.{QueueRegisters.QueueRegisters}
+use Rattle.vb_served.specs.{Store.Store, Alike.{AreRings}, Registers.{device_for, ring_for}}
 use Rattle.vb_served.specs.Registers.{settings_for}
-use Rattle.vb_served.specs.One.{ServesNext, byte, head_in}
-use Rattle.vb_served.specs.Tied.{IsServedAlike, ServesKind, answer_of, beside, chain_of, held_by}
-use Rattle.vb_served.specs.Tied.{reason_of, taken_by}
-use Rattle.vb_served.proofs.{TieLemmas.{IsTie, next_is}, TieQueues.served_alike}
+use Rattle.vb_served.specs.Tied.{beside}
+use Rattle.vb_served.proofs.{TieLemmas.{IsTie}}
 use Rattle.vb_served.proofs.AlikeLemmas.{backed_inside}
 use Rattle.vb_core.specs.declared.ring.Virtqueue.{Virtqueue}
 use Rattle.vb_core.specs.Settings.{page_poison}
@@ -50,8 +39,6 @@ use Rattle.vb_virtio.specs.Layout.{reserved_pages}
 use Rattle.vb_virtio.specs.Queues.{Request}
 use Rattle.vb_model.specs.Tables.{most_taken}
 use Rattle.vb_served.specs.Alike.{address_of}
-use Rattle.std.specs.Prelude.{IfSome}
-use Rattle.vb_device.proofs.Serves.{serve_open}
 use lib.Count
 
 -- ---- sizes

@@ -1,30 +1,29 @@
 -- What a request's bytes come to is what the definitions give of it.
-use Rattle.std.proofs.Common.{◌≡◌, ◌∙◌, ap, sym, subst, refl, arith, ℕ, ◌+◌, ◌*◌, ◌/◌, ◌<◌, ◌≤◌}
-use Rattle.std.proofs.Common.{Bool, true, false, List, [], ◌∷◌, length, take, Option, Some, None}
+use Rattle.std.proofs.Common.{◌≡◌, ◌∙◌, ap, sym, subst, refl, arith, ℕ, ◌/◌, ◌<◌}
+use Rattle.std.proofs.Common.{Bool, true, false, List, length, take, Option, Some, None}
 use Rattle.std.proofs.Common.{Result, Ok, Err}
 use Rattle.std.specs.Prelude.{◌&&◌, not, nat_le, if◌then◌else◌, IsOkAnd}
 use Rattle.std.specs.List.{list_any}
 use Rattle.std.proofs.lemmas.Bool.Decides.{nat_tests}
 use Rattle.vb_virtio.specs.Tests.{is_in}
-use Rattle.vb_ram.specs.Pages.{Pages, end_of}
+use Rattle.vb_ram.specs.Pages.{Pages}
 use Rattle.vb_chain.specs.declared.{fault.ChainFault.ChainFault, pieces.Piece.Piece}
 use Rattle.vb_chain.specs.declared.fault.ChainFault.TheVariants.{WrongDirection, BadLength}
-use Rattle.vb_request.specs.Request.{bytes_of, byte_of_address, request_length, is_request_length}
+use Rattle.vb_request.specs.Request.{bytes_of, request_length, is_request_length}
 use Rattle.vb_request.specs.Request.{page_request, pages_of_numbers, numbers_of, total_length}
 use Rattle.vb_request.specs.Request.{first_number_fault, unless_fault, each_once}
 use Rattle.vb_request.proofs.{Bytes.read_numbers, RequestPages.request_pages}
 use Rattle.vb_core.specs.declared.kinds.Kind.{Kind}
-use Rattle.vb_core.specs.declared.kinds.Kind.TheVariants.{Inflate, Deflate, Statistics, Report}
 use Rattle.vb_core.specs.declared.{runs.Run.Run, name.Named.Named}
 use Rattle.vb_core.specs.declared.device.{Denial.Denial, Device.Device, Denial.TheVariants.Broken}
 use Rattle.vb_core.specs.Devices.{queue_denial, call_denial, needing_reset, with_one_taken}
-use Rattle.vb_core.specs.Name.{right_numbers, is_request, name_denial, after_request, NamesBy, NamesRuns, AreNamed}
+use Rattle.vb_core.specs.Name.{right_numbers, is_request, name_denial, after_request, NamesRuns, AreNamed}
 use Rattle.vb_core.specs.Name.{told}
 use Rattle.vb_core.specs.Runs.{pages_of_runs}
 use Rattle.vb_core.specs.Settings.{memory_pages, skips}
 use Rattle.vb_core.proofs.NamedLaws.{named_fault, named_members}
 use Rattle.vb_monitor.specs.Still.{bytes_of as read_bytes}
-use Rattle.vb_served.specs.{Store.Store, One.{byte, BreaksRule, NamesOne, RequestBy, ServesRequest, Settles}}
+use Rattle.vb_served.specs.{Store.Store, One.{byte, BreaksRule, NamesOne, ServesRequest, Settles}}
 use Rattle.vb_served.proofs.RoomLemmas.{request_bytes}
 use Rattle.vb_served.proofs.RunPages.{in_all, are_inside, tells_some}
 use Rattle.vb_served.proofs.CutLemmas.{AreInside}

@@ -1,5 +1,5 @@
 -- There is room for the bytes of a chain.
-use Rattle.std.proofs.Common.{◌≡◌, ◌∙◌, refl, arith, ℕ, ◌+◌, ◌≤◌, true, List, [], ◌∷◌, length, Ok}
+use Rattle.std.proofs.Common.{◌≡◌, refl, arith, ℕ, ◌+◌, ◌≤◌, List, [], ◌∷◌, length, Ok}
 use Rattle.std.proofs.lemmas.{Bool.Decides.nat_tests, List.length-append}
 use Rattle.std.proofs.lemmas.List.FromFn.{length-map-range_with_len}
 use Rattle.std.proofs.lemmas.List.Sums.{sum_by-cons}

@@ -1,13 +1,13 @@
 -- Runs that tell pages of memory.
-use Rattle.std.proofs.Common.{◌≡◌, ◌∙◌, ap, sym, subst, refl, arith, ℕ, zero, suc, ◌+◌, ◌<◌, ◌≤◌}
-use Rattle.std.proofs.Common.{Bool, true, false, List, [], ◌∷◌, ◌++◌, length, Option, Some, None}
+use Rattle.std.proofs.Common.{◌≡◌, ◌∙◌, ap, sym, subst, refl, arith, ℕ, suc, ◌+◌, ◌<◌, ◌≤◌}
+use Rattle.std.proofs.Common.{Bool, true, false, List, [], ◌∷◌, ◌++◌, Option, Some, None}
 use Rattle.std.specs.Prelude.{All, ◌==◌, ◌||◌, ◌-◌, if◌then◌else◌}
 use Rattle.std.specs.List.{range_with_len}
 use Rattle.std.proofs.lemmas.{Bool.eqb-true, List.Folds.list_any-append}
 use Rattle.vb_virtio.specs.Tests.{is_in}
 use Rattle.vb_virtio.proofs.Ranges.{outside-range}
 use Rattle.vb_core.specs.declared.runs.Run.{Run}
-use Rattle.vb_core.specs.Runs.{pages_of_run, pages_of_runs, joined, Grows, one_page, Tell}
+use Rattle.vb_core.specs.Runs.{pages_of_run, pages_of_runs, Grows, one_page, Tell}
 use Rattle.vb_served.proofs.CutLemmas.{AreInside, No_more, One_more}
 
 one_of : (P : ℕ → Type 0) (n p : ℕ) (in_rest b : Bool) → (n == p) ≡ b → P n →

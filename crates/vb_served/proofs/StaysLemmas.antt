@@ -1,5 +1,5 @@
 -- What a notice reads first is what memory had at first.
-use Rattle.std.proofs.Common.{◌≡◌, ◌∙◌, ap, subst, ℕ, List, [], ◌∷◌, length, Option, Some}
+use Rattle.std.proofs.Common.{◌≡◌, ◌∙◌, ap, subst, ℕ, List, [], ◌∷◌, length, Some}
 use Rattle.std.specs.Int.{w16, from_le_bytes}
 use Rattle.vb_request.specs.Request.{bytes_from}
 use Rattle.vb_monitor.specs.declared.regions.{Region.Region, Spot.Spot}

@@ -1,12 +1,11 @@
 -- What a take is, by what the guest's bytes say next.
-use Rattle.std.proofs.Common.{◌≡◌, ◌∙◌, ap, sym, subst, refl, ℕ, ◌*◌, List, length, Option, Some, None}
+use Rattle.std.proofs.Common.{◌≡◌, ◌∙◌, ap, sym, subst, refl, ℕ, List, Option, Some, None}
 use Rattle.std.proofs.Common.{Result, Ok, Err}
-use Rattle.vb_virtio.specs.Layout.{ring_page}
 use Rattle.vb_virtio.specs.declared.refusals.Refusal.{Refusal}
 use Rattle.vb_virtio.specs.declared.refusals.Refusal.TheVariants.{Broken}
 use Rattle.vb_ram.specs.{Pages.Pages, Part.Part}
 use Rattle.vb_chain.specs.declared.{fault.ChainFault.ChainFault, pieces.Piece.Piece}
-use Rattle.vb_chain.{specs.Table.descriptor_at, proofs.Unique.{chain_is_one, chain_or_fault, fault_is_one}}
+use Rattle.vb_chain.{proofs.Unique.{chain_is_one, chain_or_fault, fault_is_one}}
 use Rattle.vb_request.specs.{Asked.request_of, Refusals.rule_of}
 use Rattle.vb_device.specs.Calls.{HasChain, HasFault, TakesBy, noting, taking}
 use Rattle.vb_device.specs.{Conditions.take_refusal, Faults.{Breaks, needing_reset}, Queues.next_available}

@@ -1,38 +1,37 @@
 -- A notice in which nothing is served is a take that finds nothing, or a broken rule.
-use Rattle.std.proofs.Common.{◌≡◌, ◌∙◌, ap, sym, subst, refl, arith, ℕ, ◌+◌, ◌*◌, ◌/◌, ◌%◌, ◌<◌, ◌≤◌}
-use Rattle.std.proofs.Common.{Bool, true, false, List, [], ◌∷◌, ◌++◌, length, Option, Some, None}
+use Rattle.std.proofs.Common.{◌≡◌, ◌∙◌, ap, sym, subst, refl, arith, ℕ, ◌*◌, ◌/◌}
+use Rattle.std.proofs.Common.{Bool, List, [], ◌∷◌, ◌++◌, length, Option, Some, None}
 use Rattle.std.proofs.Common.{Result, Ok, Err}
 use Rattle.std.specs.Prelude.{slice_get}
 use Rattle.vb_virtio.specs.Layout.{reserved_pages, ring_page}
 use Rattle.vb_virtio.specs.Queues.{Request}
 use Rattle.vb_virtio.specs.declared.refusals.Refusal.{Refusal}
 use Rattle.vb_virtio.specs.declared.refusals.Refusal.TheVariants.{Broken}
-use Rattle.vb_ram.specs.{Pages.{Pages, end_of}, Part.Part}
+use Rattle.vb_ram.specs.{Pages.{end_of}, Part.Part}
 use Rattle.vb_chain.specs.declared.{fault.ChainFault.{ChainFault, TheVariants.IndexJump}, pieces.Piece.Piece}
 use Rattle.vb_chain.specs.{Chain.{ChainGives, FaultGives}, Table.descriptor_at}
-use Rattle.vb_request.specs.{Asked.request_of, Refusals.rule_of}
+use Rattle.vb_request.specs.{Refusals.rule_of}
 use Rattle.vb_core.specs.declared.kinds.Kind.{Kind}
-use Rattle.vb_core.specs.declared.ring.Virtqueue.{Virtqueue}
-use Rattle.vb_core.specs.declared.device.{Denial.Denial, Device.Device, Denial.TheVariants.Broken as BreaksIt}
+use Rattle.vb_core.specs.declared.device.{Device.Device}
 use Rattle.vb_core.specs.Kinds.{queue_of}
 use Rattle.vb_core.specs.Devices.{ring_of, needing_reset, queue_denial}
 use Rattle.vb_core.specs.Settings.{memory_pages}
 use Rattle.vb_served.proofs.ChainAgreement.{same_chain, same_break}
 use Rattle.vb_device.specs.Calls.{HasChain, HasFault, TakesBy}
-use Rattle.vb_device.specs.{Conditions.take_refusal, Queues.{queue_part, queue_layout, next_available}}
+use Rattle.vb_device.specs.{Conditions.take_refusal, Queues.{queue_part, next_available}}
 use Rattle.vb_device.specs.Faults.{needing_reset as part_needing_reset}
 use Rattle.vb_monitor.specs.declared.outcome.Outcome.{Outcome}
 use Rattle.vb_monitor.specs.Chains.{memory_end}
 use Rattle.vb_monitor.specs.Notices.{stands}
 use Rattle.vb_monitor.specs.Still.{index_in}
-use Rattle.vb_served.specs.{Store.Store, Alike.{IsAlike, AreRings}, Tied.{IsServedAlike, held_by}}
+use Rattle.vb_served.specs.{Store.Store, Alike.{IsAlike}, Tied.{IsServedAlike, held_by}}
 use Rattle.vb_device.specs.ServedChains.{with_held}
 use Rattle.vb_served.proofs.ShapeLemmas.{shape_so, put_same, put_reset}
 use Rattle.vb_core.specs.declared.kinds.Kind.TheVariants.{Inflate, Deflate, Statistics, Report}
 use Rattle.vb_served.specs.One.{byte, head_in, descriptor_in, Leaves, BreaksRule, NextGives, NextFault}
 use Rattle.vb_monitor.proofs.StillFound.{found_by}
 use Rattle.vb_served.proofs.WordLemmas.{same_next, same_table}
-use Rattle.vb_served.proofs.TakeLemmas.{takes_none, takes_jump, takes_fault, takes_wrong}
+use Rattle.vb_served.proofs.TakeLemmas.{takes_none}
 use Rattle.vb_served.proofs.{AlikeLemmas.reset_alike, UsedRequests.IsReady, RequestLemmas.IsStrict}
 
 -- the two devices are alike, and the kind's queue isn't refused, and none of its chains is taken

@@ -1,12 +1,12 @@
 -- What a notice makes of a queue is what a device takes and uses.
-use Rattle.std.proofs.Common.{◌≡◌, ◌∙◌, ap, sym, subst, refl, arith, ℕ, ◌*◌, ◌<◌, ◌≤◌, false, true, List}
-use Rattle.std.proofs.Common.{length, Option, Some, None, Ok, Err}
-use Rattle.vb_ram.specs.{Pages.Pages, Part.Part}
-use Rattle.vb_chain.specs.declared.{fault.ChainFault.ChainFault, pieces.Piece.Piece}
+use Rattle.std.proofs.Common.{◌≡◌, ◌∙◌, sym, refl, ◌*◌, ◌<◌, List}
+use Rattle.std.proofs.Common.{length, Some, None, Ok}
+use Rattle.vb_ram.specs.{Part.Part}
+use Rattle.vb_chain.specs.declared.{pieces.Piece.Piece}
 use Rattle.vb_request.specs.{Request.request_length, Statistics.statistics_length}
 use Rattle.vb_core.specs.declared.kinds.Kind.{Kind}
 use Rattle.vb_core.specs.declared.kinds.Kind.TheVariants.{Inflate, Deflate, Statistics, Report}
-use Rattle.vb_core.specs.declared.{device.{Denial.Denial, Device.Device}, settings.TheConstants.MEMORY_LIMIT}
+use Rattle.vb_core.specs.declared.{device.{Device.Device}, settings.TheConstants.MEMORY_LIMIT}
 use Rattle.vb_core.specs.{Kinds.queue_of, Devices.ring_of}
 use Rattle.vb_device.specs.Queues.{next_available}
 use Rattle.vb_monitor.specs.declared.outcome.Outcome.{Outcome}

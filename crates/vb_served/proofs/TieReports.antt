@@ -1,37 +1,36 @@
 -- A report that a notice serves is one that a device takes and uses.
-use Rattle.std.proofs.Common.{◌≡◌, ◌∙◌, ap, sym, subst, refl, arith, ℕ, suc, ◌+◌, ◌*◌, ◌/◌, ◌%◌, ◌<◌, ◌≤◌}
+use Rattle.std.proofs.Common.{◌≡◌, ◌∙◌, ap, sym, subst, refl, arith, ℕ, suc, ◌+◌, ◌*◌, ◌%◌, ◌<◌, ◌≤◌}
 use Rattle.std.proofs.Common.{Bool, true, false, List, [], ◌∷◌, length, take, map, get_or, Option, Some, None}
 use Rattle.std.proofs.Common.{Result, Ok, Err}
-use Rattle.std.specs.Prelude.{All, ◌&&◌, ◌||◌, ◌==◌, not, nat_le, nat_lt, if◌then◌else◌, IsOk}
+use Rattle.std.specs.Prelude.{All, ◌&&◌, ◌||◌, not, nat_lt, if◌then◌else◌, IsOk}
 use Rattle.std.specs.List.{list_any}
 use Rattle.std.proofs.lemmas.{Bool.Decides.nat_tests, List.Folds.list_any_none}
 use Rattle.vb_virtio.specs.Layout.{reserved_pages}
 use Rattle.vb_virtio.specs.Tests.{times}
-use Rattle.vb_ram.specs.{Pages.{Pages, end_of}, Part.Part}
+use Rattle.vb_ram.specs.{Pages.{Pages}, Part.Part}
 use Rattle.vb_chain.specs.declared.{fault.ChainFault.{ChainFault, TheVariants.{IndexJump, WrongDirection, BadLength}}, pieces.Piece.Piece}
 use Rattle.vb_ring.specs.{Layout.IsBacked, Calls.AddsUsedBy}
 use Rattle.vb_request.proofs.{Chains.chain_fits, Reports.report_pages}
 use Rattle.vb_request.specs.Report.{report_request, pages_of_pieces, has_bad_length, piece_fault}
 use Rattle.vb_request.specs.Report.{first_piece_fault}
 use Rattle.vb_request.specs.Request.{first_of_both, unless_fault}
-use Rattle.vb_core.specs.declared.kinds.Kind.{Kind}
-use Rattle.vb_core.specs.declared.kinds.Kind.TheVariants.{Inflate, Deflate, Statistics, Report}
-use Rattle.vb_core.specs.declared.device.{Denial.Denial, Device.Device, Denial.TheVariants.Broken}
-use Rattle.vb_core.specs.declared.{ring.Virtqueue.Virtqueue, runs.Run.Run, name.Named.Named}
+use Rattle.vb_core.specs.declared.kinds.Kind.TheVariants.{Report}
+use Rattle.vb_core.specs.declared.device.{Denial.Denial, Device.Device}
+use Rattle.vb_core.specs.declared.{runs.Run.Run, name.Named.Named}
 use Rattle.vb_core.specs.declared.settings.TheConstants.{MEMORY_LIMIT}
-use Rattle.vb_core.specs.Devices.{ring_of, with_one_taken, needing_reset, queue_denial, call_denial}
-use Rattle.vb_core.specs.Report.{NamesPiecesBy, pieces_denial, report_named, named_by, is_beyond, run_of}
-use Rattle.vb_core.specs.{Kinds.queue_of, Runs.pages_of_runs, Name.{after_request, told}}
+use Rattle.vb_core.specs.Devices.{ring_of, with_one_taken, queue_denial, call_denial}
+use Rattle.vb_core.specs.Report.{pieces_denial, named_by, is_beyond, run_of}
+use Rattle.vb_core.specs.{Runs.pages_of_runs, Name.{after_request, told}}
 use Rattle.vb_core.specs.Config.{keeps_reports}
 use Rattle.vb_core.proofs.RunLemmas.{runs_of_pieces}
-use Rattle.vb_device.specs.{Calls.{HasChain, taking, noting}, Discards.discarded}
-use Rattle.vb_device.specs.{Finishes.{Uses, settled, using}, Queues.{queue_part, queue_layout, queue_end, next_available}}
+use Rattle.vb_device.specs.{Calls.{HasChain, taking}, Discards.discarded}
+use Rattle.vb_device.specs.{Finishes.{Uses, settled, using}, Queues.{queue_layout, queue_end, next_available}}
 use Rattle.vb_device.proofs.Discards.{discarded-length}
-use Rattle.vb_monitor.specs.declared.{outcome.Outcome.Outcome, cuts.Cut.Cut}
+use Rattle.vb_monitor.specs.declared.{outcome.Outcome.Outcome}
 use Rattle.vb_monitor.specs.{Chains.memory_end, Giving.{after_use, cuts_for, is_kept}}
 use Rattle.vb_served.specs.{Store.{Store, with_marks}, Alike.{IsAlike, AreRings}, Tied.IsServedAlike}
 use Rattle.vb_served.specs.One.{byte, all_of, head_in, descriptor_in, Discards, NextGives, NamesOne}
-use Rattle.vb_served.specs.One.{ServesReport, Settles, BreaksRule}
+use Rattle.vb_served.specs.One.{ServesReport, Settles}
 use Rattle.vb_served.proofs.{LostFrames.{backing, all_lost}, ElementLemmas.adds_so}
 use Rattle.vb_served.proofs.CutLemmas.{AreInside, No_more, One_more, discards_lose}
 use Rattle.vb_served.proofs.AlikeLemmas.{backed_inside, ring_still}

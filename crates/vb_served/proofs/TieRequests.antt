@@ -1,22 +1,19 @@
 -- A request that a notice serves is one that a device takes and uses.
 use Rattle.std.proofs.Common.{◌≡◌, ◌∙◌, ap, sym, subst, refl, arith, ℕ, ◌+◌, ◌*◌, ◌%◌, ◌<◌, ◌≤◌}
-use Rattle.std.proofs.Common.{Bool, true, false, List, [], ◌∷◌, length, Option, Some, None}
+use Rattle.std.proofs.Common.{Bool, true, false, List, length, Some}
 use Rattle.std.proofs.Common.{Result, Ok, Err}
-use Rattle.std.specs.Prelude.{All}
 use Rattle.vb_virtio.specs.Layout.{reserved_pages}
 use Rattle.vb_virtio.specs.Tests.{is_in}
-use Rattle.vb_ram.specs.{Pages.{Pages, end_of}, Part.Part}
+use Rattle.vb_ram.specs.{Part.Part}
 use Rattle.vb_chain.specs.declared.{fault.ChainFault.{ChainFault, TheVariants.IndexJump}, pieces.Piece.Piece}
 use Rattle.vb_request.specs.Request.{request_length, page_request}
 use Rattle.vb_request.proofs.RequestPages.{request_pages}
-use Rattle.vb_core.specs.declared.kinds.Kind.{Kind}
-use Rattle.vb_core.specs.declared.kinds.Kind.TheVariants.{Inflate, Deflate, Statistics, Report}
+use Rattle.vb_core.specs.declared.kinds.Kind.TheVariants.{Inflate, Deflate}
 use Rattle.vb_core.specs.declared.device.{Device.Device}
 use Rattle.vb_core.specs.declared.{ring.Virtqueue.Virtqueue, runs.Run.Run}
 use Rattle.vb_core.specs.Devices.{ring_of, with_one_taken}
-use Rattle.vb_core.specs.Kinds.{queue_of}
 use Rattle.vb_core.specs.Runs.{pages_of_runs}
-use Rattle.vb_device.specs.Calls.{HasChain, taking, noting}
+use Rattle.vb_device.specs.Calls.{HasChain, taking}
 use Rattle.vb_device.specs.{Queues.{queue_part, next_available}, Discards.flagged}
 use Rattle.vb_monitor.specs.declared.outcome.Outcome.{Outcome}
 use Rattle.vb_monitor.specs.Chains.{memory_end}

@@ -1,32 +1,29 @@
 -- A buffer of statistics that a notice holds is one that a device takes.
-use Rattle.std.proofs.Common.{◌≡◌, ◌∙◌, ap, sym, subst, refl, arith, inl, inr, ◌⊎◌, ℕ, ◌+◌, ◌*◌, ◌/◌, ◌%◌, ◌<◌, ◌≤◌}
-use Rattle.std.proofs.Common.{Bool, true, false, List, [], ◌∷◌, length, get_or, take, map, Option, Some}
-use Rattle.std.proofs.Common.{None, Result, Ok, Err}
+use Rattle.std.proofs.Common.{◌≡◌, ◌∙◌, ap, sym, subst, refl, arith, inl, inr, ◌⊎◌, ℕ, ◌+◌, ◌/◌, ◌%◌, ◌<◌, ◌≤◌}
+use Rattle.std.proofs.Common.{Bool, true, false, List, [], length, take, map, Option, Some}
+use Rattle.std.proofs.Common.{Result, Ok, Err}
 use Rattle.std.specs.Prelude.{not, if◌then◌else◌}
 use Rattle.std.specs.List.{list_any}
 use Rattle.std.proofs.lemmas.Bool.{cases_lt}
 use Rattle.std.proofs.lemmas.List.{ext_get_or, get_or-map, get_or-take, get_or_past, length-map}
-use Rattle.std.proofs.lemmas.List.{length-take-le, get_or_default}
-use Rattle.vb_virtio.specs.Layout.{reserved_pages}
+use Rattle.std.proofs.lemmas.List.{length-take-le}
 use Rattle.vb_virtio.specs.declared.layout.TheConstants.{FREE_MEMORY_TAG, TOTAL_MEMORY_TAG}
-use Rattle.vb_virtio.specs.declared.statistics.LastStatistics.{LastStatistics}
 use Rattle.vb_ram.specs.{Pages.{Pages, end_of}, Part.Part}
 use Rattle.vb_chain.specs.declared.{fault.ChainFault.{ChainFault, TheVariants.{IndexJump, WrongDirection, BadLength}}, pieces.Piece.Piece}
 use Rattle.vb_request.specs.Request.{bytes_of, total_length}
-use Rattle.vb_request.specs.Statistics.{Statistic as Said, statistic_at, statistics_of, statistics_in, last_of}
+use Rattle.vb_request.specs.Statistics.{Statistic as Said, statistics_of, statistics_in, last_of}
 use Rattle.vb_request.specs.Statistics.{statistics_length, statistics_request, is_statistics_length}
 use Rattle.vb_request.proofs.LastStatistics.{statistics_of-length, statistics_of-at, no_statistic}
-use Rattle.vb_core.specs.declared.kinds.Kind.{Kind}
-use Rattle.vb_core.specs.declared.kinds.Kind.TheVariants.{Inflate, Deflate, Statistics, Report}
+use Rattle.vb_core.specs.declared.kinds.Kind.TheVariants.{Statistics}
 use Rattle.vb_core.specs.declared.{device.Device.Device, statistics.Statistic.Statistic}
-use Rattle.vb_core.specs.{Devices.{ring_of, with_one_taken}, Kinds.queue_of, Statistics.{AreFigures, figure_at}}
-use Rattle.vb_device.specs.Calls.{HasChain, taking, noting}
-use Rattle.vb_device.specs.Queues.{queue_part, next_available}
+use Rattle.vb_core.specs.{Devices.{with_one_taken}, Statistics.{AreFigures, figure_at}}
+use Rattle.vb_device.specs.Calls.{taking, noting}
+use Rattle.vb_device.specs.Queues.{next_available}
 use Rattle.vb_monitor.specs.declared.outcome.Outcome.{Outcome}
 use Rattle.vb_monitor.specs.Chains.{memory_end}
 use Rattle.vb_monitor.specs.Still.{bytes_of as read_bytes}
-use Rattle.vb_served.specs.{Store.{Store, as_said, last_in, with_figures}, Alike.{IsAlike, AreRings}}
-use Rattle.vb_served.specs.{Tied.IsServedAlike, One.{byte, head_in, NextGives, BufferBy, HoldsBuffer}}
+use Rattle.vb_served.specs.{Store.{Store, as_said, last_in, with_figures}, Alike.{IsAlike}}
+use Rattle.vb_served.specs.{Tied.IsServedAlike, One.{byte, head_in, NextGives, BufferBy}}
 use Rattle.vb_served.proofs.{RequestLemmas.same_bytes, TakeLemmas.{takes_wrong, takes_right}}
 use Rattle.vb_served.proofs.ShapeLemmas.{shape_so}
 use Rattle.vb_served.proofs.TieLemmas.{IsTie, chain_so, broken_tied, heads_so}

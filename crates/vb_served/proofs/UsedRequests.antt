@@ -1,26 +1,24 @@
 -- A request that is settled by a notice is one that a device takes and uses.
 use Rattle.std.proofs.Common.{◌≡◌, ◌∙◌, ap, sym, subst, refl, arith, ℕ, ◌+◌, ◌*◌, ◌%◌, ◌<◌, ◌≤◌}
-use Rattle.std.proofs.Common.{Bool, true, false, List, [], ◌∷◌, length, Option, Some, None, Ok}
-use Rattle.std.specs.Prelude.{IsSome, All}
+use Rattle.std.proofs.Common.{true, false, List, [], length, Option, Ok}
+use Rattle.std.specs.Prelude.{All}
 use Rattle.vb_virtio.specs.Tests.{is_in, times}
 use Rattle.vb_virtio.specs.Layout.{reserved_pages}
 use Rattle.vb_virtio.specs.Queues.{Request}
-use Rattle.vb_ram.specs.{Pages.{Pages, frame_at}, Part.Part}
+use Rattle.vb_ram.specs.{Pages.{Pages}, Part.Part}
 use Rattle.vb_ring.specs.{Ends.IsDeviceEnd, Layout.{IsSize, IsBacked}, Calls.AddsUsedBy}
-use Rattle.vb_request.specs.Request.{each_once}
 use Rattle.vb_core.specs.declared.settings.TheConstants.{MEMORY_LIMIT}
 use Rattle.vb_core.specs.declared.kinds.Kind.TheVariants.{Inflate, Deflate}
 use Rattle.vb_core.specs.declared.{runs.Run.Run, ring.Virtqueue.Virtqueue}
 use Rattle.vb_core.specs.declared.device.{Denial.Denial, Device.Device}
 use Rattle.vb_core.specs.Runs.{pages_of_runs}
 use Rattle.vb_core.specs.Rings.{used_entry}
-use Rattle.vb_core.specs.Devices.{ring_of, with_one_taken}
-use Rattle.vb_core.specs.Config.{keeps_reports}
-use Rattle.vb_device.specs.Discards.{discarded, frames_behind, flagged}
-use Rattle.vb_device.specs.{Loose.SameFrames, Finishes.{Uses, settled, using}, Takes.taking}
+use Rattle.vb_core.specs.Devices.{ring_of}
+use Rattle.vb_device.specs.Discards.{discarded, flagged}
+use Rattle.vb_device.specs.{Finishes.{Uses, settled, using}, Takes.taking}
 use Rattle.vb_device.specs.Queues.{queue_part, queue_layout, queue_end}
 use Rattle.vb_device.proofs.Discards.{discarded-length}
-use Rattle.vb_served.specs.{Store.{Store, with_marks}, One.{Settles, Gives, all_of}, Alike.AreRings}
+use Rattle.vb_served.specs.{Store.{Store, with_marks}, One.{Settles, Gives}, Alike.AreRings}
 use Rattle.vb_served.proofs.{LostFrames.{backing, all_lost, discarded_alike}, ElementLemmas.adds_so}
 use Rattle.vb_served.proofs.CutLemmas.{AreInside, discards_lose, flagged_alike}
 use Rattle.vb_served.proofs.AlikeLemmas.{backed_inside, ring_still}

@@ -1,17 +1,17 @@
 -- Words and descriptors by addresses are those of the pages that they lie in.
 use Rattle.std.proofs.Common.{◌≡◌, ◌∙◌, ap, sym, refl, arith, ℕ, ◌+◌, ◌*◌, ◌/◌, ◌%◌, ◌<◌, ◌≤◌}
-use Rattle.std.proofs.Common.{[], ◌∷◌, take, drop, Result, Ok, Err, Option, Some, None, Bool}
+use Rattle.std.proofs.Common.{take, drop, Result, Bool}
 use Rattle.std.specs.Prelude.{slice_index, ◌==◌, nat_le}
 use Rattle.std.specs.Int.{w16, from_le_bytes}
 use Rattle.std.proofs.lemmas.List.{get_or-take, get_or-drop, FromFn.get_or-map-range_with_len}
 use Rattle.vb_virtio.specs.Layout.{ring_page}
-use Rattle.vb_ram.{specs.Pages.{Pages, byte_at, field, end_of}, specs.Part.Part}
+use Rattle.vb_ram.{specs.Pages.{Pages, byte_at, field}, specs.Part.Part}
 use Rattle.vb_ram.proofs.FieldLaws.{field_2, field_4, field_8}
 use Rattle.vb_chain.{specs.declared.descriptor.Descriptor.Descriptor, specs.Table.descriptor_at}
-use Rattle.vb_chain.specs.declared.fault.ChainFault.{ChainFault, TheVariants.IndexJump}
+use Rattle.vb_chain.specs.declared.fault.ChainFault.{ChainFault}
 use Rattle.vb_request.specs.Request.{byte_of_address}
-use Rattle.vb_ring.specs.{Entries.{ahead, avail_index, avail_place, next_by}, Layout.{IsSize, Fits}}
-use Rattle.vb_ring.{specs.Layout.layout_of, proofs.Shapes.fits_at}
+use Rattle.vb_ring.specs.{Entries.{ahead, avail_index, avail_place}, Layout.{IsSize, Fits}}
+use Rattle.vb_ring.{proofs.Shapes.fits_at}
 use Rattle.vb_core.specs.declared.ring.Virtqueue.{Virtqueue}
 use Rattle.vb_served.proofs.ChainAgreement.{Agree}
 use Rattle.vb_device.specs.Queues.{queue_part, queue_layout, next_available}
@@ -20,7 +20,7 @@ use Rattle.vb_monitor.specs.Notices.{entry_offset, stands, stands_by}
 use Rattle.vb_monitor.specs.Still.{bytes_from, index_in}
 use Rattle.vb_monitor.proofs.StillFound.{found_by, tests_alike, offset_so}
 use Rattle.vb_served.specs.One.{head_in, descriptor_in}
-use Rattle.vb_served.specs.Alike.{AreRings, address_of}
+use Rattle.vb_served.specs.Alike.{AreRings}
 
 -- ---- bytes
 

@@ -1,4 +1,4 @@
-use Rattle.std.proofs.Common.{◌∙◌, ◌<◌, ap, refl, subst, false, ℕ, List, length}
+use Rattle.std.proofs.Common.{◌∙◌, ◌<◌, ap, refl, subst, false, ℕ, List}
 use Rattle.vb_monitor.specs.Accesses.{Makes}
 use Rattle.vb_monitor.specs.Notices.{Serves}
 use Rattle.vb_monitor.specs.declared.{regions.Region.Region, outcome.Budget.Budget}

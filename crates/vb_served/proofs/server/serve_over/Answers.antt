@@ -1,4 +1,4 @@
-use Rattle.std.proofs.Common.{◌≡◌, ◌∙◌, ◌<◌, ◌^◌, ◌*◌, ap, sym, subst, refl, arith, ℕ, length, None}
+use Rattle.std.proofs.Common.{◌≡◌, ◌∙◌, ◌<◌, ◌^◌, ◌*◌, ap, sym, subst, arith, ℕ, length, None}
 use Rattle.vb_core.specs.declared.ring.Virtqueue.{Virtqueue}
 use Rattle.vb_core.specs.declared.device.Device.{Device}
 use Rattle.vb_core.specs.Devices.{ring_of}
