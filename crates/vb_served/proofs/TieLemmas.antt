@@ -113,24 +113,24 @@ none_tied kind d1 d2 outcome s t p1 tie next left =
     let alike = subst (λ (x : Store). IsAlike kind d2 p1 x) (sym left.memory)
     (subst (λ (x : Device). IsAlike kind x p1 s) (sym left.device) tie.alike) in
     record {
-  part = p1;
-  result = Ok None;
-  fault = IndexJump;
-  serves = (
-    p1,
-    takes_none (queue_of kind) s.mem p1 tie.may_take next,
-    (ap (λ (x : Store). x.mem) left.memory, refl),
-  );
-  ends = left.ends;
-  broken = λ refusal e. absurd cc;
-  held = λ head kind_so e. absurd cc;
-  alike = alike;
-  shape = shape_so kind d2 p1 p1 t (Ok None) alike (put_same kind p1) (none_held kind) refl;
-  taken = ap (λ (x : Device). (ring_of kind x).next_avail) left.device;
-  pages = ap (λ (x : Store). length x.mem) left.memory;
-  head = λ h e. absurd cc;
-  below = λ h is e. absurd cc;
-}
+      part = p1;
+      result = Ok None;
+      fault = IndexJump;
+      serves = (
+        p1,
+        takes_none (queue_of kind) s.mem p1 tie.may_take next,
+        (ap (λ (x : Store). x.mem) left.memory, refl),
+      );
+      ends = left.ends;
+      broken = λ refusal e. absurd cc;
+      held = λ head kind_so e. absurd cc;
+      alike = alike;
+      shape = shape_so kind d2 p1 p1 t (Ok None) alike (put_same kind p1) (none_held kind) refl;
+      taken = ap (λ (x : Device). (ring_of kind x).next_avail) left.device;
+      pages = ap (λ (x : Store). length x.mem) left.memory;
+      head = λ h e. absurd cc;
+      below = λ h is e. absurd cc;
+    }
   where
     none_held : (kind : Kind) → (queue_part (queue_of kind) p1).taken
         ≡ with_held (held_by kind (Ok None)) (queue_part (queue_of kind) p1).taken
@@ -148,25 +148,25 @@ broken_tied kind d1 d2 outcome s t p1 fault tie takes left =
     (subst (λ (x : Device). IsAlike kind x (part_needing_reset p1) s) (sym left.device)
     (reset_alike kind d1 p1 s tie.alike)) in
     record {
-  part = part_needing_reset p1;
-  result = Err (Broken (rule_of fault));
-  fault = fault;
-  serves = (
-    part_needing_reset p1,
-    takes,
-    (ap (λ (x : Store). x.mem) left.memory, refl),
-  );
-  ends = left.ends;
-  broken = λ refusal e. same refusal (rule_of fault) e;
-  held = λ head kind_so e. absurd cc;
-  alike = alike;
-  shape = shape_so kind d2 (part_needing_reset p1) p1 t (Err (Broken (rule_of fault))) alike
-      (put_reset kind p1) (still_taken kind) refl;
-  taken = ap (λ (x : Device). (ring_of kind x).next_avail) left.device ∙ reset_count kind d1;
-  pages = ap (λ (x : Store). length x.mem) left.memory;
-  head = λ h e. absurd cc;
-  below = λ h is e. absurd cc;
-}
+      part = part_needing_reset p1;
+      result = Err (Broken (rule_of fault));
+      fault = fault;
+      serves = (
+        part_needing_reset p1,
+        takes,
+        (ap (λ (x : Store). x.mem) left.memory, refl),
+      );
+      ends = left.ends;
+      broken = λ refusal e. same refusal (rule_of fault) e;
+      held = λ head kind_so e. absurd cc;
+      alike = alike;
+      shape = shape_so kind d2 (part_needing_reset p1) p1 t (Err (Broken (rule_of fault))) alike
+          (put_reset kind p1) (still_taken kind) refl;
+      taken = ap (λ (x : Device). (ring_of kind x).next_avail) left.device ∙ reset_count kind d1;
+      pages = ap (λ (x : Store). length x.mem) left.memory;
+      head = λ h e. absurd cc;
+      below = λ h is e. absurd cc;
+    }
   where
     same : (refusal : Refusal) (rule : ℕ) → ◌≡◌ {A = Result (Option ℕ) Refusal} (Err (Broken rule))
         (Err refusal) → refusal ≡ Broken rule

@@ -222,7 +222,7 @@ right_report h d1 d2 outcome s t p1 pieces pages runs tie below next chain fits 
     (pieces_inside reserved (length s.mem) pieces long fault fits))
     tie.alike.keeps tie.none_taken (taken_reports d1 p1 h pages s tie.alike) did in
     let alike = subst (λ (x : Device). IsAlike Report x (reported h pages p1 t) t) (sym did.device)
-          (reported_alike d1 p1 h pages s t tie.alike marks last count) in
+    (reported_alike d1 p1 h pages s t tie.alike marks last count) in
     record {
       part = reported h pages p1 t;
       result = Ok (Some h);

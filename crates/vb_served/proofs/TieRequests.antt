@@ -90,7 +90,7 @@ right_inflate h d1 d2 outcome s t p1 pieces pages runs tie below next chain asks
     tie.ready below above same inside tie.none_taken
     (taken_rings d1 p1 h pages s tie.alike) did in
     let alike = subst (λ (x : Device). IsAlike Inflate x (inflated h pages p1 t) t) (sym did.device)
-          (inflated_alike d1 p1 h pages s t tie.alike marks last count) in
+    (inflated_alike d1 p1 h pages s t tie.alike marks last count) in
     record {
       part = inflated h pages p1 t;
       result = Ok (Some h);
@@ -195,7 +195,7 @@ right_deflate h d1 d2 outcome s t p1 pieces pages runs tie below next chain asks
     tie.ready below same tie.none_taken
     (taken_deflates d1 p1 h pages s tie.alike) did in
     let alike = subst (λ (x : Device). IsAlike Deflate x (deflated h pages p1 t) t) (sym did.device)
-          (deflated_alike d1 p1 h pages s t tie.alike marks last count) in
+    (deflated_alike d1 p1 h pages s t tie.alike marks last count) in
     record {
       part = deflated h pages p1 t;
       result = Ok (Some h);

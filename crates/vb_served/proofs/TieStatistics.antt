@@ -159,8 +159,8 @@ tie_statistics d1 d2 outcome s t p1 pieces (Ok n) tie next gives e did =
     let h = head_in (byte s) d1.statistics in
     let last = same_last s pieces did.figures did.are in
     let alike = subst (λ (x : Device). IsAlike Statistics x (holding h s.mem pieces p1) t) (sym did.device)
-          (held_alike d1 p1 h s t pieces
-          (take (length (read_bytes (byte s) pieces) / 10) did.figures) tie.alike did.told last) in
+    (held_alike d1 p1 h s t pieces
+    (take (length (read_bytes (byte s) pieces) / 10) did.figures) tie.alike did.told last) in
     record {
       part = holding h s.mem pieces p1;
       result = Ok (Some h);

@@ -28,7 +28,6 @@ byte_in : (byte : ℕ → ℕ) (a len k : ℕ) → k < len →
     slice_index (bytes_from byte a len) k ≡ byte (a + k)
 byte_in byte a len k lt = get_or-map-range_with_len byte a len k (a + k) 0 lt refl
 
-
 byte_there : (mem : Pages) (page off : ℕ) → off < 4096 →
     byte_of_address mem (4096 * page + off) ≡ byte_at mem page off
 byte_there mem page off lt =

@@ -5,8 +5,8 @@ ghost use Rattle.vb_virtio.specs.declared.layout.TheConstants.{FREE_MEMORY_TAG, 
 ghost use Rattle.vb_served.specs.Store.{last_value};
 
 use vb_core::Statistic;
-use vb_virtio::layout::{FREE_MEMORY_TAG, TOTAL_MEMORY_TAG};
 use vb_request::Statistics;
+use vb_virtio::layout::{FREE_MEMORY_TAG, TOTAL_MEMORY_TAG};
 
 /// What is known once a figure was told: its value, where it has the tag.
 fn later(found: Option<u64>, figure: Statistic, tag: u16) -> Option<u64>

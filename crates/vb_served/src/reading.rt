@@ -3,8 +3,8 @@
 ghost use Rattle.std.specs.Prelude.{◌≡◌, ◌<◌, ◌^◌, length};
 ghost use Rattle.vb_request.specs.Request.{bytes_from};
 
-use vb_virtio::limits::PAGE_SIZE;
 use vb_ram::GuestBytes;
+use vb_virtio::limits::PAGE_SIZE;
 
 /// Bytes of a page.
 pub(crate) const PAGE_BYTES: u64 = PAGE_SIZE as u64;

@@ -216,6 +216,7 @@ fn serve_over(memory: &mut LooseRam, registers: QueueRegisters, queue: u32) -> S
 }
 
 /// A notice of the monitor, in place of a device's own calls.
+#[derive(Drop)]
 pub struct Notices {
     /// For the empty values that take a lent memory's place.
     alloc: Global,

@@ -73,14 +73,12 @@ fn write_all(device: &mut ImmediateDevice, all: &[Written]) -> bool {
 
 /// Hands the loose frames back; says how many they were.
 fn hand_back(device: &mut ImmediateDevice) -> u32 {
-    let mut handed = 0;
-    for _ in 0..64 {
+    for handed in 0..64 {
         if device.hand_back().is_none() {
             return handed;
         }
-        handed += 1;
     }
-    handed
+    64
 }
 
 /// The device serves by its own calls. No frame may be loose before.
@@ -123,7 +121,12 @@ fn are_alike(one: &ImmediateDevice, other: &ImmediateDevice) -> bool {
 
 /// What is shown, what the driver writes once both devices are ready, which queue is served then,
 /// what is answered to each serve and how many frames are loose after it.
-type Scenario = (&'static str, &'static [Written], u32, &'static [(Answer, u32)]);
+type Scenario = (
+    &'static str,
+    &'static [Written],
+    u32,
+    &'static [(Answer, u32)],
+);
 
 /// The number of the first serve after which the two differ, or aren't as the scenario has it.
 fn first_wrong(alloc: Global, scenario: &Scenario) -> Option<usize> {

@@ -59,11 +59,11 @@ invariant_of-self g c =
     let is = unrefused g (goal.at.invariant_of-self g c).After-serve_chain-served in
     let gone = goes_on g (goal.at.invariant_of-self g c).After-go_on is.1 in (
       rw c.index_of.ensures.place (base_served c.args.queue c.serve_chain-served.result.next_avail
-      c.serve_chain-served.result.next_used c.serve_chain-served.result.held c.self.inside.ram
-      c.serve_chain-served.new.ram (status_bits c.self.inside.status)
-      (status_bits c.note_fault.new.status) c.self.inside.queue_size _ _ c.self.inside.queues
-      c.go_on.new.self c.self.invariant.0 is.1 is.2 is.3 c.serve_chain-served.ensures.pages
-      c.serve_chain-served.ensures.room gone),
+          c.serve_chain-served.result.next_used c.serve_chain-served.result.held c.self.inside.ram
+          c.serve_chain-served.new.ram (status_bits c.self.inside.status)
+          (status_bits c.note_fault.new.status) c.self.inside.queue_size _ _ c.self.inside.queues
+          c.go_on.new.self c.self.invariant.0 is.1 is.2 is.3 c.serve_chain-served.ensures.pages
+          c.serve_chain-served.ensures.room gone),
       c.serve_chain-served.ensures.marks,
     )
 
