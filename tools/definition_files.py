@@ -56,7 +56,7 @@ def joined(lines):
 
 
 def at_top(text, sign):
-    """Returns where a sign stands in a text outside all brackets."""
+    """Returns where a sign is in a text outside all brackets."""
     depth, found = 0, []
     for place, letter in enumerate(text):
         depth += (letter in "([{") - (letter in ")]}")

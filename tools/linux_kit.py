@@ -23,7 +23,7 @@ LIBRARY = os.path.join(ROOT, "crates", "vb_c", "out", "libvb_c.a")
 PARTS = tuple(
     f"guest/{it}"
     for it in (
-        "backend", "control", "counters", "events", "guard", "guest_memory", "kicks", "process", "rings", "say", "statistics", "stream",
+        "backend", "control", "counters", "events", "guard", "guest_memory", "kicks", "levels", "process", "rings", "say", "statistics", "stream",
     )
 )
 VHOST_PARTS = tuple(
@@ -32,8 +32,16 @@ VHOST_PARTS = tuple(
 CLIENT_PARTS = {
     "vhost_user_balloon": ("guest/loop", "guest/state", *VHOST_PARTS),
     "pci_proxy_balloon": ("guest/loop", "guest/state", "guest/virtio_pci"),
-    "vhost_user_host": (*VHOST_PARTS, *(f"host/{it}" for it in ("journal", "lines", "loop", "marks", "policy", "seats", "view"))),
+    "vhost_user_host": (
+        *VHOST_PARTS,
+        *(f"host/{it}" for it in ("journal", "lines", "loop", "marks", "policy", "seats", "view")),
+        *(f"control/{it}" for it in ("answers", "client", "decisions", "events", "fields", "requests", "server", "socket")),
+        *(f"service/{it}" for it in ("config", "config_words", "notify", "service")),
+    ),
 }
+
+# The libraries of Debian's that a program is linked to: their names for pkg-config, and the packages to install.
+LINKED = {"vhost_user_host": {"jansson": "libjansson-dev", "inih": "libinih-dev", "libsystemd": "libsystemd-dev"}}
 AUDIT_PARTS = ("guest/audit", "../tests/mutants/wrong_device")
 FLAGS = ("-std=c11", "-O2", "-Wall", "-Wextra", "-Werror")
 
@@ -77,6 +85,17 @@ def core_of(reference=False):
     return path
 
 
+def linked(name):
+    """Returns the words of the compiler that link a program to Debian's libraries."""
+    wanted = LINKED.get(name, {})
+    if not wanted:
+        return []
+    ran = subprocess.run([need("pkg-config", "pkg-config"), "--cflags", "--libs", *wanted], capture_output=True, text=True)
+    if ran.returncode != 0:
+        raise Missing(f"{name} is linked to libraries that aren't there: apt-get install {' '.join(wanted.values())}")
+    return ran.stdout.split()
+
+
 def build(folder, core, name="vhost_user_balloon", audited=False, wrong=False, flags=()):
     """Compiles a backend over this core into a folder, with more flags, and returns its path: one for tests that looks at the
     device, or one that is wrong on purpose."""
@@ -84,7 +103,7 @@ def build(folder, core, name="vhost_user_balloon", audited=False, wrong=False, f
     names = (name, *CLIENT_PARTS[name], *PARTS, *(AUDIT_PARTS if audited else ()), *(WRONG_PARTS[name] if wrong else ()))
     parts = [os.path.join(MONITOR, "backends", f"{it}.c") for it in names]
     wrapped = (*(AUDIT_WRAPPED if audited else ()), *(WRONG_WRAPPED[name] if wrong else ()))
-    words = [need("cc", "gcc libc6-dev"), *FLAGS, *flags, "-I", SHIM, "-I", HEADERS, "-o", program, *parts, core]
+    words = [need("cc", "gcc libc6-dev"), *FLAGS, *flags, "-I", SHIM, "-I", HEADERS, "-o", program, *parts, core, *linked(name)]
     words += [*(["-DBALLOON_AUDIT"] if audited else []), *(f"-Wl,--wrap={it}" for it in wrapped)]
     ran = subprocess.run(words, capture_output=True, text=True)
     if ran.returncode != 0:

@@ -10,7 +10,7 @@ RESERVED = 16
 
 
 def calls(count, start, events):
-    """Returns a function from a size to the script with this start and these events, so many of them."""
+    """Returns a function from a size to the script with this start and `count` of these events."""
 
     def of_size(size):
         script = alone(size)
@@ -28,12 +28,12 @@ def every_second(size):
 
 
 def posted(count):
-    """Returns the lines of so many requests of two pages."""
+    """Returns the lines of `count` requests of two pages."""
     return ["inflate 0 2"] * count
 
 
 def finished(count):
-    """Returns the calls that finish so many taken requests, the oldest first."""
+    """Returns the calls that finish `count` taken requests, the oldest first."""
     return calls(count, posted(count) + ["take 0 0"] * count, ["finish 0 0 0"] * count)
 
 
@@ -42,7 +42,7 @@ def frees(size):
     return ["alloc 0 0 0"] * min(32, size - RESERVED)
 
 
-# A processor is handed the lowest pages first: its first block of eight begins behind the reserved pages.
+# A processor is handed the lowest pages first: its first block of eight begins after the reserved pages.
 BLOCK = ["alloc 0 0 3", f"write 0 {RESERVED} 0 0000"]
 
 CALLS = {

@@ -39,7 +39,7 @@ class Script:
         self.events = []
 
     def text(self, events=None):
-        """Returns the script, with these events behind its start."""
+        """Returns the script, with these events after its start."""
         lines = self.head + self.start + (self.events if events is None else events)
         return "".join(f"{it}\n" for it in lines).encode()
 
@@ -51,12 +51,12 @@ def alone(pages, queue=64, frames=None, paced=False):
 
 
 def lent(guest, count):
-    """Returns the lines by which a guest gives so many pages to the host."""
+    """Returns the lines by which a guest gives `count` pages to the host."""
     return [f"inflate {guest} {count}", *served(guest, INFLATES)]
 
 
 def asked_back(guest, count):
-    """Returns the lines by which a guest gets so many pages back, whatever its target."""
+    """Returns the lines by which a guest gets `count` pages back, for any target."""
     return [f"oom {guest} {count}", *served(guest, DEFLATES)]
 
 
@@ -66,7 +66,7 @@ def served(guest, queue):
 
 
 def digits(chance, count):
-    """Returns so many bytes as hexadecimal digits."""
+    """Returns `count` bytes as hexadecimal digits."""
     return chance.randbytes(count).hex()
 
 
@@ -114,7 +114,7 @@ def ask_script(_program, rounds=2_000):
 
 
 def text_script(_program, size=MOST_TEXT):
-    """Returns so many bytes of events by chance, on four guests of 64 pages."""
+    """Returns `size` bytes of random events, on four guests of 64 pages."""
     chance = random.Random(SEED)
     start = [line for it in range(4) for line in ("plug 64 8 1", f"init {it}", f"target {it} 16")]
     script = Script(512, ["immediate"] * 4, start)
@@ -157,7 +157,7 @@ def alloc_script(_program, count=8_000):
 
 
 def mix_script(program, size, rounds=12):
-    """Returns all events, in an order by chance, on two guests of this size, the second one paced."""
+    """Returns all events, in a random order, on two guests of this size, the second one paced."""
     chance = random.Random(SEED)
     script = Script(MOST_FRAMES, ["immediate"] + ["paced"] * (1 + rounds), [])
     for guest in range(2):
@@ -188,7 +188,7 @@ def of_blocks(chance, blocks, orders):
 
 
 def of_balloon(chance):
-    """Returns pieces of a balloon's life, each of which may stand anywhere."""
+    """Returns pieces of a balloon's life, each of which may be anywhere."""
     chunks = []
     for _ in range(12):
         count = chance.choice((1, 2, 4, 16, 64))

@@ -75,7 +75,7 @@ __attribute__((noreturn)) void _exit(int status)
 
 
 def threads_text(guests, rounds, mode="threads"):
-    """Returns the script of so many guests, each of which goes over four calls so many times."""
+    """Returns the script of `guests` guests, each of which goes over four calls `rounds` times."""
     lines = [f"host {guests * 64}"] + ["spare paced"] * guests + ["plug 64 8 1"] * guests
     if mode == "run":
         lines += [f"init {guest}" for guest in range(guests)]
@@ -140,7 +140,7 @@ class Clock:
         subprocess.run([compiler, "-O1", "-shared", "-fPIC", "-o", self.library, source, "-ldl"], check=True)
 
     def seconds(self, program, count, guests, bells):
-        """Returns how long the threads take, from the first one's beginning to the last one's end, of so many programs."""
+        """Returns how long the threads take, from the first one's beginning to the last one's end, of `count` programs."""
         with tempfile.TemporaryFile() as script:
             script.write(threads_text(guests, 20_000))
             script.flush()

@@ -50,7 +50,7 @@ def next_names(crates):
 
 
 def other_words(word, is_field, following):
-    """Returns what may stand in a word's place."""
+    """Returns what may be in a word's place."""
     if word.isdigit():
         return [str(int(word) + 1)] + [str(int(word) - 1)] * (word != "0")
     other = following.get(f".{word}" if is_field else word, "").lstrip(".") or OPPOSITES.get(word)
@@ -67,7 +67,7 @@ def other_lines(line, begin, following):
 
 
 def said_from(line, is_record, has_begun):
-    """Returns the place from which on a line of an item says what a name stands for; none: -1."""
+    """Returns the place from which on a line of an item says what a name represents; none: -1."""
     if line.strip().startswith("--"):
         return -1
     sign = " : " if is_record else " ="
@@ -94,7 +94,7 @@ def others_of_item(path, lines, start, end, following):
 
 
 def other_definitions(crate, crates):
-    """Returns all definitions of a crate that say something else; names stand in it and in the crates below it."""
+    """Returns all definitions of a crate that say something else; names are in it and in the crates below it."""
     following, found = next_names(crates), []
     for path in definition_files(crate):
         lines = read_lines(path)

@@ -132,7 +132,7 @@ def times():
     texts = {it: ast.get_docstring(ast.parse(read(it))) for it in sorted(named)}
     texts |= {it: read(it) for it in ("monitor/README.md", "monitor/rust/README.md")}
     for path, text in texts.items():
-        found += [f"{path}: a time stands in {' and '.join(TABLES)} alone: {it.strip()}" for it in text.splitlines() if re.search(DURATION, it)]
+        found += [f"{path}: a time belongs into {' and '.join(TABLES)} alone: {it.strip()}" for it in text.splitlines() if re.search(DURATION, it)]
     return found
 
 

@@ -10,7 +10,7 @@ ROOT = os.path.dirname(os.path.dirname(os.path.realpath(__file__)))
 CRATE = os.path.join(ROOT, "crates", "vb_sim")
 PROGRAM = os.path.join(CRATE, "out", "vb_sim")
 
-# The proved tests of runs on threads, and that of want of memory, which says what a run left.
+# The proved tests of runs on threads, and that of an allocation failure, which says what a run left.
 TESTS = os.path.join(ROOT, "crates", "vb_run_tests", "out", "vb_run_tests_tests")
 TEST = "tests::refused::want_of_memory_leaves_no_report_or_a_whole_one"
 

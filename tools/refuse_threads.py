@@ -5,7 +5,7 @@ import sys
 from refuse_program import WANT, Run
 from refuse_scripts import GUESTS
 
-# What the test of want of memory says that a run left.
+# What the test of an allocation failure says that a run left.
 NO_RUN, NO_REPORT, REPORT = "left: NoRun", "left: NoReport", "left: Report"
 
 # A run of two guests with one processor each has a thread for each processor and each worker, and one that balances.

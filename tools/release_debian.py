@@ -1,4 +1,4 @@
-"""Makes a Debian package of a folder, with what Debian wants to stand in each: a changelog, a copyright and a description."""
+"""Makes a Debian package of a folder, with what Debian expects in each: a changelog, a copyright and a description."""
 
 import email.utils
 import gzip

@@ -136,7 +136,7 @@ def guests_legend(library, points, marks):
 
 
 def panels(library, count):
-    """Returns a figure with a panel for the host, and below it one for each of so many guests, over the same events."""
+    """Returns a figure with a panel for the host, and below it one for each of `count` guests, over the same events."""
     heights = [1.2, *[max(1.5, 3.0 / count)] * count] if count else [1.2]
     height, gap = sum(heights) + 0.35 * count + 0.85, 0.35 * len(heights) / sum(heights)
     figure = library.figure.Figure(figsize=(10, height))
@@ -160,6 +160,6 @@ def draw(library, path, title, points, marks):
     if guests:
         explain(library, below[0], guests_legend(library, points, marks))
     bottom, every = [host, *below][-1], points[0].event
-    bottom.set(xlabel="event" if every == 1 else f"event (asked about behind every {every})", xlim=(0, points[-1].event + 1))
+    bottom.set(xlabel="event" if every == 1 else f"event (asked about after every {every})", xlim=(0, points[-1].event + 1))
     bottom.xaxis.set_major_locator(library.ticker.MaxNLocator(integer=True))
     figure.savefig(path, dpi=120, metadata={"Date": None} if path.endswith(".svg") else None)

@@ -1,10 +1,10 @@
-"""What a script's run comes to, for tools/draw-run: the numbers behind its events, by questions put in, and its marks."""
+"""What a script's run comes to, for tools/draw-run: the numbers after its events, by questions put in, and its marks."""
 
 import csv
 import subprocess
 from typing import NamedTuple
 
-# So many points are at most drawn where no --every is given: a picture is hardly wider.
+# At most this many points are drawn where no --every is given: a picture is hardly wider.
 MOST_POINTS = 2000
 
 # The program's status for a script with a bad line.
@@ -31,7 +31,7 @@ class Script(NamedTuple):
 
 
 class Point(NamedTuple):
-    """What the questions behind an event were answered: about the frames, and about each guest."""
+    """What the questions after an event were answered: about the frames, and about each guest."""
 
     event: int
     frames: dict[str, int]
@@ -82,7 +82,7 @@ def marks_of(script, replies):
 
 
 def guests_behind(count, marks):
-    """Returns, for each of so many events, the numbers of the guests that are there behind it."""
+    """Returns, for each of `count` events, the numbers of the guests that are there after it."""
     changes = {it.event: it for it in marks if it.text in ("plug", "unplug")}
     there, behind = [], []
     for number in range(1, count + 1):
@@ -106,12 +106,12 @@ def events_asked_about(count, every):
 
 
 def questions(guests):
-    """Returns the questions that are put in behind an event where these guests are there."""
+    """Returns the questions that are put in after an event where these guests are there."""
     return ["frames", *(f"{word} {guest}" for guest in guests for word in ("balloon", "places"))]
 
 
 def with_questions(script, asked, behind):
-    """Returns the text of the script with questions behind the events asked about."""
+    """Returns the text of the script with questions after the events asked about."""
     lines, asked = list(script.settings), set(asked)
     for number, event in enumerate(script.events, 1):
         lines.append(event)
@@ -121,7 +121,7 @@ def with_questions(script, asked, behind):
 
 
 def numbers_of(words, names):
-    """Reads an answer that has a number behind each of these names."""
+    """Reads an answer that has a number after each of these names."""
     if tuple(words[0::2]) != names or not all(it.isdecimal() for it in words[1::2]):
         raise Fault(f"no answer to a question: {' '.join(words)}")
     return dict(zip(names, map(int, words[1::2]), strict=True))

@@ -1,7 +1,7 @@
 """Numbers of runs worked out by hand, for tools/test-draw-run."""
 
 # What each event changes, worked out from docs/RULES.md: the event, `host` or a guest's number, and the
-# new numbers; a mark, or `gone` behind an unplug. What isn't named stays as it was, and is 0 at a plug.
+# new numbers; a mark, or `gone` after an unplug. What isn't named stays as it was, and is 0 at a plug.
 # A table begins with the host's frames and the number of events.
 
 FIRST_PATH = """
@@ -160,7 +160,7 @@ ROGUE = """
 39 0 giving 0 lent 16 actual 16
 """
 
-# Guest 0 has frames behind pages 16 to 23, which are visited first. Guest 1 has them behind its pages 16
+# Guest 0 has frames that back pages 16 to 23, which are visited first. Guest 1 has them for its pages 16
 # to 23, too: at event 84 it offers the rest of its smallest block, 40 to 47, and then 16 to 27.
 PACED_BALANCE = """
 96 frames, 114 events

@@ -11,15 +11,15 @@ SAY_NOTHING = (NOTHING, "⊤")
 IS_STATEMENT = re.compile(r"(?:→|:) Type 0$")
 FIELD = re.compile(r"(\s+)(pub )?(\S+) : (.*)")
 
-# A part that names something which the parts behind it are about.
+# A part that names something which the parts after it are about.
 BINDER = re.compile(r"\([\w ]+ : ")
 
-# What stands in a statement, and in no type of plain data.
+# What is in a statement, and in no type of plain data.
 SIGNS = ("≡", "≢", "≤", "<", "→", "⊎", "×")
 
 
 def parts(text):
-    """Returns what stands in front of a statement's parts, and the parts that it joins."""
+    """Returns what is in front of a statement's parts, and the parts that it joins."""
     arrows = at_top(text, "→")
     begin = arrows[-1] + 1 if arrows else 0
     front, body = text[:begin].strip(), text[begin:]

@@ -50,7 +50,7 @@ enum { VB_INFLATE = 0, VB_DEFLATE = 1, VB_STATISTICS = 2, VB_REPORT = 3, VB_NO_K
 enum { VB_MAX_QUEUE_SIZE = 256, VB_MAX_PIECES = 256, VB_MAX_RUNS = 256, VB_MAX_BYTES = 1024, VB_MAX_FIGURES = 102,
        VB_MAX_CUTS = 256, VB_STATE_BYTES = 191 };
 enum {                          /* what is to be done: `what` of a notice, in this order; other bits are the library's */
-    VB_TELL_PAGES = 1,          /* the first `runs` of the room were given up, are asked back, or are free */
+    VB_TELL_PAGES = 1,          /* the first `runs` of the room were given up, are requested back, or are free */
     VB_TELL_FIGURES = 2,        /* the first `figures` of the room are what the guest says */
     VB_DISCARD = 4,             /* give the bytes of the first `cuts` of the room back to the machine */
     VB_GIVE_BACK = 8,           /* write `id` to `id_at` and `used_length` to `length_at` (32 bits each), then a release

@@ -1,7 +1,7 @@
 /* What a notice takes through balloon.h and the library, beside a balloon in plain C by hand (bench_plain.c).
  *
  *     bench                          nanoseconds, as a table: without discarding, and with it
- *     bench count SIDE ROW NOTICES   makes so many notices of a row, for who counts instructions: SIDE is shim, plain or none
+ *     bench count SIDE ROW NOTICES   makes n notices of a row, for who counts instructions: SIDE is shim, plain or none
  *
  * ../tools/measure-notices does both, and compares with goals.
  */

@@ -6,7 +6,7 @@
 /* How often a driver would have been interrupted. */
 extern uint64_t interrupts;
 
-/* By hand, over a guest's memory, from where its device stands. */
+/* By hand, over a guest's memory, from where its device is. */
 void plain_start(const struct guest *guest, uint32_t kind);
 void plain_discards(bool discards);
 uint64_t plain_notify(uint32_t kind, void (*told)(const VbRun *runs, uint32_t count));

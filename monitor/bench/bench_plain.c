@@ -8,7 +8,7 @@ static struct plain {
     const struct guest *guest;
     VbQueue queue;
     const uint8_t *avail, *table;
-    uint8_t *used;              /* where the queue's parts stand here */
+    uint8_t *used;              /* where the queue's parts are here */
     uint64_t pages;             /* of memory */
     bool discards;
     VbRun runs[MOST];
@@ -57,8 +57,8 @@ static inline uint32_t join(uint32_t count, VbRun *run, uint32_t page, uint64_t 
     return count;
 }
 
-/* The runs of a request's page numbers, each read once where it stands; how many, or BROKEN. Numbers that two pieces share are
- * left to others. */
+/* The runs of a request's page numbers, each read once where it is; how many, or BROKEN. Numbers that two pieces share are left
+ * to others. */
 static inline int request(uint16_t head, const uint8_t *table, uint32_t size)
 {
     VbRun run = { UINT32_MAX, 0 };
@@ -120,7 +120,7 @@ void plain_discards(bool discards)
     plain.discards = discards;
 }
 
-/* The driver kicked the queue: serves what stands there. How many pages were named; `told` gets them, run by run. */
+/* The driver kicked the queue: serves what is available. How many pages were named; `told` gets them, run by run. */
 uint64_t plain_notify(uint32_t kind, void (*told)(const VbRun *runs, uint32_t count))
 {
     const uint32_t size = plain.queue.size, mask = size - 1;

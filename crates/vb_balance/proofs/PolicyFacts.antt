@@ -3,7 +3,7 @@ use Rattle.std.proofs.Common.{◌≡◌, ℕ, ◌+◌, ◌≤◌, List, [], ◌�
 use Rattle.vb_virtio.specs.Targets.{Need, spare_of}
 use Rattle.vb_balance.{specs.Levels.{spared_from, IsLevel}, specs.Serving.StillServe}
 
--- two guests of 64 pages that can spare so many
+-- two guests of 64 pages that can spare n
 abbrev needs_of : ℕ → ℕ → List Need
 needs_of a b = record { pages = 64; spare = a } ∷ record { pages = 64; spare = b } ∷ []
 

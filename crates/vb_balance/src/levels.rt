@@ -55,7 +55,7 @@ fn most_spare(needs: &[GuestNeed]) -> u32
     most
 }
 
-/// The level above which each guest gives all that it can, where so much is missing.
+/// The level above which each guest gives all that it can, where this much is missing.
 pub(crate) fn level_for(needs: &[GuestNeed], lack: u128) -> u32
     requires { lack ≤ spared_from needs.now 0 }
     ensures { IsLevel needs.now lack result }

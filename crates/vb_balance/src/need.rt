@@ -78,7 +78,7 @@ pub enum NoTargets {
 }
 
 impl Short {
-    /// Short by so many pages.
+    /// Short by n pages.
     pub(crate) fn by(missing: u128) -> Short
         ensures { result ≡ record { missing = min missing (2 ^ 64 - 1) } }
     {

@@ -12,8 +12,8 @@ use crate::{GuestNeed, NoTargets, Short, Targets};
 use arrayvec::ArrayVec;
 use vb_virtio::limits::MAX_GUESTS;
 
-/// What a guest gives that can spare so much: all of it above the level, nothing below, and at the
-/// level no more than is left.
+/// What a guest gives that can spare this much: all of it above the level, nothing below, and at
+/// the level no more than is left.
 fn asked(spare: u32, level: u32, left: u128) -> u32
     ensures above { level < spare → result ≡ spare }
     ensures below { spare < level → result ≡ 0 }
@@ -28,7 +28,8 @@ fn asked(spare: u32, level: u32, left: u128) -> u32
     }
 }
 
-/// Sets the targets by the level, with so much for those at the level; answers what is left of it.
+/// Sets the targets by the level, with this much for those at the level; answers what is left of
+/// it.
 fn give(needs: &[GuestNeed], level: u32, rest: u128, targets: &mut [u32]) -> u128
     requires { length targets.old ≡ length needs.now }
     ensures { AreGiven needs.now level rest (length needs.now) targets.new result }

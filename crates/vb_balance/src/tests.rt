@@ -80,11 +80,10 @@ fn guests_are_asked_for_what_is_missing(rt: HostRuntime) {
     }
 }
 
-/// What stands where no target was set.
+/// The placeholder where no target was set.
 const UNTOUCHED: u32 = 77;
 
-/// Whether guests of these needs get these targets, in room for so many; none is set where it is
-/// refused.
+/// Whether guests of these needs get these targets, in room for n; none is set where it is refused.
 fn are_set(guests: &[(u32, u32)], frames: u32, room: usize, answer: &Set) -> bool {
     let mut targets = [UNTOUCHED; 16];
     let length = room.min(16);

@@ -60,7 +60,7 @@ found_from word bit l fits some = let found = trailing_zeros w64 (rest word bit)
           no_bit word k (sym (rest_from word bit k l after inside) ∙ lowest.2 k before);
     }
 
--- `MAX >> (64 - count)` has its lowest bits 1, so many of them
+-- `MAX >> (64 - count)` has its lowest bits 1, n of them
 pub low_bits : (count k : ℕ) → count ≤ 64
     → has_bit ((2 ^ 64 - 1) / 2 ^ (64 - count)) k ≡ ltb k count
 low_bits count k few = let same : 64 - (64 - count) ≡ count = omega arith in

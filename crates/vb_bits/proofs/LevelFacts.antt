@@ -35,7 +35,7 @@ word_of_64 = record {
   past zero b lt = absurd (omega (arith, lt))
   past (suc w) b lt = zero_bit b
 
--- a bit before the first that is asked for, the bit behind the last of a word, and one that is 0
+-- a bit before the first that is asked for, the bit after the last of a word, and one that is 0
 not_lowest : (IsLowestFrom 6 2 1 → ⊥) × (IsLowestFrom 0x10000000000000000 0 64 → ⊥)
     × (IsLowestFrom 4 1 1 → ⊥)
 not_lowest = (
@@ -90,7 +90,7 @@ next_in_word = ((refl, next), (refl, at_once)) where
     least = λ m from to. absurd (omega (arith, from, to));
   }
 
--- none though there is one, one of the next word, one before the number, and one behind another
+-- none though there is one, one of the next word, one before the number, and one after another
 not_next_in_word : (IsNextInWord set 2 None → ⊥) × (IsNextInWord next_word 2 (Some 64) → ⊥)
     × (IsNextInWord set 2 (Some 1) → ⊥) × (IsNextInWord set 0 (Some 3) → ⊥)
 not_next_in_word = (

@@ -1,4 +1,4 @@
--- The flags that words stand for.
+-- The flags that words represent.
 use Rattle.std.proofs.Common.{◌≡◌, ◌≢◌, ℕ, ◌+◌, ◌-◌, ◌*◌, ◌/◌, ◌%◌, ◌^◌, ◌<◌, ◌≤◌, Bool, true, List}
 use Rattle.std.proofs.Common.{length, get_or, set, replicate, eqb, ltb, not, sym, ap, ◌∙◌, ◌↔◌}
 use Rattle.std.proofs.lemmas.List.{get_or-set_same, get_or-set_other, get_or_past, ext_get_or}
@@ -36,7 +36,7 @@ flags_are bound words flags s e h =
     ext_get_or false (flags_of bound words) flags (length-flags bound words ∙ sym e)
     (λ n l. has_flag bound words s n ∙ h n (omega (arith, l, length-flags bound words)))
 
--- the number that a bit of a word stands for
+-- the number that a bit of a word represents
 pub at_place : (words : List ℕ) (w b : ℕ) → b < 64
     → in_words words (64 * w + b) ≡ has_bit (get_or words w 0) b
 at_place words w b l = grind arith

@@ -5,7 +5,7 @@ use Rattle.std.specs.List.{range_with_len}
 use Rattle.vb_virtio.specs.Tests.{has_bit}
 use Rattle.vb_bits.specs.declared.word.TheConstants.{WORD_BITS}
 
--- whether the number's bit is 1: bit b of word w stands for 64 w + b
+-- whether the number's bit is 1: bit b of word w represents 64 w + b
 abbrev pub in_words : List ℕ → ℕ → Bool
 in_words words n = has_bit (slice_index words (n / WORD_BITS)) (n % WORD_BITS)
 
@@ -13,7 +13,7 @@ in_words words n = has_bit (slice_index words (n / WORD_BITS)) (n % WORD_BITS)
 unfoldable pub flags_of : ℕ → List ℕ → List Bool
 flags_of bound words = map (in_words words) (range_with_len 0 bound)
 
--- just the words of so many numbers; the bits past the bound are 0
+-- just the words of n numbers; the bits past the bound are 0
 pub record AreWordsOf (bound : ℕ) (words : List ℕ) : Type 0 where
   pub enough : bound ≤ WORD_BITS * length words
   pub fewest : WORD_BITS * length words < bound + WORD_BITS

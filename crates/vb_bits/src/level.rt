@@ -9,7 +9,7 @@ use crate::word::{WORD_BITS, is_one, low_ones, lowest_from, with_bit};
 use std::alloc::{AllocError, Global};
 use std::marker::Model;
 
-/// Numbers below a bound, each a bit of a word: bit b of word w stands for 64 w + b.
+/// Numbers below a bound, each a bit of a word: bit b of word w represents 64 w + b.
 #[derive(Drop)]
 pub struct Level {
     /// The numbers are below it.
@@ -40,7 +40,7 @@ impl Level {
         }
     }
 
-    /// No number below the bound. Want of memory is the only refusal.
+    /// No number below the bound. An allocation failure is the only refusal.
     pub fn new(alloc: Global, bound: u32) -> Result<Level, AllocError>
         ensures { IfOk result (λ level. level ≡ replicate bound false) }
     {

@@ -83,7 +83,7 @@ impl BitSet {
         }
     }
 
-    /// No number below the bound, which is 0 to 262,144. Want of memory is the only refusal.
+    /// No number below the bound, which is 0 to 262,144. An allocation failure is the only refusal.
     pub fn new(alloc: Global, bound: u32) -> Result<BitSet, AllocError>
         requires few { bound ≤ MAX_BOUND }
         ensures { IfOk result (λ set. set ≡ replicate bound false) }
@@ -176,7 +176,7 @@ impl BitSet {
         first_in(&self.members, word)
     }
 
-    /// The least member that is n or more, where n is any number.
+    /// The least member that is `n` or more, where `n` is any number.
     pub fn first_from(&self, n: u32) -> Option<u32>
         ensures { IsFirstFrom self.now n result }
     {

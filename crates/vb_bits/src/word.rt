@@ -4,7 +4,7 @@ ghost use Rattle.std.specs.Prelude.{◌≡◌, ◌≢◌, ℕ, ◌<◌, ◌≤�
 ghost use Rattle.vb_virtio.specs.Tests.{has_bit};
 ghost use Rattle.vb_bits.specs.Words.{IsLowestFrom, in_words};
 
-/// Bits of a word, so many numbers stand in one.
+/// Bits of a word: how many numbers one has.
 pub const WORD_BITS: u32 = 64;
 
 /// Whether the bit is 1.
@@ -15,7 +15,7 @@ pub fn is_one(word: u64, bit: u32) -> bool
     word >> bit & 1 == 1
 }
 
-/// Whether a number is in the set of these words, where bit b of word w stands for 64 w + b; none
+/// Whether a number is in the set of these words, where bit b of word w represents 64 w + b; none
 /// past the words is.
 pub fn is_in_words(words: &[u64], n: u64) -> bool
     ensures { result ≡ in_words words.now n }
@@ -72,7 +72,7 @@ pub fn lowest_from(word: u64, bit: u32) -> Option<u32>
     }
 }
 
-/// A word whose lowest bits are 1: so many of them, or all where that is more than a word has.
+/// A word whose lowest bits are 1: `count` of them, or all where that is more than a word has.
 pub fn low_ones(count: u64) -> u64
     ensures { (k : ℕ) → k < WORD_BITS → has_bit result k ≡ nat_lt k count }
 {

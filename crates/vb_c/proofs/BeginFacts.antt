@@ -60,7 +60,7 @@ buffer_lost h =
     let e : Same 0 (held_then h.hands.notice (with_device h.device balloon)) = h.hands.held in
     omega (arith, noted, e)
 
--- no chain stands there, and the notice ends
+-- no chain is available, and the notice ends
 abbrev nothing_came : Outcome
 nothing_came = record { tally = tally_of shown; why = None; interrupt = false; more = false }
 

@@ -243,7 +243,7 @@ ended_by (TellsPages head named) a cuts w f e = absurd cc
 ended_by (TellsFigures head count) a cuts w f e = absurd cc
 ended_by (GivesBack spots entry) a cuts w f e = absurd cc
 
--- so whoever obeys while there is something to do obeys to its end
+-- so a caller that obeys while there is something to do obeys to its end
 nothing_to_do : (n : Notice) (b1 b2 : Balloon) (c : VbNotice) →
     (h : HandsOver n two [] b1 b2 [] c) → c.what ≡ 0 → is_ended h.notice.step.phase ≡ true
 nothing_to_do n b1 b2 c h e =

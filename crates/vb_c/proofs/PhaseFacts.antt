@@ -32,7 +32,7 @@ orders = record {
   used = record { spots = record { id = none_at; length = none_at; index = none_at }; id = 0; length = 0; index = 0 };
 }
 
--- each number another one, so that none stands for another
+-- each number another one, so that none represents another
 abbrev notice : VbNotice
 notice = record {
   what = 64;
@@ -80,7 +80,7 @@ each_phase : map waits_at (0 ∷ 1 ∷ 2 ∷ 3 ∷ 4 ∷ 5 ∷ 6 ∷ 7 ∷ []) �
     ∷ None ∷ []
 each_phase = refl
 
--- more stands there
+-- more is available
 ended_with_more : phase_of (record notice { phase = 0; more = 1 }) ≡ Some (Ended (Some (Broken TooLong)) true true)
 ended_with_more = refl
 
@@ -123,7 +123,8 @@ at_no_phase = refl
 abbrev used : UsedEntry
 used = record { element_at = 0x204; index_at = 0x202; id = 3; length = 0; index = 1 }
 
--- a word is read, behind an acquire fence, or behind a full one; bytes are copied; or nothing is answered
+-- a word is read, after an acquire fence, or after a full one; bytes are copied; or nothing is
+-- answered
 answered : answer_bits (AwaitsIndex spot) ∷ answer_bits (AwaitsEntry spot) ∷ answer_bits (AwaitsDescriptor spot (walk_of notice))
     ∷ answer_bits (AwaitsPart spot (place_of notice)) ∷ answer_bits (AwaitsFlags spot None false)
     ∷ answer_bits (Discards (cut_of_notice notice) (discarding_of notice)) ∷ answer_bits (GivesBack (orders.used.spots) used)

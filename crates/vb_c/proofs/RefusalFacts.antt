@@ -18,8 +18,8 @@ changed = record balloon { held = 5 }
 abbrev one_page : Budget
 one_page = record { chains = 1; pages = 1; keeps = false }
 
--- a queue that isn't there has code 5, statistics whose buffer is held 1, none to ask back 1, no
--- notice 7; each time the balloon stays
+-- a queue that isn't there has code 5, statistics whose buffer is held 1, none to request back 1,
+-- no notice 7; each time the balloon stays
 no_such_queue : (c : VbNotice) → BeginsFor None two one_page balloon balloon room room c → c.code ≡ 5
 no_such_queue c h = h.ended.code_is
 

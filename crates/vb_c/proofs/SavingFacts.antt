@@ -39,7 +39,7 @@ held_by_nothing h = let e : Same 0 4 = (h.denied BadLength refl).2 in omega arit
 restored_from_nothing : (d : Device) (held : ℕ) → Restores [] begun d 4 held 0 → ⊥
 restored_from_nothing d held h = let e : Same 0 9 = (h.denied BadLength refl).0 in omega arith
 
--- bytes that are a state, whatever they are: the device is theirs, and so is the buffer that is held
+-- any bytes that are a state: they give the device, and the buffer that is held
 abbrev device_in : Result Saved StateDenial → Device
 device_in (Ok s) = s.device
 device_in (Err why) = begun

@@ -10,7 +10,8 @@ use Rattle.vb_c.specs.declared.notice.{VbNotice.VbNotice, VbRoom.VbRoom}
 use Rattle.vb_c.specs.{Serving.{room_in, with_device, HandsOver, Begins, BeginsIf, BeginsFor, AsksFor, GoesOn}, Served.Denies}
 use Rattle.vb_c.proofs.Samples.{two, balloon}
 
--- ---- a notice of a queue is of the device as it was, and may begin while a buffer of statistics is held
+-- ---- a notice of a queue is of the device as it was, and may begin while a buffer of statistics
+-- is held
 
 of_the_device_before : (kind : Kind) (budget : Budget) (b1 b2 : Balloon) (r1 r2 : VbRoom) (c : VbNotice) →
     BeginsIf true two kind budget b1 b2 r1 r2 c →
@@ -55,7 +56,7 @@ ends_by_a_denial : (why : Denial) (kind : Kind) (tally : Tally) (runs : List Run
     Ends (whole two kind after outcome) b1.device tally (Some why) false log
 ends_by_a_denial why kind tally runs b1 b2 cuts c h = h.step
 
--- ---- all that stands in the room but the parts
+-- ---- all that is in the room but the parts
 
 all_of_it : (r : VbRoom) → room_in r ≡ record { pieces = r.pieces; bytes = r.bytes; runs = r.runs; figures = r.figures }
 all_of_it r = refl

@@ -1,4 +1,4 @@
--- Notices that go on as they mostly do.
+-- Fast paths of notices.
 use Rattle.std.proofs.Common.{◌≡◌, ◌∙◌, ap, sym, subst, refl, arith, ℕ, ◌+◌, ◌≤◌, Bool, true, false}
 use Rattle.std.proofs.Common.{List, ◌++◌, map, take, Option, Some, None}
 use Rattle.std.{specs.Prelude.{◌==◌, nat_le, if◌then◌else◌, IfSome}, proofs.lemmas.Bool.Decides.nat_tests}

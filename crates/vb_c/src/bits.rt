@@ -1,6 +1,6 @@
 //! What a notice says is to be done: a bit for each thing, in the order in which they are done.
 
-/// The first `runs` of the room were given up, are asked back, or are free.
+/// The first `runs` of the room were given up, are requested back, or are free.
 pub(crate) const TELL_PAGES: u32 = 1;
 
 /// The first `figures` of the room are what the guest says.

@@ -3,7 +3,7 @@
 /// Pages are given up.
 pub(crate) const INFLATE: u32 = 0;
 
-/// Pages are asked back.
+/// Pages are requested back.
 pub(crate) const DEFLATE: u32 = 1;
 
 /// The guest says how it uses its memory.

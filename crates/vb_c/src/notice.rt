@@ -24,10 +24,10 @@ use vb_monitor::{
 /// The available index is read.
 pub(crate) const READ_INDEX: u32 = READ;
 
-/// Behind an acquire fence the entry is read.
+/// After an acquire fence the entry is read.
 pub(crate) const READ_ENTRY: u32 = ACQUIRE + READ;
 
-/// Behind a full fence the flags are read.
+/// After a full fence the flags are read.
 pub(crate) const READ_FLAGS: u32 = FULL_FENCE + READ;
 
 /// What a notice waits for: nothing, since it has ended.
@@ -36,7 +36,7 @@ pub(crate) const ENDED: u8 = 0;
 /// The available index.
 pub(crate) const INDEX: u8 = 1;
 
-/// The entry that stands next.
+/// The entry that is next.
 pub(crate) const ENTRY: u8 = 2;
 
 /// A row of descriptors.
@@ -61,7 +61,7 @@ pub struct VbNotice {
     pub kind: u32,
     /// Where a word is read, or bytes are copied from.
     pub at: Spot,
-    /// How many bytes are copied, and behind how many others.
+    /// How many bytes are copied, and after how many others.
     pub length: u32,
     pub into: u32,
     /// What needs no answer.

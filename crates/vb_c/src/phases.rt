@@ -1,4 +1,5 @@
-//! Notices that go on, each by what it waits for: mostly what it says is changed where it stands.
+//! The next step of a notice, by what it waits for: a fast path changes the notice in place, else
+//! the slow path.
 
 ghost use Rattle.std.specs.Prelude.{◌≡◌, ◌+◌, ◌≤◌, true, false, Some};
 ghost use Rattle.vb_monitor.specs.declared.room.TheConstants.{MAX_BYTES};
@@ -14,7 +15,7 @@ use crate::usual::{Entry, Flags, Index, Single, Usual};
 use vb_core::Kind;
 use vb_monitor::{Balloon, MAX_BYTES, Region, is_last};
 
-/// A part was copied: mostly the last one of a request.
+/// Handles a copied part: of a request's last one by a fast path.
 fn go_copied(
     notice: &mut VbNotice,
     balloon: &mut Balloon,
@@ -40,7 +41,7 @@ fn go_copied(
     go_part(notice, balloon, regions, room, kind, answer)
 }
 
-/// A row of descriptors was copied, which join the others; or a notice goes on anyhow.
+/// Handles a copied row of descriptors, else takes the slow path.
 #[inline(never)]
 fn go_on_chain(
     notice: &mut VbNotice,
@@ -62,7 +63,7 @@ fn go_on_chain(
     }
 }
 
-/// What a notice waited for was done: it goes on as it mostly does, or else anyhow.
+/// Tries the fast path for what the notice waited for, and falls back to the slow path.
 #[inline(never)]
 fn go_usually<U: Usual>(
     notice: &mut VbNotice,

@@ -49,7 +49,7 @@ pub extern "C" fn vb_new(device: &mut Device, settings: Settings) -> u32
     OK
 }
 
-/// The host wants so many pages in the balloon.
+/// Sets the balloon's target to `pages` pages.
 #[unsafe(no_mangle)]
 pub extern "C" fn vb_set_target(device: &mut Device, pages: u32)
     ensures { device.new ≡ record device.old { target = pages } }

@@ -1,5 +1,5 @@
 //! Chains whose pages were named: what needs no answer is done at once, and what a notice says is
-//! changed where it stands.
+//! changed in place.
 
 ghost use Rattle.std.specs.Prelude.{◌≡◌, ◌+◌, ◌≤◌, true, None, Some, take};
 ghost use Rattle.vb_core.specs.Config.{keeps_reports};
@@ -52,7 +52,7 @@ fn hand_named(
 }
 
 /// Hands over a chain whose pages were named, of a queue that is served, once all parts of its runs
-/// stand in the list: mostly it is given back, and the next word is read.
+/// are in the list: usually it is given back, and the next word is read.
 #[inline(always)]
 fn give_named(
     shown: &mut VbNotice,
@@ -103,7 +103,7 @@ fn give_named(
     }
 }
 
-/// The same, however many parts its runs have.
+/// Serves a request of any number of discard ranges.
 #[inline(never)]
 fn serve_many(
     shown: &mut VbNotice,
@@ -165,7 +165,7 @@ fn serve_many(
     }
 }
 
-/// The same; mostly there is no part that is discarded, or just one.
+/// Serves a request by a fast path for at most one discard range, else by `serve_many`.
 #[inline(always)]
 fn serve_named(
     shown: &mut VbNotice,
@@ -227,7 +227,7 @@ fn hand_pages(
     }
 }
 
-/// Hands a notice over, which is mostly of a chain whose pages were named.
+/// Hands a notice over, by a fast path where a chain's pages were named.
 pub(crate) fn hand_step(
     shown: &mut VbNotice,
     balloon: &mut Balloon,

@@ -214,7 +214,7 @@ pub(crate) fn go_chain(
     )
 }
 
-/// A part of a piece was copied, behind others that leave room for it.
+/// A part of a piece was copied, after others that leave room for it.
 pub(crate) fn go_part(
     notice: &mut VbNotice,
     balloon: &mut Balloon,

@@ -1,4 +1,4 @@
-//! Notices that go on as they mostly do: what they say is changed where it stands.
+//! Fast paths of a notice: each changes the notice in place.
 
 ghost use Rattle.std.specs.Prelude.{◌≡◌, ℕ, true, false, Some};
 ghost use Rattle.vb_monitor.specs.declared.balloon.Balloon.{Balloon};
@@ -53,7 +53,7 @@ pub(crate) fn begin_usually(
     }
 }
 
-/// A way in which notices mostly go on, from one of the things that they wait for.
+/// A fast path of notices, from one of the things that they wait for.
 pub(crate) trait Usual {
     /// What they wait for, as `VbNotice` numbers it.
     ghost PHASE: { ℕ };
@@ -75,7 +75,7 @@ pub(crate) trait Usual {
         ensures stays { result ≡ false → (notice.new ≡ notice.old) × (room.new ≡ room.old) };
 }
 
-/// The index was read: a chain stands there.
+/// The index was read: a chain is available.
 pub(crate) struct Index;
 
 impl Usual for Index {

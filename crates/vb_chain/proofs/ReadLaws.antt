@@ -32,7 +32,7 @@ pub field_after : (n : ℕ) (mem : Pages) (p at skip rest : ℕ) (bytes : List �
 field_after n mem p at skip rest bytes read fits within =
     grind (arith, little_field, get_or-take, get_or-drop)
 
--- where the bytes of a descriptor were written it stands
+-- where the bytes of a descriptor were written it is
 pub descriptor_written : (old new : Pages) (p i : ℕ) (d : Descriptor) → FitsBytes d
     → Wrote old new p (16 * i) (bytes_of d) → descriptor_at new p i ≡ d
 unfolding descriptor_at

@@ -23,7 +23,7 @@ pub walked_init : (d : ℕ → Descriptor) (q end head : ℕ) → head < q
     → Walked d q end head (head ∷ []) 0 head false []
 walked_init d q end head lt = grind arith
 
--- what stands at a place that was visited is the same on the longer path
+-- what is at a place that was visited is the same on the longer path
 pub fault_kept : (d : ℕ → Descriptor) (q end : ℕ) (path : List ℕ) (j k : ℕ) → k < length path
     → fault_at d q end (path ++ j ∷ []) k ≡ fault_at d q end path k
 fault_kept d q end path j k lt = grind (arith, take-append-le, get_or_append_left)

@@ -18,7 +18,7 @@ pub const DESCRIPTOR_SIZE: usize = 16;
 /// The descriptors that a page has room for.
 pub const DESCRIPTORS_IN_A_PAGE: u16 = 256;
 
-/// A descriptor as it stands in its table: 16 bytes, each field's lowest byte first (VIRTIO 1.1,
+/// A descriptor as it is in its table: 16 bytes, each field's lowest byte first (VIRTIO 1.1,
 /// 2.6.5).
 #[derive(Clone, Copy, Debug, PartialEq, Eq)]
 pub struct Descriptor {

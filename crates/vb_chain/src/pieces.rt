@@ -20,7 +20,7 @@ pub struct Piece {
     pub writable: bool,
 }
 
-/// What stands where a chain has no piece.
+/// The placeholder where a chain has no piece.
 const NO_PIECE: Piece = Piece {
     addr: 0,
     len: 0,
@@ -28,10 +28,10 @@ const NO_PIECE: Piece = Piece {
 };
 
 /// A chain: its pieces, in order, never more than a table has descriptors. It has room for all of
-/// them, so whoever reads many chains keeps one and lets it be filled.
+/// them, so a caller that reads many chains keeps one and lets it be filled.
 #[derive(Drop)]
 pub struct Chain {
-    /// They, in order; past `len` unused.
+    /// The pieces, in order; past `len` unused.
     pieces: [Piece; MAX_DESCRIPTORS],
     /// How many there are.
     len: usize,
@@ -74,7 +74,7 @@ impl Chain {
         self.len = 0;
     }
 
-    /// Puts a piece behind the others.
+    /// Puts a piece after the others.
     pub(crate) fn push(&mut self, piece: Piece)
         requires { length self.old < MAX_DESCRIPTORS }
         ensures { self.new ≡ self.old ++ piece ∷ [] }

@@ -54,8 +54,8 @@ pub fn descriptor_fault(
 /// chain. Other flag bits are ignored, and a length of 0 is accepted (profile).
 ///
 /// Each call makes a `Chain` of 4 KiB, zeroes it and moves it to the caller, which takes several
-/// times as long as the walk along a short chain: whoever reads many chains keeps one, and calls
-/// `walk_into`.
+/// times as long as the walk along a short chain: a caller that reads many chains keeps one, and
+/// calls `walk_into`.
 pub fn walk<G: GuestBytes>(ram: &G, table: u32, head: u16, size: u16) -> Result<Chain, ChainFault>
     requires table { table < length (G.mem ram.now) }
     requires size { size ≤ MAX_DESCRIPTORS }
@@ -78,8 +78,9 @@ pub fn walk<G: GuestBytes>(ram: &G, table: u32, head: u16, size: u16) -> Result<
     }
 }
 
-/// The same walk into a chain that the caller keeps, so that none is made or moved. What the chain
-/// held before is gone; where the walk ends with a fault, it is left with no piece.
+/// Walks along a chain as `walk` does, into a chain that the caller keeps, so that none is made or
+/// moved. What the chain held before is gone; where the walk ends with a fault, it is left with no
+/// piece.
 pub fn walk_into<G: GuestBytes>(
     ram: &G,
     table: u32,

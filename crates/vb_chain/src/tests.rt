@@ -10,7 +10,7 @@ use vb_ram::{Frame, GuestBytes, Ram, RamFault};
 enum Step {
     /// The descriptor of this number gets an address, a length, flags and a next one.
     Put(u16, u64, u32, u16, u16),
-    /// Each of 256 descriptors goes on to the one behind it; the last gets flags and a next one.
+    /// Each of 256 descriptors goes on to the one after it; the last gets flags and a next one.
     PutRow(u16, u16),
     /// A chain of two pieces is written on descriptors 0 and 1.
     PutChain(Piece, Piece),

@@ -23,7 +23,7 @@ understood : map asked_of ([] ∷ (codes "vb_sim" ∷ []) ∷ (codes "vb_sim" �
     ∷ Some (Threads Double) ∷ Some (Threads Late) ∷ []
 understood = refl
 
--- each way of ringing by both spellings, and none in other letters, in part, or with more behind it
+-- each way of ringing by both spellings, and none in other letters, in part, or with more after it
 ways : map bells_named (codes "plain" ∷ codes "drop" ∷ codes "double" ∷ codes "late" ∷ codes "Drop"
     ∷ codes "dro" ∷ codes "late " ∷ [] ∷ [])
     ≡ Some Plain ∷ Some Drop ∷ Some Double ∷ Some Late ∷ None ∷ None ∷ None ∷ None ∷ []

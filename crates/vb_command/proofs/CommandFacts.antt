@@ -33,7 +33,8 @@ of_scripts = (
   (tt, tt),
 )
 
--- of a text that is longer than a script may be none of these but want of memory and a stream
+-- of a text that is longer than a script may be none of these but an allocation failure and a
+-- stream
 too_long : (text : List ℕ) → length text ≡ 67108865 → (IsTextFault text (BadLine 3) → ⊥)
     × (IsTextFault text BadPlan → ⊥) × (IsTextFault text Audit → ⊥)
     × IsTextFault text Memory × IsTextFault text Stream
@@ -61,7 +62,7 @@ well input written said (inl (zero, (fits, prints), keeps)) = (fits, prints, kee
 well input written said (inr (fault, is, keeps, inl (status, says))) = absurd (faulted fault status)
 well input written said (inr (fault, is, keeps, inr broken)) = absurd (omega (arith, broken))
 
--- with 1 a bad line or a bad plan, with 3 want of memory, with 5 an audit
+-- with 1 a bad line or a bad plan, with 3 an allocation failure, with 5 an audit
 abbrev IsBy : List ℕ → List ℕ → List ℕ → ProgramFault → Type 0
 IsBy input written said fault =
     IsTextFault input fault × (written ≡ codes "a") × (said ≡ codes "b" ++ fault_line fault)
@@ -85,7 +86,7 @@ five input written said (inr (Audit, is, keeps, inl (status, says))) = (is, keep
 five input written said (inr (Stream, is, keeps, inl (status, says))) = absurd (omega (arith, status))
 five input written said (inr (fault, is, keeps, inr broken)) = absurd (omega (arith, broken))
 
--- for want of memory nothing is printed, and the line says so; no run ends with the status of
+-- on an allocation failure nothing is printed, and the line says so; no run ends with the status of
 -- arguments; and with 4 anything may be there
 no_memory : (input written said : List ℕ) → End input written said 3 → (written ≡ codes "a")
     × (said ≡ codes "brun: memory\n")
@@ -126,8 +127,8 @@ abbrev Command : Words → List ℕ → List ℕ → ℕ → Type 0
 Command words written said status = CommandEnds
     words (Some []) (Some (codes "a")) (Some written) (Some (codes "b")) (Some said) status
 
--- where nothing is asked for nothing is printed, and where the words couldn't be had the line is that
--- of why
+-- where nothing is asked for nothing is printed, and where the words couldn't be had the line is
+-- that of why
 nothing_asked : (words : Words) (written said : List ℕ) (status : ℕ) → asked_by words ≡ None
     → Command words written said status → written ≡ codes "a"
 nothing_asked words written said status none (inl ends) =
@@ -146,7 +147,8 @@ no_words written said = (
   λ is. grind (arith, is),
 )
 
--- where a run is asked for, each of its ends is one of the command's, which has no other with status 1
+-- where a run is asked for, each of its ends is one of the command's, which has no other with
+-- status 1
 abbrev RunEnds : List ℕ → List ℕ → ℕ → Type 0
 RunEnds written said status =
     Ends RunsSafely (Some []) (Some (codes "a")) (Some written) (Some (codes "b")) (Some said) status

@@ -53,7 +53,7 @@ others_got : (MayGet RunsSafely (Err 3) [] → ⊥) × MayGet RunsSafely (Ok Non
     × (MayGet RunsSafely (Ok None) (Idle ∷ []) → ⊥)
 others_got = (λ is. is, refl, λ is. (let wrong : Idle ∷ [] ≡ [] = is in absurd cc))
 
--- ---- they are printed, a line for each, behind what was there
+-- ---- they are printed, a line for each, after what was there
 
 prints_one : (replies : List Reply) (new : List ℕ) → Get replies
     → new ≡ codes "a" ++ flat_map line_of replies → new ≡ codes "aframes used 0 free 64\n"
@@ -106,7 +106,7 @@ bad_line input written said (inr (Audit, none, keeps, says)) = absurd none
 bad_line input written said (inr (Stream, any, keeps, inl (status, says))) = absurd (omega (arith, status))
 bad_line input written said (inr (fault, any, keeps, inr broken)) = absurd (omega (arith, broken))
 
--- for want of memory nothing is printed, whatever the text is
+-- on an allocation failure nothing is printed, whatever the text is
 no_memory : (input written said : List ℕ) → End input written said 3
     → (written ≡ codes "a") × (said ≡ codes "brun: memory\n")
 no_memory input written said (inl (wrong, is, keeps)) = absurd (omega (arith, wrong))

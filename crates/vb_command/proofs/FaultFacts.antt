@@ -13,7 +13,7 @@ use Rattle.vb_command.specs.declared.arguments.ArgumentsFault.TheVariants.{Refus
 use Rattle.vb_command.specs.declared.fault.ProgramFault.TheVariants.{BadLine, BadPlan, Audit, Stream}
 use Rattle.vb_command.specs.declared.fault.ProgramFault.TheVariants.{Memory as NoMemory}
 
--- ---- where faults come from: want of memory is told from all else
+-- ---- where faults come from: an allocation failure is told from all else
 
 of_arguments : (fault : Error) → (error_kind fault ≡ OutOfMemory
     → IsFaultOf fault Memory × (IsFaultOf fault Refused → ⊥))
@@ -51,14 +51,14 @@ unless_stream : ((UnlessStream (BadLine 7) ⊥ → ⊥) × (UnlessStream BadPlan
     × (UnlessStream (BadLine 7) ⊤ × UnlessStream BadPlan ⊤ × UnlessStream NoMemory ⊤ × UnlessStream Audit ⊤)
 unless_stream = ((λ is. is, λ is. is, λ is. is, λ is. is, tt), (tt, tt, tt, tt))
 
--- all but a broken stream and want of memory
+-- all but a broken stream and an allocation failure
 if_read : ((IfRead (BadLine 7) ⊥ → ⊥) × (IfRead BadPlan ⊥ → ⊥) × (IfRead Audit ⊥ → ⊥)
     × IfRead NoMemory ⊥ × IfRead Stream ⊥)
     × (IfRead (BadLine 7) ⊤ × IfRead BadPlan ⊤ × IfRead Audit ⊤)
 if_read = ((λ is. is, λ is. is, λ is. is, tt, tt), (tt, tt, tt))
 
--- a script that was read isn't played to its end for want of memory, and then so much holds, or for
--- a stream
+-- a script that was read isn't played to its end on an allocation failure, and then this much
+-- holds, or for a stream
 of_plays : ((IsPlayFault (BadLine 7) ⊤ → ⊥) × (IsPlayFault BadPlan ⊤ → ⊥)
     × (IsPlayFault Audit ⊤ → ⊥) × (IsPlayFault NoMemory ⊥ → ⊥))
     × (IsPlayFault NoMemory ⊤ × IsPlayFault Stream ⊥)
@@ -83,7 +83,7 @@ lines_of_faults : map fault_line (BadLine 1 ∷ BadLine 4294967296 ∷ BadPlan �
 unfolding digits
 lines_of_faults = refl
 
--- the line behind what was there, and its status; where it can't be written whatever is there and 4
+-- the line after what was there, and its status; where it can't be written whatever is there and 4
 said : (old new : Option (List ℕ)) → Says (codes "x") 3 (Some (codes "a")) (Some (codes "ax")) 3
     × Says (codes "x") 3 old new 4 × Says (codes "x") 3 None new 3
 said old new = (inl (refl, refl), inr refl, inl (refl, tt))

@@ -41,8 +41,8 @@ can : map can_run (planned (quiet ∷ []) ∷ planned (replicate 8 quiet)
     ≡ true ∷ true ∷ true ∷ []
 can = refl
 
--- no guest, nine, one behind another that can, a size or queues that none has, fewer scripts or more,
--- another processor's call, and a device's
+-- no guest, nine, one after another that can, a size or queues that none has, fewer scripts or
+-- more, another processor's call, and a device's
 cannot : map (λ guests. can_run (planned guests)) ([] ∷ replicate 9 quiet
     ∷ (quiet ∷ sized 63 8 1 ([] ∷ []) ∷ []) ∷ (sized 63 8 1 ([] ∷ []) ∷ quiet ∷ [])
     ∷ (sized 64 7 1 ([] ∷ []) ∷ []) ∷ (sized 64 8 5 ([] ∷ [] ∷ [] ∷ [] ∷ [] ∷ []) ∷ [])
@@ -107,7 +107,7 @@ past_the_last : (r : GuestReport) → r.frames.items ≡ 5 ∷ 64 ∷ [] → All
 past_the_last r is all =
     let l : 64 < 64 = subst (All (λ (f : ℕ). f < 64)) is all 1 0 (omega arith) in omega (arith, l)
 
--- the first and the last frame of 64, and the one behind them, of either guest
+-- the first and the last frame of 64, and the one after them, of either guest
 within : (a b : GuestReport) → a.frames.items ≡ 0 ∷ 63 ∷ []
     → (b.frames.items ≡ [] → AreWithin 64 (a ∷ b ∷ []))
     × (b.frames.items ≡ 5 ∷ 64 ∷ [] → (AreWithin 64 (a ∷ b ∷ []) → ⊥) × (AreWithin 64 (b ∷ a ∷ []) → ⊥))
@@ -150,7 +150,7 @@ lines : (plan : Plan) (report : Report) (p q : GuestPlan) (r s : GuestReport)
     × (guest_lines 9 (p ∷ []) (r ∷ s ∷ []) ≡ guest_line 9 12 2 ++ [])
 lines plan report p q r s plans reports a b c d = grind (arith, plans, reports, a, b, c, d)
 
--- they are printed behind what was there, of the run of the plan that the text makes
+-- they are printed after what was there, of the run of the plan that the text makes
 prints : (new : List ℕ) → PrintsReport Drop (Ok (Some two)) (Some (codes "a")) (Some new)
     ↔ ((plan : Plan) × (report : Report) × IsRunOf two Drop plan report
     × (new ≡ codes "a" ++ report_lines plan report))

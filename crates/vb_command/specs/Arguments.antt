@@ -27,7 +27,7 @@ bells_named mode =
     else (if bytes_eq mode (codes "double") then Some Double
     else (if bytes_eq mode (codes "late") then Some Late else None)))
 
--- the same behind `--bells=`
+-- the same after `--bells=`
 abbrev pub bells_joined : List ℕ → Option Bells
 bells_joined option =
     if bytes_eq option (codes "--bells=plain") then Some Plain
@@ -35,12 +35,12 @@ bells_joined option =
     else (if bytes_eq option (codes "--bells=double") then Some Double
     else (if bytes_eq option (codes "--bells=late") then Some Late else None)))
 
--- the words behind `run`: none
+-- the words after `run`: none
 abbrev pub run_with : List (List ℕ) → Option Asked
 run_with [] = Some Run
 run_with (word ∷ words) = None
 
--- the words behind `threads`: none, `--bells=MODE`, or `--bells MODE`
+-- the words after `threads`: none, `--bells=MODE`, or `--bells MODE`
 abbrev pub threads_with : List (List ℕ) → Option Asked
 threads_with [] = Some (Threads Plain)
 threads_with (option ∷ []) = option_map Threads (bells_joined option)
@@ -48,7 +48,7 @@ threads_with (option ∷ mode ∷ []) =
     if bytes_eq option (codes "--bells") then option_map Threads (bells_named mode) else None
 threads_with (option ∷ mode ∷ more ∷ words) = None
 
--- what a word asks for with these words behind it
+-- what a word asks for with these words after it
 abbrev pub command_of : List ℕ → List (List ℕ) → Option Asked
 command_of word words =
     if bytes_eq word (codes "run") then run_with words

@@ -24,7 +24,7 @@ fault_of_threads RunMemory = NoMemory
 fault_of_threads RunBadPlan = BadPlan
 fault_of_threads RunAudit = Audit
 
--- want of memory for what is read is no broken stream
+-- an allocation failure for what is read is no broken stream
 abbrev pub IsStreamFault : Error → ProgramFault → Type 0
 IsStreamFault fault (BadLineOf number) = ⊥
 IsStreamFault fault BadPlan = ⊥

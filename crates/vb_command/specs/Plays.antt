@@ -37,8 +37,8 @@ Prints Played script old new =
     × MayGet Played script replies
     × Appends old new (flat_map line_of replies)
 
--- Why a script isn't played to its end: there was no memory, and then so much holds; or a stream is
--- broken.
+-- Why a script isn't played to its end: there was no memory, and then this much holds; or a stream
+-- is broken.
 abbrev pub IsPlayFault : ProgramFault → Type 0 → Type 0
 IsPlayFault (BadLine number) P = ⊥
 IsPlayFault BadPlan P = ⊥

@@ -43,7 +43,7 @@ abbrev pub report_lines : Plan → Report → List ℕ
 report_lines plan report =
     guest_lines 0 plan.guests.items report.guests.items ++ (codes "disjoint" ++ 10 ∷ [])
 
--- each frame of these guests is one of the first so many
+-- each frame of these guests is one of the first n
 abbrev pub AreWithin : ℕ → List GuestReport → Type 0
 AreWithin frames reports = All (λ report. All (λ f. f < frames) report.frames.items) reports
 
@@ -69,7 +69,7 @@ PrintsReport bells script old new =
     × Appends old new (report_lines plan report)
 
 -- Why there is no report: a bad line, which is the first; a text that makes no plan that can be
--- run; want of memory; an audit that failed, of a plan that can be run; or a stream.
+-- run; an allocation failure; an audit that failed, of a plan that can be run; or a stream.
 abbrev pub IsThreadsFault : Result (Option Planned) ℕ → ProgramFault → Type 0
 IsThreadsFault script (BadLine number) = script ≡ Err number
 IsThreadsFault script BadPlan = lacks_plan script ≡ true

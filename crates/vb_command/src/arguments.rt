@@ -22,7 +22,7 @@ pub enum Asked {
 /// Why a command line asks for nothing.
 #[derive(Clone, Copy, Debug, PartialEq, Eq, thiserror::Error)]
 pub enum ArgumentsFault {
-    /// It isn't understood.
+    /// The command line isn't understood.
     #[error("usage: vb_sim run | threads [--bells MODE]")]
     Refused,
     /// There was no memory to read it.
@@ -75,8 +75,8 @@ pub fn read_arguments(alloc: Global, words: &[String]) -> Result<Asked, Argument
     asked_of(words).ok_or(ArgumentsFault::Refused)
 }
 
-/// What these words ask for. `--` alone, behind which all words are plain values, is understood
-/// too, but asks for nothing.
+/// What these words ask for. `--` alone, after which all words are plain values, is understood too,
+/// but asks for nothing.
 fn asked_of(words: &[String]) -> Option<Asked>
     ensures { result ≡ asked_of (map string_bytes words.now) }
 {
@@ -86,7 +86,7 @@ fn asked_of(words: &[String]) -> Option<Asked>
     }
 }
 
-/// What this word asks for with these words behind it.
+/// What this word asks for with these words after it.
 fn command_of(word: &str, words: &[String]) -> Option<Asked>
     ensures { result ≡ command_of word.now (map string_bytes words.now) }
 {
@@ -97,7 +97,7 @@ fn command_of(word: &str, words: &[String]) -> Option<Asked>
     }
 }
 
-/// What `run` asks for with these words behind it.
+/// What `run` asks for with these words after it.
 fn run_with(words: &[String]) -> Option<Asked>
     ensures { result ≡ run_with (map string_bytes words.now) }
 {
@@ -108,7 +108,7 @@ fn run_with(words: &[String]) -> Option<Asked>
     }
 }
 
-/// What `threads` asks for with these words behind it.
+/// What `threads` asks for with these words after it.
 fn threads_with(words: &[String]) -> Option<Asked>
     ensures { result ≡ threads_with (map string_bytes words.now) }
 {
@@ -134,7 +134,7 @@ fn bells_named(mode: &str) -> Option<Bells>
     }
 }
 
-/// The same behind `--bells=`.
+/// How doorbells are rung, by an option `--bells=MODE`.
 fn bells_joined(option: &str) -> Option<Bells>
     ensures { result ≡ bells_joined option.now }
 {

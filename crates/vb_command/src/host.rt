@@ -22,7 +22,7 @@ use vb_reply::{Held, put_reply, release};
 use vb_script::{Pace, Script};
 use vb_world::{World, add_spare};
 
-/// A host of frames, with guests behind balloon devices.
+/// A host of frames, with guests that have balloon devices.
 #[derive(Drop)]
 pub struct Host;
 
@@ -41,8 +41,9 @@ impl Play for Host {
 
 /// Makes a host of this many frames, 1 to `MAX_FRAMES`, with spare devices of these paces, lets
 /// events happen, and writes the line of what each is answered to `out`, in order: the replies are
-/// those of a run of the definitions, each state of which is safe. Fails for want of memory before
-/// the first event, with nothing written, or where a write does; then no event after it happens.
+/// those of a run of the definitions, each state of which is safe. Fails on an allocation failure
+/// before the first event, with nothing written, or where a write does; then no event after it
+/// happens.
 pub fn play_events<W: Write>(
     alloc: Global,
     frames: u32,
@@ -78,8 +79,8 @@ pub fn play_events<W: Write>(
 
 /// Makes a host of this many frames with these spare devices, lets events happen, one after the
 /// other, and writes the line of what each is answered to `out`, many at once. No memory is taken
-/// for the lines. Fails for want of memory before the first event, with nothing written, or where a
-/// write does; then no event after it happens.
+/// for the lines. Fails on an allocation failure before the first event, with nothing written, or
+/// where a write does; then no event after it happens.
 fn run_on<W: Write>(
     alloc: Global,
     frames: u32,

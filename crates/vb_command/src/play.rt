@@ -23,8 +23,8 @@ pub trait Play {
     ghost played: { Said → List AnyReply → Type 0 };
 
     /// Makes the script's host, lets its events happen, and writes the line of what each is
-    /// answered to `out`, in order. Fails for want of memory before the first event, with nothing
-    /// written, or where a write does; then the writer has a first part of the lines.
+    /// answered to `out`, in order. Fails on an allocation failure before the first event, with
+    /// nothing written, or where a write does; then the writer has a first part of the lines.
     fn play<W: Write>(
         &mut self,
         alloc: Global,

@@ -87,7 +87,7 @@ fn run_within<T: Threads + Wait + Sync, P: GuestPort>(
     Ok(report)
 }
 
-/// Whether each frame of these guests is one of the first so many.
+/// Whether each frame of these guests is one of the first `frames`.
 fn are_within(frames: u32, reports: &[GuestReport]) -> bool
     ensures { (result ≡ true) ↔ AreWithin frames reports.now }
 {

@@ -33,7 +33,7 @@ where
     run_script_on(alloc, &mut Host, input, output, errors)
 }
 
-/// The same, on a host that is passed.
+/// Runs a script as `run_script` does, on a host that is passed.
 pub fn run_script_on<P, R, O, E>(
     alloc: Global,
     host: &mut P,
@@ -92,8 +92,8 @@ fn play_into<P: Play, W: Write>(
     flush(out)
 }
 
-/// The same, but that what was written needn't be flushed. Nothing happens where a line of the
-/// script is bad, and nothing is written where it has none.
+/// Plays a text as `play_into` does, without the flush. Nothing happens where a line of the script
+/// is bad, and nothing is written where it has none.
 fn play_text<P: Play, W: Write>(
     alloc: Global,
     host: &mut P,

@@ -42,7 +42,7 @@ fn run(alloc: Global, script: &[u8]) -> Outcome {
     }
 }
 
-/// A text of this start, so many times this part, and this end.
+/// A text of this start, `count` times this part, and this end.
 fn repeated(
     alloc: Global,
     start: &str,

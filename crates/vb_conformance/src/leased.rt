@@ -152,7 +152,7 @@ impl Play for Leasing {
     }
 }
 
-/// A table of so many frames, and a pass over it that holds nothing.
+/// A table of `frames` frames, and a pass over it that holds nothing.
 fn open_one(alloc: Global, frames: u32) -> Result<(SharedFrames, FramePass), AllocError>
     requires { (0 < frames) × (frames ≤ MAX_FRAMES) }
     ensures { IfOk result (λ opened. opened.1.held ≡ []) }

@@ -12,14 +12,14 @@ use vb_ram::{Config, Frame, GuestBytes, RamFault, SupplyRefused};
 use vb_status::{Features, Port, Status, StatusFault};
 use vb_virtio::Refusal;
 
-/// The ballooned pages of a guest of so many pages, rising.
+/// The ballooned pages of a guest, rising.
 #[derive(Drop)]
 struct PageList {
     pages: u32,
     numbers: Vec<u32>,
 }
 
-/// Puts a page behind the others, for which there is room.
+/// Puts a page after the others, for which there is room.
 fn put_last(numbers: &mut Vec<u32>, page: u32)
     requires room { vec_len numbers.old < vec_capacity numbers.old }
     ensures items { numbers.new.items ≡ numbers.old.items ++ page ∷ [] }
@@ -32,7 +32,7 @@ fn put_last(numbers: &mut Vec<u32>, page: u32)
     }
 }
 
-/// Puts a page behind the others if it is ballooned.
+/// Puts a page after the others if it is ballooned.
 fn put_if(numbers: &mut Vec<u32>, page: u32, ballooned: bool)
     requires room { vec_len numbers.old < vec_capacity numbers.old }
     ensures items { numbers.new.items ≡ (if ballooned then numbers.old.items ++ page ∷ []
@@ -99,7 +99,7 @@ fn make_anew(listed: &mut Option<PageList>, device: &PacedDevice)
     }
 }
 
-/// Want of memory, as often as this number says.
+/// An allocation failure, as often as this number says.
 fn refuse(refusals: &mut u32) -> Result<(), AllocError> {
     if *refusals == 0 {
         return Ok(());
@@ -133,7 +133,7 @@ impl Model for ListedDevice {
 }
 
 impl ListedDevice {
-    /// A device that no guest has yet, which finds no memory for one so many times.
+    /// A device that no guest has yet, which finds no memory for one `refusals` times.
     pub fn refusing(alloc: Global, refusals: u32) -> ListedDevice
         ensures unused { IsUnused result.mem result.part }
         ensures paced { result.part.paced ≡ true }

@@ -161,7 +161,7 @@ run_bit run start b = grind (arith, in_run, ltb, leb, lt-ltb, lt-leb, le-ltb, le
 
 -- ---- the words of a run, one after the other
 
--- the pages of a run that stand in the words before one
+-- the pages of a run that are in the words before one
 abbrev pub is_before : Run → ℕ → ℕ → Bool
 is_before run w p = is_in p (pages_of_run run) && ltb (p / 64) w
 
@@ -171,16 +171,16 @@ pub one_word_more : (run : Run) (w mask : ℕ)
     → is_before run (w + 1) p ≡ (is_before run w p || (eqb (p / 64) w && has_bit mask (p % 64)))
 one_word_more run w mask e p = grind (arith, ltb, eqb, lt-ltb, le-ltb, eq-eqb, ne_eqb)
 
--- before the first word of a run none of its pages stands
+-- before the first word of a run none of its pages is
 pub none_before : (run : Run) (p : ℕ) → is_before run (run.first / 64) p ≡ false
 none_before run p = grind (arith, cases_lt, ltb, in_run, lt-leb, le-ltb)
 
--- and behind its last word none does
+-- and after its last word none does
 pub all_before : (run : Run) (w last p : ℕ) → last / 64 + 1 ≡ w
     → last ≡ run.first + run.count - 1 → is_in p (pages_of_run run) ≡ is_before run w p
 all_before run w last p e f = grind (arith, cases_lt, lt-ltb, in_run, leb, ltb, le-ltb)
 
--- no page of a run is past a bound behind its end
+-- no page of a run is past a bound after its end
 pub none_past : (run : Run) (bound p : ℕ) → run.first + run.count ≤ bound → bound ≤ p
     → is_in p (pages_of_run run) ≡ false
 none_past run bound p l m = grind (arith, in_run, leb, ltb, le-ltb)

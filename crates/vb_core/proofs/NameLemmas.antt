@@ -8,13 +8,13 @@ use Rattle.vb_request.specs.Request.{number_fault, first_number_fault}
 use Rattle.vb_request.proofs.Once.{fault_here, sound_more}
 use Rattle.vb_core.specs.{Name.{right_numbers, NamesRuns}, Runs.Tell, declared.runs.Run.Run}
 
--- a number that is less than so many behind the reserved ones
+-- a number that is less than n after the reserved ones
 pub within : (reserved count n : ℕ) → reserved < 2 ^ 32 → n < 2 ^ 32 → count < 2 ^ 32 →
     (n + (2 ^ 32 - reserved)) % 2 ^ 32 < count - reserved → number_fault reserved count n ≡ None
 within reserved count n r m c lt = let lower : reserved ≤ n = omega (arith, r, m, c, lt) in
     let upper : n < count = omega (arith, r, m, c, lt) in grind (arith, nat_tests)
 
--- What stands in the runs after the first k numbers.
+-- What is in the runs after the first k numbers.
 pub record Named_so_far (skipping : Bool) (reserved count : ℕ) (ns : List ℕ) (k : ℕ)
     (runs : List Run) (used skipped : ℕ) : Type 0 where
   pub told_so : Tell (take used runs) (right_numbers reserved count ns)
@@ -66,7 +66,7 @@ pub same_named : (skipping : Bool) (reserved count : ℕ) (ns : List ℕ) (k : �
     Named_so_far skipping reserved count ns k runs used skipped
 same_named skipping reserved count ns k runs new used now skipped others e f g so_far = grind arith
 
--- a wrong number stands behind right ones
+-- a wrong number comes after right ones
 pub names_fault : (skipping : Bool) (reserved count : ℕ) (ns : List ℕ) (k n : ℕ) (f : ChainFault)
     (runs : List Run) → k < length ns → get_or ns k 0 ≡ n → number_fault reserved count n ≡ Some f →
     skipping ≡ false → (skipping ≡ false → first_number_fault reserved count (take k ns) ≡ None) →

@@ -27,7 +27,7 @@ all_right reserved count (n ∷ ns) e =
     (right_numbers reserved count ns)) both.0
     ∙ ap (λ (xs : List ℕ). n ∷ xs) (all_right reserved count ns both.1)
 
--- what stands as often in two lists is in both or in neither
+-- what is as often in two lists is in both or in neither
 in_both : (p : ℕ) (xs ys : List ℕ) (a b : Bool) → is_in p xs ≡ a → is_in p ys ≡ b →
     times p xs ≡ times p ys → a ≡ b
 in_both p xs ys a b e f same = grind (arith, times-some, times-none)

@@ -9,7 +9,7 @@ use Rattle.vb_core.specs.Format.{u16_bytes, u32_bytes, u64_bytes, u16_at, u32_at
 abbrev pub AreBytes : List ℕ → Type 0
 AreBytes bytes = (i : ℕ) → get_or bytes i 0 < 256
 
--- what stands behind a part that is read
+-- what comes after a part that is read
 behind : (bytes more : List ℕ) (size p next : ℕ) → next ≡ p + size
     → drop size (drop p bytes) ≡ more → drop next bytes ≡ more
 behind bytes more size p next q e =
@@ -45,7 +45,7 @@ byte_then n more bytes p next q e = grind (
 
 -- ---- what is read is what was written
 
--- a part, and what stands behind it
+-- a part, and what comes after it
 split : (bytes part : List ℕ) (size p next : ℕ) → next ≡ p + size
     → part ≡ take size (drop p bytes) → drop p bytes ≡ part ++ drop next bytes
 split bytes part size p next q e =

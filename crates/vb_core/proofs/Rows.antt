@@ -4,7 +4,7 @@ use Rattle.std.proofs.Common.{append-nil}
 use Rattle.vb_core.specs.Format.{in_a_row}
 pub use Rattle.std.proofs.lemmas.List.Sums.{fold_more}
 
--- more behind a row is appended to it
+-- more after a row is appended to it
 pub row_more : (parts : List (List ℕ)) (more : List ℕ)
     → in_a_row parts more ≡ in_a_row parts [] ++ more
 row_more [] more = refl
@@ -15,7 +15,7 @@ row_more (part ∷ parts) more = ap (λ (xs : List ℕ). part ++ xs) (row_more p
 pub record IsRow (parts : List (List ℕ)) (bytes : List ℕ) : Type 0 where
   pub is : bytes ≡ in_a_row parts []
 
--- a row behind another one
+-- a row after another one
 pub joins : (ps qs : List (List ℕ)) (old new : List ℕ) → IsRow ps old
     → new ≡ old ++ in_a_row qs [] → IsRow (ps ++ qs) new
 joins ps qs old new e f =
@@ -26,7 +26,7 @@ joins ps qs old new e f =
     behind (p ∷ ps) = append_assoc p (in_a_row ps []) (in_a_row qs [])
         ∙ ap (λ (xs : List ℕ). p ++ xs) (behind ps)
 
--- one more part behind a row
+-- one more part after a row
 pub adds : (ps : List (List ℕ)) (p old new : List ℕ) → IsRow ps old → new ≡ old ++ p
     → IsRow (ps ++ (p ∷ [])) new
 adds ps p old new e f =

@@ -8,7 +8,7 @@ use Rattle.vb_core.specs.Runs.{joined, IsApartFrom, IsApart, Grows, one_page, Is
 abbrev two : Run
 two = record { first = 5; count = 2 }
 
--- the number behind them and the one before them, and no other: one further on, one of their own,
+-- the number after them and the one before them, and no other: one further on, one of their own,
 -- one further down
 taken_in : map (joined two) (7 ∷ 4 ∷ 8 ∷ 6 ∷ 3 ∷ []) ≡ Some (record { first = 5; count = 3 })
     ∷ Some (record { first = 4; count = 3 }) ∷ None ∷ None ∷ None ∷ []
@@ -61,7 +61,8 @@ a_part = record { whole = refl; grows = (20, (21 ∷ [], (refl, (run_at 20 2, (r
 abbrev length_of : List ℕ → ℕ
 length_of ns = length ns
 
--- a number that is in neither part, a run that has one more, one that begins elsewhere, and no number
+-- a number that is in neither part, a run that has one more, one that begins elsewhere, and no
+-- number
 no_part : (IsPart (one_page 20) (20 ∷ 5 ∷ []) (20 ∷ []) [] → ⊥)
     × (IsPart (run_at 20 2) (20 ∷ []) (20 ∷ []) [] → ⊥)
     × (IsPart (one_page 21) (20 ∷ []) (20 ∷ []) [] → ⊥)

@@ -1,4 +1,4 @@
--- How often a page stands in runs.
+-- How often a page is in runs.
 use Rattle.std.proofs.Common.{◌≡◌, ◌∙◌, ℕ, zero, suc, ◌+◌, ◌-◌, ◌<◌, List, [], ◌∷◌, ◌++◌, refl}
 use Rattle.std.proofs.Common.{length, get_or, set, take, sym, ap, arith, subst, append_assoc, ◌≤◌}
 use Rattle.std.{proofs.lemmas.Bool.eqb-true, specs.List.range_with_len}
@@ -15,7 +15,7 @@ use Rattle.vb_core.specs.{RunEnds.{AreEndsOf, AreEnds}, Runs.{one_page, IsPart, 
 pub times-one : (p x : ℕ) → times p (x ∷ []) ≡ one_if (x == p)
 times-one p x = let e = times-cons p x [] in omega (arith, e)
 
--- one page more behind those of a range
+-- one page more after those of a range
 times_up : (p first count : ℕ) → times p (range_with_len first (suc count)) ≡
     times p (range_with_len first count) + one_if ((first + count) == p)
 times_up p first zero = grind arith
@@ -89,7 +89,7 @@ part_some run ns part rest is =
 
 -- ---- the numbers that runs tell
 
--- how often a number stands among them
+-- how often a number is among them
 pub tell_times : (runs : List Run) (ns : List ℕ) → Tell runs ns → (p : ℕ) →
     times p (pages_of_runs runs) ≡ times p ns
 tell_times [] ns t p = ap (times p) (sym t)
@@ -195,7 +195,7 @@ none_apart : (page used : ℕ) (runs : List Run) → used ≡ 0 → (ns : List �
     → Tell (take used runs) ns → Tell (take used runs ++ one_page page ∷ []) (ns ++ page ∷ [])
 none_apart page used runs e ns t = grind (arith, alone_tells)
 
--- a run of one page is put behind them
+-- a run of one page is put after them
 pub run_added : (used : ℕ) (runs now : List Run) (new : Run) (ms : List ℕ) → now ≡ runs →
     used < length runs → Tell (take used runs ++ new ∷ []) ms →
     Tell (take (used + 1) (set now used new)) ms

@@ -15,11 +15,11 @@ use Rattle.vb_core.specs.Runs.{pages_of_runs}
 use Rattle.vb_core.specs.Devices.{◌⇛◌, first_denial}
 use Rattle.vb_core.specs.Name.{is_request}
 
--- The page is in the set. None behind the words is.
+-- The page is in the set. None after the words is.
 abbrev pub is_ballooned : List ℕ → ℕ → Bool
 is_ballooned set page = in_words set page
 
--- The pages that a set has bits for, of so many words.
+-- The pages that a set has bits for, of n words.
 abbrev pub pages_with_bits : ℕ → List ℕ
 pages_with_bits words = range_with_len 0 (WORD_BITS * words)
 
@@ -33,7 +33,7 @@ is_changed old new page =
     if is_ballooned old page then not (is_ballooned new page) else is_ballooned new page
 
 -- Pages that pass a test are in the new set, or none of them is; all others are in it where they
--- are in the old one; and so many pages are in just one of both.
+-- are in the old one; and n pages are in just one of both.
 pub record Puts (test : ℕ → Bool) (inside : Bool) (old new : List ℕ) (changed : ℕ) : Type 0 where
   pub words : length new ≡ length old
   pub pages : (p : ℕ) → is_ballooned new p ≡ (if test p then inside else is_ballooned old p)
@@ -46,7 +46,7 @@ puts_in Deflate = false
 puts_in Statistics = false
 puts_in Report = false
 
--- What is refused, with so many words: what isn't a request, and a page that has no bit.
+-- What is refused, with n words: what isn't a request, and a page that has no bit.
 abbrev pub mark_denial : Kind → List Run → ℕ → Option Denial
 mark_denial kind runs words =
     first_denial

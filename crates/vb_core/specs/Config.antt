@@ -6,7 +6,7 @@ use Rattle.vb_core.specs.declared.device.Device.{Device}
 use Rattle.vb_core.specs.declared.config.TheConstants.{ACTUAL_AT, POISON_AT, FIELD_BYTES}
 use Rattle.vb_core.specs.Settings.{page_poison}
 
--- What stands in poison_val: 0 where PAGE_POISON isn't offered.
+-- What is in poison_val: 0 where PAGE_POISON isn't offered.
 abbrev pub shown_poison : Device → ℕ
 shown_poison d = if page_poison d.settings.offered then d.poison else 0
 
@@ -16,12 +16,12 @@ config_bytes d =
     to_le_bytes w32 d.target ++ to_le_bytes w32 d.actual
     ++ to_le_bytes w32 0 ++ to_le_bytes w32 (shown_poison d)
 
--- So many bytes from an offset on cover the field that begins there whole.
+-- n bytes from an offset on cover the field that begins there whole.
 abbrev pub covers : ℕ → ℕ → ℕ → Bool
 covers offset len field = nat_le offset field && nat_le (field + FIELD_BYTES) (offset + len)
 
--- A write of so many bytes at this offset writes poison_val, as one does that covers it where
--- PAGE_POISON is offered.
+-- A write of n bytes at this offset writes poison_val, as one does that covers it where PAGE_POISON
+-- is offered.
 abbrev pub takes_poison : ℕ → ℕ → Device → Bool
 takes_poison offset len d = page_poison d.settings.offered && covers offset len POISON_AT
 
@@ -29,7 +29,7 @@ takes_poison offset len d = page_poison d.settings.offered && covers offset len 
 abbrev pub config_denies : ℕ → ℕ → Device → Bool
 config_denies offset len d = not (covers offset len ACTUAL_AT) && not (takes_poison offset len d)
 
--- The number that 4 of these bytes are, after so many.
+-- The number that 4 of these bytes are, after n.
 abbrev pub word_from : List ℕ → ℕ → ℕ
 word_from bytes skipped = from_le_bytes w32 (take FIELD_BYTES (drop skipped bytes))
 

@@ -15,7 +15,7 @@ no_ring =
 abbrev pub is_size : ℕ → Bool
 is_size size = is_power_of_two size && nat_le MIN_QUEUE_SIZE size && nat_le size MAX_QUEUE_SIZE
 
--- So many bytes from an address on are aligned so, and lie in memory that ends there.
+-- n bytes from an address on are aligned so, and lie in memory that ends there.
 abbrev pub is_part : ℕ → ℕ → ℕ → ℕ → Bool
 is_part end at align len = (at % align == 0) && nat_le at end && nat_le len (end - at)
 
@@ -31,11 +31,11 @@ has_place end r =
 abbrev pub with_taken : Virtqueue → Virtqueue
 with_taken r = record r { next_avail = (r.next_avail + 1) % 65536 }
 
--- One more used entry is told.
+-- One more used element is told.
 abbrev pub with_used : Virtqueue → Virtqueue
 with_used r = record r { next_used = (r.next_used + 1) % 65536 }
 
--- The element of 8 bytes behind those told, for a chain of this head, and the index behind it.
+-- The element of 8 bytes after those told, for a chain of this head, and the index after it.
 abbrev pub used_entry : Virtqueue → ℕ → UsedEntry
 used_entry r head = record {
   element_at = r.used + 4 + 8 * (r.next_used % r.size);

@@ -22,7 +22,7 @@ IsApart run [] = Unit {0}
 IsApart run (n ∷ ns) = IsApartFrom run n
 
 -- A run that takes a number in: at its end where the number follows its last page, else at its
--- front where the number stands right before its first one.
+-- front where the number is right before its first one.
 abbrev pub joined : Run → ℕ → Option Run
 joined run n =
     if n == run.first + run.count
@@ -45,7 +45,7 @@ pub record IsPart (run : Run) (ns part rest : List ℕ) : Type 0 where
   pub grows : (n : ℕ) × ((more : List ℕ) × ((part ≡ n ∷ more) × Grows (one_page n) more run))
 
 -- The runs tell these numbers in their order: the numbers fall into parts, one a run, of which each
--- makes its run; and the number behind a part joins neither end of its run.
+-- makes its run; and the number after a part joins neither end of its run.
 abbrev pub Tell : List Run → List ℕ → Type 0
 Tell [] ns = ns ≡ []
 Tell (run ∷ runs) ns =

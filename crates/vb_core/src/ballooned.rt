@@ -47,7 +47,7 @@ fn mark_word(set: &mut [u64], place: usize, mask: u64, inside: bool) -> u32
     (old ^ new).count_ones()
 }
 
-/// Whether each page of a run has a bit in so many words.
+/// Whether each page of a run has a bit in `words` words.
 fn has_bits(run: Run, words: usize) -> bool
     ensures { result ≡ not (list_any (λ p. nat_le (WORD_BITS * words) p) (pages_of_run run)) }
 {
@@ -58,7 +58,7 @@ fn has_bits(run: Run, words: usize) -> bool
     last / PAGES < words as u64
 }
 
-/// Whether each page of all runs has a bit in so many words.
+/// Whether each page of all runs has a bit in `words` words.
 fn have_bits(runs: &[Run], words: usize) -> bool
     ensures { result ≡
         not (list_any (λ p. nat_le (WORD_BITS * words) p) (pages_of_runs runs.now)) }
@@ -111,7 +111,7 @@ fn mark_runs(set: &mut [u64], runs: &[Run], inside: bool) -> u64
 /// resets the device.
 ///
 /// Refused, tested in this order: `NoQueue` for another kind; `BadArgument` where a page of a run
-/// has no bit in so many words. Then nothing is changed.
+/// has no bit in the words. Then nothing is changed.
 pub fn mark(kind: Kind, runs: &[Run], set: &mut [u64]) -> Result<u64, Denial>
     ensures { MarksBy kind runs.now set.old set.new result }
 {
@@ -124,7 +124,7 @@ pub fn mark(kind: Kind, runs: &[Run], set: &mut [u64]) -> Result<u64, Denial>
     Ok(mark_runs(set, runs, kind == Kind::Inflate))
 }
 
-/// Whether a page is in the set; none behind the words is.
+/// Whether a page is in the set; none after the words is.
 pub fn is_ballooned(set: &[u64], page: u32) -> bool
     ensures { result ≡ is_ballooned set.now page }
 {

@@ -26,7 +26,7 @@ fn covers(offset: u32, length: usize, field: u32) -> bool
     offset <= field && (field - offset) as usize + FIELD_BYTES <= length
 }
 
-/// The number that 4 of these bytes are, after so many.
+/// The number that 4 of these bytes are, after `skipped`.
 fn word_from(bytes: &[u8], skipped: usize) -> u32
     requires { skipped + FIELD_BYTES ≤ length bytes.now }
     ensures { result ≡ word_from bytes.now skipped }
@@ -37,7 +37,7 @@ fn word_from(bytes: &[u8], skipped: usize) -> u32
 }
 
 impl Device {
-    /// What stands in `poison_val`.
+    /// What is in `poison_val`.
     fn shown_poison(&self) -> u32
         ensures { result ≡ shown_poison self.now }
     {

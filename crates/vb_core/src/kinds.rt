@@ -11,7 +11,7 @@ use vb_virtio::layout::{DEFLATE_QUEUE, INFLATE_QUEUE, REPORT_QUEUE, STATISTICS_Q
 pub enum Kind {
     /// Pages are given to the host.
     Inflate,
-    /// Pages are asked back.
+    /// Pages are requested back.
     Deflate,
     /// The guest's figures of its memory.
     Statistics,

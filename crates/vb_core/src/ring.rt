@@ -25,7 +25,7 @@ pub struct Virtqueue {
     pub size: u16,
     /// How many available entries were taken, modulo 65,536.
     pub next_avail: u16,
-    /// How many used entries were told, modulo 65,536.
+    /// How many used elements were told, modulo 65,536.
     pub next_used: u16,
 }
 
@@ -45,14 +45,14 @@ pub struct UsedEntry {
     pub index: u16,
 }
 
-/// Whether a queue may have so many descriptors: a power of two from 2 to 256.
+/// Whether a queue may have `size` descriptors: a power of two from 2 to 256.
 fn is_size(size: u16) -> bool
     ensures { result ≡ is_size size }
 {
     size.is_power_of_two() && size >= MIN_QUEUE_SIZE && size <= MAX_QUEUE_SIZE
 }
 
-/// Whether so many bytes from an address on are aligned so, and lie in memory that ends there.
+/// Whether `len` bytes from an address on are aligned so, and lie in memory that ends there.
 fn is_part(end: u64, at: u64, align: u64, len: u64) -> bool
     requires { 0 < align }
     ensures { result ≡ is_part end at align len }
@@ -63,7 +63,7 @@ fn is_part(end: u64, at: u64, align: u64, len: u64) -> bool
 /// Half of the largest size of a queue.
 const HALF_QUEUE_SIZE: u16 = MAX_QUEUE_SIZE / 2;
 
-/// Where the entry stands that comes behind so many, in a ring of so many entries. For the two
+/// The index in a ring of `size` entries of the entry that comes after `count` others. For the two
 /// largest sizes nothing is divided.
 #[inline(always)]
 pub fn place_in_ring(count: u16, size: u16) -> u16
@@ -125,7 +125,7 @@ impl Virtqueue {
         self.next_avail = self.next_avail.wrapping_add(1);
     }
 
-    /// Counts one more used entry.
+    /// Counts one more used element.
     #[inline(always)]
     pub(crate) fn count_used(&mut self)
         ensures { self.new ≡ with_used self.old }

@@ -80,8 +80,8 @@ fn join_last(runs: &mut [Run], used: usize, ends: &mut Ends, page: u32) -> bool
     false
 }
 
-/// Puts a page behind those of the first `used` runs: into the last of them where it joins that
-/// one, and else into a run of its own. Answers how many runs are used then.
+/// Puts a page after those of the first `used` runs: into the last of them where it joins that one,
+/// and else into a run of its own. Answers how many runs are used then.
 #[inline(always)]
 pub(crate) fn add_page(runs: &mut [Run], used: usize, ends: &mut Ends, page: u32) -> usize
     requires room { used < length runs.old }

@@ -177,7 +177,7 @@ visits_no_other : (m2 : Pages) (p2 : Part)
 visits_no_other m2 p2 =
     (λ by. by.0, λ by. by.1, λ by. by.0, λ by. (by.1, by.2))
 
--- ---- a finish but for the used entry
+-- ---- a finish but for the used element
 
 lost : map (λ q. with_lost q mem (3 ∷ 1 ∷ 3 ∷ []) (4 ∷ [])) (0 ∷ 1 ∷ 4 ∷ [])
     ≡ (4 ∷ 9 ∷ 7 ∷ []) ∷ (4 ∷ []) ∷ (4 ∷ 9 ∷ 7 ∷ []) ∷ []
@@ -209,7 +209,7 @@ settles_no_other : (m2 : Pages) (p2 : Part) (result : Result ℕ Refusal)
     × (SettlesBy busy.paced 0 2 mem m2 busy p2 result → (result ≡ Err NotTaken) × (p2 ≡ busy) × (m2 ≡ mem))
 settles_no_other m2 p2 result = (λ by. by.refused NotWorked refl, λ by. by.refused NotTaken refl)
 
--- ---- the used entry, with length 0, and the statistics buffer
+-- ---- the used element, with length 0, and the statistics buffer
 
 can_use : (h : ℕ) (m : Pages) → CanUse 4 h m (record busy { queue_size = 8 })
     ↔ ((true ≡ true) × (true ≡ true) × (h < 8) × IsBacked m (layout_of 3 8))

@@ -44,7 +44,7 @@ bare = refl
 behind : frames_behind mem (3 ∷ 2 ∷ 1 ∷ 4 ∷ []) ≡ 9 ∷ 7 ∷ []
 behind = refl
 
--- a deflate's pages keep theirs; a page that stands twice loses one
+-- a deflate's pages keep theirs; a page that is twice loses one
 lost : lost_frames 0 (3 ∷ 2 ∷ []) mem ∷ lost_frames 1 (3 ∷ 2 ∷ []) mem ∷ lost_frames 4 (3 ∷ 3 ∷ []) mem ∷ []
     ≡ (9 ∷ []) ∷ [] ∷ (9 ∷ []) ∷ []
 lost = refl
@@ -93,7 +93,8 @@ not_back = (
   λ back. back.0.own 9 refl,
 )
 
--- ---- a queue: the index goes round, a new request is the last, and those behind a used one close up
+-- ---- a queue: the index goes round, a new request is the last, and those after a used one close
+-- up
 
 takes : taking 0 4 (2 ∷ []) busy ≡ record busy {
   inflate = record {
@@ -113,7 +114,7 @@ uses_the_second : using 0 1 busy
     ≡ record busy { inflate = record { next_avail = 65535; next_used = 0; taken = asked 1 (1 ∷ []) 1 ∷ [] } }
 uses_the_second = refl
 
--- the two counts of an end are apart, and what stands next goes by the first
+-- the two counts of an end are apart, and what is next goes by the first
 abbrev counted : Part
 counted = record busy { report = record { next_avail = 5; next_used = 6; taken = [] }; queue_size = 8 }
 

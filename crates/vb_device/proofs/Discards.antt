@@ -66,7 +66,7 @@ discard_more first mem new pages i page lt at e d =
           (not_equal (get_or pages i 0) q (get_or pages i 0 == q) refl (λ x. ne (x ∙ at)))))))
     ])
 
--- the frame behind a page that may have lost it
+-- the frame that backs a page that may have lost it
 frame_now : (first mem : Pages) (pages : List ℕ) (i page : ℕ) → mem ≡ discarded (take i pages) first
     → page_at mem page ≡ cond (is_in page (take i pages)) None (page_at first page)
 frame_now first mem pages i page e =
@@ -76,7 +76,7 @@ frames_push : (first : Pages) (pages : List ℕ) (page : ℕ) → frames_behind 
     ≡ frames_behind first pages ++ option_to_list (frame_at first page)
 frames_push first pages page = grind (arith, flat_map-append, append-nil)
 
--- the frames behind pages of which each counts once, with one page more
+-- the frames that back pages of which each counts once, with one page more
 once_push : (first : Pages) (once : List ℕ) (page : ℕ) (b : Bool) →
     frames_behind first (if b then once else once ++ page ∷ []) ≡
     frames_behind first once ++ option_to_list (number_of (cond b None (page_at first page)))
@@ -140,12 +140,12 @@ none_of : (o p : Option Page) (P : Type 0) → o ≡ p → IfNone o P → p ≡ 
 none_of None p P e is none = is
 none_of (Some x) p P e is none = absurd cc
 
--- each frame that is loose came from behind a page
+-- each frame that is loose backed a page
 loses_one : (old new : Pages) (page : ℕ) → Discarded old new page → (page_at old page ≡ None
     → new ≡ old) → frame_count new + one_if (is_some (page_at old page)) ≡ frame_count old
 loses_one old new page d same = grind (arith, cases_lt, loses_inside, past_none)
 
--- the same, by what was found behind the page
+-- the same, by what backed the page
 pub loses_found : (old new : Pages) (page : ℕ) (found : Option Page) → found ≡ page_at old page →
     Discarded old new page → IfNone found (new ≡ old) →
     frame_count new + one_if (is_some found) ≡ frame_count old

@@ -133,7 +133,7 @@ pub can_use : (q h : ℕ) (pages : List ℕ) (m1 m2 : Pages) (s f t a n c : ℕ)
 can_use q h pages m1 m2 s f t a n c qs x2 l loose flags paced is known ok lt above mem backed =
     grind (arith, status_ok, backed_still, kept_page)
 
--- a request whose next page is visited stands in memory that has pages
+-- a request whose next page is visited is in memory that has pages
 pub visits_attached : (mem : Pages) (ts : List Request) (page : ℕ) →
     (length mem ≡ 0 → ts ≡ []) → next_page ts ≡ Some page → 0 < length mem
 visits_attached mem ts page none at = grind (arith, cases_eq)

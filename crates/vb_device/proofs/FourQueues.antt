@@ -30,7 +30,7 @@ of_four P each (a ∷ b ∷ c ∷ []) e = absurd (omega (arith, e))
 of_four P each (a ∷ b ∷ c ∷ d ∷ []) e = each a b c d
 of_four P each (a ∷ b ∷ c ∷ d ∷ x ∷ xs) e = absurd (omega (arith, e))
 
--- an entry, whatever stands for one that isn't there
+-- an entry, whatever represents one that isn't there
 pub entry_is : (q : ℕ) (qs : List QueueState) (x : QueueState) → length qs ≡ 4 →
     has_chains q ≡ true → get_or qs (index_of q) x ≡ queue_at q qs
 entry_is q qs x four known = of_four (λ l. get_or l (index_of q) x ≡ queue_at q l)

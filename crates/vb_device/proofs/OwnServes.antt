@@ -1,4 +1,4 @@
--- A device that keeps frames of its own serves a chain as the one round which it stands.
+-- A device that keeps frames of its own serves a chain as the one that it wraps.
 use Rattle.std.specs.Prelude.{◌≡◌, ℕ, ◌==◌, Bool, true, false, List, MatchBool, Option, Some, None}
 use Rattle.std.{proofs.Common.ap, specs.Prelude.{Result, Ok, Err}}
 use Rattle.vb_virtio.specs.declared.layout.TheConstants.{STATISTICS_QUEUE}

@@ -87,7 +87,7 @@ taken = (
   λ is. omega (arith, is.above 0 0 (omega arith)),
 )
 
--- ---- what stands next: of memory that reads as zeros, and of memory whose first entry is head 0
+-- ---- what is next: of memory that reads as zeros, and of memory whose first entry is head 0
 
 abbrev at_page_0 : ℕ → QueueState
 at_page_0 next_avail = record (new_queue 0 8) {
@@ -157,7 +157,7 @@ index_that_jumped : Answers 0 zeros (at_page_0 60000) (Err (Broken 7))
 unfolding byte_at field
 index_that_jumped x l result by = by.jump IndexJump refl refl
 
--- where a head stands next, by the chain that it has
+-- where a head is next, by the chain that it has
 a_fault : (m : Pages) (x : QueueState) (l : LastStatistics) (result : Result (Option ℕ) Refusal)
     → TakesNext 1 m going x last l result → next_of m going ≡ Ok (Some 5)
     → IsFaultOf m going 5 Indirect → (result ≡ Err (Broken 4)) × (x ≡ going) × (l ≡ last)

@@ -17,7 +17,7 @@ kind_of_finish : (a : Bool) (rest : Option Refusal) → (if not a then Some NoQu
 kind_of_finish true rest e = refl
 kind_of_finish false rest e = absurd cc
 
--- what the used entry adds
+-- what the used element adds
 abbrev bumped : QueuePart → QueuePart
 bumped k = record k { next_used = (k.next_used + 1) % 65536 }
 

@@ -35,7 +35,7 @@ same_some o x y a b = cc
 none_some : (o : Option Refusal) (x : Refusal) → o ≡ None → o ≡ Some x → ⊥
 none_some o x a b = cc
 
--- the first causes decide where one of them holds, and else those behind them do
+-- the first causes decide where one of them holds, and else those after them do
 pub first_stands : (causes more : List Cause) (why : Refusal) → first_refusal causes ≡ Some why
     → first_refusal (causes ++ more) ≡ Some why
 first_stands [] more why e = absurd cc

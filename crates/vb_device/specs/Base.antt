@@ -17,11 +17,11 @@ use Rattle.vb_device.specs.State.{DeviceState}
 abbrev pub numbers_of_frames : List Page → List ℕ
 numbers_of_frames frames = map (λ frame. frame.number) frames
 
--- Where the queue of this number stands among a device's four.
+-- Where the queue of this number is among a device's four.
 abbrev pub index_of : ℕ → ℕ
 index_of q = if q == REPORT_QUEUE then 3 else q
 
--- The four queues of so many descriptors, each at the ring page of its number.
+-- The four queues of n descriptors, each at the ring page of its number.
 abbrev pub new_queues : ℕ → List QueueState
 new_queues size =
     map (λ q. new_queue q size)

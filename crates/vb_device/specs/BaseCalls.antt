@@ -28,8 +28,8 @@ queue_refusal q status =
 
 -- ---- work
 
--- The queue that the next page to be visited stands in: that of reports where each page of the
--- taken inflates is visited.
+-- The queue that the next page to be visited is in: that of reports where each page of the taken
+-- inflates is visited.
 abbrev pub visited_queue : Part → ℕ
 visited_queue part = if is_some (next_page part.inflate.taken) then INFLATE_QUEUE else REPORT_QUEUE
 
@@ -67,7 +67,7 @@ abbrev pub flags_after : ℕ → List ℕ → List Bool → List Bool
 flags_after q pages flags =
     if q == REPORT_QUEUE then flags else flagged pages (q == INFLATE_QUEUE) flags
 
--- The taken request of this number, for these pages, is taken out: those behind it close up, and
+-- The taken request of this number, for these pages, is taken out: those after it close up, and
 -- what its pages lose is loose.
 abbrev pub taken_out : ℕ → ℕ → List ℕ → Pages → Part → Part
 taken_out q index pages mem part =
@@ -75,7 +75,7 @@ taken_out q index pages mem part =
     (record (queue_part q part) { taken = remove (queue_part q part).taken index })
     (record part { loose = with_lost q mem pages part.loose })
 
--- All of a finish but for the used entry: the request is taken out, its pages are flagged, and
+-- All of a finish but for the used element: the request is taken out, its pages are flagged, and
 -- nothing is written. Its pages are to be visited first, or aren't.
 pub record SettlesBy (visits : Bool) (q index : ℕ) (m1 m2 : Pages) (p1 p2 : Part)
     (result : Result ℕ Refusal) : Type 0 where
@@ -94,7 +94,7 @@ pub record CanUse (q h : ℕ) (mem : Pages) (part : Part) : Type 0 where
   pub head : h < part.queue_size
   pub backed : IsBacked mem (queue_layout q part)
 
--- One more used entry of the queue is written: this head, with length 0.
+-- One more used element of the queue is written: this head, with length 0.
 pub record UsesChain (q h : ℕ) (m1 m2 : Pages) (p1 p2 : Part) : Type 0 where
   pub part : p2 ≡
       with_queue q

@@ -10,6 +10,6 @@ use Rattle.vb_ram.specs.Pages.{Pages, frame_at}
 abbrev pub discarded : List ℕ → Pages → Pages
 discarded pages mem = marked pages None mem
 
--- The numbers of the frames behind these pages, in the pages' order.
+-- The numbers of the frames that back these pages, in the pages' order.
 abbrev pub frames_behind : Pages → List ℕ → List ℕ
 frames_behind mem pages = flat_map (λ page. option_to_list (frame_at mem page)) pages

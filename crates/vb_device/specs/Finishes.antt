@@ -31,7 +31,7 @@ settled q pages part =
     else (if q == DEFLATE_QUEUE then record part { ballooned = flagged pages false part.ballooned }
     else part)
 
--- The taken request of this number is used, and those behind it close up.
+-- The taken request of this number is used, and those after it close up.
 abbrev pub using : ℕ → ℕ → Part → Part
 using q index part =
     with_queue q

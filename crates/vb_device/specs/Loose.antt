@@ -10,7 +10,7 @@ use Rattle.vb_device.specs.Own.{has}
 abbrev pub SameFrames : List ℕ → List ℕ → Type 0
 SameFrames frames others = (n : ℕ) → times n frames ≡ times n others
 
--- Some loose frame is given out, whoever keeps it, if there is one.
+-- Some loose frame is given out, the device's or the host's, if there is one.
 abbrev pub PopsLoose : Part → Part → Option Page → Type 0
 PopsLoose p1 p2 None = (p1.loose ≡ []) × (p2 ≡ p1)
 PopsLoose p1 p2 (Some frame) =

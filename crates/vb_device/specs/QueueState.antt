@@ -33,7 +33,7 @@ pub record QueueState : Type 0 where
 abbrev pub part_of : QueueState → QueuePart
 part_of q = record { next_avail = q.ring.next_avail; next_used = q.ring.next_used; taken = q.taken }
 
--- The queue of this number, with so many descriptors, which isn't ready.
+-- The queue of this number, with n descriptors, which isn't ready.
 abbrev pub new_queue : ℕ → ℕ → QueueState
 new_queue q size =
     record {
@@ -48,12 +48,12 @@ new_queue q size =
       taken = [];
     }
 
--- A queue that stands for one that isn't there.
+-- A queue that represents one that isn't there.
 abbrev pub no_ring : QueueState
 no_ring = new_queue 0 0
 
--- What is true of each taken chain of a queue of so many descriptors: it begins with one of them,
--- and names no reserved page.
+-- What is true of each taken chain of a queue of n descriptors: it begins with one of them, and
+-- names no reserved page.
 pub record IsTaken (size : ℕ) (r : Request) : Type 0 where
   pub head : r.head < size
   pub above : All (λ page. reserved_pages size ≤ page) r.pages

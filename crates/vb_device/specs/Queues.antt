@@ -1,4 +1,4 @@
--- A device's queues by their numbers: VIRTIO 1.1, 2.6 and 5.5.2; where their rings stand, and queue
+-- A device's queues by their numbers: VIRTIO 1.1, 2.6 and 5.5.2; where their rings are, and queue
 -- 4, are the profile's.
 use Rattle.std.specs.Prelude.{ℕ, true, ◌==◌, if◌then◌else◌, Option, Result}
 use Rattle.vb_virtio.specs.declared.layout.TheConstants.{INFLATE_QUEUE, DEFLATE_QUEUE}
@@ -28,7 +28,7 @@ with_queue q queue part =
     else (if q == STATISTICS_QUEUE then record part { statistics = queue }
     else record part { report = queue }))
 
--- Where a queue's ring stands.
+-- Where a queue's ring is.
 abbrev pub queue_layout : ℕ → Part → Layout
 queue_layout q part = layout_of (ring_page part.queue_size q) part.queue_size
 

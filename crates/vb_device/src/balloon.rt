@@ -175,7 +175,7 @@ impl<P: Pace> Device for BalloonDevice<P> {
     }
 
     fn paced(&self) -> bool {
-        // Read for the proof: what the device shows is said of its fields by reading one.
+        // A no-op read: it gives the prover the device's view by its fields.
         let _ = &self.status;
         P::IS_PACED
     }

@@ -32,7 +32,7 @@ pub trait Device: Port + Drop {
     ghost answers: { Self → Claim → Bool };
 
     /// Gives an unused device a guest of this size: memory with no frame, and nothing initialised.
-    /// Refused for want of memory alone; then nothing is changed.
+    /// Refused on an allocation failure alone; then nothing is changed.
     fn attach(&mut self, alloc: Global, config: Config) -> Result<(), AllocError>
         requires unused { IsUnused (Self.mem self.old) (Self.part self.old) }
         requires config { is_config config.pages config.queue_size config.processors ≡ true }
@@ -41,7 +41,7 @@ pub trait Device: Port + Drop {
         ensures err { OnErr result (Self.mem self.new ≡ Self.mem self.old ×
             (Self.part self.new ≡ Self.part self.old)) };
 
-    /// Puts a frame behind a page, and fills it with zeros: what the frame held is gone.
+    /// Backs a page with a frame, and fills it with zeros: what the frame held is gone.
     ///
     /// Refused with `OutOfRam` where there is no such page, then with `AlreadyBacked` where the
     /// page has a frame. A refused call gives the frame back as it was, and changes nothing.
@@ -58,8 +58,8 @@ pub trait Device: Port + Drop {
         ensures err { OnErr result (Self.mem self.new ≡ Self.mem self.old) }
         ensures part { Self.part self.new ≡ Self.part self.old };
 
-    /// The number of the frame behind a page; none where the page has no frame or there is no such
-    /// page.
+    /// The number of the frame that backs a page; none where the page has no frame or there is no
+    /// such page.
     fn backing(&self, page: u32) -> Option<u32>
         ensures frame { result ≡ frame_at (Self.mem self.now) page }
         ensures whole { IsWhole (Self.mem self.now) };

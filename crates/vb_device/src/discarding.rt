@@ -18,7 +18,7 @@ use vb_ram::{Frame, GuestBytes, Ram};
 use vb_request::NamedRun;
 use vb_virtio::layout::DEFLATE_QUEUE;
 
-/// Puts a frame, if there is one, behind the loose ones.
+/// Puts a frame, if there is one, after the loose ones.
 fn put_loose(loose: &mut Vec<Frame>, frame: Option<Frame>)
     requires { length loose.old.items + one_if (is_some frame) ≤ vec_capacity loose.old }
     ensures numbers { numbers_of_frames loose.new.items ≡ numbers_of_frames loose.old.items ++

@@ -183,7 +183,7 @@ impl DeviceQueue {
         Ok(request)
     }
 
-    /// Forgets the taken request of this number; those behind it close up.
+    /// Forgets the taken request of this number; those after it close up.
     pub(crate) fn forget(&mut self, index: u32)
         requires { index < length self.old.taken }
         ensures { self.new ≡ record self.old { taken = remove self.old.taken index } }
@@ -192,7 +192,7 @@ impl DeviceQueue {
     }
 
     /// Takes the taken request of this number out, and the frames of its pages away where it is one
-    /// of inflates or reports; those behind it close up. An inflate's pages are ballooned then, a
+    /// of inflates or reports; those after it close up. An inflate's pages are ballooned then, a
     /// deflate's are ballooned no more.
     pub(crate) fn take_out(
         &mut self,

@@ -11,7 +11,7 @@ use crate::queue::DeviceQueue;
 use vb_ram::Shape;
 use vb_virtio::layout::{DEFLATE_QUEUE, INFLATE_QUEUE, REPORT_QUEUE, STATISTICS_QUEUE};
 
-/// Where the queue of inflates stands among a device's four.
+/// Where the queue of inflates is among a device's four.
 pub(crate) const INFLATES: usize = 0;
 
 /// Where that of deflates does.
@@ -23,7 +23,7 @@ pub(crate) const STATISTICS: usize = 2;
 /// Where that of reports does.
 pub(crate) const REPORTS: usize = 3;
 
-/// Where the queue of this number stands.
+/// Where the queue of this number is.
 pub(crate) fn index_of(queue: u32) -> usize
     requires { has_chains queue ≡ true }
     ensures place { result ≡ index_of queue }

@@ -100,8 +100,8 @@ impl TakenRequest {
         self.pages.get(k).unwrap()
     }
 
-    /// The same, where `run` is one of its runs: looked up anew, and kept there, where page `k`
-    /// isn't one of them.
+    /// The page that it names as number `k`, by its run `run`: the run is looked up anew, and kept
+    /// there, where page `k` isn't in it.
     pub(crate) fn page_in(&self, k: u32, run: &mut NamedRun) -> u32
         requires some { k < length self.now.pages }
         requires run { IsRun self.now.pages run.old }

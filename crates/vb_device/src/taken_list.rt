@@ -25,7 +25,7 @@ pub(crate) const MAX_TAKEN: usize = MAX_OUTSTANDING as usize;
 /// used from there, since the pages of one take a kilobyte.
 #[derive(Drop)]
 pub(crate) struct TakenList {
-    /// They, in order; past `len` is room for those that are taken next.
+    /// The taken requests, in order; past `len` is room for later ones.
     requests: [TakenRequest; MAX_TAKEN],
     /// How many there are.
     len: usize,
@@ -69,7 +69,7 @@ impl TakenList {
         self.len = 0;
     }
 
-    /// Takes the chain of these pieces, from this head, on the queue of this number, behind the
+    /// Takes the chain of these pieces, from this head, on the queue of this number, after the
     /// others. What a buffer of statistics says replaces `last`. Where the chain breaks a rule, the
     /// rule is the answer, and nothing is changed.
     pub(crate) fn take<G: GuestBytes>(
@@ -114,7 +114,7 @@ impl TakenList {
         Some(self.requests[oldest].visit())
     }
 
-    /// Forgets the chain of this number; those behind it close up.
+    /// Forgets the chain of this number; those after it close up.
     pub(crate) fn forget(&mut self, index: usize)
         requires { index < length self.old }
         ensures { self.new ≡ remove self.old index }
@@ -131,7 +131,7 @@ fn oldest_unvisited(taken: &[TakenRequest]) -> Option<usize>
     taken.iter().position(|request| request.is_unvisited())
 }
 
-/// Moves the chain of this number behind the others, which close up.
+/// Moves the chain of this number after the others, which close up.
 fn move_to_end(taken: &mut [TakenRequest], index: usize)
     requires { index < length taken.old }
     ensures { (r : Request) → slice_get taken.old index ≡ Some r →

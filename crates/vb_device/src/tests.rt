@@ -27,7 +27,7 @@ use vb_virtio::Refusal;
 enum Step {
     /// The driver comes through the initialisation, after a reset, with all features.
     Start,
-    /// The same with just these features.
+    /// The driver comes through the initialisation with just these features.
     StartWith(u64),
     /// The driver writes the status.
     WriteStatus(u8),
@@ -51,7 +51,7 @@ enum Step {
     Finish(u32, u32),
     /// The next chain of a queue is served. No frame may be loose before.
     Serve(u32),
-    /// A frame of this number is put behind a page.
+    /// A page is backed by the frame of this number.
     Supply(u32, u32),
     HandBack,
     /// The frame of a page is swept away. No frame may be loose before.
@@ -113,11 +113,11 @@ fn done(is_done: bool) -> Answer {
 #[derive(Drop)]
 struct Host<P: Pace> {
     device: BalloonDevice<P>,
-    /// Where the driver's rings stand.
+    /// Where the driver's rings are.
     shape: Shape,
 }
 
-/// Gives a device a guest of so many pages, whose rings and buffers have the frames of their pages'
+/// Gives a device a guest of `pages` pages, whose rings and buffers have the frames of their pages'
 /// numbers; says whether it has them.
 fn attach<P: Pace>(
     device: &mut BalloonDevice<P>,
@@ -137,7 +137,7 @@ fn attach<P: Pace>(
         && supply_first(device, alloc, config.shape())
 }
 
-/// Puts a frame of its number behind each page of rings and buffers.
+/// Backs each page of rings and buffers with the frame of its number.
 fn supply_first<P: Pace>(device: &mut BalloonDevice<P>, alloc: Global, shape: Shape) -> bool {
     for page in 0..32 {
         if shape.is_start_page(page) && !supply(device, alloc, page, page) {
@@ -147,7 +147,7 @@ fn supply_first<P: Pace>(device: &mut BalloonDevice<P>, alloc: Global, shape: Sh
     true
 }
 
-/// Puts a frame behind a page.
+/// Backs a page with a frame.
 fn supply<P: Pace>(device: &mut BalloonDevice<P>, alloc: Global, page: u32, number: u32) -> bool {
     match Frame::fresh(alloc, number) {
         Ok(frame) => device.supply(page, frame).is_ok(),

@@ -77,7 +77,7 @@ why causes = first_refusal causes
 abbrev part : ℕ → ℕ → Part
 part status target = record no_part { status = status; target = target }
 
--- so many requests are out, each of one descriptor
+-- n requests are out, each of one descriptor
 abbrev with_out : List (Option ℕ) → DriverEnd → DriverEnd
 with_out owner ring = record ring { owner = owner }
 

@@ -26,7 +26,7 @@ at_is place here = grind arith
 
 -- ---- counts
 
--- so many where the numbers are equal
+-- n where the numbers are equal
 abbrev pub hits : ℕ → ℕ → ℕ → ℕ
 hits m a b = cond (eqb a b) m 0
 
@@ -52,7 +52,7 @@ counts_some places page old lt = let here = get_or places page old in
     let same_hit : hits 1 (number_of here) (number_of here) ≡ cond (is_at here here) 1 0 =
     ap (λ v. cond v 1 0) (at_number here here) in omega arith
 
--- the counts after so many pages moved from one place to another
+-- the counts after n pages moved from one place to another
 pub counts_shifted : {counts : List ℕ} {places now : List Place} {o n : ℕ} (m : ℕ) (new old : Place)
     → length counts ≡ 8 → o ≡ number_of old → n ≡ number_of new → o < 8
     → n < 8 → m ≤ count_by (is_at old) places → ((which : Place) → count_by (is_at which) now

@@ -53,7 +53,7 @@ counted : (c : PlaceCounts) → AreCountsOf c (Free ∷ [] ++ replicate 2 Used +
 counted c are =
     (are.free, are.used, are.giving, are.lent, are.taking, are.stranded, are.reporting)
 
--- ---- what stands in memory: 4 bytes a number, 1024 a request, in pages 4 to 7 and 8 to 11
+-- ---- what is in memory: 4 bytes a number, 1024 a request, in pages 4 to 7 and 8 to 11
 
 buffers : buffer_of 4 0 1 ∷ buffer_of 4 5 256 ∷ statistics_buffer ∷ []
     ≡ record { addr = 16384; len = 4; flags = 0; next = 0 }

@@ -14,7 +14,7 @@ placed : {old new : Pages} {p : ℕ} (n : ℕ) {bs : List ℕ} (k : ℕ)
     → Wrote old new p 0 bs → n + k < length bs → slice_index (drop n bs) k ≡ byte_at new p (n + k)
 placed n k w lt = grind (arith, get_or-drop)
 
--- the two statistics stand where their bytes were written
+-- the two statistics are where their bytes were written
 free_written : {old new : Pages} {free : ℕ} (total : ℕ)
     → free < 2 ^ 64 → Wrote old new 12 0 (figure_bytes free total) → IsStatistic new 0 4 free
 free_written {new} {free} total lt w = record {

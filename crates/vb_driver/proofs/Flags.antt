@@ -86,7 +86,7 @@ pub gained_by : (p : ℕ) (b : Block) (old : Bool)
     → (old || covers p b) ≡ cond (is_in p (pages_of b)) true old
 gained_by p b old = grind (arith, covers_is)
 
--- what these pages left behind, where each stands once
+-- what these pages left over, where each is once
 pub taken_by : (p : ℕ) (pages : List ℕ) {new : Bool} (old : Bool)
     → one_if new + times p pages ≡ one_if old → new ≡ cond (is_in p pages) false old
 taken_by p pages old sum = grind (arith, times_in, times_out)
@@ -150,7 +150,7 @@ pub given_more : (xs : List ℕ) (x : ℕ) (s : PageState)
 given_more [] x s = refl
 given_more (y ∷ xs) x s = given_more xs x (with_free_block (block_at y 0) s)
 
--- a page that stands once isn't among those before it
+-- a page that is once isn't among those before it
 pub not_before : (pages : List ℕ) (i : ℕ) → i < length pages → times (get_or pages i 0) pages ≤ 1
     → is_in (get_or pages i 0) (take i pages) ≡ false
 not_before pages i lt once = let x = get_or pages i 0 in

@@ -151,7 +151,7 @@ no_table : (IsDriver (record made { places = replicate 63 Used }) → ⊥)
     × (IsDriver (record made { places = replicate 65 Used }) → ⊥)
 no_table = (λ is. omega (arith, is.table), λ is. omega (arith, is.table))
 
--- the places of pages 0 to 15, which are reserved, and of those behind them
+-- the places of pages 0 to 15, which are reserved, and of those after them
 abbrev with_places : List Place → DriverState
 with_places more = record made { places = replicate 16 Reserved ++ more }
 

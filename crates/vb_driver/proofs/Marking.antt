@@ -62,7 +62,7 @@ next_member {flags} {from} {page} least = let k = page - from in
 
 -- ---- a walk along a set
 
--- these are the first members, so many, and the others come from this number on
+-- these are the first n members, and the others come from this number on
 pub record AreFirst (items : List ℕ) (flags : List Bool) (from count : ℕ) : Type 0 where
   pub whole : items ++ members_from from (drop from flags) ≡ pages_where (λ b. b) flags
   pub many : length items ≡ count

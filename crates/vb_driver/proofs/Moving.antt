@@ -45,7 +45,7 @@ reaped_queue {s1} head q = record {
   size = q.size;
 }
 
--- ---- lent pages are asked back
+-- ---- lent pages are requested back
 
 lent_leave : {d : DriverState} (count : ℕ) → IsDriver d → Leaves d (lowest_lent d count) is_lent
 lent_leave {d} count kept =

@@ -8,7 +8,7 @@ use Rattle.vb_virtio.specs.Tests.{AllDistinct, times, is_in, one_if, pages_from,
 use Rattle.{vb_model.specs.declared.places.Place.Place, vb_pages.proofs.ListsLemmas.times_in}
 use Rattle.{vb_pages.proofs.ListsLemmas.{times_out, one_if_le}, vb_driver.specs.State.naming}
 
--- a list in which no page stands twice
+-- a list in which no page is twice
 pub once_distinct : (p : ℕ) (xs : List ℕ) → AllDistinct xs → times p xs ≤ 1
 once_distinct p [] d = omega arith
 once_distinct p (x ∷ xs) d = let ih : times p xs ≤ 1 = once_distinct p xs d.1 in

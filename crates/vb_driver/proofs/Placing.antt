@@ -78,7 +78,7 @@ placed_next start page place ps from lt = let k = page - start in
     (λ (l : List ℕ). placed l place ps) (ap (λ (n : ℕ). range_with_len start k ++ n ∷ []) (sym here)
     ∙ (sym (range_push start k) ∙ ap (λ (n : ℕ). range_with_len start n) next))
 
--- a run of pages, and then the pages behind it
+-- a run of pages, and then the pages after it
 range_append : (start a b : ℕ)
     → range_with_len start a ++ range_with_len (start + a) b ≡ range_with_len start (a + b)
 range_append start zero b = ap (λ (n : ℕ). range_with_len n b) (omega arith)

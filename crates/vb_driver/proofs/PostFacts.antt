@@ -1,4 +1,4 @@
--- What stands in memory, and what doesn't change, once a request, a report or figures went out.
+-- What is in memory, and what doesn't change, once a request, a report or figures went out.
 use Rattle.std.proofs.Common.{◌≡◌, ◌≢◌, ℕ, ◌+◌, ◌*◌, ◌/◌, ◌%◌, ◌<◌, ◌≤◌, List, [], ◌∷◌, ◌++◌, refl}
 use Rattle.std.proofs.Common.{arith}
 use Rattle.std.specs.Prelude.{Some, Ok, length, slice_set, replicate}

@@ -34,7 +34,7 @@ unused_or_head : (owner : List (Option ℕ)) (i : ℕ) → ((k : ℕ) → is_unu
     → is_head owner k ≡ true) → (is_unused owner i ≡ true) ⊎ (is_head owner i ≡ true)
 unused_or_head owner i single = grind arith
 
--- where all below are requests, so many are out
+-- where all below are requests, n are out
 pub out_below : (r : DriverEnd) (h : ℕ) → h ≤ r.size → ((i : ℕ) → i < h → is_head r.owner i ≡ true)
     → h ≤ outstanding r
 out_below r h le all = length_all (is_head r.owner) r.size h le all

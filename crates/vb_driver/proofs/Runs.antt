@@ -82,7 +82,7 @@ abbrev other : Place → Place
 other Reserved = Free
 other _ = Reserved
 
--- so many pages are at the place at least
+-- n pages are at the place at least
 pub run_some : {places : List Place} {start n : ℕ} {old : Place}
     → AreAt places start n old → n ≤ count_by (is_at old) places
 run_some {n} {old} are = grind (arith, run_counted n (other old) old are)

@@ -58,7 +58,7 @@ frees : (d2 : DriverState) → FreesBy (record busy { held = block_at 2 0 ∷ []
     }
 frees d2 by = by.state
 
--- ---- requests: so many pages, of these places, and the device's part stays
+-- ---- requests: n pages, of these places, and the device's part stays
 
 offers : (m1 m2 : Pages) (p2 : Part) (d2 : DriverState) (posted : Posted)
     → InflatesBy m1 m2 (record up { target = 4 }) p2 busy d2 2 (Ok posted)

@@ -1,5 +1,4 @@
--- How a request stands in guest memory: VIRTIO 1.1, 5.5.6; where the buffers stand is the
--- profile's.
+-- How a request is in guest memory: VIRTIO 1.1, 5.5.6; where the buffers are is the profile's.
 use Rattle.std.specs.Prelude.{◌≡◌, ◌≢◌, ℕ, ◌+◌, ◌*◌, ◌<◌, Bool, true, false, List, length}
 use Rattle.std.specs.Prelude.{slice_index}
 use Rattle.std.specs.List.{range_with_len}
@@ -27,7 +26,7 @@ buffer_of base h n =
       next = 0;
     }
 
--- these page numbers stand at the offset of the page
+-- these page numbers are at the offset of the page
 pub record Names (mem : Pages) (p o : ℕ) (pages : List ℕ) : Type 0 where
   pub each : (k : ℕ) → k < length pages → field 4 mem p (o + 4 * k) ≡ slice_index pages k
 
@@ -36,7 +35,7 @@ pub record IsCoded (mem : Pages) (table base h : ℕ) (pages : List ℕ) : Type 
   pub descriptor : descriptor_at mem table h ≡ buffer_of base h (length pages)
   pub names : Names mem (buffer_page base h) (buffer_offset h) pages
 
--- a statistic stands at an offset of the buffer's page: its tag, and then its value (VIRTIO 1.1,
+-- a statistic is at an offset of the buffer's page: its tag, and then its value (VIRTIO 1.1,
 -- 5.5.6.3)
 pub record IsStatistic (mem : Pages) (offset tag value : ℕ) : Type 0 where
   pub tagged : field 2 mem STATISTICS_PAGE offset ≡ tag

@@ -38,7 +38,7 @@ is_at Taking = is_taking
 is_at Stranded = is_stranded
 is_at Reporting = is_reporting
 
--- where a page is as the guest is plugged in, of which so many are reserved
+-- where a page is as the guest is plugged in, of which n are reserved
 abbrev pub first_place : ℕ → ℕ → Place
 first_place reserved page = if nat_lt page reserved then Reserved else Free
 
@@ -60,7 +60,7 @@ pub record IsTable (counts : List ℕ) (lent stranded : List Bool) (places : Lis
   pub small : length places ≤ MAX_GUEST_PAGES
 
 -- the lent pages as bits: bit b of word w is 1 exactly if page 64 w + b is lent; the words are the
--- fewest that so many pages need
+-- fewest that n pages need
 pub record AreLentBits (places : List Place) (words : List ℕ) : Type 0 where
   pub fewest : length words ≡ div_ceil (length places) WORD_BITS
   pub tells : (w b : ℕ) → b < WORD_BITS

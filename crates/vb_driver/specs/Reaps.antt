@@ -85,7 +85,7 @@ pub record Reaps (p1 p2 : Part) (d1 d2 : DriverState) (queue : ℕ) (reaped : Re
       (without_request queue reaped.head (moved_on queue (pages_sent queue reaped.head d1) d1))
   pub part : p2 ≡ record p1 { actual = d2.actual }
 
--- What the answer says of the used request that stands next.
+-- What the answer says of the used request that is next.
 abbrev pub next_of : Option Reaped → Option ℕ
 next_of None = None
 next_of (Some reaped) = Some reaped.head

@@ -35,9 +35,9 @@ use Rattle.vb_driver.specs.Answers.{inflate_causes, deflate_causes, oom_causes, 
 use Rattle.vb_driver.specs.Answers.{blocks_to_report}
 use Rattle.vb_driver.specs.Unchanged.{Unchanged}
 
--- One more head is published: whatever bytes stood there, it is the available entry of the
--- driver's own count, and the available index is one more than that count. On a ring that shows
--- lists, it stands last in what the ring shows.
+-- One more head is published: whatever bytes were there, it is the available entry of the driver's
+-- own count, and the available index is one more than that count. On a ring that shows lists, it is
+-- last in what the ring shows.
 pub record Announces (m1 m2 : Pages) (r1 r2 : DriverEnd) (head : ℕ) : Type 0 where
   pub entry : field 2 m2 r1.layout.avail.page (avail_place r1.layout r1.size r1.published) ≡ head
   pub index : field 2 m2 r1.layout.avail.page (avail_index r1.layout)
@@ -72,8 +72,7 @@ abbrev pub figures_extent : Extent
 figures_extent = record { page = STATISTICS_PAGE; from = 0; to = 2 * STATISTIC_SIZE }
 
 -- A request for these pages goes out on a queue whose buffers begin at page `base`: it has the
--- lowest head that none of the queue's requests has, stands coded in its buffer, and is published
--- last.
+-- lowest head that none of the queue's requests has, is coded in its buffer, and is published last.
 -- Nothing else of memory has changed.
 pub record Posts (m1 m2 : Pages) (s1 s2 : RequestSide) (base : ℕ) (pages : List ℕ)
     (head : ℕ) : Type 0 where
@@ -122,12 +121,12 @@ pub record InflatesBy (m1 m2 : Pages) (p1 p2 : Part) (d1 d2 : DriverState) (n : 
 abbrev pub lowest_lent : DriverState → ℕ → List ℕ
 lowest_lent d count = take count (pages_where is_lent d.places)
 
--- The page areas, once these pages are asked back: where the host isn't told first they have them
--- at once, one by one.
+-- The page areas, once these pages are requested back: where the host isn't told first they have
+-- them at once, one by one.
 abbrev pub areas_asked : List ℕ → DriverState → FreePages
 areas_asked pages d = if tells_host d then d.areas else (all_given pages (page_state d)).free
 
--- The lowest lent pages are asked back from the host.
+-- The lowest lent pages are requested back from the host.
 pub record AsksBack (m1 m2 : Pages) (p1 p2 : Part) (d1 d2 : DriverState) (count : ℕ)
     (posted : Posted) : Type 0 where
   pub posts : Posts m1 m2 d1.deflate d2.deflate (buffers_page 1) (lowest_lent d1 count) posted.head

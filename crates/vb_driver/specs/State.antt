@@ -87,7 +87,7 @@ sent_by side head = slice_index_or side.sent head []
 abbrev pub pages_named : RequestSide → ℕ
 pages_named side = sum_by (λ pages. length pages) side.sent
 
--- how many pages count as given to the host: those lent, and those that are asked back
+-- how many pages count as given to the host: those lent, and those that are requested back
 abbrev pub given_away : DriverState → ℕ
 given_away d = lent_count d + pages_named d.deflate
 
@@ -149,13 +149,13 @@ pub record AreRequests (side : RequestSide) : Type 0 where
   pub unsent : (i : ℕ) → is_head side.ring.owner i ≡ false → sent_by side i ≡ []
   pub short : (i : ℕ) → length (sent_by side i) ≤ max_request_pages
 
--- The queue of this number, with so many descriptors.
+-- The queue of this number, with n descriptors.
 pub record IsQueue (side : RequestSide) (queue descriptors : ℕ) : Type 0 where
   pub requests : AreRequests side
   pub number : side.number ≡ queue
   pub size : side.ring.size ≡ descriptors
 
--- The one statistics buffer stands at descriptor 0, and the ring in its pages.
+-- The one statistics buffer is at descriptor 0, and the ring in its pages.
 pub record IsStatisticsQueue (ring : DriverEnd) (descriptors : ℕ) : Type 0 where
   pub single : (i : ℕ) → is_unused ring.owner i ≡ false → is_head ring.owner i ≡ true
   pub first : (i : ℕ) → is_head ring.owner i ≡ true → i ≡ 0
@@ -188,7 +188,7 @@ pub record IsDriver (d : DriverState) : Type 0 where
   pub statistics : IsStatisticsQueue d.statistics d.queue_size
   pub report : IsReportQueue d.report d.queue_size
   pub giving : (page : ℕ) → naming page d.inflate.sent ≤ one_if (is_giving (place_of d.places page))
-  -- where the host is told first; else pages that are asked back are free at once
+  -- where the host is told first; else pages that are requested back are free at once
   pub taking : tells_host d ≡ true → (page : ℕ) → naming page d.deflate.sent ≤ one_if
       (is_taking (place_of d.places page))
   pub reporting : (page : ℕ)

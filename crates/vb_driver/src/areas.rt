@@ -37,7 +37,7 @@ use vb_report::{Blocks, reports_name_free_places};
 use vb_virtio::Refusal;
 
 /// The page areas of a guest, with the lists of the processors and the blocks that allocations
-/// hold. What the driver needs beside them is which pages are free, wherever they stand.
+/// hold. What the driver needs beside them is which pages are free, wherever they are.
 #[derive(Drop)]
 pub(crate) struct Allocator {
     /// The allocator.
@@ -65,7 +65,7 @@ fn refusal_of(fault: PageFault) -> Refusal
 }
 
 impl Allocator {
-    /// The areas of a guest as it is plugged in, of whose pages so many are reserved.
+    /// The areas of a guest as it is plugged in, of whose pages the first `reserved` are reserved.
     pub(crate) fn new(
         alloc: Global,
         pages: u32,
@@ -135,8 +135,8 @@ impl Allocator {
         }
     }
 
-    /// Takes single free pages, so many, and puts them in place of those that `taken` has; the
-    /// lists of all processors are drained first.
+    /// Takes `count` single free pages, and puts them in place of those that `taken` has; the lists
+    /// of all processors are drained first.
     pub(crate) fn take_free(&mut self, count: u32, taken: &mut RequestPages)
         requires few { count ≤ max_request_pages }
         requires free { count ≤ count_by (λ f. f) (flags_of self.old.free) }
@@ -166,7 +166,7 @@ impl Allocator {
         self.pages.give_free(page);
     }
 
-    /// Gives these pages back, which were taken and of which none stands twice.
+    /// Gives these pages back, which were taken and of which none is twice.
     pub(crate) fn give_all(&mut self, pages: &[u32])
         requires unreserved { (page : ℕ) → is_in page pages.now ≡ true
             → reserved_count self.old ≤ page }
@@ -187,7 +187,7 @@ impl Allocator {
     }
 
     /// Takes the blocks of a report: the first maximal free ones of order 4 or more from a page on,
-    /// at most so many. The lists of all processors are drained first, where there is no such block
+    /// at most `room`. The lists of all processors are drained first, where there is no such block
     /// too.
     pub(crate) fn choose(&mut self, from: u32, room: u32) -> Blocks
         requires { room ≤ max_outstanding }

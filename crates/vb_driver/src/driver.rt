@@ -48,7 +48,7 @@ pub struct Driver {
     pub(crate) actual: u32,
     /// Room for the pages of the request that is posted or taken back.
     pub(crate) named: RequestPages,
-    /// Room for the free pages that an inflate request names behind the stranded ones.
+    /// Room for the free pages that an inflate request names after the stranded ones.
     pub(crate) others: RequestPages,
 }
 
@@ -89,8 +89,8 @@ impl Model for Driver {
     }) };
 }
 
-/// Where the pages of a guest are as it is plugged in, and its page areas; so many pages are
-/// reserved.
+/// Where the pages of a guest are as it is plugged in, and its page areas; the first `reserved`
+/// pages are reserved.
 fn new_pages(
     alloc: Global,
     pages: u32,
@@ -146,7 +146,7 @@ impl Driver {
         })
     }
 
-    /// Where the guest's rings and buffers stand.
+    /// Where the guest's rings and buffers are.
     pub fn shape(&self) -> Shape
         ensures { result ≡ record { queue_size = self.now.queue_size } }
     {
@@ -184,9 +184,9 @@ impl Driver {
         }
     }
 
-    /// How many pages the driver told the device last: the lent ones, and those that requests ask
-    /// back (`actual`, VIRTIO 1.1, 5.5.4); none before the first request came back. While requests
-    /// come and go it is their number at any time.
+    /// How many pages the driver told the device last: the lent ones, and those that deflate
+    /// requests name (`actual`, VIRTIO 1.1, 5.5.4); none before the first request came back. While
+    /// requests come and go it is their number at any time.
     pub fn actual(&self) -> u32
         ensures { result ≡ self.now.actual }
     {
@@ -202,7 +202,7 @@ impl Driver {
         self.places.lent_bits()
     }
 
-    /// How many pages count as given to the host: those lent, and those that requests ask back.
+    /// How many pages count as given to the host: those lent, and those that deflate requests name.
     pub(crate) fn given_away(&self) -> u32
         ensures { result ≡ given_away self.now }
     {

@@ -127,7 +127,7 @@ impl Driver {
         ensures { InitsBy (P.mem port.old) (P.mem port.new) (P.part port.old) (P.part port.new)
             self.old self.new (feature_bits wanted) result }
     {
-        // Read for the proof, which has what holds of each driver where the call is refused, too.
+        // A no-op read: it gives the prover the type's invariant on the path of a refusal.
         let _places = &self.places;
         if !port.status().is_empty() {
             return Err(Refusal::AlreadyUp);

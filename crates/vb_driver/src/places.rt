@@ -152,7 +152,7 @@ impl PlaceTable {
         );
     }
 
-    /// The table of a guest of so many pages as it is plugged in: so many are reserved, and all
+    /// The table of a guest of `pages` pages as it is plugged in: `reserved` are reserved, and all
     /// others are free.
     pub(crate) fn new(alloc: Global, pages: u32, reserved: u32) -> Result<Self, AllocError>
         requires some { 0 < pages }
@@ -172,8 +172,8 @@ impl PlaceTable {
         Ok(table)
     }
 
-    /// Moves each page to the place that it has where the guest is plugged in, of whose pages so
-    /// many are reserved.
+    /// Moves each page to the place that it has where the guest is plugged in, of whose pages
+    /// `reserved` are reserved.
     pub(crate) fn renew(&mut self, reserved: u32)
         ensures { self.new ≡ all_free reserved (length self.old) }
     {

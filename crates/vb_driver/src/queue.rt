@@ -45,7 +45,7 @@ impl Model for Sent {
     ghost view = { λ s. s.pages.items };
 }
 
-/// Puts more page numbers behind the first ones.
+/// Puts more page numbers after the first ones.
 pub(crate) fn append(pages: &mut RequestPages, more: &[u32])
     requires { length pages.old.items + length more.now ≤ max_request_pages }
     ensures { pages.new.items ≡ pages.old.items ++ more.now }

@@ -121,7 +121,7 @@ fn take_report_back<P: Port>(
 }
 
 impl Driver {
-    /// Tells the device how many pages are lent or asked back.
+    /// Tells the device how many pages are lent or requested back.
     fn tell_actual<P: Port>(&mut self, port: &mut P)
         ensures state { self.new ≡ with_actual self.old }
         ensures part { P.part port.new
@@ -132,8 +132,8 @@ impl Driver {
         port.set_actual(self.actual);
     }
 
-    /// Tells the device how many pages are lent or asked back once a request of this head came
-    /// back, which named so many pages.
+    /// Tells the device how many pages are lent or requested back once a request of this head came
+    /// back, which named `pages` pages.
     fn tell_reaped<P: Port>(&mut self, port: &mut P, head: u16, pages: u32) -> Reaped
         ensures state { self.new ≡ with_actual self.old }
         ensures part { P.part port.new
@@ -213,7 +213,7 @@ impl Driver {
     /// Takes back the next request of a queue that the device used, if there is one: the pages of
     /// an inflate request are lent from now on, those of a deflate request or of a report free;
     /// where MUST_TELL_HOST wasn't accepted, those of a deflate request stay where they are. Then
-    /// the device is told how many pages are lent or asked back.
+    /// the device is told how many pages are lent or requested back.
     ///
     /// Refused for `NoQueue` (not 0, 1 or 4), `NotReady`, `NoFeature` (queue 4, but REPORTING
     /// wasn't accepted), `RingBroken` (the used ring says what no device may say: the driver gives
@@ -223,7 +223,7 @@ impl Driver {
         ensures { ReapsBy (P.mem port.old) (P.mem port.new) (P.part port.old) (P.part port.new)
             self.old self.new queue result }
     {
-        // Read for the proof, which has what holds of each driver where the call is refused, too.
+        // A no-op read: it gives the prover the type's invariant on the path of a refusal.
         let _places = &self.places;
         if queue == INFLATE_QUEUE {
             self.reap_lent(port)

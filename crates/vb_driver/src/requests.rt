@@ -1,4 +1,4 @@
-//! Pages are offered to the host, and asked back (VIRTIO 1.1, 5.5.6).
+//! Pages are offered to the host, and requested back (VIRTIO 1.1, 5.5.6).
 
 ghost use Rattle.std.specs.Prelude.{◌≡◌, ◌<◌, ◌≤◌, ◌+◌, ◌==◌, ◌&&◌, ◌∷◌, [], nat_le, nat_lt};
 ghost use Rattle.std.specs.Prelude.{not, true, false, Ok};
@@ -35,14 +35,14 @@ pub(crate) fn is_up<P: Port>(port: &P) -> bool
 /// What a request needs beside a device that is up, room in its queue and a page to name.
 #[derive(Clone, Copy)]
 struct Needs {
-    /// What the request stands or falls with was accepted.
+    /// What the request depends on was accepted.
     accepted: bool,
     /// A request is out that this one must not overtake.
     pending: bool,
 }
 
 impl Needs {
-    /// No feature, and nothing stands in the way.
+    /// No feature, and nothing prevents it.
     const NOTHING: Needs = Needs {
         accepted: true,
         pending: false,
@@ -50,7 +50,7 @@ impl Needs {
 }
 
 impl Driver {
-    /// How many pages an inflate request offers, where n are wanted.
+    /// How many pages an inflate request offers, where `n` are wanted.
     fn inflate_count(&self, target: u32, n: u32) -> u32
         ensures { result ≡ inflate_count self.now target n }
     {
@@ -61,7 +61,7 @@ impl Driver {
             .min(stranded.max(target.saturating_sub(given)).min(there))
     }
 
-    /// How many pages a deflate request asks back, where n are wanted.
+    /// How many pages a deflate request names, where `n` are wanted.
     fn deflate_count(&self, target: u32, n: u32) -> u32
         ensures { result ≡ deflate_count self.now target n }
     {
@@ -71,7 +71,7 @@ impl Driver {
             .min(lent.min(given.saturating_sub(target)))
     }
 
-    /// How many pages are asked back where the guest is out of memory, where n are wanted.
+    /// How many pages are requested back where the guest is out of memory, where `n` are wanted.
     fn oom_count(&self, n: u32) -> u32
         ensures { result ≡ oom_count self.now n }
     {
@@ -85,7 +85,7 @@ impl Driver {
         queue.outstanding() >= self.config.queue_size.min(MAX_OUTSTANDING as u16)
     }
 
-    /// Offers so many pages: stranded ones first, lowest first, then free ones.
+    /// Offers `count` pages: stranded ones first, lowest first, then free ones.
     fn offer<P: Port>(&mut self, port: &mut P, count: u32) -> Posted
         requires room { outstanding self.old.inflate.ring < room self.old }
         requires few { count ≤ max_request_pages }
@@ -104,7 +104,7 @@ impl Driver {
         Posted { head, pages: count }
     }
 
-    /// Asks for so many of the lowest lent pages back; they are free once the request comes back.
+    /// Asks for `count` of the lowest lent pages back; they are free once the request comes back.
     fn ask_and_wait<P: Port>(&mut self, port: &mut P, count: u32) -> Posted
         requires told { tells_host self.old ≡ true }
         requires room { outstanding self.old.deflate.ring < room self.old }
@@ -120,7 +120,7 @@ impl Driver {
         Posted { head, pages: count }
     }
 
-    /// Asks for so many of the lowest lent pages back; they are free at once.
+    /// Asks for `count` of the lowest lent pages back; they are free at once.
     fn ask_and_free<P: Port>(&mut self, port: &mut P, count: u32) -> Posted
         requires untold { tells_host self.old ≡ false }
         requires room { outstanding self.old.deflate.ring < room self.old }
@@ -138,7 +138,7 @@ impl Driver {
         Posted { head, pages: count }
     }
 
-    /// Asks for so many of the lowest lent pages back. They can be used once the host was told,
+    /// Asks for `count` of the lowest lent pages back. They can be used once the host was told,
     /// where that was agreed on.
     fn ask_back<P: Port>(&mut self, port: &mut P, count: u32) -> Posted
         requires room { outstanding self.old.deflate.ring < room self.old }
@@ -165,9 +165,9 @@ impl Driver {
         !self.features.must_tell_host() && self.deflate.outstanding() > 0
     }
 
-    /// Whether a request for so many pages may be posted: the device must be initialised, what the
-    /// request needs must have been accepted, the queue must have room, no request must stand in
-    /// the way, and there must be a page to name.
+    /// Whether a request for `count` pages may be posted: the device must be initialised, what the
+    /// request needs must have been accepted, the queue must have room, no request must be in the
+    /// way, and there must be a page to name.
     fn admit<P: Port>(
         &self,
         port: &P,
@@ -203,7 +203,7 @@ impl Driver {
         Ok(())
     }
 
-    /// Offers pages to the host: at most n and 256, no more than the host's target lacks or than
+    /// Offers pages to the host: at most `n` and 256, no more than the host's target lacks or than
     /// are stranded, whichever is more, and no more than are stranded or free. Stranded pages go
     /// first, lowest first.
     ///
@@ -227,7 +227,7 @@ impl Driver {
         Ok(self.offer(port, count))
     }
 
-    /// Asks for the lowest lent pages back: at most n and 256, and no more than are above the
+    /// Asks for the lowest lent pages back: at most `n` and 256, and no more than are above the
     /// host's target, those on their way to it counted. Where MUST_TELL_HOST was accepted they can
     /// be used once the request came back, else at once.
     ///
@@ -245,7 +245,7 @@ impl Driver {
     }
 
     /// Asks for the lowest lent pages back where the guest runs out of memory (VIRTIO 1.1, 5.5.6):
-    /// at most n and 256, whatever the host's target.
+    /// at most `n` and 256, whatever the host's target.
     ///
     /// Refused for `NotReady`, `NoFeature` (DEFLATE_ON_OOM wasn't accepted), `QueueFull`,
     /// `Nothing`; then nothing is changed.

@@ -40,7 +40,7 @@ const ENTRY_BYTES: usize = STATISTIC_SIZE as usize;
 /// Bytes of the buffer, which has two statistics.
 const BUFFER_BYTES: usize = 2 * ENTRY_BYTES;
 
-/// The bytes of so many pages.
+/// The bytes of `pages` pages.
 fn bytes_of(pages: u32) -> u64
     ensures { result ≡ pages * page_size }
 {
@@ -213,7 +213,7 @@ impl Driver {
         ensures { FillsBy (P.mem port.old) (P.mem port.new) (P.part port.old) (P.part port.new)
             self.old self.new result }
     {
-        // Read for the proof, which has what holds of each driver where the call is refused, too.
+        // A no-op read: it gives the prover the type's invariant on the path of a refusal.
         let _places = &self.places;
         if !is_up(port) {
             return Err(Refusal::NotReady);

@@ -32,8 +32,8 @@ impl Model for FrameTable {
 }
 
 impl FrameTable {
-    /// A table of so many frames, 1 to 65,536, none of which is out. Want of memory is the only
-    /// refusal.
+    /// A table of `frames` frames, 1 to 65,536, none of which is out. An allocation failure is the
+    /// only refusal.
     pub fn new(alloc: Global, frames: u32) -> Result<FrameTable, AllocError>
         requires some { 0 < frames }
         requires few { frames ≤ MAX_FRAMES }
@@ -83,8 +83,8 @@ impl FrameKeeper for FrameTable {
 }
 
 /// Whatever claims a table answers one after the other, each that gives a frame gives the least
-/// number that isn't out, NoFrame is answered exactly where all are out, and want of memory ends
-/// them where one was free.
+/// number that isn't out, NoFrame is answered exactly where all are out, and an allocation failure
+/// ends them where one was free.
 pub fn a_table_gives_the_least()
     ensures { (out : List Bool) (claims : List Claim) → AllAnswered TableAnswers out claims →
         Gives (length out) (λ n. is_out out n ≡ true) claims }

@@ -117,7 +117,7 @@ static SIZES: [u32; 12] = [
     1, 2, 63, 64, 65, 4095, 4096, 4097, 65_471, 65_472, 65_535, 65_536,
 ];
 
-/// A table of so many frames gives number 0 first, and has as many as it was made with.
+/// A table of `frames` frames gives number 0 first, and has as many as it was made with.
 fn expect_table(rt: &impl Abort, alloc: Global, frames: u32) {
     assert!(rt; 0 < frames && frames <= 65_536);
     let mut table = FrameTable::new(alloc, frames).expect(rt, "no memory");

@@ -50,7 +50,7 @@ length-lent g few = grind (arith, length-first, length-pages_from)
 
 -- ---- a request that goes out
 
--- what is known of a call that asks for so many pages back
+-- what is known of a call that asks for n pages back
 record IsAsking (g : Guest) (call : Call) (count : ℕ) : Type 0 where
   few : count ≤ 256
   lent : count ≤ lent_count g

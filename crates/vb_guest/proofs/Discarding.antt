@@ -62,7 +62,7 @@ not_in x h = grind arith
 pub one_frame : (n : ℕ) (o : Option ℕ) → times n (option_to_list o) ≡ one_if (is_frame n o)
 one_frame n y = grind (arith, count_by-cons)
 
--- how often a frame was behind the pages, and how often it is behind one afterwards
+-- how often a frame backed the pages, and how often it backs one afterwards
 pub frames_freed : (n : ℕ) (pages : List ℕ) (frames : List (Option ℕ)) → AllDistinct pages
     → All (λ page. page < length frames) pages
     → times n (flat_map (λ page. option_to_list (frame_of frames page)) pages) + count_by

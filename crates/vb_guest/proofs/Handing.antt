@@ -65,7 +65,7 @@ pub same_entry : (mem : Pages) (q : ℕ) {size : ℕ} (next : ℕ) (ring : Drive
     (layout_of (ring_page size q) size) size next ≡ next_entry mem ring.layout ring.size next
 same_entry mem q next ring layout same = grind arith
 
--- the frames behind pages are those of the guest's pages
+-- the frames that back pages are those of the guest's pages
 pub behind_same : (mem : Pages) (frames : List (Option ℕ)) (pages : List ℕ)
     → ((p : ℕ) → frame_at mem p ≡ frame_of frames p)
     → frames_behind mem pages ≡ flat_map (λ page. option_to_list (frame_of frames page)) pages

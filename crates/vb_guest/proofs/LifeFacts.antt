@@ -125,7 +125,7 @@ inits out m2 p2 d2 claims result by =
     let first = by.new refl in
     (first.mem, first.part, first.got, first.own, first.supplies, first.continues)
 
--- ---- steps: what they claim, what stands afterwards, and the frames that move
+-- ---- steps: what they claim, what is afterwards, and the frames that move
 
 steps_over : (New : Guest → Type 0) (s : Supply) (claims : List Claim) (g : Guest) (reply : Reply)
     → StepsOver New TableAnswers asks s claims g Work reply

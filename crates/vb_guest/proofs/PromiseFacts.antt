@@ -1,5 +1,5 @@
--- What the calls on a guest promise of whatever it stands for, and what a write, a keeper and a buffer
--- are told apart by.
+-- What the calls on a guest promise of whatever it represents, and what a write, a keeper and a
+-- buffer are told apart by.
 use Rattle.std.proofs.Common.{◌≡◌, ◌↔◌, true, false, List, [], ◌∷◌, refl}
 use Rattle.std.specs.Prelude.{Bool, Result, Err}
 use Rattle.vb_model.specs.declared.{calls.Call.Call, calls.Claim.Claim, calls.Query.Query}
@@ -19,7 +19,7 @@ use Rattle.vb_guest.specs.Steps.{AreOut, Restarts, StepsAlone, StepsOver, AllRet
 use Rattle.vb_guest.specs.Supply.{Supply, Moves, nothing}
 use Rattle.vb_guest.specs.Steps.{backing_count}
 
--- ---- whatever guest they stand for
+-- ---- whatever guest they represent
 
 -- there is one, with its frames out of the keeper where its device keeps none
 stand : (mem : Pages) (part : Part) (d : DriverState) (out : List Bool)

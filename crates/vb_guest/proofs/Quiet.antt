@@ -18,7 +18,7 @@ pub no_frames : (frames : List ℕ) → ((n : ℕ) → times n frames ≡ 0) →
 no_frames [] none = refl
 no_frames (n ∷ rest) none = grind (arith, times_first n n rest)
 
--- no frame is behind pages that have none
+-- no frame backs a page that has none
 pub none_behind : (m : Pages) (pages : List ℕ) → ((page : ℕ) → frame_at m page ≡ None)
     → frames_behind m pages ≡ []
 none_behind m [] none = refl
@@ -48,7 +48,7 @@ as_often n (x ∷ xs) (y ∷ ys) same = omega (
   as_often n xs ys (λ i. same (suc i)),
 )
 
--- the guest has the frames behind the pages of memory
+-- the guest has the frames that back the pages of memory
 abbrev IsBehind : Pages → Guest → Type 0
 IsBehind m g = (page : ℕ) → frame_at m page ≡ frame_of g.frames page
 

@@ -70,7 +70,7 @@ next_reaches {keeps} {m1} {m2} {m3} {p1} {p2} {p3} {d} {g} {out1} {out2} q resul
           moves = all;
         }
 
--- the frames behind the pages are out then
+-- the frames that back the pages are out then
 pub out_after : (p1 p2 : Part) {out1 out2 : List Bool} (g new : Guest)
     → Moves (supply_of p1 out1) (supply_of p2 out2) (λ n. backing_count n new)
     (λ n. backing_count n g) → p1.keeps ≡ false → AreOut g out1 → AreOut new out2
@@ -112,7 +112,7 @@ second_keeps m1 m2 m3 first second same page =
 pub loses_both : (m1 m2 m3 : Pages) → LosesBehind m1 m2 → LosesBehind m2 m3 → LosesBehind m1 m3
 loses_both m1 m2 m3 first second page frame e = first page frame (second page frame e)
 
--- ---- an honest guest's next chain, and those behind it
+-- ---- an honest guest's next chain, and those after it
 
 -- what is left where a request was taken and used
 pub record IsLeft (kind : Kind) (rest : List Request) (g new : Guest) : Type 0 where

@@ -17,7 +17,7 @@ use Rattle.vb_guest.{proofs.Writing.HasFrames, specs.Stands.{Honest, DeviceKeeps
 use Rattle.vb_guest.specs.{Exact.KeepsFrames, Supply.{Supply, supply_of, Moves, nothing, AreLoose}}
 use Rattle.vb_guest.specs.Steps.{is_frame, backing_count, AreOut, AllReturn, IsBare, Restarts}
 
--- ---- the frames behind all pages
+-- ---- the frames that back all pages
 
 -- each frame as often as it is in the table
 all_behind : (n first : ℕ) (mem : Pages) (frames : List (Option ℕ)) → ((i : ℕ)
@@ -40,7 +40,7 @@ all_behind n first mem (x ∷ xs) same =
 
 -- ---- what is needed of the guest
 
--- how large it is, its target and its pace, and the frames behind its pages
+-- how large it is, its target and its pace, and the frames that back its pages
 record Rooted (mem : Pages) (part : Part) (d : DriverState) (g : Guest) : Type 0 where
   config : is_config g.config.pages g.config.queue_size g.config.processors ≡ true
   pages : d.pages ≡ g.config.pages

@@ -1,4 +1,4 @@
--- The heads of a ring: how often they stand in its lists, and that each is out at most once.
+-- The heads of a ring: how often they are in its lists, and that each is out at most once.
 use Rattle.std.specs.Prelude.{◌≡◌, ℕ, ◌+◌, ◌≤◌, ◌==◌, Bool, true, cond, List, [], ◌∷◌, ◌++◌}
 use Rattle.std.specs.Prelude.{length, Some, None, slice_get, slice_index_or, remove, take, refl}
 use Rattle.std.proofs.Common.{◌∙◌, ap, arith, length-append, eq-eqb}
@@ -58,7 +58,7 @@ pub take_front : {A : Type 0} (xs ys : List A) → take (length xs) (xs ++ ys) �
 take_front [] ys = grind arith
 take_front (x ∷ xs) ys = ap (λ l. x ∷ l) (take_front xs ys)
 
--- what stands after a list
+-- what comes after a list
 pub get_after : {A : Type 0} (xs : List A) (y : A) (ys : List A)
     → slice_get (xs ++ y ∷ ys) (length xs) ≡ Some y
 get_after [] y ys = refl

@@ -117,7 +117,7 @@ pub none_of : (b : Bool) {x : Option ℕ} (frame : ℕ)
     → (if b then None else x) ≡ Some frame → x ≡ Some frame
 none_of x frame e = grind arith
 
--- a reply that is no refusal is none for want of something
+-- a reply that is no refusal is none for lack of something
 pub done_wants : (reply : Reply) → is_refused reply ≡ false → wants reply ≡ false
 done_wants x e = grind arith
 

@@ -40,7 +40,7 @@ use Rattle.vb_guest.proofs.Rogues.{no_refusal, keeps_status, is_of_driver, witho
 use Rattle.vb_guest.specs.{Stands.Rogue, Replies.{page_reply, done_reply}}
 use Rattle.vb_guest.specs.{Replies.{posted_reply, reaped_reply, filled_reply}, Steps.StepsAlone}
 
--- the refusal is one of these tests, none of which is for want of frames or of memory
+-- the refusal is one of these tests, none of which is for lack of frames or memory
 not_for_want : (why : Refusal) (causes : List Cause) → Some why ≡ first_refusal causes
     → none_wants causes ≡ true → wants (Refused why) ≡ false
 not_for_want why causes is others = refused_otherwise causes why others (sym is)

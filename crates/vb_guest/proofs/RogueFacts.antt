@@ -11,7 +11,7 @@ use Rattle.vb_guest.{specs.Steps.backing_count, specs.Stands.{Honest, OwnFrames,
 use Rattle.vb_guest.specs.Stands.{IsRogueUp, Rogue, StandsBy, Stands}
 use Rattle.vb_guest.proofs.StandFacts.{small, request, places, figures, frames, guest}
 
--- ---- frames of the device's own: just those behind the guest's pages, each behind one
+-- ---- frames of the device's own: just those that back the guest's pages, each one page
 
 own : (part : Part)
     → (OwnFrames true part guest
@@ -29,7 +29,7 @@ own part = (
 abbrev keeper : List ℕ → Part
 keeper own = record no_part { keeps = true; own = own }
 
--- frame 7 is behind a page, and no other
+-- frame 7 backs a page, and no other
 not_own : (OwnFrames true (keeper []) guest → ⊥) × (OwnFrames true (keeper (7 ∷ 9 ∷ [])) guest → ⊥)
     × (OwnFrames true (keeper (7 ∷ [])) (record guest { frames = Some 7 ∷ Some 7 ∷ [] }) → ⊥)
 not_own = (
@@ -38,7 +38,7 @@ not_own = (
   λ is. omega (arith, is.each refl 7),
 )
 
--- where it keeps none, frames stand behind pages all the same
+-- where it keeps none, frames back pages all the same
 others : OwnFrames false no_part guest
 others = record { flag = refl; none = λ e. refl; each = λ no. absurd cc }
 

@@ -69,7 +69,7 @@ moves_both first second = record {
   loses = λ page frame e. first.loses page frame (second.loses page frame e);
 }
 
--- a serve's step, where nothing is for want of frames or memory, and a refusal leaves what it is
+-- a serve's step, where nothing is for lack of frames or memory, and a refusal leaves what it is
 -- said to
 serve_moves : {g new : Guest} (q : ℕ) (reply : Reply) → RogueMoves g new → wants reply ≡ false
     → ((why : Refusal) → reply ≡ Refused why → new ≡ after_refused (Serve q) why [] g)

@@ -9,7 +9,7 @@ use Rattle.vb_driver.{specs.State.DriverState, proofs.Shapes.buffers_between}
 use Rattle.vb_guest.proofs.Apart.{SameLine, SameReserved, no_buffer, other_ring, other_line}
 use Rattle.vb_guest.{proofs.{RingApart.SameRing, PagesKept.SamePages}, specs.Stands.IsRunning}
 
--- all four rings have so many descriptors
+-- all four rings have n descriptors
 pub record AreSized (d : DriverState) (size : ℕ) : Type 0 where
   pub inflate : d.inflate.ring.size ≡ size
   pub deflate : d.deflate.ring.size ≡ size

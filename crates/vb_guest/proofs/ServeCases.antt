@@ -1,4 +1,4 @@
--- What a device that serves one chain leaves of its own frames and of those behind pages.
+-- What a device that serves one chain leaves of its own frames and of those that back pages.
 use Rattle.std.proofs.Common.{◌≡◌, ℕ, Bool, true, false, Option, Some, Result, sym, ◌∙◌, ap}
 use Rattle.std.specs.Prelude.{if◌then◌else◌, ◌==◌}
 use Rattle.vb_virtio.specs.Queues.{Request}

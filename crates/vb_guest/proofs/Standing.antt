@@ -1,4 +1,4 @@
--- What stands for a guest once its frames are accounted for: from steps of an honest guest to steps
+-- What represents a guest once its frames are accounted for: from steps of an honest guest to steps
 -- over its supply.
 use Rattle.std.proofs.Common.{◌≡◌, ℕ, ◌+◌, Bool, false, List, [], sym, ◌∙◌, ap, subst, arith}
 use Rattle.vb_model.specs.declared.{calls.{Call.Call, Claim.Claim}, replies.Reply.Reply}

@@ -38,7 +38,7 @@ refusals : ready_reply {T = ℕ} (Err NotReady) ∷ taken_reply (Err NotReady) �
     ≡ Refused NotReady ∷ Refused NotReady ∷ Refused NotReady ∷ Refused NotReady ∷ Refused NoMemory ∷ []
 refusals = refl
 
--- ---- the statistics buffer is posted, taken or done, and stands in one list alone
+-- ---- the statistics buffer is posted, taken or done, and is in one list alone
 
 heads : map posted_heads (NoBuffer ∷ BufferPosted (record { free = 1; total = 2 })
     ∷ BufferTaken (record { free = 1; total = 2 }) ∷ BufferDone (record { free = 1; total = 2 }) ∷ [])
@@ -90,7 +90,7 @@ refusal_is_the_last claims = (λ are. are.2, λ are. are.2)
 not_loose : (AreLoose (1 ∷ []) asks → ⊥) × (AreLoose (0 ∷ 0 ∷ []) asks → ⊥)
 not_loose = (λ loose. omega (arith, loose 1), λ loose. omega (arith, loose 0))
 
--- ---- frames behind pages
+-- ---- frames that back pages
 
 abbrev guest : Guest
 guest = record (fresh (record { pages = 4; queue_size = 8; processors = 1; paced = false }) 0) {
@@ -104,7 +104,7 @@ not_out : (AreOut (record guest { frames = Some 0 ∷ Some 0 ∷ [] }) (true ∷
     × (AreOut guest (true ∷ []) → ⊥)
 not_out = (λ out. omega (arith, out 0), λ out. omega (arith, out 5))
 
--- ---- a step over a keeper: what was claimed, what stands afterwards, and the frames that are out
+-- ---- a step over a keeper: what was claimed, what is afterwards, and the frames that are out
 
 steps : (New : Guest → Type 0) (old new : List Bool) (reply : Reply)
     → StepsWithKeeper New TableAnswers old new guest Work reply

@@ -128,7 +128,7 @@ frames_given {n} pages numbers {m1} {m2} {frames} distinct below supplied has =
     filled_by (λ m l. HasFrames m n l) n pages numbers m1 m2 frames (λ old
     new page frame before lt bare all did. frames_supplied lt all did) distinct below supplied has
 
--- each frame that was given is behind a page more
+-- each frame that was given backs a page more
 pub frames_filled : (x : ℕ) {n : ℕ} (pages : List ℕ) (claims : List Claim)
     {m1 : Pages} (m2 : Pages) {frames : List (Option ℕ)} → claim_refusal claims ≡ None
     → AreClaimsFor pages claims → AllDistinct pages → ((p : ℕ) → is_in p pages ≡ true → p < n)

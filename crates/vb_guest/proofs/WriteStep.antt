@@ -172,7 +172,7 @@ write_supplied out1 out2 {m2} {p1}
 
 -- ---- what the memory answered
 
--- a refusal for want of a frame
+-- a refusal for lack of a frame
 pub needs_frame : {mem : Pages} {page off len : ℕ} {r : Result (Unit {0}) RamFault}
     → (Covers mem page off len → IsSome (frame_at mem page) → IsOk r) → ((Covers mem page off len
     → ⊥) → r ≡ Err OutOfMemory) → (Covers mem page off len → len ≡ 0 → IsOk r)

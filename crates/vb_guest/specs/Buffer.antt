@@ -30,7 +30,7 @@ abbrev pub taken_requests : StatisticsBuffer → List Request
 taken_requests (BufferTaken figures) = record { head = 0; pages = []; visited = 0 } ∷ []
 taken_requests _ = []
 
--- A posted buffer of a ring of so many descriptors has its figures.
+-- A posted buffer of a ring of n descriptors has its figures.
 abbrev pub HasFigures : ℕ → Pages → StatisticsBuffer → Type 0
 HasFigures size mem (BufferPosted figures) =
     AreFigures mem (ring_page size STATISTICS_QUEUE) figures

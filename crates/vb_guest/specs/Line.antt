@@ -21,7 +21,7 @@ RingOf mem queue ring part rs =
     RingStands mem queue ring part.next_avail part.next_used
     (heads_of rs.posted) (heads_of rs.taken) (heads_of rs.done)
 
--- Pages that a guest of so many pages, whose queues have this size, asks the device for.
+-- Pages that a guest of n pages, whose queues have this size, asks the device for.
 pub record AreRequested (size count : ℕ) (pages : List ℕ) : Type 0 where
   pub some : 0 < length pages
   pub few : length pages ≤ max_request_pages
@@ -29,8 +29,7 @@ pub record AreRequested (size count : ℕ) (pages : List ℕ) : Type 0 where
   pub below : All (λ page. page < count) pages
   pub distinct : AllDistinct pages
 
--- The driver remembers the pages of the request, and a device takes it from a guest of so many
--- pages.
+-- The driver remembers the pages of the request, and a device takes it from a guest of n pages.
 pub record IsRequest (size count : ℕ) (sent : List (List ℕ)) (r : Request) : Type 0 where
   pub inside : r.head < size
   pub few : r.head < max_outstanding

@@ -37,7 +37,7 @@ why_unsupplied (Ok x) = None
 why_unsupplied (Err NoFrame) = Some NoFrameLeft
 why_unsupplied (Err Memory) = Some NoMemory
 
--- One claim is made for each of these pages, up to the first that is refused, and is noted behind
+-- One claim is made for each of these pages, up to the first that is refused, and is noted after
 -- those before: all get the frames that were given, or none does, and the frames that were given go
 -- back.
 pub record SuppliesBy {T : Type 0} (Answers : List Bool → Claim → Type 0) (s1 s2 : Supply)

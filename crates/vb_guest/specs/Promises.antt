@@ -1,5 +1,5 @@
 -- How the calls on a guest speak of it: each of whatever guest memory, the device's part and the
--- driver stand for, and some only where they stand for one.
+-- driver represent, and some only where they represent one.
 use Rattle.std.specs.Prelude.{◌≡◌, Bool, false, List}
 use Rattle.vb_model.specs.declared.calls.Call.{Call}
 use Rattle.vb_model.specs.declared.calls.Claim.{Claim}
@@ -26,34 +26,34 @@ abbrev pub moment : Pages → Part → DriverState → List Bool → Moment
 moment mem part d out =
     record { mem = mem; part = part; driver = d; supply = supply_of part out }
 
--- They stand for a guest.
+-- They represent a guest.
 abbrev pub SomeGuest : Pages → Part → DriverState → Type 0
 SomeGuest mem part d = (keeps : Bool) × (g : Guest) × Stands keeps mem part d g
 
--- They stand for a guest, and where its device keeps no frames, those behind its pages are out of
--- the keeper.
+-- They represent a guest, and where its device keeps no frames, those that back its pages are out
+-- of the keeper.
 abbrev pub SomeGuestOut : Pages → Part → DriverState → List Bool → Type 0
 SomeGuestOut mem part d out =
     (keeps : Bool) × (g : Guest) × Stands keeps mem part d g × (keeps ≡ false → AreOut g out)
 
--- Of whatever guest they stand for this holds.
+-- Of whatever guest they represent this holds.
 abbrev pub OfEach : Pages → Part → DriverState → (Guest → Type 0) → Type 0
 OfEach mem part d Holds = (keeps : Bool) (g : Guest) → Stands keeps mem part d g → Holds g
 
--- Of whatever guest they stand for this is the answer to a question.
+-- Of whatever guest they represent this is the answer to a question.
 abbrev pub EachAnswers : Pages → Part → DriverState → Query → Reply → Type 0
 EachAnswers mem part d query reply =
     (keeps : Bool) (g : Guest) → Stands keeps mem part d g → Answers query g reply
 
--- From whatever guest they stand for, a step of it over its supply of frames, and after it they
--- stand for what came out.
+-- From whatever guest they represent, a step of it over its supply of frames, and after it they
+-- represent what came out.
 abbrev pub EachSteps : (List Bool → Claim → Type 0) → Moment → Moment → List Claim → Call → Reply
     → Type 0
 EachSteps Answers a b claims call reply =
     (keeps : Bool) (g : Guest) → Stands keeps a.mem a.part a.driver g
     → StepsOver (Stands keeps b.mem b.part b.driver) Answers a.supply b.supply claims g call reply
 
--- From whatever guest they stand for, this leads to another one, which they stand for after it.
+-- From whatever guest they represent, this leads to another one, which they represent after it.
 abbrev pub EachReaches : Moment → Moment → (Guest → Guest → Type 0) → Type 0
 EachReaches a b Step =
     (keeps : Bool) (g : Guest) → Stands keeps a.mem a.part a.driver g
@@ -66,7 +66,7 @@ EachStepsAlone m1 m2 p1 p2 d1 d2 call reply =
     (keeps : Bool) (g : Guest) → Stands keeps m1 p1 d1 g
     → StepsAlone (Stands keeps m2 p2 d2) g call reply
 
--- Of whatever guest they stand for a new life begins, and after it they stand for that.
+-- Of whatever guest they represent a new life begins, and after it they represent that.
 abbrev pub EachRestarts : Moment → Moment → Type 0
 EachRestarts a b =
     (keeps : Bool) (g : Guest) → Stands keeps a.mem a.part a.driver g

@@ -12,13 +12,13 @@ use Rattle.vb_driver.specs.Coding.{AreReported}
 use Rattle.vb_driver.specs.State.{ReportSide}
 use Rattle.vb_guest.specs.Line.{QueueLine}
 
--- A block of a guest of so many pages, whose queues have this size, above the reserved ones.
+-- A block of a guest of n pages, whose queues have this size, above the reserved ones.
 pub record IsOwnBlock (queue_size count : ℕ) (b : Block) : Type 0 where
   pub order : b.order ≤ max_order
   pub above : reserved_pages queue_size ≤ b.start
   pub below : b.start + size b ≤ count
 
--- The request is the report of these blocks, for which a table of so many descriptors has room.
+-- The request is the report of these blocks, for which a table of n descriptors has room.
 pub record IsReport (descriptors count : ℕ) (blocks : List Block) (r : Request) : Type 0 where
   pub head : r.head ≡ 0
   pub names : r.pages ≡ pages_of_all blocks

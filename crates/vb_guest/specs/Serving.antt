@@ -58,15 +58,15 @@ NextStep q result g new =
 abbrev pub NextBy : ℕ → Pages → Pages → Part → Part → Result (Option ℕ) Refusal → Type 0
 NextBy q m1 m2 p1 p2 result = IsHandedBack (λ part. ServesBy q m1 m2 p1 part result) p2
 
--- ---- the chains behind it
+-- ---- the chains after it
 
 -- How far a serve came that ended with this answer.
 abbrev pub served_until : ℕ → Result (Option ℕ) Refusal → ServedChains
 served_until chains (Err (Broken rule)) = record { chains = chains; broken = Some rule }
 served_until chains _ = record { chains = chains; broken = None }
 
--- So many chains were served before; what is served of an honest guest, of which so many more may
--- be, is all that is posted.
+-- n chains were served before; what is served of an honest guest, of which n more may be, is all
+-- that is posted.
 abbrev pub RestStep : ℕ → ℕ → ℕ → ServedChains → Guest → Guest → Type 0
 RestStep q chains left served g new =
     MatchBool g.rogue (RogueStep g (Serve q) [] (Served served.chains served.broken) new)
@@ -82,8 +82,7 @@ GoesOn Rest chains m1 m2 p1 p2 (Ok (Some head)) served = Rest m1 p1
 GoesOn Rest chains m1 m2 p1 p2 answer served =
     (served ≡ served_until chains answer) × (m2 ≡ m1) × (p2 ≡ p1)
 
--- So many more chains at most are served, one after the other, up to the first answer that brings
--- none.
+-- n more chains at most are served, one after the other, up to the first answer that brings none.
 abbrev pub RestBy : (q left chains : ℕ) → Pages → Pages → Part → Part → ServedChains → Type 0
 RestBy q zero chains m1 m2 p1 p2 served =
     (served ≡ record { chains = chains; broken = None }) × (m2 ≡ m1) × (p2 ≡ p1)

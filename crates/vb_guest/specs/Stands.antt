@@ -120,7 +120,7 @@ pub record IsIdle (g : Guest) : Type 0 where
   pub actual : g.actual ≡ 0
   pub last : g.last ≡ no_statistics
 
--- The device is initialised: the pages of rings and buffers have frames, and the four queues stand
+-- The device is initialised: the pages of rings and buffers have frames, and the four queues are
 -- there.
 pub record IsRunning (mem : Pages) (part : Part) (d : DriverState) (g : Guest) : Type 0 where
   pub state : g.status ≡ READY_STATUS
@@ -148,7 +148,7 @@ pub record Honest (mem : Pages) (part : Part) (d : DriverState) (g : Guest) : Ty
   pub orderly : IsOrderly g
 
 -- The device says whether it keeps frames of its own. Where it does, those of them that are out are
--- just those behind the guest's pages, each behind one page; else it has none.
+-- just those that back the guest's pages, each one page; else it has none.
 pub record OwnFrames (keeps : Bool) (part : Part) (g : Guest) : Type 0 where
   pub flag : part.keeps ≡ keeps
   pub none : keeps ≡ false → part.own ≡ []
@@ -156,7 +156,7 @@ pub record OwnFrames (keeps : Bool) (part : Part) (g : Guest) : Type 0 where
 
 -- ---- a guest that wrote past its driver
 
--- The request names pages of a guest of so many pages, whose queues have this size: none of them is
+-- The request names pages of a guest of n pages, whose queues have this size: none of them is
 -- reserved.
 pub record IsOwnRequest (size count : ℕ) (r : Request) : Type 0 where
   pub above : All (λ page. reserved_pages size ≤ page) r.pages
@@ -170,7 +170,7 @@ pub record IsRogueUp (size : ℕ) (mem : Pages) (part : Part) : Type 0 where
   pub reports : All (IsOwnRequest size (length mem)) part.report.taken
 
 -- How large the guest is, what its driver and its device keep and are asked for, and the frames
--- behind its pages: nothing of its rings, of its requests, and of what its pages hold.
+-- that back its pages: nothing of its rings, of its requests, and of what its pages hold.
 pub record Rogue (mem : Pages) (part : Part) (d : DriverState) (g : Guest) : Type 0 where
   pub rogue : g.rogue ≡ true
   pub config : is_config g.config.pages g.config.queue_size g.config.processors ≡ true

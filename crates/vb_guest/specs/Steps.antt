@@ -83,7 +83,8 @@ pub record Reaches (New Step : Guest → Type 0) (old_supply new_supply : Supply
   pub step : Step new
   pub moves : Moves old_supply new_supply (λ n. backing_count n new) (λ n. backing_count n g)
 
--- Every frame behind a page of the guest went back to where it came from, and no other frame moved.
+-- Every frame that backs a page of the guest went back to where it came from, and no other frame
+-- moved.
 abbrev pub AllReturn : Supply → Supply → Guest → Type 0
 AllReturn old_supply new_supply g = Moves old_supply new_supply nothing (λ n. backing_count n g)
 

@@ -24,8 +24,8 @@ supply_of part out = record { keeps = part.keeps; own = part.own; out = out }
 abbrev pub is_used : Supply → ℕ → Bool
 is_used s n = if s.keeps then has s.own n else is_out s.out n
 
--- So many frames of each number went out, and so many came back. Where the device keeps frames, the
--- keeper's are as before; else the device still has none.
+-- n frames of each number went out, and m came back. Where the device keeps frames, the keeper's
+-- are as before; else the device still has none.
 pub record Moves (s1 s2 : Supply) (gained lost : ℕ → ℕ) : Type 0 where
   pub keeps : s2.keeps ≡ s1.keeps
   pub asked : s1.keeps ≡ false → s2.own ≡ s1.own
@@ -59,6 +59,6 @@ AreClaimed Answers s (GaveNoFrame ∷ claims) =
 AreClaimed Answers s (GaveNoMemory ∷ claims) =
     (mid : Supply) × IsClaimed Answers s mid GaveNoMemory × (claims ≡ [])
 
--- Each of these frames is out, and none stands here twice.
+-- Each of these frames is out, and none is here twice.
 abbrev pub AreLoose : List ℕ → Supply → Type 0
 AreLoose loose s = (n : ℕ) → times n loose ≤ one_if (is_used s n)

@@ -22,7 +22,7 @@ use vb_driver::Driver;
 use vb_frames::FrameKeeper;
 use vb_model::{Call, Query, Reply};
 
-/// Answers a call on the guest that the driver and the device stand for, which is a step of that
+/// Answers a call on the guest that the driver and the device represent, which is a step of that
 /// guest. Frames that its pages gain are claimed from the device, where it keeps frames of its own,
 /// else from the keeper, and those that they lose go back there. Notes what the claims were
 /// answered.
@@ -84,7 +84,7 @@ pub fn call<D: Device, K: FrameKeeper>(
     }
 }
 
-/// Answers a question about the guest that the driver and the device stand for.
+/// Answers a question about the guest that the driver and the device represent.
 pub fn query<D: Device>(alloc: Global, driver: &Driver, device: &D, query: &Query) -> Reply
     requires stands { SomeGuest (D.mem device.now) (D.part device.now) driver.now }
     ensures answer { EachAnswers (D.mem device.now) (D.part device.now) driver.now query.now

@@ -13,9 +13,9 @@ use vb_frames::{FrameKeeper, Refused};
 use vb_model::Claim;
 use vb_ram::Frame;
 
-/// So many claims there may be in a call: an initialisation makes one for each page of rings and
-/// buffers that has no frame, of which there are 13, or 17 where each ring takes two pages; no
-/// other call makes more than one.
+/// The most claims of a call: an initialisation makes one for each page of rings and buffers that
+/// has no frame, of which there are 13, or 17 where each ring takes two pages; no other call makes
+/// more than one.
 pub const MAX_CLAIMS: usize = 17;
 
 /// What the claims of a call were answered, in order.

@@ -1,4 +1,4 @@
-//! One guest: what its balloon driver and its device do, as steps of the guest that they stand for.
+//! One guest: what its balloon driver and its device do, as steps of the guest that they represent.
 #![tactic(auto)]
 
 mod calls;

@@ -34,7 +34,7 @@ fn is_bare<D: Device>(device: &D, shape: Shape, page: u32) -> bool
     shape.is_start_page(page) && device.backing(page).is_none()
 }
 
-/// Puts new frames behind those pages of rings and buffers, from this one on, that have none. All
+/// Backs with new frames those pages of rings and buffers, from this one on, that have none. All
 /// are claimed first: where a claim is refused, those that were given go back, and no page has one.
 fn supply_from<D: Device, K: FrameKeeper>(
     device: &mut D,

@@ -19,7 +19,7 @@ use vb_model::{Bytes, Call};
 use vb_ram::{Frame, PAGE_SIZE, RamFault};
 use vb_virtio::Refusal;
 
-/// Puts a frame behind a page that has none.
+/// Backs a page that has no frame.
 pub(crate) fn supply<D: Device>(device: &mut D, page: u32, frame: Frame)
     requires inside { page < length (D.mem device.old) }
     requires bare { frame_at (D.mem device.old) page ≡ None }
@@ -45,7 +45,7 @@ fn overwrite<D: Device>(device: &mut D, page: u32, offset: u32, bytes: &Bytes)
     }
 }
 
-/// Puts a frame behind a page that has none, and then writes bytes of it.
+/// Backs a page that has no frame, and then writes bytes of it.
 fn put_fresh<D: Device, K: FrameKeeper>(
     device: &mut D,
     keeper: &mut K,
@@ -193,7 +193,7 @@ fn read_bytes<D: Device>(
     ensures { IfOk result
         (λ bytes. bytes ≡ take len (drop offset (contents_at (D.mem device.now) page))) }
 {
-    // Asked for the proof: that each page has `PAGE_SIZE` bytes is a clause of this call alone.
+    // A no-op call: its clause tells the prover that each page has `PAGE_SIZE` bytes.
     let _frame = device.backing(page);
     let mut bytes = vec![in alloc; 0; len as usize]?;
     match device.read(page, offset as usize, &mut bytes) {

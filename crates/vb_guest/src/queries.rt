@@ -137,7 +137,7 @@ fn ballooned_runs<D: Device>(alloc: Global, device: &D, count: u32) -> Result<Pa
     Ok(PageRuns::new(found))
 }
 
-/// Which pages are at a place, as runs by rising page. Want of memory is the only refusal.
+/// Which pages are at a place, as runs by rising page. An allocation failure is the only refusal.
 pub fn pages_at(alloc: Global, driver: &Driver, place: Place) -> Result<PageRuns, AllocError>
     ensures answer { (mem : Pages) (part : Part) → EachAnswers mem part driver.now
         (Query.PagesAt place) (runs_reply result) }
@@ -147,8 +147,8 @@ pub fn pages_at(alloc: Global, driver: &Driver, place: Place) -> Result<PageRuns
     runs_at(alloc, driver.places_by_page(), place)
 }
 
-/// Which pages the device holds to be ballooned, as runs by rising page. Want of memory is the only
-/// refusal.
+/// Which pages the device holds to be ballooned, as runs by rising page. An allocation failure is
+/// the only refusal.
 pub fn pages_ballooned<D: Device>(alloc: Global, device: &D) -> Result<PageRuns, AllocError>
     requires { (d : DriverState) × SomeGuest (D.mem device.now) (D.part device.now) d }
     ensures { (d : DriverState) → EachAnswers (D.mem device.now) (D.part device.now) d

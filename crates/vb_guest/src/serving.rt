@@ -43,7 +43,7 @@ fn serve_next<D: Device, K: FrameKeeper>(
     answer
 }
 
-/// How far a serve came that a refusal ended after so many chains: a chain may break a rule, and
+/// How far a serve came that a refusal ended after `chains` chains: a chain may break a rule, and
 /// nothing else can be.
 fn stopped(chains: u32, why: Refusal) -> Served
     ensures { result ≡ served_until chains (Err why) }
@@ -55,7 +55,7 @@ fn stopped(chains: u32, why: Refusal) -> Served
     Served { chains, broken }
 }
 
-/// The device serves the chains behind the first ones of a queue, so many of them at most.
+/// The device serves the chains after the first ones of a queue, `left` of them at most.
 fn serve_rest<D: Device, K: FrameKeeper>(
     device: &mut D,
     keeper: &mut K,

@@ -221,7 +221,7 @@ impl Loan {
         self.uncounted = 0;
     }
 
-    /// It can spare this many pages.
+    /// Notes that the guest can spare `pages` pages.
     pub(crate) fn figure(&mut self, pages: u32)
         ensures { self.new ≡ figured pages self.old }
     {

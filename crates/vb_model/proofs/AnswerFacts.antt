@@ -23,7 +23,7 @@ first_alone = grind arith
 targets_of_the_first : IsAnswer 100 needs (Targets (28 ∷ 0 ∷ []))
 targets_of_the_first = (28 ∷ 0 ∷ [], first_alone, refl)
 
--- whoever answers these targets has that they are targets
+-- an answer of these targets says that they are targets
 are_targets : (a b : ℕ) → IsAnswer 100 needs (Targets (a ∷ b ∷ []))
     → AreTargets needs 100 (a ∷ b ∷ [])
 are_targets a b h2 = grind arith

@@ -1,4 +1,4 @@
--- An offered page is handed out again only after it was asked back.
+-- An offered page is handed out again only after it was requested back.
 use Rattle.std.proofs.Common.{◌≡◌, ℕ, zero, suc, ◌+◌, ◌-◌, ◌<◌, ◌≤◌, Bool, true, false, List, []}
 use Rattle.std.proofs.Common.{◌∷◌, refl, sym, ap, subst, ◌∙◌, arith, ◌≢◌}
 use Rattle.std.specs.Prelude.{Option, Some, None, slice_get}

@@ -1,4 +1,4 @@
--- Courses in which an offered page is handed out again: how it is asked back before, and how not.
+-- Courses in which an offered page is handed out again: what requests it back before, and what not.
 use Rattle.std.proofs.Common.{List, [], ap, arith, false, map, refl, replicate, sym, true, ℕ, ◌++◌}
 use Rattle.{std.proofs.Common.{◌∷◌, ◌≡◌}, vb_model.specs.Life.after_reset}
 use Rattle.std.specs.Prelude.{IsTrue, None, Option, Some, length, slice_get}
@@ -27,7 +27,7 @@ offering g entries guests = record {
   after = guests;
 }
 
--- it is offered, and the request is used already; it is lent; it is asked back, and then that
+-- it is offered, and the request is used already; it is lent; it is requested back, and then that
 -- request is used; it can be handed out; it is handed out
 abbrev pub giving : Guest → Guest
 giving g = record (page_16_at Giving g) { inflate = used request_16 }
@@ -47,7 +47,7 @@ back g = page_16_at FreePlace g
 abbrev pub handed_out : Guest → Guest
 handed_out g = page_16_at Used g
 
--- where the guest tells the host: lent, asked back, reaped, handed out
+-- where the guest tells the host: lent, requested back, reaped, handed out
 abbrev told_and_back : Course
 told_and_back = offering ready (made (Reap 0) (Reaped 0 1) ∷ made (Deflate 1) (Posted 0 1)
     ∷ Some (Called (Worker 0) (Finish 1 0) [] (Finished 0)) ∷ made (Reap 1) (Reaped 0 1)
@@ -108,8 +108,7 @@ told_and_asked_back = record {
   );
 }
 
--- where it doesn't: lent, asked back, handed out while that request is posted; by a call for want
--- of memory too
+-- where it doesn't: lent, requested back, handed out while that request is posted; by an oom too
 abbrev at_once : Guest → Place → Call → Course
 at_once g place call = offering g (made (Reap 0) (Reaped 0 1)
     ∷ made call (Posted 0 1) ∷ made Work Idle ∷ made (Alloc 0 0) (Page 16) ∷ [])
@@ -137,7 +136,7 @@ by_no_other_call : map posts_deflate
     (Inflate 1 ∷ Reap 1 ∷ Alloc 0 0 ∷ Work ∷ Finish 1 0 ∷ Report 0 ∷ []) ≡ replicate 6 false
 by_no_other_call = refl
 
--- ---- how a page is not asked back
+-- ---- how a page is not requested back
 
 -- a guest that tells the host hands the page out while the request is posted still
 abbrev too_early : Course
@@ -149,7 +148,7 @@ handed_out_next call = offering ready
     (made (Reap 0) (Reaped 0 1) ∷ made call (Posted 0 1) ∷ made (Alloc 0 0) (Page 16) ∷ [])
     (giving ready ∷ lent ready ∷ asked Taking ready ∷ handed_out ready ∷ [])
 
--- or reaps it behind that
+-- or reaps it after that
 abbrev reaped_behind : Course
 reaped_behind = offering ready (made (Reap 0) (Reaped 0 1) ∷ made (Deflate 1) (Posted 0 1)
     ∷ made (Alloc 0 0) (Page 16) ∷ made (Reap 1) (Reaped 0 1) ∷ []) (giving ready
@@ -208,7 +207,7 @@ posted_by_an_inflate = not_posted (handed_out_next (Inflate 1)) 16 2 refl
 
 -- ---- and these not in a guest that doesn't tell either
 
--- no page is asked back
+-- no page is requested back
 abbrev never_asked : Guest → Course
 never_asked g = offering g (made (Reap 0) (Reaped 0 1) ∷ made Work Idle
     ∷ made (Alloc 0 0) (Page 16) ∷ []) (giving g ∷ lent g ∷ back g ∷ handed_out g ∷ [])
@@ -276,9 +275,10 @@ no_deflate_posted : NoneOf IsAskedBack (by_post None no_requests (posted request
     ∷ by_post (made (Deflate 1) (Posted 1 1)) (posted request_16) behind_an_older ∷ [])
 no_deflate_posted = none_asked _ refl
 
--- ---- something that it would have to be asked back by came before it was offered, and not after
+-- ---- something that it would have to be requested back by came before it was offered, and not
+-- after
 
--- page 16 is offered by entry 1, and behind it comes another's event
+-- page 16 is offered by entry 1, and after it comes another's event
 abbrev offering_later : Option Entry → List (Option Entry) → Guest → List Guest → Course
 offering_later earlier entries first guests = record {
   first = first;
@@ -335,7 +335,7 @@ none_lent_since = none_asked _ refl
 abbrev handed_out_at_once : Guest → Course
 handed_out_at_once g = offering g (made (Alloc 0 0) (Page 16) ∷ []) (giving g ∷ handed_out g ∷ [])
 
--- or behind a reset, with no deflate in between
+-- or after a reset, with no deflate in between
 abbrev over_a_reset : Course
 over_a_reset = offering untold (made (Reap 0) (Reaped 0 1) ∷ made Reset Done ∷ made (Alloc 0 0)
     (Page 16) ∷ []) (giving untold ∷ lent untold ∷ page_16_at Stranded down ∷ handed_out down ∷ [])

@@ -69,7 +69,7 @@ abbrev pub asked_back : Course → (page i k : ℕ) → Bool
 asked_back c page i k = list_any (λ lent. is_some (reaped_at Inflating c page lent) && list_any
     (λ asked. comes_back c page asked k (posted_at c page asked)) (between lent k)) (between i k)
 
--- ---- what was asked back passes the test
+-- ---- what was requested back passes the test
 
 same_list : (xs : List ℕ) → is_same xs xs ≡ true
 same_list [] = refl
@@ -161,7 +161,7 @@ brings_by place _ _ = false
 abbrev pub brings : Course → Place → ℕ → Bool
 brings c place i = brings_by place (guest_after c i) (guest_after c (i + 1))
 
--- the one entry brings page 16 to the host and the other hands it out, and it isn't asked back
+-- the one entry brings page 16 to the host and the other hands it out, and it isn't requested back
 abbrev pub hands_out : Row → Bool
 hands_out (c, (i, k)) = nat_lt i k && (brings c Giving i && (brings c Used k
     && not (asked_back c 16 i k)))

@@ -13,7 +13,7 @@ use Rattle.vb_model.specs.declared.replies.Reply.{Reply, TheVariants.{Done, Targ
 
 -- ---- what a guest of 64 pages can spare: min(48, ballooned + (free - floor))
 
--- so many pages are ballooned, and so many bytes were free
+-- n pages are ballooned, and m bytes were free
 abbrev known : ℕ → Option ℕ → Guest
 known ballooned free = record ready {
   ballooned = replicate ballooned true;

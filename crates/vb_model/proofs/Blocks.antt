@@ -159,7 +159,7 @@ times_in_range page first count = cases (nat_le first page && nat_lt page (first
       ]
     ]
 
--- how often a page stands in the pages of blocks
+-- how often a page is in the pages of blocks
 pub times_in_blocks : (page : ℕ) (bs : List Block)
     → times page (pages_of_all bs) ≡ count_by (covers page) bs
 times_in_blocks page [] = refl

@@ -19,7 +19,8 @@ use Rattle.vb_model.specs.declared.calls.Query.TheVariants.{Places}
 use Rattle.vb_model.specs.declared.places.Place.TheVariants.{Reserved, Used}
 use Rattle.vb_model.specs.declared.replies.Reply.{Reply, TheVariants.{Done, Refused}}
 
--- ---- frames 0 and 2 are out, behind pages of guest 0; guest 1 writes to its page 16, which has none
+-- ---- frames 0 and 2 are out, backing pages of guest 0; guest 1 writes to its page 16, which has
+-- none
 
 abbrev holding : Guest
 holding = record down { frames = Some 0 ∷ Some 2 ∷ [] }
@@ -143,7 +144,7 @@ not_the_second_of_two new = (
   λ is. no_other_is_out 3 0 (λ e. differ 0 3 refl e) ((given (with_one_frame 3) 4 1 new is).2 0 (omega arith)),
 )
 
--- want of a frame is no answer while one isn't out
+-- a lack of a frame is no answer while one isn't out
 no_claim_refused : (claims : List Claim) (after : Guest)
     → HonestStep writer (Write 16 0 (7 ∷ [])) claims (Refused NoFrame) after
     → claims ≡ GaveNoFrame ∷ []

@@ -18,7 +18,7 @@ use Rattle.vb_model.specs.declared.replies.Reply.TheVariants.{NotUsed, Posted, R
 
 -- ---- how many pages are moved
 
--- so many lent, giving, stranded and free pages, and a target
+-- n lent, giving, stranded and free pages, and a target
 abbrev counts : ℕ → ℕ → ℕ → ℕ → ℕ → Guest
 counts lent giving stranded free target = record ready {
   places = replicate 16 Reserved ++ (replicate lent Lent ++ (replicate giving Giving
@@ -41,7 +41,7 @@ deflates_down_to_the_target : map (deflate_count (counts 5 2 6 10 4)) (0 ∷ 2 �
     ≡ 0 ∷ 2 ∷ 3 ∷ 3 ∷ 3 ∷ 5 ∷ 0 ∷ 0 ∷ []
 deflates_down_to_the_target = refl
 
--- for want of memory: what is lent, whatever the target is
+-- of an oom: what is lent, whatever the target is
 oom_whatever_the_target : map (oom_count (counts 5 2 6 10 40)) (0 ∷ 2 ∷ 5 ∷ 300 ∷ []) ≡ 0 ∷ 2 ∷ 5
     ∷ 5 ∷ []
 oom_whatever_the_target = refl
@@ -113,7 +113,7 @@ abbrev Offers : List ℕ → Type 0
 Offers pages = (new : Guest) → HonestStep two_stranded (Inflate 3) [] (Posted 3 3) new
     → new.inflate ≡ with_last (heads 0 2 1) (request 3 pages 0) → ⊥
 
--- the pages of the new request, which stands behind one other
+-- the pages of the new request, which comes after one other
 abbrev newest : Guest → List ℕ
 newest g = pages_of_second g.inflate.posted
 
@@ -168,7 +168,7 @@ asked_back_to_the_target = (
       new s.1,
 )
 
--- and for want of memory beyond it
+-- and for allocation failures beyond it
 asked_back_for_want_of_memory : StepsJustSo (record four_lent { target = 40 }) (Oom 1) []
     (Posted 1 1) (record (at_places
     (Taking ∷ Taking ∷ Lent ∷ Giving ∷ Free ∷ Lent ∷ Lent ∷ Free ∷ []))

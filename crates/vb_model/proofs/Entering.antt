@@ -154,7 +154,7 @@ all_given frames Out (page ∷ pages) (Gave f ∷ claims) got gives a r all =
     later x (inl out) = inl (inl out)
     later x (inr k) = elim (left f x got k) [ inl e ↦ inl (inr e) | inr m ↦ inr m ]
 
--- a claim is refused for want of a frame or of memory
+-- a claim is refused for lack of a frame or memory
 claim_refusals : (claims : List Claim) (refusal : Refusal) → claim_refusal claims ≡ Some refusal
     → (refusal ≡ NoFrame) ⊎ (refusal ≡ NoMemory)
 claim_refusals [] refusal e = absurd cc

@@ -1,5 +1,5 @@
 -- Worked facts of frames: which page has which, which are out, and that no run that is promised to
--- be safe has one behind two pages, in whatever state, of whatever guests. Who is honest.
+-- be safe has one that backs two pages, in whatever state, of whatever guests. Who is honest.
 use Rattle.std.proofs.Common.{List, [], arith, refl, suc, true, zero, ℕ, ◌∷◌, ◌≡◌}
 use Rattle.std.specs.Prelude.{None, Option, Some}
 use Rattle.vb_model.{proofs.Samples.{down, ready}, specs.{Guest.{Guest, frame_of}, Run.History}}
@@ -41,7 +41,7 @@ frames_that_are_not : (IsOut world 6 → ⊥) × (IsOut world 8 → ⊥)
 frames_that_are_not = grind (arith, not_of_it)
 
 -- ---- two pages with one frame, of two guests or of one, at any status and of any size, honest or
--- rogue, whatever comes behind
+-- rogue, whatever comes after
 
 abbrev both : Guest → Guest → World
 both a b = record { frames = 64; guests = Some a ∷ None ∷ Some b ∷ []; spares = []; vacated = None }

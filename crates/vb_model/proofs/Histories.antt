@@ -145,7 +145,7 @@ index_is [] i own at = absurd cc
 index_is (x ∷ entries) zero own at = cc
 index_is (x ∷ entries) (suc i) own at = index_is entries i own at
 
--- the byte behind one entry
+-- the byte after one entry
 byte_step : (c : Course) → Positions c → (page at i : ℕ) (g new : Guest) → guest_after c i ≡ Some g
     → guest_after c (i + 1) ≡ Some new → IsAt g page Used → IsAt new page Used
     → byte_of new page at ≡ byte_after page at (get_or c.entries i None) (byte_of g page at)
@@ -198,7 +198,7 @@ byte_step c p page at i g new here next used used' = by s.own s.own_is s.step
     by (Some (Called actor call claims reply)) entry s =
         called actor call claims reply (is_write page call reply) refl entry s
 
--- behind many
+-- after many
 bytes_are : (c : Course) → Positions c → (page at i k : ℕ) (g new : Guest) → StaysHeld c page i k
     → guest_after c i ≡ Some g → guest_after c (i + k) ≡ Some new
     → byte_of new page at ≡ last_put c page at i k (byte_of g page at)

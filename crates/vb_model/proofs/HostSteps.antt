@@ -1,4 +1,4 @@
--- The host's events are determined, but for the number of a new guest and want of memory.
+-- The host's events are determined, but for the number of a new guest and an allocation failure.
 use Rattle.std.proofs.Common.{Bool, List, [], ap, false, inl, inr, sym, true, ℕ, ◌∙◌, ◌∷◌, ◌≡◌, ◌≢◌}
 use Rattle.std.specs.Prelude.{MatchBool, MatchOption, None, Option, Some, ⊤, ◌==◌}
 use Rattle.vb_virtio.proofs.Unique.{unique}

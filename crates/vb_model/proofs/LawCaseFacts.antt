@@ -81,7 +81,8 @@ any_bare_page : NeededPagesAreBare → (g : Guest) (page : ℕ)
     → IsTrue (is_in page (pages_to_back (Init 1) g)) → frame_of g.frames page ≡ None
 any_bare_page law g page is = law g (Init 1) page is
 
--- ---- refusals leave the guest, and the world; so does want of memory, and few events have it
+-- ---- refusals leave the guest, and the world; so does an allocation failure, and few events have
+-- it
 
 any_refusal : RefusalsChangeNothing → (g : Guest) (refusal : Refusal) (new : Guest)
     → HonestStep g (Inflate 1) [] (Refused refusal) new → new ≡ g

@@ -33,7 +33,7 @@ in_each_stage page = record {
 abbrev full_frames : List (Option ℕ)
 full_frames = map (λ page. Some (page + 100)) (range_with_len 0 40) ++ replicate 24 None
 
--- a short list stands for the bytes of a page that was written
+-- a short list represents the bytes of a page that was written
 abbrev full_contents : List (List ℕ)
 full_contents = replicate 37 zero_page ++ ((1 ∷ []) ∷ (2 ∷ []) ∷ replicate 25 zero_page)
 

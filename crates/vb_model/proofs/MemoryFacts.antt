@@ -15,7 +15,7 @@ use Rattle.vb_model.specs.declared.places.Place.TheVariants.{Free as FreePlace, 
 use Rattle.vb_model.specs.declared.places.Place.TheVariants.{Used}
 use Rattle.vb_model.specs.declared.replies.Reply.{Reply, TheVariants.{Done, ReadBytes, Refused}}
 
--- pages 16 to 18 are used; pages 16 and 17 have frames. A short list stands for the bytes of a page
+-- pages 16 to 18 are used; pages 16 and 17 have frames. A short list represents the bytes of a page
 abbrev frames : Option ℕ → List (Option ℕ)
 frames of_18 = replicate 16 None ++ (Some 13 ∷ Some 14 ∷ of_18 ∷ replicate 45 None)
 
@@ -36,7 +36,7 @@ five_bytes = 1 ∷ 2 ∷ 3 ∷ 4 ∷ 5 ∷ []
 abbrev before : Guest
 before = holding five_bytes None zero_page
 
--- ---- read: so many bytes from the offset on, or want of memory for the reply
+-- ---- read: n bytes from the offset on, or an allocation failure for the reply
 
 read_three : HonestStep before (Read 17 1 3) [] (ReadBytes (2 ∷ 3 ∷ 4 ∷ [])) before
 read_three = (refl, (inl refl, refl))
@@ -92,7 +92,7 @@ within_the_page : refusals before (Read 17 4092 4 ∷ Read 17 4096 0 ∷ Write 1
     ∷ Write 17 4097 [] ∷ []) ≡ replicate 4 None ++ replicate 4 (Some OutOfRam)
 within_the_page = refl
 
--- whether the device is initialised is no matter
+-- whether the device is initialised doesn't matter
 before_an_initialisation : refusal_of (record before { status = 0 }) (Read 17 0 1)
     ∷ refusal_of (record before { status = 131 }) (Write 17 0 (1 ∷ []))
     ∷ refusal_of down (Alloc 0 0) ∷ [] ≡ replicate 3 None

@@ -20,7 +20,7 @@ use Rattle.vb_model.specs.declared.calls.Query.{Query, TheVariants.{PagesAt, Pag
 use Rattle.vb_model.specs.declared.replies.Reply.{Reply}
 use Rattle.vb_model.specs.declared.replies.Reply.TheVariants.{Done, Refused}
 
--- a reply that isn't want of memory
+-- a reply that isn't an allocation failure
 not_wanted : {A : Type 0} (reply : Reply) → Refused NoMemory ≡ reply → wants reply ≡ false → A
 not_wanted reply e f = no_want reply NoMemory f refl (sym e)
 

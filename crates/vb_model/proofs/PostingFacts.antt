@@ -74,7 +74,7 @@ another_head new = (
 another_count : (new : Guest) → Posts Inflating (16 ∷ []) 1 ready (Posted 0 2) new → ⊥
 another_count new p = differ 2 1 refl (ap count_of p.2)
 
--- a report of all 48 free pages, which stand in two blocks
+-- a report of all 48 free pages, which are in two blocks
 not_reported_so : (new : Guest) → (Reports 0 ready (Posted 1 48) new → ⊥)
     × (Reports 0 ready (Posted 0 47) new → ⊥) × (Reports 17 ready (Posted 0 48) new → ⊥)
 not_reported_so new = (
@@ -94,7 +94,7 @@ just_posted kind pages count g head least reply new p =
       subst (λ (h : ℕ). new ≡ after_posting kind h pages g) e p.3,
     )
 
--- ---- pages 20 and 21 are stranded, and two free pages come behind them
+-- ---- pages 20 and 21 are stranded, and two free pages come after them
 
 abbrev two_stranded : Guest
 two_stranded = record ready {

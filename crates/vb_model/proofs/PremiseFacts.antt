@@ -109,7 +109,7 @@ unplugged_at_last : IsThere (three (Some down) (OnGuest 0 Work) (Some down) (Unp
     → ⊥
 unplugged_at_last there = grind arith
 
--- ---- no scribble: one of another guest is none, nor is one before or behind
+-- ---- no scribble: one of another guest is none, nor is one before or after
 
 abbrev scribbled : Event → Event → History
 scribbled first second = three (Some down) first (Some down) second (Some down)
@@ -147,7 +147,7 @@ writes = record {
   after = replicate 8 (page_16_at Used ready);
 }
 
--- a write counts whoever makes it, and whatever its claims were given
+-- a write of any actor counts, and whatever its claims were given
 abbrev written_by_the_worker : Course
 written_by_the_worker = record {
   first = page_16_at Used ready;

@@ -53,7 +53,7 @@ ballooned = record mixed
 ballooned_pages_are : Answers PagesBallooned ballooned (Pages (run 41 42 ∷ run 44 44 ∷ []))
 ballooned_pages_are = inl refl
 
--- the ballooned pages are counted, `actual` and the target are as they stand
+-- the ballooned pages are counted, `actual` and the target are as they are
 four_numbers : Answers QueryBalloon (record ballooned { actual = 9; target = 11; status = 131 })
     (Balloon (record { ballooned = 3; actual = 9; target = 11; status = 131 }))
 four_numbers = refl
@@ -80,7 +80,7 @@ frames_are : Answers (QueryBacking 16) backed (Backing (Some 13))
     × Answers (QueryBacking 64) backed (Backing None)
 frames_are = (refl, refl, refl)
 
--- ---- want of memory may be the answer where a list is, and only there; nothing changes
+-- ---- an allocation failure may be the answer where a list is, and only there; nothing changes
 
 abbrev NoMemoryFor : Query → Type 0
 NoMemoryFor query = Answers query mixed (Refused NoMemory)

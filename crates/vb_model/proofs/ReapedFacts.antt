@@ -20,7 +20,7 @@ reaps_page_16 =
 abbrev with_entry : Guest → Option Entry → Course
 with_entry g own = record { first = g; entries = own ∷ []; after = g ∷ [] }
 
--- whoever made it, and whatever its claims were given
+-- made by any actor, and whatever its claims were given
 reaped_by_the_worker : ReapedAt Deflating
     (with_entry (coming_back Taking ready) (Some (Called (Worker 0) (Reap 1) [] (Reaped 0 1)))) 16 0
 reaped_by_the_worker =

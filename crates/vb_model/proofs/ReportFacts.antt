@@ -161,7 +161,7 @@ reported_from_17 = (
   λ reply new s. just_posted Reporting_free (range_with_len 32 32) 32 ready 0 no_head_out reply new s.1,
 )
 
--- heads of other kinds are no matter
+-- heads of other kinds don't matter
 least_head_of_reports : StepsJustSo (record ready { inflate = two_out; deflate = two_out })
     (Report 0) [] (Posted 0 48) (record reporting { inflate = two_out; deflate = two_out })
 least_head_of_reports = (

@@ -191,7 +191,7 @@ frame_not_claimed : (reply : Reply) (new : Guest)
     → RogueStep after (Scribble 18 0 (1 ∷ [])) [] reply new → ⊥
 frame_not_claimed reply new s = (s.scribble 18 0 (1 ∷ []) refl).0
 
--- `target` sets it as ever
+-- `target` sets it as in an honest guest
 target_is_set : (reply : Reply) (new : Guest) → RogueStep after (SetTarget 5) [] reply new
     → new.target ≡ 5
 target_is_set reply new s = s.target
@@ -223,12 +223,12 @@ another_frame : (reply : Reply) → RogueStep holding (Write 18 0 (1 ∷ [])) (G
 another_frame reply s =
     let e : Same 3 4 = ap (λ (o : Option ℕ). unwrap_or o 0) (s.frames 18 4 refl) in omega arith
 
--- a refusal for want of a frame needs a claim
+-- a refusal for lack of a frame needs a claim
 no_frame_without_a_claim : (new : Guest)
     → RogueStep after (Write 18 0 (1 ∷ [])) [] (Refused NoFrame) new → ⊥
 no_frame_without_a_claim new s = let e : None ≡ Some NoFrame = s.no_frame refl in cc
 
--- one for want of memory too, or a read, and it changes nothing
+-- one on an allocation failure too, or a read, and it changes nothing
 no_memory_without_a_claim : (new : Guest)
     → RogueStep after (Write 18 0 (1 ∷ [])) [] (Refused NoMemory) new → ⊥
 no_memory_without_a_claim new s = grind arith

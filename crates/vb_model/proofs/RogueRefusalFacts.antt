@@ -111,7 +111,7 @@ feature_not_offered : (new : Guest)
     }
 feature_not_offered new s = s.refused FeatureNotOffered refl
 
--- for want of a frame or of memory nothing is changed
+-- for lack of a frame or memory nothing is changed
 no_frame_to_start : (new : Guest) → RogueStep told_much (Init 0x100000027) (Gave 0
     ∷ GaveNoFrame ∷ []) (Refused NoFrame) new → new ≡ told_much
 no_frame_to_start new s = s.refused NoFrame refl

@@ -179,7 +179,7 @@ bytes_changed_by_refused : IsSafeCourse
 bytes_changed_by_refused s = not_that_byte Used (s.keeps_contents 0 16
     (with_byte Used None 1) (with_byte Used None 2) refl refl (λ e. cc) (λ own. cc))
 
--- nor is another guest's write to a page of the same number, behind one of the guest's own
+-- nor is another guest's write to a page of the same number, after one of the guest's own
 bytes_changed_by_another : IsSafeCourse (record {
   first = with_byte Used (Some 5) 1;
   entries = made (Write 16 0 (1 ∷ [])) Done ∷ None ∷ [];
@@ -218,8 +218,8 @@ too_few_bytes s =
     let e : Same 1 2 = (s.reads 0 16 0 2 (1 ∷ []) (used_with (Some 5) (1 ∷ 2 ∷ []) ready) refl
     (Processor 0 0, [], refl)).0 in omega (arith, e)
 
--- two writes, with another's event behind each, and then a read that gives what was there before
--- the last one, or before both
+-- two writes, with another's event after each, and then a read that gives what was there before the
+-- last one, or before both
 abbrev written_and_read : ℕ → Course
 written_and_read byte = record {
   first = used_with (Some 5) (1 ∷ 2 ∷ []) down;
@@ -275,7 +275,7 @@ write_forgotten_by_law s = let e : Same 7 8 = last_by_law 7 s in omega (arith, e
 both_forgotten_by_law : ReadsGiveLastWrites (written_unseen 1) → ⊥
 both_forgotten_by_law s = let e : Same 1 8 = last_by_law 1 s in omega (arith, e)
 
--- a write that is done, and the page holds what it did, or the bytes stand elsewhere in it
+-- a write that is done, and the page holds what it did, or the bytes are elsewhere in it
 abbrev written_as : List ℕ → Course
 written_as bytes = goes (used_with (Some 5) (1 ∷ 2 ∷ []) down) (Write 16 0 (7 ∷ [])) Done
     (used_with (Some 5) bytes down)

@@ -1,5 +1,5 @@
 -- What is promised of a safe course reaches all its states and entries: of any guests, by any calls
--- of any actors, first or behind another entry, of any page that the promise speaks of.
+-- of any actors, first or after another entry, of any page that the promise speaks of.
 use Rattle.std.proofs.Common.{List, [], arith, false, inl, inr, refl, sym, true, ℕ, ◌+◌, ◌∙◌, ◌∷◌}
 use Rattle.std.proofs.Common.{◌≡◌, ◌≤◌, ◌⊎◌}
 use Rattle.std.specs.Prelude.{Bool, IsSome, IsTrue, None, Option, Some, drop, length, take}

@@ -50,7 +50,7 @@ another_reply v s = grind arith
 another_end : IsSafeRun (world 64) (CountFrames ∷ []) (Frames 0 64 ∷ []) (world 63) → ⊥
 another_end s = grind arith
 
--- ---- a frame behind two pages, of two guests or of one, of a rogue guest too, in each state
+-- ---- a frame that backs two pages, of two guests or of one, of a rogue guest too, in each state
 
 abbrev at : Guest → World
 at g = record { frames = 64; guests = Some g ∷ []; spares = []; vacated = None }
@@ -186,7 +186,7 @@ reset_but_ready s = by o.own o.is o.step where
       let status : Same 15 0 =
       ap (λ (g : Guest). g.status) (performed Reset ready is.1 Done ready made.1).1.1 in omega arith
 
--- a reset ends no life, and what comes behind it goes on from what it left
+-- a reset ends no life, and what comes after it goes on from what it left
 a_reset_is_no_end : InOneLife 1 (OnGuest 1 Reset ∷ OnGuest 1 (Init 0) ∷ [])
 a_reset_is_no_end = ((λ e. cc), (λ e. cc), ((λ e. cc), (λ e. cc), tt))
 
@@ -231,7 +231,7 @@ isnt_safe s =
 abbrev beside : Guest → World
 beside g = record { frames = 64; guests = Some ready ∷ Some g ∷ []; spares = []; vacated = None }
 
--- a page is offered behind another's event, and handed out by the next event
+-- a page is offered after another's event, and handed out by the next event
 abbrev at_once : History
 at_once = record {
   first = beside (back untold);
@@ -282,7 +282,7 @@ two_steps w first answer second reply x s = by s.after s.steps s.ends where
       (v, steps.0, subst (λ (z : World). WorldStep v second reply z) ends steps.1.0)
   by (v ∷ y ∷ z ∷ after) steps ends = absurd steps.1.1
 
--- and what the second one was to a guest whose life it is in is a safe course, whoever the guest is
+-- and what the second one was to a guest whose life it is in is a safe course, for any guest
 one_event_of_a_life : (n : ℕ) (w v x : World) (first second : Event) (answer reply : Reply)
     (g new : Guest) → Safe w (first ∷ second ∷ []) (answer ∷ reply ∷ []) (v ∷ x ∷ [])
     → guest_at v.guests n ≡ Some g → guest_at x.guests n ≡ Some new → new.rogue ≡ false
@@ -293,8 +293,8 @@ one_event_of_a_life : (n : ℕ) (w v x : World) (first second : Event) (answer r
 one_event_of_a_life n w v x first second answer reply g new s there then_there honest on still =
     s.lives n 1 1 v x g new refl there refl then_there honest (on, still, tt)
 
--- the law says of such an event that it leads the guest by itself, too, and that reads give the last
--- writes
+-- the law says of such an event that it leads the guest by itself, too, and that reads give the
+-- last writes
 one_event_alone : (n : ℕ) (w v x : World) (first second : Event) (answer reply : Reply)
     (g new : Guest) → LivesAreAlone (record {
       first = w;
@@ -309,7 +309,7 @@ one_event_alone : (n : ℕ) (w v x : World) (first second : Event) (answer reply
 one_event_alone n w v x first second answer reply g new law there then_there honest on still =
     law n 1 1 v g new refl there (then_there, honest) (on, still, tt)
 
--- so many entries of a list, from one on
+-- n entries of a list, from one on
 part_of_five : part {A = ℕ} 1 3 (5 ∷ 6 ∷ 7 ∷ 8 ∷ 9 ∷ []) ∷ part {A = ℕ} 3 4 (5 ∷ 6 ∷ 7 ∷ 8 ∷ 9 ∷ [])
     ∷ [] ≡ (6 ∷ 7 ∷ 8 ∷ []) ∷ (8 ∷ 9 ∷ []) ∷ []
 part_of_five = refl

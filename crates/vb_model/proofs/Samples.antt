@@ -50,11 +50,11 @@ mixed = record ready { places = mixed_places }
 abbrev pub page_16_at : Place → Guest → Guest
 page_16_at place g = record g { places = replicate 16 Reserved ++ (place ∷ replicate 47 Free) }
 
--- a request for these pages, of which so many are visited
+-- a request for these pages, of which n are visited
 abbrev pub request : ℕ → List ℕ → ℕ → Request
 request head pages visited = record { head = head; pages = pages; visited = visited }
 
--- a guest of so many pages, descriptors of each queue and processors is to be plugged in
+-- a guest of n pages, descriptors of each queue and processors is to be plugged in
 abbrev pub plug : (pages queue_size processors : ℕ) → Event
 plug pages queue_size processors =
     Plug (record { pages = pages; queue_size = queue_size; processors = processors })

@@ -108,7 +108,7 @@ both_served = just_so two_inflates 0 (Served 2 None) two_used (
   ),
 )
 
--- they are used in their order, behind the one that was used before, and their pages are ballooned
+-- they are used in their order, after the one that was used before, and their pages are ballooned
 in_their_order : two_used.inflate ≡ record {
   posted = [];
   taken = [];

@@ -7,7 +7,7 @@ use Rattle.vb_virtio.specs.Queues.{Deflating, Inflating, Kind, Reporting_free, R
 use Rattle.vb_model.specs.Guest.{with_requests}
 use Rattle.vb_model.specs.declared.replies.Reply.{Reply}
 
--- what is posted behind a request that was taken and used
+-- what is posted after a request that was taken and used
 rest_posted : (kind : Kind) (r x : Request) (rest : List Request) (g : Guest)
     → (requests kind (settled kind x.pages (used kind 0 x
     (with_requests kind (after_take r rest (requests kind g)) g)))).posted ≡ rest

@@ -52,7 +52,7 @@ past_the_end : map (λ order. is_wholly_free down.places (record { start = 64; o
     (3 ∷ 4 ∷ 5 ∷ 6 ∷ []) ≡ true ∷ true ∷ false ∷ false ∷ []
 past_the_end = refl
 
--- ---- initialisation: buffers first, then the rings behind the first 16 pages
+-- ---- initialisation: buffers first, then the rings after the first 16 pages
 
 start : lacking down ≡ 4 ∷ 5 ∷ 6 ∷ 7 ∷ 8 ∷ 9 ∷ 10 ∷ 11 ∷ 12 ∷ 16 ∷ 17 ∷ 18 ∷ 19 ∷ 20 ∷ 21 ∷ 22 ∷ 23
     ∷ []
@@ -61,7 +61,7 @@ start = refl
 start_of_small_queues : lacking one_page_rings ≡ range_with_len 0 13
 start_of_small_queues = refl
 
--- one that has frames behind pages 0 to 20 lacks the last three
+-- one that has frames for pages 0 to 20 lacks the last three
 some_there : lacking (record down { frames = map Some (range_with_len 0 21) ++ replicate 59 None })
     ≡ 21 ∷ 22 ∷ 23 ∷ []
 some_there = refl

@@ -83,7 +83,8 @@ unsound_while_named = (
   λ s. differ 0 1 refl s.taking,
 )
 
--- whether it tells or not, the page is neither lent nor offered, nor reserved, nor asked back twice
+-- whether it tells or not, the page is neither lent nor offered, nor reserved, nor requested back
+-- twice
 abbrev Neither : Place → Requests → Requests → Bool → Type 0
 Neither place inflate deflate flag =
     (Named true place inflate deflate flag → ⊥) × (Named false place inflate deflate flag → ⊥)

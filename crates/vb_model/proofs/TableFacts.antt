@@ -36,7 +36,7 @@ requests_with_a_feature : at_statuses (15 ∷ 79 ∷ 143 ∷ [])
     ∷ replicate 2 (Some NotReady)
 requests_with_a_feature = refl
 
--- the device's calls: not ready, then in need of a reset, then the rest. The feature comes behind
+-- the device's calls: not ready, then in need of a reset, then the rest. The feature comes after
 -- the status, and before the limit, which is 1 chain of queue 2, and 16 of queue 4. Without
 -- MUST_TELL_HOST no page is swept, ballooned or not
 devices_calls : map (at_statuses (11 ∷ 15 ∷ 79 ∷ 143 ∷ 207 ∷ []))
@@ -57,8 +57,8 @@ no_third_queue = refl
 
 -- ---- the driver's calls on a ready device
 
--- with MUST_TELL_HOST, which is bit 0, pending deflates are no matter; without it they come behind
--- a full queue and before a count of 0, and just that bit counts
+-- with MUST_TELL_HOST, which is bit 0, pending deflates don't matter; without it they come after a
+-- full queue and before a count of 0, and just that bit counts
 inflates_in_order : map first_refusal (inflate_causes (at 15 1) 16 (new_request 15 16 0)
     ∷ inflate_causes (at 15 1) 16 (new_request 15 16 1)
     ∷ inflate_causes (at 15 0) 1 (new_request 16 16 0)

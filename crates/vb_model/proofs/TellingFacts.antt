@@ -1,5 +1,5 @@
--- Worked facts of the rules of a guest that tells the host: what it is refused for, that pages which
--- it asks back are taking, and what a reap leaves.
+-- Worked facts of the rules of a guest that tells the host: what it is refused for, that pages
+-- which it requests back are taking, and what a reap leaves.
 use Rattle.std.proofs.Common.{List, [], ap, arith, false, map, refl, replicate, true, ℕ, ◌++◌, ◌∷◌}
 use Rattle.std.{proofs.Common.{◌≡◌}, specs.Prelude.{None, Option, Some}}
 use Rattle.vb_virtio.proofs.Differ.{differ}
@@ -54,7 +54,7 @@ refused_so : (claims : List Claim) (reply : Reply) (new : Guest)
     → (claims ≡ []) × (reply ≡ Refused QueueFull) × (new ≡ narrow)
 refused_so claims reply new s = s
 
--- ---- pages that are asked back are taking
+-- ---- pages that are requested back are taking
 
 abbrev for_want : Guest → Guest
 for_want g = record g { target = 40 }
@@ -141,7 +141,7 @@ places_that_count : map is_lent_or_taking (Lent ∷ Taking ∷ Free ∷ Used ∷
     ∷ Reporting ∷ Reserved ∷ []) ≡ true ∷ true ∷ replicate 6 false
 places_that_count = refl
 
--- ---- all else is as ever
+-- ---- all else is unchanged
 
 target_set : (reply : Reply) (new : Guest) → ToldStep ready (SetTarget 5) [] reply new
     → (reply ≡ Done) × (new ≡ record ready { target = 5 })

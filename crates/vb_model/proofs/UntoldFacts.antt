@@ -62,7 +62,7 @@ told_by_bit_0 : map (λ features. tells_host (record ready { features = features
     ∷ false ∷ true ∷ []
 told_by_bit_0 = refl
 
--- ---- pages are asked back: pages 16 to 18 are lent, and 16 and 17 are above the target
+-- ---- pages are requested back: pages 16 to 18 are lent, and 16 and 17 are above the target
 
 abbrev pub places : Place → Place → Place → List Place
 places of_16 of_17 of_18 = replicate 16 Reserved ++ (of_16 ∷ of_17 ∷ of_18 ∷ replicate 45 FreePlace)
@@ -110,7 +110,7 @@ taking_where_it_tells = (
       new s.1,
 )
 
--- for want of memory alike, whatever the target is
+-- of an oom alike, whatever the target is
 free_at_once_when_short : StepsJustSo (record (three_lent untold) { target = 40 }) (Oom 2) []
     (Posted 0 2) (record (asked FreePlace untold) { target = 40 })
 free_at_once_when_short = (
@@ -239,7 +239,7 @@ taking_still : (new : Guest) → HonestStep (record (asked Taking ready) { defla
     (Reap 1) [] (Reaped 0 2) new → place_of new.places 16 ≡ Taking → ⊥
 taking_still new s e = cc
 
--- a reaped inflate's pages are lent as ever, and a reaped report's are free
+-- a reaped inflate's pages are lent as in other guests, and a reaped report's are free
 lent_once_reaped : StepsJustSo (record untold {
   places = places Giving Giving Used;
   ballooned = flags true false;
@@ -279,7 +279,7 @@ not_finished_so : (new : Guest) → FinishedSo new → (frame_of new.frames 16 �
     × (contents_of new 16 ≡ [] → ⊥) × (is_ballooned new.ballooned 16 ≡ true → ⊥)
 not_finished_so new s = grind arith
 
--- all the way: asked back, handed out, taken, used, reaped
+-- all the way: requested back, handed out, taken, used, reaped
 all_the_way : Leads (three_lent untold) (Some (Called (Processor 0 0) (Deflate 2) [] (Posted 0 2))
     ∷ Some (Called (Processor 0 0) (Alloc 0 0) [] (Page 16))
     ∷ Some (Called (Worker 0) (Take 1) [] (Taken 0))

@@ -55,7 +55,7 @@ status_before_that : map
     (Inflate 1)) (0 ∷ 11 ∷ 79 ∷ 131 ∷ 143 ∷ []) ≡ replicate 5 (Some NotReady)
 status_before_that = refl
 
--- requests of other kinds are no matter
+-- requests of other kinds don't matter
 other_kinds : refusal_of (record (pending untold no_requests)
     { inflate = posted (request 0 (20 ∷ []) 0); report = posted (request 0 (21 ∷ []) 0) })
     (Inflate 1) ≡ None

@@ -1,4 +1,4 @@
--- Which calls claim frames, and what a refusal for want of frames or of memory means.
+-- Which calls claim frames, and what a refusal for lack of frames or memory means.
 use Rattle.std.proofs.Common.{Bool, List, [], ap, arith, cond, false, inl, inr, length, refl, sym}
 use Rattle.std.proofs.{Common.{true, ℕ, ◌<◌, ◌∙◌, ◌∷◌, ◌≡◌, ◌⊎◌}, lemmas.Bool.{eq-eqb, not-true}}
 use Rattle.std.{proofs.lemmas.Bool.{or_left, or_right}, specs.{List.list_all, Prelude.None}}
@@ -117,7 +117,7 @@ want frames Out (page ∷ pages) (Gave f ∷ claims) gives a r =
     later x got (inl (inr e)) = inr (or_left (f == x) (is_in x got) (eq-eqb f x (sym e)))
     later x got (inr k) = inr (or_right (f == x) (is_in x got) k)
 
--- a reply that is a refusal for want of a frame, or of memory
+-- a reply that is a refusal for lack of a frame, or of memory
 abbrev pub is_want : Refusal → Bool
 is_want NoFrame = true
 is_want NoMemory = true
@@ -158,7 +158,7 @@ pub no_want : {A : Type 0} (reply : Reply) (why : Refusal) → wants reply ≡ f
     → is_want why ≡ true → reply ≡ Refused why → A
 no_want reply why f w e = absurd (let t : wants reply ≡ true = ap wants e ∙ w in cc)
 
--- a reply to a serve is that so many chains were served
+-- a reply to a serve is that n chains were served
 serves_wants : (o : Option Kind) (g : Guest) (reply : Reply) (new : Guest)
     → MatchOption o (ServesBuffer g.buffer g reply new)
     (λ kind. ServesRequests kind (requests kind g).posted 0 g reply new) → wants reply ≡ false

@@ -60,7 +60,7 @@ frames eight = map Some (range_with_len 0 13) ++ (replicate 3 None ++ (eight ++ 
 abbrev all_eight : List (Option ℕ)
 all_eight = Some 17 ∷ None ∷ None ∷ Some 13 ∷ Some 14 ∷ None ∷ Some 15 ∷ Some 16 ∷ []
 
--- what pages 16 to 23 hold; a short list stands for the bytes of a page that was written
+-- what pages 16 to 23 hold; a short list represents the bytes of a page that was written
 abbrev contents : List (List ℕ) → List (List ℕ)
 contents eight = replicate 16 zero_page ++ (eight ++ replicate 40 zero_page)
 

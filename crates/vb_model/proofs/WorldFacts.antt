@@ -71,7 +71,7 @@ any_free_number = inr (3, refl, tt, refl, refl)
 no_number_twice : (v : World) → WorldStep (world (Some ready ∷ [])) (plug 128 2 4) (Plugged 0) v → ⊥
 no_number_twice v h1 = grind arith
 
--- want of memory leaves the spare, and the number given up
+-- an allocation failure leaves the spare, and the number given up
 no_memory_for_a_plug : WorldStep gap (plug 128 2 4) (Refused NoMemory) gap
 no_memory_for_a_plug = inl (refl, refl)
 
@@ -210,7 +210,7 @@ none_given_twice g = g.3.1 (inr refl)
 some_frame_is_left : Gives 5 Out (GaveNoFrame ∷ []) → ⊥
 some_frame_is_left g = two_is_not_out (g.0 2 (omega arith))
 
--- want of memory may come while a frame is left, and only then; nothing is claimed after it
+-- an allocation failure may come while a frame is left, and only then; nothing is claimed after it
 no_memory : Gives 5 Out (GaveNoMemory ∷ [])
 no_memory = (2, omega arith, two_is_not_out, refl)
 

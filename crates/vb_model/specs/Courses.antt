@@ -78,8 +78,8 @@ pub record DeflatePostedAt (c : Course) (page j : ℕ) : Type 0 where
   pub posted : after.deflate.posted ≡ before.deflate.posted ++ (request ∷ [])
   pub named : IsTrue (is_in page request.pages)
 
--- Between entries i and k the page was asked back: an inflate request that names it came back, and
--- later a deflate request that names it was posted; which came back, too, where the guest had
+-- Between entries i and k the page was requested back: an inflate request that names it came back,
+-- and later a deflate request that names it was posted; which came back, too, where the guest had
 -- agreed to tell the host when it was posted.
 pub record WasAskedBack (c : Course) (page i k : ℕ) : Type 0 where
   pub lent : ℕ

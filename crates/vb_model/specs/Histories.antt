@@ -51,7 +51,7 @@ pub record IsSafeCourse (c : Course) : Type 0 where
   pub reads : (i page offset len : ℕ) (bytes : List ℕ) (g : Guest) → guest_after c i ≡ Some g
       → IsCall c i (Read page offset len) (ReadBytes bytes)
       → (length bytes ≡ len) × (bytes ≡ take len (drop offset (contents_of g page)))
-  -- a page that was offered is handed out again only after it was asked back
+  -- a page that was offered is handed out again only after it was requested back
   pub told_first : (page i k : ℕ) → i < k → BringsTo c page Giving i → BringsTo c page Used k
       → WasAskedBack c page i k
   -- what the device calls ballooned, the driver calls lent, but for requests on their way

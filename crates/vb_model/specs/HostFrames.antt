@@ -18,8 +18,8 @@ pub record Backs (w : World) (n p frame : ℕ) : Type 0 where
 abbrev pub IsOut : World → ℕ → Type 0
 IsOut w frame = (n : ℕ) × (p : ℕ) × Backs w n p frame
 
--- each claim gets the least frame that is not out, while there is one; want of memory may come
--- first
+-- each claim gets the least frame that is not out, while there is one; an allocation failure may
+-- come first
 abbrev pub Gives : ℕ → (ℕ → Type 0) → List Claim → Type 0
 Gives frames Out [] = ⊤
 Gives frames Out (Gave f ∷ claims) =

@@ -1,4 +1,4 @@
--- How far the host's events are determined by the world, but for want of memory.
+-- How far the host's events are determined by the world, but for allocation failures.
 use Rattle.std.specs.Prelude.{◌≡◌, ◌≢◌, ℕ, Some}
 use Rattle.vb_model.specs.declared.calls.Call.{Call}
 use Rattle.vb_model.specs.declared.calls.Event.{Event}

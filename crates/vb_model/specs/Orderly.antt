@@ -24,7 +24,7 @@ abbrev pub AllRequestsSound : List Request → Type 0
 AllRequestsSound [] = ⊤
 AllRequestsSound (r ∷ rs) = IsRequestSound r × AllRequestsSound rs
 
--- the requests of one kind have different heads, and there are at most so many
+-- the requests of one kind have different heads, and there are at most n
 pub record AreOrderly (most : ℕ) (rs : Requests) : Type 0 where
   pub heads : (head : ℕ) → headed head (all_requests rs) ≤ 1
   pub few : outstanding rs ≤ most
@@ -32,7 +32,7 @@ pub record AreOrderly (most : ℕ) (rs : Requests) : Type 0 where
   pub taken : AllRequestsSound rs.taken
   pub done : AllRequestsSound rs.done
 
--- a block of an order that there is, at a multiple of its size, within so many pages
+-- a block of an order that there is, at a multiple of its size, within n pages
 pub record IsBlock (pages : ℕ) (b : Block) : Type 0 where
   pub order : b.order ≤ MAX_ORDER
   pub aligned : IsTrue (is_aligned b)

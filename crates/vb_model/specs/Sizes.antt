@@ -7,8 +7,8 @@ use Rattle.vb_virtio.specs.Limits.{is_power_of_two, is_between, is_config}
 use Rattle.vb_virtio.specs.Layout.{reserved_pages, ring_number, ring_page, is_ring_page}
 use Rattle.vb_virtio.specs.Layout.{start_pages}
 
--- 16 pages are reserved, the rings stand in pages 0 to 3 in their order, and a start needs the
--- first 13 pages
+-- 16 pages are reserved, the rings are in pages 0 to 3 in their order, and a start needs the first
+-- 13 pages
 pub record HasSmallShape (size : ℕ) : Type 0 where
   pub reserved : reserved_pages size ≡ 16
   pub rings : (q : ℕ) → ring_page size q ≡ ring_number q

@@ -148,10 +148,10 @@ WantIsAnswered =
     → WorldStep w (OnGuest n call) reply v → WantOfFrames w (pages_to_back call g)
     → (reply ≡ Refused NoFrame) ⊎ (reply ≡ Refused NoMemory)
 
--- ---- want of memory
+-- ---- an allocation failure
 
--- a call of a guest, honest or rogue, is refused for want of memory only where a claim of its was,
--- or for bytes that it is answered with; and nothing is changed
+-- a call of a guest, honest or rogue, is refused on an allocation failure only where a claim of its
+-- was, or for bytes that it is answered with; and nothing is changed
 abbrev pub NoMemoryIsExact : Type 0
 NoMemoryIsExact =
     (g : Guest) (call : Call) (claims : List Claim) (new : Guest)

@@ -1,7 +1,6 @@
 -- How many pages the driver's calls move, and what each call is refused for, in the order in which
--- it is tested (profile).
--- Both stand here once, over plain values; a guest, a driver and a device each put in their own.
--- The headline needs all of it but the last part.
+-- it is tested (profile). Both are here once, over plain values; a guest, a driver and a device
+-- each put in their own. The headline needs all of it but the last part.
 use Rattle.std.specs.Prelude.{◌++◌}
 use Rattle.std.specs.Prelude.{ℕ, ◌+◌, ◌-◌, Bool, false, not, ◌==◌, ◌&&◌, ◌||◌, nat_lt, nat_le, List}
 use Rattle.std.specs.Prelude.{[], ◌∷◌, if◌then◌else◌, Option, is_some, is_none}
@@ -47,7 +46,7 @@ pages_to_inflate places target n =
     min (min n MAX_REQUEST_PAGES)
     (min (max stranded missing) (stranded + count_by (is_place Free) places))
 
--- a deflate asks back what is above the target
+-- a deflate requests back what is above the target
 abbrev pub pages_to_deflate : (places : List Place) (target n : ℕ) → ℕ
 pages_to_deflate places target n =
     let lent : ℕ = count_by (is_place Lent) places in
@@ -118,7 +117,7 @@ chain_causes q now busy =
     ∷ (busy ⇒ Busy)
     ∷ []
 
--- of a take, where so many chains of the queue are taken
+-- of a take, where n chains of the queue are taken
 abbrev pub take_causes : (q : ℕ) → Negotiated → (taken : ℕ) → List Cause
 take_causes q now taken =
     chain_causes q now (nat_le (if q == STATISTICS_QUEUE then 1 else MAX_OUTSTANDING) taken)
@@ -138,7 +137,7 @@ finish_causes q now paced taken =
     ⇒ NotWorked)
     ∷ []
 
--- of a sweep: without MUST_TELL_HOST a guest may use a ballooned page that it has asked back
+-- of a sweep: without MUST_TELL_HOST a guest may use a ballooned page that it has requested back
 abbrev pub sweep_causes : Negotiated → (ballooned : Bool) → List Cause
 sweep_causes now ballooned =
     work_causes now.status
@@ -152,7 +151,7 @@ ask_causes status taken = work_causes status ++ (not taken ⇒ NotTaken) ∷ []
 
 -- ---- for laws and proofs
 
--- of a queue so many chains may be taken at a time
+-- of a queue n chains may be taken at a time
 abbrev pub most_taken : ℕ → ℕ
 most_taken q = if q == STATISTICS_QUEUE then 1 else MAX_OUTSTANDING
 

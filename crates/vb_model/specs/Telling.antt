@@ -39,7 +39,7 @@ told_causes g (Sweep page) =
     ∷ []
 told_causes g call = causes g call
 
--- pages that are asked back are taking
+-- pages that are requested back are taking
 abbrev pub CallsBack : ℕ → Guest → Reply → Guest → Type 0
 CallsBack count g reply new =
     (head : ℕ) × IsLeastHead g.deflate head × (reply ≡ Posted head count)

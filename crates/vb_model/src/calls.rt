@@ -36,7 +36,7 @@ impl PartialEq for Bytes {
 }
 
 impl Bytes {
-    /// These bytes.
+    /// Makes bytes of a list.
     pub fn new(items: Vec<u8>) -> Bytes
         ensures { result ≡ items.items }
     {
@@ -50,7 +50,7 @@ impl Bytes {
         &self.items
     }
 
-    /// The same bytes once more. Refused for want of memory alone.
+    /// A copy of the bytes. Refused on an allocation failure alone.
     pub fn copy(&self, alloc: Global) -> Result<Bytes, AllocError>
         ensures { IfOk result (λ copy. copy ≡ self.now) }
     {
@@ -60,9 +60,9 @@ impl Bytes {
     }
 }
 
-/// A call on one guest: by what runs in it, by its balloon driver, or by the device behind it.
-/// Pages, orders, queues and processors are numbers from 0 on, and `at` is a place in a page, in
-/// bytes from its start; any number may be passed.
+/// A call on one guest: by what runs in it, by its balloon driver, or by its device. Pages, orders,
+/// queues and processors are numbers from 0 on, and `at` is a place in a page, in bytes from its
+/// start; any number may be passed.
 #[derive(Drop, PartialEq)]
 pub enum Call {
     /// The driver initialises the device and asks for these features (VIRTIO 1.1, 3.1.1).
@@ -79,11 +79,12 @@ pub enum Call {
     Write { page: u32, at: u32, bytes: Bytes },
     /// Bytes of any page are written: the guest is rogue from then on (profile).
     Scribble { page: u32, at: u32, bytes: Bytes },
-    /// The driver offers at most so many pages to the host (VIRTIO 1.1, 5.5.6).
+    /// The driver offers at most `pages` pages to the host (VIRTIO 1.1, 5.5.6).
     Inflate { pages: u32 },
-    /// The driver asks for at most so many pages back, as far as the target allows.
+    /// The driver asks for at most `pages` pages back, as far as the target allows.
     Deflate { pages: u32 },
-    /// The same, whatever the target (VIRTIO 1.1, 5.5.6, with DEFLATE_ON_OOM).
+    /// The driver asks for at most `pages` pages back, for any target (VIRTIO 1.1, 5.5.6, with
+    /// DEFLATE_ON_OOM).
     Oom { pages: u32 },
     /// The driver reports free blocks from a page on (profile).
     Report { from: u32 },
@@ -116,7 +117,7 @@ impl Call {
         self == other
     }
 
-    /// The same call once more. Refused for want of memory alone.
+    /// A copy of the call. Refused on an allocation failure alone.
     pub fn copy(&self, alloc: Global) -> Result<Call, AllocError>
         ensures { IfOk result (λ copy. copy ≡ self.now) }
     {

@@ -122,15 +122,15 @@ pub fn claims_are_needed()
     ensures bare { NeededPagesAreBare }
 {}
 
-/// A call of a guest, honest or rogue, is refused for want of a frame only where fewer frames are
-/// not out than it needs; and there it is, unless it is refused for want of memory.
+/// A call of a guest, honest or rogue, is refused for lack of a frame only where fewer frames are
+/// not out than it needs; and there it is, unless it is refused on an allocation failure.
 pub fn no_frame_is_exact()
     ensures exact { NoFrameIsExact }
     ensures answered { WantIsAnswered }
 {}
 
-/// Want of memory is answered by a plug; by a call of a guest, honest or rogue, that claimed a
-/// frame and was refused for it; by a read; and by a question for a list of pages: by no other
+/// An allocation failure is answered by a plug; by a call of a guest, honest or rogue, that claimed
+/// a frame and was refused for it; by a read; and by a question for a list of pages: by no other
 /// event. It changes nothing.
 pub fn want_of_memory_changes_nothing()
     ensures calls { NoMemoryIsExact }
@@ -138,7 +138,8 @@ pub fn want_of_memory_changes_nothing()
 {}
 
 /// A step of an honest guest is determined by its state, the call and what its claims were given,
-/// but for the block of an allocation, the free pages of an inflate, and want of memory for bytes.
+/// but for the block of an allocation, the free pages of an inflate, and an allocation failure for
+/// bytes.
 pub fn honest_steps_agree()
     ensures agree { HonestStepsAgree }
 {}
@@ -199,8 +200,8 @@ pub fn a_run_is_there()
 {}
 
 /// A step of the host is determined by the world and the event, but for the number of a new guest
-/// where none was given up, for want of memory, and for what a guest's own step leaves open; a call
-/// of a guest leaves the number of frames, the spare devices and the number given up.
+/// where none was given up, for allocation failures, and for what a guest's own step leaves open; a
+/// call of a guest leaves the number of frames, the spare devices and the number given up.
 pub fn host_steps_agree()
     ensures agree { HostStepsAgree }
     ensures calls { CallsLeaveTheHost }
@@ -212,8 +213,8 @@ pub fn no_events_change_nothing()
 {}
 
 /// An honest guest that has agreed to tell the host takes just the steps that there are where no
-/// guest hasn't: pages that it asks back are taking until the request comes back, `actual` is the
-/// number of lent and taking pages, and no refusal speaks of a deflate that is pending.
+/// guest hasn't: pages that it requests back are taking until the request comes back, `actual` is
+/// the number of lent and taking pages, and no refusal speaks of a deflate that is pending.
 pub fn guests_that_tell_are_as_ever()
     ensures agree { ToldStepsAgree }
 {}
@@ -229,8 +230,8 @@ pub fn small_guests_are_as_ever()
 
 /// Every history of a guest is safe, whatever its claims were given: its entries lead from state to
 /// state, and in these a used page keeps its frame, a read gives what was last written, a page that
-/// was offered is handed out again only after it was asked back, driver and device agree, and no
-/// ring is broken.
+/// was offered is handed out again only after it was requested back, driver and device agree, and
+/// no ring is broken.
 pub fn every_history_is_safe()
     ensures safe { (config : Config) (target : ℕ) (entries : List Entry) (last : Guest)
         → IsHistory config target entries last → IsSafeHistory config target entries last }

@@ -8,9 +8,9 @@ use std::marker::Model;
 /// Where a page of a guest is (profile). Each page has one place.
 #[derive(Clone, Copy, Debug, PartialEq, Eq)]
 pub enum Place {
-    /// It holds rings or buffers.
+    /// The page holds rings or buffers.
     Reserved,
-    /// It can be handed out.
+    /// The page can be handed out.
     Free,
     /// An allocation holds it.
     Used,
@@ -20,7 +20,7 @@ pub enum Place {
     Lent,
     /// A deflate request that wasn't reaped yet names it.
     Taking,
-    /// It was offered to the host or lent when the device was reset.
+    /// The page was offered to the host or lent when the device was reset.
     Stranded,
     /// A report that wasn't reaped yet names it.
     Reporting,
@@ -74,7 +74,7 @@ impl PageRuns {
     {
         &self.items
     }
-    /// The same list once more. Refused for want of memory alone.
+    /// A copy of the list. Refused on an allocation failure alone.
     pub fn copy(&self, alloc: Global) -> Result<PageRuns, AllocError>
         ensures { IfOk result (λ copy. copy ≡ self.now) }
     {

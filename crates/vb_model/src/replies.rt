@@ -25,7 +25,7 @@ pub struct BalloonState {
 pub enum Reply {
     /// The new guest's number.
     Plugged { guest: usize },
-    /// It was done.
+    /// The event was done.
     Done,
     /// The driver is initialised.
     Ready,
@@ -72,12 +72,12 @@ pub enum Reply {
     Backing { frame: Option<u32> },
     /// How many frames are in use, and how many are not.
     Frames { used: u32, free: u32 },
-    /// It was refused.
+    /// The event was refused.
     Refused(Refusal),
 }
 
 impl Reply {
-    /// The same reply once more. Refused for want of memory alone.
+    /// A copy of the reply. Refused on an allocation failure alone.
     pub fn copy(&self, alloc: Global) -> Result<Reply, AllocError>
         ensures { IfOk result (λ copy. copy ≡ self.now) }
     {

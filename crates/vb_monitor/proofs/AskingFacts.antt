@@ -32,7 +32,7 @@ without_flags = inr (record {
 nothing : GivesHeldAlone two 3 ready []
 nothing = inl refl
 
--- the other queues stand elsewhere; the flags are a region's last two bytes
+-- the other queues are elsewhere; the flags are a region's last two bytes
 abbrev at_the_end : Device
 at_the_end = record far { statistics = placed 0 0x14ffe 0x200 8 }
 
@@ -50,7 +50,7 @@ given_back_alone = inr (record {
 
 -- ---- what isn't done
 
--- flags that are read without a fence, elsewhere, or with something behind them
+-- flags that are read without a fence, elsewhere, or with something after them
 unfenced : AsksForFlags two ready (flags ∷ []) → ⊥
 unfenced h = let e = h.asks in absurd cc
 
@@ -74,7 +74,8 @@ index_for_the_flags h =
 flags_twice : AsksForFlags two ready (Full ∷ flags ∷ flags ∷ []) → ⊥
 flags_twice h = let e = h.asks in absurd cc
 
--- the buffer is read, the queue looked at, the length left out, the index first or without its fence
+-- the buffer is read, the queue looked at, the length left out, the index first or without its
+-- fence
 buffer_read : GivesHeldAlone two 3 ready (descriptor ∷ []) → ⊥
 buffer_read (inl e) = absurd cc
 buffer_read (inr h) = let e = h.asks in absurd cc
@@ -112,7 +113,7 @@ another_index : GivesHeldAlone two 3 ready (id ∷ used_length ∷ Release ∷ W
 another_index (inl e) = absurd cc
 another_index (inr h) = let e : Same 2 1 = ap index_in h.asks in omega arith
 
--- something else behind it
+-- something else after it
 abbrev fifth : List Access → Option Access
 fifth (x ∷ y ∷ z ∷ u ∷ v ∷ xs) = Some v
 fifth xs = None

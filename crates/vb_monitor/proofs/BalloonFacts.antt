@@ -1,5 +1,5 @@
--- The buffer of statistics that a balloon holds, when its queues may be looked at, and what a write of
--- the status makes of it, worked out.
+-- The buffer of statistics that a balloon holds, when its queues may be looked at, and what a write
+-- of the status makes of it, worked out.
 use Rattle.std.proofs.Common.{◌≡◌, refl, ℕ, Bool, true, false, List, [], ◌∷◌, map, Option, Some, None}
 use Rattle.vb_core.specs.declared.kinds.Kind.{Kind}
 use Rattle.vb_core.specs.declared.kinds.Kind.TheVariants.{Inflate, Deflate, Statistics, Report}
@@ -36,7 +36,7 @@ none_held = refl
 one_held : looks 1 ≡ true ∷ true ∷ false ∷ true ∷ []
 one_held = refl
 
--- ---- what is held behind a notice
+-- ---- what is held after a notice
 
 abbrev came : Option ℕ → Bool → Outcome
 came taken given = record {
@@ -49,7 +49,8 @@ came taken given = record {
 abbrev held_behind : Outcome → List ℕ
 held_behind outcome = map (λ kind. held_after kind outcome (holding 4)) kinds
 
--- the one that was taken, even where another one was given back; none where one was; or the one before
+-- the one that was taken, even where another one was given back; none where one was; or the one
+-- before
 taken : held_behind (came (Some 6) false) ≡ 4 ∷ 4 ∷ 7 ∷ 4 ∷ []
 taken = refl
 
@@ -88,7 +89,8 @@ set_now = refl
 set_before : readies 15 ≡ false ∷ false ∷ false ∷ []
 set_before = refl
 
--- a write of 0 makes the balloon new but for its settings and target; any other one keeps what is held
+-- a write of 0 makes the balloon new but for its settings and target; any other one keeps what is
+-- held
 reset : after_status 0 (of_status 15) ≡ record { device = record (new_device settings) { target = 5 }; held = 0 }
 reset = refl
 

@@ -1,5 +1,5 @@
--- Parts of a ring that lie in a hole of memory, worked out: what is there isn't read or written, and
--- the guest broke a rule.
+-- Parts of a ring that lie in a hole of memory, worked out: what is there isn't read or written,
+-- and the guest broke a rule.
 use Rattle.std.proofs.Common.{◌≡◌, refl, ℕ, ap, arith, true, false, List, [], ◌∷◌, None, Some, Bool}
 use Rattle.std.specs.Prelude.{replicate}
 use Rattle.vb_chain.specs.declared.fault.ChainFault.{ChainFault}
@@ -31,7 +31,7 @@ broken d fault = over Inflate (needing_reset d) (ends tally (Some (Broken fault)
 
 -- ---- the flags: the one part whose hole breaks no rule, since no interrupt is wanted then
 
--- the last two bytes before the hole, and those behind them
+-- the last two bytes before the hole, and those after them
 abbrev given : Tally
 given = with_given tally
 
@@ -60,7 +60,7 @@ says_why h = let e = ap (λ (o : Outcome). o.why) h.outcome in absurd cc
 says_more : FlagsAt (over Inflate ready (ends given None false false)) ready given None true None [] → ⊥
 says_more h = let e = ap (λ (o : Outcome). o.more) h.outcome in absurd cc
 
--- ---- the index: it stands last before the hole
+-- ---- the index: it is last before the hole
 
 looks : (d : Device) (o : Outcome) → LooksBy None (over Inflate d o) (λ d t log. log ≡ [])
     (with (record ring { avail = 0x14ffc })) tally (ReadWord (at 0x14ffe) 1 ∷ [])
@@ -68,7 +68,7 @@ looks d o = record { index = 1; rest = []; asks = refl; goes_on = refl }
 
 -- ---- the entry
 
--- an entry that stands last before the hole, and one behind it
+-- an entry that is last before the hole, and one after it
 abbrev eighth : Virtqueue
 eighth = record ring { avail = 0x14fec; next_avail = 7 }
 
@@ -146,7 +146,7 @@ descriptor_all_the_same : (w : Whole) (rest : List Access) →
     RowAt w ready tally On (λ pieces log. ⊥) 3 0 false [] None (descriptor ∷ rest) → ⊥
 descriptor_all_the_same w rest h = let e = h.nothing in absurd cc
 
--- the table's first descriptor stands last before the hole: it is a row, and with another one it isn't
+-- the table's first descriptor is last before the hole: it is a row, and with another one it isn't
 abbrev before_the_hole : Device
 before_the_hole = with (record ring { table = 0x14ff0 })
 

@@ -1,5 +1,5 @@
--- What comes in its turn of a kind's own queue, worked out: all others stand elsewhere, have fewer
--- descriptors, and have gone on farther. Of a list the last access stands first.
+-- What comes in its turn of a kind's own queue, worked out: all others are elsewhere, have fewer
+-- descriptors, and have gone on farther. Of a list the last access is first.
 use Rattle.std.proofs.Common.{◌≡◌, refl, true, false, List, [], ◌∷◌}
 use Rattle.vb_request.specs.{Request.numbers_of}
 use Rattle.vb_chain.specs.declared.pieces.Piece.{Piece}
@@ -20,7 +20,7 @@ taken = entry ∷ Acquire ∷ index ∷ []
 abbrev read : List Access
 read = part ∷ descriptor ∷ taken
 
--- ---- pages that are asked back
+-- ---- pages that are requested back
 
 abbrev asked : Device
 asked = only Deflate
@@ -47,7 +47,7 @@ id_of_it = (refl, refl)
 used_index_of_it : WritesUsedAlone two Deflate asked (used_length ∷ id ∷ read) used_index
 used_index_of_it = (refl, refl)
 
--- behind a chain that was given back the next element, and the index behind it
+-- after a chain that was given back the next element, and the index after it
 abbrev second : List Access
 second = part ∷ descriptor ∷ entry ∷ Acquire ∷ used_index ∷ []
 

@@ -32,7 +32,7 @@ made_of : is_made_of 0x4000 region ∷ is_made_of 0x10000 region ∷ is_made_of 
     ≡ true ∷ true ∷ true ∷ []
 made_of = refl
 
--- it isn't one page of 128 KiB; nor is one of whole pages that begins, ends or stands elsewhere
+-- it isn't one page of 128 KiB; nor is one of whole pages that begins, ends or is elsewhere
 not_made_of : is_made_of 0x20000 region ∷ is_made_of 0x4000 (record region { guest = 0x12000 })
     ∷ is_made_of 0x4000 (record region { length = 0xf000 }) ∷ is_made_of 0x4000
     (record region { in_file = 0x21000 }) ∷ [] ≡ false ∷ false ∷ false ∷ false ∷ []
@@ -54,7 +54,7 @@ no_parts = refl
 of_large : map (is_of_large 4 5) (20 ∷ 23 ∷ 19 ∷ 24 ∷ []) ≡ true ∷ true ∷ false ∷ false ∷ []
 of_large = refl
 
--- 20 KiB into the region stands page 21
+-- 20 KiB into the region is page 21
 of_part : map (is_of region (part 0x5000 0x2000)) (20 ∷ 21 ∷ 22 ∷ 23 ∷ [])
     ≡ false ∷ true ∷ true ∷ false ∷ []
 of_part = refl

@@ -29,7 +29,7 @@ none_whole size r part = record {
 
 -- ---- of a row
 
--- its first page, and the one behind its last
+-- its first page, and the one after its last
 row_first : (size : ℕ) (r : Region) (part : Cut) (set : List ℕ) (answer : Large) → Fits size r part
     → (g : GoesBack size r part set answer) → first_of r answer.cut ≡ small_pages size * g.low
 row_first size r part set answer f g =

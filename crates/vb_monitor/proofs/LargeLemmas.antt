@@ -19,7 +19,7 @@ between_says a b p e =
     let both = and_parts (nat_le a p) (nat_lt p b) e in
     (leb-true a p both.0, ltb-true p b both.1)
 
--- a page before a part, or behind it, is given by the set alone
+-- a page before a part, or after it, is given by the set alone
 before_part : (first end p : ℕ) (b : Bool) → p < first → (is_between first end p || b) ≡ true →
     b ≡ true
 before_part first end p b l given = elim (or_cases (is_between first end p) b given) [

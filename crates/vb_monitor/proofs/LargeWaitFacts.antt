@@ -190,8 +190,8 @@ stands_within_one h = let e : Same 0x2000 0 = h.in_file in omega arith
 past_its_end : AreWholePages 0x4000 region (cut 0xc000 0x8000) → ⊥
 past_its_end h = absurd (omega (arith, h.inside))
 
--- ---- the ends of a row: it begins at the first large page where that goes, and behind it where it
--- doesn't; it ends behind the last one where that goes, and before it where it doesn't
+-- ---- the ends of a row: it begins at the first large page where that goes, and after it where it
+-- doesn't; it ends after the last one where that goes, and before it where it doesn't
 
 begins_here : Begins (Unit {0}) 5 5
 begins_here = Here refl tt

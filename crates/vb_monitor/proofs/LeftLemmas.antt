@@ -23,7 +23,7 @@ parts_within l from run f a b c d =
     let more = times_more (MAX_RUNS - (run + 1)) (MAX_RUNS - from) l (omega (arith, a, b)) in
     omega (arith, more, c, d)
 
--- those of the runs behind one are left with its own
+-- those of the runs after one are left with its own
 pub parts_behind : (l run f : ℕ) → (MAX_RUNS - (run + 1)) * l ≤ parts_left l run f
 unfolding parts_left
 parts_behind l run f = omega arith
@@ -46,7 +46,7 @@ pub one_taken : (rs : List Region) (n : ℕ) → 0 < n →
 unfolding of_chains
 one_taken rs n lt = one_less n (of_chain rs) lt
 
--- the first part of the runs behind one
+-- the first part of the runs after one
 pub fewer_behind : (o : Option NextCut) (l n run from : ℕ) →
     IfSome o (λ x. (run + 1 ≤ x.run) × (x.run < n) × (1 ≤ x.from) × (x.from ≤ l)) →
     n ≤ MAX_RUNS → IfSome o (λ x. parts_left l x.run x.from < parts_left l run from)

@@ -1,4 +1,5 @@
--- How a queue is looked at, and a whole notice, worked out: which accesses it makes, and which it doesn't.
+-- How a queue is looked at, and a whole notice, worked out: which accesses it makes, and which it
+-- doesn't.
 use Rattle.std.proofs.Common.{◌≡◌, refl, ap, arith, ℕ, Bool, true, false, List, [], ◌∷◌, Option}
 use Rattle.std.proofs.Common.{Some, None, Ok, Err}
 use Rattle.vb_chain.specs.declared.fault.ChainFault.TheVariants.{IndexJump, BadHead, OutOfRam}
@@ -43,7 +44,7 @@ around_the_ring = refl
 of_no_ring : entry_offset (record ring { size = 0; next_avail = 5 }) ≡ 4
 of_no_ring = refl
 
--- ---- what comes behind the index
+-- ---- what comes after the index
 
 abbrev whole : Device → Outcome → Whole
 whole d outcome = record { regions = two; kind = Inflate; device = d; outcome = outcome }
@@ -67,7 +68,7 @@ taken_although_jumped d o h = let e = h.nothing in absurd cc
 
 -- ---- the look itself
 
--- no chain stands there
+-- no chain is available
 looked : LooksBy None (whole ready (end None false)) (ServesPublished 8 (whole ready (end None false))) ready tally
     (ReadWord (at 0x102) 0 ∷ [])
 looked = record { index = 0; rest = []; asks = refl; goes_on = record { nothing = refl; device = refl; outcome = refl } }
@@ -172,7 +173,7 @@ another_entry : (d : Device) (o : Outcome) →
     TakesUnlessSpent false (whole d o) (λ d t log. Unit {0}) ready tally (Acquire ∷ ReadWord (at 0x106) 8 ∷ []) → ⊥
 another_entry d o h = let e : Same 0x106 0x104 = ap entry_at h.asks in omega arith
 
--- a budget that is spent ends the notice, and says that more stands there
+-- a budget that is spent ends the notice, and says that more is available
 no_chain_left : TakesNext 0 (whole ready (end None true)) ready tally []
 no_chain_left = record { nothing = refl; device = refl; outcome = refl }
 

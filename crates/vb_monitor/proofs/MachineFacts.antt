@@ -66,8 +66,8 @@ as_it_ended : outcome_at (Ended (Some NotReady) false true) (record tally { page
     Some (record { tally = record tally { pages = 2 }; why = Some NotReady; interrupt = false; more = true })
 as_it_ended = refl
 
--- what is left of a chain, over two regions: 515 once its pages are named, 1028 once it is whole, and
--- 1286 before its entry is read
+-- what is left of a chain, over two regions: 515 once its pages are named, 1028 once it is whole,
+-- and 1286 before its entry is read
 left_of_each : map (left_of two) phases ≡
     2 ∷ 1286 ∷ 1285 ∷ 1028 ∷ 515 ∷ 2 ∷ 514 ∷ 2 ∷ 1 ∷ 0 ∷ []
 unfolding parts_left
@@ -79,7 +79,7 @@ one_piece_later = refl
 one_descriptor_later : left_of two (AwaitsDescriptor (at 0x30) (record walk { count = 1 })) ≡ 1284
 one_descriptor_later = refl
 
--- of the last of 256 runs no part is left behind both regions, and of the one before it two
+-- of the last of 256 runs no part is left after both regions, and of the one before it two
 of_the_last_run : parts_left 2 255 2 ≡ 0
 unfolding parts_left
 of_the_last_run = refl
@@ -102,7 +102,7 @@ to_the_end = omega arith
 past_the_end : Fits (AwaitsPart (at 0x400) (record place { into = 1021 })) → ⊥
 past_the_end h = let e : 1025 ≤ 1024 = h in omega (arith, e)
 
--- a row has as much, though it stands in front; of runs there are 256 at most, and of figures 102
+-- a row has as much, though it is in front; of runs there are 256 at most, and of figures 102
 rows_fit : Fits (AwaitsDescriptor (at 0x30) (record walk { behind = 63 }))
 rows_fit = omega arith
 
@@ -166,7 +166,7 @@ behind_the_second_run = refl
 behind_all_runs : cuts_behind 0 2 two runs ≡ []
 behind_all_runs = refl
 
--- the next part that is left stands before these, whichever it is
+-- the next part that is left comes before these, whichever it is
 abbrev next_cut : ℕ → ℕ → NextCut
 next_cut run from = record { cut = cut_20; run = run; from = from }
 
@@ -210,7 +210,7 @@ gives_it_back = refl
 does_nothing : Does (Ended None true false) Inflate 0 [] (room []) []
 does_nothing = refl
 
--- bytes are copied to their place, and what stands in front of it stays
+-- bytes are copied to their place, and what is in front of it stays
 copies : Does (AwaitsPart (at 0x400) (record place { into = 2 })) Inflate 0 (8 ∷ 9 ∷ 7 ∷ 7 ∷ 7 ∷ 7 ∷ 6 ∷ [])
     (room (8 ∷ 9 ∷ 5 ∷ 0 ∷ 0 ∷ 0 ∷ 6 ∷ [])) (CopyBytes (at 0x400) number ∷ [])
 copies = record { bytes = number; asks = refl; long = refl; behind = refl }
@@ -271,7 +271,7 @@ both_told h = let e : Same 2 1 = ap told h in omega arith
 something_once_ended : Does (Ended None true false) Inflate 0 [] (room []) (discard ∷ []) → ⊥
 something_once_ended h = absurd cc
 
--- bytes that are too few, that don't stand in the room, or that stand on others
+-- bytes that are too few, that aren't in the room, or that are on others
 abbrev copied : List Access → List ℕ
 copied (CopyBytes at bytes ∷ xs) = bytes
 copied xs = []

@@ -121,7 +121,7 @@ no_acquire : (w : Whole) (next : Then) (d : Device) (t : Tally) (head : ℕ) (re
     AsksEntry w next d t (at 260) (ReadWord (at 260) head ∷ rest) → ⊥
 no_acquire w next d t head rest h = let e = h.asks in absurd cc
 
--- flags that are read without a full fence, or behind a weaker one
+-- flags that are read without a full fence, or after a weaker one
 no_fence : (w : Whole) (d : Device) (t : Tally) (why : Option Denial) (flags : ℕ)
     (rest : List Access) → AsksFlags w d t why false (at 256) (ReadWord (at 256) flags ∷ rest) → ⊥
 no_fence w d t why flags rest h = let e = h.asks in absurd cc

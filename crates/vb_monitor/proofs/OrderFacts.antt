@@ -66,7 +66,7 @@ nothing_at_all : at_once (record { told = Nothing; gives = false }) Inflate
     (record orders { cuts = 0 }) cuts runs figures read ≡ read
 nothing_at_all = refl
 
--- no discard is left out, and none comes behind the element
+-- no discard is left out, and none comes after the element
 not_one_less : at_once (record { told = Nothing; gives = false }) Inflate orders cuts runs figures [] ≡
     Discard (cut 4096) ∷ [] → ⊥
 not_one_less e = grind arith

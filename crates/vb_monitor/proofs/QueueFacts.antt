@@ -1,4 +1,4 @@
--- Each kind's notice is of its own queue, worked out: all others stand elsewhere, have fewer
+-- Each kind's notice is of its own queue, worked out: all others are elsewhere, have fewer
 -- descriptors, and have gone on farther.
 use Rattle.std.proofs.Common.{◌≡◌, refl, ℕ, false, true, List, [], ◌∷◌, ◌++◌, Some, None}
 use Rattle.vb_chain.specs.declared.fault.ChainFault.TheVariants.{BadNext}
@@ -50,8 +50,8 @@ eight_published Deflate = record { nothing = refl; device = refl; outcome = refl
 eight_published Statistics = record { nothing = refl; device = refl; outcome = refl }
 eight_published Report = record { nothing = refl; device = refl; outcome = refl }
 
--- ---- a chain: head 7, behind it a row of the table's last three descriptors, and then the fifth one, which
--- goes on with none that is there
+-- ---- a chain: head 7, after it a row of the table's last three descriptors, and then the fifth
+-- one, which goes on with none that is there
 
 abbrev three : List ℕ
 three = naming 6 ++ naming 7 ++ naming 4

@@ -50,7 +50,7 @@ up_to_the_limit = refl
 one_page_further : is_region (record low { guest = 0xffffffec000 }) ≡ false
 one_page_further = refl
 
--- an empty one may stand at the limit, and not past it
+-- an empty one may be at the limit, and not past it
 empty_at_the_limit : is_region (record low { guest = 0x100000000000; length = 0 }) ≡ true
 empty_at_the_limit = refl
 

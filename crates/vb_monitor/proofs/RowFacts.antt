@@ -1,10 +1,10 @@
--- What may come directly behind what, worked out: of each access what it may follow, and what not.
+-- What may come directly after what, worked out: of each access what it may follow, and what not.
 use Rattle.std.proofs.Common.{◌≡◌, refl, true, false, List, [], ◌∷◌, map, Option, Some, None}
 use Rattle.vb_monitor.specs.Accesses.{Access, Acquire, Release, Full}
 use Rattle.vb_monitor.specs.Order.{Row, MayFollow, is_copied, is_word, is_read, is_told, is_named, is_number}
 use Rattle.vb_monitor.proofs.Samples.{index, entry, descriptor, part, pages, figures, discard, id, used_length, used_index, flags}
 
--- ---- what stands before
+-- ---- what comes before
 
 -- nothing, a word, bytes, an acquire, a release and a full fence, pages, figures, a discard, a
 -- number, a written word
@@ -40,7 +40,7 @@ inflated = index ∷ Acquire ∷ entry ∷ descriptor
 in_order : Row MayFollow None inflated
 in_order = (tt, (refl, (tt, (refl, (refl, (refl, (refl, (refl, (refl, (refl, (refl, (tt, (tt, tt)))))))))))))
 
--- behind a chain that was given back comes the next one's entry
+-- after a chain that was given back comes the next one's entry
 next_in_order : Row MayFollow (Some Release) (used_index ∷ Acquire ∷ entry ∷ descriptor ∷ [])
 next_in_order = (refl, (refl, (tt, (refl, tt))))
 
@@ -48,13 +48,13 @@ next_in_order = (refl, (refl, (tt, (refl, tt))))
 statistics_in_order : Row MayFollow None (index ∷ Acquire ∷ entry ∷ descriptor ∷ part ∷ figures ∷ [])
 statistics_in_order = (tt, (refl, (tt, (refl, (refl, (refl, tt))))))
 
--- what is behind the first one counts
+-- what is after the first one counts
 not_the_second : Row MayFollow (Some part) (pages ∷ Release ∷ []) → ⊥
 not_the_second row = let e : false ≡ true = row.1.0 in absurd cc
 
 -- ---- what isn't in order
 
--- an acquire fence that comes first, behind another one, behind bytes, or behind a number
+-- an acquire fence that comes first, after another one, after bytes, or after a number
 fence_first : MayFollow None Acquire → ⊥
 fence_first h = let e : false ≡ true = h in absurd cc
 
@@ -67,7 +67,7 @@ fence_behind_bytes h = let e : false ≡ true = h in absurd cc
 fence_before_the_index : MayFollow (Some used_length) Acquire → ⊥
 fence_before_the_index h = let e : false ≡ true = h in absurd cc
 
--- bytes behind a fence, behind what was told, and behind an index
+-- bytes after a fence, after what was told, and after an index
 bytes_behind_a_fence : MayFollow (Some Acquire) descriptor → ⊥
 bytes_behind_a_fence h = let e : false ≡ true = h in absurd cc
 
@@ -77,7 +77,7 @@ bytes_once_told h = let e : false ≡ true = h in absurd cc
 bytes_once_used : MayFollow (Some used_index) part → ⊥
 bytes_once_used h = let e : false ≡ true = h in absurd cc
 
--- pages behind an entry, behind others, and behind their discarding
+-- pages after an entry, after others, and after their discarding
 told_unread : MayFollow (Some entry) pages → ⊥
 told_unread h = let e : false ≡ true = h in absurd cc
 
@@ -87,11 +87,11 @@ told_twice h = let e : false ≡ true = h in absurd cc
 told_once_discarded : MayFollow (Some discard) pages → ⊥
 told_once_discarded h = let e : false ≡ true = h in absurd cc
 
--- figures behind an entry
+-- figures after an entry
 figures_unread : MayFollow (Some entry) figures → ⊥
 figures_unread h = let e : false ≡ true = h in absurd cc
 
--- a discard behind bytes, behind an element, and behind its index
+-- a discard after bytes, after an element, and after its index
 discarded_untold : MayFollow (Some part) discard → ⊥
 discarded_untold h = let e : false ≡ true = h in absurd cc
 
@@ -101,21 +101,21 @@ discarded_once_written h = let e : false ≡ true = h in absurd cc
 discarded_once_used : MayFollow (Some used_index) discard → ⊥
 discarded_once_used h = let e : false ≡ true = h in absurd cc
 
--- an element behind bytes, and behind a fence
+-- an element after bytes, and after a fence
 given_back_untold : MayFollow (Some part) id → ⊥
 given_back_untold h = let e : false ≡ true = h in absurd cc
 
 number_behind_a_fence : MayFollow (Some Release) used_length → ⊥
 number_behind_a_fence h = let e : false ≡ true = h in absurd cc
 
--- a release fence before its element, and behind the index
+-- a release fence before its element, and after the index
 fence_too_early : MayFollow (Some discard) Release → ⊥
 fence_too_early h = let e : false ≡ true = h in absurd cc
 
 fence_too_late : MayFollow (Some used_index) Release → ⊥
 fence_too_late h = let e : false ≡ true = h in absurd cc
 
--- an index behind its element with no fence, behind another fence, and one that comes first
+-- an index after its element with no fence, after another fence, and one that comes first
 index_unfenced : MayFollow (Some used_length) used_index → ⊥
 index_unfenced h = absurd cc
 

@@ -112,7 +112,7 @@ naming next = 0 ∷ 4 ∷ 0 ∷ 0 ∷ 0 ∷ 0 ∷ 0 ∷ 0 ∷ 4 ∷ 0 ∷ 0 ∷ 
 abbrev pub first_descriptor : List ℕ
 first_descriptor = naming 5
 
--- two descriptors of zeros stand behind this one
+-- two descriptors of zeros come after this one
 abbrev pub zeros : List ℕ
 zeros = replicate 16 0
 
@@ -157,7 +157,7 @@ used_index = WriteWord (at 0x202) 1
 abbrev pub flags : Access
 flags = ReadWord (at 0x100) 0
 
--- a chain is given back, and no other one stands there
+-- a chain is given back, and no other one is there
 abbrev pub given : List Access
 given = id ∷ used_length ∷ Release ∷ used_index ∷ Full ∷ flags ∷ []
 

@@ -102,7 +102,7 @@ of_a_report = refl
 not_the_last : after Inflate walk (record alone { flags = 1 }) ≡ None
 not_the_last = refl
 
--- a table of descriptors, to read behind what is to be written, and past memory: rules are broken
+-- a table of descriptors, to read after what is to be written, and past memory: rules are broken
 of_tables : after Inflate walk (record alone { flags = 4 }) ≡ None
 of_tables = refl
 

@@ -1,4 +1,4 @@
--- What accesses say so far, worked out. Of a list the last access stands first.
+-- What accesses say so far, worked out. Of a list the last access is first.
 use Rattle.std.proofs.Common.{◌≡◌, refl, ℕ, Bool, true, false, List, [], ◌∷◌, map, Option, Some, None}
 use Rattle.vb_chain.specs.declared.pieces.Piece.{Piece}
 use Rattle.vb_core.specs.declared.kinds.Kind.TheVariants.{Inflate, Deflate, Statistics, Report}
@@ -13,7 +13,7 @@ use Rattle.vb_monitor.proofs.Samples.{two, ring, page_5, one_page, over_the_hole
 abbrev of_piece : Part
 of_piece = record { address = 0x400; plus = 0; length = 4 }
 
--- at first nothing, nor behind the index, nor behind the fence
+-- at first nothing, nor after the index, nor after the fence
 none : known Inflate [] ≡ Unknown
 none = refl
 
@@ -30,14 +30,14 @@ taken = entry ∷ Acquire ∷ index ∷ []
 of_the_entry : known Inflate taken ≡ Walks 3 3 []
 of_the_entry = refl
 
--- one that isn't behind an acquire fence names none
+-- one that isn't after an acquire fence names none
 unfenced : known Inflate (entry ∷ index ∷ []) ≡ Unknown
 unfenced = refl
 
 behind_another_fence : known Inflate (entry ∷ Full ∷ index ∷ []) ≡ Unknown
 behind_another_fence = refl
 
--- its pieces stand in their order
+-- its pieces are in their order
 abbrev other : Piece
 other = record piece { addr = 0x800 }
 
@@ -67,7 +67,7 @@ of_statistics = refl
 of_a_deflate : parts_read Deflate (piece ∷ []) ≡ of_piece ∷ []
 of_a_deflate = refl
 
--- a part is read once, and its bytes stand behind those before
+-- a part is read once, and its bytes come after those before
 of_the_part : known Inflate (part ∷ descriptor ∷ taken) ≡ Has 3 (piece ∷ []) [] number
 of_the_part = refl
 
@@ -97,7 +97,7 @@ kept = refl
 once_used : known Inflate (used_index ∷ Release ∷ used_length ∷ id ∷ discard ∷ pages ∷ whole) ≡ Unknown
 once_used = refl
 
--- an acquire fence stands last, and no other access
+-- an acquire fence is last, and no other access
 fenced : is_fenced (Acquire ∷ index ∷ []) ≡ true
 fenced = refl
 
@@ -201,7 +201,7 @@ still_left = refl
 abbrev Stand : List Access → Access → Type 0
 Stand before x = Each (λ behind y. behind ≡ index ∷ before) (index ∷ before) (x ∷ [])
 
--- each access sees all those before it, of which the last one stands first
+-- each access sees all those before it, of which the last one is first
 sees_all : Stand (Acquire ∷ flags ∷ []) entry
 sees_all = (refl, tt)
 

@@ -7,7 +7,7 @@ use Rattle.vb_monitor.specs.{Regions.cuts_of, Sole.{LiesIn, lies_in, lying, has_
 use Rattle.vb_monitor.{specs.Sole.{sole_cut, sole_at, HasPages, IsSole}, proofs.{Samples.{Same, low}, SoleLemmas.sole_so}}
 use Rattle.vb_monitor.specs.declared.regions.TheConstants.{FILE_LIMIT}
 
--- pages 22 to 31, which stand from 0x100000 on in a file
+-- pages 22 to 31, which are from 0x100000 on in a file
 abbrev high : Region
 high = record { guest = 0x16000; length = 0xa000; in_file = 0x100000 }
 
@@ -47,7 +47,7 @@ not_from_before = refl
 not_of_no_page : lies_in 22 32 (record { first = 23; count = 0 }) ≡ false
 not_of_no_page = refl
 
--- one run behind the other: up to the first that doesn't lie there, and at most so many
+-- one run after the other: up to the first that doesn't lie there, and at most n
 abbrev before_it : Run
 before_it = record { first = 21; count = 1 }
 
@@ -81,7 +81,7 @@ shared h =
 begins_elsewhere : HasPages (record of_high { first = 21 }) → ⊥
 begins_elsewhere h = absurd (omega (arith, h.guest))
 
--- nor behind where memory or a file may end
+-- nor after where memory or a file may end
 abbrev to_the_limits : Sole
 to_the_limits = record of_high { in_file = FILE_LIMIT; end = 0x100000000 }
 
@@ -119,13 +119,14 @@ no_region h = absurd (omega (arith, h.is_one))
 begins_before_it : IsSole (record of_high { first = 21 }) (high ∷ []) → ⊥
 begins_before_it h = begins_elsewhere h.pages
 
--- the regions behind it have none of its pages
+-- the regions after it have none of its pages
 shared_with_one_behind : IsSole of_high (high ∷ low ∷ high ∷ []) → ⊥
 shared_with_one_behind h = let e = h.no_more last last_lies in absurd cc
 
 -- ---- which region has pages alone
 
--- the last two of them, and those on either side; a region of none, or that isn't possible, has none
+-- the last two of them, and those on either side; a region of none, or that isn't possible, has
+-- none
 has_its_last : has_page 31 33 high ≡ true
 has_its_last = refl
 
@@ -160,7 +161,7 @@ no_such_region = refl
 not_possible : sole_of (low ∷ record high { guest = 0x16800 } ∷ []) 1 ≡ None
 not_possible = refl
 
--- another one has its last page, before it in the list, or behind it
+-- another one has its last page, before it in the list, or after it
 shared_behind : sole_of (high ∷ record low { guest = 0x1f000 } ∷ []) 0 ≡ None
 shared_behind = refl
 

@@ -87,7 +87,7 @@ behind_the_first = refl
 over_by_the_last : behind_in_row halves (record ring { table = 0xf90 }) 1 (piece ∷ []) ≡ 0
 over_by_the_last = refl
 
--- no queue has more than 256: five stand behind number 250, to the end of the first region
+-- no queue has more than 256: five come after number 250, to the end of the first region
 no_more_than_256 : behind_in_row halves (record ring { size = 512 }) 250 (piece ∷ []) ≡ 5
 no_more_than_256 = refl
 
@@ -128,7 +128,7 @@ in_a_row = record {
   };
 }
 
--- none that is read stands behind one that the device may write, within a row and in the next one
+-- none that is read comes after one that the device may write, within a row and in the next one
 abbrev writes : ℕ → List ℕ
 writes next = 0 ∷ 4 ∷ 0 ∷ 0 ∷ 0 ∷ 0 ∷ 0 ∷ 0 ∷ 4 ∷ 0 ∷ 0 ∷ 0 ∷ 3 ∷ 0 ∷ next ∷ 0 ∷ []
 
@@ -211,7 +211,7 @@ loops = record {
   };
 }
 
--- one that the row hasn't is copied, with those behind it, though another row had it
+-- one that the row hasn't is copied, with those after it, though another row had it
 abbrev later : TableRow
 later = row_of 6 (naming 5 ++ zeros)
 

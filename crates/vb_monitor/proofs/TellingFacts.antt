@@ -1,4 +1,4 @@
--- What is told, discarded and written in its turn, worked out. Of a list the last access stands first.
+-- What is told, discarded and written in its turn, worked out. Of a list the last access is first.
 use Rattle.std.proofs.Common.{◌≡◌, ◌∙◌, ◌<◌, refl, ap, arith, ℕ, zero, suc, Bool, true, false, List, [], ◌∷◌, map, length, take, Option, Some, None, Result, Ok, Err, sym}
 use Rattle.std.specs.Prelude.{slice_index_or}
 use Rattle.vb_chain.specs.declared.{pieces.Piece.Piece, fault.ChainFault.ChainFault}
@@ -152,7 +152,7 @@ abbrev value_of : List Statistic → ℕ
 value_of [] = 0
 value_of (f ∷ fs) = f.value
 
--- no other list stands in these bytes
+-- no other list is in these bytes
 told_alone : (fs : List Statistic) → ((d : Statistic) → slice_index_or fs 0 d ≡ figure) → take 1 fs ≡ figure ∷ []
 told_alone [] are = let e : Same 8 9 = ap (λ (f : Statistic). f.value) (are (record figure { value = 8 })) in absurd (omega arith)
 told_alone (f ∷ fs) are = ap (λ (x : Statistic). x ∷ []) (are f)
@@ -233,7 +233,7 @@ none_to_discard = refl
 
 -- ---- what is written
 
--- the next element of eight bytes behind the ring's begin: the entry that was read, then 0
+-- the next element of eight bytes after the ring's begin: the entry that was read, then 0
 abbrev done : List Access
 done = discard ∷ pages ∷ read
 
@@ -284,7 +284,7 @@ index_of_nothing h = absurd h
 index_twice : WritesUsedAlone two Inflate ready (used_index ∷ Release ∷ used_length ∷ id ∷ done) used_index → ⊥
 index_twice h = absurd h
 
--- a number stands last, and no other access
+-- a number is last, and no other access
 abbrev numbers_last : Access → Bool
 numbers_last x = ends_in_number (x ∷ id ∷ [])
 

@@ -8,7 +8,7 @@ use Rattle.vb_monitor.specs.Regions.{is_region, holds, spot_from, spot, meets, c
 use Rattle.vb_monitor.specs.{Regions.cuts_of, Giving.cuts_for, Touched.IsWithin}
 use Rattle.vb_monitor.specs.declared.{cuts.Cut.Cut, regions.Region.Region, regions.Spot.Spot}
 
--- the bytes lie in the region that is so many behind the first one
+-- the bytes lie in the region that is n after the first one
 pub record IsIn (rs : List Region) (k offset len : ℕ) : Type 0 where
   pub region : Region
   pub there : slice_get rs k ≡ Some region

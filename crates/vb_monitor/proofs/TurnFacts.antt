@@ -1,4 +1,4 @@
--- Which reads come in their turn, worked out. Of a list the last access stands first.
+-- Which reads come in their turn, worked out. Of a list the last access is first.
 use Rattle.std.proofs.Common.{◌≡◌, refl, ap, arith, ℕ, Bool, true, false, List, [], ◌∷◌, ◌++◌, map, Option, Some, None, Result, Ok, Err}
 use Rattle.vb_chain.specs.declared.fault.ChainFault.{ChainFault}
 use Rattle.vb_core.specs.declared.kinds.Kind.TheVariants.{Inflate, Report}
@@ -26,14 +26,14 @@ index_first = refl
 index_again : ReadsWord two ring (used_index ∷ []) (at 0x102) → ⊥
 index_again h = absurd h
 
--- behind an acquire fence the entry that is taken next, behind the index or a chain
+-- after an acquire fence the entry that is taken next, after the index or a chain
 entry_behind_a_chain : ReadsWord two (record ring { next_avail = 9 }) (Acquire ∷ used_index ∷ []) (at 0x106)
 entry_behind_a_chain = refl
 
 entry_next : ReadsWord two (record ring { next_avail = 9 }) (Acquire ∷ index ∷ []) (at 0x106)
 entry_next = refl
 
--- behind a full fence the flags
+-- after a full fence the flags
 flags_last : ReadsWord two ring (Full ∷ index ∷ []) (at 0x100)
 flags_last = refl
 
@@ -53,7 +53,7 @@ index_for_the_flags h = let e : Same 0x100 0x102 = ap offset_in h in omega arith
 flags_once_used : ReadsWord two ring (used_index ∷ []) (at 0x100) → ⊥
 flags_once_used h = absurd h
 
--- none behind another word, bytes, another fence, what was told or discarded, and a number
+-- none after another word, bytes, another fence, what was told or discarded, and a number
 index_twice : ReadsWord two ring (index ∷ []) (at 0x102) → ⊥
 index_twice h = absurd h
 
@@ -80,7 +80,7 @@ word_behind_a_number h = absurd h
 over : is_over (flags ∷ Full ∷ index ∷ []) ≡ true
 over = refl
 
--- no other access, nor a word behind another fence, nor the fence alone
+-- no other access, nor a word after another fence, nor the fence alone
 abbrev is_over_by : Access → Bool
 is_over_by x = is_over (x ∷ Full ∷ [])
 
@@ -123,7 +123,7 @@ walked = CopyBytes (at 0x30) first_descriptor ∷ taken
 of_the_next : ReadsInTurn two Inflate ready walked (CopyBytes (at 0x50) (with_two last_descriptor))
 of_the_next = record { place = refl; long = refl }
 
--- those behind it in the table are copied with it, and none behind the table's end
+-- those after it in the table are copied with it, and none after the table's end
 next_alone : ReadsInTurn two Inflate ready walked (CopyBytes (at 0x50) last_descriptor) → ⊥
 next_alone h = let e : Same 16 48 = h.long in omega arith
 
@@ -144,7 +144,7 @@ of_the_pieces = record { place = refl; long = refl }
 of_the_row_again : ReadsInTurn two Inflate ready in_a_row (CopyBytes (at 0x60) (last_descriptor ++ zeros)) → ⊥
 of_the_row_again h = let e : Same 0x400 0x60 = ap offset_in h.place in omega arith
 
--- one that it hasn't is, with those behind it
+-- one that it hasn't is, with those after it
 abbrev left_the_row : List Access
 left_the_row = CopyBytes (at 0x50) (naming 6 ++ naming 2 ++ zeros) ∷ walked
 
@@ -205,7 +205,7 @@ none_published h = let e : false ≡ true = ap is_there h.2 in absurd cc
 more_than_the_queue : Fenced ready 9 → ⊥
 more_than_the_queue h = let e : false ≡ true = ap is_there h.2 in absurd cc
 
--- indices begin anew behind 65535
+-- indices begin anew after 65535
 abbrev far : Device
 far = record ready { inflate = record ring { next_avail = 65535 } }
 
@@ -215,7 +215,7 @@ published_anew = (refl, refl, refl)
 not_anew : Fenced far 65535 → ⊥
 not_anew h = let e : false ≡ true = ap is_there h.2 in absurd cc
 
--- none while a chain is served, nor behind the flags
+-- none while a chain is served, nor after the flags
 second_entry : ReadsInTurn two Inflate ready chained Acquire → ⊥
 second_entry h = let e = h.0 in absurd cc
 

@@ -1,4 +1,5 @@
--- What each access of a notice is, by those before it, and how many there are: the walk along a chain.
+-- What each access of a notice is, by those before it, and how many there are: the walk along a
+-- chain.
 use Rattle.std.proofs.Common.{◌≡◌, ◌∙◌, ap, sym, subst, refl, arith, ℕ, zero, suc, ◌+◌, ◌-◌, ◌*◌}
 use Rattle.std.proofs.Common.{◌≤◌, Bool, true, false, List, [], ◌∷◌, ◌++◌, length, take, Option, Some, None}
 use Rattle.vb_virtio.specs.declared.limits.TheConstants.{MAX_QUEUE_SIZE}
@@ -32,7 +33,7 @@ walked_out zero kind head row number pieces e = refl
 walked_out (suc n) kind head row number pieces e =
     ap (λ (o : Option (List ℕ)). walked_by o (walked_in n kind head row) kind head number pieces) e
 
--- behind one that the row has
+-- after one that the row has
 abbrev Known_behind : ℕ → Kind → ℕ → TableRow → List Piece → Descriptor → Known
 Known_behind n kind head row pieces x = with_descriptor (has_next x) (walked_in n kind head row)
     kind head (pieces ++ piece_of x ∷ []) x.next
@@ -44,7 +45,7 @@ walked_on : (n : ℕ) (kind : Kind) (head : ℕ) (row : TableRow) (number : ℕ)
 walked_on n kind head row number pieces bytes e =
     ap (λ (o : Option (List ℕ)). walked_by o (walked_in n kind head row) kind head number pieces) e
 
--- behind a descriptor of a row: what is known of the row is as the walk has it
+-- after a descriptor of a row: what is known of the row is as the walk has it
 pub record Walking (w : Whole) (d0 d : Device) (n : ℕ) (known_so : Known) (b : List Access) :
     Type 0 where
   pub agrees : Agrees w d0 n b d
@@ -52,7 +53,7 @@ pub record Walking (w : Whole) (d0 d : Device) (n : ℕ) (known_so : Known) (b :
   pub copied : is_copied (newest b) ≡ true
   pub read : is_read (newest b) ≡ true
 
--- so many at most behind so many pieces, where so many descriptors more fit the table
+-- at most n after n pieces, where m descriptors more fit the table
 abbrev pub walk_room : ℕ → ℕ → ℕ → ℕ
 walk_room n k m = n + (2 * (n + k) + (5 + m))
 
@@ -142,7 +143,7 @@ row_at w d0 d t m n head number on done more last writing pieces (Some at) b log
       read = refl;
     }) h.goes_on))
 
--- behind what was read, which bytes are where the row that was copied last has the descriptor
+-- after what was read, which bytes are where the row that was copied last has the descriptor
 abbrev pub Behind : Option (List ℕ) → List Access → Type 0
 Behind None b = is_read (newest b) ≡ true
 Behind (Some bytes) b = (is_copied (newest b) ≡ true) × (is_read (newest b) ≡ true)

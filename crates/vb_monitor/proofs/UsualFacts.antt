@@ -1,4 +1,4 @@
--- Worked facts of how a notice mostly goes on.
+-- Worked facts of how a notice usually goes on.
 use Rattle.std.proofs.Common.{◌≡◌, refl, ℕ, false, true, Option, Some, None}
 use Rattle.vb_monitor.specs.declared.outcome.Tally.{Tally}
 use Rattle.vb_monitor.specs.declared.usual.NextWord.{NextWord, TheVariants.{Entry, Flags}}
@@ -7,7 +7,7 @@ use Rattle.vb_core.specs.declared.ring.Virtqueue.{Virtqueue}
 use Rattle.vb_monitor.specs.Usual.{word_place, phase_at, tally_at, descriptor_place, first_walk}
 use Rattle.vb_monitor.proofs.Samples.{two, at, ring, tally}
 
--- ---- the entry: a chain stands there by the index that was read, and the budget has room for one
+-- ---- the entry: a chain is available by the index that was read, and the budget has room for one
 
 abbrev word : ℕ → Tally → Virtqueue → Option NextWord
 word index t r = word_place two (record t { published = index }) r
@@ -30,14 +30,14 @@ no_page_left = refl
 entry_in_the_hole : word 1 tally (record ring { avail = 0x15000 }) ≡ None
 entry_in_the_hole = refl
 
--- behind the first of two chains the second one's
+-- after the first of two chains the second one's
 abbrev given : Tally
 given = record tally { given = true }
 
 second_entry : word 2 given (record ring { next_avail = 1 }) ≡ Some (Entry (at 0x106))
 second_entry = refl
 
--- ---- the flags: none stands there, and one was given back
+-- ---- the flags: none is there, and one was given back
 
 flags_there : word 0 given ring ≡ Some (Flags (at 0x100))
 flags_there = refl
@@ -80,7 +80,7 @@ past_the_table = refl
 alone : first_walk 3 ≡ record { head = 3; count = 0; writing = false; first = 3; behind = 0 }
 alone = refl
 
--- no queue has more than 256 descriptors, and none stands over the end of a region
+-- no queue has more than 256 descriptors, and none is over the end of a region
 two_hundred_fifty_sixth : descriptor_place two 256 (record ring { size = 512 }) ≡ None
 two_hundred_fifty_sixth = refl
 

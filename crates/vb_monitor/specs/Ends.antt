@@ -33,7 +33,7 @@ pub record Stops (w : Whole) (d : Device) (tally : Tally) (why : Option Denial)
 abbrev pub wants_interrupt : ℕ → Bool
 wants_interrupt flags = bit_and flags 1 == 0
 
--- Behind a full fence the driver's flags are read, once.
+-- After a full fence the driver's flags are read, once.
 pub record AsksFlags (w : Whole) (d : Device) (tally : Tally) (why : Option Denial) (more : Bool)
     (at : Spot) (log : List Access) : Type 0 where
   pub flags : ℕ

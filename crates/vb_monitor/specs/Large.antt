@@ -43,7 +43,7 @@ may_go size r part = is_page_size size && is_made_of size r && is_part_of r part
 abbrev pub is_between : ℕ → ℕ → ℕ → Bool
 is_between first end p = nat_le first p && nat_lt p end
 
--- It is one of the large page of this number, where each has so many.
+-- It is one of the large page of this number, where each has n.
 abbrev pub is_of_large : ℕ → ℕ → ℕ → Bool
 is_of_large small n p = is_between (small * n) (small * (n + 1)) p
 
@@ -59,8 +59,8 @@ pub record GoesWith (small first end : ℕ) (set : List ℕ) (n : ℕ) : Type 0 
   pub of_part : is_between first end page ≡ true
   pub given : AllGiven small first end set n
 
--- A row begins at the large page that a part has first, where that goes, else behind it; and stops
--- behind the large page that it has last, where that goes, else before it.
+-- A row begins at the large page that a part has first, where that goes, else after it; and stops
+-- after the large page that it has last, where that goes, else before it.
 pub data Begins (goes : Type 0) (first low : ℕ) : Type 0 where
   Here : low ≡ first → goes → Begins goes first low
   After : low ≡ first + 1 → (goes → ⊥) → Begins goes first low
@@ -89,7 +89,7 @@ outside first end from behind =
 abbrev pub small_pages : ℕ → ℕ
 small_pages size = size / page_size
 
--- The first page of these bytes, and the one behind the last.
+-- The first page of these bytes, and the one after the last.
 abbrev pub first_of : Region → Cut → ℕ
 first_of r part = (r.guest + part.offset) / page_size
 

@@ -11,9 +11,9 @@ use Rattle.vb_monitor.specs.declared.step.Phase.TheVariants.{AwaitsDescriptor, A
 use Rattle.vb_monitor.specs.declared.step.Phase.TheVariants.{TellsPages, TellsFigures, Discards}
 use Rattle.vb_monitor.specs.declared.step.Phase.TheVariants.{GivesBack, AwaitsFlags, Ended}
 
--- Parts that a chain's runs have at most, in so many regions: one for each run and region. Behind a
--- run's part in the region before the one of this number, those of the regions from that one on are
--- left, and all parts of the runs behind it.
+-- Parts that a chain's runs have at most, in n regions: one for each run and region. After a run's
+-- part in the region before the one of this number, those of the regions from that one on are left,
+-- and all parts of the runs after it.
 unfoldable pub parts_left : ℕ → ℕ → ℕ → ℕ
 parts_left regions run from = (regions - from) + (MAX_RUNS - (run + 1)) * regions
 
@@ -26,7 +26,7 @@ once_named regions = 3 + MAX_RUNS * length regions
 abbrev pub once_whole : List Region → ℕ
 once_whole regions = once_named regions + 2 * MAX_QUEUE_SIZE + 1
 
--- Before that the descriptors are, of which so many were.
+-- Before that the descriptors are, of which n were.
 abbrev pub once_copied : List Region → ℕ → ℕ
 once_copied regions count = once_whole regions + (MAX_QUEUE_SIZE - count)
 
@@ -34,7 +34,7 @@ once_copied regions count = once_whole regions + (MAX_QUEUE_SIZE - count)
 abbrev pub of_chain : List Region → ℕ
 of_chain regions = once_copied regions 0 + 2
 
--- What so many chains come to.
+-- What n chains come to.
 unfoldable pub of_chains : List Region → ℕ → ℕ
 of_chains regions chains = chains * of_chain regions
 

@@ -1,14 +1,14 @@
--- What comes directly behind what in a list of accesses.
+-- What comes directly after what in a list of accesses.
 use Rattle.std.specs.Prelude.{◌≡◌, Bool, true, false, List, [], ◌∷◌, Option, Some, None}
 use Rattle.vb_monitor.specs.Accesses.{Access, ReadWord, CopyBytes, Acquire, Release, Full}
 use Rattle.vb_monitor.specs.Accesses.{TellPages, TellFigures, Discard, WriteNumber, WriteWord}
 
--- Each access of a list may come directly behind the one before it, the first behind this one.
+-- Each access of a list may come directly after the one before it, the first after this one.
 abbrev pub Row : (Option Access → Access → Type 0) → Option Access → List Access → Type 0
 Row may before [] = Unit {0}
 Row may before (x ∷ xs) = may before x × Row may (Some x) xs
 
--- ---- what stands before
+-- ---- what comes before
 
 -- Bytes were copied.
 abbrev pub is_copied : Option Access → Bool
@@ -96,11 +96,11 @@ is_number (Some (WriteWord at word)) = false
 
 -- ---- the order
 
--- Bytes are copied directly behind what was read, pages and figures are told directly behind bytes
--- that were copied, pages are discarded directly behind pages that were told or discarded, and an
--- element's numbers are written directly behind these; behind them a release fence, and directly
--- behind that the index. An acquire fence stands directly behind a word that was read, or behind an
--- index that was written.
+-- Bytes are copied directly after what was read, pages and figures are told directly after bytes
+-- that were copied, pages are discarded directly after pages that were told or discarded, and an
+-- element's numbers are written directly after these; after them a release fence, and directly
+-- after that the index. An acquire fence is directly after a word that was read, or after an index
+-- that was written.
 abbrev pub MayFollow : Option Access → Access → Type 0
 MayFollow before (ReadWord at answer) = Unit {0}
 MayFollow before (CopyBytes at answer) = is_read before ≡ true

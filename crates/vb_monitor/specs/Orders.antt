@@ -20,7 +20,7 @@ use Rattle.vb_monitor.specs.Accesses.{WriteWord}
 use Rattle.vb_monitor.specs.declared.step.Phase.{Phase}
 use Rattle.vb_monitor.specs.Machine.{cuts_behind, stage}
 
--- The part that is left, and all behind it.
+-- The part that is left, and all after it.
 abbrev pub cuts_left : List Region → List Run → Option NextCut → List Cut
 cuts_left regions runs None = []
 cuts_left regions runs (Some x) = x.cut ∷ cuts_behind x.from x.run regions runs
@@ -44,7 +44,7 @@ pub record HasRoom (a : Asked) (o : Orders) : Type 0 where
 pub record FillsList (p : Phase) (o : Orders) : Type 0 where
   pub full : stage p ≡ 1 → o.cuts ≡ MAX_CUTS
 
--- A used element's id and length are written, and behind a fence its index.
+-- A used element's id and length are written, and after a fence its index.
 abbrev pub giving : Bool → Used → List Access
 giving true u =
     WriteNumber u.spots.id u.id ∷ WriteNumber u.spots.length u.length ∷ Release

@@ -15,7 +15,7 @@ use Rattle.vb_monitor.specs.Accesses.{Access, CopyBytes}
 use Rattle.vb_monitor.specs.Regions.{spot}
 use Rattle.vb_monitor.specs.Ends.{Whole, Breaks}
 
--- A piece's bytes up to the end of the page in which it begins, and those behind it.
+-- A piece's bytes up to the end of the page in which it begins, and those after it.
 abbrev pub first_part : Piece → Part
 first_part p = record {
   address = p.addr;
@@ -40,7 +40,7 @@ parts_of p = unless_empty (first_part p) ++ unless_empty (second_part p)
 abbrev pub all_parts : List Piece → List Part
 all_parts pieces = flat_map parts_of pieces
 
--- A part is copied; what was copied before stands in front.
+-- A part is copied; what was copied before is in front.
 pub record AsksPart (on : List ℕ → List Access → Type 0) (len : ℕ) (so_far : List ℕ) (at : Spot)
     (log : List Access) : Type 0 where
   pub bytes : List ℕ

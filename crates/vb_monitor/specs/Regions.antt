@@ -22,7 +22,7 @@ is_region r =
 
 -- ---- where bytes are
 
--- So many bytes from an address on lie in the region.
+-- n bytes from an address on lie in the region.
 abbrev pub holds : Region → ℕ → ℕ → Bool
 holds r a len =
     is_region r && nat_le r.guest a && nat_le len r.length && nat_le (a - r.guest) (r.length - len)
@@ -34,13 +34,13 @@ spot_from number (r ∷ rs) a len =
     if holds r a len then Some (record { region = number; offset = a - r.guest })
     else spot_from (number + 1) rs a len
 
--- Where so many bytes from an address on are guest memory.
+-- Where n bytes from an address on are guest memory.
 abbrev pub spot : List Region → ℕ → ℕ → Option Spot
 spot regions a len = spot_from 0 regions a len
 
 -- ---- the pages of a run
 
--- The first page that is the run's and the region's, and the one behind the last such page.
+-- The first page that is the run's and the region's, and the one after the last such page.
 abbrev pub first_both : Region → Run → ℕ
 first_both r run = max (r.guest / page_size) run.first
 

@@ -16,7 +16,7 @@ use Rattle.vb_monitor.specs.Regions.{spot}
 use Rattle.vb_monitor.specs.Pieces.{first_part}
 use Rattle.vb_monitor.specs.Chains.{descriptors, table_fault}
 
--- Where a queue's index stands, if nothing refuses the queue.
+-- Where a queue's index is, if nothing refuses the queue.
 abbrev pub index_place : List Region → Option Denial → Virtqueue → Option Spot
 index_place regions why r = if is_none why then spot regions (r.avail + 2) 2 else None
 
@@ -26,8 +26,8 @@ abbrev pub is_single : Kind → Descriptor → Bool
 is_single kind x =
     is_request kind && not (has_next x) && not (is_writable x) && is_request_length x.len
 
--- Where the first part of a chain's bytes stands, once its first descriptor was copied, if that one
--- is a whole request and breaks no rule.
+-- Where the first part of a chain's bytes is, once its first descriptor was copied, if that one is
+-- a whole request and breaks no rule.
 abbrev pub single_place : List Region → Kind → Walk → Descriptor → ℕ → Virtqueue → Option Spot
 single_place regions kind walk x end r =
     if (walk.count == 0) && is_single kind x

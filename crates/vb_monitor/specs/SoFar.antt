@@ -18,7 +18,7 @@ use Rattle.vb_monitor.specs.Giving.{cuts_for}
 use Rattle.vb_monitor.specs.Pieces.{all_parts}
 use Rattle.vb_monitor.specs.Chains.{TableRow, row_of, in_row, descriptor_of}
 
--- Each access of a list may come behind all those before it, of which the last one stands first.
+-- Each access of a list may come after all those before it, of which the last one is first.
 abbrev pub Each : (List Access → Access → Type 0) → List Access → List Access → Type 0
 Each may before [] = Unit {0}
 Each may before (x ∷ xs) = may before x × Each may (x ∷ before) xs
@@ -52,8 +52,7 @@ walked_by (Some bytes) on kind head number pieces =
     with_descriptor (has_next (descriptor_of bytes)) on kind head
     (pieces ++ piece_of (descriptor_of bytes) ∷ []) (descriptor_of bytes).next
 
--- The descriptors of a row are known for as long as each names one that the row has, so many at
--- most.
+-- The descriptors of a row are known for as long as each names one that the row has, at most n.
 abbrev pub walked_in : ℕ → Kind → ℕ → TableRow → ℕ → List Piece → Known
 walked_in zero kind head row number pieces = Walks head number pieces
 walked_in (suc n) kind head row number pieces =
@@ -68,7 +67,7 @@ with_copied kind bytes (Has head pieces [] so_far) = Has head pieces [] so_far
 with_copied kind bytes (Has head pieces (part ∷ parts) so_far) =
     Has head pieces parts (so_far ++ bytes)
 
--- An acquire fence stands last.
+-- An acquire fence is last.
 abbrev pub is_fenced : List Access → Bool
 is_fenced (Acquire ∷ xs) = true
 is_fenced [] = false
@@ -82,7 +81,7 @@ is_fenced (Discard cut ∷ xs) = false
 is_fenced (WriteNumber at number ∷ xs) = false
 is_fenced (WriteWord at word ∷ xs) = false
 
--- A word behind an acquire fence is an entry: the head of a chain.
+-- A word after an acquire fence is an entry: the head of a chain.
 abbrev pub with_word : Bool → ℕ → Known
 with_word true word = Walks word word []
 with_word false word = Unknown

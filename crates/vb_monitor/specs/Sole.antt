@@ -14,7 +14,7 @@ use Rattle.vb_monitor.specs.declared.cuts.NextCut.{NextCut}
 use Rattle.vb_monitor.specs.declared.sole.Sole.{Sole}
 use Rattle.vb_monitor.specs.Regions.{is_region, cuts_from}
 
--- A run has pages, all of which stand from one page on and before another.
+-- A run has pages, all of which are from one page on and before another.
 pub record LiesIn (first end : ℕ) (run : Run) : Type 0 where
   pub some : 0 < run.count
   pub from : first ≤ run.first
@@ -25,7 +25,7 @@ abbrev pub lies_in : ℕ → ℕ → Run → Bool
 lies_in first end run =
     nat_lt 0 run.count && nat_le first run.first && nat_le (run.first + run.count) end
 
--- A region has one of the pages from the first on that stand before the end.
+-- A region has one of the pages from the first on that come before the end.
 abbrev pub has_page : ℕ → ℕ → Region → Bool
 has_page first end r =
     is_region r
@@ -59,8 +59,8 @@ sole_if number regions r =
 abbrev pub sole_of : List Region → ℕ → Option Sole
 sole_of regions number = option_and_then (sole_if number regions) (slice_get regions number)
 
--- How many of some runs, one behind the other from the first one on, lie between the pages: at most
--- so many.
+-- How many of some runs, one after the other from the first one on, lie between the pages: at most
+-- n.
 abbrev pub lying : ℕ → Sole → List Run → ℕ
 lying zero s runs = 0
 lying (suc n) s [] = 0
@@ -72,8 +72,8 @@ abbrev pub alone_at : NextCut → Run → Sole → Option Sole
 alone_at part run s =
     if (part.from == s.region + 1) && lies_in s.first s.end run then Some s else None
 
--- The pages that the part's region alone has, where at least so many runs are left with the part's,
--- and that one lies between them.
+-- The pages that the part's region alone has, where at least n runs are left with the part's, and
+-- that one lies between them.
 abbrev pub sole_at : ℕ → List Region → List Run → NextCut → Option Sole
 sole_at few regions runs part =
     if nat_le (part.run + few) (length runs)

@@ -6,7 +6,7 @@ use Rattle.vb_monitor.specs.Accesses.{TellPages}
 use Rattle.vb_monitor.specs.Accesses.{TellFigures, Discard, WriteNumber, WriteWord}
 use Rattle.vb_monitor.specs.Regions.{is_region}
 
--- So many bytes from an offset of the region of this number on lie in that region.
+-- n bytes from an offset of the region of this number on lie in that region.
 pub record IsWithin (regions : List Region) (number offset len : ℕ) : Type 0 where
   pub region : Region
   pub there : slice_get regions number ≡ Some region

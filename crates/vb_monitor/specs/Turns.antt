@@ -35,8 +35,8 @@ use Rattle.vb_monitor.specs.SoFar.{Known, Unknown, Walks, Has, known, ring_after
 
 -- ---- what is read
 
--- The word that is read next: first of all, and only then, the available index; behind an acquire
--- fence the entry that is taken next, and behind a full fence the driver's flags (VIRTIO 1.1, 2.6.6
+-- The word that is read next: first of all, and only then, the available index; after an acquire
+-- fence the entry that is taken next, and after a full fence the driver's flags (VIRTIO 1.1, 2.6.6
 -- and 2.6.7). Elsewhere none is.
 abbrev pub ReadsWord : List Region → Virtqueue → List Access → Spot → Type 0
 ReadsWord regions r [] at = spot regions (r.avail + 2) 2 ≡ Some at
@@ -51,7 +51,7 @@ ReadsWord regions r (Discard cut ∷ xs) at = ⊥
 ReadsWord regions r (WriteNumber before number ∷ xs) at = ⊥
 ReadsWord regions r (WriteWord before word ∷ xs) at = ⊥
 
--- A full fence stands last.
+-- A full fence is last.
 abbrev pub ends_in_full : List Access → Bool
 ends_in_full (Full ∷ xs) = true
 ends_in_full [] = false
@@ -79,13 +79,13 @@ is_over (Discard cut ∷ xs) = false
 is_over (WriteNumber at number ∷ xs) = false
 is_over (WriteWord at word ∷ xs) = false
 
--- So many bytes from an address on are copied.
+-- n bytes from an address on are copied.
 pub record CopiesFrom (regions : List Region) (a len : ℕ) (at : Spot) (bytes : List ℕ) : Type 0
   where
     pub place : spot regions a len ≡ Some at
     pub long : length bytes ≡ len
 
--- Of a chain the descriptor is copied that the one before names, and those of its row behind it, 16
+-- Of a chain the descriptor is copied that the one before names, and those of its row after it, 16
 -- bytes each; once it is whole, the next part of its pieces.
 abbrev pub CopiesNext : List Region → Virtqueue → Known → Spot → List ℕ → Type 0
 CopiesNext regions r Unknown at bytes = ⊥
@@ -103,7 +103,7 @@ IsPublished (Some index) r = stands r index ≡ Ok true
 
 -- What is read comes in its turn: each entry, each row of descriptors and each part of a piece has
 -- one. No entry is read that wasn't published, nor while another one's chain is served, and nothing
--- behind the flags.
+-- after the flags.
 abbrev pub ReadsInTurn : List Region → Kind → Device → List Access → Access → Type 0
 ReadsInTurn regions kind d before (ReadWord at answer) =
     ReadsWord regions (ring_after (ring_of kind d) before) before at
@@ -123,8 +123,8 @@ ReadsInTurn regions kind d before (WriteWord at word) = Unit {0}
 -- ---- what is told and discarded
 
 -- The runs tell the pages that the numbers in these bytes name: each that may be named, in their
--- order; one that may not is skipped where the device skips such numbers, and else none is there.
--- So many are named, and each other number is skipped.
+-- order; one that may not is skipped where the device skips such numbers, and else none is there. n
+-- are named, and each other number is skipped.
 pub record TellNumbers (s : Settings) (bytes : List ℕ) (runs : List Run) (named : Named) : Type 0
   where
     pub sound : fault_in (skips s) s.reserved_pages (memory_pages s) (numbers_of bytes) ≡ None
@@ -133,7 +133,7 @@ pub record TellNumbers (s : Settings) (bytes : List ℕ) (runs : List Run) (name
         length (right_numbers s.reserved_pages (memory_pages s) (numbers_of bytes))
     pub skipped : named.skipped + named.pages ≡ length (numbers_of bytes)
 
--- The runs are the pages of these pieces, which are a report: so many, and none is skipped.
+-- The runs are the pages of these pieces, which are a report: n, and none is skipped.
 pub record TellPieces (s : Settings) (pieces : List Piece) (runs : List Run) (named : Named) :
     Type 0 where
   pub free : List ℕ
@@ -156,7 +156,7 @@ TellsOf kind s (Walks head number pieces) runs named = ⊥
 TellsOf kind s (Has head pieces [] bytes) runs named = TellNamed kind s pieces bytes runs named
 TellsOf kind s (Has head pieces (part ∷ parts) bytes) runs named = ⊥
 
--- The figures that stand in these bytes.
+-- The figures that are in these bytes.
 pub record TellFiguresOf (bytes : List ℕ) (told : List Statistic) : Type 0 where
   pub figures : List Statistic
   pub are : AreFigures bytes figures
@@ -208,12 +208,12 @@ ends_in_number (TellFigures figures ∷ xs) = false
 ends_in_number (Discard cut ∷ xs) = false
 ends_in_number (WriteWord at word ∷ xs) = false
 
--- The number is a used element's: the length behind the id (VIRTIO 1.1, 2.6.8).
+-- The number is a used element's: the length after the id (VIRTIO 1.1, 2.6.8).
 abbrev pub IsNumberOf : Bool → List Region → UsedEntry → Spot → ℕ → Type 0
 IsNumberOf false regions e at n = (spot regions e.element_at 4 ≡ Some at) × (n ≡ e.id)
 IsNumberOf true regions e at n = (spot regions (e.element_at + 4) 4 ≡ Some at) × (n ≡ e.length)
 
--- The word is the index behind the element.
+-- The word is the index after the element.
 abbrev pub IsIndexOf : List Region → UsedEntry → Spot → ℕ → Type 0
 IsIndexOf regions e at n = (spot regions e.index_at 2 ≡ Some at) × (n ≡ e.index)
 
@@ -232,7 +232,7 @@ IndexFor (Walks head number pieces) regions r at n = ⊥
 IndexFor (Has head pieces [] bytes) regions r at n = IsIndexOf regions (used_entry r head) at n
 IndexFor (Has head pieces (part ∷ parts) bytes) regions r at n = ⊥
 
--- Nothing is written but the next used element of the queue's ring, and the index behind it.
+-- Nothing is written but the next used element of the queue's ring, and the index after it.
 abbrev pub WritesUsedAlone : List Region → Kind → Device → List Access → Access → Type 0
 WritesUsedAlone regions kind d before (WriteNumber at n) =
     NumberFor (known kind before) (ends_in_number before) regions

@@ -1,4 +1,4 @@
--- How a notice goes on mostly: the next place, where it goes on so.
+-- How a notice goes on usually: the next place, where it goes on so.
 use Rattle.std.specs.Prelude.{ℕ, ◌+◌, ◌-◌, ◌*◌, Bool, true, false, ◌==◌, ◌||◌, nat_lt, List}
 use Rattle.std.specs.Prelude.{if◌then◌else◌, Option, None, option_map}
 use Rattle.std.specs.Prelude.{Result, Ok, Err}
@@ -16,8 +16,8 @@ use Rattle.vb_monitor.specs.Regions.{spot}
 use Rattle.vb_monitor.specs.Chains.{descriptors}
 use Rattle.vb_monitor.specs.Notices.{entry_offset, stands, with_chains}
 
--- The word that is read next: the entry of another chain that stands there, if the budget has room
--- for it; or the flags, if none does and one was given back.
+-- The word that is read next: the entry of another chain that is there, if the budget has room for
+-- it; or the flags, if none does and one was given back.
 abbrev pub word_by : Result Bool ChainFault → List Region → Tally → Virtqueue → Option NextWord
 word_by (Ok true) regions tally r =
     if (tally.chains == 0) || (tally.pages == 0) then None
@@ -39,7 +39,7 @@ abbrev pub tally_at : NextWord → Tally → Tally
 tally_at (Entry at) tally = with_chains (tally.chains - 1) tally
 tally_at (Flags at) tally = tally
 
--- Where a descriptor stands, if the queue has one of this number.
+-- Where a descriptor is, if the queue has one of this number.
 abbrev pub descriptor_place : List Region → ℕ → Virtqueue → Option Spot
 descriptor_place regions number r =
     if nat_lt number (descriptors r) then spot regions (r.table + 16 * number) 16 else None

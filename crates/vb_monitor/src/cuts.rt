@@ -18,9 +18,9 @@ use vb_core::Run;
 pub struct Cut {
     /// The number of the region.
     pub region: usize,
-    /// So many bytes into it.
+    /// Where the bytes begin in the region.
     pub offset: u64,
-    /// So many bytes into its file.
+    /// Where the bytes begin in the region's file.
     pub in_file: u64,
     /// How many bytes they are: whole pages.
     pub length: u64,
@@ -101,7 +101,7 @@ pub struct NextCut {
     pub run: usize,
     /// Its part in the first region that has one.
     pub cut: Cut,
-    /// The number of the region behind the one in which the part is.
+    /// The number of the region after the one in which the part is.
     pub from: usize,
 }
 
@@ -124,7 +124,7 @@ pub(crate) fn first_cut(regions: &[Region], runs: &[Run], from: usize) -> Option
     None
 }
 
-/// The first part behind those of a run in the regions below this number.
+/// The first part after those of a run in the regions below this number.
 #[inline(always)]
 pub(crate) fn cut_behind(
     regions: &[Region],

@@ -112,7 +112,7 @@ fn fill_more(
     }
 }
 
-/// The same; mostly nothing is left.
+/// Goes on to fill the list from `count` on, by a fast path where nothing is left.
 #[inline(always)]
 fn fill_on(
     regions: &[Region],
@@ -164,8 +164,8 @@ fn fill_many(
     }
 }
 
-/// Puts a part and those after it to the front of the list, as many as have room; mostly it is the
-/// last one of the last run.
+/// Puts a part and those after it to the front of the list, as many as have room; by a fast path
+/// where it is the last one of the last run.
 #[inline(always)]
 pub fn fill(regions: &[Region], runs: &[Run], first: &NextCut, cuts: &mut [Cut; MAX_CUTS]) -> Filled
     ensures few { result.count ≤ MAX_CUTS }

@@ -93,7 +93,8 @@ fn put_any(regions: &[Region], entry: UsedEntry, spots: &mut UsedSpots) -> bool
     }
 }
 
-/// The same; mostly the first region has all of it.
+/// Puts down where a used element goes, as `put_any` does, by a fast path where the first region
+/// has all of it.
 #[inline(always)]
 pub(crate) fn put_spots(regions: &[Region], entry: &UsedEntry, spots: &mut UsedSpots) -> bool
     ensures yes { result ≡ true → used_spots regions.now entry.now ≡ Some spots.new }

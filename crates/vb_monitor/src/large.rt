@@ -40,7 +40,7 @@ pub struct Large {
 struct Span {
     /// The first one.
     first: u64,
-    /// The one behind the last.
+    /// The one after the last.
     end: u64,
 }
 
@@ -49,7 +49,7 @@ struct Span {
 struct Row {
     /// The first one.
     low: u64,
-    /// The one behind the last.
+    /// The one after the last.
     high: u64,
 }
 
@@ -179,7 +179,7 @@ fn counted<'a>(device: &Device, set: &'a [u64]) -> &'a [u64]
     }
 }
 
-/// Whether a page of the machine may have so many bytes.
+/// Whether a page of the machine may have `size` bytes.
 fn is_page_size(size: u64) -> bool
     ensures { result ≡ is_page_size size }
 {
@@ -268,7 +268,7 @@ fn bytes_of(region: &Region, part: &Cut, size: u64, row: Row) -> Cut
     }
 }
 
-/// Of a part that a notice discards, what goes back to a machine whose pages behind this region
+/// Of a part that a notice discards, what goes back to a machine whose pages that back this region
 /// have `size` bytes: a power of two from 4096 to 1 GiB. Such a page goes once each of its pages of
 /// 4096 bytes is given up: it is the part's, or in the set of ballooned pages. The set counts only
 /// where the driver agreed to tell the host before it uses a page again (MUST_TELL_HOST: VIRTIO

@@ -34,7 +34,7 @@ pub trait LiveMemory {
     fn full(&mut self)
         ensures { goes self.old Full self.new };
 
-    /// These pages were given up (inflates), are asked back (deflates), or are free (reports).
+    /// These pages were given up (inflates), are requested back (deflates), or are free (reports).
     /// `named` says how many pages the runs have together, and how many of the request's numbers
     /// were skipped.
     fn tell_pages(&mut self, kind: Kind, runs: &[Run], named: Named)

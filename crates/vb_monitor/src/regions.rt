@@ -25,7 +25,7 @@ pub struct Region {
     pub in_file: u64,
 }
 
-/// A place in guest memory: so many bytes into the region of this number.
+/// A place in guest memory: a region's number, and an offset in bytes.
 #[repr(C)]
 #[derive(Clone, Copy, Debug, PartialEq, Eq)]
 pub struct Spot {
@@ -47,7 +47,7 @@ impl Region {
             && self.in_file <= FILE_LIMIT
     }
 
-    /// Whether so many bytes from an address on lie in it.
+    /// Whether `length` bytes from an address on lie in the region.
     #[inline(always)]
     pub fn holds(&self, address: u64, length: u64) -> bool
         ensures { result ≡ holds self.now address length }
@@ -59,7 +59,7 @@ impl Region {
     }
 }
 
-/// The place of so many bytes from an address on, in the first region that has all of them; none
+/// The place of `length` bytes from an address on, in the first region that has all of them; none
 /// where they aren't guest memory.
 #[tactic(auto, using(crate::proofs::RegionLemmas::spot_steps))]
 pub fn find(regions: &[Region], address: u64, length: u64) -> Option<Spot>
@@ -77,7 +77,7 @@ pub fn find(regions: &[Region], address: u64, length: u64) -> Option<Spot>
     None
 }
 
-/// The same, for an address that is a sum.
+/// The place that `find` answers, for an address that is a sum.
 #[tactic(auto, using(crate::proofs::RegionLemmas::spot_far))]
 pub(crate) fn find_from(regions: &[Region], base: u64, plus: u64, length: u64) -> Option<Spot>
     ensures { result ≡ spot regions.now (base + plus) length }
@@ -88,7 +88,7 @@ pub(crate) fn find_from(regions: &[Region], base: u64, plus: u64, length: u64) -
     }
 }
 
-/// The same, where mostly the first region has them.
+/// The place that `find_from` answers, by a fast path where the first region has the bytes.
 #[tactic(auto, using(crate::proofs::RegionLemmas::first_steps))]
 #[inline(always)]
 pub(crate) fn find_first(regions: &[Region], base: u64, plus: u64, length: u64) -> Option<Spot>

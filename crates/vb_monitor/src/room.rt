@@ -11,7 +11,7 @@ pub const MAX_PIECES: usize = MAX_DESCRIPTORS;
 /// Bytes that are copied of a chain at most: those of a request.
 pub const MAX_BYTES: usize = REQUEST_BUFFER_SIZE as usize;
 
-/// Descriptors that are copied together at most, which stand one behind the other in a table.
+/// Descriptors that are copied together at most, which are one after the other in a table.
 pub const ROW_DESCRIPTORS: usize = 32;
 
 /// Runs that a chain names at most.

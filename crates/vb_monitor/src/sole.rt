@@ -21,11 +21,11 @@ pub(crate) struct Sole {
     pub(crate) in_file: u64,
     /// The first page.
     pub(crate) first: u64,
-    /// The page behind the last one.
+    /// The page after the last one.
     pub(crate) end: u64,
 }
 
-/// Whether a region has one of the pages from the first on that stand before the end.
+/// Whether a region has one of the pages from the first on that come before the end.
 fn has_page(region: &Region, first: u64, end: u64) -> bool
     ensures { result ≡ has_page first end region.now }
 {

@@ -8,13 +8,13 @@ use vb_core::{Denial, Named, UsedEntry};
 pub struct Walk {
     /// The number of the chain's first descriptor.
     pub head: u16,
-    /// How many pieces stand in the room for them.
+    /// How many pieces are in the room for them.
     pub count: u16,
     /// One of them is the device's to write.
     pub writing: bool,
     /// The number of the first descriptor of the row that is copied.
     pub first: u16,
-    /// How many descriptors are copied behind it.
+    /// How many descriptors are copied after it.
     pub behind: u16,
 }
 
@@ -27,7 +27,7 @@ pub struct Place {
     pub count: u16,
     /// The number of this piece.
     pub piece: usize,
-    /// It is the part behind the end of the page in which the piece begins.
+    /// It is the part after the end of the page in which the piece begins.
     pub is_second: bool,
     /// How many bytes were copied before.
     pub into: usize,
@@ -44,7 +44,7 @@ pub struct Discarding {
     pub runs: u32,
     /// The number of the run that is discarded.
     pub run: usize,
-    /// The number of the region behind the one in which it is.
+    /// The number of the region after the one in which it is.
     pub from: usize,
 }
 
@@ -55,7 +55,7 @@ pub enum Phase {
     AwaitsIndex {
         at: Spot,
     },
-    /// Behind an acquire fence the word there is to be read: the entry.
+    /// After an acquire fence the word there is to be read: the entry.
     AwaitsEntry {
         at: Spot,
     },
@@ -65,7 +65,7 @@ pub enum Phase {
         at: Spot,
         walk: Walk,
     },
-    /// Bytes are to be copied from there behind those that were copied: a part of a piece.
+    /// Bytes are to be copied from there after those that were copied: a part of a piece.
     AwaitsPart {
         at: Spot,
         place: Place,
@@ -75,7 +75,7 @@ pub enum Phase {
         head: u16,
         named: Named,
     },
-    /// The monitor is to be told the first figures, so many.
+    /// The VMM is to be told the first `count` figures.
     TellsFigures {
         head: u16,
         count: u32,
@@ -85,12 +85,12 @@ pub enum Phase {
         cut: Cut,
         discarding: Discarding,
     },
-    /// The two numbers of a used element are to be written, and behind a release fence its index.
+    /// The two numbers of a used element are to be written, and after a release fence its index.
     GivesBack {
         spots: UsedSpots,
         entry: UsedEntry,
     },
-    /// Behind a full fence the word there is to be read: the driver's flags.
+    /// After a full fence the word there is to be read: the driver's flags.
     AwaitsFlags {
         at: Spot,
         why: Option<Denial>,

@@ -1,4 +1,4 @@
-//! Where a notice goes on as it mostly does: the next place alone, which is all that is new.
+//! Fast paths of a notice: each computes only the next guest address.
 
 ghost use Rattle.std.specs.Prelude.{◌≡◌, ◌-◌, false, List, None, IfSome};
 ghost use Rattle.vb_core.specs.declared.device.Device.{Device};
@@ -25,7 +25,7 @@ use vb_ring::{AVAIL_ENTRY_SIZE, RING_WORD_SIZE};
 pub enum NextWord {
     /// The entry of another chain, for which the budget has room.
     Entry(Spot),
-    /// The driver's flags: no other chain stands there, and one was given back.
+    /// The driver's flags: no other chain is available, and one was given back.
     Flags(Spot),
 }
 

@@ -1,4 +1,4 @@
--- Which blocks are maximal, which one a request gets, and which stands first, worked out.
+-- Which blocks are maximal, which one a request gets, and which is first, worked out.
 use Rattle.std.proofs.Common.{◌≡◌, ℕ, ◌+◌, ◌-◌, ◌^◌, ◌<◌, ◌≤◌, Bool, true, false, List, []}
 use Rattle.std.proofs.Common.{◌∷◌, arith, refl, replicate}
 use Rattle.std.{proofs.Math.Pow.pow-lt, proofs.lemmas.Nat.pow_pos, specs.Prelude.{IsTrue, ◌≢◌}}
@@ -122,7 +122,7 @@ chosen = (
   },
 )
 
--- no part of a block, none that is too small or larger than need be, and none behind another
+-- no part of a block, none that is too small or larger than need be, and none after another
 not_chosen : (IsChosen spread 0 (block_at 2 0) → ⊥) × (IsChosen spread 1 (block_at 0 0) → ⊥)
     × (IsChosen spread 0 (block_at 2 1) → ⊥) × (IsChosen spread 1 (block_at 8 1) → ⊥)
 not_chosen = (
@@ -132,7 +132,7 @@ not_chosen = (
   λ is. omega (arith, is.lowest (block_at 2 1) first_two refl),
 )
 
--- ---- the block that stands first from a page on
+-- ---- the block that is first from a page on
 
 lowest : IsLowestFrom spread 0 0 (block_at 0 0) × IsLowestFrom spread 0 1 (block_at 2 1)
     × IsLowestFrom spread 1 0 (block_at 2 1) × IsLowestFrom spread 0 2 (block_at 2 1)
@@ -163,7 +163,7 @@ lowest = (
   },
 )
 
--- no part of a block, none that is too small or begins too early, and none behind one that is larger
+-- no part of a block, none that is too small or begins too early, and none after one that is larger
 not_lowest : (IsLowestFrom spread 0 1 (block_at 2 0) → ⊥)
     × (IsLowestFrom spread 1 0 (block_at 0 0) → ⊥) × (IsLowestFrom spread 0 1 (block_at 0 0) → ⊥)
     × (IsLowestFrom spread 0 2 (block_at 8 1) → ⊥)

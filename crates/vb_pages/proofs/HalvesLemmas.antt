@@ -107,7 +107,7 @@ part_left t s k j placed e = ap (without_pages (pages_of (block_at s j)))
     ∙ with_without (pages_of (block_at s k)) (set_of t)
     (λ p h. let q = block_bounds s k p h in listed_inside t placed s k e p q.0 q.1))
 
--- a block of order w whose upper half, of so many pages, goes in
+-- a block of order w whose upper half, of n pages, goes in
 module _ (t : List (Option ℕ)) (s w size : ℕ) (tiled : IsTiled t) (room : HasRoom t s w)
     (some : 0 < w) (size_is : size ≡ 2 ^ (w - 1)) where
   w_is : w ≡ suc (w - 1)

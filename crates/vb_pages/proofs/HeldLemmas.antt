@@ -11,7 +11,7 @@ use Rattle.vb_pages.specs.{Held.{HeldBlocks, blocks_from, blocks_of}, Table.{ord
 moved : (f i : ℕ) → suc f + i ≡ f + suc i
 moved f i = omega arith
 
--- a block before all others stands first
+-- a block before all others is first
 with_front : (b : Block) (f : ℕ) (t : List (Option ℕ)) → b.start < f
     → with_block b (blocks_from f t) ≡ b ∷ blocks_from f t
 with_front b f [] h = refl

@@ -142,7 +142,7 @@ serves_times f new cpu order start sound l h p = elim h [
 
 -- ---- single pages, one after the other
 
--- so many pages were taken, and so many are left
+-- n pages were taken, and m are left
 pub record AreTakenSoFar (set : List Bool) (i : ℕ) (new : List Bool) (out : List ℕ) : Type 0 where
   pub takes : TakesPages set out new
   pub long : length out ≡ i

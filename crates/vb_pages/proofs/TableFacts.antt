@@ -1,4 +1,4 @@
--- Tables of blocks, the sets that stand for them, and their lowest blocks, worked out.
+-- Tables of blocks, the sets that represent them, and their lowest blocks, worked out.
 use Rattle.std.proofs.Common.{◌≡◌, ℕ, zero, suc, ◌+◌, ◌%◌, ◌^◌, ◌<◌, ◌≤◌, Bool, true, false, List, [], ◌∷◌}
 use Rattle.std.proofs.Common.{Option, Some, None, ap, arith, length, refl, replicate, inl, inr}
 use Rattle.std.proofs.Common.{subst, sym, ◌∙◌, ◌++◌, map}
@@ -141,7 +141,7 @@ lowest_start = (
   none_of_two (suc (suc (suc (suc zero)))) from e = omega (arith, ap or_none e)
   none_of_two (suc (suc (suc (suc (suc k))))) from e = cc
 
--- none though there is one, one of another order, one before the page, and one behind another
+-- none though there is one, one of another order, one before the page, and one after another
 not_lowest_start : (IsLowestStart three 0 4 None → ⊥) × (IsLowestStart three 0 1 (Some 2) → ⊥)
     × (IsLowestStart three 0 1 (Some 0) → ⊥) × (IsLowestStart three 0 0 (Some 4) → ⊥)
 not_lowest_start = (
@@ -179,7 +179,7 @@ no_order_past_nine zero larger some few from e = omega (arith, few, ap or_none e
 no_order_past_nine (suc k) larger some few from e = cc
 
 -- none though there is one, another order than its own, too small a block, too large a one, one
--- before the page, and one behind a larger one
+-- before the page, and one after a larger one
 not_lowest_listed : (IsLowestListed three 1 2 None → ⊥)
     × (IsLowestListed three 0 2 (Some (block 2 0)) → ⊥)
     × (IsLowestListed three 1 0 (Some (block 0 0)) → ⊥)

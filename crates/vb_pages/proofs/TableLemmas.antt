@@ -130,11 +130,11 @@ table_at t blocks p d l =
         (tested t p k blocks ∙ ap (is_order k) e ∙ is_order-self k)
         (λ j differ. tested t p j blocks ∙ ap (is_order j) e ∙ is_order-other j k differ)
 
--- the sets of a table stand for it
+-- the sets of a table represent it
 table_of_sets : (t : List (Option ℕ)) → AreBlocks t → table_of (length t) (sets_of t) ≡ t
 table_of_sets t blocks = grind (arith, same_lists, length-table_of, table_at, get_or_default)
 
--- sets, and the table that they stand for
+-- sets, and the table that they represent
 pub record StandFor (pages : ℕ) (sets : List (List Bool)) (t : List (Option ℕ)) : Type 0 where
   pub table : table_of pages sets ≡ t
   pub kept : AreSetsOf pages sets

@@ -24,7 +24,7 @@ takes_in_turn new = (
   λ t. t.2.2 ∙ (t.2.1.1 ∙ ap (λ (set : List Bool). without_pages (5 ∷ []) set) t.1.1),
 )
 
--- not a page behind another one, nor a part of a block while there is a smaller one
+-- not a page after another one, nor a part of a block while there is a smaller one
 none_is_skipped : (new : List Bool) → (TakesPages spread (5 ∷ []) new → ⊥)
     × (TakesPages spread (2 ∷ []) new → ⊥)
 none_is_skipped new = (λ t. behind 5 t.1.0 (omega arith), λ t. behind 2 t.1.0 (omega arith)) where
@@ -80,7 +80,7 @@ fills_eight set new taken rising takes count same sorted = record {
   list_is = refl;
 }
 
--- so many pages are taken as come into the list
+-- n pages are taken as come into the list
 as_many : (set new : List Bool) (list : List ℕ) (r : Refills set list new) → length r.taken ≡ length list
 as_many set new list r = grind (arith, length-reverse, length_permutation)
 
@@ -146,7 +146,7 @@ tries_pair : (new : FreePages) → (Tries (areas_of spread) 0 1 (Some 2) new
 unfolding without_pages
 tries_pair new = (λ t. (t.0.1, t.1, t.2), λ t. (t.0.1, t.1, t.2))
 
--- the page that was put in first, a page while the list has some, and a pair behind another, or none
+-- the page that was put in first, a page while the list has some, and a pair after another, or none
 -- though there is one
 tries_no_other : (new : FreePages) → (Tries free 0 0 (Some 3) new → ⊥)
     × (Tries (areas_of spread) 0 1 (Some 8) new → ⊥) × (Tries (areas_of six) 0 1 None new → ⊥)

@@ -76,7 +76,7 @@ pub record IsLowestFrom (set : List Bool) (order from : ℕ) (b : Block) : Type 
   pub lowest : (c : Block) → IsMaximal set c → order ≤ c.order → from ≤ c.start → b.start ≤ c.start
 
 -- the set's maximal blocks of this order as bits: bit b of word w is 1 exactly if one starts at
--- page (64 w + b) * 2^order; the words are the fewest that so many pages need, at least one
+-- page (64 w + b) * 2^order; the words are the fewest that n pages need, at least one
 pub record AreBlockBits (set : List Bool) (order : ℕ) (words : List ℕ) : Type 0 where
   pub fewest : length words ≡ max 1 (div_ceil (length set / 2 ^ order) WORD_BITS)
   pub tells : (w b : ℕ) → b < WORD_BITS → (has_bit (slice_index words w) b ≡ true) ↔

@@ -35,7 +35,7 @@ times_free f page = one_if (has f.areas page) + count_by (λ p. p == page) (in_l
 abbrev pub free_count : FreePages → ℕ
 free_count f = count_by (λ flag. flag) f.areas + length (in_lists f)
 
--- the processor's list: what was put in last stands last
+-- the processor's list: what was put in last is last
 abbrev pub list_of : FreePages → ℕ → List ℕ
 list_of f cpu = slice_index_or f.lists cpu []
 

@@ -3,7 +3,7 @@ use Rattle.std.specs.Prelude.{ℕ, suc, List, [], ◌∷◌, Option, Some, None}
 use Rattle.vb_model.specs.Pages.{Block}
 use Rattle.vb_pages.specs.Areas.{block_at}
 
--- so many pages, and the held blocks by rising start
+-- n pages, and the held blocks by rising start
 pub record HeldBlocks : Type 0 where
   pub pages : ℕ
   pub blocks : List Block

@@ -51,7 +51,7 @@ is_held_block s b = list_any (λ h. is_same_block h b) s.held
 abbrev pub is_unreserved : PageState → ℕ → Bool
 is_unreserved s page = nat_le (reserved_count s) page && nat_lt page (page_count s)
 
--- all of so many pages but the reserved ones are free, in the areas
+-- all of n pages but the reserved ones are free, in the areas
 abbrev pub new_page_state : ℕ → ℕ → ℕ → PageState
 new_page_state pages cpus reserved =
     record {
@@ -80,7 +80,7 @@ abbrev pub freed : ℕ → Block → PageState → PageState
 freed cpu b s =
     record { free = given_back cpu b.start b.order s.free; held = without_block b s.held }
 
--- so many single pages leave the areas, one after the other, after all lists were drained
+-- n single pages leave the areas, one after the other, after all lists were drained
 abbrev pub TakesFree : PageState → List ℕ → PageState → Type 0
 TakesFree s pages new =
     TakesPages (drained s.free).areas pages new.free.areas ×

@@ -23,7 +23,7 @@ pub record AreBlocks (table : List (Option ℕ)) : Type 0 where
   pub fits : (start order : ℕ) → order_at table start ≡ Some order →
       start + 2 ^ order ≤ length table
 
--- so many blocks of the order so many pages have room for; a set has one number at least
+-- n blocks of the order m pages have room for; a set has one number at least
 abbrev pub room_of : ℕ → ℕ → ℕ
 room_of order pages = max 1 (pages / 2 ^ order)
 
@@ -42,18 +42,18 @@ abbrev pub is_in_sets : List (List Bool) → ℕ → ℕ → Bool
 is_in_sets sets page order =
     page % 2 ^ order == 0 && has (slice_index_or sets order []) (page / 2 ^ order)
 
--- of so many numbers, from one on, the first that passes a test
+-- of n numbers, from one on, the first that passes a test
 abbrev pub first_of : (ℕ → Bool) → ℕ → ℕ → Option ℕ
 first_of test first zero = None
 first_of test first (suc more) =
     if test first then Some first else first_of test (suc first) more
 
--- the table of so many pages that sets stand for
+-- the table of n pages that sets represent
 unfoldable pub table_of : ℕ → List (List Bool) → List (Option ℕ)
 table_of pages sets =
     map (λ page. first_of (is_in_sets sets page) 0 (max_order + 1)) (range_with_len 0 pages)
 
--- the sets are just those of the table that they stand for
+-- the sets are just those of the table that they represent
 pub record AreSetsOf (pages : ℕ) (sets : List (List Bool)) : Type 0 where
   pub small : pages ≤ MAX_PAGES
   pub same : sets ≡ sets_of (table_of pages sets)

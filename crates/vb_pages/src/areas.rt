@@ -141,7 +141,7 @@ impl Model for Areas {
 }
 
 impl Areas {
-    /// All of so many pages but the reserved ones, which are the first ones.
+    /// All of `pages` pages but the reserved ones, which are the first ones.
     pub fn new(alloc: Global, pages: u32, reserved: u32) -> Result<Self, AllocError>
         requires { pages ≤ MAX_PAGES }
         ensures { IfOk result (λ a. a ≡ unreserved pages reserved) }

@@ -40,7 +40,7 @@ fn drain_lists(areas: &mut Areas, lists: &mut [PageList])
     }
 }
 
-/// Takes so many single pages, one after the other.
+/// Takes `count` single pages, one after the other.
 fn take_singles(areas: &mut Areas, count: u32, out: &mut ArrayVec<u32, { REQUEST_PAGES }>)
     requires most { count ≤ MAX_REQUEST_PAGES }
     requires empty { out.old.items ≡ [] }
@@ -86,7 +86,7 @@ impl Model for FreePages {
 }
 
 impl FreePages {
-    /// All of so many pages but the reserved ones, with an empty list for each processor.
+    /// All of `pages` pages but the reserved ones, with an empty list for each processor.
     pub fn new(alloc: Global, pages: u32, cpus: u32, reserved: u32) -> Result<Self, AllocError>
         requires pages { pages ≤ MAX_PAGES }
         requires cpus { cpus ≤ MAX_PROCESSORS }
@@ -188,7 +188,7 @@ impl FreePages {
         self.areas.give(start, order);
     }
 
-    /// Takes so many single pages, one after the other, after all lists were drained.
+    /// Takes `count` single pages, one after the other, after all lists were drained.
     pub fn take_pages(&mut self, count: u32, out: &mut ArrayVec<u32, { REQUEST_PAGES }>)
         requires most { count ≤ MAX_REQUEST_PAGES }
         requires empty { out.old.items ≡ [] }

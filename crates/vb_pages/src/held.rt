@@ -32,7 +32,7 @@ impl Model for Held {
 }
 
 impl Held {
-    /// No held blocks among so many pages.
+    /// No held blocks among `pages` pages.
     pub fn new(alloc: Global, pages: u32) -> Result<Self, AllocError>
         requires { pages ≤ MAX_PAGES }
         ensures { IfOk result (λ h. h ≡ record { pages = pages; blocks = [] }) }

@@ -44,9 +44,9 @@ impl Model for Pages {
 }
 
 impl Pages {
-    /// Pages for a guest of so many, at most 262,144, and of so many processors, at most 4. The
-    /// first `reserved` ones are never free; all others are. All memory is taken here, and want of
-    /// it is the only refusal.
+    /// Pages for a guest of `pages`, at most 262,144, and of `cpus` processors, at most 4. The
+    /// first `reserved` ones are never free; all others are. All memory is taken here, and an
+    /// allocation failure is the only refusal.
     pub fn new(alloc: Global, pages: u32, cpus: u32, reserved: u32) -> Result<Self, AllocError>
         requires { IsGuestSize pages cpus }
         ensures { IfOk result (λ p. p ≡ new_page_state pages cpus reserved) }

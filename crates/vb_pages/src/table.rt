@@ -37,7 +37,7 @@ impl Model for Table {
 }
 
 impl Table {
-    /// A table of so many pages, without a block.
+    /// A table of `pages` pages, without a block.
     pub fn new(alloc: Global, pages: u32) -> Result<Self, AllocError>
         requires { pages ≤ MAX_PAGES }
         ensures { IfOk result (λ t. t ≡ replicate pages None) }

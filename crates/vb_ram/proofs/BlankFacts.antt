@@ -4,7 +4,7 @@ use Rattle.std.{specs.Prelude.slice_index, proofs.lemmas.List.length-replicate}
 use Rattle.vb_virtio.specs.Memory.{zero_page}
 use Rattle.vb_ram.{specs.Blank.{shown, HoldsPage}, proofs.Contents.zero_page-at}
 
--- what is held stands first, and zeros behind it
+-- what is held is first, and zeros after it
 nothing_held : shown [] ≡ zero_page
 nothing_held = refl
 

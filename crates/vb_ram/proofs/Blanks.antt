@@ -13,7 +13,7 @@ pub length-shown : (bytes : List ℕ) → length bytes ≤ 4096 → length (show
 length-shown bytes few = length-append bytes (drop (length bytes) zero_page)
     ∙ omega (arith, length-drop (length bytes) zero_page, length-zero_page, few)
 
--- zeros behind the bytes change none of them, and each place past them has a zero
+-- zeros after the bytes change none of them, and each place past them has a zero
 pub zeros_behind : (bytes zeros : List ℕ) → ((o : ℕ) → slice_index zeros o ≡ 0) → (o : ℕ)
     → slice_index (bytes ++ zeros) o ≡ slice_index bytes o
 zeros_behind bytes zeros are o = at (cases_lt o (length bytes)) where
@@ -32,7 +32,7 @@ pub shown-at : (bytes : List ℕ) (o : ℕ) → slice_index (shown bytes) o ≡ 
 shown-at bytes = zeros_behind bytes (drop (length bytes) zero_page)
     (λ o. get_or-drop (length bytes) zero_page o 0 ∙ zero_page-at (length bytes + o))
 
--- the same is shown where the same stands at each place
+-- the same is shown where the same is at each place
 pub same_shown : (a b : List ℕ) → length a ≤ 4096 → length b ≤ 4096
     → ((o : ℕ) → slice_index a o ≡ slice_index b o) → shown a ≡ shown b
 same_shown a b few_a few_b same = ext_get_or 0 (shown a) (shown b) (length-shown a few_a

@@ -9,7 +9,7 @@ use Rattle.vb_virtio.specs.Memory.{zero_page, overwritten}
 use Rattle.vb_ram.specs.Pages.{Pages, page_at, frame_at, contents_at, byte_at, IsWhole, SameBut}
 use Rattle.vb_ram.specs.Pages.{Wrote, Supplied, Discarded}
 
--- so many zeros, at any offset
+-- n zeros, at any offset
 pub zeros-at : (n k : ℕ) → slice_index (replicate n 0) k ≡ 0
 zeros-at n k = grind (arith, get_or-replicate, length-replicate, get_or_past)
 
@@ -42,7 +42,7 @@ pub same_contents : (a b : Pages) (p : ℕ) → length (contents_at a p) ≡ len
 same_contents a b p len same = ext_get_or 0 (contents_at a p) (contents_at b p) len
     (λ o h. sym (byte_at-contents a p o) ∙ same o ∙ byte_at-contents b p o)
 
--- a write leaves the bytes before, its own, and the bytes behind
+-- a write leaves the bytes before, its own, and the bytes after
 pub contents_wrote : (old new : Pages) (p off : ℕ) (bs : List ℕ) → Wrote old new p off bs
     → off + length bs ≤ length (contents_at old p)
     → contents_at new p ≡ overwritten off bs (contents_at old p)

@@ -57,6 +57,6 @@ cleared old new p put = let from_start : (k : ℕ) → 0 + k ≡ k = λ k. omega
       (from_start (length zero_page) ∙ length-zero_page) put.rest;
 }
 
--- the page of zeros stands where it was put
+-- the page of zeros is where it was put
 pub put_zeros : (old : List ℕ) → length old ≡ 4096 → PutAt old zero_page 0 zero_page
 put_zeros old whole = grind (arith, get_or_past, length-zero_page)

@@ -1,9 +1,9 @@
--- A frame's bytes, of which only the first are held: those behind are zeros.
+-- A frame's bytes, of which only the first are held: those after are zeros.
 use Rattle.std.specs.Prelude.{ℕ, ◌≤◌, List, ◌++◌, length, drop}
 use Rattle.vb_virtio.specs.Memory.{zero_page}
 use Rattle.vb_virtio.specs.declared.limits.TheConstants.{PAGE_SIZE}
 
--- the bytes that a frame shows where these are held: zeros up to the page's end behind them
+-- the bytes that a frame shows where these are held: zeros up to the page's end after them
 abbrev pub shown : List ℕ → List ℕ
 shown bytes = bytes ++ drop (length bytes) zero_page
 

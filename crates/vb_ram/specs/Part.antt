@@ -4,7 +4,7 @@ use Rattle.vb_virtio.specs.Queues.{Request}
 use Rattle.vb_virtio.specs.declared.statistics.LastStatistics.{LastStatistics}
 use Rattle.vb_virtio.specs.Statistics.{no_statistics}
 
--- Of one queue: how many available entries were taken and how many used entries written, both
+-- Of one queue: how many available entries were taken and how many used elements written, both
 -- modulo 65,536, and the chains that are taken, oldest first (VIRTIO 1.1, 2.6).
 pub record QueuePart : Type 0 where
   pub next_avail : ℕ

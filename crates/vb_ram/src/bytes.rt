@@ -59,8 +59,8 @@ pub trait GuestBytes {
         ensures unwritten { OnErr result (mem self.new ≡ mem self.old) }
         ensures none_written { length bytes.now ≡ 0 → mem self.new ≡ mem self.old };
 
-    /// Makes all bytes of a page zeros, and changes nothing else: as a write of so many zeros does,
-    /// which whoever keeps the memory may do for less.
+    /// Makes all bytes of a page zeros, and changes nothing else: as a write of zeros does. An
+    /// implementation may do it for less.
     ///
     /// Refused with `OutOfRam` where there is no such page, then with `NeedsFrame` where the page
     /// has no frame. A refused call changes nothing.

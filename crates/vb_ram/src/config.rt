@@ -40,7 +40,7 @@ impl Config {
         })
     }
 
-    /// Where rings and buffers stand in the guest's memory.
+    /// Where rings and buffers are in the guest's memory.
     pub fn shape(&self) -> Shape
         ensures { result ≡ record { queue_size = self.now.queue_size } }
     {

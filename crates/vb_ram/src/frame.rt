@@ -18,18 +18,18 @@ pub const PAGE_SIZE: usize = limits::PAGE_SIZE as usize;
 /// A page of zeros.
 pub(crate) static ZEROS: [u8; PAGE_SIZE] = [0; PAGE_SIZE];
 
-/// How many zeros are held at the most behind the last byte that is written past those that are
+/// How many zeros are held at the most after the last byte that is written past those that are
 /// held, so that writes in rising order don't each add a few.
 const ZEROS_AHEAD: usize = 240;
 
-/// A frame of the host: a number, and `PAGE_SIZE` bytes. It can't be cloned, so whoever has it is
-/// the only one; that no other frame has its number is for those who make frames to keep.
+/// A frame of the host: a number, and `PAGE_SIZE` bytes. It can't be cloned, so it
+/// has one owner; that no other frame has its number is the duty of its maker.
 #[derive(Drop)]
 pub struct Frame {
     /// Which of the host's frames it is.
     number: u32,
     /// Its first bytes. Those that aren't held, up to `PAGE_SIZE`, are zeros, so a write takes no
-    /// time for what stands behind it. There is room for all of them from the start.
+    /// time for what comes after it. There is room for all of them from the start.
     bytes: Vec<u8>,
 }
 
@@ -108,7 +108,7 @@ fn hold(held: &mut Vec<u8>, end: usize)
     }
 }
 
-/// Holds the zeros up to an end, and some behind it.
+/// Holds the zeros up to an end, and some after it.
 #[inline(never)]
 fn hold_zeros(held: &mut Vec<u8>, end: usize)
     requires few { end ≤ PAGE_SIZE }
@@ -124,7 +124,7 @@ fn hold_zeros(held: &mut Vec<u8>, end: usize)
     }
 }
 
-/// Reads bytes from an offset on, and zeros behind the last one.
+/// Reads bytes from an offset on, and zeros after the last one.
 #[inline]
 fn read_bytes(held: &[u8], offset: usize, out: &mut [u8])
     requires { offset + length out.old ≤ PAGE_SIZE }
@@ -141,7 +141,7 @@ fn read_bytes(held: &[u8], offset: usize, out: &mut [u8])
     }
 }
 
-/// Reads bytes, and zeros behind the last one.
+/// Reads bytes, and zeros after the last one.
 #[inline(never)]
 fn read_last(held: &[u8], out: &mut [u8])
     requires { length held.now ≤ length out.old }

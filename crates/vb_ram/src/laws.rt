@@ -6,7 +6,7 @@ ghost use Rattle.vb_virtio.specs.declared.limits.TheConstants.{PAGE_SIZE};
 ghost use Rattle.vb_ram.specs.Pages.{Pages, byte_at, contents_at, frame_at, page_at, IsWhole};
 ghost use Rattle.vb_ram.specs.Pages.{SameBut, Wrote, Supplied, Discarded};
 
-/// What a write makes of a page's bytes: its own stand between those before and those behind.
+/// What a write makes of a page's bytes: its own are between those before and those after.
 pub fn a_write_replaces_bytes()
     ensures { (old new : Pages) (p off : ℕ) (bs : List ℕ) → IsWhole old →
         off + length bs ≤ PAGE_SIZE →

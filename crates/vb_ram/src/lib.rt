@@ -1,5 +1,5 @@
-//! Guest memory: pages of 4096 bytes, each with a frame behind it or without one, and the
-//! little-endian numbers in it.
+//! Guest memory: pages of 4096 bytes, each backed by a frame or not, and the little-endian numbers
+//! in it.
 //!
 //! An unbacked page reads as zeros and can't be written. `Ram` is the plain memory; a device that
 //! keeps more beside the bytes implements `GuestBytes` too, and says by `Part` what each of its

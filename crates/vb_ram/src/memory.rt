@@ -37,7 +37,7 @@ pub struct SupplyRefused {
 }
 
 impl Ram {
-    /// Memory of so many pages, none of them with a frame. Refused with `Memory` alone.
+    /// Memory of `pages` pages, none of them with a frame. Refused with `Memory` alone.
     pub fn new(alloc: Global, pages: u32) -> Result<Ram, RamFault>
         ensures ok { IfOk result (λ ram. ram ≡ replicate pages None) }
         ensures err { IfErr result (λ fault. fault ≡ RamFault.Memory) }
@@ -58,7 +58,7 @@ impl Ram {
         }
     }
 
-    /// Puts a frame behind a page, and fills it with zeros: what the frame held is gone.
+    /// Backs a page with a frame, and fills it with zeros: what the frame held is gone.
     ///
     /// Refused with `OutOfRam` where there is no such page, then with `AlreadyBacked` where the
     /// page has a frame. A refused call gives the frame back as it was, and changes nothing.
@@ -97,8 +97,8 @@ impl Ram {
         self.pages[page as usize].take()
     }
 
-    /// The number of the frame behind a page; none where the page has no frame or there is no such
-    /// page.
+    /// The number of the frame that backs a page; none where the page has no frame or there is no
+    /// such page.
     pub fn backing(&self, page: u32) -> Option<u32>
         ensures frame { result ≡ frame_at self.now page }
         ensures whole { IsWhole self.now }

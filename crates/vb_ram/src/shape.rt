@@ -1,4 +1,4 @@
-//! Where rings and buffers stand in a guest's memory.
+//! Where rings and buffers are in a guest's memory.
 
 ghost use Rattle.std.specs.Prelude.{◌≡◌};
 ghost use Rattle.vb_virtio.specs.Layout.{takes_two_pages, reserved_pages, ring_number, ring_page};
@@ -10,7 +10,7 @@ use vb_virtio::layout::{
     STATISTICS_QUEUE,
 };
 
-/// Where rings and buffers stand in the memory of a guest whose queues have so many descriptors
+/// Where rings and buffers are in the memory of a guest whose queues have `queue_size` descriptors
 /// (profile). Each question about it is asked here.
 #[derive(Clone, Copy, Debug, PartialEq, Eq)]
 pub struct Shape {

@@ -13,10 +13,10 @@ enum Step {
     Pages,
     Backing(u32),
     HasFrame(u32),
-    /// A fresh frame of a number is put behind a page.
+    /// A page is backed by a fresh frame of a number.
     Supply(u32, u32),
     Discard(u32),
-    /// The frame behind a page is put behind another one.
+    /// The frame that backs a page is made to back another one.
     Move(u32, u32),
     Write(u32, usize, &'static [u8]),
     /// All bytes of a page become zeros.

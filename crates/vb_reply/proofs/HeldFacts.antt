@@ -1,4 +1,4 @@
--- What is put behind the bytes that a writer has and those that are held for it, worked out.
+-- What is put after the bytes that a writer has and those that are held for it, worked out.
 use Rattle.std.proofs.Common.{ℕ, List, [], Some, codes, length, refl, ap, arith}
 use Rattle.std.specs.Prelude.{slice_index}
 use Rattle.vb_reply.specs.Held.{Puts}

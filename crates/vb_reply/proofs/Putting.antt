@@ -1,4 +1,4 @@
--- What is put behind a writer's bytes, whether it is held or written.
+-- What is put after a writer's bytes, whether it is held or written.
 use Rattle.std.proofs.Common.{◌≡◌, ℕ, List, [], ◌∷◌, ◌++◌, Option, Some, None, refl, ap, sym, ◌∙◌}
 use Rattle.std.proofs.Common.{◌/◌, ◌%◌, slice_index, take, drop, append_assoc, append-nil}
 use Rattle.std.{proofs.lemmas.List.take-append-drop, specs.Io.KnownBytes.Appends}

@@ -1,4 +1,4 @@
--- What is put behind the bytes that a writer has and those that are held for it.
+-- What is put after the bytes that a writer has and those that are held for it.
 use Rattle.std.specs.Prelude.{ℕ, List, Option}
 use Rattle.std.specs.Io.KnownBytes.{Appends, append_known}
 

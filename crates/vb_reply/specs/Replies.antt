@@ -58,7 +58,7 @@ refusal_text NoFrame = codes "no frame"
 refusal_text NoMemory = codes "memory"
 refusal_text (Short missing) = codes "short " ++ decimal missing
 
--- pages FIRST to LAST behind a space, one page alone by its number
+-- pages FIRST to LAST after a space, one page alone by its number
 abbrev pub run_text : PageRun → List ℕ
 run_text run =
     if run.first == run.last then codes " " ++ decimal run.first
@@ -76,7 +76,7 @@ freed_text false = codes "bare"
 abbrev pub bytes_text : List ℕ → List ℕ
 bytes_text bytes = codes "bytes " ++ encode_lower bytes
 
--- a target behind a space
+-- a target after a space
 abbrev pub target_text : ℕ → List ℕ
 target_text target = codes " " ++ decimal target
 

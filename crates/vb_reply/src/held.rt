@@ -16,8 +16,8 @@ const HELD: usize = 8192;
 /// Bytes that are made digits of at once.
 const CHUNK: usize = 256;
 
-/// Text that is held back for one writer: what comes next goes after it. Whoever has put something
-/// calls `release` at the end, or it is never written.
+/// Text that is held back for one writer: what comes next goes after it. After the last text
+/// `release` has to be called, or what is held is never written.
 #[derive(Drop)]
 pub struct Held {
     /// What the writer doesn't have yet.
@@ -53,7 +53,7 @@ impl Held {
     }
 }
 
-/// Puts a text behind what a writer has and what is held for it.
+/// Puts a text after what a writer has and what is held for it.
 #[inline]
 pub fn put<W: Write>(out: &mut W, held: &mut Held, text: &[u8]) -> Result<(), Failed>
     ensures { OnOk result
@@ -66,7 +66,7 @@ pub fn put<W: Write>(out: &mut W, held: &mut Held, text: &[u8]) -> Result<(), Fa
     }
 }
 
-/// Writes what is held, and the text behind it.
+/// Writes what is held, and the text after it.
 #[cold]
 fn put_through<W: Write>(out: &mut W, held: &mut Held, text: &[u8]) -> Result<(), Failed>
     ensures { OnOk result
@@ -115,7 +115,7 @@ pub fn put_number<W: Write>(out: &mut W, held: &mut Held, number: u64) -> Result
     put_digits_of(out, held, number)
 }
 
-/// The same, whatever the number.
+/// Puts the digits of any number after what is held.
 fn put_digits_of<W: Write>(out: &mut W, held: &mut Held, number: u64) -> Result<(), Failed>
     ensures { OnOk result (Puts (W.contents out.old) held.old.text.items (W.contents out.new)
         held.new.text.items (decimal number)) }
@@ -124,7 +124,7 @@ fn put_digits_of<W: Write>(out: &mut W, held: &mut Held, number: u64) -> Result<
     put(out, held, digits.format(number).as_bytes())
 }
 
-/// Puts a number behind a text.
+/// Puts a number after a text.
 #[inline]
 pub fn put_with<W: Write>(
     out: &mut W,
@@ -153,7 +153,7 @@ pub fn put_digits<W: Write>(out: &mut W, held: &mut Held, bytes: &[u8]) -> Resul
     Ok(())
 }
 
-/// The same of no more bytes than are made digits of at once.
+/// Puts at most `CHUNK` bytes as digits, all at once.
 fn put_chunk<W: Write>(out: &mut W, held: &mut Held, bytes: &[u8]) -> Result<(), Failed>
     requires { length bytes.now ≤ 256 }
     ensures { OnOk result (Puts (W.contents out.old) held.old.text.items (W.contents out.new)

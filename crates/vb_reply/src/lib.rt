@@ -2,7 +2,7 @@
 //!
 //! `write_reply` writes a reply's line, `write_replies` those of many, and `put_reply` one after
 //! others as replies come. `docs/SCRIPTS.md` has all lines; `vb_script` reads those of events.
-//! Who answers the events is no matter here.
+//! Any implementation may answer the events.
 #![tactic(auto)]
 
 mod held;

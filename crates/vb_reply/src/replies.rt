@@ -192,7 +192,7 @@ fn put_bytes<W: Write>(out: &mut W, held: &mut Held, bytes: &[u8]) -> Result<(),
     put_digits(out, held, bytes)
 }
 
-/// Puts a number behind each of two texts.
+/// Puts a number after each of two texts.
 fn put_two<W: Write>(
     out: &mut W,
     held: &mut Held,
@@ -221,7 +221,7 @@ fn put_targets<W: Write>(out: &mut W, held: &mut Held, targets: &[u32]) -> Resul
     Ok(())
 }
 
-/// Puts a target behind a space.
+/// Puts a target after a space.
 fn put_target<W: Write>(out: &mut W, held: &mut Held, target: u32) -> Result<(), Failed>
     ensures { OnOk result
         (Puts (W.contents out.old) held.old.text.items (W.contents out.new)
@@ -264,7 +264,7 @@ fn put_runs<W: Write>(out: &mut W, held: &mut Held, runs: &[PageRun]) -> Result<
     Ok(())
 }
 
-/// Puts a run of pages behind a space.
+/// Puts a run of pages after a space.
 fn put_run<W: Write>(out: &mut W, held: &mut Held, run: PageRun) -> Result<(), Failed>
     ensures { OnOk result (Puts (W.contents out.old) held.old.text.items (W.contents out.new)
         held.new.text.items (run_text run)) }
@@ -292,7 +292,7 @@ fn put_statistics<W: Write>(
     put_statistic(out, held, last.total)
 }
 
-/// Puts one statistic behind a space.
+/// Puts one statistic after a space.
 fn put_statistic<W: Write>(out: &mut W, held: &mut Held, value: Option<u64>) -> Result<(), Failed>
     ensures { OnOk result
         (Puts (W.contents out.old) held.old.text.items (W.contents out.new)
@@ -304,7 +304,7 @@ fn put_statistic<W: Write>(out: &mut W, held: &mut Held, value: Option<u64>) -> 
     }
 }
 
-/// Puts a statistic that is known, behind a space.
+/// Puts a statistic that is known, after a space.
 fn put_known<W: Write>(out: &mut W, held: &mut Held, value: u64) -> Result<(), Failed>
     ensures { OnOk result (Puts (W.contents out.old) held.old.text.items (W.contents out.new)
         held.new.text.items (statistic_text (Some value))) }

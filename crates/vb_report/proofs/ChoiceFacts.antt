@@ -66,7 +66,7 @@ at start order = record { start = start; order = order }
 none : HaveRoom taken []
 none = record { each = λ k d lt. absurd (omega (arith, lt)); apart = tt }
 
--- each of these, behind one that may: a reserved page, one past the end, no start of a block, a free
+-- each of these, after one that may: a reserved page, one past the end, no start of a block, a free
 -- page of the areas and of a list, and one that is held
 behind_one : (start order : ℕ) → HaveRoom taken (at 16 0 ∷ at start order ∷ [])
     → HasRoomIn taken (block_at start order)

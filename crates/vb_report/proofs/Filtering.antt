@@ -62,7 +62,7 @@ flat_same {A = A} test other g a (suc n) h =
     (flat_same test other g (a + 1) n (λ k l u. h k (omega arith) (omega arith)))
     ∙ sym (filter-append other (g a) (flat_map g (range_with_len (a + 1) n)))))
 
--- one element at s passes the first test; what stands after it passes both or none
+-- one element at s passes the first test; what comes after it passes both or none
 pub flat_split : {A : Type 0} (test other : A → Bool) (g : ℕ → List A) (s : ℕ) (x : A) (a n : ℕ)
     → a ≤ s → s < a + n → ((k : ℕ) → k < s → filter test (g k) ≡ [])
     → ((k : ℕ) → k < s → filter other (g k) ≡ []) → filter test (g s) ≡ x

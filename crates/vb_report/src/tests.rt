@@ -20,7 +20,7 @@ enum Step {
     FreePage(u32),
     /// A report takes blocks from a page on, as many as there is room for.
     Report(u32, u32),
-    /// The same, and they come back.
+    /// A report takes blocks from a page on, and they come back.
     ReportAndReap(u32, u32),
     /// How many pages are free.
     Count,
@@ -83,7 +83,7 @@ fn first_wrong_line(pages: &mut Pages, lines: &[(Step, Answer)]) -> Option<usize
 }
 
 /// The first line whose call isn't answered so, when they are made one after the other on a new
-/// guest of so many pages, of which so many are reserved, and one processor.
+/// guest of n pages, of which m are reserved, and one processor.
 fn first_wrong(
     alloc: Global,
     size: u32,
@@ -183,7 +183,7 @@ const EIGHTY_PAGES: [(Step, Answer); 5] = [
     (Count, Free(0)),
 ];
 
-/// Calls on a new guest of so many pages, of which so many are reserved.
+/// Calls on a new guest of n pages, of which m are reserved.
 struct Example {
     name: &'static str,
     pages: u32,

@@ -99,7 +99,7 @@ sound_more reserved count ns k number lt at before here = grind (
   first_fault-append reserved count (take k ns) (get_or ns k 0 ∷ []),
 )
 
--- one more number, put behind the others where it is new
+-- one more number, put after the others where it is new
 pub once_more : (ns pages new : List ℕ) (k number : ℕ) → k < length ns → get_or ns k 0 ≡ number
     → pages ≡ each_once (take k ns) → new ≡ (if is_in number pages then pages else pages
     ++ number ∷ []) → new ≡ each_once (take (k + 1) ns)

@@ -43,7 +43,7 @@ lengths : map is_request_length (0 ∷ 4 ∷ 6 ∷ 1024 ∷ 1028 ∷ [])
     ≡ false ∷ true ∷ false ∷ true ∷ false ∷ []
 lengths = refl
 
--- all pieces count together; one to be written is told first, wherever it stands
+-- all pieces count together; one to be written is told first, wherever it is
 of_pieces : map request_length ([] ∷ (read 0 3 ∷ read 0 5 ∷ []) ∷ (read 0 4 ∷ read 0 1022 ∷ [])
     ∷ (read 0 3 ∷ written 0 4 ∷ []) ∷ [])
     ≡ Err BadLength ∷ Ok 8 ∷ Err BadLength ∷ Err WrongDirection ∷ []

@@ -36,7 +36,7 @@ first_is_told = refl
 named : report_request (piece 36864 4096 ∷ piece 8192 8192 ∷ []) 2 ≡ Ok (9 ∷ 2 ∷ 3 ∷ [])
 named = refl
 
--- a piece to be read is told first, wherever it stands, then a wrong length, then a wrong page
+-- a piece to be read is told first, wherever it is, then a wrong length, then a wrong page
 not_named : map (λ pieces. report_request pieces 2)
     ((piece 1 4095 ∷ record { addr = 8192; len = 4096; writable = false } ∷ [])
     ∷ (piece 1 4096 ∷ piece 8192 4095 ∷ []) ∷ (piece 4096 4096 ∷ piece 1 4096 ∷ []) ∷ [])

@@ -23,7 +23,7 @@ pages = record { above = above; below = below; distinct = (refl, (refl, tt)) } w
   below (suc zero) d lt = omega arith
   below (suc (suc k)) d lt = absurd (omega (arith, lt))
 
--- one that is reserved, one past the end, and one that stands there twice
+-- one that is reserved, one past the end, and one that is there twice
 no_pages : (ArePages 2 8 (7 ∷ 1 ∷ []) → ⊥) × (ArePages 2 8 (2 ∷ 8 ∷ []) → ⊥)
     × (ArePages 2 8 (2 ∷ 3 ∷ 2 ∷ []) → ⊥)
 no_pages = (

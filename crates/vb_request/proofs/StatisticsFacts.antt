@@ -56,7 +56,7 @@ lengths : map is_statistics_length (0 ∷ 10 ∷ 15 ∷ 1020 ∷ 1030 ∷ [])
     ≡ true ∷ true ∷ false ∷ true ∷ false ∷ []
 lengths = refl
 
--- all pieces count together; one to be written is told first, wherever it stands
+-- all pieces count together; one to be written is told first, wherever it is
 of_pieces : map statistics_length ([] ∷ (read 0 13 ∷ read 0 7 ∷ []) ∷ (read 0 10 ∷ read 0 5 ∷ [])
     ∷ (read 0 5 ∷ record { addr = 0; len = 10; writable = true } ∷ []) ∷ [])
     ≡ Ok 0 ∷ Ok 20 ∷ Err BadLength ∷ Err WrongDirection ∷ []

@@ -10,8 +10,8 @@ use Rattle.vb_request.specs.Request.{page_request}
 use Rattle.vb_request.specs.Statistics.{statistics_request, statistics_in}
 use Rattle.vb_request.specs.Report.{report_request}
 
--- The pages that a chain of these pieces names on a queue of so many descriptors, or what is wrong
--- with it there: a buffer of statistics names none.
+-- The pages that a chain of these pieces names on a queue of n descriptors, or what is wrong with
+-- it there: a buffer of statistics names none.
 abbrev pub request_of : ℕ → ℕ → Pages → List Piece → Result (List ℕ) ChainFault
 request_of q size mem pieces =
     if q == STATISTICS_QUEUE then statistics_request pieces

@@ -17,7 +17,7 @@ use Rattle.vb_request.specs.Request.{first_of_both, unless_fault}
 abbrev pub pages_of_piece : Piece → List ℕ
 pages_of_piece piece = range_with_len (piece.addr / page_size) (piece.len / page_size)
 
--- Those of all pieces, in their order; a page that is named again stands there again.
+-- Those of all pieces, in their order; a page that is named again is there again.
 abbrev pub pages_of_pieces : List Piece → List ℕ
 pages_of_pieces pieces = flat_map pages_of_piece pieces
 
@@ -25,7 +25,7 @@ pages_of_pieces pieces = flat_map pages_of_piece pieces
 abbrev pub has_bad_length : Piece → Bool
 has_bad_length piece = (piece.len == 0) || not (piece.len % page_size == 0)
 
--- What is wrong with where a piece begins, where so many pages are reserved.
+-- What is wrong with where a piece begins, where n pages are reserved.
 abbrev pub piece_fault : ℕ → Piece → Option ChainFault
 piece_fault reserved piece =
     if not (piece.addr % page_size == 0) then Some BadPage
@@ -37,7 +37,7 @@ first_piece_fault reserved [] = None
 first_piece_fault reserved (piece ∷ pieces) =
     first_of_both (piece_fault reserved piece) (first_piece_fault reserved pieces)
 
--- The pages that a chain of these pieces names, or what is wrong with it, where so many pages are
+-- The pages that a chain of these pieces names, or what is wrong with it, where n pages are
 -- reserved.
 abbrev pub report_request : List Piece → ℕ → Result (List ℕ) ChainFault
 report_request pieces reserved =

@@ -20,7 +20,7 @@ use Rattle.vb_chain.specs.declared.fault.ChainFault.TheVariants.{ReservedPage}
 abbrev pub byte_of_address : Pages → ℕ → ℕ
 byte_of_address mem addr = byte_at mem (addr / page_size) (addr % page_size)
 
--- So many bytes from an address on.
+-- n bytes from an address on.
 abbrev pub bytes_from : Pages → ℕ → ℕ → List ℕ
 bytes_from mem addr len = map (byte_of_address mem) (range_with_len addr len)
 
@@ -40,7 +40,7 @@ number_at bytes k = from_le_bytes w32 (take 4 (drop (4 * k) bytes))
 unfoldable pub numbers_of : List ℕ → List ℕ
 numbers_of bytes = map (number_at bytes) (range_with_len 0 (length bytes / 4))
 
--- Each number once, where it first stands.
+-- Each number once, where it first is.
 abbrev pub each_once : List ℕ → List ℕ
 each_once [] = []
 each_once (n ∷ ns) = n ∷ filter (λ m. not (m == n)) (each_once ns)
@@ -58,8 +58,7 @@ request_length pieces =
     else (if not (is_request_length (total_length pieces)) then Err BadLength
     else Ok (total_length pieces))
 
--- What is wrong with a page number, where memory has so many pages, of which the first ones are
--- reserved.
+-- What is wrong with a page number, where memory has n pages, of which the first ones are reserved.
 abbrev pub number_fault : ℕ → ℕ → ℕ → Option ChainFault
 number_fault reserved count number =
     if nat_le count number then Some BadPage
@@ -87,7 +86,7 @@ abbrev pub pages_of_numbers : ℕ → ℕ → List ℕ → Result (List ℕ) Cha
 pages_of_numbers reserved count numbers =
     unless_fault (first_number_fault reserved count numbers) (each_once numbers)
 
--- The pages that a chain of these pieces names, or what is wrong with it, where so many pages are
+-- The pages that a chain of these pieces names, or what is wrong with it, where n pages are
 -- reserved.
 unfoldable pub page_request : Pages → List Piece → ℕ → Result (List ℕ) ChainFault
 page_request mem pieces reserved =
@@ -97,7 +96,7 @@ page_request mem pieces reserved =
 
 -- ---- what a request names, and as a driver writes one
 
--- Pages that a request of a guest of so many pages may name, of which the first ones are reserved.
+-- Pages that a request of a guest of n pages may name, of which the first ones are reserved.
 pub record ArePages (reserved count : ℕ) (pages : List ℕ) : Type 0 where
   pub above : All (λ page. reserved ≤ page) pages
   pub below : All (λ page. page < count) pages

@@ -41,7 +41,7 @@ pub fn read_chain_into<G: GuestBytes>(
         (All (λ page. reserved_pages shape.queue_size ≤ page) named.new) }
     ensures err { OnErr result (last.new ≡ last.old) }
 {
-    // Asked for the proof: that memory has fewer than 2^32 pages is a clause of this call alone.
+    // A no-op call: its clause tells the prover that memory has fewer than 2^32 pages.
     let _few = ram.pages();
     match queue {
         STATISTICS_QUEUE => {

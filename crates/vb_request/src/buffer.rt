@@ -23,7 +23,7 @@ const BUFFER_BYTES: usize = REQUEST_BUFFER_SIZE as usize;
 /// The bytes of a chain, all its pieces in a row.
 #[derive(Drop)]
 pub(crate) struct ChainBytes {
-    /// They, in order; past `len` unused.
+    /// The bytes, in order; past `len` unused.
     bytes: [u8; BUFFER_BYTES],
     /// How many there are.
     len: usize,
@@ -72,7 +72,7 @@ impl ChainBytes {
         &self.bytes[..self.len]
     }
 
-    /// Reads bytes of one page and puts them behind the others.
+    /// Reads bytes of one page and puts them after the others.
     fn append_run<G: GuestBytes>(&mut self, ram: &G, addr: u64, len: usize)
         requires inside { addr + len ≤ page_size * length (G.mem ram.now) }
         requires one_page { addr % page_size + len ≤ page_size }
@@ -88,7 +88,7 @@ impl ChainBytes {
         self.len = end;
     }
 
-    /// Reads a piece's bytes and puts them behind the others: a piece of a chain that is read lies
+    /// Reads a piece's bytes and puts them after the others: a piece of a chain that is read lies
     /// in one page or in two.
     fn append<G: GuestBytes>(&mut self, ram: &G, addr: u64, len: u32)
         requires inside { addr + len ≤ page_size * length (G.mem ram.now) }

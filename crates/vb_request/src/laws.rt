@@ -24,8 +24,8 @@ pub fn a_request_names_pages_of_the_guest()
         page_request mem pieces reserved ≡ Ok pages → ArePages reserved (length mem) pages }
 {}
 
-/// A report that isn't refused, whose pieces lie in a memory of so many pages, names pages of the
-/// guest that aren't reserved.
+/// A report that isn't refused, whose pieces lie in a memory of n pages, names pages of the guest
+/// that aren't reserved.
 pub fn a_report_names_pages_of_the_guest()
     ensures { (count : ℕ) (pieces : List Piece) (reserved : ℕ) (pages : List ℕ) →
         All (λ piece. piece.addr + piece.len ≤ page_size * count) pieces →

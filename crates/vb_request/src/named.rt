@@ -82,7 +82,7 @@ fn put_pieces(kept: &mut ReportPieces, pieces: &[Piece])
 /// The pages that a chain names, in order.
 ///
 /// A request lists them, each once, at most 256. Of a report the pieces are kept, at most 32, and
-/// no list of pages, which a guest could make 2,000,000 long; a page may stand in several pieces.
+/// no list of pages, which a guest could make 2,000,000 long; a page may be in several pieces.
 #[derive(Drop)]
 pub struct NamedPages {
     /// One or the other.
@@ -181,7 +181,7 @@ impl NamedPages {
     }
 
     /// A run that begins with the page of this number, from 0; none where there are no more than
-    /// that. How many pages it has behind that one is left open.
+    /// that. How many pages it has after that one is left open.
     pub fn run(&self, k: u32) -> Option<NamedRun>
         ensures { RunsFrom self.now k result }
     {

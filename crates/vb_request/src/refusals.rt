@@ -57,8 +57,8 @@ pub fn readiness_refusal(status: Status) -> Option<Refusal>
     }
 }
 
-/// Whether the queue of this number, which is 4 for reports, stands or falls with a feature that
-/// the driver didn't accept: STATS_VQ that of statistics, and REPORTING that of reports.
+/// Whether the queue of this number, which is 4 for reports, depends on a feature that the driver
+/// didn't accept: STATS_VQ that of statistics, and REPORTING that of reports.
 pub fn lacks_feature(queue: u32, features: Features) -> bool
     ensures { result ≡ lacks_feature (feature_bits features) queue }
 {

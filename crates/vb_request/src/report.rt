@@ -119,8 +119,8 @@ pub fn check_report(pieces: &[Piece], reserved: u32) -> Result<(), ChainFault>
 }
 
 /// The pages that a chain of these pieces names on the queue of reports: those of each piece in
-/// turn, rising; a page that is named again stands there again. The guest's first `reserved` pages
-/// are reserved.
+/// turn, rising; a page that is named again is there again. The guest's first `reserved` pages are
+/// reserved.
 ///
 /// The pieces lie in a guest's memory, as those of a chain do that `vb_chain::walk` gives: no page
 /// has a number of 2^32 or more. Refused as by `check_report`.
@@ -137,8 +137,8 @@ pub fn read_report(pieces: &[Piece], reserved: u32) -> Result<NamedPages, ChainF
     }
 }
 
-/// The same, into room that the caller keeps. What it named before is gone, but where the report is
-/// refused: then it names what it did.
+/// Reads a report as `read_report` does, into room that the caller keeps. What the room named
+/// before is gone, but where the report is refused: then it names what it did.
 pub fn read_report_into(
     pieces: &[Piece],
     reserved: u32,

@@ -17,7 +17,7 @@ use vb_chain::{ChainFault, Piece};
 use vb_ram::GuestBytes;
 use vb_virtio::layout::REQUEST_BUFFER_SIZE;
 
-/// Whether a request may have so many bytes: some, at most 1024, and a multiple of 4.
+/// Whether a request may have `total` bytes: some, at most 1024, and a multiple of 4.
 pub fn is_request_length(total: u64) -> bool
     ensures { result ≡ is_request_length total }
 {
@@ -76,7 +76,7 @@ fn is_named(pages: &[u32], number: u32) -> bool
     pages.contains(&number)
 }
 
-/// Puts a page behind the others, unless it is there.
+/// Puts a page after the others, unless it is there.
 fn add_once(pages: &mut RequestPages, number: u32)
     requires { length pages.old.items < max_request_pages }
     ensures { pages.new.items ≡
@@ -140,7 +140,7 @@ pub(crate) fn page_request<G: GuestBytes>(
 }
 
 /// The pages that a chain of these pieces names on the queue of inflates or of deflates, each once,
-/// in the order in which they first stand there: little-endian numbers of 32 bits (VIRTIO 1.1,
+/// in the order in which they first are there: little-endian numbers of 32 bits (VIRTIO 1.1,
 /// 5.5.6), at most 256. The guest's first `reserved` pages are reserved.
 ///
 /// The pieces lie in the guest's memory and are no more than a queue has descriptors, as those of a
@@ -151,8 +151,8 @@ pub(crate) fn page_request<G: GuestBytes>(
 /// - for the first number that is wrong, `BadPage` where the guest has no such page, and
 ///   `ReservedPage` where the page is reserved.
 ///
-/// What it answers is moved to the caller, some times 1 KiB: whoever reads many requests keeps
-/// room for their pages, and calls `read_request_into`.
+/// What it answers is moved to the caller, some times 1 KiB: a caller that reads many requests
+/// keeps room for their pages, and calls `read_request_into`.
 pub fn read_request<G: GuestBytes>(
     ram: &G,
     pieces: &[Piece],
@@ -173,8 +173,8 @@ pub fn read_request<G: GuestBytes>(
     }
 }
 
-/// The same, into room that the caller keeps. What it named before is gone; where the chain is
-/// refused, what it names is left open.
+/// Reads a request as `read_request` does, into room that the caller keeps. What the room named
+/// before is gone; where the chain is refused, what it names is left open.
 pub fn read_request_into<G: GuestBytes>(
     ram: &G,
     pieces: &[Piece],

@@ -51,7 +51,7 @@ impl Statistics {
     }
 }
 
-/// Whether a buffer of statistics may have so many bytes: at most 1020, and a multiple of 10.
+/// Whether a buffer of statistics may have `total` bytes: at most 1020, and a multiple of 10.
 pub fn is_statistics_length(total: u64) -> bool
     ensures { result ≡ is_statistics_length total }
 {
@@ -126,7 +126,7 @@ pub fn read_statistics<G: GuestBytes>(ram: &G, pieces: &[Piece]) -> Result<Stati
     ensures total { IfOk result
         (λ said. said.total ≡ (statistics_in (G.mem ram.now) pieces.now).total) }
 {
-    // Asked for the proof: that memory has fewer than 2^32 pages is a clause of this call alone.
+    // A no-op call: its clause tells the prover that memory has fewer than 2^32 pages.
     let _few = ram.pages();
     match statistics_length(pieces) {
         Err(fault) => Err(fault),

@@ -40,8 +40,8 @@ const LARGE_TOTAL: [u8; 20] = [
     5, 0, 255, 255, 255, 255, 255, 255, 255, 255, 4, 1, 1, 0, 0, 0, 0, 0, 0, 0,
 ];
 
-/// What stands in memory: a page, an offset and the bytes there. Page 30 stands at a page's end,
-/// and pages 31 and 32 at the start of the next one. All else is 0.
+/// What is in memory: a page, an offset and the bytes there. Page 30 is at a page's end, and pages
+/// 31 and 32 at the start of the next one. All else is 0.
 static WRITTEN: [(u32, usize, &'static [u8]); 6] = [
     (4, 0, &NUMBERS),
     (4, 4092, &[30, 0, 0, 0]),
@@ -58,7 +58,7 @@ fn supply(ram: &mut Ram, alloc: Global, page: u32) -> bool {
     }
 }
 
-/// A memory of 64 pages in which these bytes stand; other pages have no frame.
+/// A memory of 64 pages in which these bytes are; other pages have no frame.
 fn memory(rt: &impl Abort, alloc: Global) -> Ram {
     let Ok(mut ram) = Ram::new(alloc, 64) else {
         rt.abort()
@@ -117,7 +117,7 @@ fn lists(pages: &NamedPages, wanted: &[u32]) -> bool {
     count as usize == wanted.len() && pages.get(count).is_none()
 }
 
-/// Whether a request of these parts, to a guest with so many reserved pages, is answered so.
+/// Whether a request of these parts, to a guest with `reserved` reserved pages, is answered so.
 fn asks(
     ram: &Ram,
     reserved: u32,
@@ -272,7 +272,7 @@ fn wrong_buffers_are_refused(rt: HostRuntime) {
     }
 }
 
-/// The same of a report.
+/// Whether a report of these parts is answered so.
 fn offers(
     ram: &Ram,
     reserved: u32,

@@ -1,4 +1,4 @@
--- What follows for whoever adds and takes chains.
+-- What follows for callers that add and take chains.
 use Rattle.std.specs.Prelude.{◌≡◌, ℕ, ◌<◌, ◌≤◌, Bool, true, false, List, [], ◌∷◌, Some, None}
 use Rattle.std.specs.Prelude.{Result, Ok, Err, if◌then◌else◌, length, slice_get, slice_index}
 use Rattle.{std.specs.Prelude.{slice_index_or, refl, nat_lt}, vb_ring.proofs.OwnerLaws.nowhere_in}

@@ -114,7 +114,7 @@ pops m q2 result fault by = (
   λ heads shows some few. by.shown heads 65535 shows refl some few,
 )
 
--- what is popped is the chain that stands next, and nothing is where the queue isn't ready
+-- what is popped is the chain that is next, and nothing is where the queue isn't ready
 pops_a_chain : (m : Pages) (q2 : DeviceEnd) (taken : Taken) → PopsBy m popping q2 (Ok (Some taken))
     → (q2 ≡ record popping { next_avail = 0 })
     × (next_entry m spread 8 65535 ≡ Ok (Some taken.head))

@@ -1,4 +1,4 @@
--- What a write does to the lists that the rings show, and what stands next in them.
+-- What a write does to the lists that the rings show, and what is next in them.
 use Rattle.std.proofs.lemmas.List.{length_push, get_or_append_left, get_or_push, length-map}
 use Rattle.std.proofs.lemmas.{Bool.cases_eq, Option.{slice_get-get_or, slice_get_past}}
 use Rattle.std.proofs.{Math.Nat.{mod-mod_of_dvd, dvd_of_mod-eq-zero}, lemmas.List.get_or-map}
@@ -99,7 +99,7 @@ pub puts_descriptors : (old new : Pages) (l : Layout) (q next head count i : ℕ
     → descriptor_at new l.table i ≡ descriptor_at old l.table i
 puts_descriptors old new l q next head count i fits w lt = grind (arith, descriptor_kept)
 
--- ---- what stands next
+-- ---- what is next
 
 -- How far a list's number, modulo 65,536, is ahead of a smaller number.
 pub ahead_by : (n t index taken : ℕ) → index ≡ n % 65536 → t % 65536 ≡ taken → t ≤ n → n ≤ t + 65535

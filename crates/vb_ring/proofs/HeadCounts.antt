@@ -1,4 +1,4 @@
--- How often a head stands in a list, and lists whose heads are all in another one.
+-- How often a head is in a list, and lists whose heads are all in another one.
 use Rattle.std.specs.Prelude.{◌≡◌, ◌≢◌, ℕ, zero, suc, ◌+◌, ◌-◌, ◌<◌, ◌≤◌, ◌==◌, List, [], ◌∷◌, ◌++◌}
 use Rattle.std.{specs.Prelude.{length, take, slice_index_or, refl}, proofs.lemmas.Bool.cases_eq}
 use Rattle.std.proofs.{Common.{ap, arith, inl, inr, eq-eqb}, lemmas.List.length-map}
@@ -7,7 +7,7 @@ use Rattle.vb_virtio.proofs.Tables.{count_by-append, count_by-cons}
 use Rattle.{vb_ram.specs.Pages.Pages, vb_ring.specs.Meaning.{UsedElem, no_elem, ids, times, Shows}}
 use Rattle.vb_ring.specs.declared.layout.Layout.{Layout}
 
--- ---- how often a head stands in a list
+-- ---- how often a head is in a list
 
 pub one_is : (h j : ℕ) → h ≡ j → one_if (h == j) ≡ 1
 one_is h j e = ap one_if (eq-eqb h j e)
@@ -53,7 +53,7 @@ times-take j (e ∷ es) (suc n) = grind (
 
 -- ---- a list whose heads are among another's
 
--- A head that occurs stands somewhere, and without it all others occur as often.
+-- A head that occurs is somewhere, and without it all others occur as often.
 without : (xs : List ℕ) (h : ℕ) → 0 < times h xs → (ys : List ℕ) × (length xs ≡ length ys + 1)
     × ((j : ℕ) → times j xs ≡ times j ys + one_if (h == j))
 without [] h some = absurd (omega arith)

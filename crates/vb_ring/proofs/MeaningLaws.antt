@@ -117,12 +117,12 @@ pub next_path-free : (r : DriverEnd) (n k : ℕ) → k < length (next_path r n)
     × (slice_index_or r.owner (slice_index (next_path r n) k) None ≡ None)
 next_path-free r n k h = grind (arith, take_inside, numbers_pass)
 
--- No descriptor stands twice on it.
+-- No descriptor is twice on it.
 pub next_path-rise : (r : DriverEnd) (n j k : ℕ) → j < k → k < length (next_path r n)
     → slice_index (next_path r n) j < slice_index (next_path r n) k
 next_path-rise r n j k l h = grind (arith, take_inside, numbers_rise)
 
--- Each free descriptor below its last one stands on it.
+-- Each free descriptor below its last one is on it.
 pub next_path-lowest : (r : DriverEnd) (n i : ℕ) → is_unused r.owner i ≡ true
     → 0 < length (next_path r n)
     → i < slice_index (next_path r n) (length (next_path r n) - 1) → is_in i (next_path r n) ≡ true

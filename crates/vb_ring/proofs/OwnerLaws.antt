@@ -16,13 +16,13 @@ same_number n = eq-eqb n n refl
 
 -- ---- members
 
--- What stands in a list is in it.
+-- What is in a list is in it.
 pub is_in-at : (xs : List ℕ) (k : ℕ) → k < length xs → is_in (slice_index xs k) xs ≡ true
 is_in-at [] k h = absurd (omega arith)
 is_in-at (x ∷ xs) zero h = ap (λ (b : Bool). b || list_any (λ m. m == x) xs) (same_number x)
 is_in-at (x ∷ xs) (suc k) h = grind (arith, is_in-at xs k (omega arith))
 
--- What is in a list stands somewhere in it.
+-- What is in a list is somewhere in it.
 pub is_in-some : (xs : List ℕ) (n : ℕ) → is_in n xs ≡ true
     → (k : ℕ) × (k < length xs) × (slice_index xs k ≡ n)
 is_in-some [] n h = cc
@@ -33,11 +33,11 @@ is_in-some (x ∷ xs) n h = at (x == n) refl (is_in-some xs n) where
   at false e more = let rest : is_in n xs ≡ true = ap (λ (b : Bool). b || is_in n xs) (sym e) ∙ h in
       let found = more rest in (suc found.0, omega (arith, found.1), found.2)
 
--- Not in a list, a number stands nowhere in it.
+-- Not in a list, a number is nowhere in it.
 pub not_in : (xs : List ℕ) (n k : ℕ) → is_in n xs ≡ false → k < length xs → slice_index xs k ≢ n
 not_in xs n k h l e = grind (arith, is_in-at)
 
--- A number that stands nowhere in a list isn't in it.
+-- A number that is nowhere in a list isn't in it.
 pub nowhere_in : (xs : List ℕ) (n : ℕ) → ((k : ℕ) → k < length xs → slice_index xs k ≢ n)
     → is_in n xs ≡ false
 nowhere_in xs n h = grind (arith, is_in-some)

@@ -1,4 +1,4 @@
--- Words of rings, ends and what stands next, worked out.
+-- Words of rings, ends and what is next, worked out.
 use Rattle.std.specs.Prelude.{Option, Some, None, Ok, Err}
 use Rattle.std.proofs.Common.{◌≡◌, ℕ, true, false, List, [], ◌∷◌, map, refl, arith}
 use Rattle.vb_chain.specs.declared.fault.ChainFault.TheVariants.{IndexJump}
@@ -67,7 +67,7 @@ no_size size = omega (arith, size.divides)
 too_large : IsSize 512 → ⊥
 too_large size = omega (arith, size.most)
 
--- ---- what stands next
+-- ---- what is next
 
 -- an index goes round after 65,535
 aheads : ahead 7 7 ∷ ahead 9 7 ∷ ahead 1 65535 ∷ ahead 6 7 ∷ [] ≡ 0 ∷ 2 ∷ 2 ∷ 65535 ∷ []

@@ -23,8 +23,8 @@ use Rattle.vb_ring.specs.Frame.{Extent, SameOutside}
 
 -- ---- the driver's end
 
--- Where the descriptors of a ring stand, where its available entry number n and its available
--- index, where its used entry number n and its used index.
+-- Where the descriptors of a ring are, where its available entry number n and its available index,
+-- where its used element number n and its used index.
 abbrev pub table_extent : Layout → ℕ → Extent
 table_extent l q = record { page = l.table; from = 0; to = DESCRIPTOR_SIZE * q }
 
@@ -54,8 +54,7 @@ pub record Publishes (old new : Pages) (l : Layout) (q next head : ℕ) : Type 0
   pub index : field 2 new l.avail.page (avail_index l) ≡ (next + 1) % 65536
   pub rest : SameOutside old new (table_extent l q ∷ avail_entry l q next ∷ avail_counter l ∷ [])
 
--- The chain of these pieces stands in the table along a path, and every other descriptor is as
--- before.
+-- The chain of these pieces is in the table along a path, and every other descriptor is as before.
 pub record Links (old new : Pages) (l : Layout) (q : ℕ) (path : List ℕ) (pieces : List Piece) :
     Type 0 where
   pub put : (k : ℕ) → k < length pieces →
@@ -104,14 +103,14 @@ after_pop q (Err fault) = q
 after_pop q (Ok None) = q
 after_pop q (Ok (Some taken)) = record q { next_avail = (q.next_avail + 1) % 65536 }
 
--- What was popped, where the head is answered and the pieces stand in a chain that is kept.
+-- What was popped, where the head is answered and the pieces are in a chain that is kept.
 abbrev pub popped : Result (Option ℕ) ChainFault → List Piece → Result (Option Taken) ChainFault
 popped (Err fault) pieces = Err fault
 popped (Ok None) pieces = Ok None
 popped (Ok (Some h)) pieces = Ok (Some (record { head = h; chain = pieces }))
 
--- A pop: nothing where the queue isn't ready or nothing stands there, a fault where the index is
--- too far ahead or on the way along the chain, and else the chain's head and pieces.
+-- A pop: nothing where the queue isn't ready or nothing is there, a fault where the index is too
+-- far ahead or on the way along the chain, and else the chain's head and pieces.
 pub record PopsBy (mem : Pages) (q1 q2 : DeviceEnd) (result : Result (Option Taken) ChainFault) :
     Type 0 where
   pub is_end : IsDeviceEnd q1

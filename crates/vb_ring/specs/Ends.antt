@@ -12,7 +12,7 @@ use Rattle.vb_ring.specs.Layout.{Fits}
 use Rattle.vb_ring.specs.Entries.{is_own, is_head, next_id, only_head}
 use Rattle.vb_ring.specs.Numbers.{numbers}
 
--- The driver's end: how many heads it published and how many used entries it has seen, both modulo
+-- The driver's end: how many heads it published and how many used elements it has seen, both modulo
 -- 65,536, and the head of the chain that each descriptor belongs to.
 pub record DriverEnd : Type 0 where
   pub layout : Layout
@@ -29,7 +29,7 @@ pub record IsDriverEnd (r : DriverEnd) : Type 0 where
   pub seen : r.seen < 65536
 
 -- The device's end: whether the queue is ready, how many available entries it took and how many
--- used entries it added, both modulo 65,536.
+-- used elements it added, both modulo 65,536.
 pub record DeviceEnd : Type 0 where
   pub layout : Layout
   pub size : ℕ
@@ -101,7 +101,7 @@ after_add r n (Err full) = r
 after_add r n (Ok h) =
     record r { published = (r.published + 1) % 65536; owner = claimed (next_path r n) h r.owner }
 
--- The used chain that stands next, on any bytes.
+-- The used chain that is next, on any bytes.
 abbrev pub used_answer : Pages → DriverEnd → Result (Option ℕ) RingBroken
 used_answer mem r = only_head r.owner (next_id mem r.layout r.size r.seen (outstanding r))
 

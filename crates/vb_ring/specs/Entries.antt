@@ -1,5 +1,4 @@
--- The words of the two rings (VIRTIO 1.1, 2.6.6 and 2.6.8), and what stands next in them, on any
--- bytes.
+-- The words of the two rings (VIRTIO 1.1, 2.6.6 and 2.6.8), and what is next in them, on any bytes.
 use Rattle.std.specs.Prelude.{ℕ, ◌+◌, ◌-◌, ◌*◌, ◌%◌, Bool, false, Result, Ok, Err, Option, Some}
 use Rattle.std.specs.Prelude.{None, if◌then◌else◌, ◌==◌, nat_le, List, slice_index_or}
 use Rattle.vb_ram.specs.Pages.{Pages, field}
@@ -9,14 +8,14 @@ use Rattle.vb_ring.specs.declared.layout.Layout.{Layout}
 use Rattle.vb_ring.specs.declared.driver.RingBroken.{RingBroken}
 use Rattle.vb_ring.specs.declared.driver.RingBroken.TheVariants.{IndexAhead, NotOutstanding}
 
--- Where the available ring's idx stands, and its entry number n.
+-- Where the available ring's idx is, and its entry number n.
 abbrev pub avail_index : Layout → ℕ
 avail_index l = l.avail.offset + 2
 
 abbrev pub avail_place : Layout → ℕ → ℕ → ℕ
 avail_place l q n = l.avail.offset + 4 + 2 * (n % q)
 
--- Where the used ring's idx stands, and the id of its entry number n, whose len stands 4 bytes on.
+-- Where the used ring's idx is, and the id of its entry number n, whose len is 4 bytes on.
 abbrev pub used_index : Layout → ℕ
 used_index l = l.used.offset + 2
 
@@ -38,12 +37,12 @@ abbrev pub next_by : {E : Type 0} → ℕ → ℕ → E → ℕ → Result (Opti
 next_by a most fault x =
     if a == 0 then Ok None else (if nat_le a most then Ok (Some x) else Err fault)
 
--- The head that stands after the ones taken so far.
+-- The head that comes after the ones taken so far.
 abbrev pub next_entry : Pages → Layout → ℕ → ℕ → Result (Option ℕ) ChainFault
 next_entry mem l q taken =
     next_by (avail_ahead mem l taken) q IndexJump (field 2 mem l.avail.page (avail_place l q taken))
 
--- The id that stands after the ones seen so far, where at most `most` may stand there.
+-- The id that comes after the ones seen so far, where at most `most` may be there.
 abbrev pub next_id : Pages → Layout → ℕ → ℕ → ℕ → Result (Option ℕ) RingBroken
 next_id mem l q seen most =
     next_by (used_ahead mem l seen) most IndexAhead (field 4 mem l.used.page (used_place l q seen))

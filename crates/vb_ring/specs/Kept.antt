@@ -13,8 +13,8 @@ pub record LiesBetween (owner : List (Option ℕ)) (last : List ℕ) (i h : ℕ)
   pub from : h ≤ i
   pub to : i ≤ slice_index last h
 
--- Of a table of so many descriptors: how many chains are out, where each of them ends, and a number
--- below which none is free.
+-- Of a table of n descriptors: how many chains are out, where each of them ends, and a number below
+-- which none is free.
 pub record AreKept (owner : List (Option ℕ)) (count out : ℕ) (last : List ℕ) (from : ℕ) :
     Type 0 where
   pub size : length owner ≡ count

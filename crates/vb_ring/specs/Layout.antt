@@ -14,7 +14,7 @@ pub record IsSize (q : ℕ) : Type 0 where
   pub most : q ≤ MAX_QUEUE_SIZE
   pub divides : 65536 % q ≡ 0
 
--- Where byte n of a ring stands that begins with this page.
+-- Where byte n of a ring is that begins with this page.
 abbrev pub area_at : ℕ → ℕ → RingArea
 area_at page n = record { page = page + n / PAGE_SIZE; offset = n % PAGE_SIZE }
 

@@ -55,8 +55,8 @@ pub record IsTablePath (d : ℕ → Descriptor) (q head : ℕ) (path : List ℕ)
   pub inside : (k : ℕ) → k < length path → slice_index path k < q
 
 -- The bytes of a ring of q descriptors show these lists: the indices and the last entries say them;
--- the used heads are among the published ones, as often as they stand there; at most q are
--- published and not used, no head twice, and the chains of two of them share no descriptor.
+-- the used heads are among the published ones, as often as they are there; at most q are published
+-- and not used, no head twice, and the chains of two of them share no descriptor.
 pub record Shows (mem : Pages) (l : Layout) (q : ℕ) (heads : List ℕ) (elems : List UsedElem) :
     Type 0 where
   pub entries : ShowsEntries mem l q heads elems
@@ -69,7 +69,7 @@ pub record Shows (mem : Pages) (l : Layout) (q : ℕ) (heads : List ℕ) (elems 
       IsTablePath (descriptor_at mem l.table) q j b →
       (k n : ℕ) → k < length a → n < length b → slice_index a k ≢ slice_index b n
 
--- A driver's end stands by a ring that shows these lists, of whose used elements it has seen the
+-- A driver's end agrees with a ring that shows these lists, of whose used elements it has seen the
 -- first s: its table has just the heads that were published and not seen as used, and each
 -- descriptor on a path from one of these belongs to that head.
 pub record Tracks (mem : Pages) (r : DriverEnd) (heads : List ℕ) (elems : List UsedElem) (s : ℕ) :

@@ -34,7 +34,7 @@ pub struct Queue {
     ready: bool,
     /// How many available entries it took, modulo 65,536.
     next_avail: u16,
-    /// How many used entries it added, modulo 65,536.
+    /// How many used elements it added, modulo 65,536.
     next_used: u16,
 }
 
@@ -81,7 +81,7 @@ impl Queue {
         }
     }
 
-    /// A queue of so many descriptors that goes on from these counts, its ring lying so: the
+    /// A queue of `size` descriptors that goes on from these counts, its ring lying so: the
     /// device's end as its owner kept it elsewhere.
     pub fn resume(layout: Layout, size: u16, ready: bool, next_avail: u16, next_used: u16) -> Queue
         requires fits { Fits layout size }
@@ -156,8 +156,8 @@ impl Queue {
     /// Takes the next chain that the driver has published.
     ///
     /// Each call makes a `Chain` of 4 KiB, zeroes it and moves it to the caller, which takes
-    /// several times as long as the pop of a short chain: whoever pops many chains keeps one, and
-    /// calls `pop_descriptor_chain_into`.
+    /// several times as long as the pop of a short chain: a caller that pops many chains keeps one,
+    /// and calls `pop_descriptor_chain_into`.
     pub fn pop_descriptor_chain<G: GuestBytes>(
         &mut self,
         ram: &G,
@@ -201,7 +201,7 @@ impl Queue {
         }
     }
 
-    /// Goes back by one chain, so that the one that was popped last stands next again.
+    /// Goes back by one chain, so that the one that was popped last is next again.
     pub fn go_to_previous_position(&mut self)
         ensures { self.new ≡
             record self.old { next_avail = (self.old.next_avail + 65535) % 65536 } }

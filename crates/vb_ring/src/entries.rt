@@ -12,8 +12,8 @@ use crate::{Layout, RingBroken};
 use vb_chain::ChainFault;
 use vb_ram::{GuestBytes, read_u16, read_u32, write_u16, write_u32};
 
-/// The same as lengths of memory: where the index and the first entry of a ring are, how long an
-/// entry of each ring is, and where the length of a used one is.
+/// The format's numbers as lengths of memory: where the index and the first entry of a ring are,
+/// how long an entry of each ring is, and where the length of a used one is.
 const INDEX_AT: usize = RING_INDEX_AT as usize;
 
 const ENTRIES_AT: usize = RING_HEADER_SIZE as usize;
@@ -42,7 +42,7 @@ pub fn put_avail<G: GuestBytes>(ram: &mut G, layout: Layout, size: u16, next: u1
     write_u16(ram, ring.page, start + INDEX_AT, next.wrapping_add(1));
 }
 
-/// The head that stands after the `taken` ones, if there is one.
+/// The head that comes after the `taken` ones, if there is one.
 pub fn next_avail<G: GuestBytes>(
     ram: &G,
     layout: Layout,
@@ -91,7 +91,7 @@ pub fn put_used<G: GuestBytes>(
     write_u16(ram, ring.page, start + INDEX_AT, next.wrapping_add(1));
 }
 
-/// The id that stands after the `seen` ones, if there is one; at most `most` may stand there.
+/// The id that comes after the `seen` ones, if there is one; at most `most` may be there.
 pub fn next_used<G: GuestBytes>(
     ram: &G,
     layout: Layout,

@@ -26,7 +26,7 @@ pub struct RingArea {
 /// Where the parts of a split virtqueue lie.
 #[derive(Clone, Copy, Debug, PartialEq, Eq)]
 pub struct Layout {
-    /// The page at whose start the descriptor table stands.
+    /// The page at whose start the descriptor table is.
     pub table: u32,
     /// Where the available ring begins.
     pub avail: RingArea,
@@ -34,7 +34,7 @@ pub struct Layout {
     pub used: RingArea,
 }
 
-/// Where byte `byte` of a ring stands that begins with page `page`.
+/// Where byte `byte` of a ring is that begins with page `page`.
 fn area_at(page: u16, byte: u16) -> RingArea
     ensures { result ≡ area_at page byte }
 {
@@ -47,7 +47,7 @@ fn area_at(page: u16, byte: u16) -> RingArea
 
 impl Layout {
     /// The layout of a queue of `size` descriptors from page 0 on: the available ring follows the
-    /// descriptors (16 bytes each), and the used ring stands at the next multiple of 4 after it. A
+    /// descriptors (16 bytes each), and the used ring is at the next multiple of 4 after it. A
     /// queue of 256 descriptors takes two pages, and any other lies in one.
     pub fn of(size: u16) -> Layout
         requires { IsSize size }
@@ -57,7 +57,7 @@ impl Layout {
         Layout::at(0, size)
     }
 
-    /// The same from another page on.
+    /// Where the parts of a ring are that begins with page `page`.
     pub fn at(page: u16, size: u16) -> Layout
         requires { IsSize size }
         ensures value { result ≡ layout_of page size }

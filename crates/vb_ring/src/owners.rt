@@ -32,8 +32,8 @@ fn claim(owner: &mut [Option<u16>], path: &[u16], head: u16)
     }
 }
 
-/// Frees the descriptors of the chain of a head, of which none stands past the `last` one or before
-/// the head.
+/// Frees the descriptors of the chain of a head, of which none is past the `last` one or before the
+/// head.
 fn release(owner: &mut [Option<u16>], head: u16, last: u16)
     requires inside { last < length owner.old }
     requires between { (i : ℕ) → is_own head (slice_index_or owner.old i None) ≡ true →
@@ -76,7 +76,7 @@ impl Model for Owners {
 }
 
 impl Owners {
-    /// A table of so many descriptors, all of them free.
+    /// A table of `count` descriptors, all of them free.
     pub fn new(count: u16) -> Owners
         requires { count ≤ MAX_DESCRIPTORS }
         ensures { result ≡ replicate count None }
@@ -124,7 +124,7 @@ impl Owners {
         None
     }
 
-    /// Puts the lowest free descriptors into a path, so many of them; false where fewer are free.
+    /// Puts the lowest free descriptors into a path, `count` of them; false where fewer are free.
     pub fn find_free<const N: usize>(&self, count: usize, path: &mut ArrayVec<u16, N>) -> bool
         requires some { 0 < count }
         requires room { min count MAX_DESCRIPTORS ≤ N }

@@ -96,7 +96,7 @@ opened frames spares budget places = record {
 -- ---- what holds then
 
 -- In a state the loans together are no more than the frames, each guest has its loan, and no call
--- of a guest is refused for want of a frame; but for a scribble of a guest whose balloon still
+-- of a guest is refused for lack of a frame; but for a scribble of a guest whose balloon still
 -- counts.
 pub record IsCovered (b : Both) : Type 0 where
   pub within : owed b.lending.loans ≤ b.world.frames

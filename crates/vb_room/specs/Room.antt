@@ -38,7 +38,7 @@ is_scribble (Scribble page offset bytes) = true
 is_scribble _ = false
 
 -- In a state of a run in which all guests may hold no more frames than there are, no call of a
--- guest is refused for want of a frame: of an honest guest none but a scribble, of a rogue one none
+-- guest is refused for lack of a frame: of an honest guest none but a scribble, of a rogue one none
 -- at all.
 abbrev pub NoneLacksAFrame : Type 0
 NoneLacksAFrame =

@@ -11,7 +11,7 @@ pub fn balloons_are_bare()
 {}
 
 /// In a state of a run in which all guests may hold no more frames than there are, no call of a
-/// guest is refused for want of a frame; but for an honest guest's scribble, which makes it a
+/// guest is refused for lack of a frame; but for an honest guest's scribble, which makes it a
 /// rogue.
 pub fn no_guest_lacks_a_frame()
     ensures none { NoneLacksAFrame }
@@ -38,7 +38,7 @@ pub fn calls_count_so()
 
 /// Over every list of events of a host that asks its lender first, in each state: the loans
 /// together are no more than the host's frames, each guest has its loan, and no call of a guest is
-/// refused for want of a frame, but for a scribble of a guest whose balloon still counts.
+/// refused for lack of a frame, but for a scribble of a guest whose balloon still counts.
 pub fn no_guest_within_its_loan_lacks_a_frame()
     ensures covered { AskingFirstSuffices }
 {}

@@ -122,7 +122,7 @@ is_planned made floor guest plan paced rounds expected scripts notes p (is, pace
       ),
     )
 
--- what stands at a place of a list that was mapped
+-- what is at a place of a list that was mapped
 mapped_at : {X Y : Type 0} (f : X → Y) (xs : List X) (n : ℕ) (y : Y)
     → slice_get (map f xs) n ≡ Some y → (x : X) × (slice_get xs n ≡ Some x) × (f x ≡ y)
 mapped_at f [] n y at = absurd (none_some y at)

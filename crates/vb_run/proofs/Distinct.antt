@@ -1,4 +1,4 @@
--- Numbers that rise stand once each, in whatever order.
+-- Numbers that rise are once each, in whatever order.
 use Rattle.std.proofs.Common.{◌≡◌, refl, sym, ◌∙◌, ap, ℕ, suc, ◌+◌, ◌<◌, ◌≤◌, Bool, true, false}
 use Rattle.std.{specs.List.Sorted.{IsPermutation, IsNonDecreasing}, specs.Prelude.{◌==◌, sum_by}}
 use Rattle.std.proofs.lemmas.List.Sorted.{sum_by-IsPermutation}
@@ -44,7 +44,7 @@ pub apart : (reports : List GuestReport) (all sorted : List ℕ)
 apart reports all sorted gathered p rising frame =
     grind (arith, times_permuted frame all sorted p, rising_once sorted rising frame)
 
--- numbers in order that stand once each rise
+-- numbers in order that are once each rise
 once_rising : (xs : List ℕ) → IsNonDecreasing xs → ((n : ℕ) → times n xs ≤ 1) → IsRising xs
 once_rising [] ordered once i within = absurd (omega (arith, within))
 once_rising (x ∷ []) ordered once zero within = absurd (omega (arith, within))
@@ -70,7 +70,7 @@ once_rising (x ∷ xs) ordered once (suc i) within =
     once_rising xs (λ j k d le lt. ordered (suc j) (suc k) d (omega (arith, le)) (omega (arith, lt)))
     (λ n. omega (arith, count_by-cons (λ m. m == n) x xs, once n)) i (omega (arith, within))
 
--- frames in order, of which none stands twice in any report, rise
+-- frames in order, of which none is twice in any report, rise
 pub rising_apart : (reports : List GuestReport) (all sorted : List ℕ)
     → ((frame : ℕ) → times frame all ≡ sum_by (λ r. times frame r.frames.items) reports)
     → IsPermutation all sorted → IsNonDecreasing sorted → AreApart reports → IsRising sorted

@@ -76,7 +76,7 @@ frames_none frames n within is = grind (
 
 -- ---- the balancer's entries, and those that the rounds make
 
--- what stands behind the first k of a list, if it is known how it goes on there
+-- what comes after the first k of a list, if it is known how it goes on there
 at_cut : {X : Type 0} (xs : List X) (k : ℕ) (e : X) (more : List X) → k ≤ length xs
     → xs ≡ take k xs ++ e ∷ more → slice_get xs k ≡ Some e
 at_cut [] zero e more le is = cc
@@ -99,7 +99,7 @@ entries_on a h n e at is = grind (
   take_next h n e,
 )
 
--- the entry that the note at a place stands for
+-- the entry that the note at a place represents
 pub noted_at : (guest : ℕ) (notes : List Note) (n : ℕ) (note : Note) → slice_get notes n ≡ Some note
     → slice_get (history_of guest [] notes) n ≡ Some (noted_entry guest [] note)
 noted_at guest notes n note at =

@@ -1,4 +1,4 @@
--- What a call or a look leaves behind a guest's lock.
+-- What a call or a look leaves under a guest's lock.
 use Rattle.std.proofs.Common.{Bool, List, Some, [], ap, false, inl, inr, length, refl, slice_get, ℕ}
 use Rattle.std.proofs.Common.{slice_set, subst, suc, sym, take, true, zero, ⊎_elim, ◌++◌, ◌+◌, ◌∙◌}
 use Rattle.std.{proofs.Common.{◌∷◌, ◌≡◌, ◌⊎◌}, specs.Prelude.{Err, IfOk, IsOkAnd, MatchBool, Ok}}

@@ -7,7 +7,7 @@ use Rattle.std.proofs.{Common.{◌≤◌, ◌⊎◌}, Math.Seq.take-length, lemm
 use Rattle.std.proofs.lemmas.{List.{map-append, Elements.All-push}, Option.get_or_from_slice_get}
 use Rattle.std.{proofs.lemmas.Option.slice_get_within, specs.List.{Contains, list_all}}
 
--- what stands at a place of a list that one element was pushed to
+-- what is at a place of a list that one element was pushed to
 pub get_push : {X : Type 0} (xs : List X) (y : X) (i : ℕ) (z : X)
     → slice_get (xs ++ y ∷ []) i ≡ Some z → (slice_get xs i ≡ Some z) ⊎ ((i ≡ length xs) × (z ≡ y))
 get_push [] y zero z h = inr (refl, cc)
@@ -35,7 +35,7 @@ take_next xs n x h = grind (
 pub take_whole : {X : Type 0} (xs : List X) (n : ℕ) → n ≡ length xs → take n xs ≡ xs
 take_whole xs n h = ap (λ k. take k xs) h ∙ take-length xs
 
--- what stands at a place of a list that was changed at one
+-- what is at a place of a list that was changed at one
 pub get_set : {X : Type 0} (xs : List X) (i j : ℕ) (y z : X) → slice_get (slice_set xs i y) j
     ≡ Some z → ((j ≡ i) × (z ≡ y)) ⊎ ((j ≢ i) × (slice_get xs j ≡ Some z))
 get_set [] i j y z h = cc
@@ -61,7 +61,7 @@ all_whole P xs i h all = subst (All P) (take_all i xs h) all
 pub some_same : {X : Type 0} (x y : X) → Some x ≡ Some y → x ≡ y
 some_same x y e = cc
 
--- what stands in a list passes the test that all of it does
+-- what is in a list passes the test that all of it does
 pub passes_at : {X : Type 0} (test : X → Bool) (xs : List X) (n : ℕ) (x : X)
     → slice_get xs n ≡ Some x → list_all test xs ≡ true → test x ≡ true
 passes_at test [] n x e h = cc
@@ -69,12 +69,12 @@ passes_at test (y ∷ ys) zero x e h = grind arith
 passes_at test (y ∷ ys) (suc n) x e h =
     passes_at test ys n x e (and_parts (test y) (list_all test ys) h).1
 
--- what stands at a place of a list is in it
+-- what is at a place of a list is in it
 pub contains_at : {X : Type 0} (xs : List X) (n : ℕ) (x : X) → slice_get xs n ≡ Some x
     → Contains xs x
 contains_at xs n x at = (n, slice_get_within xs n x at, get_or_from_slice_get xs n x x at)
 
--- what holds of all of a list holds of its first element, and of all behind it
+-- what holds of all of a list holds of its first element, and of all after it
 pub first_of : {X : Type 0} (P : X → Type 0) (xs : List X) (x : X) (rest : List X)
     → xs ≡ x ∷ rest → All P xs → P x
 first_of P xs x rest e all = (subst (All P) e all) 0 x (omega arith)
@@ -83,7 +83,7 @@ pub rest_of : {X : Type 0} (P : X → Type 0) (xs : List X) (x : X) (rest : List
     → xs ≡ x ∷ rest → All P xs → All P rest
 rest_of P xs x rest e all = λ k d within. (subst (All P) e all) (suc k) d (omega (arith, within))
 
--- where two lists are mapped to one, so are what stands at a place of them
+-- where two lists are mapped to one, so are what is at a place of them
 pub mapped_alike : {X Y Z : Type 0} (f : X → Z) (h : Y → Z) (xs : List X) (ys : List Y) (i : ℕ)
     (x : X) (y : Y) → i < length xs → i < length ys → map f xs ≡ map h ys
     → f (get_or xs i x) ≡ h (get_or ys i y)

@@ -108,7 +108,7 @@ abbrev features_in : List Entry → ℕ
 features_in (Called actor (Init features) claims reply ∷ rest) = features
 features_in _ = 0
 
--- ---- whole histories: a start, whatever it was answered, and such entries behind it
+-- ---- whole histories: a start, whatever it was answered, and such entries after it
 
 made : AreMade 1 2 (
     Called Starter (Init 0x100000027) (Gave 5 ∷ []) Ready ∷ Looked 16 32

@@ -1,4 +1,4 @@
--- Worked facts of what the notes of a guest's history stand for.
+-- Worked facts of what the notes of a guest's history represent.
 use Rattle.std.{proofs.Common.{◌≡◌, List, [], ◌∷◌, refl, map}, specs.declared.alloc.Global.Global}
 use Rattle.{std.specs.declared.vec.Vec.Vec, vb_model.specs.GuestRun.{Called, Looked}}
 use Rattle.vb_model.specs.declared.calls.Actor.TheVariants.{Starter, Processor, Worker, Balancer}
@@ -33,7 +33,7 @@ calls : map (call_in scripts) callers
     ≡ Init 0x100000027 ∷ Stats ∷ Alloc 0 1 ∷ Alloc 1 0 ∷ Take 0 ∷ Ask ∷ SetTarget 3 ∷ []
 calls = refl
 
--- ---- what the notes stand for
+-- ---- what the notes represent
 
 call_with_its_claims : (claims : Vec Claim Global) → claims.items ≡ Gave 5 ∷ []
     → noted_entry 2 scripts (CalledNote (ByProcessor 0 1) claims (Page 20))

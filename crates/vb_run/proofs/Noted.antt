@@ -1,4 +1,4 @@
--- What the notes of a guest's history stand for.
+-- What the notes of a guest's history represent.
 use Rattle.std.proofs.Common.{List, Some, [], ap, arith, map, refl, slice_get, slice_set, suc, zero}
 use Rattle.std.proofs.{Common.{ℕ, ◌++◌, ◌+◌, ◌∙◌, ◌∷◌, ◌≡◌}, lemmas.Bool.Decides.nat_tests}
 use Rattle.std.proofs.lemmas.{List.map-append, Option.get_or_from_slice_get}

@@ -53,7 +53,7 @@ begun cpu s is = grind (arith, is)
 own_calls : IsScript 0 (Alloc 0 1 ∷ Stats ∷ []) × IsScript 3 []
 own_calls = (refl, refl)
 
--- each of two, also the first one; a place past the end is no end; and each call may stand there
+-- each of two, also the first one; a place past the end is no end; and each call may be there
 first_of_two : (AllEnded (script (Stats ∷ []) 0 ∷ script [] 0 ∷ []) → ⊥)
     × (AllEnded (script (Stats ∷ []) 2 ∷ []) → ⊥) × (AreBegun (script (Stats ∷ []) 1 ∷ script [] 0 ∷ []) → ⊥)
     × (IsScript 1 (Stats ∷ Alloc 0 1 ∷ []) → ⊥)

@@ -10,8 +10,8 @@ use Rattle.vb_run.specs.declared.plan.{GuestPlan.GuestPlan, TheConstants.MAX_SCR
 use Rattle.vb_run.specs.Plans.{config_of, may_stand, is_script, are_scripts, is_guest_plan, is_plan}
 use Rattle.vb_run.specs.Plans.{is_actor_call}
 
--- ---- which calls may stand in the script of processor 1: its own, and none of a starter, a
--- worker, a balancer or a host
+-- ---- which calls may be in the script of processor 1: its own, and none of a starter, a worker, a
+-- balancer or a host
 
 who_may_stand : map (may_stand 1) (Alloc 1 0 ∷ Alloc 0 0 ∷ Free 1 16 0 ∷ Free 0 16 0 ∷ Read 16 0 1
     ∷ Write 16 0 [] ∷ Inflate 1 ∷ Deflate 1 ∷ Oom 1 ∷ Report 0 ∷ Stats ∷ Reap 0 ∷ Init 0 ∷ Reset
@@ -33,7 +33,7 @@ actor_calls : map is_actor_call (Alloc 1 0 ∷ Free 1 16 0 ∷ Read 16 0 1 ∷ W
     ≡ replicate 15 true
 actor_calls = refl
 
--- ---- scripts: up to 100,000 calls, each of which may stand there
+-- ---- scripts: up to 100,000 calls, each of which may be there
 
 most_calls : MAX_SCRIPT_CALLS ∷ [] ≡ 100000 ∷ []
 most_calls = refl
@@ -71,7 +71,7 @@ config_of_sizes : map (config_of (record { pages = 64; queue_size = 8; processor
     ∷ record { pages = 64; queue_size = 8; processors = 2; paced = false } ∷ []
 config_of_sizes = refl
 
--- a guest of this plan, with so many scripts of no call
+-- a guest of this plan, with n scripts of no call
 abbrev IsDecided : (pages queue_size processors scripts : ℕ) → Bool → Type 0
 IsDecided pages queue_size processors scripts answer = (p : GuestPlan) (script : Vec Call Global)
     → p.config ≡ record { pages = pages; queue_size = queue_size; processors = processors }
@@ -118,7 +118,7 @@ larger_queues p script sizes scripts calls = rw sizes refl
 no_power_of_two : IsDecided 64 3 1 1 false
 no_power_of_two p script sizes scripts calls = rw sizes refl
 
--- what may not stand there
+-- what may not be there
 anothers_call : (p : GuestPlan) (script : Vec Call Global)
     → p.config ≡ record { pages = 64; queue_size = 8; processors = 1 }
     → p.scripts.items ≡ script ∷ [] → script.items ≡ Alloc 1 0 ∷ [] → is_guest_plan p ≡ false
@@ -126,7 +126,7 @@ anothers_call p script sizes scripts calls = rw (sizes, scripts, calls) refl
 
 -- ---- plans: one to eight guests that can be run, and a port for each; however many frames
 
--- so many guests that can be run
+-- n guests that can be run
 abbrev Accepts : (guests ports : ℕ) → Bool → Type 0
 Accepts guests ports answer = (plan : Plan) (g : GuestPlan) → plan.guests.items ≡ replicate guests g
     → is_guest_plan g ≡ true → is_plan plan ports ≡ answer

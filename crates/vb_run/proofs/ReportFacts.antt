@@ -31,7 +31,7 @@ down = fresh config 0
 abbrev ready : Guest
 ready = record down { status = 15; features = 0x100000027 }
 
--- ---- frames behind a guest's pages, by rising page
+-- ---- frames that back a guest's pages, by rising page
 
 frames_by_page : frames_behind
     (record ready { frames = None ∷ Some 5 ∷ None ∷ Some 3 ∷ Some 9 ∷ None ∷ [] }) ≡ 5 ∷ 3 ∷ 9 ∷ []
@@ -116,7 +116,7 @@ abbrev OfTwo : List ℕ → List ℕ → Type 0 → Type 0
 OfTwo a b answer = (first second : GuestReport) → first.frames.items ≡ a → second.frames.items ≡ b
     → AreApart (first ∷ second ∷ []) → answer
 
--- how often the frame stands among those of both
+-- how often the frame is among those of both
 both : (a b : List ℕ) (frame : ℕ) → OfTwo a b (times frame a + times frame b ≤ 1)
 both a b frame first second of_first of_second apart =
     let l : (0 + times frame first.frames.items) + times frame second.frames.items ≤ 1 =
@@ -260,7 +260,7 @@ request_at_the_end : (plan : GuestPlan) (paced : Bool) (rounds : List Rounded)
 request_at_the_end plan paced rounds report is r posted =
     let e : Same 1 0 = ap (λ l. length l) (sym posted ∙ is.served.deflate.0) in omega arith
 
--- Its frames are those behind the guest's pages.
+-- Its frames are those that back the guest's pages.
 abbrev Frames : List (Option ℕ) → List ℕ → Type 0 → Type 0
 Frames behind reported answer = (plan : GuestPlan) (paced : Bool) (rounds : List Rounded)
     (report : GuestReport) (is : IsGuestReport 16 1 plan paced rounds report)

@@ -49,7 +49,7 @@ entries_of_rounds = refl
 
 -- ---- rounds of a report: over all guests of the plan, for its frames
 
--- a plan of two guests with so many frames
+-- a plan of two guests with n frames
 abbrev OfPlan : (pages more frames : ℕ) → (Plan → Type 0) → Type 0
 OfPlan pages more frames Holds = (plan : Plan) (g h : GuestPlan) → plan.guests.items ≡ g
     ∷ h ∷ [] → g.config.pages ≡ pages → h.config.pages ≡ more → plan.frames ≡ frames → Holds plan

@@ -39,7 +39,7 @@ replies_to_a_worker : map found_nothing (Empty ∷ Idle ∷ Refused NotReady ∷
     ≡ true ∷ true ∷ true ∷ true ∷ false ∷ false ∷ false ∷ false ∷ false ∷ false ∷ []
 replies_to_a_worker = refl
 
--- each refusal, for want of a frame or of memory too
+-- each refusal, for lack of a frame or memory too
 refusals_to_a_worker : (refusal : Refusal) → found_nothing (Refused refusal) ≡ true
 refusals_to_a_worker refusal = refl
 

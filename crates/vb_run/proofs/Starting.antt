@@ -29,7 +29,7 @@ pub begun_push : (scripts : List Progress) (calls : List Call) → AreBegun scri
 begun_push scripts calls begun own = each_push (λ cpu s. (s.place ≡ 0) × IsScript cpu s.calls)
     scripts (record { calls = calls; place = 0 }) begun (refl, own)
 
--- what is left of a list from a place on begins with what stands there
+-- what is left of a list from a place on begins with what is there
 pub drop_head : {X : Type 0} (xs : List X) (n : ℕ) (x : X) (rest : List X)
     → drop n xs ≡ x ∷ rest → (slice_get xs n ≡ Some x) × (drop (n + 1) xs ≡ rest)
 drop_head [] zero x rest e = cc

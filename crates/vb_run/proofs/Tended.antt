@@ -1,5 +1,5 @@
 -- Calls of processors and workers leave a tended guest tended, and what a worker that finds nothing
--- more to do leaves behind.
+-- more to do leaves.
 use Rattle.std.proofs.Common.{◌≡◌, ◌≢◌, ℕ, zero, suc, Bool, true, false, cond, List, [], ◌∷◌, refl}
 use Rattle.std.{proofs.Common.{sym, ap, subst, ◌∙◌, ◌⊎◌, inl, inr, arith}, specs.List.list_all}
 use Rattle.std.specs.Prelude.{◌==◌, ◌<◌, Option, Some, None, MatchOption, length, slice_get}

@@ -30,7 +30,7 @@ call_in scripts (ByProcessor cpu place) =
 call_in scripts (ByWorker service) = slice_index_or services service Work
 call_in scripts (ByBalancer pages) = SetTarget pages
 
--- the entry that a note of this guest, whose processors have these scripts, stands for
+-- the entry that a note of this guest, whose processors have these scripts, represents
 abbrev pub noted_entry : ℕ → List (List Call) → Note → Entry
 noted_entry guest scripts (CalledNote caller claims reply) =
     Called (actor_in guest caller) (call_in scripts caller) claims.items reply

@@ -49,12 +49,12 @@ Follows p =
     (cpu : ℕ) (s : Progress) → slice_get p.scripts cpu ≡ Some s
     → calls_by (Processor p.guest cpu) p.history ≡ take s.place s.calls
 
--- the processor's script has only calls that may stand there
+-- the processor's script has only calls that may be there
 abbrev pub IsScript : ℕ → List Call → Type 0
 IsScript cpu calls = list_all (may_stand cpu) calls ≡ true
 
 -- The history is a run from plug on that ends in the guest that is there, each processor called its
--- script up to its place, and the frames behind the guest's pages are just its device's own.
+-- script up to its place, and the frames that back the guest's pages are just its device's own.
 pub record IsKept (Is : Guest → Type 0) (own : List ℕ) (p : Past) : Type 0 where
   pub now : Guest
   pub stands : Is now

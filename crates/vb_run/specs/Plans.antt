@@ -14,8 +14,7 @@ use Rattle.vb_run.specs.declared.plan.Plan.{Plan}
 use Rattle.vb_run.specs.declared.plan.TheConstants.{MAX_SCRIPT_CALLS}
 pub use Rattle.vb_slot.specs.Spare.{config_of}
 
--- a call that may stand in this processor's script: one of the guest's own, and of no other
--- processor
+-- a call that may be in this processor's script: one of the guest's own, and of no other processor
 abbrev pub may_stand : ℕ → Call → Bool
 may_stand cpu (Alloc c order) = c == cpu
 may_stand cpu (Free c start order) = c == cpu

@@ -20,7 +20,7 @@ use Rattle.vb_run.specs.Notes.{history_of, replies_in}
 use Rattle.vb_run.specs.Services.{IsServed}
 use Rattle.vb_run.specs.Rounds.{Rounded, round_entries}
 
--- the frames behind the guest's pages, by rising page
+-- the frames that back the guest's pages, by rising page
 abbrev pub frames_behind : Guest → List ℕ
 frames_behind g = filter_map (λ frame. frame) g.frames
 
@@ -65,7 +65,7 @@ pub record IsRound (plan : Plan) (r : Rounded) : Type 0 where
   pub frames : r.frames ≡ plan.frames
   pub answer : IsAnswer plan.frames r.needs r.answer
 
--- no frame stands twice among those of all guests
+-- no frame is twice among those of all guests
 abbrev pub AreApart : List GuestReport → Type 0
 AreApart reports = (frame : ℕ) → sum_by (λ r. times frame r.frames.items) reports ≤ 1
 

@@ -32,7 +32,7 @@ fn all_frames(alloc: Global, reports: &[GuestReport]) -> Result<Vec<u32>, AllocE
     Ok(all)
 }
 
-/// Whether no frame stands twice among those of all guests.
+/// Whether no frame is twice among those of all guests.
 pub(crate) fn are_apart(alloc: Global, reports: &[GuestReport]) -> Result<bool, AllocError>
     ensures { IfOk result (λ apart. (apart ≡ true) ↔ AreApart reports.now) }
 {

@@ -120,7 +120,7 @@ fn is_same_entry(guest: u32, note: &Note, other: &Entry) -> bool
     }
 }
 
-/// Whether this note stands at a place of the expected entries, and is one of a round.
+/// Whether this note is at a place of the expected entries, and is one of a round.
 fn is_at(guest: u32, expected: &[Entry], place: usize, note: &Note) -> bool
     ensures { (result ≡ true)
         ↔ ((slice_get expected.now place ≡ Some (noted_entry guest [] note.now))

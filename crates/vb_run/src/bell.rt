@@ -27,7 +27,7 @@ pub(crate) struct Rung {
 }
 
 impl Bell {
-    /// A doorbell that wasn't rung, of a guest with so many running processors.
+    /// A doorbell that wasn't rung, of a guest with `running` running processors.
     pub fn new(running: u32) -> Bell {
         Bell {
             rings: Mutex::new(Rings { rings: 0, running }),

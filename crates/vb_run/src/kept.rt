@@ -130,9 +130,9 @@ impl<S: GuestSlot, L: AsSlice<Call> + Drop> Kept<S, L> {
         self.short = true;
     }
 
-    /// Makes the next call of a processor's script; none where no call is left. Refused for want of
-    /// memory alone: then either nothing was done, or the call was made and noted and only its
-    /// reply isn't given here.
+    /// Makes the next call of a processor's script; none where no call is left. Refused on an
+    /// allocation failure alone: then either nothing was done, or the call was made and noted and
+    /// only its reply isn't given here.
     pub fn next(&mut self, alloc: Global, cpu: u32) -> Result<Option<Reply>, AllocError>
         ensures noted { IfOk result (λ answer. MatchOption answer
             (HasEnded cpu self.old × (self.new ≡ self.old))
@@ -265,7 +265,7 @@ impl<S: GuestSlot, L: AsSlice<Call> + Drop> Kept<S, L> {
     }
 
     /// Whether this is kept of the plan's guest, and the balancer's entries are those of these
-    /// rounds. Refused for want of memory alone.
+    /// rounds. Refused on an allocation failure alone.
     fn is_planned(
         &self,
         alloc: Global,
@@ -319,7 +319,7 @@ impl<S: GuestSlot, L: AsSlice<Call> + Drop> Kept<S, L> {
     }
 }
 
-/// The numbers of the frames behind the slot's pages, by rising page.
+/// The numbers of the frames that back the slot's pages, by rising page.
 #[tactic(auto, using(crate::proofs::Gathered::frames_some, crate::proofs::Gathered::frames_none))]
 fn frames_of<S: GuestSlot>(alloc: Global, slot: &S) -> Result<Vec<u32>, AllocError>
     ensures { IfOk result (λ frames. (g : Guest) → S.stands slot.now g

@@ -15,13 +15,14 @@ use vb_virtio::negotiation::OFFERED_FEATURES;
 /// Who made a call, and what tells which one it was.
 #[derive(Clone, Copy, Debug, PartialEq, Eq)]
 pub enum Caller {
-    /// Whoever starts guests: the initialisation, with the features that a driver wants by itself.
+    /// The starter of guests: the initialisation, with the features that a driver accepts by
+    /// default.
     Starter,
     /// A processor: the call at this place of its script, from 0 on.
     Processor { cpu: u32, place: usize },
     /// The worker: its service of this number, from 0 on.
     Worker { service: usize },
-    /// The balancer: a target of so many pages.
+    /// The balancer: a target of `pages` pages.
     Balancer { pages: u32 },
 }
 
@@ -116,7 +117,7 @@ fn called(
     }))
 }
 
-/// A copy of the entry that a note of this guest stands for, whose processors have these scripts.
+/// A copy of the entry that a note of this guest represents, whose processors have these scripts.
 pub(crate) fn entry_of(
     alloc: Global,
     guest: u32,

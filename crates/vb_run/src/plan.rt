@@ -30,7 +30,7 @@ pub enum Bells {
     Drop,
     /// Twice after each call.
     Double,
-    /// Once behind the call that follows, and behind the script's end for its last call.
+    /// Once after the call that follows, and after the script's end for its last call.
     Late,
 }
 
@@ -49,7 +49,7 @@ pub struct Plan {
     pub rounds: u32,
 }
 
-/// Whether the call may stand in this processor's script.
+/// Whether the call may be in this processor's script.
 fn may_stand(cpu: usize, call: &Call) -> bool
     ensures { result ≡ may_stand cpu call.now }
 {
@@ -74,7 +74,7 @@ fn is_script(cpu: usize, calls: &[Call]) -> bool
     calls.len() <= MAX_SCRIPT_CALLS && all_may_stand(cpu, calls)
 }
 
-/// Whether all of the calls may stand in this processor's script.
+/// Whether all of the calls may be in this processor's script.
 #[tactic(auto, using(crate::proofs::Lists::list_all_more, crate::proofs::Lists::list_all_at))]
 fn all_may_stand(cpu: usize, calls: &[Call]) -> bool
     ensures { result ≡ list_all (may_stand cpu) calls.now }
@@ -108,7 +108,7 @@ fn is_guest_plan(plan: &GuestPlan) -> bool
         && are_scripts(plan.scripts.as_slice())
 }
 
-/// Whether the plan can be run with so many ports.
+/// Whether the plan can be run with `ports` ports.
 pub(crate) fn is_plan(plan: &Plan, ports: usize) -> bool
     ensures { result ≡ is_plan plan.now ports }
 {

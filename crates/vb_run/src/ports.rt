@@ -6,8 +6,8 @@ ghost use Rattle.std.specs.Prelude.{IsOk, OnOk, OnErr, vec_len, vec_capacity};
 use std::alloc::AllocError;
 use vb_slot::GuestPort;
 
-/// Adds a port behind others, of devices that no guest has yet. Refused for want of memory alone,
-/// which there isn't where the list has room; then the port is gone, and the others stay.
+/// Adds a port after others, of devices that no guest has yet. Refused on an allocation failure
+/// alone, which there isn't where the list has room; then the port is gone, and the others stay.
 pub fn add_port<P: GuestPort>(ports: &mut Vec<P>, port: P) -> Result<(), AllocError>
     requires ports { All P.waits ports.old.items }
     requires port { P.waits port }

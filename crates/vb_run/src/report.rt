@@ -17,13 +17,13 @@ use vb_model::Reply;
 pub struct GuestReport {
     /// All that was done, in the order in which it was done under the guest's lock.
     pub history: Vec<Note>,
-    /// The numbers of the frames behind the guest's pages at the end, by rising page.
+    /// The numbers of the frames that back the guest's pages at the end, by rising page.
     pub frames: Vec<u32>,
 }
 
 impl GuestReport {
-    /// A copy of the history with its calls, of the guest of this number and plan. Refused for want
-    /// of memory alone.
+    /// A copy of the history with its calls, of the guest of this number and plan. Refused on an
+    /// allocation failure alone.
     #[tactic(auto, using(crate::proofs::Lists::map_more))]
     pub fn entries(
         &self,
@@ -40,7 +40,7 @@ impl GuestReport {
         Ok(entries)
     }
 
-    /// A copy of the replies to a processor's script. Refused for want of memory alone.
+    /// A copy of the replies to a processor's script. Refused on an allocation failure alone.
     #[tactic(auto, using(crate::proofs::Gathered::reply_some, crate::proofs::Gathered::reply_none))]
     pub fn replies(&self, alloc: Global, cpu: u32) -> Result<Vec<Reply>, AllocError>
         ensures { IfOk result (λ replies. replies.items ≡ replies_in cpu self.now.history.items) }
@@ -72,7 +72,7 @@ pub enum RunFault {
     Memory = 1,
     /// The plan can't be run: it has no guest or over eight, or not a port for each; or one of its
     /// guests is beyond the limits, or hasn't a script for each processor; or one of its scripts is
-    /// over `MAX_SCRIPT_CALLS` calls, or has a call that may not stand there.
+    /// over `MAX_SCRIPT_CALLS` calls, or has a call that may not be there.
     #[error("bad plan")]
     BadPlan = 2,
     /// Two guests have one frame, which ports of two tables of frames bring about; or what the

@@ -29,7 +29,7 @@ impl Model for Round {
 }
 
 impl Round {
-    /// The round of these looks, for so many frames.
+    /// The round of these looks, for `frames` frames.
     pub(crate) fn new(frames: u32, needs: Vec<GuestNeed>) -> Round
         requires few { length needs.items ≤ MAX_GUESTS }
         ensures frames { result.frames ≡ frames }

@@ -25,7 +25,7 @@ use std::thread::Threads;
 use vb_model::Call;
 use vb_slot::{GuestPort, GuestSlot};
 
-/// The scripts of a guest's processors, where they stand, of which no call was made.
+/// The scripts of a guest's processors, where they are, of which no call was made.
 fn scripts_of<'p>(
     alloc: Global,
     calls: &'p [Vec<Call>],
@@ -41,8 +41,7 @@ fn scripts_of<'p>(
     Ok(scripts)
 }
 
-/// A guest as it was plugged in, on a device that is, or isn't, paced: started, and behind its
-/// lock.
+/// A guest as it was plugged in, on a device that is, or isn't, paced: started, and under its lock.
 fn seat_of<'p, S: GuestSlot>(
     alloc: Global,
     guest: u32,

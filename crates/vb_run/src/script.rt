@@ -8,7 +8,7 @@ use std::convert::AsSlice;
 use std::marker::Model;
 use vb_model::Call;
 
-/// The calls of a processor, where they stand, and how many of them were made.
+/// The calls of a processor, where they are, and how many of them were made.
 #[derive(Drop)]
 pub(crate) struct Script<L: AsSlice<Call> + Drop> {
     calls: L,

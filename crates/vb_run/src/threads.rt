@@ -18,7 +18,7 @@ use vb_model::{Actor, Call, Reply};
 use vb_slot::GuestSlot;
 use vb_virtio::limits::MAX_GUESTS;
 
-/// A guest behind its lock, with its doorbell.
+/// A guest under its lock, with its doorbell.
 #[derive(Drop)]
 pub(crate) struct Seat<S: GuestSlot, L: AsSlice<Call> + Drop> {
     /// The guest's number.

@@ -4,7 +4,7 @@ use Rattle.std.proofs.Common.{[], ◌∷◌, Some, None, length, refl, ap, ◌�
 use Rattle.std.{proofs.lemmas.Bool.Decides.nat_tests, proofs.lemmas.Slice.Eq.bytes_eq-Decides}
 use Rattle.vb_script.specs.Names.{meaning_of}
 
--- the entries whose words have so many letters
+-- the entries whose words have n letters
 abbrev pub of_length : {T : Type 0} → ℕ → List (List ℕ × T) → List (List ℕ × T)
 of_length n [] = []
 of_length n (entry ∷ table) =

@@ -11,11 +11,11 @@ is_later (Rounds floor count) = false
 is_later (Cpu cpu) = true
 is_later (Call guest call) = true
 
--- behind the first line that is no plug there are lines of processors alone
+-- after the first line that is no plug there are lines of processors alone
 abbrev pub in_order : List ThreadsLine → Bool
 in_order [] = true
 in_order (line ∷ lines) = cond (is_plug line) (in_order lines) (list_all is_later lines)
 
--- which lines may stand behind others
+-- which lines may come after others
 abbrev fits : List ThreadsLine → ThreadsLine → Bool
 fits earlier line = is_later line || are_plugs earlier

@@ -54,7 +54,7 @@ bits b = (
   λ is. (let e = is.1 in absurd cc),
 )
 
--- of a bad line this holds of its number, and of want of memory nothing
+-- of a bad line this holds of its number, and of an allocation failure nothing
 of_a_bad_line : (IfBadLine (BadLine 7) (λ number. number ≡ 8) → ⊥)
     × IfBadLine (BadLine 7) (λ number. number ≡ 7) × IfBadLine Memory (λ number. ⊥)
 of_a_bad_line = (λ wrong. omega (arith, wrong), refl, tt)

@@ -1,4 +1,4 @@
--- The lines that are left behind the first one.
+-- The lines that are left after the first one.
 use Rattle.std.proofs.Common.{◌≡◌, ℕ, ◌+◌, ◌≤◌, false, List, [], ◌∷◌, length, refl, arith}
 use Rattle.vb_script.specs.Texts.{is_skipped, lines_of, numbered}
 

@@ -17,7 +17,7 @@ use Rattle.vb_script.specs.Texts.{begins_with_host}
 
 -- ---- lines
 
--- a line feed ends a line, the last one may lack it, and nothing behind it is no line
+-- a line feed ends a line, the last one may lack it, and nothing after it is no line
 lines : map lines_of (codes "a\n\nb" ∷ codes "a\n" ∷ codes "\n" ∷ [] ∷ [])
     ≡ (codes "a" ∷ [] ∷ codes "b" ∷ []) ∷ (codes "a" ∷ []) ∷ ([] ∷ []) ∷ [] ∷ []
 lines = refl
@@ -40,7 +40,7 @@ nothing_said : map script_of ([] ∷ codes "\n# note\n" ∷ []) ≡ Ok None ∷ 
 unfolding script_of told_in
 nothing_said = refl
 
--- no host first, one of no frame, two, a spare device behind an event, a space before a comment, a
+-- no host first, one of no frame, two, a spare device after an event, a space before a comment, a
 -- carriage return, and two bad lines: the first is named by its number among all lines
 bad : map script_of (codes "frames\n" ∷ codes "# note\n\nhost 0" ∷ codes "host 1\nhost 1"
     ∷ codes "host 1\nframes\nspare paced" ∷ codes "host 1\n # note" ∷ codes "host 1\r\n"
@@ -59,7 +59,7 @@ too_many_spares : with_spare {Item = ℕ} Paced
     (record { frames = 1; spares = replicate 64 Paced; events = [] }) ≡ None
 too_many_spares = refl
 
--- lines behind the host's are no matter
+-- lines after the host's don't matter
 begins : map begins_with_host (codes "# note\nhost 5\nnot" ∷ codes "frames\nhost 5" ∷ codes "host 0" ∷ [] ∷ [])
     ≡ true ∷ false ∷ false ∷ false ∷ []
 unfolding begins_with_host number_of

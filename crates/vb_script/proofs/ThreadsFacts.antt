@@ -8,7 +8,7 @@ use Rattle.vb_script.{specs.declared.threads.ThreadsLine.ThreadsLine, specs.Thre
 use Rattle.vb_script.specs.declared.threads.ThreadsLine.TheVariants.{Plug, Rounds, Cpu, Call}
 use Rattle.vb_script.{specs.Names.{form_of, threads_form_of}, specs.Words.{number_of, words_of}}
 
--- a plug stands first or behind a plug
+-- a plug is first or after a plug
 plug_first : threads [] (words_of (codes "plug 64 8 1")) ≡ Some (Plug 64 8 1)
 unfolding threads_form_of form_of number_of
 plug_first = refl
@@ -41,7 +41,7 @@ no_rounds_behind_a_processor : threads (Cpu 0 ∷ []) (words_of (codes "rounds 1
 unfolding threads_form_of number_of
 no_rounds_behind_a_processor = refl
 
--- a processor and a call stand anywhere
+-- a processor and a call are anywhere
 cpu_first : threads [] (words_of (codes "cpu 99")) ≡ Some (Cpu 99)
 unfolding threads_form_of number_of
 cpu_first = refl

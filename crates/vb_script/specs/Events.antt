@@ -115,7 +115,7 @@ bytes_event name words = do
   bytes ← bytes_of all.3
   Some (with_bytes name all.0 all.1 all.2 bytes)
 
--- what the words behind an event's say of it
+-- what the words after an event's say of it
 abbrev pub said : Form → List (List ℕ) → Option Event
 said Frames [] = Some CountFrames
 said Frames (word ∷ words) = None

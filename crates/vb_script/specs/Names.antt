@@ -69,7 +69,7 @@ forms =
     ∷ (codes "frames", Frames)
     ∷ []
 
--- which words stand behind an event's
+-- which words come after an event's
 unfoldable pub form_of : List ℕ → Option Form
 form_of word = meaning_of forms word
 

@@ -12,7 +12,7 @@ IsDigit byte = (48 ≤ byte) × (byte ≤ 57)
 abbrev pub IsDecimal : List ℕ → Type 0
 IsDecimal word = (0 < length word) × All IsDigit word
 
--- a number with more digits behind it
+-- a number with more digits after it
 abbrev pub with_digits : ℕ → List ℕ → ℕ
 with_digits n [] = n
 with_digits n (digit ∷ digits) = with_digits (n * 10 + (digit - 48)) digits

@@ -11,7 +11,7 @@ use Rattle.vb_script.specs.Events.{event_of}
 use Rattle.vb_script.specs.Lines.{spare_of, host_of}
 use Rattle.vb_script.specs.Words.{words_of}
 
--- nothing behind the last line feed is no line
+-- nothing after the last line feed is no line
 abbrev pub last_line : List ℕ → List (List ℕ)
 last_line [] = []
 last_line (byte ∷ bytes) = (byte ∷ bytes) ∷ []
@@ -30,11 +30,11 @@ abbrev pub is_skipped : List ℕ → Bool
 is_skipped [] = true
 is_skipped (byte ∷ bytes) = byte == 35
 
--- what a line behind the spare devices says, by what the lines before it said there, and its words
+-- what a line after the spare devices says, by what the lines before it said there, and its words
 abbrev pub Language : Type 0 → Type 0
 Language Item = List Item → List (List ℕ) → Option Item
 
--- what the lines so far say behind the first one: the spare devices, and what happens
+-- what the lines so far say after the first one: the spare devices, and what happens
 pub record Told (Item : Type 0) : Type 0 where
   pub frames : ℕ
   pub spares : List Pace
@@ -57,12 +57,12 @@ with_words language (Ok (Some pace)) words told = with_spare pace told
 with_words language (Ok None) words told =
     option_map (with_event told) (language told.events words)
 
--- a line behind the first one tells of a spare device, or what the language has
+-- a line after the first one tells of a spare device, or what the language has
 abbrev pub with_line : {Item : Type 0} → Language Item → List ℕ → Told Item → Option (Told Item)
 with_line language line told =
     with_words language (spare_of (words_of line)) (words_of line) told
 
--- the lines that aren't skipped, each with its number among all, of which so many were passed
+-- the lines that aren't skipped, each with its number among all, of which n were passed
 abbrev pub numbered : ℕ → List (List ℕ) → List (ℕ × List ℕ)
 numbered passed [] = []
 numbered passed (line ∷ lines) =
@@ -107,7 +107,7 @@ told_in language text = script_with language (numbered 0 (lines_of text))
 abbrev pub Said : Type 0
 Said = Told Event
 
--- an event may stand behind any others
+-- an event may come after any others
 abbrev pub events : Language Event
 events earlier words = event_of words
 

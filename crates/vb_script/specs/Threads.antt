@@ -24,7 +24,7 @@ abbrev pub is_plug_or_none : Option ThreadsLine → Bool
 is_plug_or_none None = true
 is_plug_or_none (Some line) = is_plug line
 
--- Plugs come first, and rounds behind them at once: either stands behind a plug, or is the first.
+-- Plugs come first, and rounds after them at once: either comes after a plug, or is the first.
 abbrev pub are_plugs : List ThreadsLine → Bool
 are_plugs earlier = is_plug_or_none (slice_get earlier (length earlier - 1))
 
@@ -46,7 +46,7 @@ formed OfEvent earlier word words =
 formed OfRounds earlier word words = rounds_line earlier words
 formed OfCpu earlier word words = option_map Cpu (only_number words)
 
--- what a line's words say behind such lines
+-- what a line's words say after such lines
 abbrev pub threads : Language ThreadsLine
 threads earlier [] = None
 threads earlier (word ∷ words) =

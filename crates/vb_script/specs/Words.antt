@@ -10,7 +10,7 @@ infixl 10 ◌>>=◌
 abbrev pub ◌>>=◌ : {A B : Type 0} → Option A → (A → Option B) → Option B
 o >>= f = option_and_then f o
 
--- one space stands between two words
+-- one space is between two words
 abbrev pub words_of : List ℕ → List (List ℕ)
 words_of line = slice_split (λ byte. byte == 32) line
 
@@ -43,7 +43,7 @@ only_word (word ∷ more ∷ words) = None
 abbrev pub only_number : List (List ℕ) → Option ℕ
 only_number words = option_and_then number_of (only_word words)
 
--- the numbers of so many words, if they are all
+-- the numbers of n words, if they are all
 abbrev pub two_numbers : List (List ℕ) → Option (ℕ × ℕ)
 two_numbers [] = None
 two_numbers (word ∷ words) = do
@@ -65,7 +65,7 @@ four_numbers (word ∷ words) = do
   others ← three_numbers words
   Some (first, others.0, others.1, others.2)
 
--- three numbers, and one word behind them
+-- three numbers, and one word after them
 abbrev pub three_numbers_and_a_word : List (List ℕ) → Option (ℕ × ℕ × ℕ × List ℕ)
 three_numbers_and_a_word (a ∷ b ∷ c ∷ words) = do
   first ← number_of a

@@ -37,7 +37,7 @@ impl Item for Event {
     }
 }
 
-/// The event that a line's first word and those behind it name. Words that name none make a bad
+/// The event that a line's first word and those after it name. Words that name none make a bad
 /// line.
 pub fn event(alloc: Global, word: &[u8], words: &mut Words<'_>) -> Result<Event, LineFault>
     ensures ok { IfOk result
@@ -60,7 +60,7 @@ pub fn event(alloc: Global, word: &[u8], words: &mut Words<'_>) -> Result<Event,
     }
 }
 
-/// What stands behind an event's word.
+/// What comes after an event's word.
 fn form_of(word: &[u8]) -> Option<Form>
     ensures { result ≡ form_of word.now }
 {

@@ -4,7 +4,7 @@
 //! `parse_threads` reads one to a `ThreadsScript`: a host's frames, and guests whose processors
 //! have a list of calls each.
 //! `docs/SCRIPTS.md` has the rules of the format; `vb_reply` writes the lines that the events are
-//! answered with. Who answers them is no matter here.
+//! answered with. Any implementation may answer them.
 #![tactic(auto)]
 
 mod events;

@@ -16,7 +16,7 @@ use vb_virtio::limits::MAX_FRAMES;
 /// Why a line gives nothing.
 #[derive(Clone, Copy, Debug, PartialEq, Eq)]
 pub enum LineFault {
-    /// It isn't a line of the format, or not at its place in the script.
+    /// The text isn't a line of the format, or not at its place in the script.
     Bad,
     /// There was no memory for what it says.
     Memory,
@@ -35,9 +35,9 @@ impl From<AllocError> for LineFault {
 /// How a spare device goes about its work.
 #[derive(Clone, Copy, Debug, PartialEq, Eq)]
 pub enum Pace {
-    /// It does all work of a request as it finishes it.
+    /// The device does all work of a request as it finishes it.
     Immediate,
-    /// It visits the pages of a request one by one before it finishes it.
+    /// The device visits the pages of a request one by one before it finishes it.
     Paced,
 }
 

@@ -59,7 +59,7 @@ pub enum WithBytes {
     Scribble,
 }
 
-/// An event, by the words that stand behind its own.
+/// An event, by the words that come after its own.
 #[derive(Clone, Copy)]
 pub enum Form {
     /// No word.
@@ -132,7 +132,7 @@ pub static FORMS_OF_8: [(&[u8], Form); 1] = [(b"scribble", Form::Bytes(WithBytes
 pub enum ThreadsForm {
     /// How often all targets are set, and above which floor.
     Rounds,
-    /// The processor that makes the calls behind it.
+    /// The processor that makes the calls after it.
     Cpu,
     /// A line that scripts of events have too.
     Event,
@@ -170,7 +170,7 @@ pub static PLACES: [(&[u8], Query); 8] = [
 /// The paces that a line of a spare device names.
 pub static PACES: [(&[u8], Pace); 2] = [(b"immediate", Pace::Immediate), (b"paced", Pace::Paced)];
 
-/// What the word stands for in the table, if it is there.
+/// What the word represents in the table, if it is there.
 pub fn find<T: Copy>(table: &[(&[u8], T)], word: &[u8]) -> Option<T>
     ensures { result ≡ found_in table.now word.now }
 {

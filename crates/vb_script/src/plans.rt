@@ -177,7 +177,8 @@ fn guest_with(
     })
 }
 
-/// The scripts of a guest's processors, of which it has so many. Goes over the lines once for each.
+/// The scripts of a guest's processors, of which it has `processors`. Goes over the lines once for
+/// each.
 fn scripts_by(
     alloc: Global,
     guest: usize,

@@ -141,7 +141,7 @@ pub fn read<T: Item>(alloc: Global, text: &[u8]) -> Result<Option<Reading<T>>, S
     Ok(Some(read))
 }
 
-/// Reads what stands after the first line of a script whose host has this many frames.
+/// Reads what comes after the first line of a script whose host has this many frames.
 fn read_rest<T: Item>(
     alloc: Global,
     frames: u32,
@@ -164,7 +164,7 @@ fn read_rest<T: Item>(
 }
 
 impl<T: Item> Reading<T> {
-    /// What the first line says, with room for as many lines as may stand in this many bytes.
+    /// What the first line says, with room for as many lines as may be in this many bytes.
     fn of_host(alloc: Global, frames: u32, bytes: usize) -> Result<Reading<T>, AllocError>
         requires some { 1 ≤ frames }
         requires bound { frames ≤ MAX_FRAMES }

@@ -7,7 +7,7 @@ use crate::lines::Pace;
 use vb_model::{Call, Event};
 
 /// What a script says: the first line the host's frames, the next ones its spare devices, all
-/// others what happens. Whoever has one can run it: its numbers are within their bounds.
+/// others what happens. Any such script can be run: its numbers are within their bounds.
 #[derive(Drop)]
 pub struct Script {
     /// Frames of the host, from 1 to `MAX_FRAMES` of `vb_virtio`.
@@ -37,7 +37,7 @@ pub struct Reading<T> {
     pub ghost room_for_spares: { 64 ≤ vec_capacity spares },
 }
 
-/// What a script for guests on threads says: a plan. Whoever has one can try to run it: what a
+/// What a script for guests on threads says: a plan, which may be refused when it is run: what a
 /// guest's configuration may be, how many guests there may be and which processor a call may name
 /// is for the runner to say.
 #[derive(Drop)]

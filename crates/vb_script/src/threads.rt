@@ -16,7 +16,7 @@ use crate::words::Words;
 use std::alloc::Global;
 use vb_model::{Call, Event, GuestSize};
 
-/// What a line behind the spare devices says.
+/// What a line after the spare devices says.
 #[derive(Drop)]
 pub enum ThreadsLine {
     /// A guest of this configuration, with the next spare device.
@@ -25,12 +25,12 @@ pub enum ThreadsLine {
         queue_size: u32,
         processors: u32,
     },
-    /// All targets are set so many times, above this floor of free memory.
+    /// All targets are set `count` times, above this floor of free memory.
     Rounds {
         floor: u32,
         count: u32,
     },
-    /// The processor of this number makes the calls behind it.
+    /// The processor of this number makes the calls after it.
     Cpu(u32),
     /// A call on a guest.
     Call {
@@ -69,7 +69,7 @@ fn threads_form_of(word: &[u8]) -> Option<ThreadsForm>
     find(&THREADS_FORMS, word)
 }
 
-/// Whether a plug or rounds may stand behind these lines.
+/// Whether a plug or rounds may come after these lines.
 fn are_plugs(earlier: &[ThreadsLine]) -> bool
     ensures { result ≡ are_plugs earlier.now }
 {

@@ -32,7 +32,7 @@ pub fn number(word: &[u8]) -> Option<u32>
     Some(value)
 }
 
-/// The number with one more digit behind it.
+/// The number with one more digit after it.
 fn with_digit(value: u32, digit: u8) -> Option<u32>
     ensures { SomeIff result
         (IsDigit digit × (value * 10 + (digit - 48) < 2 ^ 32))

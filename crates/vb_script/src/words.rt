@@ -17,8 +17,8 @@ const SPACE: u8 = b' ';
 /// `memchr` takes longer for so few.
 const NEAR: usize = 32;
 
-/// What is left of a line. Single spaces stand between its words, so a second space in a row, or
-/// one at either end, makes an empty word, which nothing accepts.
+/// What is left of a line. Single spaces are between its words, so a second space in a row, or one
+/// at either end, makes an empty word, which nothing accepts.
 #[derive(Drop)]
 pub struct Words<'a> {
     pub rest: Option<&'a [u8]>,
@@ -96,7 +96,7 @@ impl<'a> Words<'a> {
     }
 }
 
-/// What stands before the first such byte of a text, and what behind it if the text has one.
+/// What comes before the first such byte of a text, and what after it if the text has one.
 pub fn cut_at(text: &[u8], byte: u8) -> (&[u8], Option<&[u8]>)
     ensures split { slice_split (λ x. x == byte) text.now
         ≡ result.0.now ∷ option_map_or (λ rest. slice_split (λ x. x == byte) rest.now) result.1 [] }
@@ -121,7 +121,7 @@ fn first_place(text: &[u8], byte: u8) -> Option<usize>
     }
 }
 
-/// The same of a long text.
+/// The first place of a byte in a long text, by `memchr`.
 #[cold]
 fn first_far_place(text: &[u8], byte: u8) -> Option<usize>
     ensures { IsFirstByte (is_byte byte) text.now result }

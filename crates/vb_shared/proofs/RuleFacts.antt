@@ -60,7 +60,7 @@ a_tag_twice is = omega (arith, is.apart 0)
 a_pass_without_its_frame : IsKept sizes words (pass 1 (2 ∷ []) ∷ pass 0 [] ∷ []) → ⊥
 a_pass_without_its_frame is = lacks_its_own (is.tied 1 (pass 0 []) refl).0
 
--- of a seat that stands for two passes both are
+-- of a seat that represents two passes both are
 second_of_a_seat : IsKept sizes words (view_of (holding 1 (2 ∷ []) ∷ holding 0 [] ∷ []) ∷ []) → ⊥
 second_of_a_seat is =
     lacks_its_own (is.tied 0 (view_of (holding 1 (2 ∷ []) ∷ holding 0 [] ∷ [])) refl).1.0

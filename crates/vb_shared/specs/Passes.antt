@@ -20,7 +20,7 @@ pub record Opened : Type 0 where
   pub table : TableId
   pub frames : ℕ
 
--- So many passes of the table with the tags from one on, that hold nothing and claimed nothing.
+-- n passes of the table with the tags from one on, that hold nothing and claimed nothing.
 abbrev pub new_passes : TableId → ℕ → ℕ → List Pass
 new_passes table tag zero = []
 new_passes table tag (suc n) =
@@ -28,7 +28,7 @@ new_passes table tag (suc n) =
 
 -- ---- how they are kept
 
--- A table of so many words, and a seat at it.
+-- A table of n words, and a seat at it.
 abbrev pub IsTable : TableId → Size → TableId → ℕ → Type 0
 IsTable seat size table frames =
     (seat ≡ table) × (table.words ≡ frames) × (size.frames ≡ frames) × (0 < frames)

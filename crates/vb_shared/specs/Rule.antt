@@ -16,7 +16,7 @@ use Rattle.vb_shared.specs.declared.rule.Size.{Size}
 abbrev pub holding : ℕ → List ℕ → Holding
 holding tag held = record { tag = tag; held = held }
 
--- A seat at the table stands for some passes: for one mostly; for none where it is spent; for both
+-- A seat at the table represents some passes: for one usually; for none where it is spent; for both
 -- while two passes meet; the opener's for those that it hasn't handed out.
 abbrev pub view_of : List Holding → View
 view_of passes = record { holdings = passes }

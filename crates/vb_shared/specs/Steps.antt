@@ -62,7 +62,7 @@ abbrev pub rest_of : List Holding → List Holding
 rest_of [] = []
 rest_of (p ∷ ps) = ps
 
--- So many passes with the tags from one on, that hold nothing.
+-- n passes with the tags from one on, that hold nothing.
 abbrev pub new_holdings : ℕ → ℕ → List Holding
 new_holdings tag zero = []
 new_holdings tag (suc n) = holding tag [] ∷ new_holdings (suc tag) n

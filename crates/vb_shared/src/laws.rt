@@ -14,7 +14,7 @@ pub fn what_the_rule_says()
         IsKept size words views → FrameRule size words views }
 {}
 
-/// The rule stands whatever step the pass at some seat makes on some word.
+/// The rule holds for any step that the pass at some seat makes on some word.
 pub fn each_kind_of_step_keeps_the_rule()
     ensures { (kind : StepKind) (size : Size) (words : List ℕ) (views : List View)
         (i tag f : ℕ) (held : List ℕ) → f < size.frames → IsKept size words views →

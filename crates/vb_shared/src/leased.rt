@@ -11,8 +11,8 @@ use vb_ram::{Config, Frame, GuestBytes, RamFault, SupplyRefused};
 use vb_status::{Features, Port, Status, StatusFault};
 use vb_virtio::Refusal;
 
-/// A device that gives its guest the frames that its pass claims, and is the device round which it
-/// stands in all else. Its drop gives every frame back.
+/// A device that gives its guest the frames that its pass claims, and is the device that it wraps
+/// in all else. Its drop gives every frame back.
 pub struct Leased<D: Device> {
     /// The device that does the work.
     device: D,

@@ -58,7 +58,8 @@ pub struct FramePass {
     frames: u32,
     /// Which guest's pass it is. A word of its own is tag + 1.
     tag: u32,
-    /// What its last claim answered, which a contract tells want of frames and of memory apart by.
+    /// What its last claim answered, by which a contract distinguishes a lack of frames from an
+    /// allocation failure.
     found: Option<u32>,
     /// Where a claimed frame's bytes come from.
     alloc: Global,
@@ -111,8 +112,8 @@ fn deal(
 }
 
 impl SharedFrames {
-    /// A table of so many free frames, and a pass a guest, with the tags from 0 on. Want of memory
-    /// is the only refusal.
+    /// A table of `frames` free frames, and a pass for each of `guests` guests, with the tags from
+    /// 0 on. An allocation failure is the only refusal.
     pub fn open(
         alloc: Global,
         frames: u32,

@@ -16,9 +16,9 @@ pub struct Holding {
     pub held: LinkedList<u32>,
 }
 
-/// The passes that a seat stands for. No value of it is made.
+/// The passes that a seat represents. No value of it is made.
 pub struct View {
-    /// One mostly; none where the seat is spent.
+    /// One usually; none where the seat is spent.
     pub holdings: LinkedList<Holding>,
 }
 

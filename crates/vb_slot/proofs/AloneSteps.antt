@@ -39,7 +39,7 @@ from_keeper : (p : Part) (out : List Bool) (n : ℕ) → p.keeps ≡ false
 from_keeper p out n e =
     ap (λ (keeps : Bool). one_if (if keeps then has p.own n else is_out out n)) e
 
--- the frames of the device are those behind the pages afterwards too
+-- the frames of the device are those that back the pages afterwards too
 stays_behind : (keeps : Bool) (Answers : List Bool → Claim → Type 0) (m1 m2 : Pages) (p1 p2 : Part)
     (d1 d2 : DriverState) (was left : Bool) (claims : List Claim) (g : Guest) (call : Call)
     (reply : Reply) → was ≡ true → Stands keeps m1 p1 d1 g → AreBehind p1.own g

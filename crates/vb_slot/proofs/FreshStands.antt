@@ -1,4 +1,4 @@
--- A slot stands for its guest as it is plugged in.
+-- A slot represents its guest as it is plugged in.
 use Rattle.std.specs.Prelude.{◌≡◌, ℕ, true, List, [], None, replicate, refl}
 use Rattle.{std.proofs.Common.{sym, ◌∙◌, ap, subst}, vb_device.specs.Calls.{IsUnused, attached}}
 use Rattle.vb_virtio.specs.Limits.{is_config}

@@ -1,4 +1,4 @@
--- Numbers that stand in one of two lists.
+-- Numbers that are in one of two lists.
 use Rattle.std.specs.Prelude.{◌≡◌, ◌≢◌, ℕ, ◌+◌, ◌≤◌, ◌==◌, ◌||◌, not}
 use Rattle.std.specs.Prelude.{Bool, true, false, cond, List, [], ◌∷◌, ◌++◌, length, nat_lt, refl}
 use Rattle.std.proofs.{Common.{sym, ◌∙◌, ap, arith, inl, inr}, lemmas.List.Folds.list_any-append}
@@ -11,7 +11,7 @@ use Rattle.vb_guest.proofs.Moving.{times_first, times_one}
 pub last : (k n : ℕ) (xs : List ℕ) → times k (xs ++ n ∷ []) ≡ times k xs + one_if (n == k)
 last k n xs = omega (arith, count_by-append (λ (m : ℕ). m == k) xs (n ∷ []), times_one k n)
 
--- a number that stands in no place isn't in the list
+-- a number that is in no place isn't in the list
 pub absent : (n : ℕ) (xs : List ℕ) → times n xs ≡ 0 → has xs n ≡ false
 absent n [] e = refl
 absent n (x ∷ xs) e =
@@ -39,7 +39,7 @@ either_way true false = refl
 either_way false true = refl
 either_way false false = refl
 
--- behind the others as well as before them
+-- after the others as well as before them
 pub with_last : (n : ℕ) (xs : List ℕ) → SameSet (xs ++ n ∷ []) (n ∷ xs)
 with_last n xs k = list_any-append (λ (m : ℕ). m == k) xs (n ∷ []) ∙ either_way (has xs k) (n == k)
 
@@ -78,7 +78,7 @@ without_length n (x ∷ xs) = step (x == n) refl (without_length n xs) where
   step true e ih = omega (arith, ih, times_first n x xs, ap one_if e)
   step false e ih = omega (arith, ih, times_first n x xs, ap one_if e)
 
--- one that stands in one place goes behind the numbers of the other list
+-- one that is in one place goes after the numbers of the other list
 pub goes_over : (k n : ℕ) (xs ys : List ℕ) → times n xs ≡ 1
     → times k (without xs n) + times k (ys ++ n ∷ []) ≡ times k xs + times k ys
 goes_over k n xs ys one = elim (cases_eq n k) [
@@ -120,18 +120,18 @@ at_most_one : (b : Bool) → one_if b ≤ 1
 at_most_one true = omega arith
 at_most_one false = omega arith
 
--- one that stands in another list isn't in the first
+-- one that is in another list isn't in the first
 pub not_both : (n next : ℕ) (xs ys : List ℕ) → times n xs + times n ys ≡ one_if (nat_lt n next)
     → 1 ≤ times n ys → times n xs ≡ 0
 not_both n next xs ys once is = omega (arith, once, is, at_most_one (nat_lt n next))
 
--- the next number stands nowhere yet
+-- the next number is nowhere yet
 pub next_absent : (next : ℕ) (xs ys : List ℕ)
     → times next xs + times next ys ≡ one_if (nat_lt next next) → has xs next ≡ false
 next_absent next xs ys once =
     absent next xs (omega (arith, once, ap one_if (le-ltb next next (omega arith))))
 
--- one that stands in the first list stands in one place
+-- one that is in the first list is in one place
 pub one_place : (n next : ℕ) (xs ys : List ℕ) → times n xs + times n ys ≡ one_if (nat_lt n next)
     → 1 ≤ times n xs → times n xs ≡ 1
 one_place n next xs ys once is = omega (arith, once, is, at_most_one (nat_lt n next))

@@ -19,13 +19,13 @@ abbrev guest : List (Option ℕ) → Guest
 guest frames = record (fresh (record { pages = 64; queue_size = 8; processors = 1; paced = false }) 0)
     { frames = frames }
 
--- it stands there afterwards, and the call made these claims
+-- it is there afterwards, and the call made these claims
 steps_to : (New : Guest → Type 0) (reply : Reply)
     → StepsTo New (Gave 3 ∷ []) (guest []) (SetTarget 5) reply
     → (new : Guest) × New new × GuestStep (guest []) (SetTarget 5) (Gave 3 ∷ []) reply new
 steps_to New reply to = (to.new, to.stands, to.step)
 
--- a frame behind a page is its device's, and its memory has as many pages as it
+-- a frame that backs a page is its device's, and its memory has as many pages as it
 not_alone : (mem : Pages) (d : DriverState) → (IsAlone mem no_part d (guest (Some 5 ∷ [])) → ⊥)
     × (IsAlone [] no_part d (guest []) → ⊥)
 not_alone mem d = (λ is. omega (arith, is.2 5), λ is. omega (arith, is.1.guest.ties.pages.length_is))
@@ -42,7 +42,7 @@ touched mem part old new = (
   λ was is same. grind (arith, same.1),
 )
 
--- ---- what a slot stands for
+-- ---- what a slot represents
 
 stands : {X : Type 0} {F : X → Type 0} (mem : DynBox X Global F → Pages)
     (part : DynBox X Global F → Part) (s : Slot X F) (g : Guest) (out : List Bool)

@@ -1,4 +1,4 @@
--- Devices that wait for a guest, and frames behind the pages of one, worked out.
+-- Devices that wait for a guest, and frames that back the pages of one, worked out.
 use Rattle.std.proofs.Common.{◌≡◌, ℕ, true, false, List, [], ◌∷◌, Option, Some, None, refl, arith}
 use Rattle.{vb_model.specs.Guest.{Guest, fresh}, vb_ram.specs.Part.no_part}
 use Rattle.vb_slot.specs.{Alone.AreBehind, Spare.{IsSpare, IsNew, config_of}}
@@ -31,7 +31,7 @@ new = (record { no_memory = refl; no_frames = refl }, refl)
 new_with_a_frame_out : IsNew [] (record no_part { keeps = true; own = 3 ∷ [] }) → ⊥
 new_with_a_frame_out is = (let wrong : 3 ∷ [] ≡ [] = is.1 in absurd cc)
 
--- ---- frames behind pages
+-- ---- frames that back pages
 
 abbrev guest : List (Option ℕ) → Guest
 guest frames = record (fresh (record { pages = 64; queue_size = 8; processors = 1; paced = false }) 0)

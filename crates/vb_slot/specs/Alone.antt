@@ -21,11 +21,11 @@ pub record StepsTo (New : Guest → Type 0) (claims : List Claim) (g : Guest) (c
   pub stands : New new
   pub step : GuestStep g call claims reply new
 
--- The frames behind the guest's pages are just these, each behind one page.
+-- The frames that back the guest's pages are just these, each backing one page.
 abbrev pub AreBehind : List ℕ → Guest → Type 0
 AreBehind own g = (n : ℕ) → backing_count n g ≡ one_if (has own n)
 
--- The driver, the device and its memory are those of this guest, and the frames behind its pages
+-- The driver, the device and its memory are those of this guest, and the frames that back its pages
 -- are just the device's own that are out: where it keeps none, no page has a frame.
 abbrev pub IsAlone : Pages → Part → DriverState → Guest → Type 0
 IsAlone mem part d g =

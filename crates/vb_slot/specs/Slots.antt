@@ -1,4 +1,4 @@
--- What a slot stands for.
+-- What a slot represents.
 use Rattle.std.specs.Prelude.{◌≡◌, Bool, List}
 use Rattle.std.specs.declared.alloc.Global.{Global}
 use Rattle.std.specs.declared.dyn_box.DynBox.{DynBox}
@@ -60,33 +60,33 @@ abbrev pub is_empty : {X : Type 0} {F : X → Type 0} → (DynBox X Global F →
     → (DynBox X Global F → Part) → Slot X F → Type 0
 is_empty mem part s = IsBare (memory_of mem s) (part_of part s)
 
--- ---- what the calls promise, each of whatever guest the slot stands for
+-- ---- what the calls promise, each of whatever guest the slot represents
 
--- The slot stands for a guest.
+-- The slot represents a guest.
 abbrev pub HasGuest : {X : Type 0} {F : X → Type 0} → (DynBox X Global F → Pages)
     → (DynBox X Global F → Part) → Slot X F → Type 0
 HasGuest mem part s = SomeGuest (memory_of mem s) (part_of part s) (driver_of s)
 
--- It does, and where the device keeps no frames, those behind the guest's pages are out of the
+-- It does, and where the device keeps no frames, those that back the guest's pages are out of the
 -- keeper.
 abbrev pub HasGuestOut : {X : Type 0} {F : X → Type 0} → (DynBox X Global F → Pages)
     → (DynBox X Global F → Part) → Slot X F → List Bool → Type 0
 HasGuestOut mem part s out =
     SomeGuestOut (memory_of mem s) (part_of part s) (driver_of s) out
 
--- Of whatever guest the slot stands for this holds.
+-- Of whatever guest the slot represents this holds.
 abbrev pub OfItsGuest : {X : Type 0} {F : X → Type 0} → (DynBox X Global F → Pages)
     → (DynBox X Global F → Part) → Slot X F → (Guest → Type 0) → Type 0
 OfItsGuest mem part s Holds = OfEach (memory_of mem s) (part_of part s) (driver_of s) Holds
 
--- Of whatever guest the slot stands for this is the answer to a question.
+-- Of whatever guest the slot represents this is the answer to a question.
 abbrev pub SlotAnswers : {X : Type 0} {F : X → Type 0} → (DynBox X Global F → Pages)
     → (DynBox X Global F → Part) → Slot X F → Query → Reply → Type 0
 SlotAnswers mem part s query reply =
     EachAnswers (memory_of mem s) (part_of part s) (driver_of s) query reply
 
--- From whatever guest the slot stands for, while just these frames of the keeper are out, a step of
--- it, and after it the slot stands for what came out.
+-- From whatever guest the slot represents, while just these frames of the keeper are out, a step of
+-- it, and after it the slot represents what came out.
 abbrev pub SlotSteps : {X : Type 0} {F : X → Type 0} → (List Bool → Claim → Type 0)
     → (DynBox X Global F → Pages) → (DynBox X Global F → Part) → Slot X F → List Bool → Slot X F
     → List Bool → Call → Reply → Type 0

@@ -1,4 +1,4 @@
-//! What whoever runs guests needs of the devices that wait for them.
+//! The place at which a thread runner plugs in a guest.
 
 ghost use Rattle.std.specs.Prelude.{◌≡◌, IfOk, true};
 ghost use Rattle.vb_model.specs.Guest.{fresh};
@@ -9,8 +9,7 @@ use crate::guest_slot::GuestSlot;
 use std::alloc::{AllocError, Global};
 use vb_ram::Config;
 
-/// A device that waits for a guest by itself: what whoever runs guests on threads of their own is
-/// given for each of them.
+/// A device that waits for a guest: a thread runner gets one for each guest.
 pub trait GuestPort: Drop {
     ghost use Rattle.std.specs.Prelude.{Bool};
 
@@ -27,7 +26,7 @@ pub trait GuestPort: Drop {
     fn is_paced(&self) -> bool
         ensures { result ≡ pace self.now };
 
-    /// The guest of this size as it is plugged in, on this device. Refused for want of memory
+    /// The guest of this size as it is plugged in, on this device. Refused on an allocation failure
     /// alone; the device is gone then.
     fn plug(self, alloc: Global, config: Config) -> Result<Self::Slot, AllocError>
         requires waits { waits self }

@@ -1,4 +1,4 @@
-//! What whoever runs guests needs of one.
+//! The interface that a thread runner needs from a guest.
 
 ghost use Rattle.std.specs.Prelude.{◌≡◌, ◌≤◌, length};
 ghost use Rattle.vb_model.specs.Balance.{spare};
@@ -9,14 +9,14 @@ use std::alloc::Global;
 use vb_guest::MAX_CLAIMS;
 use vb_model::{Call, Claim, Reply};
 
-/// A guest by itself, with the frames of its own device: what whoever runs guests on threads of
-/// their own needs of one.
+/// A guest by itself, with the frames of its own device: the interface that a thread runner needs
+/// from a guest.
 pub trait GuestSlot: Drop {
     ghost use Rattle.std.specs.Prelude.{ℕ, List};
     ghost use Rattle.vb_model.specs.declared.calls.Claim.{Claim};
     ghost use Rattle.vb_model.specs.Guest.{Guest};
 
-    /// It stands for this guest.
+    /// The slot represents this guest.
     ghost stands: { Self → Guest → Type 0 };
 
     /// The numbers of its device's own frames that are out.
@@ -49,7 +49,7 @@ pub trait GuestSlot: Drop {
         requires { (g : Guest) × stands self.now g }
         ensures { (g : Guest) → stands self.now g → result ≡ spare floor g };
 
-    /// The number of the frame behind a page; none where it has none, or isn't there.
+    /// The number of the frame that backs a page; none where it has none, or isn't there.
     fn backing(&self, page: u32) -> Option<u32>
         ensures { (g : Guest) → stands self.now g → result ≡ frame_of g.frames page };
 }

@@ -59,7 +59,7 @@ pub struct LoneSlot {
 
 impl LoneSlot {
     /// A guest of this size as it is plugged in, on a device that no guest has yet, and of whose
-    /// own frames, if it keeps such, none is out. Refused for want of memory alone.
+    /// own frames, if it keeps such, none is out. Refused on an allocation failure alone.
     pub fn new(
         alloc: Global,
         device: Box<dyn Device + Send>,

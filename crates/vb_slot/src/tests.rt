@@ -109,7 +109,7 @@ const THIRTEEN: [Claim; 13] = [
     Claim::Gave(12),
 ];
 
-/// The first twelve frames, and none behind them.
+/// The first twelve frames, and none after them.
 const TWELVE: [Claim; 13] = [
     Claim::Gave(0),
     Claim::Gave(1),
@@ -456,7 +456,7 @@ fn count_frames(slot: &mut Slot) -> u32 {
     given
 }
 
-/// Expects that a guest whose device has so many frames answers each row so, and that the device
+/// Expects that a guest whose device has `frames` frames answers each row so, and that the device
 /// has them all once the guest is gone.
 fn expect(rt: &impl Abort, alloc: Global, frames: u32, table: &[Row]) {
     let Ok(device) = KeepingDevice::new(alloc, frames) else {

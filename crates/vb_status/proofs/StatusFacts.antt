@@ -108,7 +108,7 @@ leads_over_no_refusal : Leads unplugged (Write 2 ∷ []) (at 2 0) → ⊥
 leads_over_no_refusal way = (let refused : Some OutOfOrder ≡ None = way.0 in absurd cc)
 
 -- requests that only add, whatever they negotiate; and a write of 0, or of a bit that there isn't,
--- first, behind another, and behind what is negotiated
+-- first, after another, and after what is negotiated
 steps : AreSteps (Write 1 ∷ Negotiate 0 ∷ Write 255 ∷ []) × AreSteps []
 steps = (((λ e. omega (arith, e)), omega arith, ((λ e. omega (arith, e)), omega arith, tt)), tt)
 

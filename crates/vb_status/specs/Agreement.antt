@@ -62,7 +62,7 @@ abbrev pub initialisation : ℕ → List StatusRequest
 initialisation wanted =
     Write 0 ∷ Write 1 ∷ Write 3 ∷ Negotiate wanted ∷ Write 11 ∷ Write READY_STATUS ∷ []
 
--- where it stands after an initialisation: ready, or at ACKNOWLEDGE and DRIVER with what was
+-- where it comes after an initialisation: ready, or at ACKNOWLEDGE and DRIVER with what was
 -- negotiated
 abbrev pub initialised : ℕ → Agreement × Option Refusal
 initialised wanted =

@@ -8,8 +8,8 @@ use crate::{Features, Port, Status, StatusFault, negotiate, write_status};
 use bitflags::Flags;
 use vb_ram::{GuestBytes, Ram, RamFault};
 
-/// Guest memory with a status, features and a configuration, and no device behind them: what a
-/// driver's calls leave can be looked at, and nothing comes back.
+/// Guest memory with a status, features and a configuration, and no device: what a driver's calls
+/// leave can be looked at, and nothing comes back.
 #[derive(Drop)]
 pub struct MemoryPort {
     /// The memory.

@@ -1,4 +1,4 @@
--- All limits, and where rings and buffers stand, as plain numbers.
+-- All limits, and where rings and buffers are, as plain numbers.
 use Rattle.std.proofs.Common.{[], false, filter, map, refl, replicate, true, ◌++◌, ◌∷◌, ◌≡◌}
 use Rattle.std.specs.List.{range_with_len}
 use Rattle.vb_virtio.specs.declared.layout.TheConstants.{DEFLATE_BUFFERS_PAGE, DEFLATE_QUEUE}
@@ -25,14 +25,14 @@ use Rattle.vb_virtio.specs.Limits.{max_outstanding, max_request_pages, min_repor
 use Rattle.vb_virtio.specs.Limits.{page_size}
 use Rattle.vb_virtio.specs.Status.{acknowledge, driver, driver_ok, failed, features_ok, needs_reset}
 
--- bytes of a page, and the pages of a guest are so many or a multiple of them; the largest order of
--- a block, and the least that is reported; requests outstanding on a queue, and pages of a request;
+-- bytes of a page, and the pages of a guest are n or a multiple of them; the largest order of a
+-- block, and the least that is reported; requests outstanding on a queue, and pages of a request;
 -- pieces of a report that a device takes
 pages_are : PAGE_SIZE ∷ GUEST_PAGES_STEP ∷ MAX_ORDER ∷ MIN_REPORTED_ORDER ∷ MAX_OUTSTANDING
     ∷ MAX_REQUEST_PAGES ∷ MAX_REPORT_PIECES ∷ [] ≡ 4096 ∷ 16 ∷ 9 ∷ 4 ∷ 16 ∷ 256 ∷ 32 ∷ []
 pages_are = refl
 
--- statistics: bytes of each, at most so many bytes of all, and the tags of free and of all memory
+-- statistics: bytes of each, at most n bytes of all, and the tags of free and of all memory
 statistics_are : STATISTIC_SIZE ∷ MAX_STATISTICS_LENGTH ∷ FREE_MEMORY_TAG ∷ TOTAL_MEMORY_TAG
     ∷ [] ≡ 10 ∷ 1020 ∷ 4 ∷ 5 ∷ []
 statistics_are = refl

@@ -1,4 +1,4 @@
--- Where rings and buffers stand, whatever the size of the queues: for the crates above.
+-- Where rings and buffers are, whatever the size of the queues: for the crates above.
 use Rattle.std.specs.Prelude.{◌≡◌, ◌≢◌, ℕ, ◌+◌, ◌<◌, ◌≤◌, Bool, true, ◌||◌, ◌⊎◌}
 use Rattle.std.{proofs.Common.{ap, arith}, proofs.lemmas.Bool.Decides.nat_tests}
 use Rattle.vb_virtio.specs.Layout.{takes_two_pages, reserved_pages, ring_number, ring_page}

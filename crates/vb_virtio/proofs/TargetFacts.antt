@@ -6,7 +6,7 @@ use Rattle.vb_virtio.specs.Targets.{Need, missing, AreTargets, shortage, GivesBe
 
 -- ---- how much is missing
 
--- two guests of 64 pages that can spare so many
+-- two guests of 64 pages that can spare n
 abbrev pub needs_of : ℕ → ℕ → List Need
 needs_of a b = record { pages = 64; spare = a } ∷ record { pages = 64; spare = b } ∷ []
 

@@ -1,7 +1,7 @@
--- Where queues and buffers stand in guest memory, by how many descriptors each queue has (profile);
--- queues 0 to 2 are those of VIRTIO 1.1, 5.5.2.
--- The headline needs `reserved_pages` and `start_pages` with what they name; where in these pages
--- rings and buffers lie is the rings' matter.
+-- Where queues and buffers are in guest memory, by how many descriptors each queue has (profile);
+-- queues 0 to 2 are those of VIRTIO 1.1, 5.5.2. The headline needs `reserved_pages` and
+-- `start_pages` with what they name; where in these pages rings and buffers lie is the rings'
+-- matter.
 use Rattle.std.specs.Prelude.{ℕ, ◌+◌, ◌*◌, ◌/◌, ◌%◌, Bool, ◌==◌, ◌||◌, nat_lt, if◌then◌else◌, List}
 use Rattle.std.specs.Prelude.{filter}
 use Rattle.std.specs.List.{range_with_len}
@@ -24,7 +24,7 @@ takes_two_pages size = nat_lt MAX_QUEUE_SIZE_OF_A_PAGE size
 abbrev pub reserved_pages : ℕ → ℕ
 reserved_pages size = if takes_two_pages size then RESERVED_PAGES_OF_TWO else RESERVED_PAGES
 
--- the rings stand one behind the other, in this order
+-- the rings are one after the other, in this order
 abbrev pub ring_number : ℕ → ℕ
 ring_number q =
     if q == INFLATE_QUEUE then 0

@@ -24,7 +24,7 @@ queue_of Inflating = INFLATE_QUEUE
 queue_of Deflating = DEFLATE_QUEUE
 queue_of Reporting_free = REPORT_QUEUE
 
--- the queue stands or falls with a feature that wasn't negotiated
+-- the queue depends on a feature that wasn't negotiated
 abbrev pub lacks_feature : (features q : ℕ) → Bool
 lacks_feature features q =
     (q == STATISTICS_QUEUE) && not (stats_vq features)

@@ -1,5 +1,5 @@
-//! Where the queues of a balloon device stand in guest memory. The numbers of queues 0 to 2 are
-//! those of VIRTIO 1.1, 5.5.2; all pages, and queue 4, are the profile's.
+//! Where the queues of a balloon device are in guest memory. The numbers of queues 0 to 2 are those
+//! of VIRTIO 1.1, 5.5.2; all pages, and queue 4, are the profile's.
 
 /// The queue of inflate requests.
 pub const INFLATE_QUEUE: u32 = 0;
@@ -13,12 +13,12 @@ pub const STATISTICS_QUEUE: u32 = 2;
 /// The queue of page reports.
 pub const REPORT_QUEUE: u32 = 4;
 
-/// A queue of at most so many descriptors has a ring of one page. The ring of a larger one takes
-/// two: the descriptors fill the first, and the available and the used ring stand in the second.
+/// A queue of at most n descriptors has a ring of one page. The ring of a larger one takes two: the
+/// descriptors fill the first, and the available and the used ring are in the second.
 pub const MAX_QUEUE_SIZE_OF_A_PAGE: u32 = 128;
 
-/// The first of the pages that hold the rings of these four queues, one behind the other, where
-/// each takes one page, and where each takes two.
+/// The first of the pages that hold the rings of these four queues, one after the other, where each
+/// takes one page, and where each takes two.
 pub const FIRST_RING_PAGE: u32 = 0;
 
 pub const FIRST_RING_PAGE_OF_TWO: u32 = 16;

@@ -10,8 +10,8 @@ use std::marker::Model;
 /// As many numbers as there may be guests.
 const GUESTS: usize = MAX_GUESTS as usize;
 
-/// A number for each guest, at most eight: it stands in place and takes no memory. A contract sees
-/// the list.
+/// A number for each guest, at most eight: it is in place and takes no memory. A contract sees the
+/// list.
 #[derive(Drop)]
 pub struct Numbers {
     items: ArrayVec<u32, GUESTS>,
@@ -26,7 +26,7 @@ impl Model for Numbers {
 }
 
 impl Numbers {
-    /// These numbers.
+    /// Makes numbers of a list.
     pub fn new(items: ArrayVec<u32, GUESTS>) -> Numbers
         ensures { result ≡ items.items }
     {
@@ -40,7 +40,7 @@ impl Numbers {
         &self.items
     }
 
-    /// The same numbers once more. Refused for want of memory alone.
+    /// A copy of the numbers. Refused on an allocation failure alone.
     pub fn copy(&self) -> Result<Numbers, AllocError>
         ensures { IfOk result (λ copy. copy ≡ self.now) }
     {

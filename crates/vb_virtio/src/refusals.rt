@@ -61,6 +61,6 @@ pub enum Refusal {
     NoFrame,
     /// There was no memory.
     NoMemory,
-    /// The guests can't spare so many of the pages that the host lacks.
+    /// The guests can't spare `missing` of the pages that the host lacks.
     Short { missing: u64 },
 }

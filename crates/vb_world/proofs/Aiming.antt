@@ -44,7 +44,7 @@ need_of floor (Some g) = Some (need floor g)
 abbrev pub need_at : ℕ → List (Option Guest) → ℕ → Option Need
 need_at floor gs k = need_of floor (guest_at gs k)
 
--- so many of them
+-- n of them
 pub first_few : (floor : ℕ) (gs : List (Option Guest)) (n : ℕ)
     → length (first_of n (need_at floor gs)) ≤ count_by is_some gs
 first_few floor gs zero = omega arith

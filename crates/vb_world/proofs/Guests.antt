@@ -41,7 +41,7 @@ backing-part f zero (y ∷ gs) g e =
 backing-part f (suc n) (y ∷ gs) g e =
     omega (arith, sum_by-cons (backing_at f) y gs, backing-part f n gs g e)
 
--- ---- frames behind pages
+-- ---- frames that back pages
 
 same_number : (f : ℕ) → (f == f) ≡ true
 same_number f = grind arith

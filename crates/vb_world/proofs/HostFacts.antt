@@ -1,4 +1,4 @@
--- Frames behind pages, slots and spare devices of a host, worked out.
+-- Frames that back pages, slots and spare devices of a host, worked out.
 use Rattle.std.proofs.Common.{◌≡◌, ℕ, true, false, List, [], ◌∷◌, map, refl, arith}
 use Rattle.std.specs.Prelude.{Bool, Option, Some, None, if◌then◌else◌}
 use Rattle.vb_model.specs.Guest.{Guest, fresh}
@@ -8,7 +8,7 @@ abbrev guest : List (Option ℕ) → Guest
 guest frames = record (fresh (record { pages = 4; queue_size = 8; processors = 1; paced = false }) 0)
     { frames = frames }
 
--- frames 5 and 6 are each behind one page of two guests, and 7 behind two
+-- frames 5 and 6 each back one page of two guests, and 7 backs two
 counts : map (λ n. backing_of n (Some (guest (Some 5 ∷ Some 7 ∷ [])) ∷ None ∷ Some (guest (Some 6 ∷ Some 7 ∷ [])) ∷ []))
     (4 ∷ 5 ∷ 6 ∷ 7 ∷ []) ≡ 0 ∷ 1 ∷ 1 ∷ 2 ∷ []
 counts = refl
@@ -21,7 +21,7 @@ twice_of_one = refl
 nobody_has_none : backing_at 5 None ≡ 0
 nobody_has_none = refl
 
--- a slot stands for a guest, and nothing for nobody
+-- a slot represents a guest, and nothing for nobody
 abbrev Stand : ℕ → Guest → Type 0
 Stand s g = s ≡ g.target
 
@@ -40,7 +40,7 @@ a_slot_without_guest stands = stands
 for_another : StandsAt Stand (Some 1) (Some (guest [])) → ⊥
 for_another stands = omega (arith, stands)
 
--- spare devices stand in order, each of its pace
+-- spare devices are in order, each of its pace
 abbrev Spare : ℕ → Bool → Type 0
 Spare d paced = d ≡ (if paced then 1 else 0)
 

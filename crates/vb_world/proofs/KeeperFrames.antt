@@ -1,4 +1,4 @@
--- What stands for a guest whose device keeps no frames: the keeper's frames alone count.
+-- What represents a guest whose device keeps no frames: the keeper's frames alone count.
 use Rattle.std.specs.Prelude.{◌≡◌, ℕ, ◌+◌, Bool, false, List, [], ◌∷◌, length, if◌then◌else◌}
 use Rattle.{std.proofs.Common.{◌∙◌, ap, subst, arith}, vb_driver.specs.State.DriverState}
 use Rattle.{vb_model.specs.{declared.calls.Call.Call, Guest.Guest}, vb_device.specs.Own.has}
@@ -26,7 +26,7 @@ claimed_asked Answers s (GaveNoMemory ∷ claims) e (mid, first, last) = ((first
 used_out : (s : Supply) (n : ℕ) → s.keeps ≡ false → is_used s n ≡ is_out s.out n
 used_out s n e = ap (λ (b : Bool). if b then has s.own n else is_out s.out n) e
 
--- Of the keeper's frames, so many of each number went out, and so many came back.
+-- Of the keeper's frames, n of each number went out, and m came back.
 pub record KeeperMoves (old_out new_out : List Bool) (gained lost : ℕ → ℕ) : Type 0 where
   pub balance : (n : ℕ) → one_if (is_out new_out n) + lost n ≡ one_if (is_out old_out n) + gained n
   pub count : length new_out ≡ length old_out

@@ -12,7 +12,7 @@ use Rattle.vb_world.proofs.Calls.{guest_of, host_updated, host_with, no_guest}
 use Rattle.vb_world.specs.Hosts.{IsHost, backing_at}
 use Rattle.vb_world.proofs.{KeeperFrames.{KeeperMoves, moves_asked}, Guests.count-with}
 
--- the keeper's frames that came back are those behind the guest's pages
+-- the keeper's frames that came back are those that back the guest's pages
 pub returned : (s1 s2 : Supply) (g : Guest) → s1.keeps ≡ false → AllReturn s1 s2 g
     → KeeperMoves s1.out s2.out nothing (λ f. backing_count f g)
 returned s1 s2 g asked moves = moves_asked s1 s2 nothing (λ f. backing_count f g) asked moves

@@ -161,7 +161,7 @@ module _ {S D : Type 0} (Stand : S → Guest → Type 0) (Spare : D → Bool →
     of (d ∷ ds) [] h l = absurd h
     of (d ∷ ds) (p ∷ ps) h l = inl (refl, refl)
 
-  -- the device stands where it stood
+  -- the device is where it was
   pub device_back : (d d' : D) (rest : List D) → IsHost Stand Spare slots out devices w
       → devices ≡ d ∷ rest → ((p : Bool) → Spare d p → Spare d' p)
       → IsHost Stand Spare slots out (d' ∷ rest) w

@@ -30,9 +30,9 @@ abbrev world : Model
 world = record
     { frames = 2; guests = Some (guest (Some 1 ∷ [])) ∷ []; spares = true ∷ []; vacated = Some 1 }
 
--- a slot for another guest, one too many, one too few, no room for eight, another number next, a frame
--- too few, one that is out and isn't behind a page, one behind a page that isn't out, a device of
--- another pace, and none
+-- a slot for another guest, one too many, one too few, no room for eight, another number next, a
+-- frame too few, one that is out and backs no page, one that backs a page and isn't out, a device
+-- of another pace, and none
 no_host : (IsOf (slots (Some 5 ∷ []) 1 8) (false ∷ true ∷ []) (true ∷ []) world → ⊥)
     × (IsOf (slots (Some 0 ∷ Some 0 ∷ []) 1 8) (false ∷ true ∷ []) (true ∷ []) world → ⊥)
     × (IsOf (slots [] 1 8) (false ∷ true ∷ []) (true ∷ []) world → ⊥)
@@ -56,7 +56,7 @@ no_host = (
   λ is. is.spares,
 )
 
--- ---- two guests, frame 1 of two behind a page of the second
+-- ---- two guests, frame 1 of two that backs a page of the second
 
 abbrev of_two : List (Option ℕ) → List (Option ℕ) → Model
 of_two first second = record {
@@ -81,8 +81,8 @@ two_guests = record {
   spares = tt;
 }
 
--- a slot for another second guest; a frame behind two pages of one, or one of each; and one behind a
--- page that the host hasn't
+-- a slot for another second guest; a frame that backs two pages of one, or one of each; and one
+-- that backs a page and that the host hasn't
 not_of_two : (IsOf (slots (Some 0 ∷ Some 5 ∷ []) 2 8) (false ∷ true ∷ []) [] (of_two [] (Some 1 ∷ [])) → ⊥)
     × (IsOf both_slots (false ∷ true ∷ []) [] (of_two [] (Some 1 ∷ Some 1 ∷ [])) → ⊥)
     × (IsOf both_slots (false ∷ true ∷ []) [] (of_two (Some 1 ∷ []) (Some 1 ∷ [])) → ⊥)

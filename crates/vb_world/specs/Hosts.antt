@@ -26,7 +26,7 @@ backing_at frame (Some g) = backing_count frame g
 abbrev pub backing_of : ℕ → List (Option Guest) → ℕ
 backing_of frame guests = sum_by (backing_at frame) guests
 
--- where there is a slot there is a guest that it stands for, and elsewhere none
+-- where there is a slot there is a guest that it represents, and elsewhere none
 abbrev pub StandsAt : {S : Type 0} → (S → Guest → Type 0) → Option S → Option Guest → Type 0
 StandsAt Stand None None = ⊤
 StandsAt Stand None (Some g) = ⊥
@@ -40,7 +40,7 @@ AreSpares Spare [] (p ∷ ps) = ⊥
 AreSpares Spare (d ∷ ds) [] = ⊥
 AreSpares Spare (d ∷ ds) (p ∷ ps) = Spare d p × AreSpares Spare ds ps
 
--- The slots stand for the guests, the frames that are out are those that back pages, each of them
+-- The slots represent the guests, the frames that are out are those that back pages, each of them
 -- one, and the spare devices are there.
 pub record IsHost {S D : Type 0} (Stand : S → Guest → Type 0) (Spare : D → Bool → Type 0)
     (slots : Slab S) (out : List Bool) (devices : List D) (w : Model) : Type 0 where

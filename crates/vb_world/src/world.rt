@@ -42,8 +42,8 @@ pub struct World {
     spares: Vec<Box<dyn Device + Send>>,
 }
 
-/// Adds a device behind the spare ones. Refused for want of memory alone, which there isn't where
-/// the list has room; the list is as it was then, and the device gone.
+/// Adds a device after the spare ones. Refused on an allocation failure alone, which there isn't
+/// where the list has room; the list is as it was then, and the device gone.
 pub fn add_spare(
     spares: &mut Vec<Box<dyn Device + Send>>,
     device: Box<dyn Device + Send>,
@@ -71,8 +71,9 @@ fn put_first(devices: &mut Vec<Box<dyn Device + Send>>, device: Box<dyn Device +
 }
 
 impl World {
-    /// A host of so many frames, 1 to 65,536, without guests. A plug takes the first of the spare
-    /// devices that are left, and the guest has its pace. Want of memory is the only refusal.
+    /// A host of `frames` frames, 1 to 65,536, without guests. A plug takes the first of the spare
+    /// devices that are left, and the guest has its pace. An allocation failure is the only
+    /// refusal.
     pub fn new(
         alloc: Global,
         frames: u32,
@@ -279,8 +280,8 @@ impl World {
 
     /// Lets events happen, one after the other, and gives what each is answered.
     ///
-    /// Want of memory for the replies is the only refusal, and comes before the first event. Where
-    /// there is no event there is none.
+    /// An allocation failure for the replies is the only refusal, and comes before the first event.
+    /// Where there is no event there is none.
     pub fn run(&mut self, alloc: Global, events: &[Event]) -> Result<Vec<Reply>, AllocError>
         requires made { (frames : ℕ) × (spares : List Bool) ×
             IsWorld mem part self.old (made frames spares) }

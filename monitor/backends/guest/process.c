@@ -17,6 +17,9 @@
 /* Milliseconds of a rest. */
 enum { REST = 100 };
 
+/* Whether SIGHUP is for the configuration, and doesn't end the process. */
+static bool hangup_reloads;
+
 /* The signals that end the process. */
 static sigset_t ending(void)
 {
@@ -24,7 +27,8 @@ static sigset_t ending(void)
     sigemptyset(&signals);
     sigaddset(&signals, SIGTERM);
     sigaddset(&signals, SIGINT);
-    sigaddset(&signals, SIGHUP);
+    if (!hangup_reloads)
+        sigaddset(&signals, SIGHUP);
     return signals;
 }
 
@@ -67,6 +71,24 @@ int process_end(void)
     if (file < 0)
         complain("signals can't be waited for: %s", strerror(errno));
     return file;
+}
+
+int process_reload(void)
+{
+    sigset_t signals;
+    sigemptyset(&signals);
+    sigaddset(&signals, SIGHUP);
+    hangup_reloads = true;
+    int file = signalfd(-1, &signals, SFD_CLOEXEC | SFD_NONBLOCK);
+    if (file < 0)
+        complain("signals can't be waited for: %s", strerror(errno));
+    return file;
+}
+
+bool process_took_reload(int file)
+{
+    struct signalfd_siginfo signal;
+    return read(file, &signal, sizeof signal) == (ssize_t)sizeof signal;
 }
 
 int poll_some(struct pollfd *files, nfds_t count, int limit)

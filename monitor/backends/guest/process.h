@@ -19,6 +19,13 @@ void process_allow_files(unsigned wanted);
  * can't be one. */
 int process_end(void);
 
+/* A file that has something to read once SIGHUP has come, which doesn't end the process: called before process_end. -1, which is said,
+ * where there can't be one. */
+int process_reload(void);
+
+/* Takes one SIGHUP that has come; false where none has. */
+bool process_took_reload(int file);
+
 /* The most files that poll_some waits for at once. */
 enum { MOST_POLLED = 1024 };
 

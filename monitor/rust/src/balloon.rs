@@ -11,9 +11,9 @@ pub struct Balloon {
     regions: Vec<raw::Region>,
     notice: raw::Notice,
     room: Box<raw::Room>,
-    /// A notice begins no further chain after so many: 256 at first.
+    /// A notice begins no further chain after this many: 256 at first.
     pub most_chains: u32,
-    /// A notice begins no further chain after so many pages: any number at first.
+    /// A notice begins no further chain after this many pages: any number at first.
     pub most_pages: u32,
     /// No page is discarded, as under a passed-through device: what is named is told, and stays. Not so at first.
     pub keeps_pages: bool,
@@ -44,7 +44,7 @@ impl Balloon {
         }
     }
 
-    /// A balloon that goes on where another one stood.
+    /// A balloon that continues another one's state.
     pub fn restore(state: State) -> Balloon {
         Balloon {
             state,
@@ -58,7 +58,7 @@ impl Balloon {
         }
     }
 
-    /// A balloon that goes on where the one stood that was saved as these bytes ([`State::to_bytes`]), over guest memory
+    /// A balloon that continues the state that was saved as these bytes ([`State::to_bytes`]), over guest memory
     /// that holds its queues.
     ///
     /// # Errors
@@ -103,7 +103,7 @@ impl Balloon {
         self.state.0.device.actual
     }
 
-    /// The host wants so many pages in the balloon: tell the driver of a change of configuration.
+    /// Sets the balloon's target to `pages` pages: notify the driver of a configuration change then.
     pub fn set_target(&mut self, pages: u32) {
         // SAFETY: the pointer is of a `&mut`.
         unsafe { raw::vb_set_target(&mut self.state.0.device, pages) }
@@ -219,7 +219,7 @@ impl Balloon {
     }
 
     /// Stops a queue, at any status, which has no place any longer: the index at which it was, where a chain that was taken and
-    /// not given back stands. With the queue of statistics, the held buffer is forgotten.
+    /// not given back is available again. With the queue of statistics, the held buffer is forgotten.
     ///
     /// # Errors
     /// `Misplaced` where it has no place; nothing is changed.
@@ -263,7 +263,7 @@ impl Balloon {
         self.state.0.keeps_reports()
     }
 
-    /// The driver kicked this queue: serves what stands there, at most as much as a notice may. Take the kick before: what
+    /// The driver kicked this queue: serves what is available, at most as much as a notice may. Take the kick before: what
     /// the driver publishes meanwhile waits for its next one.
     pub fn notify(&mut self, memory: &dyn LiveMemory, kind: Kind, monitor: &mut dyn Monitor) -> Served {
         let budget = (self.most_chains, self.most_pages, self.keeps_pages);

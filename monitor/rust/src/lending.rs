@@ -213,7 +213,7 @@ pub fn targets(frames: u32, loans: &[Loan], needs: &mut [Need], targets: &mut [u
     })
 }
 
-/// The same by terms: each guest keeps its least pages, and those of a lower priority give all that they can first.
+/// Sets targets by terms: each guest keeps its least pages, and those of a lower priority give all that they can first.
 ///
 /// # Errors
 /// As of [`targets`].

@@ -1,5 +1,5 @@
 //! A memory balloon device (VIRTIO 1.1, 5.5) over the guest memory of `vm-memory`. What it decides, each access to that
-//! memory among it, is proved in the library behind `vb.h`; this crate obeys it.
+//! memory among it, is proved in the library of `vb.h`; this crate obeys it.
 //!
 //! A monitor makes a [`Balloon`], hands each of its driver's accesses to the call of that name, and does what the
 //! answer says. No call panics, whatever a guest writes and whenever it writes it.

@@ -119,7 +119,7 @@ impl<M: GuestMemory> LiveMemory for M {
             return answer_of(|| unsafe { libc::fallocate(file, how, cut.in_file as i64, cut.length as i64) });
         }
         let host = region.get_host_address(MemoryRegionAddress(cut.offset)).map_err(|_| gone())?;
-        // SAFETY: the bytes lie in the region, which is mapped while it is borrowed, and are the guest's: whoever reads
+        // SAFETY: the bytes lie in the region, which is mapped while it is borrowed, and are the guest's: a reader of
         // them expects any value at any time.
         answer_of(|| unsafe { libc::madvise(host.cast(), cut.length as usize, libc::MADV_DONTNEED) })
     }
@@ -127,13 +127,13 @@ impl<M: GuestMemory> LiveMemory for M {
 
 /// What a monitor may want to know, or to do in its own way. `()` does nothing of its own.
 pub trait Monitor {
-    /// These pages are given up (inflate) or free (report), before any is discarded; or they are asked back (deflate).
+    /// These pages are given up (inflate) or free (report), before any is discarded; or they are requested back (deflate).
     fn pages(&mut self, _kind: Kind, _runs: &[Run]) {}
 
     /// The guest told its statistics, any tags in any order.
     fn statistics(&mut self, _figures: &[Statistic]) {}
 
-    /// Bytes of the pages of the machine that are behind the region of this number: a power of two from 4096 to 1 GiB; 0 is
+    /// Bytes of the pages of the machine that back the region of this number: a power of two from 4096 to 1 GiB; 0 is
     /// 4096. A larger page is discarded once all of it is given up.
     fn page_size(&self, _region: usize) -> u64 {
         0

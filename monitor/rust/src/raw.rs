@@ -118,7 +118,7 @@ pub fn large_pages(device: &Device, region: &Region, page_size: u64, part: &Cut,
     unsafe { vb_large_pages(device, region, page_size, part, set.as_ptr(), set.len()) }
 }
 
-/// Begins a look at a queue, for so many chains and pages at most, and to keep all pages or not.
+/// Begins a pass over a queue, with bounds on its chains and pages, and whether it keeps all pages.
 pub fn begin(
     notice: &mut Notice,
     balloon: &mut Balloon,

@@ -13,7 +13,7 @@ pub struct Served {
     pub stopped: Option<Refusal>,
     /// Tell the driver of a change of configuration: the device needs a reset.
     pub configuration: bool,
-    /// As much was served as a notice may, and more stands there: call again, later.
+    /// As much was served as a notice may, and more is available: call again, later.
     pub more: bool,
     /// Pages that inflates, deflates and reports named.
     pub pages: u64,

@@ -25,7 +25,7 @@ const FRAMES: usize = 512;
 /// Steps of the guests, by tens; after each ten a life ends.
 const TENS: u32 = 2_000;
 
-/// So many tens are between two questions after all pages.
+/// How many tens are between two questions after all pages.
 const TENS_UNASKED: u32 = 25;
 
 /// A number below this one, or 0.
@@ -124,7 +124,7 @@ fn on_guest(guest: u32, call: Call) -> Event {
     Event::Guest { guest, call }
 }
 
-/// The event of a step, with numbers that mostly make sense.
+/// The event of a step, with numbers that usually make sense.
 fn event_of(
     alloc: Global,
     numbers: &mut Pcg32,
@@ -190,7 +190,7 @@ fn alternate(paces: &mut [Pace]) {
     }
 }
 
-/// A host of so many frames, with spare devices of both paces in turn.
+/// A host of `frames` frames, with spare devices of both paces in turn.
 fn host_of(alloc: Global, frames: u32) -> Result<Script, AllocError>
     requires some { 1 ≤ frames }
     requires few { frames ≤ FRAMES }
@@ -204,7 +204,7 @@ fn host_of(alloc: Global, frames: u32) -> Result<Script, AllocError>
     })
 }
 
-/// Asks where a guest's pages are, and which frame is behind each.
+/// Asks where a guest's pages are, and which frame backs each.
 fn add_questions(script: &mut Script, guest: u32) -> Result<(), AllocError> {
     add(
         script,
@@ -243,7 +243,7 @@ fn add_plug(script: &mut Script) -> Result<(), AllocError> {
     add(script, Event::Plug { size })
 }
 
-/// Whoever makes up a script.
+/// The generator of a script.
 #[derive(Drop)]
 struct Author {
     numbers: Pcg32,
@@ -252,7 +252,7 @@ struct Author {
 }
 
 impl Author {
-    /// The next step of a guest: mostly the one in turn, else any.
+    /// The next step of a guest: usually the one in turn, else any.
     fn step(&mut self, guest: u32) -> Step {
         let any = below(&mut self.numbers, STEPS as u32) as usize;
         let is_in_turn = below(&mut self.numbers, 4) > 0;
@@ -331,7 +331,7 @@ fn places_of(counts: &PlaceCounts) -> u32 {
 /// What the replies so far have told.
 #[derive(Drop)]
 struct Reader {
-    /// Which frames were seen behind a page since the last count of frames, and how many.
+    /// Which frames were seen backing a page since the last count of frames, and how many.
     seen: [bool; FRAMES],
     count: u32,
     /// How many pages were asked after since then.
@@ -342,7 +342,7 @@ struct Reader {
 }
 
 impl Reader {
-    /// Notes a frame behind a page. Whether no other page has it.
+    /// Notes a frame that backs a page. Whether no other page has it.
     fn note_frame(&mut self, frame: u32) -> bool {
         self.count = self.count.saturating_add(1);
         match self.seen.get_mut(frame as usize) {
@@ -354,7 +354,7 @@ impl Reader {
         }
     }
 
-    /// Notes how many frames are used. Whether so many were seen, and all pages asked after.
+    /// Notes how many frames are used. Whether `used` were seen, and all pages asked after.
     fn note_used(&mut self, used: u32) -> bool {
         let is_right = used == self.count && self.asked == GUESTS * PAGES;
         self.seen = [false; FRAMES];
@@ -385,8 +385,8 @@ impl Reader {
     }
 }
 
-/// Whether the replies fit one another: no frame is behind two pages, as many are used as are
-/// behind pages, each page that isn't reserved has a place, and most events weren't refused.
+/// Whether the replies fit one another: no frame backs two pages, as many are used as back pages,
+/// each page that isn't reserved has a place, and most events weren't refused.
 fn are_in_order(replies: &[Reply]) -> bool {
     let mut reader = Reader {
         seen: [false; FRAMES],
@@ -422,7 +422,7 @@ fn answer_all(alloc: Global, script: &Script) -> Result<Vec<Reply>, AllocError> 
     world.run(alloc, &script.events)
 }
 
-/// Lets a script happen whose numbers come of this seed, on a host of so many frames.
+/// Lets a script happen whose numbers come of this seed, on a host of `frames` frames.
 fn live(rt: &impl Abort, alloc: Global, frames: u32, seed: u64) -> Result<(), AllocError>
     requires some { 1 ≤ frames }
     requires few { frames ≤ FRAMES }

@@ -1,4 +1,4 @@
-//! Scripts so long, and replies of so many runs, that a plea for memory might be believed.
+//! Scripts and replies of the greatest lengths, which take most memory.
 
 use super::{repeated, run};
 use crate::fault::SUCCESS;

@@ -63,7 +63,7 @@ impl Play for Starved {
 /// What goes wrong with the streams of a run.
 #[derive(Clone, Copy)]
 struct Faults {
-    /// How reading fails behind the script's bytes, if it does.
+    /// How reading fails after the script's bytes, if it does.
     reading: Option<ErrorKind>,
     /// How many bytes can be written to a stream.
     room: usize,
@@ -87,7 +87,7 @@ const NONE: Faults = Faults {
     holds: false,
 };
 
-/// A reader of these bytes, a byte at a time, which may fail behind them.
+/// A reader of these bytes, a byte at a time, which may fail after them.
 #[derive(Drop)]
 struct Slow<'a> {
     rest: &'a [u8],
@@ -106,7 +106,7 @@ impl Read for Slow<'_> {
     }
 }
 
-/// A writer into a list, which fails at one call, and once it holds so many bytes.
+/// A writer into a list, which fails at one call, and once it holds n bytes.
 #[derive(Drop)]
 struct Flaky<'a> {
     text: &'a mut Vec<u8>,
@@ -260,8 +260,8 @@ fn nothing_is_written_where_reading_fails_at_any_byte(rt: HostRuntime) {
     }
 }
 
-/// Whether a run on a stream with room for so many bytes fails, and has written so much of its
-/// replies, or of these and what comes behind them.
+/// Whether a run on a stream with room for `room` bytes fails, and has written this much of its
+/// replies, or of these and what comes after them.
 fn fails_at(alloc: Global, room: usize, heals: bool) -> bool {
     let (script, replies) = (SPOKEN.0, SPOKEN.1);
     let faults = Faults {
@@ -343,7 +343,7 @@ fn a_write_that_fails_once_is_status_4(rt: HostRuntime) -> Result<(), AllocError
     Ok(())
 }
 
-/// Numbers of line feeds, and the exit statuses of scripts of so many.
+/// Numbers of line feeds, and the exit statuses of scripts of n.
 static LENGTHS: [(usize, u8); 2] = [(67_108_864, 0), (67_108_865, 4)];
 
 #[test]

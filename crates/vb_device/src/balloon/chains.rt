@@ -42,7 +42,7 @@ fn visits_first(visits: bool, queue: u32) -> bool
 }
 
 impl<P: Pace> BalloonDevice<P> {
-    /// All of `finish` but for the used entry: marks the pages of the request, takes it out, and
+    /// All of `finish` but for the used element: marks the pages of the request, takes it out, and
     /// its pages' frames away. Nothing is written. The pages are to be visited first, or aren't.
     pub(crate) fn settle(&mut self, queue: u32, index: u32, visits: bool) -> Result<u16, Refusal>
         requires backed { contains self.old.part.status driver_ok ≡ true →

@@ -23,7 +23,7 @@ pub(super) const FOUR_BYTES: [u8; 16] = [0, 0x40, 0, 0, 0, 0, 0, 0, 4, 0, 0, 0, 
 /// A descriptor of 8 bytes there.
 pub(super) const EIGHT_BYTES: [u8; 16] = [0, 0x40, 0, 0, 0, 0, 0, 0, 8, 0, 0, 0, 0, 0, 0, 0];
 
-/// A descriptor of 16 bytes at address 0x4000 that the device reads, with no other behind it.
+/// A descriptor of 16 bytes at address 0x4000 that the device reads, with no other after it.
 pub(super) const SIXTEEN_BYTES: [u8; 16] = [0, 0x40, 0, 0, 0, 0, 0, 0, 16, 0, 0, 0, 0, 0, 0, 0];
 
 pub(super) const WRITABLE: [u8; 16] = [0, 0x40, 0, 0, 0, 0, 0, 0, 4, 0, 0, 0, 2, 0, 0, 0];
@@ -38,7 +38,7 @@ pub(super) const PAGE_16_TWICE: [u8; 32] = [
 ];
 
 /// Descriptors of 8 bytes at address 0x4000 and 8 bytes at address 0x4008, neither with another
-/// behind it.
+/// after it.
 pub(super) const TWO_REQUESTS: [u8; 32] = [
     0, 0x40, 0, 0, 0, 0, 0, 0, 8, 0, 0, 0, 0, 0, 0, 0, 8, 0x40, 0, 0, 0, 0, 0, 0, 8, 0, 0, 0, 0, 0,
     0, 0,

@@ -165,13 +165,13 @@ fn random_ring(
     Ok(bytes)
 }
 
-/// How far the available ring is ahead, mostly not too far.
+/// How far the available ring is ahead, usually not too far.
 fn random_ahead(numbers: &mut Pcg32) -> u16 {
     let end = if below(numbers, 60) == 0 { 65_536 } else { 10 };
     (below(numbers, end) % 65_536) as u16
 }
 
-/// A number, mostly that of a page that a request may name.
+/// A number, usually that of a page that a request may name.
 fn random_page(numbers: &mut Pcg32, sizes: &Sizes) -> u32 {
     let others = sizes.pages.wrapping_sub(sizes.reserved);
     match below(numbers, 128) {

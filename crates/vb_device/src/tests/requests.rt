@@ -114,7 +114,7 @@ pub(super) const TAKEN: &'static [(Step, Answer)] = &[
     (Step::Take(0), Answer::Head(Some(0))),
 ];
 
-/// The frames are gone and the pages ballooned while no used entry is written yet.
+/// The frames are gone and the pages ballooned while no used element is written yet.
 const SETTLED: &'static [(Step, Answer)] = &[
     (Step::Settle, Answer::Head(Some(0))),
     (Step::See(Sight::Bytes(0, 152)), Answer::Bytes([0; 12])),
@@ -189,7 +189,7 @@ const NO_STATISTICS: [u8; 16] = [0, 0xc0, 0, 0, 0, 0, 0, 0, 0, 0, 0, 0, 0, 0, 0,
 
 const PAGES_FROM_32: [u8; 16] = [0, 0, 2, 0, 0, 0, 0, 0, 0, 0, 3, 0, 2, 0, 0, 0];
 
-/// A queue of 128 has its rings in one page: its used ring behind the available ring's 262 bytes.
+/// A queue of 128 has its rings in one page: its used ring after the available ring's 262 bytes.
 const ONE_PAGE: &'static [(Step, Answer)] = &[
     (Step::Start, Answer::Done),
     (Step::Write(4, 0, &NUMBERS), Answer::Done),

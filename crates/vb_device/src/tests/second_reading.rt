@@ -5,7 +5,7 @@ use arrayvec::ArrayVec;
 use byteorder::{ByteOrder, LittleEndian};
 use vb_virtio::Refusal;
 
-/// How large a guest is, and where its rings stand.
+/// How large a guest is, and where its rings are.
 #[derive(Clone, Copy)]
 pub(super) struct Sizes {
     /// Descriptors of each queue.
@@ -13,7 +13,7 @@ pub(super) struct Sizes {
     pub(super) pages: u32,
     /// Pages at the start of memory that no request may name.
     pub(super) reserved: u32,
-    /// Pages of each ring, one ring behind the other from this page on.
+    /// Pages of each ring, one ring after the other from this page on.
     pub(super) ring_pages: u32,
     pub(super) first_ring: u32,
 }
@@ -244,7 +244,7 @@ fn number(bytes: &[u8], at: usize) -> u16 {
     }
 }
 
-/// The head that stands at a place of the available ring, or the first rule that its chain breaks.
+/// The head that is at a place of the available ring, or the first rule that its chain breaks.
 fn taken_head(
     bytes: &[u8],
     sizes: &Sizes,
@@ -268,7 +268,7 @@ fn taken_head(
     }
 }
 
-/// What a take of a queue answers after so many others.
+/// What a take of a queue answers after `taken` others.
 pub(super) fn answer_of(bytes: &[u8], sizes: &Sizes, queue: u32, taken: u16) -> Answer {
     let ring = (sizes.ring_page(queue) as usize).wrapping_mul(4096);
     let index = ring.wrapping_add(sizes.available().wrapping_add(2));

@@ -14,7 +14,7 @@ use crate::queue::RequestPages;
 use vb_bits::BitSet;
 use vb_model::Place;
 
-/// Puts the lowest pages of a set, so many at most, in place of those that `lowest` has.
+/// Puts the lowest pages of a set, at most `most`, in place of those that `lowest` has.
 fn lowest_in(set: &BitSet, most: u32, lowest: &mut RequestPages)
     requires few { most ≤ max_request_pages }
     requires small { length set.now ≤ MAX_GUEST_PAGES }
@@ -34,7 +34,7 @@ fn lowest_in(set: &BitSet, most: u32, lowest: &mut RequestPages)
 }
 
 impl PlaceTable {
-    /// Puts the lowest lent pages, so many at most, in place of those that `pages` has.
+    /// Puts the lowest lent pages, at most `most`, in place of those that `pages` has.
     pub(crate) fn lowest_lent(&self, most: u32, pages: &mut RequestPages)
         requires { most ≤ max_request_pages }
         ensures { pages.new.items ≡ take most (pages_where is_lent self.now) }
@@ -42,7 +42,7 @@ impl PlaceTable {
         lowest_in(&self.lent, most, pages);
     }
 
-    /// Moves so many of the lowest lent pages to where pages are that were asked back, and puts
+    /// Moves `most` of the lowest lent pages to where pages are that were requested back, and puts
     /// them in place of those that `pages` has.
     pub(crate) fn take_lowest_lent(&mut self, most: u32, pages: &mut RequestPages)
         requires { most ≤ max_request_pages }
@@ -54,7 +54,7 @@ impl PlaceTable {
         self.set_all(pages, Place::Taking);
     }
 
-    /// Puts the lowest stranded pages, so many at most, in place of those that `pages` has.
+    /// Puts the lowest stranded pages, at most `most`, in place of those that `pages` has.
     pub(crate) fn lowest_stranded(&self, most: u32, pages: &mut RequestPages)
         requires { most ≤ max_request_pages }
         ensures { pages.new.items ≡ take most (pages_where is_stranded self.now) }

@@ -116,7 +116,7 @@ impl PlaceTable {
         requires inside { start + 2 ^ order ≤ length self.old }
         ensures { self.new ≡ placed (pages_of (block_at start order)) place self.old }
     {
-        // Read for the proof, which has what holds of each table, as how many pages it has.
+        // A no-op read: it gives the prover the table's invariant, as its number of pages.
         let _places = &self.places;
         self.set_range(start, start + size_of(order), place);
     }

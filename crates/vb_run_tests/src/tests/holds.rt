@@ -31,7 +31,7 @@ pub(super) enum Place {
     Serving(u32),
     /// Where the balancer looks at this guest, under its lock.
     Looking(u32),
-    /// Behind an actor's call, or the balancer's round, with such an answer.
+    /// After an actor's call, or the balancer's round, with such an answer.
     Behind(Actor, Answer),
     /// Where no thread is.
     Nowhere,
@@ -160,7 +160,7 @@ impl<'a, R: Wait + Clock> Holding<'a, R> {
         });
     }
 
-    /// Waits until some thread has come, for so many turns at most. Whether one has.
+    /// Waits until some thread has come, for `turns` turns at most. Whether one has.
     fn wait_for(&self, mark: &Mark, turns: u32) -> bool {
         for _ in 0..turns {
             if mark.has_come.load(Ordering::SeqCst) {

@@ -57,7 +57,7 @@ impl Ended {
     }
 }
 
-/// A table with a pass for each of so many guests.
+/// A table with a pass for each of `guests` guests.
 fn open(
     alloc: Global,
     frames: u32,
@@ -104,7 +104,7 @@ fn count_out(tables: &[SharedFrames]) -> u32 {
     out
 }
 
-/// How a run ended with this answer, after which so many frames are out.
+/// How a run ended with this answer, after which `out` frames are out.
 fn end_of_run(
     alloc: Global,
     plan: &Plan,

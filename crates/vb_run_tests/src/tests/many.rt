@@ -18,8 +18,7 @@ const LARGE: Config = Config {
     processors: 1,
 };
 
-/// Frames of a guest at the end: 13 behind pages of its rings, and one behind each page of the
-/// block.
+/// Frames of a guest at the end: 13 back pages of its rings, and one each page of the block.
 const KEPT: usize = 525;
 
 /// Frames of the host: more than both guests have at the end.
@@ -69,7 +68,7 @@ fn run<R: Threads + Wait + Clock + Sync>(rt: &R, alloc: Global) -> Result<Noted,
     run_noted(rt, alloc, &plan, ports, &[])
 }
 
-/// Whether the block was handed out, each write was done, and so many frames are kept.
+/// Whether the block was handed out, each write was done, and n frames are kept.
 fn has_written(guest: &GuestReport) -> bool {
     let mut place: usize = 0;
     for note in &guest.history {

@@ -122,7 +122,7 @@ impl Picker {
     }
 }
 
-/// The notes of an actor, in order. What is called behind its last note isn't its own: the runner
+/// The notes of an actor, in order. What is called after its last note isn't its own: the runner
 /// makes a worker's calls once more when all threads have ended.
 pub(super) fn lines_of<'a>(
     alloc: Global,
@@ -143,7 +143,7 @@ pub(super) fn lines_of<'a>(
     Ok(lines)
 }
 
-/// The frames behind the pages of a guest, by rising page.
+/// The frames that back the pages of a guest, by rising page.
 pub(super) fn frames_of(alloc: Global, notes: &[Note], guest: u32) -> Result<Vec<u32>, AllocError> {
     let mut frames = Vec::new(alloc);
     for note in notes {

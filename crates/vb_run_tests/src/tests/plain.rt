@@ -91,7 +91,7 @@ fn has_frame(claim: Claim) -> bool {
     matches!(claim, Claim::Gave(_))
 }
 
-/// Whether the row is refused so at the last claim, of which at most so many are made: none of the
+/// Whether the row is refused so at the last claim, of which at most `most` are made: none of the
 /// frames stays, and nothing has changed.
 fn is_refused(row: &Row<'_>, refusal: Refusal, most: usize) -> bool {
     let given = row.claims.iter().filter(|claim| has_frame(**claim));
@@ -140,7 +140,7 @@ impl PlainGuest {
         !has_buffer && !self.requests.is_waiting()
     }
 
-    /// The frames behind its pages, by rising page.
+    /// The frames that back its pages, by rising page.
     pub fn frames(&self, alloc: Global) -> Result<Vec<u32>, AllocError> {
         self.pages.frames(alloc)
     }

@@ -71,7 +71,7 @@ pub(super) enum Answer {
     Page(u32),
     /// The byte that the scripts write.
     Written,
-    /// A request with this head and so many pages.
+    /// A request with this head and n pages.
     Posted(u32, u32),
     Reaped(u32, u32),
     NotReady,
@@ -131,7 +131,7 @@ pub(super) fn are(history: &[Note], cpu: u32, answers: &[Answer], rounds: usize)
     place == rounds.saturating_mul(answers.len())
 }
 
-/// A script: these lines, so many times.
+/// A script: these lines, `rounds` times.
 fn script(alloc: Global, lines: &[Line], rounds: usize) -> Result<Vec<Call>, AllocError> {
     let mut calls = Vec::new(alloc);
     for place in 0..rounds.saturating_mul(lines.len()) {
@@ -172,7 +172,7 @@ impl Guests {
         })
     }
 
-    /// The plan of these guests on a host of so many frames.
+    /// The plan of these guests on a host of `frames` frames.
     pub(super) fn plan(
         &self,
         alloc: Global,

@@ -42,7 +42,7 @@ fn number(count: usize) -> u32 {
     u32::try_from(count).unwrap_or(u32::MAX)
 }
 
-/// One of the pages that a call may get hold of, mostly; else any number up to the guest's end.
+/// One of the pages that a call may get hold of, usually; else any number up to the guest's end.
 fn page(numbers: &mut Pcg32, pages: u32) -> u32 {
     match below(numbers, 4) {
         0 => below(numbers, pages.saturating_add(2)),

@@ -36,7 +36,7 @@ pub(super) fn sets_a_target(report: &Report) -> bool {
 pub(super) enum Balanced {
     /// A first target.
     Target(u32),
-    /// So many pages stay missing.
+    /// n pages stay missing.
     Short(u64),
 }
 

@@ -1,4 +1,4 @@
-//! Want of memory, wherever it meets a run.
+//! An allocation failure, wherever it meets a run.
 
 use crate::tests::leased::Ended;
 use crate::tests::rows::TWO_GUESTS;

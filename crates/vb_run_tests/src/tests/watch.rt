@@ -106,8 +106,8 @@ impl<'a, P: GuestPort, G: Watch> GuestPort for WatchedPort<'a, P, G> {
     }
 }
 
-/// Adds a port behind others, whose guest tells the gate what it does. Refused for want of memory
-/// alone.
+/// Adds a port after others, whose guest tells the gate what it does. Refused on an allocation
+/// failure alone.
 pub(super) fn add_watched<'a, P: GuestPort, G: Watch>(
     ports: &mut Vec<WatchedPort<'a, P, G>>,
     port: P,

@@ -41,7 +41,8 @@ fn claim_again(pass: &mut FramePass, alloc: Global) -> Result<Vec<u32>, AllocErr
     Ok(held)
 }
 
-/// The same once all threads are there, with a pass that is dropped then.
+/// Claims all, puts half back and claims again once all threads are there; the pass is dropped
+/// then.
 fn claim_twice<R: Wait>(
     rt: &R,
     alloc: Global,
@@ -113,7 +114,7 @@ fn count_apart(
 /// Sizes of tables: frames and guests.
 static SIZES: [(u32, u32); 2] = [(64, 4), (1_024, 8)];
 
-/// At the end all frames are out: whoever put one back claimed until none was free.
+/// At the end all frames are out: each thread that put one back claimed until none was free.
 #[test]
 fn no_frame_is_held_on_two_threads_and_none_is_left(rt: HostRuntime) -> Result<(), Fail> {
     for (size, guests) in &SIZES {

@@ -51,7 +51,8 @@ impl Slot {
         vb_guest::places(&self.driver)
     }
 
-    /// Which pages are at a place, as runs by rising page. Want of memory is the only refusal.
+    /// Which pages are at a place, as runs by rising page. An allocation failure is the only
+    /// refusal.
     pub fn pages_at(&self, alloc: Global, place: Place) -> Result<PageRuns, AllocError>
         ensures answer { SlotAnswers mem part self.now (Query.PagesAt place) (runs_reply result) }
         ensures exact { IfOk result
@@ -60,8 +61,8 @@ impl Slot {
         vb_guest::pages_at(alloc, &self.driver, place)
     }
 
-    /// Which pages the device holds to be ballooned, as runs by rising page. Want of memory is the
-    /// only refusal.
+    /// Which pages the device holds to be ballooned, as runs by rising page. An allocation failure
+    /// is the only refusal.
     pub fn pages_ballooned(&self, alloc: Global) -> Result<PageRuns, AllocError>
         requires { HasGuest mem part self.now }
         ensures answer { SlotAnswers mem part self.now (Query.PagesBallooned) (runs_reply result) }
@@ -92,7 +93,7 @@ impl Slot {
         vb_guest::statistics(&self.device)
     }
 
-    /// The number of the frame behind a page; none where it has none, or isn't there.
+    /// The number of the frame that backs a page; none where it has none, or isn't there.
     pub fn backing(&self, page: u32) -> Option<u32>
         ensures answer { SlotAnswers mem part self.now (Query.Backing page) (Backing result) }
     {

@@ -12,7 +12,7 @@ use vb_ram::{Config, Frame, GuestBytes, RamFault, SupplyRefused};
 use vb_status::{Features, Port, Status, StatusFault};
 use vb_virtio::Refusal;
 
-/// Puts a number behind the others, for which there is room.
+/// Puts a number after the others, for which there is room.
 fn put_last(numbers: &mut Vec<u32>, number: u32)
     requires room { vec_len numbers.old < vec_capacity numbers.old }
     ensures items { numbers.new.items ≡ numbers.old.items ++ number ∷ [] }
@@ -24,7 +24,7 @@ fn put_last(numbers: &mut Vec<u32>, number: u32)
     }
 }
 
-/// Takes a number away, wherever it stands.
+/// Takes a number away, wherever it is.
 fn take_away(numbers: &mut Vec<u32>, number: u32)
     ensures items { numbers.new.items ≡ filter (λ n. not (n == number)) numbers.old.items }
     ensures capacity { vec_capacity numbers.old ≤ vec_capacity numbers.new }
@@ -32,7 +32,7 @@ fn take_away(numbers: &mut Vec<u32>, number: u32)
     numbers.retain(|other| *other != number);
 }
 
-/// No numbers, and room for so many.
+/// No numbers, and room for `limit`.
 fn room_for(alloc: Global, limit: u32) -> Result<Vec<u32>, AllocError>
     ensures none { IfOk result (λ numbers. numbers.items ≡ []) }
     ensures room { IfOk result (λ numbers. limit ≤ vec_capacity numbers) }
@@ -60,7 +60,7 @@ struct Pool {
 }
 
 impl Pool {
-    /// All frames of a device that has so many, with room for their numbers: none is out.
+    /// All frames of a device that has `limit`, with room for their numbers: none is out.
     fn of(alloc: Global, limit: u32, out: Vec<u32>, free: Vec<u32>) -> Pool
         requires empty { (out.items ≡ []) × (free.items ≡ []) }
         requires room { (limit ≤ vec_capacity out) × (limit ≤ vec_capacity free) }
@@ -75,7 +75,7 @@ impl Pool {
         }
     }
 
-    /// All frames of a device that has so many: none is out.
+    /// All frames of a device that has `limit`: none is out.
     fn new(alloc: Global, limit: u32) -> Result<Pool, AllocError>
         ensures { IfOk result (λ pool. pool.out.items ≡ []) }
     {
@@ -148,7 +148,7 @@ pub(super) struct KeepingDevice {
 }
 
 impl KeepingDevice {
-    /// A device that no guest has yet, with so many frames.
+    /// A device that no guest has yet, with `frames` frames.
     pub(super) fn new(alloc: Global, frames: u32) -> Result<KeepingDevice, AllocError>
         ensures unused { IfOk result (λ device. IsUnused device.inner.mem device.inner.part) }
         ensures paced { IfOk result (λ device. device.inner.part.paced ≡ false) }

@@ -107,7 +107,7 @@ fn are_runs(expected: &[(u64, u32)], runs: &[Run]) -> bool {
     true
 }
 
-/// Whether the chain that stands next is read so.
+/// Whether the chain that is next is read so.
 fn is_next(device: &mut Device, ring: &RealRing, avail: &[u8], table: &[u8]) -> bool {
     let mut pieces = [NO_BUFFER; 256];
     match device.next(ring.kind, avail, table, &mut pieces) {
@@ -120,7 +120,7 @@ fn is_next(device: &mut Device, ring: &RealRing, avail: &[u8], table: &[u8]) -> 
     }
 }
 
-/// Whether the report that stands next is read so.
+/// Whether the report that is next is read so.
 fn is_report(device: &mut Device, ring: &RealRing, avail: &[u8], table: &[u8]) -> bool {
     let mut runs = [Run::NONE; 32];
     match device.report(avail, table, &mut runs) {

@@ -1,5 +1,5 @@
-//! A driver's calls over guest memory with no device behind it. A line of a table is a step and its
-//! answer; what a device would write into a ring is a step too.
+//! A driver's calls over guest memory without a device. A line of a table is a step and its answer;
+//! what a device would write into a ring is a step too.
 
 ghost use Rattle.std.specs.Prelude.{◌≡◌, true};
 ghost use Rattle.vb_virtio.specs.Limits.{is_config};
@@ -60,7 +60,7 @@ enum Step {
 /// What can be seen of a guest.
 #[derive(Clone, Copy)]
 enum Sight {
-    /// Whether so many pages are free and so many used, and none is on its way or with the host.
+    /// Whether n pages are free and m used, and none is on its way or with the host.
     Counts(u32, u32),
     /// Whether the pages from the first on, up to the second, are all at a place.
     At(Place, u32, u32),
@@ -87,7 +87,7 @@ enum Answer {
     Page(u32),
     /// A request's head, and how many pages it names.
     Posted(u16, u32),
-    /// The same of a request that was taken back.
+    /// The head of a request that was taken back, and how many pages it names.
     Reaped(u16, u32),
     NoneUsed,
     Is(bool),
@@ -111,7 +111,7 @@ const AVAILABLE: [u8; 16] = [0, 0, 1, 0, 0, 0, 0, 0, 0, 0, 0, 0, 0, 0, 0, 0];
 /// Where the last 16 bytes of a page begin.
 const LAST_BYTES: usize = 4080;
 
-/// Puts a frame behind a page.
+/// Backs a page with a frame.
 fn supply(rt: &impl Abort, alloc: Global, ram: &mut Ram, page: u32) {
     let Ok(frame) = Frame::fresh(alloc, page) else {
         rt.abort()
@@ -122,14 +122,14 @@ fn supply(rt: &impl Abort, alloc: Global, ram: &mut Ram, page: u32) {
 /// Pages from the first on, up to the second, which have frames.
 type Run = (u32, u32);
 
-/// Puts frames behind pages.
+/// Backs pages with frames.
 fn supply_run(rt: &impl Abort, alloc: Global, ram: &mut Ram, run: Run) {
     for page in run.0..run.1 {
         supply(rt, alloc, ram, page);
     }
 }
 
-/// Guest memory of so many pages, of which these have frames.
+/// Guest memory of `pages` pages, of which these have frames.
 fn port_of(rt: &impl Abort, alloc: Global, pages: u32, backed: &[Run]) -> MemoryPort {
     let Ok(mut ram) = Ram::new(alloc, pages) else {
         rt.abort()
@@ -140,7 +140,7 @@ fn port_of(rt: &impl Abort, alloc: Global, pages: u32, backed: &[Run]) -> Memory
     MemoryPort::new(ram)
 }
 
-/// A guest of so many pages, with queues of 8 descriptors and one processor.
+/// A guest of `pages` pages, with queues of 8 descriptors and one processor.
 fn small_queues(pages: u32) -> Config
     ensures { result ≡ record { pages = pages; queue_size = 8; processors = 1 } }
 {
@@ -257,7 +257,7 @@ impl Guest {
         }
     }
 
-    /// Posts a request for so many pages, or a report from a page on; a device that is up needs
+    /// Posts a request for `pages` pages, or a report from a page on; a device that is up needs
     /// frames for its rings and buffers.
     fn post(&mut self, request: Request, pages: u32) -> Result<Answer, Refusal> {
         if self.port.pages() < 64 || is_up(&self.port) && !self.driver.has_frames(&self.port) {
@@ -306,7 +306,7 @@ impl Guest {
         let _ = self.port.write(page, ring + 2, &[used, 0]);
     }
 
-    /// The same of a queue that has 8 or 256 descriptors.
+    /// Uses a request as a device would, of a queue that has 8 or 256 descriptors.
     fn use_request(&mut self, queue: u32, head: u8, used: u8) {
         let number = if queue == 4 { 3 } else { queue.min(2) };
         if self.driver.shape().queue_size == 256 {
@@ -372,7 +372,7 @@ fn first_wrong(
     guest.first_wrong(table)
 }
 
-/// Expects that a new guest of 64 pages, of which the first so many have frames, answers each line
+/// Expects that a new guest of 64 pages, of which the first `backed` have frames, answers each line
 /// so.
 fn expect(rt: &impl Abort, alloc: Global, backed: u32, lines: &'static [Line]) {
     let wrong = first_wrong(

@@ -126,7 +126,7 @@ const PAGE_5: Cut = Cut {
 };
 
 /// A notice of the request of `put_request`: what it is, how many chains it may serve, whether it
-/// keeps all pages, whether an interrupt is wanted and more stands there at its end, and its
+/// keeps all pages, whether an interrupt is wanted and more is available at its end, and its
 /// accesses.
 struct Case {
     name: &'static str,

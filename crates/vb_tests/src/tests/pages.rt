@@ -105,7 +105,7 @@ fn first_wrong_line(pages: &mut Pages, lines: &[(Step, Answer)]) -> Option<usize
 }
 
 /// The first line whose call isn't answered so, when they are made one after the other on a new
-/// guest of so many pages and processors, of which 16 pages are reserved.
+/// guest of n pages and processors, of which 16 pages are reserved.
 fn first_wrong(
     alloc: Global,
     size: u32,
@@ -283,7 +283,7 @@ const ODD_GUEST: [(Step, Answer); 17] = [
     (Bits(3), Words(2, 1 << 3, 1 << 60)),
 ];
 
-/// Blocks 63, 64 and 65 of order 4 stand at the end of one word and at the start of the next.
+/// Blocks 63, 64 and 65 of order 4 are at the end of one word and at the start of the next.
 const BOTH_WORDS: [(Step, Answer); 32] = [
     (Alloc(0, 9), Page(512)),
     (Alloc(0, 9), Page(1024)),
@@ -319,7 +319,7 @@ const BOTH_WORDS: [(Step, Answer); 32] = [
     (Bits(6), Words(1, 1 << 17, 1 << 17)),
 ];
 
-/// Calls on a new guest of so many pages and processors.
+/// Calls on a new guest of n pages and processors.
 struct Example {
     name: &'static str,
     pages: u32,

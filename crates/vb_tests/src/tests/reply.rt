@@ -247,7 +247,7 @@ enum Items {
 }
 
 impl Items {
-    /// The reply with so many of them.
+    /// The reply with `count` of them.
     fn reply(&self, alloc: Global, count: usize) -> Result<Reply, AllocError> {
         Ok(match self {
             Items::Bytes(byte) => Reply::ReadBytes {
@@ -263,7 +263,7 @@ impl Items {
     }
 }
 
-/// So many targets, as far as there is room.
+/// n targets, as far as there is room.
 fn targets_of(target: u32, count: usize) -> Numbers {
     let mut targets = ArrayVec::new();
     for _ in 0..count {
@@ -300,7 +300,7 @@ static LONG: [(Items, usize, &str, &str); 12] = [
     (Items::Runs(ALL_PAGES), 8192, "pages", " 0-4294967295"),
 ];
 
-/// A text of this start, so many times this part, and a line feed.
+/// A text of this start, `count` times this part, and a line feed.
 fn repeated(alloc: Global, start: &str, part: &str, count: usize) -> Result<Vec<u8>, AllocError> {
     let mut text = Vec::from_slice(alloc, start.as_bytes())?;
     for _ in 0..count {

@@ -74,7 +74,7 @@ enum Step {
     Outstanding,
     TakeUsed,
     Pop,
-    /// The same, answered by how many pieces the chain has.
+    /// A pop that is answered by how many pieces the chain has.
     PopPieces,
     AddUsed(u16),
     /// 16 bytes of the ring are read, from this one on.
@@ -209,7 +209,7 @@ impl Ends {
     }
 }
 
-/// The ends of a ring of so many descriptors, which begins with this page.
+/// The ends of a ring of `size` descriptors, which begins with this page.
 fn both_ends(rt: &impl Abort, alloc: Global, page: u16, size: u16) -> Ends {
     assert!(rt; 2 <= size && size <= 256 && 65_536 % u32::from(size) == 0);
     Ends {
@@ -313,8 +313,8 @@ fn rings_and_faults_that_differ_are_told_apart(rt: HostRuntime) {
     assert!(rt; RingBroken::IndexAhead != RingBroken::NotOutstanding);
 }
 
-/// Numbers of descriptors, whether a queue may have so many, and how many it has then. It begins
-/// with 256.
+/// Numbers of descriptors, whether a queue may have n, and how many it has then. It begins with
+/// 256.
 static SIZES: [(u16, bool, u16); 19] = [
     (0, false, 256),
     (2, true, 2),
@@ -365,7 +365,7 @@ static INFLATE: [(Step, Answer); 6] = [
     ),
 ];
 
-/// The same with 256 descriptors: both rings stand in the second page.
+/// An inflate's calls with 256 descriptors: both rings are in the second page.
 static INFLATE_OF_256: [(Step, Answer); 6] = [
     (Step::Add(&[REQUEST]), Answer::Head(0)),
     (
@@ -508,7 +508,7 @@ static BOTH_INDICES_OF_256: [(Step, Answer); 2] = [
     ),
 ];
 
-/// The ends of a ring of so many descriptors answer these lines after 65,540 rounds.
+/// The ends of a ring of `size` descriptors answer these lines after 65,540 rounds.
 fn expect_after_rounds(rt: &impl Abort, alloc: Global, size: u16, lines: &[(Step, Answer)]) {
     let mut ends = both_ends(rt, alloc, 0, size);
     for _round in 0..65_540 {

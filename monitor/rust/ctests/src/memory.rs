@@ -116,7 +116,7 @@ pub struct Memory(Vec<Region>);
 
 impl Memory {
     /// # Safety
-    /// The pointer is of so many regions that are mapped, or none.
+    /// The pointer is of `count` regions that are mapped, or none.
     pub unsafe fn new(regions: *const Mapped, count: usize) -> Memory {
         let regions = if count > 0 { std::slice::from_raw_parts(regions, count) } else { &[] };
         Memory(regions.iter().map(Region::new).collect())

@@ -31,7 +31,7 @@ pub const IMPOSSIBLE: u32 = 13;
 
 /// Pages are given up.
 pub const INFLATE: u32 = 0;
-/// Pages are asked back.
+/// Pages are requested back.
 pub const DEFLATE: u32 = 1;
 /// The guest says how it uses its memory.
 pub const STATISTICS: u32 = 2;
@@ -40,7 +40,7 @@ pub const REPORT: u32 = 3;
 /// The kind of no queue.
 pub const NO_KIND: u32 = 4;
 
-/// The first `runs` of the room were given up, are asked back, or are free.
+/// The first `runs` of the room were given up, are requested back, or are free.
 pub const TELL_PAGES: u32 = 1;
 /// The first `figures` of the room are what the guest says.
 pub const TELL_FIGURES: u32 = 2;

@@ -83,7 +83,7 @@ pub struct Region {
     pub in_file: u64,
 }
 
-/// So many bytes into the region of this number.
+/// A region's number, and an offset in it, in bytes.
 #[repr(C)]
 #[derive(Clone, Copy, Debug, Default, PartialEq, Eq)]
 pub struct Spot {
@@ -91,7 +91,7 @@ pub struct Spot {
     pub offset: u64,
 }
 
-/// Whole pages of one region, and where they stand in its file.
+/// Whole pages of one region, and where they are in its file.
 #[repr(C)]
 #[derive(Clone, Copy, Debug, Default, PartialEq, Eq)]
 pub struct Cut {

@@ -81,7 +81,7 @@ impl Guest {
     }
 }
 
-/// The index, behind a fence the entry, and the descriptors of a chain, in this order: the first alone, and where it names another,
+/// The index, after a fence the entry, and the descriptors of a chain, in this order: the first alone, and where it names another,
 /// all from that one on to the table's end.
 fn taken(kind: Kind, descriptors: u64) -> Vec<Access> {
     let at = |part| place(kind, part);
@@ -93,7 +93,7 @@ fn taken(kind: Kind, descriptors: u64) -> Vec<Access> {
     accesses
 }
 
-/// The used element's two words, and behind a fence its index.
+/// The used element's two words, and after a fence its index.
 fn given_back(kind: Kind) -> Vec<Access> {
     let at = |part| place(kind, part);
     vec![
@@ -104,7 +104,7 @@ fn given_back(kind: Kind) -> Vec<Access> {
     ]
 }
 
-/// Behind a fence the driver's flags: the index isn't read again.
+/// After a fence the driver's flags: the index isn't read again.
 fn ended(kind: Kind) -> Vec<Access> {
     vec![Access::Fence(Ordering::SeqCst), Access::Load(place(kind, AVAIL))]
 }

@@ -149,7 +149,7 @@ impl GuestMemory for Memory {
     }
 }
 
-/// The same memory, of which the fences are written down, too.
+/// A memory as `Memory` is, whose fences are noted, too.
 pub struct Fenced<'a>(pub &'a Memory, pub Log);
 
 impl LiveMemory for Fenced<'_> {

@@ -109,7 +109,7 @@ fn configuration_and_places() {
     assert!(Balloon::new(&guest.memory, Settings::default()).is_err());
 }
 
-/// What is named is told and marked, and stays, as long as the balloon keeps its pages; but what is asked back isn't kept.
+/// What is named is told and marked, and stays, as long as the balloon keeps its pages; but what is requested back isn't kept.
 #[test]
 fn pages_are_kept() {
     let mut guest = Guest::new();

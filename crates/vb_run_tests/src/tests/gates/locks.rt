@@ -58,7 +58,7 @@ pub(super) static ROWS: [Row; 3] = [
             },
         ],
     },
-    // The gate is called without the lock: whoever stands there keeps nobody from its guest.
+    // The gate is called without the lock: an actor that waits there keeps nobody from its guest.
     Row {
         name: "without the lock",
         guests: Guests {

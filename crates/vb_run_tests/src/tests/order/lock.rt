@@ -47,7 +47,7 @@ fn done_in(note: &Note, guest: u32) -> Option<Done> {
 }
 
 impl Holder {
-    /// Who has the lock behind this; none where it can't be done.
+    /// Who has the lock after this; none where it can't be done.
     fn then(self, done: Done) -> Option<Holder> {
         match (self, done) {
             (Holder::Nobody, Done::Inside) => Some(Holder::Processor),
@@ -61,7 +61,7 @@ impl Holder {
 }
 
 /// Whether under the guest's lock nobody did anything between a processor's coming inside and the
-/// end of its call, nor between the beginning and the end of another call, and whoever is inside
+/// end of its call, nor between the beginning and the end of another call, and each actor inside
 /// makes a call of a script.
 pub(super) fn is_kept(notes: &[Note], guest: u32) -> bool {
     let mut holder = Holder::Nobody;

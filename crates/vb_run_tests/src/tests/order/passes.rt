@@ -228,7 +228,7 @@ fn are_entries(
     Ok(entries.get(..found.len()) == Some(found.as_slice()))
 }
 
-/// Whether the worker's call of this number comes behind all notes of its guest's processors.
+/// Whether the worker's call of this number comes after all notes of its guest's processors.
 fn is_behind(notes: &[Note], guest: u32, number: u64) -> bool {
     let mut has_begun = false;
     for note in notes {
@@ -247,7 +247,7 @@ fn is_behind(notes: &[Note], guest: u32, number: u64) -> bool {
     has_begun
 }
 
-/// How often a doorbell is rung after so many calls.
+/// How often a doorbell is rung after `calls` calls.
 fn rings(bells: Bells, calls: u64) -> u64 {
     match bells {
         Bells::Plain | Bells::Late => calls,

@@ -1,4 +1,4 @@
-//! The calls of the device behind a plain guest.
+//! The calls of the device of a plain guest.
 
 use super::requests::Stage;
 use super::{Buffer, PlainGuest, Said};

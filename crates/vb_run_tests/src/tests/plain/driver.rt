@@ -70,7 +70,7 @@ impl PlainGuest {
         self.post(REPORT_QUEUE, 1, named)
     }
 
-    /// A request for these pages, where so many may be out.
+    /// A request for these pages, where n may be out.
     fn post(
         &mut self,
         queue: u32,

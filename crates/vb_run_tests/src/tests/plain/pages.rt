@@ -20,7 +20,7 @@ impl Block {
         SIZES.get(self.order as usize).copied().unwrap_or(0)
     }
 
-    /// The page behind its last one.
+    /// The page after its last one.
     pub fn end(&self) -> u32 {
         self.start.saturating_add(self.size())
     }
@@ -90,7 +90,7 @@ impl Pages {
         count
     }
 
-    /// The lowest pages that are there, so many.
+    /// The lowest `count` pages that are there.
     pub fn lowest(&self, alloc: Global, place: Place, count: u32) -> Result<Vec<u32>, AllocError> {
         let mut pages = Vec::new(alloc);
         for page in 0..self.count {
@@ -171,7 +171,7 @@ impl Pages {
         Ok(blocks)
     }
 
-    /// So many free pages, as the driver chooses them: those of smaller blocks first.
+    /// `count` free pages, as the driver chooses them: those of smaller blocks first.
     pub fn chosen(&self, alloc: Global, count: u32) -> Result<Vec<u32>, AllocError> {
         let mut pages = Vec::new(alloc);
         if count == 0 {
@@ -185,8 +185,7 @@ impl Pages {
         Ok(pages)
     }
 
-    /// The pages of the first so many free blocks from this page on that are wide enough for a
-    /// report.
+    /// The pages of the first n free blocks from this page on that are wide enough for a report.
     pub fn reported(&self, alloc: Global, from: u32, room: u32) -> Result<Vec<u32>, AllocError> {
         let mut left = room;
         let mut pages = Vec::new(alloc);

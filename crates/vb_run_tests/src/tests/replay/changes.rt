@@ -1,4 +1,4 @@
-//! Changed histories: at each place the row is dropped, doubled, exchanged with the one behind it,
+//! Changed histories: at each place the row is dropped, doubled, exchanged with the one after it,
 //! or has another reply, and where such a change must be refused it is.
 
 use super::{Case, is_replay};
@@ -140,9 +140,9 @@ fn judge_of_exchange(first: &Row<'_>, second: &Row<'_>) -> Judge {
     }
 }
 
-/// What has to refuse a change at this row, with the one behind it. Without a row, or with it
-/// twice, a script or the rounds aren't whole or are too long, and a worker's next call, or the
-/// end, doesn't fit; a wrong reply is never permitted.
+/// What has to refuse a change at this row, with the one after it. Without a row, or with it twice,
+/// a script or the rounds aren't whole or are too long, and a worker's next call, or the end,
+/// doesn't fit; a wrong reply is never permitted.
 fn judge_of(change: Change, row: &Row<'_>, next: Option<&Row<'_>>) -> Judge {
     match change {
         Change::Dropped => Judge::Report,
@@ -212,7 +212,7 @@ fn turned(said: Said<'_>) -> Said<'_> {
     }
 }
 
-/// Puts these rows behind the others.
+/// Puts these rows after the others.
 fn push_all<'a>(rows: &mut Vec<Row<'a>>, more: &[Row<'a>]) -> Result<(), AllocError> {
     for row in more {
         rows.push(*row)?;
@@ -220,7 +220,7 @@ fn push_all<'a>(rows: &mut Vec<Row<'a>>, more: &[Row<'a>]) -> Result<(), AllocEr
     Ok(())
 }
 
-/// The rows with these in place of so many from a place on.
+/// The rows with these in place of n from a place on.
 fn edited<'a>(
     alloc: Global,
     rows: &[Row<'a>],

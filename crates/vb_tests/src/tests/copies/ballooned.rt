@@ -47,14 +47,14 @@ static ROWS: [Row; 14] = [
         answer: Ok(64),
         set: [0xc000_0000_0000_0078, 3, ALL, 0x8000_0000_0000_0000],
     },
-    // No page behind the end is no page.
+    // No page after the end is no page.
     Row {
         kind: Kind::Deflate,
         runs: [[4_294_967_295, 0], [9, 1]],
         answer: Ok(0),
         set: [0xc000_0000_0000_0078, 3, ALL, 0x8000_0000_0000_0000],
     },
-    // A page past the end, behind one that isn't.
+    // A page past the end, after one that isn't.
     Row {
         kind: Kind::Inflate,
         runs: [[9, 1], [256, 1]],

@@ -10,7 +10,7 @@ pub(super) struct RealRing {
     pub(super) kind: Kind,
     /// How many descriptors it has.
     pub(super) size: u16,
-    /// Where its table, its available ring and its used ring stand.
+    /// Where its table, its available ring and its used ring are.
     pub(super) places: [u64; 3],
     /// How many chains were taken before.
     pub(super) taken: u16,
@@ -18,7 +18,7 @@ pub(super) struct RealRing {
     pub(super) index: u16,
     /// The table from its start on, two little-endian words of 64 bits a descriptor; zeros follow.
     pub(super) table: &'static [[u64; 2]],
-    /// The pieces of the chain that stands next: address and length.
+    /// The pieces of the chain that is next: address and length.
     pub(super) pieces: &'static [(u64, u32)],
 }
 

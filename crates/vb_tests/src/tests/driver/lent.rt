@@ -20,10 +20,10 @@ pub(super) enum Step {
     SetTarget(u32),
     Inflate(u32),
     Deflate(u32),
-    /// The device has used the request with head 0 of a queue, and so many of the queue by then,
-    /// and the driver takes it back.
+    /// The device has used the request with head 0 of a queue, and n of the queue by then, and the
+    /// driver takes it back.
     Reap(u32, u8),
-    /// So many blocks of an order are allocated.
+    /// n blocks of an order are allocated.
     Hold(u32, u32),
     Reset,
     Restart,
@@ -142,7 +142,7 @@ pub(super) fn first_wrong(guest: &mut Guest, words: usize, lines: &[Line]) -> Op
     None
 }
 
-/// Expects that a guest of so many pages has so many words, and after each line those that it says.
+/// Expects that a guest of n pages has m words, and after each line those that it says.
 fn expect(rt: &impl Abort, alloc: Global, pages: u32, words: usize, lines: &'static [Line])
     requires { is_config pages 8 1 ≡ true }
 {

@@ -156,7 +156,7 @@ const INFLATE_DEEDS: &'static [Deed] = &[
     Deed::Write(0, Part::AvailableIndex),
 ];
 
-/// The same of a report, which has no buffer of its own.
+/// A report's descriptors are written, then its head, then the index; it has no buffer of its own.
 const REPORT_DEEDS: &'static [Deed] = &[
     Deed::Write(3, Part::Descriptors),
     Deed::Write(3, Part::Available),

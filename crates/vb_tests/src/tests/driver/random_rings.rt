@@ -67,7 +67,7 @@ impl Outstanding {
         }
     }
 
-    /// An id, mostly one that is out.
+    /// An id, usually one that is out.
     fn random_id(&self, numbers: &mut Pcg32) -> u32 {
         match below(numbers, 32) {
             0 => numbers.next_u32(),
@@ -77,7 +77,7 @@ impl Outstanding {
         }
     }
 
-    /// A used index, mostly one that isn't too far ahead.
+    /// A used index, usually one that isn't too far ahead.
     fn random_index(&self, numbers: &mut Pcg32) -> u16 {
         let ahead = match below(numbers, 16) {
             0 => numbers.next_u32(),
@@ -107,7 +107,7 @@ struct Played<'a> {
 }
 
 impl Played<'_> {
-    /// Begins anew with nothing out but the statistics buffer, and with pages to ask back for a
+    /// Begins anew with nothing out but the statistics buffer, and with pages to request back for a
     /// queue of deflates.
     fn begin(&mut self) {
         let _ = self.guest.answer(Step::Reset);
@@ -131,7 +131,7 @@ impl Played<'_> {
         }
     }
 
-    /// Posts so many requests, as far as the driver does.
+    /// Posts `count` requests, as far as the driver does.
     fn post_some(&mut self, count: u32) {
         for _request in 0..count {
             if let Ok(Answer::Posted(head, _)) = self.post() {

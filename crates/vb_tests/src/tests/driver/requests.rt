@@ -7,7 +7,7 @@ use vb_virtio::Refusal;
 /// A request for pages 17 to 20.
 const NUMBERS: [u8; 16] = [17, 0, 0, 0, 18, 0, 0, 0, 19, 0, 0, 0, 20, 0, 0, 0];
 
-/// A descriptor of 16 bytes at address 0x4000 that the device reads, with no other behind it.
+/// A descriptor of 16 bytes at address 0x4000 that the device reads, with no other after it.
 const DESCRIPTOR: [u8; 16] = [0, 0x40, 0, 0, 0, 0, 0, 0, 16, 0, 0, 0, 0, 0, 0, 0];
 
 static REQUEST: [Line; 7] = [

@@ -5,8 +5,8 @@ use vb_model::Place;
 use vb_ram::Config;
 use vb_virtio::Refusal;
 
-/// A guest of so many pages, whose queues have so many descriptors; which of its pages have frames,
-/// and what is done with it.
+/// A guest of n pages, whose queues have m descriptors; which of its pages have frames, and what is
+/// done with it.
 struct Guest {
     name: &'static str,
     pages: u32,
@@ -60,7 +60,7 @@ const ZEROED: &'static [Line] = &[
     (Step::See(Sight::Blank(23)), YES),
 ];
 
-/// The descriptors stand in a ring's first page, and both rings in its second.
+/// The descriptors are in a ring's first page, and both rings in its second.
 const REQUESTS: &'static [Line] = &[
     (Step::SetTarget(4), DONE),
     (Step::Init(ALL), DONE),

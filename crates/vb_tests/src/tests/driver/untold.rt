@@ -1,5 +1,5 @@
-//! Drivers that don't tell the host: pages asked back are free at once, and no inflate overtakes
-//! the request that names them.
+//! Drivers that don't tell the host: pages requested back are free at once, and no inflate
+//! overtakes the request that names them.
 
 use super::{ALL, Answer, DONE, Line, Sight, Step, YES, expect};
 use vb_model::Place;
@@ -8,7 +8,7 @@ use vb_virtio::Refusal;
 /// All that a device offers but MUST_TELL_HOST.
 const UNTOLD: u64 = 0x1_0000_0026;
 
-/// Of four lent pages two are asked back and used, while their request is posted and then used.
+/// Of four lent pages two are requested back and used, while their request is posted and then used.
 static BACK: [Line; 30] = [
     (Step::SetTarget(4), DONE),
     (Step::Init(UNTOLD), DONE),
@@ -83,7 +83,7 @@ fn tells_a_full_queue_first(rt: HostRuntime) {
     expect(&rt, rt.alloc(), 13, &FULL);
 }
 
-/// Two pages are asked back one after the other, and the second request comes back first.
+/// Two pages are requested back one after the other, and the second request comes back first.
 static OOM: [Line; 31] = [
     (Step::SetTarget(48), DONE),
     (Step::Init(UNTOLD), DONE),

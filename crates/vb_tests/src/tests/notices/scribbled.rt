@@ -113,7 +113,7 @@ impl<R: Abort> Scribbled<'_, R> {
         }
     }
 
-    /// Writes an entry behind the trace.
+    /// Writes an entry after the trace.
     fn note(&mut self, entry: Entry)
         ensures { self.new.trace.items ≡ self.old.trace.items ++ entry ∷ [] }
     {

@@ -36,7 +36,7 @@ struct Plain {
 }
 
 impl Plain {
-    /// A guest of so many pages, of which the first ones are reserved.
+    /// A guest of n pages, of which the first ones are reserved.
     fn new(alloc: Global, pages: u32, processors: u32, reserved: u32) -> Plain {
         let mut plain = Plain {
             processors,
@@ -226,7 +226,7 @@ struct Pair {
 }
 
 impl Pair {
-    /// A guest of so many pages and processors, of which so many pages are reserved.
+    /// A guest of n pages and processors, of which m pages are reserved.
     fn new(
         alloc: Global,
         pages: u32,
@@ -278,7 +278,7 @@ impl Pair {
             && (number % 5_000 != 0 || self.are_blocks())
     }
 
-    /// The first of so many calls that isn't answered alike, or after which the free pages differ.
+    /// The first of `calls` calls that isn't answered alike, or after which the free pages differ.
     fn first_apart(&mut self, calls: u32) -> Option<u32> {
         for number in 0..calls {
             if !self.call() || !self.are_alike(number) {
@@ -328,7 +328,7 @@ fn calls_agree_with_a_plain_allocator(rt: HostRuntime) -> Result<(), AllocError>
 
 static ODD: [(u32, u32, u32, u64); 1] = [(1_000, 3, 16, 3)];
 
-/// The same on pages that are no power of two.
+/// Calls on a guest whose pages are no power of two.
 #[test]
 fn calls_agree_on_an_odd_guest(rt: HostRuntime) -> Result<(), AllocError> {
     expect_alike(&rt, rt.alloc(), &ODD)
@@ -336,7 +336,7 @@ fn calls_agree_on_an_odd_guest(rt: HostRuntime) -> Result<(), AllocError> {
 
 static LARGE: [(u32, u32, u32, u64); 2] = [(16_384, 1, 16, 4), (16_384, 4, 16, 5)];
 
-/// The same on 16,384 pages.
+/// Calls on 16,384 pages.
 #[test]
 fn calls_agree_on_a_large_guest(rt: HostRuntime) -> Result<(), AllocError> {
     expect_alike(&rt, rt.alloc(), &LARGE)
@@ -349,7 +349,7 @@ static OF_MORE_SIZES: [(u32, u32, u32, u64); 4] = [
     (65_536, 4, 32, 9),
 ];
 
-/// The same on pages that are no power of two, on more pages, and where 32 are reserved.
+/// Calls on pages that are no power of two, on more pages, and where 32 are reserved.
 #[test]
 fn calls_agree_on_guests_of_more_sizes(rt: HostRuntime) -> Result<(), AllocError> {
     expect_alike(&rt, rt.alloc(), &OF_MORE_SIZES)

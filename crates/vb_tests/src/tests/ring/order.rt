@@ -1,5 +1,5 @@
-//! In which order the words of a ring are written: what an index counts stands before the index
-//! does (VIRTIO 1.1, 2.6.8 and 2.6.13).
+//! In which order the words of a ring are written: what an index counts comes before the index does
+//! (VIRTIO 1.1, 2.6.8 and 2.6.13).
 
 use super::{FIRST_BLOCK, SECOND_BLOCK, memory, ready_queue};
 use arrayvec::ArrayVec;

@@ -18,7 +18,7 @@ fn below(numbers: &mut Pcg32, end: u32) -> u32 {
     numbers.next_u32().checked_rem(end).unwrap_or(0)
 }
 
-/// The same of 16 bits.
+/// A number of 16 bits below this one, or 0.
 fn below_16(numbers: &mut Pcg32, end: u32) -> u16 {
     (below(numbers, end) % 65_536) as u16
 }
@@ -26,7 +26,7 @@ fn below_16(numbers: &mut Pcg32, end: u32) -> u16 {
 /// The bytes of a ring of at most 256 descriptors: its table, its available ring, and what follows.
 type RingBytes = [u8; 4614];
 
-/// Writes a descriptor, mostly of a small address, length and number.
+/// Writes a descriptor, usually of a small address, length and number.
 fn put_descriptor(numbers: &mut Pcg32, bytes: &mut RingBytes, size: u16, index: u16) {
     let at = 16 * usize::from(index % 256);
     let flags = if below(numbers, 12) > 0 { 4 } else { 65_536 };
@@ -40,7 +40,7 @@ fn put_descriptor(numbers: &mut Pcg32, bytes: &mut RingBytes, size: u16, index: 
     );
 }
 
-/// Writes a descriptor that mostly goes on to the one behind it, so that long chains come about.
+/// Writes a descriptor that usually goes on to the one after it, so that long chains come about.
 fn put_link(numbers: &mut Pcg32, bytes: &mut RingBytes, size: u16, index: u16) {
     let at = 16 * usize::from(index % 256);
     let is_jump = below(numbers, 64) == 0;
@@ -81,7 +81,7 @@ fn put_place(numbers: &mut Pcg32, bytes: &mut RingBytes, size: u16, index: u16, 
 }
 
 /// Writes the index and 8 places of a ring anew: all of a ring of 8, and of a larger one those that
-/// are next. Numbers are mostly small, so that chains come about; for 64 of 256 rounds these are
+/// are next. Numbers are usually small, so that chains come about; for 64 of 256 rounds these are
 /// long.
 fn put_some(numbers: &mut Pcg32, bytes: &mut RingBytes, size: u16, round: u16)
     requires some { 0 < size }
@@ -127,8 +127,8 @@ impl Link {
         piece.addr == self.addr && piece.len == self.len && piece.writable == self.has(2)
     }
 
-    /// The first rule that the descriptor breaks in a ring of so many, as number `at` of its chain,
-    /// after writable ones or after none.
+    /// The first rule that the descriptor breaks in a ring of n, as number `at` of its chain, after
+    /// writable ones or after none.
     fn broken(&self, size: u16, at: u16, is_after_writable: bool) -> Option<ChainFault> {
         let end = self.addr.saturating_add(u64::from(self.len));
         if self.has(4) {
@@ -181,7 +181,7 @@ fn are_chain(bytes: &RingBytes, head: u16, pieces: &[Piece]) -> bool {
     !goes_on
 }
 
-/// A number of 16 bits that stands at this byte of the available ring.
+/// A number of 16 bits that is at this byte of the available ring.
 fn available(bytes: &RingBytes, size: u16, offset: usize) -> u16
     requires size { size ≤ 256 }
     requires offset { offset ≤ 516 }
@@ -237,7 +237,7 @@ impl Ends {
     }
 }
 
-/// How many chains come out of 20,000 rings of so many descriptors.
+/// How many chains come out of 20,000 rings of `size` descriptors.
 fn chains_of(rt: &impl Abort, alloc: Global, size: u16) -> u32
     requires some { 0 < size }
     requires size { size ≤ 256 }

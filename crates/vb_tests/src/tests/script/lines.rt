@@ -370,7 +370,7 @@ fn hosts(rt: HostRuntime) {
     }
 }
 
-/// Lines behind that of the host, and the spare devices that they bring.
+/// Lines after that of the host, and the spare devices that they bring.
 static SPARES: [(&[u8], Result<Option<Pace>, ScriptFault>); 10] = [
     (b"spare immediate", Ok(Some(Pace::Immediate))),
     (b"spare paced", Ok(Some(Pace::Paced))),

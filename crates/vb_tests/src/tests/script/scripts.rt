@@ -66,8 +66,8 @@ fn texts(rt: HostRuntime) {
     }
 }
 
-/// Lines of so many spare devices behind a host's, of so many events, lines that are skipped, and a
-/// write of so many bytes.
+/// Lines of n spare devices after a host's, of m events, lines that are skipped, and a write of k
+/// bytes.
 #[derive(Clone, Copy)]
 enum Part {
     Spares,
@@ -88,8 +88,8 @@ impl Part {
     }
 }
 
-/// Parts, each with how often it stands there, the end behind it, and what that text is read to: no
-/// more than 64 spare devices, the bytes of a page and no more, and lines far down.
+/// Parts, each with how often it is there, the end after it, and what that text is read to: no more
+/// than 64 spare devices, the bytes of a page and no more, and lines far down.
 static REPEATED: [(Part, usize, &[u8], Outline); 17] = [
     (Part::Spares, 1, b"", Ok(Some((1, 1, 0)))),
     (Part::Spares, 63, b"", Ok(Some((1, 63, 0)))),
@@ -140,7 +140,7 @@ static REPEATED: [(Part, usize, &[u8], Outline); 17] = [
     (Part::Bytes, 4097, b"", Err(ScriptFault::BadLine(2))),
 ];
 
-/// A text with this part so many times, and this end.
+/// A text with this part `count` times, and this end.
 fn repeated(alloc: Global, part: Part, count: usize, end: &[u8]) -> Result<Vec<u8>, AllocError> {
     let (start, part) = part.texts();
     let mut text = Vec::from_slice(alloc, start)?;

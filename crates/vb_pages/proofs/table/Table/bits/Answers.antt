@@ -2,7 +2,7 @@ use Rattle.std.{proofs.Common.{◌≡◌, ◌*◌, ◌+◌, ◌<◌, ◌≤◌, 
 use Rattle.vb_pages.proofs.TableLemmas.{member_listed, listed_number, length-set_of_order}
 use Rattle.vb_pages.proofs.table.Table.bits.Goals as goal
 
--- words of 64 bits that hold so many numbers
+-- words of 64 bits that hold n numbers
 count_is : (words numbers : ℕ) → 0 < words → max 1 numbers ≤ 64 * words
     → 64 * words < max 1 numbers + 64 → words ≡ max 1 (div_ceil numbers 64)
 count_is words numbers some enough fewest = omega arith

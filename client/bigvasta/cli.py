@@ -1,0 +1,45 @@
+"""The command line: one subcommand a module of `commands`."""
+
+import argparse
+import os
+import sys
+
+from bigvasta import __version__
+from bigvasta.commands import MODULES
+from bigvasta.connection import DEFAULT_PATH
+from bigvasta.statuses import DONE, TABLE, Fault
+
+
+def parser():
+    """Returns the command line's parser."""
+    words = argparse.ArgumentParser(
+        prog="bigvasta", description="Shows and changes what a host lends to its guests.", epilog=TABLE,
+        formatter_class=argparse.RawDescriptionHelpFormatter,
+    )
+    words.add_argument("--version", action="version", version=f"bigvasta {__version__}")
+    common = argparse.ArgumentParser(add_help=False)
+    common.add_argument(
+        "--control", metavar="PATH", default=os.environ.get("BIGVASTA_CONTROL", DEFAULT_PATH),
+        help=f"the host's control socket ({DEFAULT_PATH}, or what BIGVASTA_CONTROL says)",
+    )
+    common.add_argument("--json", action="store_true", help="print the host's answer, an object a line")
+    commands = words.add_subparsers(metavar="COMMAND", required=True)
+    for module in MODULES:
+        module.add(commands, common)
+    return words
+
+
+def main(words):
+    """Runs the command line; returns the exit status."""
+    asked = parser().parse_args(words)
+    try:
+        return asked.run(asked) or DONE
+    except Fault as fault:
+        print(f"bigvasta: {fault}", file=sys.stderr)
+        return fault.status
+    except KeyboardInterrupt:
+        return DONE
+    except BrokenPipeError:
+        # Who read the output has gone: Python would say so once more as it ends.
+        os.dup2(os.open(os.devnull, os.O_WRONLY), sys.stdout.fileno())
+        return DONE

@@ -1,0 +1,172 @@
+"""The metrics of a host, made of its status: memory in bytes, time in seconds."""
+
+from prometheus_client.core import CounterMetricFamily, GaugeMetricFamily, HistogramMetricFamily, InfoMetricFamily
+
+from bigvasta.connection import Connection
+from bigvasta.statuses import Fault
+
+# Of the host: the metric, the field of the status, and what it is.
+HOST_BYTES = (
+    ("budget", "budget", "Memory that the host is to hold at most"),
+    ("floor", "floor", "Memory that each guest is to keep free"),
+    ("held", "held", "Memory that all guests' files hold"),
+    ("lent", "lent", "Memory that is lent to all guests"),
+    ("missing", "missing", "Memory by which the guests can't give what is missing"),
+)
+HOST_COUNTS = (
+    ("guests", "guests", "Guests that the host has"),
+    ("guests_waiting", "waiting", "Guests that wait for memory"),
+    ("guests_silent", "silent", "Guests whose statistics don't come"),
+    ("guests_uncooperative", "uncooperative", "Guests that took memory back unasked"),
+)
+HOST_TOTALS = (
+    ("looks", "looks", "Looks at what the guests hold"),
+    ("looks_above_budget", "above", "Looks at which the guests held more than the budget"),
+    ("decisions", "decisions", "Decisions about targets"),
+    ("targets_changed", "changed", "Targets that were changed"),
+    ("decisions_short", "shorts", "Decisions that found that the guests can't give what is missing"),
+    ("guests_admitted", "admitted", "Guests that found room"),
+    ("guests_refused", "refused", "Guests that found no room"),
+    ("lines_dropped", "dropped", "Lines of the log that nobody read in time"),
+)
+CONTROL_TOTALS = (
+    ("control_clients_accepted", "accepted", "Clients of the control socket that came"),
+    ("control_clients_dropped", "dropped", "Clients of the control socket that were dropped as they left their answers unread"),
+    ("control_clients_turned_away", "turned_away", "Clients of the control socket that came as one too many"),
+    ("control_requests", "requests", "Requests of the control socket"),
+    ("control_requests_refused", "refused", "Requests of the control socket that were refused"),
+)
+
+# Of each guest.
+GUEST_BYTES = (
+    ("memory", "memory", "Memory that the guest was promised"),
+    ("held", "held", "Memory that the guest's files hold"),
+    ("loan", "loan", "Memory that is lent to the guest"),
+    ("excess", "excess", "Memory that the guest holds above its loan"),
+    ("target", "target", "Memory that the host wants in the guest's balloon"),
+    ("ballooned", "ballooned", "Memory in the guest's balloon"),
+    ("free", "free", "Memory that the guest calls free"),
+    ("available", "available", "Memory that the guest calls available"),
+    ("spare", "spare", "Memory that the guest can spare, what is ballooned included"),
+)
+GUEST_SECONDS = (
+    ("silent", "silent", "Time since the guest's last statistics"),
+    ("process_silent", "process_silent", "Time since the guest's process answered last"),
+    ("waiting", "waits", "Time for which the guest has waited for memory"),
+)
+GUEST_FLAGS = (
+    ("ready", lambda it: it["state"] == "ready", "Whether the guest's driver is ready"),
+    ("is_waiting", lambda it: it["waits_for"] != "nothing", "Whether the guest waits for memory"),
+    ("cooperates", lambda it: it["cooperates"], "Whether the guest takes no memory back unasked"),
+)
+GUEST_TOTALS = (
+    ("inflated_bytes", "inflated", "Memory that went into the guest's balloon"),
+    ("deflated_bytes", "deflated", "Memory that came out of the guest's balloon"),
+    ("reported_bytes", "reported", "Memory that the guest reported as free"),
+    ("taken_bytes", "taken", "Memory that the guest took out of its balloon unasked"),
+    ("clients", "clients", "Clients that came to the guest's socket"),
+    ("messages_lost", "lost", "Messages between the host and the guest's process that weren't read in time"),
+)
+
+PREFIX = "bigvasta"
+
+
+def gauge(name, what, values):
+    """Returns a gauge; each value has the labels before it."""
+    labels = ["guest"] if values and values[0][0] else []
+    family = GaugeMetricFamily(f"{PREFIX}_{name}", what, labels=labels)
+    for key, value in values:
+        family.add_metric(key, value)
+    return family
+
+
+def counter(name, what, values, label="guest"):
+    """Returns a counter; each value has the labels before it."""
+    labels = [label] if values and values[0][0] else []
+    family = CounterMetricFamily(f"{PREFIX}_{name}", what, labels=labels)
+    for key, value in values:
+        family.add_metric(key, value)
+    return family
+
+
+def host_metrics(host):
+    """Yields the metrics of the host."""
+    build = InfoMetricFamily(f"{PREFIX}_build", "Versions of the host and of the core that decides")
+    build.add_metric([], {"version": host["version"], "core": host.get("core", host["version"])})
+    yield build
+    for name, field, what in HOST_BYTES:
+        yield gauge(f"{name}_bytes", what, [([], host[field])])
+    yield gauge("held_peak_bytes", "The most memory that all guests' files held at a look", [([], host["counters"]["peak"])])
+    for name, field, what in HOST_COUNTS:
+        yield gauge(name, what, [([], host[field])])
+    for name, field, what in HOST_TOTALS:
+        yield counter(name, what, [([], host["counters"][field])])
+    yield gauge("control_clients", "Clients of the control socket", [([], host["control"]["clients"])])
+    for name, field, what in CONTROL_TOTALS:
+        yield counter(name, what, [([], host["control"][field])])
+
+
+def guest_metrics(guests):
+    """Yields the metrics of the guests."""
+    here = [it for it in guests if it["state"] != "absent"]
+    for name, field, what in GUEST_BYTES:
+        yield gauge(f"guest_{name}_bytes", what, [([it["name"]], it[field]) for it in here])
+    for name, field, what in GUEST_SECONDS:
+        yield gauge(f"guest_{name}_seconds", what, [([it["name"]], it[field]) for it in here])
+    for name, read, what in GUEST_FLAGS:
+        yield gauge(f"guest_{name}", what, [([it["name"]], float(read(it))) for it in here])
+    for name, field, what in GUEST_TOTALS:
+        yield counter(f"guest_{name}", what, [([it["name"]], it["counters"][field]) for it in guests])
+
+
+def histogram(name, what, durations):
+    """Returns a histogram of durations: counts by their upper bounds, and their sum."""
+    family = HistogramMetricFamily(f"{PREFIX}_{name}_seconds", what)
+    buckets, total = [], 0
+    for bound, count in zip([*map(str, durations["bounds"]), "+Inf"], durations["counts"]):
+        total += count
+        buckets.append((bound, total))
+    family.add_metric([], buckets, durations["sum"])
+    return family
+
+
+# Of the host: durations of the status.
+DURATIONS = (
+    ("wait", "waits", "Time for which a guest waited for memory until it was granted"),
+    ("decision", "decision_time", "Time that a decision about targets took"),
+    ("loop", "loop_time", "Time that a turn of the host's loop took"),
+)
+
+
+def time_metrics(host):
+    """Yields the metrics of what took time."""
+    for name, field, what in DURATIONS:
+        if field in host:
+            yield histogram(name, what, host[field])
+    if "above_seconds" in host:
+        yield counter("above_budget_seconds", "Time for which the guests held more than the budget", [([], host["above_seconds"])])
+    if "grants" in host:
+        yield counter("grants", "Grants of memory to guests that asked for it", [([], host["grants"])])
+    if "gone_by" in host:
+        gone = [([reason], count) for reason, count in host["gone_by"].items()]
+        yield counter("guest_gone", "Guests that went, by the reason", gone, "reason")
+
+
+class Collector:
+    """Asks the host at each scrape. Where it doesn't answer, `bigvasta_up` is 0, and that is all."""
+
+    def __init__(self, path):
+        self.path = path
+
+    def collect(self):
+        """Yields all metrics."""
+        try:
+            with Connection(self.path) as host:
+                status = host.ask("status")
+        except Fault:
+            yield gauge("up", "Whether the host answers", [([], 0)])
+            return
+        yield gauge("up", "Whether the host answers", [([], 1)])
+        yield from host_metrics(status["host"])
+        yield from time_metrics(status["host"])
+        yield from guest_metrics(status["guests"])

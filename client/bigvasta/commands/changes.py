@@ -1,0 +1,45 @@
+"""`bigvasta add`, `remove`, `budget` and `floor`: what changes the host."""
+
+import json
+
+from bigvasta.connection import Connection
+from bigvasta.sizes import mebibytes, parse_size
+from bigvasta.terms import TERMS, parse_terms, said
+
+
+def ask(asked, request, fields, words):
+    """Asks the host, and prints its answer, or the words that are made of it."""
+    with Connection(asked.control) as host:
+        answer = host.ask(request, **fields)
+    print(json.dumps(answer) if asked.json else words(answer))
+
+
+def run_add(asked):
+    """Adds a guest, and prints where its client comes."""
+    ask(asked, "add", {"name": asked.name, **said(parse_terms(asked.words, TERMS))}, lambda it: it["guest"]["socket"])
+
+
+def run_remove(asked):
+    """Ends the service of a guest."""
+    ask(asked, "remove", {"name": asked.name}, lambda _: f"{asked.name} is removed")
+
+
+def run_size(asked):
+    """Prints the budget or the floor, or sets it."""
+    fields = {} if asked.size is None else {"bytes": parse_size(asked.size, asked.request)}
+    ask(asked, asked.request, fields, lambda it: f"{mebibytes(it[asked.request])} MiB")
+
+
+def add(commands, common):
+    """Adds the subcommands."""
+    words = commands.add_parser("add", parents=[common], help="a guest may come; prints its socket")
+    words.add_argument("name", metavar="NAME")
+    words.add_argument("words", metavar="KEY=VALUE", nargs="*", help="least=SIZE most=SIZE|none priority=N strict=yes|no")
+    words.set_defaults(run=run_add)
+    words = commands.add_parser("remove", parents=[common], help="ends the service of a guest")
+    words.add_argument("name", metavar="NAME")
+    words.set_defaults(run=run_remove)
+    for request, what in (("budget", "what the host is to hold at most"), ("floor", "what each guest keeps free")):
+        words = commands.add_parser(request, parents=[common], help=f"{what}; and sets it")
+        words.add_argument("size", metavar="SIZE", nargs="?", help="such as 480M")
+        words.set_defaults(run=run_size, request=request)

@@ -1,0 +1,44 @@
+"""`bigvasta guest`: one guest, and what is agreed with it."""
+
+import json
+
+from bigvasta.connection import Connection
+from bigvasta.sizes import mebibytes
+from bigvasta.waits import wait_of
+from bigvasta.terms import TARGET, TERMS, parse_terms, said
+
+SIZES = ("memory", "held", "loan", "excess", "target", "ballooned", "free", "available", "spare")
+
+
+def describe(guest):
+    """Yields the lines about a guest."""
+    terms = guest["terms"]
+    most = "none" if terms["most"] is None else f"{mebibytes(terms['most'])} MiB"
+    yield f"{guest['name']}: {guest['state']}, at {guest['socket']}"
+    for name in SIZES:
+        yield f"  {name:<10} {mebibytes(guest[name]):>8} MiB"
+    yield f"  {'least':<10} {mebibytes(terms['least']):>8} MiB"
+    yield f"  {'most':<10} {most:>12}"
+    yield f"  {'priority':<10} {terms['priority']:>8}"
+    yield f"  {'strict':<10} {'yes' if terms['strict'] else 'no':>8}"
+    if wait_of(guest):
+        yield f"  waits for  {wait_of(guest)}"
+
+
+def run(asked):
+    """Changes what is asked for, and prints the guest."""
+    fields = parse_terms(asked.words, TERMS | TARGET)
+    with Connection(asked.control) as host:
+        answer = host.ask("guest", name=asked.name, **said(fields))
+    print(json.dumps(answer) if asked.json else "\n".join(describe(answer["guest"])))
+
+
+def add(commands, common):
+    """Adds the subcommand."""
+    words = commands.add_parser(
+        "guest", parents=[common], help="a guest; and changes what is agreed with it",
+        description="Shows a guest. With words, changes what is agreed with it: all of them or, where the host refuses one, none.",
+    )
+    words.add_argument("name", metavar="NAME")
+    words.add_argument("words", metavar="KEY=VALUE", nargs="*", help="least=SIZE most=SIZE|none priority=N strict=yes|no target=SIZE")
+    words.set_defaults(run=run)

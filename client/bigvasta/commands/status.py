@@ -1,0 +1,53 @@
+"""`bigvasta status`: the host and its guests, once."""
+
+import json
+
+from bigvasta.connection import Connection
+from bigvasta.sizes import mebibytes
+from bigvasta.waits import wait_of
+
+COLUMNS = ("guest", "state", "memory", "held", "loan", "target", "balloon", "spare", "waits for")
+
+
+def row(guest):
+    """Returns the columns of a guest."""
+    sizes = (mebibytes(guest[it]) for it in ("memory", "held", "loan", "target", "ballooned", "spare"))
+    return (guest["name"], guest["state"], *sizes, wait_of(guest))
+
+
+def table(rows):
+    """Returns lines of columns: the first two and the last begin at the left, the others end at the right."""
+    widths = [max(len(it[number]) for it in rows) for number in range(len(COLUMNS))]
+    left = (0, 1, len(COLUMNS) - 1)
+
+    def cell(number, text):
+        return text.ljust(widths[number]) if number in left else text.rjust(widths[number])
+
+    return ["  ".join(cell(number, text) for number, text in enumerate(it)).rstrip() for it in rows]
+
+
+def summary(host):
+    """Returns the line about the host."""
+    parts = [f"{it} {mebibytes(host[it])}" for it in ("budget", "held", "lent", "missing")]
+    counts = [f"{host['guests']} guests"] + [f"{host[it]} {it}" for it in ("waiting", "silent", "uncooperative") if host[it]]
+    return f"{', '.join(parts)} MiB; {', '.join(counts)}"
+
+
+def run(asked):
+    """Prints the status."""
+    with Connection(asked.control) as host:
+        answer = host.ask("status")
+    if asked.json:
+        print(json.dumps(answer))
+    elif asked.names:
+        print("\n".join(it["name"] for it in answer["guests"]))
+    else:
+        print(summary(answer["host"]))
+        print("\n".join(table([COLUMNS, *map(row, answer["guests"])])))
+
+
+def add(commands, common):
+    """Adds the subcommand."""
+    words = commands.add_parser("status", parents=[common], help="the host and its guests, in MiB")
+    words.add_argument("--names", action="store_true", help="print the names of the guests alone, one a line")
+    words.set_defaults(run=run)

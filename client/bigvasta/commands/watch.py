@@ -1,0 +1,24 @@
+"""`bigvasta watch`: a live view of the host in the terminal."""
+
+from bigvasta.connection import Connection
+from bigvasta.statuses import Usage
+from bigvasta.watching import watch, watch_lines
+
+
+def run(asked):
+    """Shows the host until a key ends it."""
+    if not 0.1 <= asked.interval <= 60:
+        raise Usage(f"--interval: {asked.interval} isn't from 0.1 to 60 seconds")
+    with Connection(asked.control) as host:
+        watch_lines(host, asked.interval) if asked.json else watch(host, asked.interval)
+
+
+def add(commands, common):
+    """Adds the subcommand."""
+    words = commands.add_parser(
+        "watch", parents=[common], help="a live view in the terminal",
+        description="A bar for each guest: what it holds, what it could spare of that, its loan, what its target leaves it. Keys: q ends, "
+        "s sorts by name, held or waits, p pauses, the arrows move.",
+    )
+    words.add_argument("--interval", type=float, default=1.0, metavar="S", help="seconds between two looks (1)")
+    words.set_defaults(run=run)

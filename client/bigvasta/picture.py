@@ -1,0 +1,105 @@
+"""What `bigvasta watch` shows, as lines of a given width: made of a status alone, so that it is the same for each terminal."""
+
+from typing import NamedTuple
+
+from bigvasta.sizes import mebibytes
+from bigvasta.waits import wait_of
+
+# Characters of a bar: held and not to spare, held and to spare, lent and not held, neither; and what a target or a budget leaves.
+BLOCKS, PLAIN = "█▒░ │", "#=. |"
+
+LEAST_WIDTH, NAME_WIDTH, NUMBER_WIDTH = 60, 12, 7
+
+SORTS = ("name", "held", "waits")
+
+
+class Line(NamedTuple):
+    """A line, and how it is drawn: plain, a head, or a warning."""
+
+    text: str
+    kind: str = "plain"
+
+
+class Shown(NamedTuple):
+    """What the keys have chosen."""
+
+    sort: str = "name"
+    first: int = 0
+    paused: bool = False
+    blocks: str = BLOCKS
+
+
+def bar(parts, mark, width, blocks):
+    """Returns a bar of this width: each part is a share of it, in the order of the blocks; the mark is one, too, or None."""
+    text, at = "", 0.0
+    for share, block in zip(parts, blocks):
+        at += share
+        text += block * (round(min(at, 1) * width) - len(text))
+    text = text.ljust(width, blocks[3])
+    if mark is not None and 0 <= mark < 1:
+        place = min(round(mark * width), width - 1)
+        text = text[:place] + blocks[4] + text[place + 1 :]
+    return text
+
+
+def guest_bar(guest, scale, width, blocks):
+    """Returns the bar of a guest, as wide as its memory is of the largest guest's."""
+    own = max(1, round(width * guest["memory"] / scale)) if scale and guest["memory"] else 0
+    if own == 0:
+        return ""
+    memory, held = guest["memory"], min(guest["held"], guest["memory"])
+    spare = min(max(guest["spare"] - guest["ballooned"], 0), held)
+    parts = [(held - spare) / memory, spare / memory, max(min(guest["loan"], memory) - held, 0) / memory]
+    mark = (memory - guest["target"]) / memory if guest["target"] else None
+    return bar(parts, mark, own, blocks) + "]"
+
+
+def host_lines(host, guests, width, shown):
+    """Returns the lines about the host: the sums, and their bar with the budget."""
+    held, lent, budget = host["held"], host["lent"], host["budget"]
+    promised = sum(it["memory"] for it in guests)
+    scale = max(promised, budget, 1)
+    head = f"budget {mebibytes(budget)}  held {mebibytes(held)}  lent {mebibytes(lent)}  promised {mebibytes(promised)}"
+    missing = f"  missing {mebibytes(host['missing'])}" if host["missing"] else ""
+    kind = "warning" if held > budget or host["missing"] else "head"
+    yield Line(f"{head}{missing} MiB"[:width], kind)
+    parts = (held / scale, 0, max(lent - held, 0) / scale)
+    yield Line("[" + bar(parts, budget / scale, width - 2, shown.blocks) + "]", kind)
+
+
+def state_line(host, shown):
+    """Returns the line about who waits."""
+    names = [(host[it], it) for it in ("waiting", "silent", "uncooperative")]
+    parts = [f"{host['guests']} guests", *(f"{count} {name}" for count, name in names if count), f"by {shown.sort}"]
+    return Line(", ".join(parts) + (", paused" if shown.paused else ""), "warning" if host["waiting"] or host["uncooperative"] else "plain")
+
+
+def ordered(guests, sort):
+    """Returns the guests in the order that was chosen."""
+    keys = {"name": lambda it: it["name"], "held": lambda it: (-it["held"], it["name"]), "waits": lambda it: (-it["waits"], it["name"])}
+    return sorted(guests, key=keys[sort])
+
+
+def guest_line(guest, scale, width, shown):
+    """Returns the line of a guest: its numbers, its bar, and what it waits for."""
+    numbers = "".join(f"{mebibytes(guest[it]):>{NUMBER_WIDTH}}" for it in ("held", "loan", "target", "spare"))
+    wait = wait_of(guest) if guest["state"] != "absent" else "absent"
+    room = max(width - NAME_WIDTH - 4 * NUMBER_WIDTH - 18, 8)
+    text = f"{guest['name'][:NAME_WIDTH]:<{NAME_WIDTH}}{numbers}  {guest_bar(guest, scale, room - 1, shown.blocks):<{room}} {wait}"
+    return Line(text[:width].rstrip(), "warning" if wait and wait != "absent" else "plain")
+
+
+def picture(status, width, height, shown):
+    """Returns the lines of a screen."""
+    host, guests, room_across, width = status["host"], status["guests"], width, max(width, LEAST_WIDTH)
+    scale = max((it["memory"] for it in guests), default=0)
+    lines = [*host_lines(host, guests, width, shown), state_line(host, shown), Line("")]
+    head = f"{'guest':<{NAME_WIDTH}}" + "".join(f"{it:>{NUMBER_WIDTH}}" for it in ("held", "loan", "target", "spare"))
+    lines.append(Line(f"{head}  memory", "head"))
+    room = max(height - len(lines) - 2, 0)
+    chosen = ordered(guests, shown.sort)[shown.first : shown.first + room]
+    lines += [guest_line(it, scale, width, shown) for it in chosen]
+    lines += [Line("")] * (height - len(lines) - 1)
+    own, spare, lent, _, mark = shown.blocks
+    keys = f"{own} held  {spare} of it spare  {lent} lent  {mark} left by the target   q quit  s sort  p pause"
+    return [Line(it.text[:room_across], it.kind) for it in [*lines[: max(height - 1, 0)], Line(keys, "head")]]

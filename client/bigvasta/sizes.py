@@ -1,0 +1,28 @@
+"""Sizes of memory: as an operator writes them, and as columns show them."""
+
+import re
+
+from bigvasta.statuses import Usage
+
+PAGE, MIB = 4096, 1 << 20
+UNITS = {"K": 1 << 10, "M": 1 << 20, "G": 1 << 30, "T": 1 << 40}
+
+
+def parse_size(text, name="size"):
+    """Returns the bytes of a size such as 480M: a number with K, M, G or T, in whole pages."""
+    found = re.fullmatch(r"(\d{1,12})([KMGT])(?:iB)?", text, re.ASCII)
+    size = int(found[1]) * UNITS[found[2]] if found else -1
+    if not found or size % PAGE:
+        raise Usage(f"{name}: {text!r} is no size: a number with K, M, G or T, in pages of 4K, such as 480M")
+    return size
+
+
+def mebibytes(size):
+    """Returns bytes as a column shows them: whole MiB, or with a digit after the point below ten."""
+    value = size / MIB
+    return f"{value:.1f}" if 0 < value < 9.95 else f"{value:.0f}"
+
+
+def seconds(value):
+    """Returns seconds as a column shows them."""
+    return f"{value:.1f} s" if value < 100 else f"{value / 60:.0f} min" if value < 6000 else f"{value / 3600:.0f} h"

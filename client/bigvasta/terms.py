@@ -1,0 +1,47 @@
+"""What is agreed with a guest, as words `key=value` of a command line."""
+
+from bigvasta.sizes import parse_size
+from bigvasta.statuses import Usage
+
+MOST_PRIORITY = (1 << 32) - 1
+
+
+def limit(text, name):
+    """Returns a size, or that there is no limit."""
+    return "none" if text == "none" else parse_size(text, name)
+
+
+def priority(text, name):
+    """Returns a priority."""
+    if not (text.isascii() and text.isdecimal()) or int(text) > MOST_PRIORITY:
+        raise Usage(f"{name}: {text!r} is no whole number up to {MOST_PRIORITY}")
+    return int(text)
+
+
+def boolean(text, name):
+    """Returns whether a word says yes."""
+    if text not in ("yes", "no"):
+        raise Usage(f"{name}: {text!r} is neither yes nor no")
+    return text == "yes"
+
+
+TERMS = {"least": parse_size, "most": limit, "priority": priority, "strict": boolean}
+TARGET = {"target": parse_size}
+
+
+def parse_terms(words, known):
+    """Returns the fields that these words ask for."""
+    fields = {}
+    for word in words:
+        name, found, text = word.partition("=")
+        if not found or name not in known:
+            raise Usage(f"{word!r} is none of {', '.join(f'{it}=' for it in known)}")
+        if name in fields:
+            raise Usage(f"{name}= is said twice")
+        fields[name] = known[name](text, name)
+    return fields
+
+
+def said(fields):
+    """Returns fields as the protocol has them, where no limit is null."""
+    return {name: None if value == "none" else value for name, value in fields.items()}

@@ -1,0 +1,12 @@
+"""Who waits for memory, and who doesn't behave."""
+
+from bigvasta.sizes import seconds
+
+
+def wait_of(guest):
+    """Returns what a guest waits for, and how long it has; or what is amiss with it."""
+    if guest["waits_for"] != "nothing":
+        return f"{guest['waits_for']}, {seconds(guest['waits'])}"
+    if guest["state"] == "ready" and not guest["answers"]:
+        return "silent"
+    return "" if guest["cooperates"] else "uncooperative"

@@ -1,0 +1,98 @@
+#include "fields.h"
+
+#include "requests.h"
+
+#include <string.h>
+
+/* What each request has. */
+static const char *const common[] = {"version", "id", "request"};
+
+static bool is_common(const char *name)
+{
+    for (unsigned i = 0; i < sizeof common / sizeof common[0]; i++)
+        if (!strcmp(common[i], name))
+            return true;
+    return false;
+}
+
+static bool is_known(const char *name, const struct field *fields)
+{
+    for (unsigned i = 0; i < MOST_FIELDS && fields[i].name; i++)
+        if (!strcmp(fields[i].name, name))
+            return true;
+    return is_common(name);
+}
+
+static json_t *unknown_field(const json_t *request, const struct field *fields)
+{
+    const char *name;
+    json_t *value;
+    json_object_foreach((json_t *)request, name, value) {
+        if (!is_known(name, fields))
+            return request_refusal("unknown-field", name, "this request has no such field");
+    }
+    return NULL;
+}
+
+/* Whether a number is that of whole pages, as many as 32 bits count but the last number, which says that there is no limit. */
+static bool is_pages(const json_t *value)
+{
+    json_int_t bytes = json_integer_value(value);
+    return json_is_integer(value) && bytes >= 0 && bytes % PAGE_BYTES == 0 && bytes / PAGE_BYTES < UINT32_MAX;
+}
+
+static json_t *wrong_field(const json_t *value, const struct field *field)
+{
+    static const char pages[] = "a whole number of bytes in pages of 4096, up to 17592186036224";
+    uint64_t number = json_integer_value(value) < 0 ? UINT64_MAX : (uint64_t)json_integer_value(value);
+    switch (field->kind) {
+    case FIELD_NAME:
+        return json_is_string(value) ? NULL : request_refusal("bad-field", field->name, "a string");
+    case FIELD_BYTES:
+        return is_pages(value) ? NULL : request_refusal("bad-field", field->name, "%s", pages);
+    case FIELD_LIMIT:
+        return is_pages(value) || json_is_null(value) ? NULL : request_refusal("bad-field", field->name, "%s, or null", pages);
+    case FIELD_BOOLEAN:
+        return json_is_boolean(value) ? NULL : request_refusal("bad-field", field->name, "true or false");
+    default:
+        if (json_is_integer(value) && number >= field->least && number <= field->most)
+            return NULL;
+        return request_refusal("bad-field", field->name, "a whole number from %llu to %llu", (unsigned long long)field->least,
+                               (unsigned long long)field->most);
+    }
+}
+
+json_t *fields_refusal(const json_t *request, const struct field fields[MOST_FIELDS])
+{
+    json_t *refusal = unknown_field(request, fields);
+    for (unsigned i = 0; i < MOST_FIELDS && fields[i].name && !refusal; i++) {
+        const json_t *value = json_object_get(request, fields[i].name);
+        if (value)
+            refusal = wrong_field(value, &fields[i]);
+        else if (fields[i].needed)
+            refusal = request_refusal("missing-field", fields[i].name, "this request needs it");
+    }
+    return refusal;
+}
+
+bool field_is_there(const json_t *request, const char *name)
+{
+    return json_object_get(request, name) != NULL;
+}
+
+const char *field_name(const json_t *request, const char *name)
+{
+    return json_string_value(json_object_get(request, name));
+}
+
+uint32_t field_pages(const json_t *request, const char *name)
+{
+    const json_t *value = json_object_get(request, name);
+    return json_is_null(value) ? UINT32_MAX : (uint32_t)(json_integer_value(value) / PAGE_BYTES);
+}
+
+uint64_t field_number(const json_t *request, const char *name)
+{
+    const json_t *value = json_object_get(request, name);
+    return json_is_boolean(value) ? json_is_true(value) : (uint64_t)json_integer_value(value);
+}

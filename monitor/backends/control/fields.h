@@ -1,0 +1,31 @@
+/* The fields of a request: which there may be, and what may be in them. */
+#ifndef CONTROL_FIELDS_H
+#define CONTROL_FIELDS_H
+#include <jansson.h>
+#include <stdbool.h>
+#include <stdint.h>
+
+/* A name; bytes that are whole pages; the same or null, for no limit; a whole number; true or false. */
+enum field_kind { FIELD_NAME, FIELD_BYTES, FIELD_LIMIT, FIELD_NUMBER, FIELD_BOOLEAN };
+
+enum { MOST_FIELDS = 6, PAGE_BYTES = 4096 };
+
+struct field {
+    const char *name;           /* NULL: no field */
+    enum field_kind kind;
+    bool needed;
+    uint64_t least, most;       /* of a number */
+};
+
+/* NULL where a request has the fields that it needs, no unknown ones, and in each what may be there; else the answer that refuses it. */
+json_t *fields_refusal(const json_t *request, const struct field fields[MOST_FIELDS]);
+
+/* Whether a request has a field. */
+bool field_is_there(const json_t *request, const char *name);
+
+/* What is in a field that is there: a name; pages of FIELD_BYTES and FIELD_LIMIT, where null is UINT32_MAX; a number. */
+const char *field_name(const json_t *request, const char *name);
+uint32_t field_pages(const json_t *request, const char *name);
+uint64_t field_number(const json_t *request, const char *name);
+
+#endif

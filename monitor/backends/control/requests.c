@@ -1,0 +1,244 @@
+#include "requests.h"
+
+#include "answers.h"
+#include "events.h"
+#include "fields.h"
+
+#include "../host/view.h"
+
+#include <stdarg.h>
+#include <stdio.h>
+#include <string.h>
+
+/* Decisions of one answer, and bytes of what is said of a refusal. */
+enum { MOST_DECISIONS_OF_ANSWER = 16, MOST_WORDS = 256 };
+
+/* A request whose fields are right, and who asks. */
+struct asked {
+    struct control *control;
+    struct control_client *client;
+    struct host *host;
+    const json_t *fields;
+};
+
+struct kind {
+    const char *name;
+    json_t *(*answer)(const struct asked *asked);
+    struct field fields[MOST_FIELDS];
+};
+
+json_t *request_refusal(const char *code, const char *field, const char *format, ...)
+{
+    char words[MOST_WORDS];
+    va_list parts;
+    va_start(parts, format);
+    vsnprintf(words, sizeof words, format, parts);
+    va_end(parts);
+    json_t *text = json_string(words);
+    json_t *error = json_pack("{s:s, s:o}", "code", code, "text", text ? text : json_string("words that are no UTF-8"));
+    if (field)
+        json_object_set_new(error, "field", json_string(field));
+    return json_pack("{s:b, s:o}", "ok", 0, "error", error);
+}
+
+/* What a call of the host's answered: done, or why not. */
+static json_t *outcome(const char *fault)
+{
+    return fault ? request_refusal("refused", NULL, "%s", fault) : json_pack("{s:b}", "ok", 1);
+}
+
+static json_t *no_guest(const char *name)
+{
+    return request_refusal("no-guest", "name", "no guest is named %s", name);
+}
+
+static json_t *status(const struct asked *asked)
+{
+    return json_pack("{s:b, s:o, s:o}", "ok", 1, "host", answer_host(asked->control, asked->host), "guests",
+                     answer_guests(asked->host));
+}
+
+/* The terms that a request asks for, where the others stay as they are. */
+static struct guest_terms terms_of(const json_t *fields, struct guest_terms terms)
+{
+    if (field_is_there(fields, "least"))
+        terms.least = field_pages(fields, "least");
+    if (field_is_there(fields, "most"))
+        terms.most = field_pages(fields, "most");
+    if (field_is_there(fields, "priority"))
+        terms.priority = (uint32_t)field_number(fields, "priority");
+    if (field_is_there(fields, "strict"))
+        terms.strict = field_number(fields, "strict");
+    return terms;
+}
+
+static bool changes_terms(const json_t *fields)
+{
+    return field_is_there(fields, "least") || field_is_there(fields, "most") || field_is_there(fields, "priority")
+        || field_is_there(fields, "strict");
+}
+
+/* Changes what a request asks for of a guest; NULL, or why not: then the terms are as they were. */
+static const char *change(const struct asked *asked, const struct guest_view *guest)
+{
+    const json_t *fields = asked->fields;
+    struct guest_terms terms = terms_of(fields, guest->terms), before = guest->terms;
+    char name[64];
+    snprintf(name, sizeof name, "%s", guest->name);
+    if (terms.least > terms.most)
+        return "its least is more than its most";
+    const char *fault = changes_terms(fields) ? host_set_terms(asked->host, name, &terms) : NULL;
+    if (fault || !field_is_there(fields, "target"))
+        return fault;
+    fault = host_set_target(asked->host, name, field_pages(fields, "target"));
+    if (fault && changes_terms(fields))
+        host_set_terms(asked->host, name, &before);
+    return fault;
+}
+
+/* The guest of this number, after what was done to it. */
+static json_t *guest_answer(const struct asked *asked, int number)
+{
+    return json_pack("{s:b, s:o}", "ok", 1, "guest", answer_guest(asked->host, (unsigned)number));
+}
+
+static json_t *guest(const struct asked *asked)
+{
+    const char *name = field_name(asked->fields, "name");
+    int number = host_find(asked->host, name);
+    if (number < 0)
+        return no_guest(name);
+    struct guest_view view;
+    host_see_guest(asked->host, (unsigned)number, &view);
+    const char *fault = change(asked, &view);
+    return fault ? outcome(fault) : guest_answer(asked, number);
+}
+
+static json_t *add(const struct asked *asked)
+{
+    const char *name = field_name(asked->fields, "name");
+    struct guest_terms terms = terms_of(asked->fields, host_usual_terms(asked->host));
+    if (terms.least > terms.most)
+        return outcome("its least is more than its most");
+    if (host_find(asked->host, name) >= 0)
+        return request_refusal("guest-exists", "name", "a guest is named %s already", name);
+    const char *fault = host_add(asked->host, name, &terms);
+    return fault ? outcome(fault) : guest_answer(asked, host_find(asked->host, name));
+}
+
+static json_t *remove_guest(const struct asked *asked)
+{
+    const char *name = field_name(asked->fields, "name");
+    return host_find(asked->host, name) < 0 ? no_guest(name) : outcome(host_remove(asked->host, name));
+}
+
+/* Sets a number of pages of the host's where the request has one, and answers what it is then. */
+static json_t *host_pages(const struct asked *asked, const char *name, const char *(*set)(struct host *, uint32_t))
+{
+    const char *fault = field_is_there(asked->fields, "bytes") ? set(asked->host, field_pages(asked->fields, "bytes")) : NULL;
+    struct host_view view;
+    host_see(asked->host, &view);
+    uint64_t pages = !strcmp(name, "budget") ? view.budget : view.floor;
+    return fault ? outcome(fault) : json_pack("{s:b, s:I}", "ok", 1, name, (json_int_t)(pages * PAGE_BYTES));
+}
+
+static json_t *budget(const struct asked *asked)
+{
+    if (field_is_there(asked->fields, "bytes") && field_pages(asked->fields, "bytes") == 0)
+        return request_refusal("bad-field", "bytes", "a budget of one page or more");
+    return host_pages(asked, "budget", host_set_budget);
+}
+
+static json_t *set_floor(const struct asked *asked)
+{
+    return host_pages(asked, "floor", host_set_floor);
+}
+
+static json_t *decisions(const struct asked *asked)
+{
+    uint64_t limit = MOST_DECISIONS_OF_ANSWER;
+    if (field_is_there(asked->fields, "limit"))
+        limit = field_number(asked->fields, "limit");
+    return answer_log(asked->host, field_number(asked->fields, "since"), limit);
+}
+
+static json_t *follow(const struct asked *asked)
+{
+    asked->client->follows = true;
+    return json_pack("{s:b, s:I}", "ok", 1, "next", (json_int_t)events_next(asked->control));
+}
+
+#define TERMS                                                                                                                       \
+    {"least", FIELD_BYTES, .needed = false}, {"most", FIELD_LIMIT, .needed = false}, {"strict", FIELD_BOOLEAN, .needed = false},     \
+        {"priority", FIELD_NUMBER, .least = 0, .most = UINT32_MAX}
+
+static const struct kind kinds[] = {
+    {"status", status, {{0}}},
+    {"guest", guest, {{"name", FIELD_NAME, .needed = true}, TERMS, {"target", FIELD_BYTES, .needed = false}}},
+    {"add", add, {{"name", FIELD_NAME, .needed = true}, TERMS}},
+    {"remove", remove_guest, {{"name", FIELD_NAME, .needed = true}}},
+    {"budget", budget, {{"bytes", FIELD_BYTES, .needed = false}}},
+    {"floor", set_floor, {{"bytes", FIELD_BYTES, .needed = false}}},
+    {"log", decisions, {{"since", FIELD_NUMBER, .most = INT64_MAX}, {"limit", FIELD_NUMBER, .least = 1, .most = MOST_DECISIONS_OF_ANSWER}}},
+    {"events", follow, {{0}}},
+};
+
+/* Refuses a version that isn't spoken, and an id that is neither a string nor a whole number; else NULL. */
+static json_t *common_refusal(const json_t *fields)
+{
+    const json_t *version = json_object_get(fields, "version"), *id = json_object_get(fields, "id");
+    if (!version)
+        return request_refusal("missing-field", "version", "a request says the version of the protocol: %d", CONTROL_VERSION);
+    if (!json_is_integer(version) || json_integer_value(version) != CONTROL_VERSION)
+        return request_refusal("version", "version", "version %d is spoken, and no other", CONTROL_VERSION);
+    if (id && !json_is_string(id) && !json_is_integer(id))
+        return request_refusal("bad-field", "id", "a string or a whole number");
+    return NULL;
+}
+
+/* Answers an object. */
+static json_t *answer(struct asked *asked)
+{
+    json_t *refusal = common_refusal(asked->fields);
+    const json_t *name = json_object_get(asked->fields, "request");
+    if (!refusal && !name)
+        refusal = request_refusal("missing-field", "request", "a request says what is asked for");
+    if (!refusal && !json_is_string(name))
+        refusal = request_refusal("bad-field", "request", "a string");
+    for (unsigned i = 0; i < sizeof kinds / sizeof kinds[0] && !refusal; i++) {
+        if (strcmp(kinds[i].name, json_string_value(name)))
+            continue;
+        refusal = fields_refusal(asked->fields, kinds[i].fields);
+        return refusal ? refusal : kinds[i].answer(asked);
+    }
+    if (!refusal)
+        refusal = request_refusal("unknown-request", "request", "no request is named so");
+    return refusal;
+}
+
+json_t *request_headed(const json_t *fields, json_t *answer)
+{
+    json_t *id = json_object_get(fields, "id"), *whole = json_pack("{s:i}", "version", CONTROL_VERSION);
+    if (json_is_string(id) || json_is_integer(id))
+        json_object_set(whole, "id", id);
+    json_object_update(whole, answer);
+    json_decref(answer);
+    return whole;
+}
+
+json_t *request_answer(struct control *control, struct control_client *client, struct host *host, const char *line, size_t length)
+{
+    json_error_t fault;
+    json_t *fields = json_loadb(line, length, JSON_REJECT_DUPLICATES, &fault);
+    struct asked asked = {control, client, host, fields};
+    json_t *reply;
+    if (!fields)
+        reply = request_refusal("trash", NULL, "no JSON: column %d: %s", fault.column, fault.text);
+    else if (!json_is_object(fields))
+        reply = request_refusal("trash", NULL, "JSON, but no object");
+    else
+        reply = answer(&asked);
+    reply = request_headed(fields, reply);
+    json_decref(fields);
+    return reply;
+}

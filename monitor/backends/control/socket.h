@@ -1,0 +1,12 @@
+/* The sockets at which clients come. */
+#ifndef CONTROL_SOCKET_H
+#define CONTROL_SOCKET_H
+#include "control.h"
+
+/* Makes a listening socket with its mode and its group; -1 where it can't, with errno. */
+int socket_listen(const struct control_options *options);
+
+/* Removes the socket of an earlier host, and nothing else. */
+void socket_remove(const char *path);
+
+#endif

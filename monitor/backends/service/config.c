@@ -1,0 +1,205 @@
+#define _GNU_SOURCE
+#include "config.h"
+
+#include "config_words.h"
+
+#include "../guest/say.h"
+
+#include <errno.h>
+#include <ini.h>
+#include <stddef.h>
+#include <stdio.h>
+#include <stdlib.h>
+#include <string.h>
+
+/* Bytes of a line with its end, as the parser reads it; keys of a file that are remembered, so that none is said twice. */
+enum { MOST_LINE = 190, MOST_SAID = 512 };
+
+/* A file that is being read. */
+struct reader {
+    const char *path;
+    FILE *file;
+    struct config *config;
+    unsigned line;              /* of the last line that was read */
+    bool faulty;
+    unsigned count;
+    struct { const void *at; } said[MOST_SAID];
+};
+
+/* One key: where it belongs, what it holds, and where that goes in a configuration or in a guest of it. */
+struct key {
+    const char *section, *name;
+    enum word_kind kind;
+    size_t at;
+};
+
+static const struct key keys[] = {
+    {"host", "folder", WORD_PATH, offsetof(struct config, fixed.folder)},
+    {"host", "budget", WORD_SIZE, offsetof(struct config, budget)},
+    {"host", "floor", WORD_SIZE_OR_NONE, offsetof(struct config, floor)},
+    {"host", "period", WORD_MILLISECONDS, offsetof(struct config, fixed.period)},
+    {"control", "socket", WORD_PATH, offsetof(struct config, fixed.control)},
+    {"control", "mode", WORD_MODE, offsetof(struct config, fixed.mode)},
+    {"control", "group", WORD_GROUP, offsetof(struct config, fixed.group)},
+    {"log", "level", WORD_LEVEL, offsetof(struct config, level)},
+    {"log", "lines", WORD_NUMBER, offsetof(struct config, lines)},
+};
+
+static const struct key guest_keys[] = {
+    {"guest", "least", WORD_SIZE_OR_NONE, offsetof(struct config_guest, terms.least)},
+    {"guest", "most", WORD_SIZE, offsetof(struct config_guest, terms.most)},
+    {"guest", "priority", WORD_NUMBER, offsetof(struct config_guest, terms.priority)},
+    {"guest", "strict", WORD_BOOLEAN, offsetof(struct config_guest, terms.strict)},
+};
+
+static bool fault(struct reader *reader, const char *key, const char *words)
+{
+    reader->faulty = true;
+    complain("%s: line %u: %s%s%s", reader->path, reader->line, key, *key ? ": " : "", words);
+    return false;
+}
+
+/* The guest of a section `guest NAME`, which may be new; NULL, which is said, where it is none. */
+static struct config_guest *guest_of(struct reader *reader, const char *section)
+{
+    struct config *config = reader->config;
+    const char *name = section + strlen("guest ");
+    for (unsigned i = 0; i < config->count; i++)
+        if (!strcmp(config->guests[i].name, name))
+            return &config->guests[i];
+    if (!word_is_name(name))
+        return fault(reader, section, "a guest's name has 1 to 31 letters, digits, - and _"), NULL;
+    if (config->count == MOST_CONFIG_GUESTS)
+        return fault(reader, section, "there are as many guests as can be"), NULL;
+    struct config_guest *guest = &config->guests[config->count++];
+    *guest = (struct config_guest){.terms = {.most = UINT32_MAX}};
+    strcpy(guest->name, name);
+    return guest;
+}
+
+/* Notes that a key was said; false where it was said before. */
+static bool is_first(struct reader *reader, const void *at)
+{
+    for (unsigned i = 0; i < reader->count; i++)
+        if (reader->said[i].at == at)
+            return false;
+    if (reader->count < MOST_SAID)
+        reader->said[reader->count++].at = at;
+    return true;
+}
+
+static bool keep(struct reader *reader, const struct key *key, void *whole, const char *value)
+{
+    void *at = (char *)whole + key->at;
+    if (!is_first(reader, at))
+        return fault(reader, key->name, "it is said twice");
+    const char *wanted = word_read(key->kind, value, at);
+    return !wanted || fault(reader, key->name, wanted);
+}
+
+static const struct key *key_of(const struct key *table, size_t count, const char *section, const char *name)
+{
+    for (size_t i = 0; i < count; i++)
+        if (!strcmp(table[i].section, section) && !strcmp(table[i].name, name))
+            return &table[i];
+    return NULL;
+}
+
+#define COUNT(table) (sizeof(table) / sizeof(table)[0])
+
+/* One key of the file, as the parser hands it over. */
+static int take(void *context, const char *section, const char *name, const char *value)
+{
+    struct reader *reader = context;
+    bool of_guest = !strncmp(section, "guest ", strlen("guest "));
+    const struct key *key = of_guest ? key_of(guest_keys, COUNT(guest_keys), "guest", name) : key_of(keys, COUNT(keys), section, name);
+    if (!key) {
+        fault(reader, name, *section ? "this section has no such key" : "a key comes after its section");
+        return 1;
+    }
+    struct config_guest *guest = of_guest ? guest_of(reader, section) : NULL;
+    if (guest && !strcmp(name, "strict"))
+        guest->says_strict = true;
+    if (guest || !of_guest)
+        keep(reader, key, guest ? (void *)guest : reader->config, value);
+    return 1;
+}
+
+/* Whether a line is the beginning of a section that there can be. */
+static bool is_section(const char *line)
+{
+    static const char *const sections[] = {"[host]", "[control]", "[log]", "[guest "};
+    for (unsigned i = 0; i < COUNT(sections); i++)
+        if (!strncmp(line, sections[i], strlen(sections[i])))
+            return true;
+    return false;
+}
+
+/* Takes note of a section's first line: the parser hands over keys alone, and a guest may have none. */
+static void take_section(struct reader *reader, const char *line)
+{
+    char name[MOST_LINE];
+    if (!is_section(line))
+        fault(reader, "", "the sections are [host], [control], [log] and [guest NAME]");
+    else if (!strncmp(line, "[guest ", strlen("[guest ")) && sscanf(line, "[%187[^]]]", name) == 1)
+        guest_of(reader, name);
+}
+
+/* The next line for the parser, which doesn't count them itself. One that it can't take is a fault, and empty. */
+static char *next_line(char *bytes, int room, void *context)
+{
+    struct reader *reader = context;
+    char *line = NULL;
+    size_t size = 0;
+    ssize_t length = getline(&line, &size, reader->file);
+    bool whole = length >= 0 && length < room && length < MOST_LINE && strlen(line) == (size_t)length;
+    reader->line++;
+    if (length >= 0 && !whole)
+        fault(reader, "", "a line has 189 bytes at most, and none of them is 0");
+    else if (length >= 0 && line[0] == '[')
+        take_section(reader, line);
+    strcpy(bytes, whole ? line : "\n");
+    free(line);
+    return length < 0 ? NULL : bytes;
+}
+
+/* What no single key shows. */
+static void check_guests(struct reader *reader)
+{
+    for (unsigned i = 0; i < reader->config->count; i++) {
+        const struct config_guest *guest = &reader->config->guests[i];
+        if (guest->terms.least <= guest->terms.most)
+            continue;
+        reader->faulty = true;
+        complain("%s: guest %s: its least is more than its most", reader->path, guest->name);
+    }
+}
+
+bool config_read(const char *path, struct config *config)
+{
+    struct reader reader = {.path = path, .config = config, .file = fopen(path, "re")};
+    *config = (struct config){.budget = UINT32_MAX, .floor = UINT32_MAX, .lines = UINT32_MAX, .level = UINT32_MAX, .fixed.mode = 0660};
+    if (!reader.file) {
+        complain("%s: %s", path, strerror(errno));
+        return false;
+    }
+    int line = ini_parse_stream(next_line, &reader, take, &reader);
+    fclose(reader.file);
+    if (line > 0) {
+        reader.line = (unsigned)line;
+        fault(&reader, "", "neither a section, nor a key with its value, nor a comment");
+    }
+    check_guests(&reader);
+    return line == 0 && !reader.faulty;
+}
+
+bool config_stays(const struct config *old, const struct config *new, const char **key)
+{
+    const struct config_fixed *was = &old->fixed, *is = &new->fixed;
+    *key = strcmp(was->folder, is->folder) ? "folder"
+        : strcmp(was->control, is->control) ? "socket"
+        : strcmp(was->group, is->group) ? "group"
+        : was->mode != is->mode ? "mode"
+        : was->period != is->period ? "period" : NULL;
+    return !*key;
+}

@@ -1,0 +1,46 @@
+/* The configuration file of a host, in INI's format: what it says, and by line and key what it says wrongly. */
+#ifndef CONFIG_H
+#define CONFIG_H
+#include "../host/view.h"
+
+#include <sys/stat.h>
+
+/* Guests that a file names; bytes of a word with its end. */
+enum { MOST_CONFIG_GUESTS = 64, MOST_CONFIG_NAME = 32, MOST_CONFIG_WORD = 128 };
+
+/* A guest of the file. */
+struct config_guest {
+    char name[MOST_CONFIG_NAME];
+    struct guest_terms terms;
+    bool says_strict;           /* else it is as the host's guests are */
+};
+
+/* What stays as long as the host runs. */
+struct config_fixed {
+    char folder[MOST_CONFIG_WORD];      /* empty: not said */
+    char control[MOST_CONFIG_WORD];     /* the path of the control socket; empty: not said */
+    char group[MOST_CONFIG_WORD];       /* of the control socket; empty: not said */
+    uint32_t mode;                      /* of the control socket */
+    uint32_t period;                    /* milliseconds; 0: not said */
+};
+
+struct config {
+    struct config_fixed fixed;
+    uint32_t budget, floor;     /* pages; UINT32_MAX: not said */
+    uint32_t lines;             /* lines of a guest's in a second; UINT32_MAX: not said */
+    uint32_t level;             /* the least severe lines that are said, as syslog(3) numbers them; UINT32_MAX: not said */
+    unsigned count;
+    struct config_guest guests[MOST_CONFIG_GUESTS];
+};
+
+/* Reads a file into a configuration that says nothing yet; false where it can't be read or says something wrong, and each fault is a line
+ * of complain(): the file, the line, the key and what should be there. */
+bool config_read(const char *path, struct config *config);
+
+/* Whether two configurations agree in what stays; else the key of the first that differs is in `*key`. */
+bool config_stays(const struct config *old, const struct config *new, const char **key);
+
+/* The number of a level's word (error, warning, notice, info, debug); false where it is none. */
+bool config_level(const char *word, uint32_t *level);
+
+#endif

@@ -1,0 +1,105 @@
+#define _GNU_SOURCE
+#include "config_words.h"
+
+#include "config.h"
+
+#include "../guest/backend.h"
+
+#include <grp.h>
+#include <stdlib.h>
+
+enum { LEAST_PERIOD = 10, MOST_PERIOD = 60000 };
+
+bool word_is_name(const char *name)
+{
+    static const char letters[] = "abcdefghijklmnopqrstuvwxyzABCDEFGHIJKLMNOPQRSTUVWXYZ0123456789-_";
+    size_t length = strlen(name);
+    return length > 0 && length < MOST_CONFIG_NAME && strspn(name, letters) == length;
+}
+
+/* Reads a number with its unit as pages. */
+static bool read_size(const char *word, uint32_t least, uint32_t *pages)
+{
+    static const char units[] = "MGT";
+    char digits[MOST_CONFIG_WORD];
+    size_t length = strlen(word);
+    const char *unit = length > 0 && length < sizeof digits ? strchr(units, word[length - 1]) : NULL;
+    uint64_t number, each = UINT64_C(1) << (8 + 10 * (unit ? unit - units : 0));
+    if (!unit || !*unit)
+        return false;
+    memcpy(digits, word, length - 1);
+    digits[length - 1] = 0;
+    if (!read_number(digits, 10, (UINT32_MAX - 1) / each, &number) || number * each < least)
+        return false;
+    *pages = (uint32_t)(number * each);
+    return true;
+}
+
+static bool read_between(const char *word, uint64_t least, uint64_t most, uint32_t *number)
+{
+    uint64_t read;
+    if (!read_number(word, 10, most, &read) || read < least)
+        return false;
+    *number = (uint32_t)read;
+    return true;
+}
+
+static bool read_mode(const char *word, uint32_t *mode)
+{
+    size_t length = strlen(word);
+    if (length < 3 || length > 4 || strspn(word, "01234567") != length || (length == 4 && word[0] != '0'))
+        return false;
+    *mode = (uint32_t)strtoul(word, NULL, 8);
+    return true;
+}
+
+bool config_level(const char *word, uint32_t *level)
+{
+    static const char *const words[] = {"error", "warning", "notice", "info", "debug"};
+    enum { FIRST_LEVEL = 3 }; /* that of errors, of syslog(3) */
+    for (uint32_t i = 0; i < sizeof words / sizeof words[0]; i++)
+        if (!strcmp(words[i], word))
+            return *level = FIRST_LEVEL + i, true;
+    return false;
+}
+
+static bool read_boolean(const char *word, bool *value)
+{
+    bool is_yes = !strcmp(word, "yes"), is_no = !strcmp(word, "no");
+    if (is_yes || is_no)
+        *value = is_yes;
+    return is_yes || is_no;
+}
+
+static bool read_text(const char *word, bool good, char *text)
+{
+    size_t length = strlen(word);
+    if (!good || length == 0 || length >= MOST_CONFIG_WORD)
+        return false;
+    memcpy(text, word, length + 1);
+    return true;
+}
+
+const char *word_read(enum word_kind kind, const char *word, void *at)
+{
+    switch (kind) {
+    case WORD_PATH:
+        return read_text(word, word[0] == '/', at) ? NULL : "a path from / on, of 127 bytes at most";
+    case WORD_GROUP:
+        return read_text(word, getgrnam(word) != NULL, at) ? NULL : "a group of this machine";
+    case WORD_SIZE:
+        return read_size(word, 1, at) ? NULL : "a size of 1M or more: a number with M, G or T, under 16T";
+    case WORD_SIZE_OR_NONE:
+        return read_size(word, 0, at) ? NULL : "a size: a number with M, G or T, under 16T";
+    case WORD_NUMBER:
+        return read_between(word, 0, UINT32_MAX - 1, at) ? NULL : "a number up to 4294967294";
+    case WORD_MILLISECONDS:
+        return read_between(word, LEAST_PERIOD, MOST_PERIOD, at) ? NULL : "milliseconds, from 10 to 60000";
+    case WORD_MODE:
+        return read_mode(word, at) ? NULL : "an octal mode, as 0660";
+    case WORD_LEVEL:
+        return config_level(word, at) ? NULL : "error, warning, notice, info or debug";
+    default:
+        return read_boolean(word, at) ? NULL : "yes or no";
+    }
+}

@@ -1,0 +1,19 @@
+/* What may be after a key of the configuration file. */
+#ifndef CONFIG_WORDS_H
+#define CONFIG_WORDS_H
+#include <stdbool.h>
+#include <stdint.h>
+
+/* Each says what the word is, and what it is read into: WORD_PATH and WORD_GROUP into MOST_CONFIG_WORD bytes, WORD_BOOLEAN into a bool, the
+ * others into a uint32_t. Sizes are read as pages: a number of whole MiB with M, or of GiB or TiB with G or T. */
+enum word_kind {
+    WORD_PATH, WORD_GROUP, WORD_SIZE, WORD_SIZE_OR_NONE, WORD_NUMBER, WORD_MILLISECONDS, WORD_MODE, WORD_LEVEL, WORD_BOOLEAN
+};
+
+/* Reads a word; NULL, or what should be there: then nothing has changed. */
+const char *word_read(enum word_kind kind, const char *word, void *at);
+
+/* Whether a guest may have this name. */
+bool word_is_name(const char *name);
+
+#endif

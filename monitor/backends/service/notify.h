@@ -1,0 +1,21 @@
+/* What a service manager is told (sd_notify), and the sockets that it hands over. Without one, nothing happens. */
+#ifndef NOTIFY_H
+#define NOTIFY_H
+#include <stdint.h>
+
+/* Milliseconds after which the service manager wants a word (half of its watchdog's time); 0: it wants none. */
+int64_t notify_every(void);
+
+/* It is ready; it reads its configuration anew; it ends; a word for its watchdog, with a line about what there is. */
+void notify_ready(void);
+void notify_reloads(void);
+void notify_ends(void);
+void notify_lives(const char *status);
+
+/* Keeps a socket for the next process of this service, by a name. */
+void notify_keep(const char *name, int file);
+
+/* A listening socket of this name, that was handed over by the service manager or kept by the process before; -1: none. */
+int notify_socket(const char *name);
+
+#endif

@@ -1,0 +1,204 @@
+#define _GNU_SOURCE
+#include "service.h"
+
+#include "config_words.h"
+#include "notify.h"
+
+#include "../guest/levels.h"
+#include "../guest/process.h"
+#include "../guest/say.h"
+#include "../host/extra.h"
+
+#include <errno.h>
+#include <grp.h>
+#include <inttypes.h>
+#include <stdio.h>
+#include <stdlib.h>
+#include <string.h>
+#include <unistd.h>
+
+/* Milliseconds between two looks for what followers of events are told; and between two words for the service manager's status at most. */
+enum { LOOK_EVERY = 100, STATUS_EVERY = 5000 };
+
+enum { CONTROL, HANGUP, SERVICE_FILES };
+
+static const char socket_name[] = ".control";
+
+void service_defaults(struct service *service)
+{
+    *service = (struct service){.hangup = -1, .control = {.listener = -1, .waits = -1},
+                                .control_options = {.mode = 0660, .group = (gid_t)-1, .listener = -1}};
+    service->config.budget = service->config.floor = service->config.lines = service->config.level = UINT32_MAX;
+}
+
+/* The number of a group; false where there is none of that name. */
+static bool group_of(const char *name, gid_t *group)
+{
+    const struct group *found = getgrnam(name);
+    if (found)
+        *group = found->gr_gid;
+    return found;
+}
+
+/* What the file says of the control socket and of what is said. */
+static void take_config(struct service *service)
+{
+    const struct config *config = &service->config;
+    if (config->fixed.control[0])
+        strcpy(service->path, config->fixed.control);
+    if (config->fixed.group[0])
+        group_of(config->fixed.group, &service->control_options.group);
+    service->control_options.mode = config->fixed.mode;
+    if (config->lines != UINT32_MAX)
+        most_lines = config->lines;
+    if (config->level != UINT32_MAX)
+        say_level((int)config->level);
+}
+
+int service_option(struct service *service, const char *name, const char *word)
+{
+    uint32_t mode, level;
+    if (!strcmp(name, "--config")) {
+        service->file = word;
+        if (!config_read(word, &service->config))
+            return 0;
+        take_config(service);
+        return 1;
+    }
+    if (!strcmp(name, "--control"))
+        return !word_read(WORD_PATH, word, service->path);
+    if (!strcmp(name, "--control-group"))
+        return group_of(word, &service->control_options.group);
+    if (!strcmp(name, "--control-mode")) {
+        bool read = !word_read(WORD_MODE, word, &mode);
+        service->control_options.mode = read ? mode : service->control_options.mode;
+        return read;
+    }
+    if (strcmp(name, "--log-level"))
+        return -1;
+    bool read = config_level(word, &level);
+    if (read)
+        say_level((int)level);
+    return read;
+}
+
+/* The terms that a guest of the file has on this host. */
+static struct guest_terms terms_of(const struct config_guest *guest, const struct host *host)
+{
+    struct guest_terms terms = guest->terms;
+    if (!guest->says_strict)
+        terms.strict = host_usual_terms(host).strict;
+    return terms;
+}
+
+/* Adds the guests of the file that the host hasn't, and gives the others their terms. A guest that the file doesn't name stays. */
+static bool apply_guests(const struct config *config, struct host *host)
+{
+    bool good = true;
+    for (unsigned i = 0; i < config->count; i++) {
+        const struct config_guest *guest = &config->guests[i];
+        struct guest_terms terms = terms_of(guest, host);
+        const char *fault = host_find(host, guest->name) < 0 ? host_add(host, guest->name, &terms)
+                                                             : host_set_terms(host, guest->name, &terms);
+        if (fault)
+            complain("guest %s: %s", guest->name, fault);
+        good &= !fault;
+    }
+    return good;
+}
+
+/* Reads the configuration anew; where it is wrong, the old one stays. */
+static void reload(struct service *service, struct host *host)
+{
+    static struct config config;
+    const char *key;
+    notify_reloads();
+    if (!config_read(service->file, &config))
+        complain("%s: the old configuration stays", service->file);
+    else if (!config_stays(&service->config, &config, &key))
+        complain("%s: %s can't change while the host runs: the old configuration stays", service->file, key);
+    else {
+        service->config = config;
+        take_config(service);
+        if (config.budget != UINT32_MAX)
+            host_set_budget(host, config.budget);
+        if (config.floor != UINT32_MAX)
+            host_set_floor(host, config.floor);
+        apply_guests(&config, host);
+        complain("%s: read anew", service->file);
+    }
+    notify_ready();
+}
+
+/* A word for the service manager. */
+static void tell_manager(struct service *service, const struct host *host)
+{
+    char status[128];
+    struct host_view view;
+    host_see(host, &view);
+    snprintf(status, sizeof status, "%u guests, %" PRIu64 " of %" PRIu32 " MiB held, %u wait", view.guests, view.held_kib / 1024,
+             view.budget / 256, view.waiting);
+    notify_lives(status);
+    service->word = host_now() + service->every;
+}
+
+static unsigned files(void *context, struct pollfd *files, unsigned room)
+{
+    const struct service *service = context;
+    (void)room;
+    files[CONTROL] = (struct pollfd){service->control.waits, POLLIN, 0};
+    files[HANGUP] = (struct pollfd){service->hangup, POLLIN, 0};
+    return SERVICE_FILES;
+}
+
+static void serve(void *context, struct host *host, const struct pollfd *files, unsigned count)
+{
+    struct service *service = context;
+    (void)count;
+    if (files[CONTROL].revents)
+        control_serve(&service->control, host);
+    if (files[HANGUP].revents && process_took_reload(service->hangup))
+        reload(service, host);
+    if (host_now() >= service->look) {
+        control_look(&service->control, host);
+        service->look = host_now() + LOOK_EVERY;
+    }
+    if (service->every > 0 && host_now() >= service->word)
+        tell_manager(service, host);
+}
+
+static int64_t next(void *context)
+{
+    const struct service *service = context;
+    return service->every > 0 && service->word < service->look ? service->word : service->look;
+}
+
+bool service_begin(struct service *service, struct host *host, const char *folder)
+{
+    struct control_options *options = &service->control_options;
+    if (!service->path[0] && snprintf(service->path, sizeof service->path, "%s/%s", folder, socket_name) >= (int)sizeof service->path) {
+        complain("%s/%s: %s", folder, socket_name, strerror(ENAMETOOLONG));
+        return false;
+    }
+    options->path = service->path;
+    options->listener = notify_socket("control");
+    options->stays = getenv("NOTIFY_SOCKET") != NULL;
+    service->hangup = service->file ? process_reload() : -1;
+    if ((service->file && service->hangup < 0) || !control_open(&service->control, options) || !apply_guests(&service->config, host))
+        return false;
+    notify_keep("control", service->control.listener);
+    int64_t wanted = notify_every();
+    service->every = wanted > 0 && wanted < STATUS_EVERY ? wanted : getenv("NOTIFY_SOCKET") ? STATUS_EVERY : 0;
+    if (!host_add_extra(host, (struct host_extra){service, files, serve, next}))
+        return false;
+    notify_ready();
+    return true;
+}
+
+void service_end(struct service *service)
+{
+    notify_ends();
+    control_close(&service->control);
+    if (service->hangup >= 0)
+        file_close(service->hangup);
+}

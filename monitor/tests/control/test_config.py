@@ -1,0 +1,174 @@
+"""The configuration file of a host: what it says is done, each key that is wrong is named with its line, and then the old one stays."""
+
+import os
+import signal
+
+import pytest
+from conftest import Host, eventually, limit_from_now
+
+MIB = 1 << 20
+
+GOOD = """# A host of 480 MiB.
+[host]
+folder = {folder}
+budget = 480M
+floor = 8M          ; for each guest
+period = 100
+
+[control]
+socket = {folder}/.control
+mode = 0600
+group = {group}
+
+[log]
+level = info
+lines = 2000
+
+[guest web-1]
+
+[guest web-2]
+"""
+
+# A key's line in that file, and what is in its place; then what is said of it, after the file's name.
+SIZE = "a number with M, G or T, under 16T"
+WRONG = (
+    ("folder = {folder}", "folder = relative", "line 3: folder: a path from / on, of 127 bytes at most"),
+    ("folder = {folder}", "folder = /" + "x" * 127, "line 3: folder: a path from / on, of 127 bytes at most"),
+    ("folder = {folder}", "folder =", "line 3: folder: a path from / on, of 127 bytes at most"),
+    ("budget = 480M", "budget = 480", f"line 4: budget: a size of 1M or more: {SIZE}"),
+    ("budget = 480M", "budget = 0M", f"line 4: budget: a size of 1M or more: {SIZE}"),
+    ("budget = 480M", "budget = 16T", f"line 4: budget: a size of 1M or more: {SIZE}"),
+    ("budget = 480M", "budget = -1M", f"line 4: budget: a size of 1M or more: {SIZE}"),
+    ("budget = 480M", "budget = M", f"line 4: budget: a size of 1M or more: {SIZE}"),
+    ("budget = 480M", "budget = 4 M", f"line 4: budget: a size of 1M or more: {SIZE}"),
+    ("floor = 8M", "floor = 8k", f"line 5: floor: a size: {SIZE}"),
+    ("period = 100", "period = 9", "line 6: period: milliseconds, from 10 to 60000"),
+    ("period = 100", "period = 60001", "line 6: period: milliseconds, from 10 to 60000"),
+    ("socket = {folder}/.control", "socket = .control", "line 9: socket: a path from / on, of 127 bytes at most"),
+    ("mode = 0600", "mode = 999", "line 10: mode: an octal mode, as 0660"),
+    ("mode = 0600", "mode = 1777", "line 10: mode: an octal mode, as 0660"),
+    ("group = {group}", "group = no-such-group", "line 11: group: a group of this machine"),
+    ("level = info", "level = loud", "line 14: level: error, warning, notice, info or debug"),
+    ("lines = 2000", "lines = 4294967295", "line 15: lines: a number up to 4294967294"),
+    ("lines = 2000", "lines = x", "line 15: lines: a number up to 4294967294"),
+    ("lines = 2000", "lines = 2000\nlines = 21", "line 16: lines: it is said twice"),
+    ("[guest web-1]", "[guest web-1]\nleast = 5", f"line 18: least: a size: {SIZE}"),
+    ("[guest web-1]", "[guest web-1]\nmost = 0M", f"line 18: most: a size of 1M or more: {SIZE}"),
+    ("[guest web-1]", "[guest web-1]\npriority = high", "line 18: priority: a number up to 4294967294"),
+    ("[guest web-1]", "[guest web-1]\nstrict = true", "line 18: strict: yes or no"),
+    ("[guest web-1]", "[guest web-1]\ncolour = red", "line 18: colour: this section has no such key"),
+    ("[guest web-1]", "[guest web-1]\nleast = 9M\nmost = 8M", "guest web-1: its least is more than its most"),
+    ("[guest web-1]", "[guest web.1]\nleast = 9M", "line 17: guest web.1: a guest's name has 1 to 31 letters, digits, - and _"),
+    ("[host]", "[hosts]", "line 2: the sections are [host], [control], [log] and [guest NAME]"),
+    ("[host]", "", "line 3: folder: a key comes after its section"),
+    ("[host]", "[host", "line 2: the sections are [host], [control], [log] and [guest NAME]"),
+    ("period = 100", "perid = 100", "line 6: perid: this section has no such key"),
+    ("period = 100", "mode = 0600", "line 6: mode: this section has no such key"),
+    ("period = 100", "words without a key", "line 6: neither a section, nor a key with its value, nor a comment"),
+    ("period = 100", "x = " + "y" * 190, "line 6: a line has 189 bytes at most, and none of them is 0"),
+    ("period = 100", "period = 1\0", "line 6: a line has 189 bytes at most, and none of them is 0"),
+)
+
+# What can't change while the host runs, and the key that is named.
+FIXED = (
+    ("folder = {folder}", "folder = /var/tmp", "folder"),
+    ("period = 100", "period = 200", "period"),
+    ("socket = {folder}/.control", "socket = {folder}/.other", "socket"),
+    ("mode = 0600", "mode = 0660", "mode"),
+)
+
+
+def group_name():
+    """Returns the name of this process's group."""
+    import grp
+
+    return grp.getgrgid(os.getgid()).gr_name
+
+
+def filled(folder, old="", new=""):
+    """Returns the good file with one line changed."""
+    assert not old or GOOD.count(old) == 1, old
+    return GOOD.replace(old, new, 1).format(folder=folder, group=group_name()) if old else GOOD.format(folder=folder, group=group_name())
+
+
+@pytest.fixture
+def file(folder):
+    """The good file."""
+    path = folder / "host.conf"
+    path.write_text(filled(folder))
+    return path
+
+
+@pytest.fixture
+def configured(program, folder, file):
+    """A host that was started by the file alone."""
+    it = Host(program, folder, "--config", str(file))
+    it.lines.next(limit_from_now())
+    yield it
+    assert it.end() == 0, it.said()
+
+
+def test_what_the_file_says_is_done(configured, folder):
+    host = configured.status()
+    assert [host[it] for it in ("folder", "budget", "floor", "period", "guests")] == [str(folder), 480 * MIB, 8 * MIB, 0.1, 2]
+    assert [it["name"] for it in configured.ask("status")["guests"]] == ["web-1", "web-2"]
+    assert os.stat(configured.control).st_mode & 0o777 == 0o600
+
+
+def test_the_command_line_is_before_the_file(program, folder, file):
+    it = Host(program, folder, "--config", str(file), "--budget", "100", "--floor", "1", "--control-mode", "0640")
+    it.lines.next(limit_from_now())
+    assert [it.status()[name] for name in ("budget", "floor")] == [100 * MIB, MIB]
+    assert os.stat(it.control).st_mode & 0o777 == 0o640
+    assert it.end() == 0
+
+
+@pytest.mark.parametrize("old, new, said", WRONG)
+def test_a_host_does_not_start_by_a_wrong_file(program, folder, file, old, new, said):
+    file.write_text(filled(folder, old, new))
+    it = Host(program, folder, "--config", str(file))
+    assert it.process.wait(10) == 2
+    assert f"{file}: {said}" in it.said(), it.said()
+    it.end()
+
+
+def test_a_file_that_is_not_there(program, folder):
+    it = Host(program, folder, "--config", f"{folder}/none.conf")
+    assert it.process.wait(10) == 2
+    assert it.said()[0] == f"{folder}/none.conf: No such file or directory"
+    it.end()
+
+
+def test_the_old_configuration_stays_where_the_new_one_is_wrong(configured, folder, file):
+    before = configured.ask("status")
+    for old, new, said in WRONG:
+        file.write_text(filled(folder, old, new))
+        count = len(configured.said())
+        configured.process.send_signal(signal.SIGHUP)
+        eventually(lambda: f"{file}: the old configuration stays" in configured.said()[count:], lambda: (old, new, configured.said()[count:]))
+        assert f"{file}: {said}" in configured.said()[count:], configured.said()[count:]
+    after = configured.ask("status")
+    for it in before, after:
+        del it["host"]["control"], it["host"]["counters"]
+    assert after == before
+
+
+@pytest.mark.parametrize("old, new, key", FIXED)
+def test_what_cannot_change_while_the_host_runs(configured, folder, file, old, new, key):
+    file.write_text(filled(folder, old, new).replace("480M", "400M"))
+    configured.process.send_signal(signal.SIGHUP)
+    eventually(lambda: f"{file}: {key} can't change while the host runs: the old configuration stays" in configured.said())
+    assert configured.status()["budget"] == 480 * MIB
+
+
+def test_a_file_that_is_read_anew(configured, folder, file):
+    file.write_text(filled(folder, "[guest web-2]", "[guest web-3]").replace("480M", "400M").replace("floor = 8M", "floor = 0M"))
+    configured.process.send_signal(signal.SIGHUP)
+    eventually(lambda: configured.status()["budget"] == 400 * MIB)
+    # A guest that the file doesn't name any longer stays: a reload ends nobody's service.
+    assert [it["name"] for it in configured.ask("status")["guests"]] == ["web-1", "web-2", "web-3"]
+    assert configured.status()["floor"] == 0
+
+
+def test_a_host_without_a_file_ends_by_a_hangup(host):
+    assert host.end(signal.SIGHUP) == 0

@@ -1,0 +1,343 @@
+"""The control socket of a host: what each request is answered, what each wrong one is refused by, and that nobody is waited for."""
+
+import json
+import os
+import socket
+import stat
+import time
+
+import pytest
+from bigvasta.connection import Connection
+from bigvasta.statuses import Refused
+from conftest import Host, eventually, limit_from_now
+
+MIB, PAGE = 1 << 20, 4096
+PAGES = "a whole number of bytes in pages of 4096, up to 17592186036224"
+
+
+def say(**fields):
+    """Returns a request as a line."""
+    return json.dumps({"version": 1, **fields}).encode()
+
+
+# A line, and the code, the field and the words by which it is refused.
+WRONG = (
+    (b"", "trash", None, "no JSON: column 0: '[' or '{' expected near end of file"),
+    (b"status", "trash", None, "no JSON: column 6: '[' or '{' expected near 'status'"),
+    (b'{"version": 1', "trash", None, "no JSON: column 13: '}' expected near end of file"),
+    (b'{"version": 1} {}', "trash", None, "no JSON: column 16: end of file expected near '{'"),
+    (b'{"version": 1, "version": 1}', "trash", None, "no JSON: column 24: duplicate object key near '\"version\"'"),
+    (b"[1]", "trash", None, "JSON, but no object"),
+    (b"\xff\xfe", "trash", None, "no JSON: column 0: unable to decode byte 0xff"),
+    (b"\0", "trash", None, "no JSON: column 1: '[' or '{' expected near end of file"),
+    (b"[" * 3000, "trash", None, "no JSON: column 2049: maximum parsing depth reached near '['"),
+    (b'{"request": "status"}', "missing-field", "version", "a request says the version of the protocol: 1"),
+    (b'{"version": 2, "request": "status"}', "version", "version", "version 1 is spoken, and no other"),
+    (b'{"version": 1.0, "request": "status"}', "version", "version", "version 1 is spoken, and no other"),
+    (b'{"version": true, "request": "status"}', "version", "version", "version 1 is spoken, and no other"),
+    (say(), "missing-field", "request", "a request says what is asked for"),
+    (say(request=1), "bad-field", "request", "a string"),
+    (say(request=""), "unknown-request", "request", "no request is named so"),
+    (say(request="Status"), "unknown-request", "request", "no request is named so"),
+    (say(request="status", id=None), "bad-field", "id", "a string or a whole number"),
+    (say(request="status", id=1.5), "bad-field", "id", "a string or a whole number"),
+    (say(request="status", name="a"), "unknown-field", "name", "this request has no such field"),
+    (say(request="guest"), "missing-field", "name", "this request needs it"),
+    (say(request="guest", name=5), "bad-field", "name", "a string"),
+    (say(request="guest", name="b"), "no-guest", "name", "no guest is named b"),
+    (say(request="guest", name="a", targt=0), "unknown-field", "targt", "this request has no such field"),
+    (say(request="guest", name="a", target=1), "bad-field", "target", PAGES),
+    (say(request="guest", name="a", target=-PAGE), "bad-field", "target", PAGES),
+    (say(request="guest", name="a", target=1.0), "bad-field", "target", PAGES),
+    (say(request="guest", name="a", target="4096"), "bad-field", "target", PAGES),
+    (say(request="guest", name="a", target=None), "bad-field", "target", PAGES),
+    (say(request="guest", name="a", least=PAGE * 0xFFFFFFFF), "bad-field", "least", PAGES),
+    (say(request="guest", name="a", most=2**63), "trash", None, "too big integer"),
+    (say(request="guest", name="a", most=False), "bad-field", "most", f"{PAGES}, or null"),
+    (say(request="guest", name="a", priority=2**32), "bad-field", "priority", "a whole number from 0 to 4294967295"),
+    (say(request="guest", name="a", priority=-1), "bad-field", "priority", "a whole number from 0 to 4294967295"),
+    (say(request="guest", name="a", strict=1), "bad-field", "strict", "true or false"),
+    (say(request="guest", name="a", target=0), "refused", None, "nobody is there"),
+    (say(request="guest", name="a", least=2 * PAGE, most=PAGE), "refused", None, "its least is more than its most"),
+    (say(request="add", name="a"), "guest-exists", "name", "a guest is named a already"),
+    (say(request="add", name="a/b"), "refused", None, "a name has 1 to 31 letters, digits, - and _, and no other guest has it"),
+    (say(request="add", name="." * 2), "refused", None, "a name has 1 to 31 letters, digits, - and _, and no other guest has it"),
+    (say(request="add", name="x" * 32), "refused", None, "a name has 1 to 31 letters, digits, - and _, and no other guest has it"),
+    (say(request="add", name=""), "refused", None, "a name has 1 to 31 letters, digits, - and _, and no other guest has it"),
+    (say(request="remove", name="b"), "no-guest", "name", "no guest is named b"),
+    (say(request="budget", bytes=0), "bad-field", "bytes", "a budget of one page or more"),
+    (say(request="budget", bytes=PAGE + 1), "bad-field", "bytes", PAGES),
+    (say(request="log", since=-1), "bad-field", "since", "a whole number from 0 to 9223372036854775807"),
+    (say(request="log", limit=0), "bad-field", "limit", "a whole number from 1 to 16"),
+    (say(request="log", limit=17), "bad-field", "limit", "a whole number from 1 to 16"),
+    (say(request="events", since=0), "unknown-field", "since", "this request has no such field"),
+)
+
+
+class Raw:
+    """A client that sends whatever bytes it likes."""
+
+    def __init__(self, host):
+        self.socket = socket.socket(socket.AF_UNIX)
+        self.socket.settimeout(10)
+        self.socket.connect(host.control)
+        self.lines = self.socket.makefile("rb")
+
+    def answer(self, line):
+        """Sends a line; returns its answer."""
+        self.socket.sendall(line + b"\n")
+        return json.loads(self.lines.readline())
+
+    def close(self):
+        """Goes."""
+        self.lines.close(), self.socket.close()
+
+
+@pytest.fixture
+def raw(host):
+    it = Raw(host)
+    yield it
+    it.close()
+
+
+def test_each_wrong_line_is_refused_by_its_words_and_changes_nothing(host, raw):
+    host.ask("add", name="a")
+    before = host.ask("status")
+    for line, code, field, text in WRONG:
+        answer = raw.answer(line)
+        error = answer["error"]
+        assert (answer["version"], answer["ok"], error["code"], error.get("field")) == (1, False, code, field), (line, answer)
+        assert error["text"].startswith(text) or (code == "trash" and text in error["text"]), (line, error)
+    after = host.ask("status")
+    assert after["host"]["control"]["refused"] - before["host"]["control"]["refused"] == len(WRONG)
+    for it in before, after:
+        del it["host"]["control"], it["host"]["counters"]["looks"]
+    assert after == before
+
+
+def test_an_answer_repeats_its_id_and_answers_are_in_order(raw):
+    ids = [0, -5, 2**62, "", "x", "é" * 100]
+    raw.socket.sendall(b"".join(say(request="budget", id=it) + b"\n" for it in ids))
+    assert [json.loads(raw.lines.readline())["id"] for _ in ids] == ids
+    assert "id" not in raw.answer(say(request="budget"))
+    assert raw.answer(say(request="nope", id=7))["id"] == 7
+
+
+def test_lines_in_parts(raw):
+    for byte in say(request="budget") + b"\n":
+        raw.socket.sendall(bytes([byte]))
+    assert json.loads(raw.lines.readline())["budget"] == 480 * MIB
+
+
+def test_a_line_of_the_most_bytes_and_one_more(host, raw):
+    line = say(request="budget", id="x")
+    assert raw.answer(line + b" " * (4095 - len(line)))["ok"]
+    raw.socket.sendall(b"x" * 4096)
+    assert json.loads(raw.lines.readline())["error"] == {"code": "too-long", "text": "a request has at most 4096 bytes with its end of line"}
+    assert raw.lines.readline() == b""
+    assert host.status()["control"]["clients"] == 1
+
+
+def test_who_ends_what_it_sends_is_answered_and_then_closed(raw):
+    raw.socket.sendall((say(request="budget") + b"\n") * 70 + b"half a line")
+    raw.socket.shutdown(socket.SHUT_WR)
+    assert [json.loads(it)["budget"] for it in raw.lines] == [480 * MIB] * 70
+
+
+def test_sizes_set_and_asked_for(host):
+    assert host.ask("budget", bytes=500 * MIB)["budget"] == 500 * MIB == host.ask("budget")["budget"] == host.status()["budget"]
+    assert host.ask("floor", bytes=3 * PAGE)["floor"] == 3 * PAGE == host.status()["floor"]
+    assert host.ask("floor", bytes=0)["floor"] == 0
+
+
+def test_a_guest_comes_is_changed_and_goes(host, arrive):
+    guest = arrive("web-1")
+    ready = eventually(lambda: host.guest("web-1")["answers"] and host.guest("web-1"))
+    assert (ready["state"], ready["memory"], ready["held"], ready["free"]) == ("ready", 128 * PAGE, 128 * PAGE, 60 * PAGE)
+    assert ready["socket"] == f"{host.folder}/web-1"
+    host.ask("floor", bytes=0)
+    assert host.ask("guest", name="web-1", target=5 * PAGE)["guest"]["target"] == 5 * PAGE
+    guest.leave()
+    eventually(lambda: host.guest("web-1")["state"] == "absent")
+    host.ask("remove", name="web-1")
+    assert not os.path.exists(f"{host.folder}/web-1")
+    with pytest.raises(Refused, match="no guest is named web-1"):
+        host.guest("web-1")
+
+
+def test_decisions_by_their_numbers(host, arrive):
+    arrive("a"), arrive("b")
+    eventually(lambda: all(host.guest(it)["answers"] for it in "ab"))
+    host.ask("floor", bytes=0)
+    host.ask("budget", bytes=156 * PAGE)
+    eventually(lambda: [host.guest(it)["target"] for it in "ab"] == [60 * PAGE, 40 * PAGE])
+    log = host.ask("log", since=0)
+    last = next(it for it in log["decisions"] if it["budget"] == 156 * PAGE)
+    assert (last["reason"], last["floor"], last["missing"]) == ("budget", 0, 0)
+    assert last["shares"] == [
+        {"guest": name, "memory": 128 * PAGE, "spare": 60 * PAGE, "old": 0, "target": target * PAGE} for name, target in (("a", 60), ("b", 40))
+    ]
+    assert [it["number"] for it in log["decisions"]] == list(range(log["next"]))
+    assert host.ask("log", since=log["next"] - 1, limit=1)["decisions"] == log["decisions"][-1:]
+    assert host.ask("log", since=10**15) == {"version": 1, "ok": True, "decisions": [], "next": log["next"], "lost": 0}
+
+
+def test_decisions_that_are_lost_are_counted(host):
+    for it in range(520):
+        host.ask("budget", bytes=(it + 1) * PAGE)
+    decisions = eventually(lambda: host.status()["counters"]["decisions"] >= 520 and host.status()["counters"]["decisions"])
+    log = host.ask("log", since=3, limit=2)
+    assert log["lost"] == decisions - 512 - 3
+    assert [it["number"] for it in log["decisions"]] == [decisions - 512, decisions - 511]
+
+
+def events_until(host, wanted):
+    """Returns the events of a follower up to one that is wanted."""
+    with Connection(host.control) as it:
+        for event in it.follow():
+            yield event
+            if event["event"] == wanted:
+                return
+
+
+def test_followers_hear_each_event_once_and_in_order(host, arrive):
+    first, second = Connection(host.control), Connection(host.control)
+    heard = [it.follow() for it in (first, second)]
+    threads = []
+    import threading
+
+    def listen(events, into):
+        for event in events:
+            into.append(event)
+            if event["event"] == "removed":
+                return
+
+    said = [[], []]
+    for events, into in zip(heard, said):
+        threads.append(threading.Thread(target=listen, args=(events, into), daemon=True))
+        threads[-1].start()
+    eventually(lambda: host.status()["control"]["clients"] == 3)
+    time.sleep(0.2)
+    guest = arrive("a")
+    eventually(lambda: host.guest("a")["answers"])
+    time.sleep(0.3)
+    host.ask("budget", bytes=100 * MIB)
+    time.sleep(0.3)
+    guest.leave()
+    eventually(lambda: host.guest("a")["state"] == "absent")
+    time.sleep(0.3)
+    host.ask("remove", name="a")
+    for it in threads:
+        it.join(10)
+    assert said[0] == said[1]
+    numbers = [it["number"] for it in said[0]]
+    assert numbers == list(range(numbers[0], numbers[0] + len(numbers)))
+    names = [it["event"] for it in said[0] if it["event"] not in ("decision", "state")]
+    assert names == ["added", "arrived", "answers", "budget", "gone", "removed"], names
+    assert any(it["event"] == "decision" and it["decision"]["budget"] == 100 * MIB for it in said[0])
+    first.close(), second.close()
+
+
+def test_twenty_clients_of_which_some_never_read_and_one_sends_trash(host, arrive):
+    guest = arrive("a")
+    eventually(lambda: host.guest("a")["answers"])
+    mute, trash = [Raw(host) for _ in range(6)], Raw(host)
+    trash.socket.setblocking(False)
+    asking = [Connection(host.control) for _ in range(12)]
+    follower = Raw(host)
+    assert follower.answer(say(request="events"))["ok"]
+    for it in mute:
+        it.socket.setblocking(False)
+    looks, slowest, sent = host.status()["counters"]["looks"], 0.0, 0
+    end = time.monotonic() + 5
+    while time.monotonic() < end:
+        for it in mute:
+            try:
+                sent += it.socket.send((say(request="status") + b"\n") * 50)
+            except OSError:
+                pass
+        try:
+            trash.socket.send(os.urandom(4000) + b"\n")
+        except OSError:
+            pass
+        for it in asking:
+            begin = time.monotonic()
+            it.ask("status")
+            slowest = max(slowest, time.monotonic() - begin)
+    status = host.status()
+    assert slowest < 0.5, f"a client waits for {slowest} s beside others that don't read"
+    assert status["counters"]["looks"] - looks >= 20, "the host looks at its guests less often"
+    assert status["control"]["dropped"] == 7, f"six that don't read and the one with trash: {status['control']}"
+    assert host.guest("a")["answers"]
+    guest.leave()
+    for it in (*mute, trash, *asking, follower):
+        it.close()
+    eventually(lambda: host.status()["control"]["clients"] == 1)
+
+
+def test_a_follower_that_does_not_read_is_dropped_and_counted(host):
+    it = Raw(host)
+    assert it.answer(say(request="events"))["ok"]
+    with Connection(host.control) as other:
+        for number in range(200000):
+            other.ask("budget", bytes=(number % 1000 + 1) * PAGE)
+            if number % 500 == 0 and other.ask("status")["host"]["control"]["dropped"]:
+                break
+    assert host.status()["control"]["dropped"] == 1
+    it.close()
+
+
+def is_taken(host):
+    """Whether one more client is taken just now."""
+    try:
+        return host.status()
+    except Refused:
+        return False
+
+
+def test_one_client_too_many_is_told_so(host):
+    clients = [Raw(host) for _ in range(256)]
+    eventually(lambda: clients[-1].answer(say(request="budget"))["ok"])
+    late = Raw(host)
+    assert json.loads(late.lines.readline())["error"] == {"code": "too-many-clients", "text": "256 clients are connected already"}
+    assert late.lines.readline() == b""
+    clients.pop().close()
+    eventually(lambda: is_taken(host), "a place that is free isn't given to the next client")
+    assert host.status()["control"]["turned_away"] >= 1
+    for it in (late, *clients):
+        it.close()
+
+
+def test_the_mode_and_the_group_of_the_socket(program, folder):
+    group = os.getgid()
+    it = Host(program, folder, str(folder), "--budget", "480", "--control-mode", "0600", "--control-group", group_name(group))
+    it.lines.next(limit_from_now())
+    its = os.stat(it.control)
+    assert (stat.S_IMODE(its.st_mode), its.st_gid) == (0o600, group)
+    assert it.end() == 0
+    assert not os.path.exists(it.control)
+
+
+def group_name(number):
+    """Returns a group's name."""
+    import grp
+
+    return grp.getgrgid(number).gr_name
+
+
+@pytest.mark.parametrize("words", (
+    ("--control-mode", "999"), ("--control-mode", "66"), ("--control-mode", "01777"), ("--control-group", "no-such-group"),
+    ("--control", "relative"), ("--log-level", "loud"), ("--config",), ("--control",),
+))
+def test_command_lines_that_are_none(program, folder, words):
+    it = Host(program, folder, str(folder), "--budget", "480", *words)
+    assert it.process.wait(10) == 2
+    assert it.said()[-2].startswith("vhost_user_host FOLDER")
+    it.end()
+
+
+def test_a_folder_without_room_for_a_socket(program, folder):
+    it = Host(program, folder, f"{folder}/none", "--budget", "480")
+    assert it.process.wait(10) == 2
+    assert it.said()[-1] == f"{folder}/none/.control: No such file or directory"
+    it.end()

@@ -1,0 +1,146 @@
+"""The metrics of a host: what promtool says of them, what a real Prometheus scrapes, and that each alert fires there for what it is for."""
+
+import json
+import os
+import shutil
+import socket
+import subprocess
+import time
+import urllib.request
+
+import pytest
+from conftest import CLIENT, ROOT, bigvasta, eventually
+
+RULES = os.path.join(CLIENT, "prometheus")
+PAGE, MIB = 4096, 1 << 20
+
+pytestmark = pytest.mark.skipif(not shutil.which("promtool"), reason="promtool isn't there: apt-get install prometheus")
+
+
+def promtool(*words, text=None, folder=None):
+    """Runs promtool; returns what it said."""
+    ran = subprocess.run(["promtool", *words], input=text, capture_output=True, text=True, timeout=60, cwd=folder)
+    assert ran.returncode == 0 and "error" not in (ran.stdout + ran.stderr).lower(), ran
+    return ran.stdout + ran.stderr
+
+
+def test_the_rules():
+    said = promtool("check", "rules", "bigvasta.rules.yml", folder=RULES)
+    assert "SUCCESS: 6 rules found" in said
+    assert "SUCCESS" in promtool("test", "rules", "bigvasta.rules.test.yml", folder=RULES)
+
+
+def values(text):
+    """Returns the values of metrics by their names with labels."""
+    lines = [it for it in text.splitlines() if it and not it.startswith("#")]
+    return {name: float(value) for name, value in (it.rsplit(" ", 1) for it in lines)}
+
+
+def test_metrics_without_a_remark(host, arrive):
+    arrive("web-1")
+    eventually(lambda: host.guest("web-1")["answers"])
+    ran = bigvasta(host.control, "metrics")
+    assert (ran.returncode, promtool("check", "metrics", text=ran.stdout)) == (0, "")
+    found = values(ran.stdout)
+    wanted = {
+        "bigvasta_up": 1, "bigvasta_budget_bytes": 480 * MIB, "bigvasta_floor_bytes": 12 * MIB, "bigvasta_held_bytes": 128 * PAGE,
+        "bigvasta_guests": 1, "bigvasta_guests_admitted_total": 1, 'bigvasta_guest_memory_bytes{guest="web-1"}': 128 * PAGE,
+        'bigvasta_guest_held_bytes{guest="web-1"}': 128 * PAGE, 'bigvasta_guest_free_bytes{guest="web-1"}': 60 * PAGE,
+        'bigvasta_guest_target_bytes{guest="web-1"}': 0, 'bigvasta_guest_cooperates{guest="web-1"}': 1, 'bigvasta_guest_ready{guest="web-1"}': 1,
+    }
+    assert {it: found.get(it) for it in wanted} == wanted
+    with open(os.path.join(ROOT, "VERSION"), encoding="utf-8") as file:
+        assert f'bigvasta_build_info{{core="{file.read().strip()}",version=' in ran.stdout
+
+
+def test_metrics_of_a_host_that_is_away(tmp_path):
+    ran = bigvasta(f"{tmp_path}/none", "metrics")
+    assert ran.returncode == 0 and values(ran.stdout) == {"bigvasta_up": 0}
+    assert promtool("check", "metrics", text=ran.stdout) == ""
+
+
+def free_port():
+    """Returns a port that nobody has."""
+    with socket.socket() as it:
+        it.bind(("localhost", 0))
+        return it.getsockname()[1]
+
+
+def get(port, path):
+    """Returns what a server answers; None while it doesn't."""
+    try:
+        with urllib.request.urlopen(f"http://localhost:{port}{path}", timeout=5) as answer:
+            return answer.read().decode()
+    except OSError:
+        return None
+
+
+@pytest.fixture
+def exporter(host):
+    """`bigvasta metrics` of the host, and its port."""
+    port = free_port()
+    words = ["/usr/bin/python3", "-B", "-m", "bigvasta", "metrics", "--listen", f"localhost:{port}", "--control", host.control]
+    with subprocess.Popen(words, env={**os.environ, "PYTHONPATH": CLIENT}) as it:
+        eventually(lambda: get(port, "/metrics"))
+        yield port
+        it.terminate()
+
+
+def test_a_port_that_somebody_has(host, exporter):
+    ran = bigvasta(host.control, "metrics", "--listen", f"localhost:{exporter}")
+    assert (ran.returncode, ran.stderr) == (3, f"bigvasta: --listen: localhost:{exporter}: Address already in use\n")
+
+
+CONFIGURATION = """global: {{scrape_interval: 1s, evaluation_interval: 1s}}
+rule_files: [{rules}]
+scrape_configs:
+  - job_name: bigvasta
+    static_configs: [{{targets: ["localhost:{port}"]}}]
+"""
+
+
+@pytest.fixture
+def prometheus(exporter, tmp_path):
+    """A Prometheus that scrapes the host each second, with the alerts, which don't wait here; and its port."""
+    with open(os.path.join(RULES, "bigvasta.rules.yml"), encoding="utf-8") as file:
+        rules = [it for it in file if "for:" not in it]
+    quick = "".join(rules).replace("silent_seconds > 30", "silent_seconds > 1")
+    (tmp_path / "rules.yml").write_text(quick)
+    (tmp_path / "prometheus.yml").write_text(CONFIGURATION.format(rules=tmp_path / "rules.yml", port=exporter))
+    port = free_port()
+    words = ["prometheus", f"--config.file={tmp_path}/prometheus.yml", f"--storage.tsdb.path={tmp_path}/data", f"--web.listen-address=localhost:{port}"]
+    with open(tmp_path / "log", "wb") as log, subprocess.Popen(words, stdout=log, stderr=log) as it:
+        eventually(lambda: get(port, "/-/ready"), lambda: (tmp_path / "log").read_text()[-2000:])
+        yield port
+        it.terminate()
+
+
+def alerts(port):
+    """Returns the alerts that fire, with the guest that each is about."""
+    answer = json.loads(get(port, "/api/v1/alerts"))["data"]["alerts"]
+    return {(it["labels"]["alertname"], it["labels"].get("guest", "")) for it in answer if it["state"] == "firing"}
+
+
+def test_a_real_prometheus_scrapes_and_its_alerts_fire(host, arrive, prometheus):
+    guest = arrive("web-1")
+    eventually(lambda: host.guest("web-1")["answers"])
+    host.ask("floor", bytes=0)
+
+    def query(text):
+        found = json.loads(get(prometheus, f"/api/v1/query?query={text}"))["data"]["result"]
+        return found and float(found[0]["value"][1])
+
+    eventually(lambda: query("bigvasta_guest_held_bytes") == 128 * PAGE, "the guest isn't scraped")
+    assert alerts(prometheus) == set()
+    # The budget is passed, and the guest can't spare what is missing.
+    host.ask("budget", bytes=60 * PAGE)
+    wanted = {("BigvastaAboveBudget", ""), ("BigvastaShort", "")}
+    eventually(lambda: alerts(prometheus) == wanted, lambda: alerts(prometheus))
+    host.ask("budget", bytes=480 * MIB)
+    eventually(lambda: alerts(prometheus) == set(), lambda: alerts(prometheus))
+    guest.ended.set()
+    if eventually(lambda: not host.guest("web-1")["answers"]) and host.guest("web-1")["silent"] > 0:
+        eventually(lambda: alerts(prometheus) == {("BigvastaGuestSilent", "web-1")}, lambda: alerts(prometheus))
+    # The host goes.
+    assert host.end() == 0
+    eventually(lambda: ("BigvastaAway", "") in alerts(prometheus), lambda: alerts(prometheus))
