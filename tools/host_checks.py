@@ -74,7 +74,7 @@ def growth(samples, of=sum):
 
 
 def names(count):
-    """Returns names for so many guests."""
+    """Returns names for `count` guests."""
     return [f"guest-{it + 1}" for it in range(count)]
 
 

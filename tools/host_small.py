@@ -124,7 +124,7 @@ def targets_of(town):
 
 
 def targets_become(town, clients, wanted):
-    """Answers all questions until the targets are these, and for a while behind that, in which they have to stay so."""
+    """Answers all questions until the targets are these, and for a while after that, in which they have to stay so."""
     def targets():
         for it in clients:
             it.answer()

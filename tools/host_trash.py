@@ -1,4 +1,4 @@
-"""Clients of a host that aren't well: each does something that ends it, or hangs."""
+"""Clients of a host that are malformed: each does something that ends it, or hangs."""
 
 import os
 import struct
@@ -26,7 +26,7 @@ def send_no_message(client, chance):
 
 
 def cut_memory_off(client, _):
-    """Cuts its memory's file off behind what it told of it."""
+    """Cuts its memory's file off after what it told of it."""
     client.start()
     os.ftruncate(client.files[0], 0)
     client.send(vhost_client.VRING_KICK, struct.pack("<II", vhost_client.INFLATE, 0), flags=1)

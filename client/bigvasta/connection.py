@@ -60,6 +60,8 @@ class Connection:
         """Asks the host; returns its answer, or raises what it refuses."""
         try:
             self.socket.sendall(json.dumps({"version": VERSION, "request": request, **fields}).encode() + b"\n")
+        except BrokenPipeError:
+            pass  # what it said before it went is read yet
         except OSError as fault:
             raise Unclear(f"{self.path}: {fault.strerror or fault}") from None
         answer = self.receive()

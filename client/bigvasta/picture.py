@@ -67,8 +67,10 @@ def host_lines(host, guests, width, shown):
     yield Line("[" + bar(parts, budget / scale, width - 2, shown.blocks) + "]", kind)
 
 
-def state_line(host, shown):
-    """Returns the line about who waits."""
+def state_line(host, shown, fault):
+    """Returns the line about who waits, or why all that is shown is old."""
+    if fault:
+        return Line(f"no host answers, and this was its last word: {fault}", "warning")
     names = [(host[it], it) for it in ("waiting", "silent", "uncooperative")]
     parts = [f"{host['guests']} guests", *(f"{count} {name}" for count, name in names if count), f"by {shown.sort}"]
     return Line(", ".join(parts) + (", paused" if shown.paused else ""), "warning" if host["waiting"] or host["uncooperative"] else "plain")
@@ -89,11 +91,11 @@ def guest_line(guest, scale, width, shown):
     return Line(text[:width].rstrip(), "warning" if wait and wait != "absent" else "plain")
 
 
-def picture(status, width, height, shown):
-    """Returns the lines of a screen."""
+def picture(status, width, height, shown, fault=""):
+    """Returns the lines of a screen; `fault` is why there is no newer status."""
     host, guests, room_across, width = status["host"], status["guests"], width, max(width, LEAST_WIDTH)
     scale = max((it["memory"] for it in guests), default=0)
-    lines = [*host_lines(host, guests, width, shown), state_line(host, shown), Line("")]
+    lines = [*host_lines(host, guests, width, shown), state_line(host, shown, fault), Line("")]
     head = f"{'guest':<{NAME_WIDTH}}" + "".join(f"{it:>{NUMBER_WIDTH}}" for it in ("held", "loan", "target", "spare"))
     lines.append(Line(f"{head}  memory", "head"))
     room = max(height - len(lines) - 2, 0)

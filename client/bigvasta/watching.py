@@ -5,16 +5,46 @@ import json
 import locale
 import time
 
+from bigvasta.connection import Connection
 from bigvasta.picture import BLOCKS, PLAIN, SORTS, Shown, picture
+from bigvasta.statuses import Fault
 
 ESCAPE = 27
 
+# Seconds in which a host has to answer: no longer, as keys wait meanwhile.
+PATIENCE = 2.0
 
-def watch_lines(host, interval):
+
+class Source:
+    """The status of a host, which may go and come back; `fault` says why there is no newer one."""
+
+    def __init__(self, path):
+        self.path, self.fault = path, ""
+        self.connection = Connection(path, PATIENCE)
+        self.status = self.connection.ask("status")
+
+    def look(self):
+        """Asks for a new status, over a new connection where the old one has ended."""
+        try:
+            self.connection = self.connection or Connection(self.path, PATIENCE)
+            self.status, self.fault = self.connection.ask("status"), ""
+        except Fault as fault:
+            self.fault = str(fault)
+            self.close()
+
+    def close(self):
+        """Lets go of the host."""
+        if self.connection:
+            self.connection.close()
+        self.connection = None
+
+
+def watch_lines(path, interval):
     """Prints the status again and again, an object a line."""
-    while True:
-        print(json.dumps(host.ask("status")), flush=True)
-        time.sleep(interval)
+    with Connection(path) as host:
+        while True:
+            print(json.dumps(host.ask("status")), flush=True)
+            time.sleep(interval)
 
 
 def styles():
@@ -53,25 +83,28 @@ def obey(key, shown, guests):
     return shown
 
 
-def show(screen, host, interval):
+def show(screen, source, interval):
     """Shows the host until a key ends it."""
     curses.curs_set(0)
     looks = styles()
     is_utf8 = "UTF" in locale.nl_langinfo(locale.CODESET).upper()
-    shown, status, look = Shown(blocks=BLOCKS if is_utf8 else PLAIN), host.ask("status"), time.monotonic()
+    shown, look = Shown(blocks=BLOCKS if is_utf8 else PLAIN), time.monotonic()
     while shown:
         height, width = screen.getmaxyx()
-        draw(screen, picture(status, width, height, shown), looks)
+        draw(screen, picture(source.status, width, height, shown, source.fault), looks)
         screen.timeout(max(int((look + interval - time.monotonic()) * 1000), 0))
-        key = screen.getch()
-        shown = obey(key, shown, len(status["guests"]))
+        shown = obey(screen.getch(), shown, len(source.status["guests"]))
         if time.monotonic() >= look + interval:
             look = time.monotonic()
             if shown and not shown.paused:
-                status = host.ask("status")
+                source.look()
 
 
-def watch(host, interval):
+def watch(path, interval):
     """Shows the host in the terminal."""
     locale.setlocale(locale.LC_ALL, "")
-    curses.wrapper(show, host, interval)
+    source = Source(path)
+    try:
+        curses.wrapper(show, source, interval)
+    finally:
+        source.close()

@@ -2,7 +2,7 @@
  *
  * The library keeps nothing: a device is one plain struct in the caller's memory, which may be copied, and which calls alone write;
  * vb_save makes bytes of it that another version or machine reads. It allocates nothing, touches no guest memory and discards
- * nothing: it reads private copies that the caller makes, and answers what is to be done. Any argument gets an answer or a named
+ * nothing: it answers what is to be done, and reads what the caller has read or copied. Any argument gets an answer or a named
  * refusal, but that a pointer with a length must point to that many elements (or the length is 0), and that one call at a time works
  * on a device.
  *
@@ -33,8 +33,8 @@ enum {                          /* answers: `code` */
     VB_NOT_READY = 3,           /* DRIVER_OK isn't set (vb_start_queue: FEATURES_OK isn't), or FAILED is */
     VB_NEEDS_RESET = 4,         /* a rule was broken before */
     VB_NO_QUEUE = 5,            /* no queue of that kind, or not with the negotiated features */
-    VB_MISPLACED = 6,           /* the queue has no place, or copies don't have its size */
-    VB_BAD_ARGUMENT = 7,        /* too little room, a head that is no descriptor, settings out of range */
+    VB_MISPLACED = 6,           /* the queue has no place */
+    VB_BAD_ARGUMENT = 7,        /* an argument out of range (settings, regions, a page), or too little room */
     VB_SHORT = 8,               /* the guests can't spare enough (`vb_targets`) */
     VB_BAD_LENGTH = 9,          /* of a saved state: more or fewer bytes than it has (`vb_save`: less room) */
     VB_NOT_A_STATE = 10,        /* the bytes don't begin as a saved state does */
@@ -48,7 +48,7 @@ enum { VB_INFLATE = 0, VB_DEFLATE = 1, VB_STATISTICS = 2, VB_REPORT = 3, VB_NO_K
  * guest memory; 7 the available index has jumped; 8 a length that the queue doesn't take; 9 no such page; 10 a reserved
  * page. */
 enum { VB_MAX_QUEUE_SIZE = 256, VB_MAX_PIECES = 256, VB_MAX_RUNS = 256, VB_MAX_BYTES = 1024, VB_MAX_FIGURES = 102,
-       VB_MAX_CUTS = 256, VB_STATE_BYTES = 191 };
+       VB_MAX_CUTS = 256, VB_STATE_BYTES = 200 };
 enum {                          /* what is to be done: `what` of a notice, in this order; other bits are the library's */
     VB_TELL_PAGES = 1,          /* the first `runs` of the room were given up, are requested back, or are free */
     VB_TELL_FIGURES = 2,        /* the first `figures` of the room are what the guest says */
@@ -66,13 +66,14 @@ enum { VB_LOOK = 1, VB_EMPTY = 2 };    /* what a write of the status asks for */
 enum { VB_F_PAGE_POISON = 16 };    /* a feature: the driver says in poison_val what its free pages hold (VIRTIO 1.2, 5.5.3) */
 
 typedef struct {
-    uint64_t memory_end;        /* bytes: where guest memory ends, from 8192 on and below 2^44; the last part of a page
-                                   doesn't count. Holes below it are the caller's. */
+    uint64_t memory_end;        /* bytes: where guest memory ends, below 2^44; the last part of a page doesn't
+                                   count. Holes below it are the caller's. */
     uint64_t offered;           /* features: of bits 0, 1, 2, 4 (VB_F_PAGE_POISON), 5 and 32, with bit 32 (VERSION_1) */
     uint32_t reserved_pages;    /* pages at the start that no request may name; none: 0 */
     uint8_t needs_must_tell;    /* unless 0: FEATURES_OK is refused without MUST_TELL_HOST */
     uint8_t skips_bad_pages;    /* unless 0: a page number past the end, or of a reserved page, is skipped and counted;
                                    0: it breaks rule 9 or 10, and then a Linux driver waits for ever */
+    uint8_t holds_deflates;     /* unless 0: a deflate is held until vb_give_held. Set needs_must_tell too: no other driver waits */
 } VbSettings;
 
 typedef struct {
@@ -93,10 +94,6 @@ typedef struct { uint64_t address; uint32_t length; uint8_t writable; } VbPiece;
 typedef struct { uint32_t first, count; } VbRun;                  /* pages first .. first + count - 1 */
 typedef struct { uint16_t tag; uint64_t value; } VbStatistic;
 
-typedef struct { uint32_t code, rule, head, pieces, bytes; } VbChain;
-typedef struct { uint32_t code, rule, head, runs, pages, skipped; } VbNamed;
-typedef struct { uint32_t code, rule, count; } VbFigures;
-typedef struct { uint32_t code; uint64_t element_at, index_at; uint32_t id, length; uint16_t index; } VbUsed;
 typedef struct { uint32_t code; uint64_t pages; } VbMarked;
 typedef struct { uint32_t pages, spare; } VbNeed;                 /* a guest's pages, and how many it can spare */
 typedef struct { uint32_t code; uint64_t missing; } VbTargets;
@@ -114,8 +111,10 @@ typedef struct { size_t region; uint64_t offset, in_file, length; } VbCut;     /
 /* Whole large pages of one region (none: length 0), and how many pages of 4096 bytes of a part aren't among them. */
 typedef struct { VbCut cut; uint64_t waiting; } VbLarge;
 
-/* A device, and 1 more than the head of the statistics buffer that it holds until new ones are asked for; none: 0. */
-typedef struct { VbDevice device; uint32_t held; } VbBalloon;
+/* A device, and the chains that it holds until vb_give_held: 1 more than the head of a statistics buffer, and of a deflate; none:
+ * 0; and how many pages that deflate names. */
+typedef struct { uint32_t statistics, deflate, pages; } VbHeld;
+typedef struct { VbDevice device; VbHeld held; } VbBalloon;
 /* Where a queue starts, with how many of its chains were taken and given back until now, modulo 65,536. */
 typedef struct { uint64_t table, avail, used; uint16_t size, next; } VbQueueStart;
 
@@ -143,8 +142,9 @@ typedef struct {
     uint32_t more;              /* at the end: 1 where another chain stands there, for which there was no budget, else 0 */
     uint32_t chains_left, pages_left;           /* these too */
     uint16_t head, count, taken_head;
-    uint8_t given, taken, flag, phase, keeps;
+    uint8_t given, taken, flag, phase, keeps;   /* `taken`: 1 where the chain is held that was told: its pages stay in the set */
     uint16_t published;
+    uint32_t taken_pages;       /* how many pages that chain names */
 } VbNotice;
 
 /* The room that a notice needs, whatever stands in it at first; then the library's to write, but for `bytes`. One room
@@ -161,20 +161,17 @@ typedef struct {
 #define VB_HAS(type, size) (sizeof(Vb##type) == (size))
 #define VB_AT(type, field, at) (offsetof(Vb##type, field) == (at))
 VB_ASSERT(VB_HAS(Settings, 24) && VB_AT(Settings, offered, 8) && VB_AT(Settings, reserved_pages, 16)
-          && VB_AT(Settings, needs_must_tell, 20) && VB_AT(Settings, skips_bad_pages, 21) && VB_HAS(Queue, 32)
+          && VB_AT(Settings, needs_must_tell, 20) && VB_AT(Settings, skips_bad_pages, 21)
+          && VB_AT(Settings, holds_deflates, 22) && VB_HAS(Queue, 32)
           && VB_AT(Queue, avail, 8) && VB_AT(Queue, used, 16) && VB_AT(Queue, size, 24) && VB_AT(Queue, next_avail, 26)
           && VB_AT(Queue, next_used, 28) && VB_HAS(QueueStart, 32) && VB_AT(QueueStart, avail, 8) && VB_AT(QueueStart, used, 16)
           && VB_AT(QueueStart, size, 24) && VB_AT(QueueStart, next, 26) && VB_HAS(Device, 176) && VB_AT(Device, settings, 0)
           && VB_AT(Device, features, 24) && VB_AT(Device, target, 32) && VB_AT(Device, actual, 36) && VB_AT(Device, inflate, 40)
           && VB_AT(Device, deflate, 72) && VB_AT(Device, statistics, 104) && VB_AT(Device, report, 136)
-          && VB_AT(Device, poison, 168) && VB_AT(Device, status, 172) && VB_HAS(Balloon, 184) && VB_AT(Balloon, held, 176));
+          && VB_AT(Device, poison, 168) && VB_AT(Device, status, 172) && VB_HAS(Held, 12)
+          && VB_AT(Held, deflate, 4) && VB_AT(Held, pages, 8) && VB_HAS(Balloon, 192) && VB_AT(Balloon, held, 176));
 VB_ASSERT(VB_HAS(Piece, 16) && VB_AT(Piece, length, 8) && VB_AT(Piece, writable, 12) && VB_HAS(Run, 8) && VB_AT(Run, count, 4)
-          && VB_HAS(Statistic, 16) && VB_AT(Statistic, value, 8) && VB_HAS(Chain, 20) && VB_AT(Chain, rule, 4)
-          && VB_AT(Chain, head, 8) && VB_AT(Chain, pieces, 12) && VB_AT(Chain, bytes, 16) && VB_HAS(Named, 24)
-          && VB_AT(Named, rule, 4) && VB_AT(Named, head, 8) && VB_AT(Named, runs, 12) && VB_AT(Named, pages, 16)
-          && VB_AT(Named, skipped, 20) && VB_HAS(Figures, 12) && VB_AT(Figures, rule, 4) && VB_AT(Figures, count, 8)
-          && VB_HAS(Used, 40) && VB_AT(Used, element_at, 8) && VB_AT(Used, index_at, 16) && VB_AT(Used, id, 24)
-          && VB_AT(Used, length, 28) && VB_AT(Used, index, 32) && VB_HAS(Marked, 16) && VB_AT(Marked, pages, 8)
+          && VB_HAS(Statistic, 16) && VB_AT(Statistic, value, 8) && VB_HAS(Marked, 16) && VB_AT(Marked, pages, 8)
           && VB_HAS(Need, 8) && VB_AT(Need, spare, 4) && VB_HAS(Targets, 16) && VB_AT(Targets, missing, 8));
 VB_ASSERT(VB_HAS(Region, 24) && VB_AT(Region, length, 8) && VB_AT(Region, in_file, 16) && VB_HAS(Spot, 16)
           && VB_AT(Spot, offset, 8) && VB_HAS(Cut, 32) && VB_AT(Cut, offset, 8) && VB_AT(Cut, in_file, 16)
@@ -184,7 +181,8 @@ VB_ASSERT(VB_HAS(Region, 24) && VB_AT(Region, length, 8) && VB_AT(Region, in_fil
           && VB_AT(Notice, figures, 44) && VB_AT(Notice, kept, 52) && VB_AT(Notice, id_at, 56) && VB_AT(Notice, id, 104)
           && VB_AT(Notice, used_index, 112) && VB_AT(Notice, number, 120) && VB_AT(Notice, in_file, 136)
           && VB_AT(Notice, code, 152) && VB_AT(Notice, chains_left, 172) && VB_AT(Notice, given, 186)
-          && VB_AT(Notice, phase, 189) && VB_AT(Notice, keeps, 190) && VB_AT(Notice, published, 192));
+          && VB_AT(Notice, phase, 189) && VB_AT(Notice, keeps, 190) && VB_AT(Notice, published, 192)
+          && VB_AT(Notice, taken_pages, 196));
 
 /* The version of the library, as VB_VERSION_NUMBER. */
 uint32_t vb_version(void);
@@ -205,37 +203,15 @@ uint32_t vb_kind_of(uint64_t features, uint32_t number);
  * VB_NO_QUEUE where the negotiated features leave it out; VB_MISPLACED where size is no power of two from 2 to 256, or a
  * part isn't aligned (16, 2, 4) or doesn't end within memory. */
 uint32_t vb_place(VbDevice *device, uint32_t kind, uint64_t table, uint64_t avail, uint64_t used, uint16_t size);
-/* Reads or writes bytes of the configuration space (VIRTIO 1.1, 5.5.4), little-endian: num_pages at 0, actual at 4, and poison_val at
- * 12 where PAGE_POISON is offered (VIRTIO 1.2, 5.5.4). All other bytes read as 0. A write of any length at any offset writes actual,
- * and poison_val where that is offered, each where it covers all 4 of its bytes, as QEMU hands over all 16 for each field; all other
- * bytes are ignored. VB_OK; or VB_BAD_ARGUMENT where it covers neither, and then nothing is changed. */
+/* Reads or writes bytes of the configuration space (VIRTIO 1.1, 5.5.4), little-endian: num_pages at 0, actual at 4, and
+ * poison_val at 12 where PAGE_POISON is offered (VIRTIO 1.2, 5.5.4). All other bytes read as 0. A write of any length at any
+ * offset writes actual, and poison_val where that is offered, each where it covers all 4 of its bytes, as QEMU hands over all 16
+ * for each field; all other bytes are ignored. VB_OK; or VB_BAD_ARGUMENT where it covers neither, and then nothing is changed. */
 void vb_read_config(const VbDevice *device, uint32_t offset, uint8_t *out, size_t length);
 uint32_t vb_write_config(VbDevice *device, uint32_t offset, const uint8_t *bytes, size_t length);
 /* 1 where the pages of a report keep what is in them: the driver negotiated PAGE_POISON, and poison_val isn't 0. A notice
  * doesn't ask for such pages to be discarded, since they would read as zeros. Else 0. */
 uint32_t vb_keeps_reports(const VbDevice *device);
-
-/* The chain that stands next on the queue of inflates, deflates or statistics, with its pieces in order.
- * avail: a copy of the available ring, 4 + 2 size bytes: index first, then an acquire fence, then the rest.
- * table: a copy of the 16 size bytes of the table, made after it. Nothing moves; VB_BROKEN sets the status.
- * room at least size. A chain of wrong direction or length is broken here. */
-VbChain vb_next(VbDevice *device, uint32_t kind, const uint8_t *avail, size_t avail_length, const uint8_t *table,
-                size_t table_length, VbPiece *pieces, size_t room);
-/* Takes the chain that stood next on the queue of inflates or deflates: `bytes` is a private copy of all its pieces'
- * bytes in a row, each copied once. The pages it names, as runs: a number that follows the last run or stands right
- * before it joins it. room at least length / 4; a length that vb_next doesn't answer is VB_BAD_ARGUMENT. head is 0. */
-VbNamed vb_name(VbDevice *device, uint32_t kind, const uint8_t *bytes, size_t length, VbRun *runs, size_t room);
-/* Takes the chain that stands next on the queue of reports: its pages are free in the guest. A run for each
- * piece, in order. A piece that isn't whole pages of memory breaks a rule, whatever is skipped else. room at least 32. */
-VbNamed vb_report(VbDevice *device, const uint8_t *avail, size_t avail_length, const uint8_t *table,
-                  size_t table_length, VbRun *runs, size_t room);
-/* Takes the statistics buffer that stood next: what it says, in order, any tags. Keep its head, and vb_use it to ask for
- * new ones. room at least length / 10; a length that vb_next doesn't answer is VB_BAD_ARGUMENT. */
-VbFigures vb_statistics(VbDevice *device, const uint8_t *bytes, size_t length, VbStatistic *figures, size_t room);
-/* Gives a taken chain back: write id and length (little-endian, 8 bytes) at element_at, then a release fence, then index
- * at index_at, then interrupt. An inflate's pages are discarded before. VB_OK, or why not, and then nothing moves: a head
- * that is no descriptor of the queue, which has none without a place, is VB_BAD_ARGUMENT. */
-VbUsed vb_use(VbDevice *device, uint32_t kind, uint32_t head);
 
 /* ---- notices over the memory of a running guest
  *
@@ -252,17 +228,22 @@ VbUsed vb_use(VbDevice *device, uint32_t kind, uint32_t head);
 /* The driver kicked the queue of this kind, or may have: it is served, at most `chains` chains, and none once `pages` pages
  * were named. Where `keeps` isn't 0, no page is discarded: what is named is told, and stays. The available index is read once,
  * first of all: what the driver publishes later waits for its next kick, which it owes, as the device never asks for none
- * (VIRTIO 1.1, 2.6.10). Nothing is done (VB_NOTHING) while the statistics buffer is held. All three answer `what`. */
+ * (VIRTIO 1.1, 2.6.10). Nothing is done (VB_NOTHING) while a chain of this queue is held. All three answer `what`.
+ * With holds_deflates a notice of deflates ends with its first request, whose pages are told, and whose chain is held. */
 uint32_t vb_begin(VbNotice *notice, VbBalloon *balloon, const VbRegion *regions, size_t count, VbRoom *room,
                   uint32_t kind, uint32_t chains, uint32_t pages, uint32_t keeps);
-/* New statistics are asked for, by giving the held buffer back (5.5.6.3): VB_NOTHING where none is held. */
-uint32_t vb_ask(VbNotice *notice, VbBalloon *balloon, const VbRegion *regions, size_t count, VbRoom *room);
+/* Gives the chain that is held back: new statistics are asked for (5.5.6.3), or a deflate is granted (5.5.6), whose pages leave
+ * the set before; look at its queue again then. VB_NO_QUEUE for no kind; VB_NOTHING where none is held; as is said at the end,
+ * VB_BAD_ARGUMENT for a head that is no descriptor; VB_BROKEN where the used ring lies in a hole. Then it is held still; with
+ * VB_OK no longer. */
+uint32_t vb_give_held(VbNotice *notice, VbBalloon *balloon, const VbRegion *regions, size_t count, VbRoom *room, uint32_t kind);
+/* VB_OK where a chain is held, and `pages` gets how many it names; VB_NOTHING where none is, VB_NO_QUEUE for no kind, and 0. */
+uint32_t vb_held(const VbBalloon *balloon, uint32_t kind, uint32_t *pages);
 /* What is to be done next, once that was done which was to be done. A notice that the calls didn't make may end as
  * VB_BAD_ARGUMENT, with nothing else changed. */
-uint32_t vb_go_on(VbNotice *notice, VbBalloon *balloon, const VbRegion *regions, size_t count, VbRoom *room,
-                  uint16_t answer);
+uint32_t vb_go_on(VbNotice *notice, VbBalloon *balloon, const VbRegion *regions, size_t count, VbRoom *room, uint16_t answer);
 
-/* vb_new over these regions: where settings.memory_end is 0, memory ends with the last of them. The balloon holds no buffer.
+/* vb_new over these regions: where settings.memory_end is 0, memory ends with the last of them. The balloon holds no chain.
  * VB_OK; or VB_BAD_ARGUMENT where a region isn't as VbRegion says, or vb_new refuses, and then nothing is changed. */
 uint32_t vb_new_over(VbBalloon *balloon, VbSettings settings, const VbRegion *regions, size_t count);
 /* These regions are guest memory from now on, and it ends where the last of them does. Refused as vb_new_over is. */
@@ -271,18 +252,18 @@ uint32_t vb_set_regions(VbBalloon *balloon, const VbRegion *regions, size_t coun
 uint32_t vb_place_over(VbBalloon *balloon, const VbRegion *regions, size_t count, uint32_t kind, uint64_t table,
                        uint64_t avail, uint64_t used, uint16_t size);
 /* For a backend or a migration: starts a queue over these regions at `at.next`, in place of what it was before. The chains before
- * that index were given back, and none is taken; of the queue of statistics, the held buffer is forgotten. It may start from
- * FEATURES_OK on, when a driver sets its queues up (VIRTIO 1.1, 3.1.1), also beside queues that run. VB_OK, or refused as is said at
- * the end (VB_MISPLACED as by vb_place_over), and then nothing is changed. */
+ * that index were given back, and none is taken; what is held of the queue is forgotten. It may start from FEATURES_OK on, when a
+ * driver sets its queues up (VIRTIO 1.1, 3.1.1), also beside queues that run. VB_OK, or refused as is said at the end
+ * (VB_MISPLACED as by vb_place_over), and then nothing is changed. */
 uint32_t vb_start_queue(VbBalloon *balloon, const VbRegion *regions, size_t count, uint32_t kind, VbQueueStart at);
-/* Stops a queue, at any status: it has no place any longer, and of the queue of statistics, the held buffer is forgotten. `next` gets
- * the index at which it was: where it starts there, a chain that was taken and not given back stands again. VB_OK; VB_NO_QUEUE for no
- * kind; VB_MISPLACED where it has no place; then nothing is changed, and `next` is 0. */
+/* Stops a queue, at any status: it has no place any longer, and what is held of it is forgotten. `next` gets the index at which
+ * it was: where it starts there, a chain that was taken and not given back, as one that was held, stands again. VB_OK;
+ * VB_NO_QUEUE for no kind; VB_MISPLACED where it has no place; then nothing is changed, and `next` is 0. */
 uint32_t vb_stop_queue(VbBalloon *balloon, uint32_t kind, uint16_t *next);
-/* Forgets the held buffer, which isn't given back: VB_OK, or VB_NOTHING where none is held. */
-uint32_t vb_forget_held(VbBalloon *balloon);
+/* Forgets the chain that is held, which isn't given back: VB_OK; VB_NOTHING where none is; VB_NO_QUEUE for no kind. */
+uint32_t vb_forget_held(VbBalloon *balloon, uint32_t kind);
 /* vb_write_status, and `then` gets what is to be done then: bits VB_LOOK, each queue is to be looked at (vb_begin), and
- * VB_EMPTY, the set of ballooned pages is empty now. 0 where it is refused. A reset forgets the held buffer. */
+ * VB_EMPTY, the set of ballooned pages is empty now. 0 where it is refused. A reset forgets what is held. */
 uint32_t vb_set_status(VbBalloon *balloon, uint8_t status, uint32_t *then);
 /* vb_restore over these regions: also VB_MISPLACED where memory ends elsewhere than the balloon's does, or a part of a queue
  * lies in a hole; then nothing is changed. */
@@ -291,20 +272,20 @@ uint32_t vb_restore_over(VbBalloon *balloon, const VbRegion *regions, size_t cou
 uint32_t vb_may_tell(const VbDevice *device);
 
 /* Puts the device into the front of `out`, as VB_STATE_BYTES bytes that vb_restore takes: little-endian numbers of a
- * format with a version, a length and a checksum (docs/INTEGRATION.md has it). `held` is 1 more than the head of the
- * statistics buffer that was taken and waits for its vb_use; 0 where none does. VB_OK; VB_BAD_LENGTH where there is less
- * room; VB_IMPOSSIBLE where no calls lead to such a device: a struct that was written to, memory_end set below a queue's
- * place, or a `held` that is no descriptor of the queue. Then nothing is changed. */
-uint32_t vb_save(const VbDevice *device, uint32_t held, uint8_t *out, size_t room);
+ * format with a version, a length and a checksum (docs/INTEGRATION.md has it). `held` is the balloon's, or zeros. VB_OK;
+ * VB_BAD_LENGTH where there is less room; VB_IMPOSSIBLE where no calls lead to such a device: a struct that was written to,
+ * memory_end set below a queue's place, or a held chain that is none of its queue, or a deflate without holds_deflates or of more
+ * than 256 pages. Then nothing is changed. */
+uint32_t vb_save(const VbDevice *device, VbHeld held, uint8_t *out, size_t room);
 /* Makes `device` and `held` those that were saved as these bytes. VB_OK, or, tested in this order, VB_BAD_LENGTH where
  * there are fewer than 16; VB_NOT_A_STATE; VB_OTHER_VERSION; VB_BAD_LENGTH; VB_BAD_SUM; VB_IMPOSSIBLE. Then nothing is
- * changed. What is restored is just what vb_save made of it. */
-uint32_t vb_restore(VbDevice *device, uint32_t *held, const uint8_t *bytes, size_t length);
+ * changed. What is restored is just what vb_save made of it; or the 191 bytes of version 2, whose devices hold no deflates. */
+uint32_t vb_restore(VbDevice *device, VbHeld *held, const uint8_t *bytes, size_t length);
 
 /* The set of the pages in the balloon, for a monitor that wants to know them: words of its own, where page p is bit
  * p % 64 of word p / 64. Zeros are the empty set, and so it is again once the driver resets the device. */
 
-/* After vb_name answered VB_OK: puts the pages of its runs into the set (VB_INFLATE), or takes them out (VB_DEFLATE).
+/* Once pages are told (VB_TELL_PAGES): puts the pages of the runs into the set (VB_INFLATE), or takes them out (VB_DEFLATE).
  * `pages`: how many that changed; one that is named twice, or was so before, counts no more than once. VB_OK; VB_NO_QUEUE
  * for another kind; VB_BAD_ARGUMENT where a page of any run is past the last word's, and then nothing is changed. */
 VbMarked vb_mark(uint32_t kind, const VbRun *runs, size_t count, uint64_t *set, size_t words);

@@ -2,6 +2,8 @@
  * Mode Linux, and for any other client of that protocol.
  *
  *     vhost_user_balloon SOCKET [--features HEX] [--strict] [--keep] [--events] [--state FILE] [--lines N]
+ *     vhost_user_balloon --socket-path SOCKET ..    the same; but the end of standard input doesn't end it
+ *     vhost_user_balloon --fd FD ..                 of an open socket, of the client's or where it comes
  *
  * It makes the socket, says `listening`, and serves the client that comes, until that one goes (status 0) or breaks a
  * rule (status 1, and one line on standard error that says which). Standard input is the control pipe, each line is
@@ -17,9 +19,10 @@
  * --strict: a page number past the end breaks a rule, in place of being skipped. --keep: the host keeps all memory.
  * --events: notifications as messages aren't offered, so a client uses events. --state: the device is kept in this file,
  * and a backend that finds one there goes on with its target and its `actual`. --lines: what is said in a second at most (20).
- * --help and --version are answered.
+ * --help, --version and --print-capabilities are answered.
  */
 #include "guest/backend.h"
+#include "guest/conventions.h"
 #include "guest/inbox.h"
 #include "guest/state.h"
 
@@ -58,7 +61,8 @@ static int listener_of(const char *path)
 /* Nobody else may come. */
 static void stop_listening(struct backend *backend)
 {
-    remove_socket(backend->options->client);
+    if (backend->options->client)
+        remove_socket(backend->options->client);
     file_close(backend->listener);
     backend->listener = -1;
 }
@@ -94,25 +98,39 @@ static int serve(struct backend *backend)
 }
 
 static const char help[] =
-    "vhost_user_balloon SOCKET [--features HEX] [--strict] [--keep] [--events] [--state FILE] [--lines N]";
+    "vhost_user_balloon SOCKET | --socket-path SOCKET | --fd FD [--features HEX] [--strict] [--keep] [--events]\n"
+    "                   [--state FILE] [--lines N]\n"
+    "vhost_user_balloon --print-capabilities | --help | --version";
+
+/* Takes the client's socket, or the one where it comes: by its number, or by making it. False where it can't. */
+static bool take_socket(struct backend *backend, const struct convention *convention)
+{
+    bool listens = convention->file < 0 || socket_listens(convention->file);
+    int file = convention->file < 0 ? listener_of(backend->options->client) : convention->file;
+    *(listens ? &backend->listener : &backend->socket) = file;
+    return file >= 0;
+}
 
 int main(int count, char **words)
 {
     static struct backend backend;
     static struct options options;
+    struct convention convention;
     process_begin();
-    if (process_answers(count, words, "vhost_user_balloon", help))
+    if (process_answers(count, words, "vhost_user_balloon", help) || conventions_answer(count, words))
         return 0;
-    if (!backend_options(&options, count, words)) {
+    if (!conventions_take(&convention, &count, words) || !backend_options(&options, count, words)) {
         fprintf(stderr, "%s\n", help);
         return 2;
     }
+    options.lives_on = convention.is_one;
+    if (convention.file >= 0)
+        options.client = NULL;
     process_allow_files(FILES_OF_PROCESS + FILES_OF_CLIENT);
     if (!backend_start(&backend, &options) || !state_load(&backend))
         return 2;
     backend.tell = client_tell;
-    backend.listener = listener_of(options.client);
-    if (backend.listener >= 0) {
+    if (take_socket(&backend, &convention)) {
         puts("listening");
         int status = backend_run(&backend, serve);
         backend_leave(&backend);
@@ -122,6 +140,6 @@ int main(int count, char **words)
             return status;
         errno = ECANCELED; /* the control pipe has ended */
     }
-    fprintf(stderr, "vhost_user_balloon: %s: %s\n", options.client, strerror(errno));
+    fprintf(stderr, "vhost_user_balloon: %s: %s\n", options.client ? options.client : "--fd", strerror(errno));
     return 2;
 }

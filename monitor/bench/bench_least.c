@@ -36,7 +36,7 @@ static inline bool is_served(const VbDevice *device, const VbQueue *queue)
 {
     uint64_t end = device->settings.memory_end, offered = device->settings.offered;
     uint32_t size = queue->size;
-    return end - 8192 < LIMIT - 8192 && !(offered & ~KNOWN) && offered >> 32 & 1 && (device->status & 0xc4) == 4
+    return end < LIMIT && !(offered & ~KNOWN) && offered >> 32 & 1 && (device->status & 0xc4) == 4
         && !(size & (size - 1)) && size - 2 < VB_MAX_QUEUE_SIZE - 1 && is_part(end, queue->table, 16, 16 * size)
         && is_part(end, queue->avail, 2, 6 + 2 * size) && is_part(end, queue->used, 4, 6 + 8 * size);
 }

@@ -24,8 +24,7 @@ static uint64_t page_count(const VbDevice *device) { return device->settings.mem
 
 static bool are_impossible(const VbSettings *settings)
 {
-    return settings->memory_end < 2 * PAGE || settings->memory_end >= MOST_MEMORY || (settings->offered & ~KNOWN)
-        || !(settings->offered & VERSION_1);
+    return settings->memory_end >= MOST_MEMORY || (settings->offered & ~KNOWN) || !(settings->offered & VERSION_1);
 }
 
 uint32_t vb_new(VbDevice *device, VbSettings settings)

@@ -11,11 +11,6 @@
 #define vb_read_config reference_read_config
 #define vb_write_config reference_write_config
 #define vb_keeps_reports reference_keeps_reports
-#define vb_next reference_next
-#define vb_name reference_name
-#define vb_report reference_report
-#define vb_statistics reference_statistics
-#define vb_use reference_use
 #define vb_mark reference_mark
 #define vb_is_ballooned reference_is_ballooned
 #define vb_large_pages reference_large_pages
@@ -27,7 +22,8 @@
 #define vb_save reference_save
 #define vb_restore reference_restore
 #define vb_begin reference_begin
-#define vb_ask reference_ask
+#define vb_give_held reference_give_held
+#define vb_held reference_held
 #define vb_go_on reference_go_on
 #define vb_new_over reference_new_over
 #define vb_set_regions reference_set_regions

@@ -1,4 +1,4 @@
-/* Where queues stand, and what calls are refused for by status, features and place, in plain C, a part of reference.c. */
+/* Where queues are, and what calls are refused for by status, features and place, in plain C, a part of reference.c. */
 
 uint32_t vb_kind_of(uint64_t features, uint32_t number)
 {
@@ -24,7 +24,7 @@ static bool lacks_feature(const VbDevice *device, uint32_t kind)
         || (kind == VB_REPORT && !(device->features & REPORTING));
 }
 
-/* Whether a part of a ring may not stand there. */
+/* Whether a part of a ring may not be there. */
 static bool misplaced(const VbDevice *device, uint64_t address, uint64_t alignment, uint64_t length)
 {
     uint64_t end = device->settings.memory_end;
@@ -74,12 +74,4 @@ static uint32_t refusal_at(const VbDevice *device, uint8_t bit, uint32_t kind, c
 static uint32_t refusal(const VbDevice *device, uint32_t kind, const VbQueue *queue)
 {
     return refusal_at(device, DRIVER_OK, kind, queue);
-}
-
-static uint32_t ring_refusal(const VbDevice *device, uint32_t kind, const VbQueue *queue, size_t avail, size_t table)
-{
-    uint32_t code = refusal(device, kind, queue);
-    if (code == VB_OK && (avail != RING_HEADER_SIZE + (size_t)AVAIL_ENTRY_SIZE * queue->size || table != (size_t)DESCRIPTOR_SIZE * queue->size))
-        return VB_MISPLACED;
-    return code;
 }

@@ -1,7 +1,10 @@
 /* What chains ask for, and how they are given back, in plain C, a part of reference.c. */
 
-/* Puts a page behind the others: it joins the last run where it stands at one of its ends. */
-static void add_page(VbNamed *named, VbRun *runs, uint32_t page)
+/* What a request or a report names: its pages as runs, or why it is refused. */
+typedef struct { uint32_t code, rule, runs, pages, skipped; } Named;
+
+/* Puts a page after the others: it joins the last run where it is at one of its ends. */
+static void add_page(Named *named, VbRun *runs, uint32_t page)
 {
     VbRun *last = named->runs ? &runs[named->runs - 1] : NULL;
     if (last && page == (uint64_t)last->first + last->count)
@@ -20,19 +23,19 @@ static uint32_t page_rule(const VbDevice *device, uint64_t page)
     return page < device->settings.reserved_pages ? RESERVED_PAGE : 0;
 }
 
-static VbNamed broken(VbDevice *device, uint32_t rule)
+static Named broken(VbDevice *device, uint32_t rule)
 {
     device->status |= NEEDS_RESET;
-    return (VbNamed){ .code = VB_BROKEN, .rule = rule };
+    return (Named){ .code = VB_BROKEN, .rule = rule };
 }
 
-VbNamed vb_name(VbDevice *device, uint32_t kind, const uint8_t *bytes, size_t length, VbRun *runs, size_t room)
+static Named name(VbDevice *device, uint32_t kind, const uint8_t *bytes, size_t length, VbRun *runs)
 {
     VbQueue *queue = queue_of(device, kind);
-    VbNamed named = { .code = VB_NO_QUEUE };
+    Named named = { .code = VB_NO_QUEUE };
     if (!queue || kind > VB_DEFLATE)
         return named;
-    bool fits = room >= length / 4 && length > 0 && length <= VB_MAX_BYTES && length % 4 == 0;
+    bool fits = length > 0 && length <= VB_MAX_BYTES && length % 4 == 0;
     named.code = !fits ? VB_BAD_ARGUMENT : refusal(device, kind, queue);
     if (named.code != VB_OK)
         return named;
@@ -67,62 +70,29 @@ static uint32_t report_rule(const VbDevice *device, const VbPiece *pieces, uint3
     return 0;
 }
 
-VbNamed vb_report(VbDevice *device, const uint8_t *avail, size_t avail_length, const uint8_t *table,
-                  size_t table_length, VbRun *runs, size_t room)
+/* Takes a statistics buffer: `count` gets how many figures it has. */
+static uint32_t tell_figures(VbDevice *device, const uint8_t *bytes, size_t length, VbStatistic *figures, uint32_t *count)
 {
-    static _Thread_local VbPiece pieces[VB_MAX_PIECES];
-    VbQueue *queue = &device->report;
-    VbNamed named = { .code = VB_BAD_ARGUMENT };
-    uint32_t count = 0, rule;
-    if (room < REPORT_PIECES)
-        return named;
-    named.code = ring_refusal(device, VB_REPORT, queue, avail_length, table_length);
-    if (named.code == VB_OK)
-        named.code = next_head(queue, avail, &named.head);
-    if (named.code == VB_BROKEN)
-        return broken(device, INDEX_JUMP);
-    if (named.code != VB_OK)
-        return named;
-    rule = walk(device, queue->size, table, named.head, pieces, &count);
-    if (rule == 0)
-        rule = report_rule(device, pieces, count);
-    if (rule)
-        return broken(device, rule);
-    for (named.runs = 0; named.runs < count; named.runs++) {
-        const VbPiece *piece = &pieces[named.runs];
-        runs[named.runs] = (VbRun){ (uint32_t)(piece->address / PAGE), piece->length / PAGE };
-        named.pages += piece->length / PAGE;
-    }
-    queue->next_avail++;
-    return named;
-}
-
-VbFigures vb_statistics(VbDevice *device, const uint8_t *bytes, size_t length, VbStatistic *figures, size_t room)
-{
-    bool fits = room >= length / 10 && length <= STATISTICS_BYTES && length % 10 == 0;
-    VbFigures said = { .code = !fits ? VB_BAD_ARGUMENT : VB_OK };
-    if (said.code == VB_OK)
-        said.code = refusal(device, VB_STATISTICS, &device->statistics);
-    if (said.code != VB_OK)
-        return said;
+    bool fits = length <= STATISTICS_BYTES && length % 10 == 0;
+    uint32_t code = !fits ? VB_BAD_ARGUMENT : refusal(device, VB_STATISTICS, &device->statistics);
+    if (code != VB_OK)
+        return code;
     for (size_t i = 0; i + 10 <= length; i += 10)
-        figures[said.count++] = (VbStatistic){ (uint16_t)little(bytes + i, 2), little(bytes + i + 2, 8) };
+        figures[(*count)++] = (VbStatistic){ (uint16_t)little(bytes + i, 2), little(bytes + i + 2, 8) };
     device->statistics.next_avail++;
-    return said;
+    return VB_OK;
 }
 
-VbUsed vb_use(VbDevice *device, uint32_t kind, uint32_t head)
+/* What is written for a chain that is used, and where. */
+typedef struct { uint32_t code; uint64_t element_at, index_at; uint16_t index; } Used;
+
+static Used use(VbDevice *device, uint32_t kind, VbQueue *queue, uint32_t head)
 {
-    VbUsed used = { .code = VB_NO_QUEUE };
-    VbQueue *queue = queue_of(device, kind);
-    if (!queue)
-        return used;
-    used.code = head >= queue->size ? VB_BAD_ARGUMENT : refusal(device, kind, queue);
+    Used used = { .code = head >= queue->size ? VB_BAD_ARGUMENT : refusal(device, kind, queue) };
     if (used.code != VB_OK)
         return used;
     used.element_at = queue->used + RING_HEADER_SIZE + USED_ELEMENT_SIZE * (uint64_t)(queue->next_used % queue->size);
     used.index_at = queue->used + RING_INDEX_AT;
-    used.id = head;
     used.index = ++queue->next_used;
     return used;
 }

@@ -5,15 +5,15 @@
 static uint32_t give_back(const Call *call)
 {
     VbNotice *notice = call->notice;
-    VbUsed used = vb_use(&call->balloon->device, notice->kind, notice->head);
+    Used used = use(&call->balloon->device, notice->kind, call->queue, notice->head);
     if (used.code != VB_OK)
         return end(call, used.code);
     if (!find_spot(call, used.element_at, USED_FIELD_SIZE, &notice->id_at)
         || !find_spot(call, used.element_at + USED_LENGTH_AT, USED_FIELD_SIZE, &notice->length_at)
         || !find_spot(call, used.index_at, RING_WORD_SIZE, &notice->index_at))
         return fail(call, OUT_OF_RAM);
-    notice->id = used.id;
-    notice->used_length = used.length;
+    notice->id = notice->head;
+    notice->used_length = 0;
     notice->used_index = used.index;
     return wait_for(call, AT_GIVEN, VB_GIVE_BACK);
 }
@@ -64,7 +64,18 @@ static uint32_t ask_cut(const Call *call)
     return wait_for(call, AT_CUT, VB_DISCARD);
 }
 
-static uint32_t tell_pages(const Call *call, const VbNamed *named)
+/* The chain is held until it is asked for. */
+static void hold(const Call *call, uint32_t pages)
+{
+    VbNotice *notice = call->notice;
+    notice->taken = 1;
+    notice->taken_pages = pages;
+    *held_of(&call->balloon->held, notice->kind) = 1 + (uint32_t)notice->head;
+    if (notice->kind == VB_DEFLATE)
+        call->balloon->held.pages = pages;
+}
+
+static uint32_t tell_pages(const Call *call, const Named *named)
 {
     VbNotice *notice = call->notice;
     if (named->code != VB_OK) {
@@ -76,6 +87,8 @@ static uint32_t tell_pages(const Call *call, const VbNamed *named)
     notice->skipped = named->skipped;
     notice->kept = is_kept(call) ? named->pages : 0;
     notice->pages_left = named->pages < notice->pages_left ? notice->pages_left - named->pages : 0;
+    if (holds_chains(&call->balloon->device, notice->kind))
+        hold(call, named->pages);
     notice->number = 0, notice->from = 0;
     return wait_for(call, AT_TOLD, VB_TELL_PAGES);
 }
@@ -86,24 +99,23 @@ static uint32_t serve_bytes(const Call *call)
     VbDevice *device = &call->balloon->device;
     size_t length = notice->from;
     if (notice->kind != VB_STATISTICS) {
-        VbNamed named = vb_name(device, notice->kind, call->room->bytes, length, call->room->runs, VB_MAX_RUNS);
+        Named named = name(device, notice->kind, call->room->bytes, length, call->room->runs);
         return tell_pages(call, &named);
     }
-    VbFigures said = vb_statistics(device, call->room->bytes, length, call->room->figures, VB_MAX_FIGURES);
-    if (said.code != VB_OK)
-        return end(call, said.code);
-    notice->figures = said.count;
-    notice->taken = 1;
-    call->balloon->held = 1 + notice->head;
+    uint32_t count = 0, code = tell_figures(device, call->room->bytes, length, call->room->figures, &count);
+    if (code != VB_OK)
+        return end(call, code);
+    notice->figures = count;
+    hold(call, 0);
     return wait_for(call, AT_FIGURES, VB_TELL_FIGURES);
 }
 
 static uint32_t after_given(const Call *call)
 {
     call->notice->given = 1;
-    if (call->notice->kind != VB_STATISTICS)
+    if (!call->notice->taken)
         return next_chain(call);
-    call->balloon->held = 0;
+    vb_forget_held(call->balloon, call->notice->kind);
     return end(call, VB_NOTHING);
 }
 
@@ -129,7 +141,8 @@ static uint32_t step(const Call *call, uint16_t answer)
     case AT_WORD: return after_entry(call, answer);
     case AT_DESCRIPTOR: return notice->from <= VB_MAX_BYTES / DESCRIPTOR_SIZE ? after_row(call) : stop(call, VB_BAD_ARGUMENT);
     case AT_PART: return after_part(call);
-    case AT_TOLD: case AT_CUT: return ask_cut(call);
+    case AT_TOLD: return notice->taken ? end(call, VB_NOTHING) : ask_cut(call);
+    case AT_CUT: return ask_cut(call);
     case AT_FIGURES: return end(call, VB_NOTHING);
     case AT_GIVEN: return after_given(call);
     case AT_FLAGS: return wait_for(call, AT_FLAG_WORD, VB_READ);
@@ -171,17 +184,23 @@ uint32_t vb_begin(VbNotice *notice, VbBalloon *balloon, const VbRegion *regions,
     notice->keeps = keeps != 0;
     if (!call.queue)
         return stop(&call, VB_NO_QUEUE);
-    kind == VB_STATISTICS && balloon->held ? stop(&call, VB_NOTHING) : look(&call);
+    is_held(balloon, kind) ? stop(&call, VB_NOTHING) : look(&call);
     return grouped(&call);
 }
 
-uint32_t vb_ask(VbNotice *notice, VbBalloon *balloon, const VbRegion *regions, size_t count, VbRoom *room)
+uint32_t vb_give_held(VbNotice *notice, VbBalloon *balloon, const VbRegion *regions, size_t count, VbRoom *room, uint32_t kind)
 {
-    const Call call = { notice, balloon, &balloon->device.statistics, regions, count, room };
+    const Call call = { notice, balloon, queue_of(&balloon->device, kind), regions, count, room };
     memset(notice, 0, sizeof *notice);
-    notice->kind = VB_STATISTICS;
-    notice->head = (uint16_t)(balloon->held - 1);
-    balloon->held ? give_back(&call) : stop(&call, VB_NOTHING);
+    notice->kind = kind;
+    if (!call.queue)
+        return stop(&call, VB_NO_QUEUE);
+    if (vb_held(balloon, kind, &notice->taken_pages) != VB_OK)
+        return stop(&call, VB_NOTHING);
+    uint32_t head = *held_of(&balloon->held, kind) - 1;
+    notice->head = head > UINT16_MAX ? UINT16_MAX : (uint16_t)head;
+    notice->taken = 1;
+    give_back(&call);
     return grouped(&call);
 }
 

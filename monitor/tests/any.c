@@ -1,4 +1,4 @@
-/* Any argument gets an answer: devices, lists and lengths at random, each list at the end of a page behind which
+/* Any argument gets an answer: devices, lists and lengths at random, each list at the end of a page after which
  * nothing is mapped. A refusal changes nothing, a broken rule the status alone, and where vb.h says what the answer
  * is, it is the plain implementation's.
  *
@@ -10,8 +10,7 @@ enum { CALLS = 1000000 };
 
 int main(int count, char **words)
 {
-    void (*const calls[])(void) = { call_next, call_name, call_report, call_statistics, call_use, call_driver,
-                                    call_config, call_mark, call_over, call_notice, call_large };
+    void (*const calls[])(void) = { call_driver, call_config, call_mark, call_over, call_notice, call_large };
     enum { KINDS = sizeof calls / sizeof *calls };
     unsigned long long most = count > 1 ? strtoull(words[1], NULL, 10) : CALLS;
     alarm(600);

@@ -2,9 +2,9 @@
  *
  *     fences [ROUNDS]
  *
- * In each round a processor of its own kicks one chain, clears the flag that says it wants no interrupt, and behind a full fence
- * looks whether the chain was used. Either it sees that, or the device has seen the flag cleared and interrupts. A device
- * that reads the flag before its index is written loses some of a million. */
+ * In each round a processor of its own kicks one chain, clears the flag that says it wants no interrupt, and after a full fence
+ * looks whether the chain was used. Either it sees that, or the device has seen the flag cleared and interrupts. A device that
+ * reads the flag before its index is written loses some of a million. */
 #include "shim.h"
 #include <pthread.h>
 #include <stdio.h>
@@ -42,7 +42,7 @@ static void publish(uint64_t round)
     *word_at(AVAIL + 2) = (uint16_t)round;
 }
 
-/* A time by chance, from none to about twice what a notice takes. */
+/* A random time, from none to about twice what a notice takes. */
 static void linger(uint64_t *chance)
 {
     *chance = *chance * UINT64_C(6364136223846793005) + 1442695040888963407;

@@ -33,7 +33,7 @@ static inline uint64_t avail_of(uint32_t kind) { return (17 + 4 * kind) * 4096ul
 static inline uint64_t used_of(uint32_t kind) { return (18 + 4 * kind) * 4096ull; }
 static inline uint64_t buffer_of(uint32_t kind) { return (40 + kind) * 4096ull + 0x91c; }
 
-/* Where a byte of a balloon's guest memory stands here, or NULL in a hole. */
+/* Where a byte of a balloon's guest memory is here, or NULL in a hole. */
 static inline uint8_t *host_of(const struct balloon *balloon, uint64_t address)
 {
     for (size_t i = 0; i < balloon->region_count; i++)

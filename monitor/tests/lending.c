@@ -1,4 +1,4 @@
-/* Days of a host that lends, by chance: events over vb_lending.h beside the plain implementation, which has to answer and leave the
+/* Days of a host that lends, at random: events over vb_lending.h beside the plain implementation, which has to answer and leave the
  * same. In each state what is owed is no more than the frames, or than it was; no ask is passed by a later one of its line; and
  * nobody is held below what it may use.
  *

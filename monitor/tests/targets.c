@@ -1,4 +1,4 @@
-/* What guests are asked to give (vb_targets, vb_spare, vb_needs_targets), beside a plain sort, for guests by chance; and
+/* What guests are asked to give (vb_targets, vb_spare, vb_needs_targets), beside a plain sort, for random guests; and
  * what it takes for 100,000 guests, as does a grant, and targets of a host that lends (vb_lending.h). */
 #define _GNU_SOURCE
 #include "vb_lending.h"
@@ -74,7 +74,7 @@ static bool are_untouched(size_t count)
     return true;
 }
 
-/* Guests by chance, some of which can spare as much as others, and frames that are about enough. */
+/* Random guests, some of which can spare as much as others, and frames that are about enough. */
 static uint32_t any_needs(size_t count, uint32_t most)
 {
     uint64_t pages = 0, spare = 0;

@@ -12,7 +12,7 @@ static const char *const KIND_NAMES[] = { "inflate", "deflate", "stats", "report
 
 struct part { uint64_t address; uint32_t length; uint8_t bytes[4096]; };
 
-/* A chain that stood next, with the ring round it. */
+/* A chain that was next, with the ring round it. */
 struct record {
     uint32_t number, kind, index, taken, head, count;
     struct { uint64_t address; uint32_t length, flags; } piece[MOST_PIECES];
@@ -67,7 +67,7 @@ static void read_row(struct part *part, const char *line)
     }
 }
 
-/* Reads the records of a file that have raw bytes; what stands behind "at the end" has no chain. */
+/* Reads the records of a file that have raw bytes; what comes after "at the end" has no chain. */
 static void read_file(const char *name)
 {
     static char line[4096];
@@ -122,7 +122,7 @@ static uint32_t number_of(const struct record *record, uint32_t i)
     return i < 4 ? record->pages[2 + i] : i < 6 ? record->pages[i - 4] : record->pages[0] + i * 3;
 }
 
-/* Puts a record's ring into memory, and bytes where its buffer stands: the vectors don't have these all. */
+/* Puts a record's ring into memory, and bytes where its buffer is: the vectors don't have these all. */
 static void write_record(const struct record *record)
 {
     uint64_t buffer = record->piece[0].address;

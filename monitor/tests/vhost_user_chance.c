@@ -1,9 +1,9 @@
-/* A client of vhost-user that sends messages by chance: well-formed ones, and ones that are short, long, or with too many
- * files or none; and writes into its rings by chance. It is a test of backends, not a part of them.
+/* A client of vhost-user that sends random messages: well-formed ones, and ones that are short, long, or with too many
+ * files or none; and writes into its rings at random. It is a test of backends, not a part of them.
  *
  *     vhost_user_chance SOCKET MESSAGES SEED
  *
- * It comes to the socket again each time that the backend has closed it, until it has sent so many messages; then it says
+ * It comes to the socket again each time that the backend has closed it, until it has sent n messages; then it says
  * how often it came. Its status is 1 where the backend can't be reached any longer.
  */
 #define _GNU_SOURCE
@@ -37,7 +37,7 @@ static struct {
     uint64_t state;             /* what chance is made of */
 } client;
 
-/* A number below `most`, by chance. */
+/* A number below `most`, at random. */
 static uint64_t chance(uint64_t most)
 {
     client.state ^= client.state << 13;
@@ -204,7 +204,7 @@ static bool send_nearly(struct good good, bool well)
     return send_message(good.request, flags, body, good.size, files, count);
 }
 
-/* Writes into a ring, mostly nearly what would be right. */
+/* Writes into a ring, usually nearly what would be right. */
 static void scribble(void)
 {
     uint64_t number = chance(4);
@@ -247,7 +247,7 @@ static unsigned start(void)
     return sent + (most == 30 && send_nearly(good_message(SET_STATUS, 0), true));
 }
 
-/* What a message asks for: mostly something that there is. */
+/* What a message asks for: usually something that there is. */
 static uint32_t any_request(void)
 {
     static const uint32_t known[] = {

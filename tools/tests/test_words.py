@@ -1,13 +1,6 @@
-"""Tests which words, doc comments and commit subjects tools/words.py refuses, and which it doesn't."""
-
-import os
-import sys
+"""Tests which words, doc comments and commit subjects tools/check-sources refuses, and which it doesn't."""
 
 import pytest
-
-sys.dont_write_bytecode = True
-sys.path.insert(0, os.path.dirname(os.path.dirname(os.path.realpath(__file__))))
-
 from words import lines_of, subject_faults, subjects, unused, words_of
 
 # A text, and the words of it that are refused.
@@ -57,6 +50,7 @@ FILES = (
     ("a.rt", "//! The same, for both.\n", [1]),
     ("a.antt", "-- what stands behind\nstands : behind\n", [1, 1]),
     ("a.c", "int behind; /* what\n   stands there */\nint stands; // anyhow\nint so = 1;\n", [2, 3]),
+    ("a.h", "/* a\n   stands\n   behind */\nint stands;\n", [2, 3]),
     ("a.md", "stands\n\n```\nstands\n```\n\n    stands\n\nbehind\n", [1, 9]),
     ("a.py", '"""What stands.\n\nAnyhow."""\nstands = "behind"  # by chance\n\n\ndef f():\n    """Rightly."""\n', [1, 3, 4, 8]),
     ("run", "#!/usr/bin/env bash\n# what stands\nstands behind\n", [2]),

@@ -1,6 +1,5 @@
 """`bigvasta watch`: a live view of the host in the terminal."""
 
-from bigvasta.connection import Connection
 from bigvasta.statuses import Usage
 from bigvasta.watching import watch, watch_lines
 
@@ -9,8 +8,8 @@ def run(asked):
     """Shows the host until a key ends it."""
     if not 0.1 <= asked.interval <= 60:
         raise Usage(f"--interval: {asked.interval} isn't from 0.1 to 60 seconds")
-    with Connection(asked.control) as host:
-        watch_lines(host, asked.interval) if asked.json else watch(host, asked.interval)
+    show = watch_lines if asked.json else watch
+    show(asked.control, asked.interval)
 
 
 def add(commands, common):

@@ -1,17 +1,16 @@
 -- What calls of each kind of queue answer in C where the core refuses or accepts, worked out: the
 -- core's own answer, and a state that stays where nothing is done.
-use Rattle.std.proofs.Common.{◌≡◌, ◌∙◌, refl, ap, arith, ℕ, List, [], ◌∷◌, ◌++◌, drop, length, Some, None, Ok, Err}
+use Rattle.std.proofs.Common.{◌≡◌, ◌∙◌, refl, ap, arith, ℕ, List, [], ◌∷◌, ◌++◌, drop, length, Some, None, Ok}
 use Rattle.vb_core.specs.declared.kinds.Kind.TheVariants.{Inflate, Statistics}
-use Rattle.vb_core.specs.declared.device.Denial.TheVariants.{NotReady, NoQueue, BadArgument, Misplaced}
+use Rattle.vb_core.specs.declared.device.Denial.TheVariants.{NoQueue, Misplaced}
 use Rattle.vb_core.specs.declared.{device.Device.Device, saved.Saved.Saved, format.TheConstants.SAVED_LENGTH}
 use Rattle.vb_core.specs.{Devices.placed, Saved.save_denial, Format.{FitsSaved, saved_bytes}}
 use Rattle.vb_monitor.specs.{Places.Lies, declared.balloon.Balloon.Balloon}
-use Rattle.vb_c.specs.declared.{answers.{VbChain.VbChain, VbNamed.VbNamed}}
-use Rattle.vb_c.specs.Answers.{chain_of, named_of, used_of}
-use Rattle.vb_c.specs.{Marks.{marked_of, MarksFor}, Chains.{NextFor, NamesFor, Uses}, Registers.Places}
+use Rattle.vb_c.specs.{Marks.{marked_of, MarksFor}, Registers.Places}
 use Rattle.vb_c.specs.{Places.PlacesOver, Saving.Saves}
 use Rattle.vb_c.specs.declared.marks.VbMarked.{VbMarked}
-use Rattle.vb_c.proofs.Samples.{Same, begun, ready, two, balloon}
+use Rattle.vb_c.proofs.Samples.{Same, begun, two, balloon}
+use Rattle.vb_c.proofs.Samples.{a_buffer}
 
 abbrev target_of : Device → ℕ
 target_of d = d.target
@@ -19,23 +18,7 @@ target_of d = d.target
 abbrev changed : Device → Device
 changed d = record d { target = 1 }
 
--- ---- a device that isn't ready answers 3, and what names no pages by numbers 5: each stays
-
-next_succeeds : (d : Device) (pieces bytes : ℕ) → NextFor (Some Inflate) [] [] 0 [] begun d
-    (record { code = 0; rule = 0; head = 0; pieces = pieces; bytes = bytes }) → ⊥
-next_succeeds d pieces bytes (answer, by, is) =
-    let e : Same 0 3 = ap (λ (c : VbChain). c.code) (is ∙ ap chain_of (by.denied NotReady refl).0) in omega arith
-
-next_changes : (c : VbChain) → NextFor (Some Inflate) [] [] 0 [] begun (changed begun) c → ⊥
-next_changes c (answer, by, is) = let e : Same 1 0 = ap target_of (by.denied NotReady refl).1 in omega arith
-
-names_succeed : (d : Device) (pages : ℕ) → NamesFor (Some Statistics) [] 0 [] begun d
-    (record { code = 0; rule = 0; head = 0; runs = 0; pages = pages; skipped = 0 }) → ⊥
-names_succeed d pages (answer, by, is) =
-    let e : Same 0 5 = ap (λ (c : VbNamed). c.code) (is ∙ ap named_of (by.denied NoQueue refl).0) in omega arith
-
-names_change : (c : VbNamed) → NamesFor (Some Statistics) [] 0 [] begun (changed begun) c → ⊥
-names_change c (answer, by, is) = let e : Same 1 0 = ap target_of (by.denied NoQueue refl).1 in omega arith
+-- ---- what names no pages by numbers is no set's kind, and answers 5
 
 abbrev first_word : List ℕ → ℕ
 first_word [] = 0
@@ -50,17 +33,13 @@ marks_change c (answer, by, is) = let e : Same 3 1 = ap first_word (by.denied No
 
 -- ---- what is refused leaves the device as it was
 
-use_changes : Uses Inflate 8 ready (changed ready) (used_of (Err BadArgument)) → ⊥
-unfolding lib.Count.ones
-use_changes h = let e : Same 1 0 = ap target_of (h.denied BadArgument refl).1 in omega arith
-
 place_changes : Places Inflate 0 0x100 0x200 9 begun (changed begun) 6 → ⊥
 unfolding lib.Count.ones
 place_changes h = let e : Same 1 0 = ap target_of (h.denied Misplaced refl).1 in omega arith
 
-place_over_changes : PlacesOver Inflate two 0 0x100 0x200 9 balloon (record balloon { held = 5 }) 6 → ⊥
+place_over_changes : PlacesOver Inflate two 0 0x100 0x200 9 balloon (record balloon { held = a_buffer 5 }) 6 → ⊥
 unfolding lib.Count.ones
-place_over_changes h = let e : Same 5 4 = ap (λ (b : Balloon). b.held) (h.denied Misplaced refl).1 in omega arith
+place_over_changes h = let e : Same 5 4 = ap (λ (b : Balloon). b.held.statistics) (h.denied Misplaced refl).1 in omega arith
 
 -- ---- a queue that lies in memory is placed, and nothing else is changed
 

@@ -13,8 +13,8 @@ use Rattle.vb_core.specs.declared.device.Denial.TheVariants.{NoQueue, BadArgumen
 use Rattle.vb_core.specs.declared.saved.StateDenial.TheVariants.{BadLength as WrongLength, NotAState, OtherVersion, BadSum, Impossible}
 use Rattle.vb_monitor.specs.declared.placing.RestoreDenial.TheVariants.{State, Elsewhere}
 use Rattle.vb_c.specs.Codes.{code_of, rule_in, kind_of_code, code_of_kind, code_in, number_in}
-use Rattle.vb_c.specs.{Codes.{fault_of, why_of}, Answers.{chain_of, named_of, reported_of}}
-use Rattle.vb_c.specs.{Answers.{figures_of, used_of}, Marks.marked_of, Sharing.targets_of}
+use Rattle.vb_c.specs.Codes.{fault_of, why_of}
+use Rattle.vb_c.specs.{Marks.marked_of, Sharing.targets_of}
 use Rattle.vb_c.specs.{Saving.code_of_state, Places.code_of_restore}
 
 -- ---- denials
@@ -104,53 +104,6 @@ too_few : targets_of (Err (Short (record { missing = 9 }))) ≡ record { code = 
 too_few = refl
 
 -- ---- answers
-
-a_chain : chain_of (Ok (Some (record { head = 3; pieces = 2; bytes = 16 }))) ≡
-    record { code = 0; rule = 0; head = 3; pieces = 2; bytes = 16 }
-a_chain = refl
-
-no_chain : chain_of (Ok None) ≡ record { code = 1; rule = 0; head = 0; pieces = 0; bytes = 0 }
-no_chain = refl
-
-a_broken_chain : chain_of (Err (Broken BadNext)) ≡ record { code = 2; rule = 2; head = 0; pieces = 0; bytes = 0 }
-a_broken_chain = refl
-
-names : named_of (Ok (record { runs = 1; pages = 2; skipped = 3 })) ≡
-    record { code = 0; rule = 0; head = 0; runs = 1; pages = 2; skipped = 3 }
-names = refl
-
-names_none : named_of (Err (Broken BadPage)) ≡
-    record { code = 2; rule = 9; head = 0; runs = 0; pages = 0; skipped = 0 }
-names_none = refl
-
-a_report : reported_of (Ok (Some (record { head = 3; runs = 1; pages = 2 }))) ≡
-    record { code = 0; rule = 0; head = 3; runs = 1; pages = 2; skipped = 0 }
-a_report = refl
-
-no_report : reported_of (Ok None) ≡ record { code = 1; rule = 0; head = 0; runs = 0; pages = 0; skipped = 0 }
-no_report = refl
-
-a_wrong_report : reported_of (Err NotReady) ≡
-    record { code = 3; rule = 0; head = 0; runs = 0; pages = 0; skipped = 0 }
-a_wrong_report = refl
-
-a_broken_report : reported_of (Err (Broken BadPage)) ≡
-    record { code = 2; rule = 9; head = 0; runs = 0; pages = 0; skipped = 0 }
-a_broken_report = refl
-
-figures : figures_of (Ok 4) ≡ record { code = 0; rule = 0; count = 4 }
-figures = refl
-
-no_figures : figures_of (Err (Broken BadLength)) ≡ record { code = 2; rule = 8; count = 0 }
-no_figures = refl
-
-a_used_chain : used_of (Ok (record { element_at = 524; index_at = 514; id = 5; length = 7; index = 2 })) ≡
-    record { code = 0; element_at = 524; index_at = 514; id = 5; length = 7; index = 2 }
-a_used_chain = refl
-
-none_used : used_of (Err BadArgument) ≡
-    record { code = 7; element_at = 0; index_at = 0; id = 0; length = 0; index = 0 }
-none_used = refl
 
 marked : marked_of (Ok 3) ≡ record { code = 0; pages = 3 }
 marked = refl

@@ -1,11 +1,11 @@
 -- What the calls for features, the configuration space, reports and targets answer in C, worked out: each refusal, and what it leaves.
 use Rattle.std.proofs.Common.{◌≡◌, refl, ap, ◌∙◌, arith, ℕ, List, [], ◌∷◌, Err}
 use Rattle.vb_balance.specs.declared.need.NoTargets.TheVariants.{OtherLength, Short}
-use Rattle.vb_core.specs.declared.device.{Denial.TheVariants.NotReady, Device.Device}
+use Rattle.vb_core.specs.declared.device.Device.{Device}
 use Rattle.vb_core.specs.Devices.{new_device}
-use Rattle.vb_c.{specs.Answers.reported_of, specs.Registers.{Negotiates, WritesConfig}}
-use Rattle.vb_c.{specs.Chains.Reports, specs.Sharing.{SharesFor, targets_of}}
-use Rattle.vb_c.{specs.declared.answers.VbNamed.VbNamed, specs.declared.sharing.VbTargets.VbTargets}
+use Rattle.vb_c.specs.Registers.{Negotiates, WritesConfig}
+use Rattle.vb_c.specs.Sharing.{SharesFor, targets_of}
+use Rattle.vb_c.specs.declared.sharing.VbTargets.{VbTargets}
 use Rattle.vb_c.proofs.Samples.{Same, settings, begun, ready}
 
 abbrev target_of : Device → ℕ
@@ -96,24 +96,6 @@ whole_refused d h = let e : Same 7 0 = (h.written refl).0 in omega arith
 num_pages_of_the_whole : WritesConfig 0 whole ready (record ready { actual = 261; target = 0x9090909 }) 0 → ⊥
 unfolding lib.Count.ones
 num_pages_of_the_whole h = let e : Same 0x9090909 0 = ap target_of (h.written refl).1 in omega arith
-
--- ---- reports
-
-not_ready : Reports [] [] 32 [] begun begun (reported_of (Err NotReady))
-unfolding lib.Count.ones
-not_ready = (Err NotReady, record { denied = λ why e. (cc, refl); reads = λ e. absurd cc }, refl)
-
-not_ready_changes : (result : VbNamed) → Reports [] [] 32 [] begun (record begun { target = 1 }) result → ⊥
-unfolding lib.Count.ones
-not_ready_changes result (answer, by, is) =
-    let e : Same 1 0 = ap target_of (by.denied NotReady refl).1 in omega arith
-
-reported_although_refused : (d : Device) → Reports [] [] 32 [] begun d
-    (record { code = 0; rule = 0; head = 0; runs = 0; pages = 0; skipped = 0 }) → ⊥
-unfolding lib.Count.ones
-reported_although_refused d (answer, by, is) =
-    let e : Same 0 3 = ap (λ (r : VbNamed). r.code) (is ∙ ap reported_of (by.denied NotReady refl).0) in
-    omega arith
 
 -- ---- targets
 

@@ -5,7 +5,6 @@
 
 mod answers;
 mod bits;
-mod chains;
 mod kinds;
 mod lending;
 mod marks;

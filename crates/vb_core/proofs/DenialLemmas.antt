@@ -7,10 +7,9 @@ use Rattle.vb_core.specs.declared.device.Denial.TheVariants.{NotReady, NeedsRese
 use Rattle.vb_core.specs.declared.{device.Device.Device, kinds.Kind.Kind}
 
 -- The arguments fit, and the queue has its place.
-pub record IsOpen (kind : Kind) (fits copied : Bool) (d : Device) : Type 0 where
+pub record IsOpen (kind : Kind) (fits : Bool) (d : Device) : Type 0 where
   pub fits_so : fits ≡ true
   pub settings : are_settings d.settings ≡ true
-  pub copied_so : copied ≡ true
   pub place : has_place d.settings.memory_end (ring_of kind d) ≡ true
 
 abbrev six_causes : Bool → Bool → Bool → Bool → Bool → Bool → Option Denial
@@ -33,6 +32,6 @@ neither true true h = (refl, refl)
 neither true false h = absurd cc
 neither false b h = absurd cc
 
-pub open_call : (kind : Kind) (known fits copied : Bool) (d : Device) →
-    call_denial kind known fits copied d ≡ None → IsOpen kind fits copied d
-open_call kind known fits copied d h = grind (arith, passes, neither)
+pub open_call : (kind : Kind) (known fits : Bool) (d : Device) →
+    call_denial kind known fits d ≡ None → IsOpen kind fits d
+open_call kind known fits d h = grind (arith, passes, neither)

@@ -1,20 +1,13 @@
-pub mod CopyLemmas
 pub mod RingLemmas
 pub mod DenialLemmas
-pub mod NextLemmas
 pub mod RunLemmas
 pub mod OneTelling
 pub mod NameLemmas
 pub mod NamedLaws
-pub mod ChainAgreement
-pub mod CopyLaws
 pub mod CountLemmas
 pub mod MarkLemmas
 mod Examples
 mod SettingFacts
-mod CopyFacts
-pub mod PopFacts
-mod NextFacts
 mod NameFacts
 mod FitFacts
 mod ConfigFacts
@@ -30,6 +23,7 @@ mod QueueFacts
 mod LifeFacts
 mod WriteFacts
 mod FormatFacts
+mod HeldFacts
 pub mod Numbers
 pub mod PieceLemmas
 pub mod RoundTrip

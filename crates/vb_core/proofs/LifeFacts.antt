@@ -6,8 +6,7 @@ use Rattle.vb_core.specs.declared.kinds.Kind.{Kind, TheVariants.{Inflate, Deflat
 use Rattle.vb_core.specs.declared.ring.Virtqueue.{Virtqueue}
 use Rattle.vb_core.specs.{Ballooned.{puts_in, pages_with_bits}, Kinds.{queue_of, kinds}, Name.is_request}
 use Rattle.vb_core.specs.Devices.{placed, ring_of, with_ring, with_one_taken, needing_reset}
-use Rattle.vb_core.specs.{Devices.{queue_denial, place_denial}, Next.{is_read, device_end}}
-use Rattle.vb_core.specs.Copies.{copied_layout}
+use Rattle.vb_core.specs.Devices.{queue_denial, place_denial}
 use Rattle.vb_core.{proofs.Examples.{settings, fresh}, specs.Rings.{with_taken, with_used}}
 use lib.Count
 
@@ -68,16 +67,6 @@ counted : with_taken (record (ring 8) { next_avail = 7; next_used = 3 })
     ∷ record (ring 8) { next_avail = 7; next_used = 4 } ∷ []
 counted = refl
 
--- where the device's end of a ring goes on
-its_end : device_end (record (ring 8) { next_avail = 7; next_used = 3 }) ≡ record {
-  layout = copied_layout;
-  size = 8;
-  ready = true;
-  next_avail = 7;
-  next_used = 3;
-}
-its_end = refl
-
 -- DEVICE_NEEDS_RESET is 64
 broken : map (λ status. needing_reset (record four { status = status })) (15 ∷ 79 ∷ [])
     ≡ record four { status = 79 } ∷ record four { status = 79 } ∷ []
@@ -97,9 +86,6 @@ in_order = refl
 
 requests : map is_request all ≡ true ∷ true ∷ false ∷ false ∷ []
 requests = refl
-
-reads : map is_read all ≡ true ∷ true ∷ true ∷ false ∷ []
-reads = refl
 
 puts : map puts_in all ≡ true ∷ false ∷ false ∷ false ∷ []
 puts = refl

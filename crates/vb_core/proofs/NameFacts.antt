@@ -4,7 +4,7 @@ use Rattle.std.proofs.Common.{None, take, subst}
 use Rattle.vb_chain.specs.declared.fault.ChainFault.{ChainFault, TheVariants.{BadPage, ReservedPage}}
 use Rattle.vb_request.specs.Request.{numbers_of}
 use Rattle.vb_core.specs.Name.{NamesRuns, NamesBy, name_denial, after_request}
-use Rattle.vb_core.specs.{Next.told, Devices.{placed, needing_reset}, Runs.Tell}
+use Rattle.vb_core.specs.{Name.told, Devices.{placed, needing_reset}, Runs.Tell}
 use Rattle.vb_core.specs.declared.kinds.Kind.TheVariants.{Deflate}
 use Rattle.vb_core.specs.declared.{device.Device.Device, runs.Run.Run, name.Named.Named}
 use Rattle.vb_core.specs.declared.device.Denial.{Denial, TheVariants.Broken}

@@ -9,7 +9,7 @@ use Rattle.std.proofs.lemmas.List.Folds.{list_all-append, list_any_at}
 use Rattle.vb_chain.specs.declared.fault.ChainFault.TheVariants.{WrongDirection, BadLength}
 use Rattle.vb_chain.{specs.declared.fault.ChainFault.ChainFault, specs.declared.pieces.Piece.Piece}
 use Rattle.vb_core.specs.declared.runs.Run.{Run}
-use Rattle.vb_core.{specs.declared.next.ChainPiece.ChainPiece, specs.Next.{piece_in, pieces_in}}
+use Rattle.vb_core.{specs.declared.pieces.ChainPiece.ChainPiece, specs.Pieces.{piece_in, pieces_in}}
 use Rattle.vb_core.specs.Report.{is_reported, are_reported, run_of, is_beyond}
 use Rattle.vb_request.{specs.Request.unless_fault, specs.Report.{first_piece_fault, report_request}}
 use Rattle.vb_request.proofs.Reports.{piece_length}

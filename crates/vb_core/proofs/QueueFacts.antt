@@ -1,16 +1,14 @@
 -- Queues, entries and registers of a device, worked out.
-use Rattle.std.proofs.Common.{◌≡◌, refl, ap, arith, ℕ, true, false, List, [], ◌∷◌, Some, None, Ok}
-use Rattle.std.proofs.Common.{Err, map, ◌++◌}
+use Rattle.std.proofs.Common.{◌≡◌, refl, ap, arith, ℕ, true, false, List, [], ◌∷◌, Some, None}
+use Rattle.std.proofs.Common.{map, ◌++◌}
 use Rattle.vb_core.specs.declared.device.Denial.TheVariants.{NoQueue, BadArgument, NotReady}
-use Rattle.vb_core.specs.{Next.{answer_to, are_copies}, declared.statistics.Statistic.Statistic}
+use Rattle.vb_core.specs.{declared.statistics.Statistic.Statistic}
 use Rattle.vb_core.specs.{Kinds.kind_of, declared.device.Denial.TheVariants.{NeedsReset, Misplaced}}
 use Rattle.vb_core.specs.{Statistics.{AreFigures, figure_at, statistics_denial}, Statuses.after_write}
-use Rattle.vb_core.specs.declared.kinds.Kind.TheVariants.{Inflate, Deflate, Statistics, Report}
-use Rattle.vb_core.specs.{Devices.{placed, queue_denial, call_denial, place_denial}, Next.length_of}
+use Rattle.vb_core.specs.declared.kinds.Kind.TheVariants.{Inflate, Deflate, Report}
+use Rattle.vb_core.specs.Devices.{placed, queue_denial, call_denial, place_denial}
 use Rattle.vb_core.{proofs.Examples.{settings, fresh, ready}, specs.Using.use_denial}
 use Rattle.vb_core.specs.Rings.{is_size, is_part, has_place, with_taken, with_used, used_entry}
-use Rattle.vb_chain.specs.declared.pieces.Piece.{Piece}
-use Rattle.vb_chain.specs.declared.fault.ChainFault.TheVariants.{BadLength, WrongDirection}
 
 -- ---- places
 
@@ -51,12 +49,12 @@ queues_refused : queue_denial Inflate ready ∷ queue_denial Deflate ready
     ∷ queue_denial Report (record ready { features = 0x100000003 })
     ∷ queue_denial Report (record ready { features = 0x100000003; status = 79 })
     ∷ queue_denial Report (record ready { status = 75 })
-    ∷ queue_denial Inflate (record ready { settings = record settings { memory_end = 4096 }; status = 0 })
+    ∷ queue_denial Inflate (record ready { settings = record settings { memory_end = 17592186044416 }; status = 0 })
     ∷ [] ≡ None ∷ Some Misplaced ∷ Some NoQueue ∷ Some NeedsReset ∷ Some NotReady ∷ Some BadArgument ∷ []
 unfolding lib.Count.ones
 queues_refused = refl
 
-kind_first : call_denial Report false false false fresh ≡ Some NoQueue
+kind_first : call_denial Report false false fresh ≡ Some NoQueue
 kind_first = refl
 
 -- a place is given before DRIVER_OK, and not after it
@@ -75,7 +73,7 @@ tenth : used_entry (record (placed 0 256 512 8) { next_used = 9 }) 5
     ≡ record { element_at = 524; index_at = 514; id = 5; length = 0; index = 10 }
 tenth = refl
 
--- the index behind the last one, and behind the first
+-- the index after the last one, and after the first
 indices : (used_entry (record (placed 0 256 512 8) { next_used = 65535 }) 5).index
     ∷ (with_used (placed 0 256 512 8)).next_used ∷ [] ≡ 0 ∷ 1 ∷ []
 indices = refl
@@ -84,29 +82,6 @@ indices = refl
 heads : map (λ head. use_denial Inflate head ready) (7 ∷ 8 ∷ []) ≡ None ∷ Some BadArgument ∷ []
 unfolding lib.Count.ones
 heads = refl
-
--- ---- what is found
-
-abbrev piece : Piece
-piece = record { addr = 4096; len = 8; writable = false }
-
-request : answer_to Inflate (Ok (Some (record { head = 2; chain = piece ∷ piece ∷ [] }))) ≡
-    Ok (Some (record { head = 2; pieces = 2; bytes = 16 }))
-request = refl
-
-no_request : answer_to Inflate (Ok (Some (record { head = 2; chain = record piece { len = 6 } ∷ [] }))) ≡
-    Err BadLength
-no_request = refl
-
--- figures of ten bytes and not of eight, and a request that would be written
-lengths : length_of Statistics (piece ∷ []) ∷ length_of Statistics (record piece { len = 10 } ∷ [])
-    ∷ length_of Inflate (record piece { writable = true } ∷ []) ∷ []
-    ≡ Err BadLength ∷ Ok 10 ∷ Err WrongDirection ∷ []
-lengths = refl
-
--- copies, and the two exchanged
-copied : are_copies 8 20 128 ∷ are_copies 8 128 20 ∷ [] ≡ true ∷ false ∷ []
-copied = refl
 
 -- ---- numbers of queues
 

@@ -1,8 +1,8 @@
 -- What reports name, worked out, and what they don't.
 use Rattle.std.proofs.Common.{◌≡◌, refl, ap, arith, ℕ, true, false, List, [], ◌∷◌, length, Some}
 use Rattle.std.proofs.Common.{None, Result, Ok, Err, map, ◌++◌}
-use Rattle.vb_core.specs.Report.{run_of, report_named, report_of, after_report, pieces_denial}
-use Rattle.vb_core.specs.{Report.are_reported, Next.pieces_in}
+use Rattle.vb_core.specs.Report.{run_of, report_named, pieces_denial}
+use Rattle.vb_core.specs.{Report.are_reported, Pieces.pieces_in}
 use Rattle.vb_core.specs.declared.device.Denial.{Denial, TheVariants.{BadArgument, NotReady, Broken}}
 use Rattle.vb_core.specs.declared.{device.Device.Device, name.Named.Named, runs.Run.Run}
 use Rattle.vb_core.{proofs.Examples.{fresh, ready}, specs.Report.NamesPiecesBy}
@@ -114,19 +114,3 @@ denied_but_changed runs result n =
     omega (arith, ap (λ (d : Device). d.target) (n.denied BadArgument refl).1)
 
 -- ---- in copies
-
--- what was found is answered: nothing, a chain, or a fault
-answered : map (report_of 16) (Ok None ∷ Ok (Some (record { head = 3; chain = two ∷ one ∷ [] }))
-    ∷ Ok (Some (record { head = 3; chain = record one { len = 0 } ∷ [] })) ∷ [])
-    ≡ Ok None ∷ Ok (Some (record { head = 3; runs = 2; pages = 3 })) ∷ Err BadLength ∷ []
-answered = refl
-
--- the device after it: as it was, one further, or in need of a reset
-after_none : after_report (Ok None) ready ≡ ready
-after_none = refl
-
-after_one : (after_report (Ok (Some (record { head = 3; runs = 2; pages = 3 }))) ready).report.next_avail ≡ 1
-after_one = refl
-
-after_fault : (after_report (Err BadPage) ready).status ≡ 79
-after_fault = refl

@@ -1,12 +1,13 @@
 -- The limits of settings, as plain numbers.
 use Rattle.std.proofs.Common.{◌≡◌, ℕ, true, false, [], ◌∷◌, map, refl}
 use Rattle.vb_core.{proofs.Examples.offering, specs.declared.settings.Settings.Settings}
-use Rattle.vb_core.specs.Settings.{are_settings, memory_pages, needs_must_tell, skips}
-use Rattle.vb_core.specs.declared.settings.TheConstants.{LEAST_MEMORY, MEMORY_LIMIT}
+use Rattle.vb_core.specs.Settings.{are_settings, memory_pages, needs_must_tell, skips, holds_chains}
+use Rattle.vb_core.specs.declared.kinds.Kind.TheVariants.{Inflate, Deflate, Statistics, Report}
+use Rattle.vb_core.specs.declared.settings.TheConstants.{MEMORY_LIMIT}
 use Rattle.vb_core.specs.declared.report.TheConstants.{MAX_REPORT_RUNS}
 
--- where memory ends: from 8192 on, and below 2^44
-memory_is : LEAST_MEMORY ∷ MEMORY_LIMIT ∷ [] ≡ 8192 ∷ 17592186044416 ∷ []
+-- memory ends below 2^44
+memory_is : MEMORY_LIMIT ≡ 17592186044416
 memory_is = refl
 
 -- runs that a report's chain may have
@@ -16,8 +17,8 @@ runs_are = refl
 abbrev ending : ℕ → Settings
 ending memory_end = record (offering 0x100000027) { memory_end = memory_end }
 
-ends : map (λ memory_end. are_settings (ending memory_end)) (8191 ∷ 8192 ∷ 17592186044415 ∷ 17592186044416 ∷ [])
-    ≡ false ∷ true ∷ true ∷ false ∷ []
+ends : map (λ memory_end. are_settings (ending memory_end)) (0 ∷ 1 ∷ 17592186044415 ∷ 17592186044416 ∷ [])
+    ≡ true ∷ true ∷ true ∷ false ∷ []
 ends = refl
 
 -- whole pages, and what isn't 0
@@ -28,3 +29,12 @@ switches : needs_must_tell (record (ending 8192) { needs_must_tell = 7 }) ∷ ne
     ∷ skips (record (ending 8192) { skips_bad_pages = 7 }) ∷ skips (ending 8192) ∷ []
     ≡ true ∷ false ∷ true ∷ false ∷ []
 switches = refl
+
+-- which chains are held: statistics always, deflates by the setting, and no others
+held : map (λ kind. holds_chains kind (record (ending 8192) { holds_deflates = 7 }))
+    (Inflate ∷ Deflate ∷ Statistics ∷ Report ∷ []) ≡ false ∷ true ∷ true ∷ false ∷ []
+held = refl
+
+not_held : map (λ kind. holds_chains kind (ending 8192)) (Inflate ∷ Deflate ∷ Statistics ∷ Report ∷ [])
+    ≡ false ∷ false ∷ true ∷ false ∷ []
+not_held = refl

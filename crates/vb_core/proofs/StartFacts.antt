@@ -39,7 +39,7 @@ abbrev nowhere : QueueStart
 nowhere = record (at 5) { size = 7 }
 
 refused : map (start_denial Statistics (started nowhere))
-    (record fresh { settings = record settings { memory_end = 4096 } }
+    (record fresh { settings = record settings { memory_end = 0x100000000000 } }
     ∷ fresh ∷ record fresh { status = 3 } ∷ record fresh { status = 203 } ∷ record fresh { status = 79 }
     ∷ record fresh { status = 15 } ∷ record ready { features = 0x100000021 } ∷ ready ∷ [])
     ≡ Some BadArgument ∷ Some NotReady ∷ Some NotReady ∷ Some NotReady ∷ Some NeedsReset ∷ Some NoQueue

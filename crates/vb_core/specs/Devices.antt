@@ -79,22 +79,22 @@ abbrev pub first_denial : List DenialTest → Option Denial
 first_denial [] = None
 first_denial (test ∷ tests) = if test.holds then Some test.denial else first_denial tests
 
--- What a call on a kind's queue is refused for, where the call is for that kind, its arguments fit,
--- and its copies have the queue's size, or not.
-abbrev pub call_denial : Kind → Bool → Bool → Bool → Device → Option Denial
-call_denial kind known fits copied d =
+-- What a call on a kind's queue is refused for, where the call is for that kind, and its arguments
+-- fit, or not.
+abbrev pub call_denial : Kind → Bool → Bool → Device → Option Denial
+call_denial kind known fits d =
     first_denial
     ((not known ⇛ NoQueue)
     ∷ ((not fits || not (are_settings d.settings)) ⇛ BadArgument)
     ∷ (is_not_ready d.status ⇛ NotReady)
     ∷ (has_fault d.status ⇛ NeedsReset)
     ∷ (lacks_feature d.features (queue_of kind) ⇛ NoQueue)
-    ∷ ((not copied || not (has_place d.settings.memory_end (ring_of kind d))) ⇛ Misplaced)
+    ∷ (not (has_place d.settings.memory_end (ring_of kind d)) ⇛ Misplaced)
     ∷ [])
 
 -- What the use of a kind's queue is refused for, before anything of it is read.
 abbrev pub queue_denial : Kind → Device → Option Denial
-queue_denial kind d = call_denial kind true true true d
+queue_denial kind d = call_denial kind true true d
 
 -- What a place of a kind's queue is refused for.
 abbrev pub place_denial : Kind → Virtqueue → Device → Option Denial

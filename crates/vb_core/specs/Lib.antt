@@ -1,10 +1,10 @@
-pub mod Copies
 pub mod Settings
 pub mod Rings
 pub mod Kinds
+pub mod Held
 pub mod Devices
 pub mod Starting
-pub mod Next
+pub mod Pieces
 pub mod Using
 pub mod Statuses
 pub mod Config

@@ -10,11 +10,16 @@ use Rattle.vb_core.specs.declared.kinds.Kind.TheVariants.{Inflate, Deflate, Stat
 use Rattle.vb_core.specs.declared.runs.Run.{Run}
 use Rattle.vb_core.specs.declared.name.Named.{Named}
 use Rattle.vb_core.specs.declared.device.Denial.{Denial}
+use Rattle.vb_core.specs.declared.device.Denial.TheVariants.{Broken}
 use Rattle.vb_core.specs.declared.device.Device.{Device}
 use Rattle.vb_core.specs.Settings.{memory_pages, skips}
 use Rattle.vb_core.specs.Runs.{Tell}
 use Rattle.vb_core.specs.Devices.{needing_reset, with_one_taken, call_denial}
-use Rattle.vb_core.specs.Next.{told}
+
+-- A fault as the device tells it.
+abbrev pub told : {T : Type 0} → Result T ChainFault → Result T Denial
+told (Err fault) = Err (Broken fault)
+told (Ok x) = Ok x
 
 -- The kind's chains are requests, which name pages by numbers.
 abbrev pub is_request : Kind → Bool
@@ -23,7 +28,7 @@ is_request Deflate = true
 is_request Statistics = false
 is_request Report = false
 
--- The numbers that may be named, where memory has so many pages, of which the first are reserved.
+-- The numbers that may be named, where memory has n pages, of which the first are reserved.
 abbrev pub right_numbers : ℕ → ℕ → List ℕ → List ℕ
 right_numbers reserved count ns = filter (λ n. is_none (number_fault reserved count n)) ns
 
@@ -32,8 +37,8 @@ abbrev pub fault_in : Bool → ℕ → ℕ → List ℕ → Option ChainFault
 fault_in skipping reserved count ns =
     if skipping then None else first_number_fault reserved count ns
 
--- The runs in the front of a list tell these pages in their order; and of so many numbers the
--- others were skipped.
+-- The runs in the front of a list tell these pages in their order; and of n numbers the others were
+-- skipped.
 pub record AreNamed (pages : List ℕ) (all : ℕ) (runs : List Run) (named : Named) : Type 0 where
   pub told_so : Tell (take named.runs runs) pages
   pub few : named.runs ≤ length pages
@@ -47,10 +52,10 @@ pub record NamesRuns (skipping : Bool) (reserved count : ℕ) (ns : List ℕ) (r
   pub named : fault_in skipping reserved count ns ≡ None →
       IsOkAnd result (AreNamed (right_numbers reserved count ns) (length ns) runs)
 
--- What a request is refused for, with so much room and so many bytes.
+-- What a request is refused for, with this much room and n bytes.
 abbrev pub name_denial : Kind → ℕ → ℕ → Device → Option Denial
 name_denial kind len room d =
-    call_denial kind (is_request kind) (is_request_length len && nat_le (len / 4) room) true d
+    call_denial kind (is_request kind) (is_request_length len && nat_le (len / 4) room) d
 
 -- The device after a request: taken, or broken.
 abbrev pub after_request : Kind → Result Named ChainFault → Device → Device

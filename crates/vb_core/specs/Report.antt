@@ -1,4 +1,4 @@
--- Reports, in copies of their ring.
+-- Reports, by their pieces.
 use Rattle.std.specs.Prelude.{◌≡◌, ℕ, ◌/◌, Bool, true, not, ◌&&◌, nat_le, List, length, map, take}
 use Rattle.std.specs.Prelude.{Option, Some, None, Result, Ok, Err, IsOk, is_none}
 use Rattle.std.specs.List.{list_any, list_all}
@@ -6,68 +6,19 @@ use Rattle.vb_virtio.specs.declared.limits.TheConstants.{MAX_REPORT_PIECES}
 use Rattle.vb_virtio.specs.Limits.{page_size}
 use Rattle.vb_chain.specs.declared.pieces.Piece.{Piece}
 use Rattle.vb_chain.specs.declared.fault.ChainFault.{ChainFault}
-use Rattle.vb_ring.specs.declared.device.Taken.{Taken}
 use Rattle.vb_request.specs.Report.{report_request, has_bad_length, piece_fault}
-use Rattle.vb_core.specs.declared.ring.Virtqueue.{Virtqueue}
 use Rattle.vb_core.specs.declared.runs.Run.{Run}
-use Rattle.vb_core.specs.declared.report.Reported.{Reported}
 use Rattle.vb_core.specs.declared.name.Named.{Named}
 use Rattle.vb_core.specs.declared.settings.TheConstants.{MEMORY_LIMIT}
 use Rattle.vb_core.specs.declared.kinds.Kind.TheVariants.{Report}
 use Rattle.vb_core.specs.declared.device.Denial.{Denial}
 use Rattle.vb_core.specs.declared.device.Device.{Device}
-use Rattle.vb_core.specs.Settings.{memory_pages}
-use Rattle.vb_core.specs.Devices.{ring_of, with_one_taken, needing_reset, call_denial}
-use Rattle.vb_core.specs.Next.{PopsCopies, are_copies, told}
-use Rattle.vb_core.specs.Name.{after_request}
+use Rattle.vb_core.specs.Devices.{call_denial}
+use Rattle.vb_core.specs.Name.{after_request, told}
 
 -- The pages of a piece of whole pages.
 abbrev pub run_of : Piece → Run
 run_of piece = record { first = piece.addr / page_size; count = piece.len / page_size }
-
-abbrev pub answer_with : Taken → Result (List ℕ) ChainFault → Result (Option Reported) ChainFault
-answer_with taken (Err fault) = Err fault
-answer_with taken (Ok pages) =
-    Ok (Some (record { head = taken.head; runs = length taken.chain; pages = length pages }))
-
--- The report that was found, where it is one.
-abbrev pub report_of : ℕ → Result (Option Taken) ChainFault → Result (Option Reported) ChainFault
-report_of reserved (Err fault) = Err fault
-report_of reserved (Ok None) = Ok None
-report_of reserved (Ok (Some taken)) = answer_with taken (report_request taken.chain reserved)
-
--- What stands next in copies of a ring, and its pages in the front of a list, one run for a piece.
-pub record ReadsReport (reserved count : ℕ) (r : Virtqueue) (avail table : List ℕ)
-    (runs : List Run) (result : Result (Option Reported) ChainFault) : Type 0 where
-  pub found : Result (Option Taken) ChainFault
-  pub pops : PopsCopies count r avail table found
-  pub answer : result ≡ report_of reserved found
-  pub runs_are : (taken : Taken) → found ≡ Ok (Some taken) → IsOk result →
-      take (length taken.chain) runs ≡ map run_of taken.chain
-
--- What a call for the next report is refused for, with so much room and so many bytes of copies.
-abbrev pub report_denial : ℕ → ℕ → ℕ → Device → Option Denial
-report_denial avail table room d =
-    call_denial Report true (nat_le MAX_REPORT_PIECES room)
-    (are_copies (ring_of Report d).size avail table) d
-
--- The device after a report: taken, broken, or none there.
-abbrev pub after_report : Result (Option Reported) ChainFault → Device → Device
-after_report (Ok None) d = d
-after_report (Ok (Some taken)) d = with_one_taken Report d
-after_report (Err fault) d = needing_reset d
-
--- The next report, on any bytes of the copies.
-pub record ReportsBy (avail table : List ℕ) (room : ℕ) (runs : List Run) (d1 d2 : Device)
-    (result : Result (Option Reported) Denial) : Type 0 where
-  pub denied : (why : Denial) → report_denial (length avail) (length table) room d1 ≡ Some why →
-      (result ≡ Err why) × (d2 ≡ d1)
-  pub reads : report_denial (length avail) (length table) room d1 ≡ None →
-      (answer : Result (Option Reported) ChainFault) ×
-      ReadsReport d1.settings.reserved_pages (memory_pages d1.settings) (ring_of Report d1) avail
-      table runs answer × (result ≡ told answer) × (d2 ≡ after_report answer d1)
-
--- ---- by its pieces
 
 -- The piece is some whole pages, none of them reserved, that the device may write.
 abbrev pub is_reported : ℕ → Piece → Bool
@@ -85,7 +36,7 @@ is_beyond piece = nat_le MEMORY_LIMIT piece.addr
 abbrev pub pieces_denial : List Piece → ℕ → Device → Option Denial
 pieces_denial pieces room d =
     call_denial Report true
-    (nat_le MAX_REPORT_PIECES room && not (list_any is_beyond pieces)) true d
+    (nat_le MAX_REPORT_PIECES room && not (list_any is_beyond pieces)) d
 
 -- What pieces name that are a report of so many runs, or what is wrong with them.
 abbrev pub named_by : ℕ → Result (List ℕ) ChainFault → Result Named ChainFault

@@ -7,4 +7,4 @@ use Rattle.vb_core.specs.Devices.{ring_of, call_denial}
 
 -- What the use of a chain from this head is refused for.
 abbrev pub use_denial : Kind → ℕ → Device → Option Denial
-use_denial kind head d = call_denial kind true (nat_lt head (ring_of kind d).size) true d
+use_denial kind head d = call_denial kind true (nat_lt head (ring_of kind d).size) d

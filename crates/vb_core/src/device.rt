@@ -76,7 +76,7 @@ impl Device {
         }
     }
 
-    /// Where the ring of a kind's queue stands.
+    /// Where the ring of a kind's queue is.
     #[inline(always)]
     fn ring_at(&self, kind: Kind) -> &Virtqueue
         ensures { result.now ≡ ring_of kind self.now }
@@ -124,17 +124,11 @@ impl Device {
         lacks_feature(kind.queue(), Features::from_bits_retain(self.features))
     }
 
-    /// What a call on a kind's queue is refused for, where the call is for that kind, its arguments
-    /// fit, and its copies have the queue's size, or not.
+    /// What a call on a kind's queue is refused for, where the call is for that kind, and its
+    /// arguments fit, or not.
     #[inline(always)]
-    pub(crate) fn call_denial(
-        &self,
-        kind: Kind,
-        known: bool,
-        fits: bool,
-        copied: bool,
-    ) -> Option<Denial>
-        ensures { result ≡ call_denial kind known fits copied self.now }
+    pub(crate) fn call_denial(&self, kind: Kind, known: bool, fits: bool) -> Option<Denial>
+        ensures { result ≡ call_denial kind known fits self.now }
     {
         if !known {
             return Some(Denial::NoQueue);
@@ -152,7 +146,7 @@ impl Device {
         if self.lacks(kind) {
             return Some(Denial::NoQueue);
         }
-        if !copied || !self.ring_at(kind).has_place(self.settings.memory_end) {
+        if !self.ring_at(kind).has_place(self.settings.memory_end) {
             return Some(Denial::Misplaced);
         }
         None
@@ -164,7 +158,7 @@ impl Device {
     pub fn queue_denial(&self, kind: Kind) -> Option<Denial>
         ensures { result ≡ queue_denial kind self.now }
     {
-        self.call_denial(kind, true, true, true)
+        self.call_denial(kind, true, true)
     }
 
     /// What a place of this kind's queue is refused for.
@@ -222,7 +216,7 @@ impl Device {
         }
     }
 
-    /// The host wants so many pages in the balloon.
+    /// Sets the balloon's target to `pages` pages.
     pub fn set_target(&mut self, pages: u32)
         ensures { self.new ≡ record self.old { target = pages } }
     {

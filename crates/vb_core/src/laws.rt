@@ -1,51 +1,28 @@
-//! What a device over copies comes to, in the words of memory.
+//! What a device's answers come to, in the words of memory.
 
-ghost use Rattle.std.specs.Prelude.{◌≡◌, ℕ, ◌+◌, ◌*◌, ◌≤◌, false, List, Result, Ok, Err, IsOkAnd};
+ghost use Rattle.std.specs.Prelude.{◌≡◌, ℕ, ◌+◌, ◌*◌, false, List, Result, Ok, Err, IsOkAnd};
 ghost use Rattle.std.specs.Prelude.{length, take, map};
 ghost use Rattle.vb_virtio.specs.Limits.{page_size};
 ghost use Rattle.vb_virtio.specs.Tests.{is_in};
 ghost use Rattle.vb_virtio.specs.Tests.{AllDistinct};
-ghost use Rattle.vb_ram.specs.Pages.{Pages, end_of};
+ghost use Rattle.vb_ram.specs.Pages.{Pages};
 ghost use Rattle.vb_chain.specs.declared.pieces.Piece.{Piece};
 ghost use Rattle.vb_chain.specs.declared.fault.ChainFault.{ChainFault};
-ghost use Rattle.vb_chain.specs.Table.{descriptor_at};
-ghost use Rattle.vb_chain.specs.Chain.{ChainGives, FaultGives};
 ghost use Rattle.vb_ring.specs.declared.layout.Layout.{Layout};
-ghost use Rattle.vb_ring.specs.Layout.{IsSize};
-ghost use Rattle.vb_ring.specs.Entries.{next_entry, used_place, used_index};
+ghost use Rattle.vb_ring.specs.Entries.{used_place, used_index};
 ghost use Rattle.vb_request.specs.Request.{numbers_of, bytes_of, request_length, page_request};
 ghost use Rattle.vb_request.specs.Report.{pages_of_pieces};
 ghost use Rattle.vb_core.specs.declared.ring.Virtqueue.{Virtqueue};
 ghost use Rattle.vb_core.specs.declared.runs.Run.{Run};
 ghost use Rattle.vb_core.specs.declared.name.Named.{Named};
-ghost use Rattle.vb_core.specs.Copies.{copies_of, copied_layout, AreCopies};
 ghost use Rattle.vb_core.specs.Runs.{pages_of_runs, Tell};
 ghost use Rattle.vb_core.specs.Name.{NamesRuns};
 ghost use Rattle.vb_core.specs.Report.{run_of};
 ghost use Rattle.vb_core.specs.Rings.{used_entry};
 
-/// Where the copies are a ring's bytes in memory, they show the head that memory shows next; and
-/// the chain that memory gives from a head, or the fault, is the one that they give.
-pub fn copies_say_what_memory_says()
-    ensures next { (mem : Pages) (l : Layout) (q taken : ℕ) (avail table : List ℕ) →
-        IsSize q → 2 ≤ length mem → AreCopies mem l q avail table →
-        next_entry (copies_of (length mem) table avail) copied_layout q taken ≡
-        next_entry mem l q taken }
-    ensures chain { (mem : Pages) (l : Layout) (q head : ℕ) (avail table : List ℕ)
-        (pieces : List Piece) → IsSize q → 2 ≤ length mem → AreCopies mem l q avail table →
-        ChainGives (descriptor_at mem l.table) q (end_of mem) head pieces →
-        ChainGives (descriptor_at (copies_of (length mem) table avail) 0) q
-        (end_of (copies_of (length mem) table avail)) head pieces }
-    ensures fault { (mem : Pages) (l : Layout) (q head : ℕ) (avail table : List ℕ)
-        (fault : ChainFault) → IsSize q → 2 ≤ length mem → AreCopies mem l q avail table →
-        FaultGives (descriptor_at mem l.table) q (end_of mem) head fault →
-        FaultGives (descriptor_at (copies_of (length mem) table avail) 0) q
-        (end_of (copies_of (length mem) table avail)) head fault }
-{}
-
 /// Where the bytes are those of a request's pieces in memory, and no number is skipped, what is
 /// named is what a request names there: its first fault; or runs of just its pages, which they tell
-/// in the request's order where no number stands in it twice.
+/// in the request's order where no number is in it twice.
 pub fn runs_are_the_pages_of_the_request()
     ensures fault { (mem : Pages) (pieces : List Piece) (reserved total : ℕ) (runs : List Run)
         (result : Result Named ChainFault) (fault : ChainFault) →
@@ -68,7 +45,7 @@ pub fn runs_are_the_pages_of_the_request()
         IsOkAnd result (λ named. Tell (take named.runs runs) pages) }
 {}
 
-/// Just one list of runs tells given numbers: a number that follows the last run, or stands right
+/// Just one list of runs tells given numbers: a number that follows the last run, or is right
 /// before it, joins it, and any other begins one.
 pub fn numbers_are_told_by_one_list_of_runs()
     ensures { (runs others : List Run) (ns : List ℕ) → Tell runs ns → Tell others ns →

@@ -1,17 +1,17 @@
-//! `Device` is a whole balloon device (VIRTIO 1.1, 5.5) for a guest whose memory is elsewhere, as
-//! in a monitor: it reads private copies that the monitor makes, touches no guest memory, and
-//! answers what is to be done. It allocates nothing.
+//! `Device` is the state of a whole balloon device (VIRTIO 1.1, 5.5) for a guest whose memory is
+//! elsewhere, as in a monitor: its registers and queues, what requests and reports name, and the
+//! set of ballooned pages. It touches no guest memory, and allocates nothing.
 #![tactic(auto)]
 
 mod ballooned;
 mod config;
-mod copies;
 mod device;
 mod format;
+mod held;
 mod kinds;
 mod laws;
 mod name;
-mod next;
+mod pieces;
 mod possible;
 mod report;
 mod ring;
@@ -27,19 +27,21 @@ mod using;
 pub use ballooned::{count_ballooned, is_ballooned, mark};
 pub use device::{Denial, Device};
 pub use format::{FORMAT_VERSION, SAVED_LENGTH};
+pub use held::Held;
 pub use kinds::Kind;
 pub use laws::{
-    a_used_entry_is_the_rings_next, copies_say_what_memory_says,
-    numbers_are_told_by_one_list_of_runs, runs_are_the_pages_of_the_report,
-    runs_are_the_pages_of_the_request,
+    a_used_entry_is_the_rings_next, numbers_are_told_by_one_list_of_runs,
+    runs_are_the_pages_of_the_report, runs_are_the_pages_of_the_request,
 };
 pub use name::Named;
-pub use next::{ChainPiece, NextChain};
-pub use report::{MAX_REPORT_RUNS, Reported};
+pub use pieces::ChainPiece;
+pub use report::MAX_REPORT_RUNS;
 pub use ring::{UsedEntry, Virtqueue, place_in_ring};
 pub use runs::Run;
 pub use saved::{Saved, StateDenial};
-pub use saved_laws::{only_what_was_saved_is_restored, what_was_saved_is_restored};
-pub use settings::{LEAST_MEMORY, MEMORY_LIMIT, PAGE_POISON, Settings};
+pub use saved_laws::{
+    an_older_state_is_restored, only_what_was_saved_is_restored, what_was_saved_is_restored,
+};
+pub use settings::{MEMORY_LIMIT, PAGE_POISON, Settings};
 pub use starting::QueueStart;
 pub use statistics::Statistic;

@@ -1,9 +1,10 @@
 //! What a monitor settles for a device.
 
-ghost use Rattle.std.specs.Prelude.{◌≡◌, ◌<◌, ◌≤◌, ◌^◌, ◌==◌, not, true};
+ghost use Rattle.std.specs.Prelude.{◌≡◌, ◌<◌, ◌^◌, ◌==◌, true};
 ghost use Rattle.vb_core.specs.Settings.{are_settings, memory_pages, needs_must_tell, skips};
-ghost use Rattle.vb_core.specs.Settings.{page_poison, without_poison};
+ghost use Rattle.vb_core.specs.Settings.{page_poison, without_poison, holds_chains};
 
+use crate::Kind;
 use bitflags::Flags;
 use vb_status::Features;
 use vb_virtio::limits::PAGE_SIZE;
@@ -11,9 +12,6 @@ use vb_virtio::negotiation::OFFERED_FEATURES;
 
 /// Guest memory ends before this address, so that 32 bits number its pages.
 pub const MEMORY_LIMIT: u64 = 1 << 44;
-
-/// Guest memory ends at this address at least: it has two pages.
-pub const LEAST_MEMORY: u64 = 8192;
 
 /// The feature PAGE_POISON: the driver says in `poison_val` what its free pages hold (VIRTIO 1.2,
 /// 5.5.3).
@@ -56,22 +54,21 @@ pub struct Settings {
     /// Unless 0, a number that is no page, or a reserved one, is skipped and counted, and breaks no
     /// rule.
     pub skips_bad_pages: u8,
+    /// Unless 0, a deflate is held until it is granted: its chain isn't given back before. A driver
+    /// waits for that only with MUST_TELL_HOST (VIRTIO 1.1, 5.5.6).
+    pub holds_deflates: u8,
 }
 
 impl Settings {
-    /// Whether a device may have these settings: memory ends from 8192 on and below 2^44, and each
-    /// feature that is offered is known, VERSION_1 among them.
+    /// Whether a device may have these settings: memory ends below 2^44, and each feature that is
+    /// offered is known, VERSION_1 among them.
     pub fn are_possible(&self) -> bool
         ensures value { result ≡ are_settings self.now }
-        ensures bounds { result ≡ true →
-            (2 ≤ memory_pages self.now) × (memory_pages self.now < 2 ^ 32) }
+        ensures bounds { result ≡ true → memory_pages self.now < 2 ^ 32 }
     {
         let offered = Features::from_bits_retain(self.offered);
         let known = Features::from_bits_retain(KNOWN);
-        self.memory_end >= LEAST_MEMORY
-            && self.memory_end < MEMORY_LIMIT
-            && known.contains(offered)
-            && offered.version_1()
+        self.memory_end < MEMORY_LIMIT && known.contains(offered) && offered.version_1()
     }
 
     /// How many pages of 4096 bytes memory has.
@@ -94,5 +91,17 @@ impl Settings {
         ensures { result ≡ skips self.now }
     {
         self.skips_bad_pages != 0
+    }
+
+    /// Whether a chain of a kind's queue is held once it was taken, until it is asked for: buffers
+    /// of statistics are (VIRTIO 1.1, 5.5.6.3), and deflates where `holds_deflates` says so.
+    pub fn holds_chains(&self, kind: Kind) -> bool
+        ensures { result ≡ holds_chains kind self.now }
+    {
+        match kind {
+            Kind::Statistics => true,
+            Kind::Deflate => self.holds_deflates != 0,
+            Kind::Inflate | Kind::Report => false,
+        }
     }
 }

@@ -31,7 +31,7 @@ impl Device {
         self.ring(kind).used_entry(self.settings.memory_end, head)
     }
 
-    /// Counts one more used entry of a kind's queue.
+    /// Counts one more used element of a kind's queue.
     #[inline(always)]
     pub fn count_used(&mut self, kind: Kind)
         ensures { self.new ≡ with_ring kind (with_used (ring_of kind self.old)) self.old }
@@ -58,7 +58,7 @@ impl Device {
             (self.new ≡ with_ring kind (with_used (ring_of kind self.old)) self.old) }
     {
         let fits = head < u32::from(self.ring(kind).size);
-        if let Some(why) = self.call_denial(kind, true, fits, true) {
+        if let Some(why) = self.call_denial(kind, true, fits) {
             return Err(why);
         }
         let entry = self.used_entry(kind, head);

@@ -17,6 +17,7 @@ pub mod OwnServes
 mod CallFacts
 mod StepFacts
 mod TakeFacts
+mod ServeFacts
 mod OwnFacts
 mod QueueFacts
 mod BaseFacts

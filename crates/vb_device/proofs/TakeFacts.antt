@@ -34,15 +34,15 @@ breaks d end f is = grind arith where
   here (suc k) e = absurd (omega (arith, e))
 
 -- A take of this queue answers so, leaves this part, and memory as it was.
-abbrev Takes : ℕ → Pages → Part → Result (Option ℕ) Refusal → Part → Type 0
+abbrev pub Takes : ℕ → Pages → Part → Result (Option ℕ) Refusal → Part → Type 0
 Takes q mem p1 answer new = (m2 : Pages) (p2 : Part) (result : Result (Option ℕ) Refusal)
     → TakesBy q mem m2 p1 p2 result → (result ≡ answer) × (p2 ≡ new) × (m2 ≡ mem)
 
 -- This number of entries were taken.
-abbrev at : ℕ → Part
+abbrev pub at : ℕ → Part
 at taken = record no_part { status = 15; queue_size = 8; inflate = queue taken [] }
 
-abbrev broken : Part → Part
+abbrev pub broken : Part → Part
 broken part = record part { status = 79 }
 
 -- ---- of memory that reads as zeros: the index is 0, and descriptor 0 a chain of no bytes
@@ -50,11 +50,11 @@ broken part = record part { status = 79 }
 abbrev pub zeros : Pages
 zeros = None ∷ None ∷ None ∷ None ∷ []
 
-no_more : Takes 0 zeros (at 0) (Ok None) (at 0)
+pub no_more : Takes 0 zeros (at 0) (Ok None) (at 0)
 unfolding byte_at field
 no_more m2 p2 result by = (let left = by.empty refl refl in (left.0, left.1, by.memory))
 
-index_that_jumped : Takes 0 zeros (at 60000) (Err (Broken 7)) (broken (at 60000))
+pub index_that_jumped : Takes 0 zeros (at 60000) (Err (Broken 7)) (broken (at 60000))
 unfolding byte_at field
 index_that_jumped m2 p2 result by =
     let left = by.jump IndexJump refl refl in (left.answer, left.part, by.memory)
@@ -75,15 +75,15 @@ page bytes = Some (record { number = 1; bytes = bytes })
 abbrev table : ℕ → ℕ → Option Page
 table len flags = page (0 ∷ 16 ∷ 0 ∷ 0 ∷ 0 ∷ 0 ∷ 0 ∷ 0 ∷ len ∷ 0 ∷ 0 ∷ 0 ∷ flags ∷ [])
 
-abbrev names : Pages
+abbrev pub names : Pages
 names = table 8 0 ∷ page (17 ∷ 0 ∷ 0 ∷ 0 ∷ 16 ∷ []) ∷ replicate 16 None
 
-abbrev with_request : ℕ → List ℕ → Part
+abbrev pub with_request : ℕ → List ℕ → Part
 with_request h pages = record (at 0) {
   inflate = record { next_avail = 0; next_used = 65535; taken = asked h pages 0 ∷ [] };
 }
 
-request : Takes 0 names (at 65535) (Ok (Some 0)) (with_request 0 (17 ∷ 16 ∷ []))
+pub request : Takes 0 names (at 65535) (Ok (Some 0)) (with_request 0 (17 ∷ 16 ∷ []))
 unfolding byte_at field descriptor_at bytes_of numbers_of page_request
 request m2 p2 result by =
     let left = by.takes 0 (record { addr = 4096; len = 8; writable = false } ∷ []) (17 ∷ 16 ∷ []) refl refl

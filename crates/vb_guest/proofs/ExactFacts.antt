@@ -4,7 +4,7 @@ use Rattle.std.specs.Prelude.{Bool, Option, Some, None, Result, Ok, Err, IsOk, i
 use Rattle.vb_model.{specs.declared.calls.Claim.Claim, specs.declared.places.Place.Place}
 use Rattle.vb_model.specs.declared.calls.Call.TheVariants.{Ask, SetTarget, Free as FreeBlock, Write}
 use Rattle.vb_model.specs.declared.calls.Call.TheVariants.{Take, Work, Finish, Alloc, Read, Sweep}
-use Rattle.vb_model.specs.declared.calls.Call.TheVariants.{Scribble}
+use Rattle.vb_model.specs.declared.calls.Call.TheVariants.{Scribble, Serve}
 use Rattle.vb_model.specs.declared.calls.Claim.TheVariants.{Gave, GaveNoFrame, GaveNoMemory}
 use Rattle.vb_virtio.specs.declared.refusals.Refusal.{Refusal}
 use Rattle.vb_virtio.specs.declared.refusals.Refusal.TheVariants.{NoFrame, NoMemory, AlreadyUp}
@@ -133,6 +133,7 @@ stays : (a b : Moment) (c : List Claim) (reply : Reply)
     × (CallsBy TableAnswers a b c (Take 0) reply → b.driver ≡ a.driver))
     × ((CallsBy TableAnswers a b c Work reply → b.driver ≡ a.driver)
     × (CallsBy TableAnswers a b c (Finish 0 0) reply → b.driver ≡ a.driver)
+    × (CallsBy TableAnswers a b c (Serve 0) reply → b.driver ≡ a.driver)
     × (CallsBy TableAnswers a b c (Sweep 1) reply → b.driver ≡ a.driver))
     × (CallsBy TableAnswers a b c Ask reply → b.driver ≡ a.driver)
     × (CallsBy TableAnswers a b c (SetTarget 3) reply
@@ -140,7 +141,7 @@ stays : (a b : Moment) (c : List Claim) (reply : Reply)
 stays a b c reply = (
   (λ by. by.3, λ by. by.3, λ by. by.3),
   (λ by. by.3, λ by. by.3, λ by. by.3),
-  (λ by. by.3, λ by. by.3, λ by. by.3),
+  (λ by. by.3, λ by. by.3, λ by. by.3, λ by. by.3),
   λ by. by.3,
   λ by. (by.1, by.2, by.3),
 )

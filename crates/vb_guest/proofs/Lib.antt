@@ -80,6 +80,7 @@ mod RogueFacts
 mod LineFacts
 mod LifeFacts
 mod PromiseFacts
+mod ServeFacts
 pub mod ServeCases
 pub mod ServeRefusing
 pub mod ServeStep

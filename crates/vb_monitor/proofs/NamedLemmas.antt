@@ -4,7 +4,7 @@ use Rattle.std.proofs.Common.{◌+◌, length, map, take, Option, Some, None, Re
 use Rattle.vb_chain.{specs.declared.pieces.Piece.Piece, specs.declared.fault.ChainFault.ChainFault}
 use Rattle.vb_request.{specs.Request.numbers_of, specs.Report.report_request}
 use Rattle.vb_core.specs.{Devices.{ring_of, with_one_taken}, Name.{NamesBy, NamesRuns, fault_in}}
-use Rattle.vb_core.specs.{Name.{name_denial, after_request}, Next.told, Report.NamesPiecesBy}
+use Rattle.vb_core.specs.{Name.{name_denial, after_request, told}, Report.NamesPiecesBy}
 use Rattle.vb_core.specs.Report.{pieces_denial, named_by, report_named, run_of}
 use Rattle.vb_core.specs.{Settings.{memory_pages, skips}, declared.device.Denial.Denial}
 use Rattle.vb_core.specs.declared.device.{Denial.TheVariants.NoQueue, Device.Device}

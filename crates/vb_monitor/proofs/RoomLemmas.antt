@@ -1,11 +1,11 @@
 -- As many runs as are told have room.
-use Rattle.vb_core.{specs.Next.{pieces_in, told}, proofs.PieceLemmas.length_in}
+use Rattle.vb_core.{specs.{Pieces.pieces_in, Name.told}, proofs.PieceLemmas.length_in}
 use Rattle.vb_core.specs.Name.{NamesBy, NamesRuns, AreNamed, fault_in, right_numbers, name_denial}
 use Rattle.vb_core.{specs.Name.is_request, specs.Report.{NamesPiecesBy, pieces_denial, named_by}}
 use Rattle.vb_core.{specs.declared.kinds.Kind.Kind, specs.declared.name.Named.Named}
 use Rattle.vb_core.{specs.declared.runs.Run.Run, specs.Devices.call_denial}
 use Rattle.vb_core.{specs.declared.device.Denial.Denial, specs.declared.device.Device.Device}
-use Rattle.vb_core.{specs.Settings.{memory_pages, skips}, specs.declared.next.ChainPiece.ChainPiece}
+use Rattle.vb_core.{specs.Settings.{memory_pages, skips}, specs.declared.pieces.ChainPiece.ChainPiece}
 use Rattle.std.proofs.Common.{◌≡◌, sym, subst, ap, arith, ℕ, ◌≤◌, ◌/◌, Bool, true, false, List}
 use Rattle.std.proofs.Common.{length, Option, Some, None, Result, Ok, Err, refl}
 use Rattle.std.{specs.Prelude.{nat_le, ◌&&◌}, proofs.lemmas.Bool.Decides.nat_tests}
@@ -15,11 +15,11 @@ use Rattle.vb_request.specs.Report.{report_request}
 use Rattle.vb_virtio.specs.declared.limits.TheConstants.{MAX_QUEUE_SIZE}
 use Rattle.vb_monitor.specs.declared.room.TheConstants.{MAX_RUNS}
 
-fits_then : (kind : Kind) (known fits copied : Bool) (d : Device) →
-    call_denial kind known fits copied d ≡ None → fits ≡ true
-fits_then kind known true copied d e = refl
-fits_then kind true false copied d e = cc
-fits_then kind false false copied d e = cc
+fits_then : (kind : Kind) (known fits : Bool) (d : Device) →
+    call_denial kind known fits d ≡ None → fits ≡ true
+fits_then kind known true d e = refl
+fits_then kind true false d e = cc
+fits_then kind false false d e = cc
 
 both_true : (a b : Bool) → (a && b) ≡ true → b ≡ true
 both_true true b e = e
@@ -30,7 +30,7 @@ has_room : (kind : Kind) (len room : ℕ) (d : Device) → name_denial kind len 
 has_room kind len room d e =
     let both : nat_le (len / 4) room ≡ true =
     both_true (is_request_length len) (nat_le (len / 4) room)
-    (fits_then kind (is_request kind) (is_request_length len && nat_le (len / 4) room) true d e) in
+    (fits_then kind (is_request kind) (is_request_length len && nat_le (len / 4) room) d e) in
     grind (arith, nat_tests)
 
 few_runs : (o : Option ChainFault) (skipping : Bool) (reserved count : ℕ) (ns : List ℕ)

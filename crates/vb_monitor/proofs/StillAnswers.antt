@@ -1,27 +1,22 @@
--- What is answered to copies of memory that stays as it is, and what is refused.
+-- What memory has next is done, and is one thing.
 use Rattle.vb_monitor.proofs.StillFound.{ByFound, ends_so}
-use Rattle.vb_monitor.{specs.Chains.{CopiesBy, ServesPieces}}
+use Rattle.vb_monitor.specs.Chains.{CopiesBy, ServesPieces}
 use Rattle.vb_monitor.{specs.declared.outcome.Tally.Tally, specs.Machine.{next_chain, serves}}
 use Rattle.vb_monitor.{specs.Accesses.Access, specs.Giving.Then, specs.Ends.Whole}
-use Rattle.vb_monitor.specs.Still.{AfterReads, DoesAs}
-use Rattle.vb_core.specs.Next.{piece_in, pieces_in, is_read, length_of, next_denial, told}
-use Rattle.vb_core.specs.Next.{are_copies, buffer_of, answer_of, answer_to, after_fault}
+use Rattle.vb_monitor.specs.Still.{AfterReads, ServesTaken, DoesNext, HasNext, in_memory, head_in}
+use Rattle.vb_monitor.specs.Still.{is_read, length_of}
 use Rattle.vb_core.{specs.declared.kinds.Kind.Kind, specs.declared.device.Denial.TheVariants.Broken}
 use Rattle.vb_core.specs.declared.kinds.Kind.TheVariants.{Inflate, Deflate, Statistics, Report}
-use Rattle.vb_core.specs.declared.next.NextChain.{NextChain}
-use Rattle.vb_core.{specs.declared.next.ChainPiece.ChainPiece, specs.declared.device.Denial.Denial}
-use Rattle.vb_core.{specs.declared.device.Device.Device, specs.declared.settings.Settings.Settings}
-use Rattle.vb_core.specs.Devices.{ring_of, needing_reset, queue_denial, call_denial}
-use Rattle.vb_core.specs.Settings.{memory_pages, are_settings}
-use Rattle.std.proofs.Common.{◌≡◌, ◌∙◌, ap, sym, subst, refl, arith, ℕ, ◌+◌, ◌*◌, ◌≤◌, Bool, true}
-use Rattle.std.proofs.Common.{false, List, [], ◌∷◌, length, map, take, Option, Some, None, Result}
-use Rattle.std.proofs.Common.{Ok, Err}
-use Rattle.std.{specs.Prelude.{◌&&◌, ◌==◌, nat_le, not, IsOk}, proofs.lemmas.Bool.Decides.nat_tests}
-use Rattle.vb_virtio.specs.Tests.{one_if}
+use Rattle.vb_core.{specs.declared.device.Device.Device, specs.declared.ring.Virtqueue.Virtqueue}
+use Rattle.vb_core.specs.Devices.{needing_reset}
+use Rattle.std.proofs.Common.{◌≡◌, ◌∙◌, ap, sym, subst, refl, inl, inr, ℕ, Bool, true, false, List, []}
+use Rattle.std.proofs.Common.{Option, Some, None, Result, Ok, Err}
+use Rattle.std.specs.Prelude.{◌&&◌}
 use Rattle.vb_chain.{specs.declared.pieces.Piece.Piece, specs.declared.fault.ChainFault.ChainFault}
+use Rattle.vb_chain.{specs.Chain.{ChainGives, FaultGives}, proofs.Unique.{chain_is_one, chain_or_fault, fault_is_one}}
 use Rattle.vb_ring.specs.declared.device.Taken.{Taken}
 
--- ---- what is answered
+-- ---- what is done
 
 pub served_broken : (still : List Access → Type 0) (kind : Kind) (w : Whole) (next : Then)
     (d : Device) (t : Tally) (head : ℕ)
@@ -40,91 +35,76 @@ served_broken still Statistics w next d t head pieces f log read none stays e h 
     (subst (λ (o : Result ℕ ChainFault). CopiesBy o w next d t head pieces log) e h)
 served_broken still Report w next d t head pieces f log read none stays e h = absurd cc
 
-pub flag_back : (b : Bool) → not (one_if b == 0) ≡ b
-flag_back true = refl
-flag_back false = refl
-
-pub piece_back : (p : Piece) → piece_in (buffer_of p) ≡ p
-piece_back p =
-    ap (λ (b : Bool). record { addr = p.addr; len = p.len; writable = b }) (flag_back p.writable)
-
-pub buffers_back : (ps : List Piece) → pieces_in (map buffer_of ps) ≡ ps
-unfolding pieces_in
-buffers_back [] = refl
-buffers_back (p ∷ ps) = ap (λ (q : Piece). q ∷ map piece_in (map buffer_of ps)) (piece_back p)
-    ∙ ap (λ (qs : List Piece). p ∷ qs) (buffers_back ps)
-
 pub by_length : (still : List Access → Type 0) (w : Whole) (d : Device) (t : Tally)
-    (taken : Taken) (buffers : List ChainPiece)
-    (o : Result ℕ ChainFault) (log : List Access)
+    (taken : Taken) (o : Result ℕ ChainFault) (log : List Access)
     → is_read w.kind ≡ true → t.given ≡ false → length_of w.kind taken.chain ≡ o
-    → (IsOk (answer_of taken o) → take (length taken.chain) buffers ≡ map buffer_of taken.chain)
     → AfterReads still (serves w t d taken.head taken.chain) log
-    → DoesAs still (told (answer_of taken o)) buffers w t (after_fault (answer_of taken o) d) log
-by_length still w d t taken buffers (Err f) log read none e are h =
+    → ServesTaken still taken o w t d log
+by_length still w d t taken (Err f) log read none e h =
     served_broken still w.kind w (next_chain w t) d t taken.head taken.chain f h.rest read none
     h.still_so e h.is
-by_length still w d t taken buffers (Ok bytes) log read none e are h =
-    let same : pieces_in (take (length taken.chain) buffers) ≡ taken.chain =
-    ap (λ (bs : List ChainPiece). pieces_in bs) (are refl) ∙ buffers_back taken.chain in
-    subst (λ (ps : List Piece). AfterReads still (serves w t d taken.head ps) log) (sym same) h
+by_length still w d t taken (Ok bytes) log read none e h = h
 
 pub by_found : (still : List Access → Type 0) (w : Whole) (d : Device) (t : Tally) (found : Result
-    (Option Taken) ChainFault)
-    (buffers : List ChainPiece) (log : List Access) → is_read w.kind ≡ true → t.given ≡ false →
-    ((taken : Taken) → found ≡ Ok (Some taken) → IsOk (answer_to w.kind found) →
-    take (length taken.chain) buffers ≡ map buffer_of taken.chain) → ByFound still found w d t log →
-    DoesAs still (told (answer_to w.kind found)) buffers w t (after_fault
-    (answer_to w.kind found) d) log
-by_found still w d t (Err f) buffers log read none are h = h
-by_found still w d t (Ok None) buffers log read none are h = h
-by_found still w d t (Ok (Some taken)) buffers log read none are h =
-    by_length still w d t taken buffers (length_of w.kind taken.chain) log read none refl
-    (are taken refl) h
-
-pub as_answered : (still : List Access → Type 0) (w : Whole) (d d3 : Device) (t : Tally)
-    (found : Result (Option Taken) ChainFault)
-    (answer : Result (Option NextChain) ChainFault) (result : Result (Option NextChain) Denial)
-    (buffers : List ChainPiece) (log : List Access) → is_read w.kind ≡ true → t.given ≡ false
-    → answer ≡ answer_to w.kind found → ((taken : Taken) → found ≡ Ok (Some taken) → IsOk answer →
-    take (length taken.chain) buffers ≡ map buffer_of taken.chain) → result ≡ told answer
-    → d3 ≡ after_fault answer d → ByFound still found w d t log →
-    DoesAs still result buffers w t d3 log
-as_answered still w d d3 t found answer result buffers log read none e are is after h =
-    subst (λ (o : Result (Option NextChain) Denial). DoesAs still o buffers w t d3 log)
-    (sym (is ∙ ap (λ (o : Result (Option NextChain) ChainFault). told o) e))
-    (subst (λ (x : Device). DoesAs still (told (answer_to w.kind found)) buffers w t x log)
-    (sym (after ∙ ap (λ (o : Result (Option NextChain) ChainFault). after_fault o d) e))
-    (by_found still w d t found buffers log read none
-    (subst (λ (o : Result (Option NextChain) ChainFault). (taken : Taken) →
-    found ≡ Ok (Some taken) → IsOk o →
-    take (length taken.chain) buffers ≡ map buffer_of taken.chain) e are) h))
-
--- ---- what is refused
-
-pub le_so : (a b : ℕ) → a ≤ b → nat_le a b ≡ true
-le_so a b h = grind (arith, nat_tests)
-
-pub copies_so : (size a t : ℕ) → a ≡ 4 + 2 * size → t ≡ 16 * size → are_copies size a t ≡ true
-copies_so size a t e f = grind (arith, nat_tests)
-
-pub refused_alike : (kind : Kind) (a t room : ℕ) (d : Device) → is_read kind ≡ true →
-    (ring_of kind d).size ≤ room → a ≡ 4 + 2 * (ring_of kind d).size →
-    t ≡ 16 * (ring_of kind d).size → next_denial kind a t room d ≡ queue_denial kind d
-refused_alike kind a t room d read fits e f =
-    let size = (ring_of kind d).size in
-    ap (λ (b : Bool). call_denial kind b (nat_le size room) (are_copies size a t) d) read
-    ∙ (ap (λ (b : Bool). call_denial kind true b (are_copies size a t) d) (le_so size room fits)
-    ∙ ap (λ (b : Bool). call_denial kind true true b d) (copies_so size a t e f))
+    (Option Taken) ChainFault) (log : List Access) → is_read w.kind ≡ true → t.given ≡ false →
+    ByFound still found w d t log → DoesNext still w t d log found
+by_found still w d t (Err f) log read none h = h
+by_found still w d t (Ok None) log read none h = h
+by_found still w d t (Ok (Some taken)) log read none h =
+    by_length still w d t taken (length_of w.kind taken.chain) log read none refl h
 
 pub first_of : (a b : Bool) → (a && b) ≡ true → a ≡ true
 first_of true b e = refl
 first_of false b e = absurd cc
 
-pub le_true : (a b : ℕ) → nat_le a b ≡ true → a ≤ b
-le_true a b e = grind (arith, nat_tests)
+-- ---- memory has one thing next
 
-pub two_pages : (s : Settings) → are_settings s ≡ true → 2 ≤ memory_pages s
-two_pages s e =
-    let least : 8192 ≤ s.memory_end = le_true 8192 s.memory_end (grind (arith, first_of)) in
-    omega (arith, least)
+one_of : (a b : ℕ) (o : Result (Option ℕ) ChainFault) → o ≡ Ok (Some a) → o ≡ Ok (Some b) → a ≡ b
+one_of a b o e f = cc
+
+one_fault : (byte : ℕ → ℕ) (end : ℕ) (r : Virtqueue) (f g : ChainFault) →
+    HasNext byte end r (Err f) → HasNext byte end r (Err g) → f ≡ g
+one_fault byte end r f g (inl h) (inl k) = cc
+one_fault byte end r f g (inl h) (inr k) = let e = k.is_next in absurd cc
+one_fault byte end r f g (inr h) (inl k) = let e = h.is_next in absurd cc
+one_fault byte end r f g (inr h) (inr k) =
+    fault_is_one (in_memory byte r.table) r.size end h.head f g h.gives
+    (subst (λ (n : ℕ). FaultGives (in_memory byte r.table) r.size end n g)
+    (one_of k.head h.head (head_in byte r) k.is_next h.is_next) k.gives)
+
+no_chain_breaks : (byte : ℕ → ℕ) (end : ℕ) (r : Virtqueue) (taken : Taken) (f : ChainFault) →
+    HasNext byte end r (Ok (Some taken)) → HasNext byte end r (Err f) → ⊥
+no_chain_breaks byte end r taken f h (inl k) = let e = h.0 in cc
+no_chain_breaks byte end r taken f h (inr k) =
+    chain_or_fault (in_memory byte r.table) r.size end taken.head taken.chain f h.1
+    (subst (λ (n : ℕ). FaultGives (in_memory byte r.table) r.size end n f)
+    (one_of k.head taken.head (head_in byte r) k.is_next h.0) k.gives)
+
+none_breaks : (byte : ℕ → ℕ) (end : ℕ) (r : Virtqueue) (f : ChainFault) →
+    HasNext byte end r (Ok None) → HasNext byte end r (Err f) → ⊥
+none_breaks byte end r f h (inl k) = cc
+none_breaks byte end r f h (inr k) = let e = k.is_next in cc
+
+same_chain : (byte : ℕ → ℕ) (end : ℕ) (r : Virtqueue) (one other : Taken) →
+    HasNext byte end r (Ok (Some one)) → HasNext byte end r (Ok (Some other)) → one ≡ other
+same_chain byte end r one other h k =
+    let head : other.head ≡ one.head = one_of other.head one.head (head_in byte r) k.0 h.0 in
+    let chain : one.chain ≡ other.chain =
+    chain_is_one (in_memory byte r.table) r.size end one.head one.chain other.chain h.1
+    (subst (λ (n : ℕ). ChainGives (in_memory byte r.table) r.size end n other.chain) head k.1) in
+    ap (λ (n : ℕ). record { head = n; chain = one.chain }) (sym head)
+    ∙ ap (λ (ps : List Piece). record { head = other.head; chain = ps }) chain
+
+pub one_next : (byte : ℕ → ℕ) (end : ℕ) (r : Virtqueue)
+    (one other : Result (Option Taken) ChainFault) → HasNext byte end r one →
+    HasNext byte end r other → one ≡ other
+one_next byte end r (Err f) (Err g) h k = ap (λ (x : ChainFault). Err x) (one_fault byte end r f g h k)
+one_next byte end r (Err f) (Ok None) h k = absurd (none_breaks byte end r f k h)
+one_next byte end r (Err f) (Ok (Some b)) h k = absurd (no_chain_breaks byte end r b f k h)
+one_next byte end r (Ok None) (Err g) h k = absurd (none_breaks byte end r g h k)
+one_next byte end r (Ok None) (Ok None) h k = refl
+one_next byte end r (Ok None) (Ok (Some b)) h k = let e = k.0 in absurd cc
+one_next byte end r (Ok (Some a)) (Err g) h k = absurd (no_chain_breaks byte end r a g h k)
+one_next byte end r (Ok (Some a)) (Ok None) h k = let e = h.0 in absurd cc
+one_next byte end r (Ok (Some a)) (Ok (Some b)) h k =
+    ap (λ (x : Taken). Ok (Some x)) (same_chain byte end r a b h k)

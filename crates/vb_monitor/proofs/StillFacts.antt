@@ -1,18 +1,21 @@
--- What is done as is answered to copies of memory, worked out.
+-- What is done as memory says, worked out.
 use Rattle.std.proofs.Common.{◌≡◌, ◌≢◌, ◌∙◌, refl, ap, arith, length-append, ◌+◌, ◌*◌, ◌<◌, zero, suc}
-use Rattle.std.proofs.Common.{length, ℕ, false, List, [], ◌∷◌, ◌++◌, Option, Some, None, Ok, Err}
-use Rattle.vb_core.specs.declared.device.Denial.{Denial, TheVariants.{NotReady, NeedsReset, Broken}}
-use Rattle.vb_core.specs.declared.{device.Device.Device, kinds.Kind.TheVariants.{Inflate, Statistics}}
-use Rattle.vb_chain.specs.declared.fault.ChainFault.TheVariants.{OutOfRam}
-use Rattle.vb_core.specs.declared.{report.Reported.Reported, next.{NextChain.NextChain, ChainPiece.ChainPiece}}
-use Rattle.vb_core.specs.{Next.pieces_in, Devices.with_one_taken}
-use Rattle.vb_monitor.specs.{Regions.spot, declared.outcome.Outcome.Outcome, Ends.Whole}
+use Rattle.std.proofs.Common.{length, map, ℕ, true, false, List, [], ◌∷◌, ◌++◌, Option, Some, None, Result, Ok, Err}
+use Rattle.vb_core.specs.declared.device.Denial.{Denial, TheVariants.{NotReady, Broken}}
+use Rattle.vb_core.specs.declared.kinds.Kind.TheVariants.{Inflate, Deflate, Statistics, Report}
+use Rattle.vb_core.specs.declared.{device.Device.Device}
+use Rattle.vb_chain.specs.declared.fault.ChainFault.{ChainFault, TheVariants.{OutOfRam, IndexJump, BadLength, WrongDirection}}
+use Rattle.vb_chain.specs.declared.{pieces.Piece.Piece}
+use Rattle.vb_ring.specs.declared.device.Taken.{Taken}
+use Rattle.vb_core.specs.{Devices.with_one_taken}
+use Rattle.vb_monitor.specs.{Regions.spot, Ends.Whole}
 use Rattle.vb_monitor.specs.Accesses.{Access, Acquire, TellPages, TellFigures}
 use Rattle.vb_monitor.specs.Machine.{whole, serves}
-use Rattle.vb_monitor.specs.Still.{IsMapped, AfterReads, DoesAs, ReportsAs, ArePartsMapped}
-use Rattle.vb_monitor.proofs.Samples.{Same, two, ring, ready, tally, index, discard, page_5}
-use Rattle.vb_monitor.proofs.Samples.{one_page, pages, piece}
+use Rattle.vb_monitor.specs.Still.{IsMapped, AfterReads, DoesNext, ReportsNext, ArePartsMapped, is_read, length_of}
+use Rattle.vb_monitor.proofs.Samples.{Same, two, ring, ready, tally, index, discard}
+use Rattle.vb_monitor.proofs.Samples.{one_page, pages, piece, chain_of, head_of}
 use Rattle.vb_monitor.proofs.StillReadFacts.{Rest, Any}
+use lib.Count
 
 -- ---- what is guest memory
 
@@ -55,30 +58,34 @@ mapped = record { index = λ e. absurd cc; entry = λ e. absurd cc; descriptors 
 abbrev over : Option Denial → Device → Whole
 over why d = whole two Inflate d (record { tally = tally; why = why; interrupt = false; more = false })
 
-refused : DoesAs Any (Err NotReady) [] (over (Some NotReady) ready) tally ready []
-refused = (refl, refl, tt)
+abbrev Nothing : (List Access → Type 0) → Option Denial → Device → Device → Type 0
+Nothing still why after d = DoesNext still (over why after) tally d [] (Ok None)
 
-for_another_reason : DoesAs Any (Err NotReady) [] (over (Some NeedsReset) ready) tally ready [] → ⊥
-for_another_reason h = let e = h.0 in absurd cc
-
-for_none : DoesAs Any (Err NotReady) [] (over None ready) tally ready [] → ⊥
-for_none h = let e = h.0 in absurd cc
-
-another_device : DoesAs Any (Err NotReady) [] (over (Some NotReady) ready) tally (record ready { target = 9 }) [] → ⊥
-another_device h = let e : Same 0 9 = ap (λ (d : Device). d.target) h.1 in omega arith
-
-nothing_there : DoesAs Any (Ok None) [] (over None ready) tally ready []
+nothing_there : Nothing Any None ready ready
 nothing_there = (refl, refl, tt)
 
+another_device : Nothing Any None ready (record ready { target = 9 }) → ⊥
+another_device h = let e : Same 0 9 = ap (λ (d : Device). d.target) h.1 in omega arith
+
+refused_although_none_is_there : Nothing Any (Some NotReady) ready ready → ⊥
+refused_although_none_is_there h = let e = h.0 in absurd cc
+
 -- no access is left then
-ends_with_accesses : DoesAs Rest (Ok None) [] (over None ready) tally ready [] → ⊥
+ends_with_accesses : Nothing Rest None ready ready → ⊥
 ends_with_accesses h = let e = h.2 in absurd cc
 
-refused_with_accesses : DoesAs Rest (Err NotReady) [] (over (Some NotReady) ready) tally ready [] → ⊥
-refused_with_accesses h = let e = h.2 in absurd cc
+-- a rule is broken: that one, and the device needs a reset
+abbrev Breaks : Option Denial → Device → Type 0
+Breaks why after = DoesNext Any (over why after) tally ready [] (Err IndexJump)
 
-refused_although_none_is_there : DoesAs Any (Ok None) [] (over (Some NotReady) ready) tally ready [] → ⊥
-refused_although_none_is_there h = let e = h.0 in absurd cc
+breaks : Breaks (Some (Broken IndexJump)) (record ready { status = 79 })
+breaks = (refl, refl, tt)
+
+breaks_another : Breaks (Some (Broken OutOfRam)) (record ready { status = 79 }) → ⊥
+breaks_another h = let e = h.0 in absurd cc
+
+breaks_no_device : Breaks (Some (Broken IndexJump)) ready → ⊥
+breaks_no_device h = let e : Same 15 79 = ap (λ (d : Device). d.status) h.1 in omega arith
 
 does_then : AfterReads Any Rest (index ∷ Acquire ∷ discard ∷ [])
 does_then = record { read = index ∷ Acquire ∷ []; rest = discard ∷ []; all = refl; is = refl; still_so = tt }
@@ -94,19 +101,15 @@ after_nothing h = joined h.read h.rest h.all h.is
 of_others : AfterReads (λ rest. rest ≡ []) Rest (index ∷ Acquire ∷ discard ∷ []) → ⊥
 of_others h = let e = h.is in let f = h.still_so in absurd cc
 
--- a chain is served by its own pieces: the first of these, so many
-abbrev chain : ℕ → NextChain
-chain pieces = record { head = 3; pieces = pieces; bytes = 0 }
+-- a chain is served by its pieces: four bytes are a request, in a hole no memory
+abbrev taken : Piece → Taken
+taken p = record { head = 3; chain = p ∷ [] }
 
-abbrev in_the_hole : ChainPiece
-in_the_hole = record { address = 0x15000; length = 4; writable = 0 }
+abbrev in_the_hole : Piece
+in_the_hole = record { addr = 0x15000; len = 4; writable = false }
 
-abbrev short : ChainPiece
-short = record { address = 0x400; length = 3; writable = 0 }
-
-served : DoesAs Any (Ok (Some (chain 1))) (in_the_hole ∷ short ∷ [])
-    (over (Some (Broken OutOfRam)) (record ready { status = 79 })) tally ready (index ∷ Acquire ∷ [])
-unfolding pieces_in
+served : DoesNext Any (over (Some (Broken OutOfRam)) (record ready { status = 79 })) tally ready
+    (index ∷ Acquire ∷ []) (Ok (Some (taken in_the_hole)))
 served = record {
   read = index ∷ Acquire ∷ [];
   rest = [];
@@ -115,27 +118,34 @@ served = record {
   still_so = tt;
 }
 
+-- three bytes are no request
+of_three : DoesNext Any (over (Some (Broken BadLength)) (record ready { status = 79 })) tally ready
+    (index ∷ []) (Ok (Some (taken (record in_the_hole { len = 3 }))))
+of_three = (refl, refl, tt)
+
 unserved_in : (w : Whole) (read rest : List Access) → [] ≡ read ++ rest →
     serves (record w { regions = two; kind = Inflate }) tally ready 3 (piece ∷ []) rest → ⊥
 unserved_in w [] rest e h = let f = h.asks in absurd cc
 unserved_in w (x ∷ xs) rest e h = absurd cc
 
-unserved : (w : Whole) → DoesAs Any (Ok (Some (chain 1))) (record short { length = 4 } ∷ [])
-    (record w { regions = two; kind = Inflate }) tally ready [] → ⊥
-unfolding pieces_in
+unserved : (w : Whole) → DoesNext Any (record w { regions = two; kind = Inflate }) tally ready []
+    (Ok (Some (taken piece))) → ⊥
 unserved w h = unserved_in w h.read h.rest h.all h.is
 
 -- its head counts, which a buffer of statistics is held by
 abbrev holds : ℕ → Whole
 holds head = whole two Statistics (with_one_taken Statistics ready) (record {
-  tally = record tally { held = Some head };
+  tally = record tally { held = chain_of head 0 };
   why = None;
   interrupt = false;
   more = false;
 })
 
-held : DoesAs Any (Ok (Some (chain 0))) (short ∷ []) (holds 3) tally ready (index ∷ TellFigures [] ∷ [])
-unfolding pieces_in lib.Count.ones
+abbrev empty : Result (Option Taken) ChainFault
+empty = Ok (Some (record { head = 3; chain = [] }))
+
+held : DoesNext Any (holds 3) tally ready (index ∷ TellFigures [] ∷ []) empty
+unfolding lib.Count.ones
 held = record {
   read = index ∷ [];
   rest = TellFigures [] ∷ [];
@@ -148,39 +158,47 @@ held = record {
   still_so = tt;
 }
 
-of_another_head : DoesAs Any (Ok (Some (chain 0))) (short ∷ []) (holds 4) tally ready (index ∷ TellFigures [] ∷ []) → ⊥
-unfolding pieces_in lib.Count.ones
-of_another_head h = let e = ap (λ (o : Outcome). o.tally.held) h.is.tells.ends.outcome in absurd cc
+of_another_head : DoesNext Any (holds 4) tally ready (index ∷ TellFigures [] ∷ []) empty → ⊥
+unfolding lib.Count.ones
+of_another_head h = let e : Same 4 3 = ap head_of h.is.tells.ends.outcome in omega arith
+
+-- what the device reads, and which lengths it takes
+reads : map is_read (Inflate ∷ Deflate ∷ Statistics ∷ Report ∷ []) ≡ true ∷ true ∷ true ∷ false ∷ []
+reads = refl
+
+lengths : length_of Statistics (record piece { len = 8 } ∷ []) ∷ length_of Statistics (record piece { len = 10 } ∷ [])
+    ∷ length_of Inflate (record piece { writable = true } ∷ []) ∷ []
+    ≡ Err BadLength ∷ Ok 10 ∷ Err WrongDirection ∷ []
+lengths = refl
 
 -- ---- reports
 
-abbrev reported : Reported
-reported = record { head = 3; runs = 1; pages = 1 }
+abbrev page_of : ℕ → Piece
+page_of n = record { addr = 4096 * n; len = 4096; writable = true }
 
-report_refused : ReportsAs Any (Err NotReady) [] (over (Some NotReady) ready) tally ready []
-report_refused = (refl, refl, tt)
-
-none_reported : ReportsAs Any (Ok None) [] (over None ready) tally ready []
+none_reported : ReportsNext Any (over None ready) tally ready [] (Ok None)
 none_reported = (refl, refl, tt)
 
-refused_although_none_is_reported : ReportsAs Any (Ok None) [] (over (Some NotReady) ready) tally ready [] → ⊥
+refused_although_none_is_reported : ReportsNext Any (over (Some NotReady) ready) tally ready [] (Ok None) → ⊥
 refused_although_none_is_reported h = let e = h.0 in absurd cc
 
-reports_end_with_accesses : ReportsAs Rest (Ok None) [] (over None ready) tally ready [] → ⊥
+reports_end_with_accesses : ReportsNext Rest (over None ready) tally ready [] (Ok None) → ⊥
 reports_end_with_accesses h = let e = h.2 in absurd cc
 
-report_refused_with_accesses : ReportsAs Rest (Err NotReady) [] (over (Some NotReady) ready) tally ready [] → ⊥
-report_refused_with_accesses h = let e = h.2 in absurd cc
-
-another_device_then : ReportsAs Any (Ok None) [] (over None ready) tally (record ready { target = 9 }) [] → ⊥
+another_device_then : ReportsNext Any (over None ready) tally (record ready { target = 9 }) [] (Ok None) → ⊥
 another_device_then h = let e : Same 0 9 = ap (λ (d : Device). d.target) h.1 in omega arith
+
+-- a piece that may only be read is no report
+unwritable : ReportsNext Any (over (Some (Broken WrongDirection)) (record ready { status = 79 })) tally ready []
+    (Ok (Some (taken (record (page_of 5) { writable = false }))))
+unwritable = (refl, refl, tt)
 
 told_in : (read rest more : List Access) (x : Access) → [] ≡ read ++ rest → rest ≡ x ∷ more → ⊥
 told_in [] rest more x e f = absurd cc
 told_in (y ∷ ys) rest more x e f = absurd cc
 
-untold : (w : Whole) (d : Device) → ReportsAs Any (Ok (Some reported)) (page_5 ∷ []) w tally d [] → ⊥
-untold w d h = told_in h.read h.rest h.is.rest _ h.all h.is.asks
+untold : (w : Whole) → ReportsNext Any w tally ready [] (Ok (Some (taken (page_of 5)))) → ⊥
+untold w h = told_in h.read h.rest h.is.rest _ h.all h.is.asks
 
 -- the pages of the report, and no others
 abbrev first_told : List Access → ℕ
@@ -197,5 +215,5 @@ others_in (x ∷ read) rest more e f =
     let some = ap (λ (l : List Access). length l) f in
     omega (arith, all, some, length-append read rest)
 
-others_told : (d : Device) → ReportsAs Any (Ok (Some reported)) (page_5 ∷ []) (over None ready) tally d (page_9 ∷ []) → ⊥
-others_told d h = others_in h.read h.rest h.is.rest h.all h.is.asks
+others_told : ReportsNext Any (over None ready) tally ready (page_9 ∷ []) (Ok (Some (taken (page_of 5)))) → ⊥
+others_told h = others_in h.read h.rest h.is.rest h.all h.is.asks

@@ -1,9 +1,9 @@
 -- What a notice does by what is found, where memory stays as it is.
-use Rattle.std.proofs.Common.{◌≡◌, ◌∙◌, ap, subst, [], refl, arith, ℕ, ◌+◌, ◌*◌, ◌%◌, ◌<◌, ◌≤◌, Bool, true}
+use Rattle.std.proofs.Common.{◌≡◌, ◌∙◌, ap, subst, [], refl, arith, ℕ, ◌+◌, ◌*◌, ◌%◌, ◌≤◌, Bool, true}
 use Rattle.std.proofs.Common.{false, List, ◌∷◌, Option, Some, None, Result, Ok, Err}
-use Rattle.std.specs.Prelude.{if◌then◌else◌, IsOkAnd, IsSomeAnd}
+use Rattle.std.specs.Prelude.{if◌then◌else◌}
 use Rattle.std.proofs.lemmas.Bool.Decides.{nat_tests}
-use Rattle.vb_chain.{specs.declared.pieces.Piece.Piece, specs.declared.fault.ChainFault.ChainFault}
+use Rattle.vb_chain.{specs.declared.fault.ChainFault.ChainFault}
 use Rattle.vb_chain.specs.declared.fault.ChainFault.TheVariants.{IndexJump}
 use Rattle.vb_ring.specs.declared.device.Taken.{Taken}
 use Rattle.vb_core.{specs.declared.ring.Virtqueue.Virtqueue, specs.declared.device.Denial.Denial}
@@ -67,18 +67,3 @@ tests_alike false false head = refl
 
 pub offset_so : (r : Virtqueue) → 2 ≤ r.size → entry_offset r ≡ 4 + 2 * (r.next_avail % r.size)
 offset_so r least = grind (arith, nat_tests)
-
-pub offset_fits : (r : Virtqueue) → 2 ≤ r.size → entry_offset r + 2 ≤ 4 + 2 * r.size
-offset_fits r least =
-    let at : entry_offset r ≡ 4 + 2 * (r.next_avail % r.size) = offset_so r least in
-    let below : r.next_avail % r.size < r.size = grind arith in
-    omega (arith, at, below)
-
-pub chain_found : (found : Result (Option Taken) ChainFault) (h : ℕ) (pieces : List Piece) →
-    IsOkAnd found (λ got. IsSomeAnd got (λ taken. (taken.head ≡ h) × (taken.chain ≡ pieces))) →
-    found ≡ Ok (Some (record { head = h; chain = pieces }))
-chain_found (Err f) h pieces x = absurd x
-chain_found (Ok None) h pieces x = absurd x
-chain_found (Ok (Some taken)) h pieces x =
-    ap (λ (n : ℕ). Ok (Some (record { head = n; chain = taken.chain }))) x.0
-    ∙ ap (λ (ps : List Piece). Ok (Some (record { head = h; chain = ps }))) x.1

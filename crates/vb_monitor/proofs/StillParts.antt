@@ -8,14 +8,13 @@ use Rattle.std.proofs.lemmas.List.FromFn.{length-map-range_with_len}
 use Rattle.vb_chain.{specs.declared.pieces.Piece.Piece, specs.declared.fault.ChainFault.ChainFault}
 use Rattle.vb_core.specs.declared.kinds.Kind.TheVariants.{Inflate, Deflate, Statistics, Report}
 use Rattle.vb_core.{specs.declared.kinds.Kind.Kind, specs.declared.device.Device.Device}
-use Rattle.vb_core.specs.Next.{is_read, length_of}
 use Rattle.vb_monitor.specs.declared.{parts.Part.Part, regions.Spot.Spot, outcome.Tally.Tally}
 use Rattle.vb_monitor.specs.{declared.room.TheConstants.MAX_BYTES, Regions.spot, Accesses.Access}
 use Rattle.vb_monitor.specs.{Accesses.CopyBytes, Ends.Whole, Pieces.{first_part, second_part}}
 use Rattle.vb_monitor.specs.Pieces.{unless_empty, parts_of, all_parts, fits_behind, PartAt, PartBy}
 use Rattle.vb_monitor.specs.{Pieces.CopiesParts, Chains.{AfterBytes, ServesPieces, CopiesBy}}
 use Rattle.vb_monitor.specs.{Giving.Then, Machine.{next_chain, serves, served}, Still.bytes_from}
-use Rattle.vb_monitor.specs.Still.{bytes_of, ArePartsMapped, Holds}
+use Rattle.vb_monitor.specs.Still.{bytes_of, ArePartsMapped, Holds, is_read, length_of}
 use Rattle.vb_monitor.specs.Still.{StaysUntil, AfterReads}
 use Rattle.vb_monitor.proofs.StillWalk.{copied_as}
 

@@ -1,12 +1,11 @@
--- What memory has, its copies, and memory that stays as it is while it is read, worked out.
+-- What memory has, and memory that stays as it is while it is read, worked out.
 use Rattle.std.proofs.Common.{◌≡◌, refl, ap, arith, length, ℕ, false, true, List, [], ◌∷◌}
 use Rattle.std.specs.List.{AllByRecursion}
 use Rattle.vb_monitor.specs.declared.regions.Region.{Region}
 use Rattle.vb_monitor.specs.Accesses.{Access, ReadWord, CopyBytes, Acquire, Release, Full}
 use Rattle.vb_monitor.specs.Accesses.{TellPages, TellFigures, Discard, WriteNumber, WriteWord}
-use Rattle.vb_monitor.specs.Still.{bytes_from, bytes_of, Holds, StaysUntil, AreThese, avail_copy}
-use Rattle.vb_monitor.specs.Still.{table_copy}
-use Rattle.vb_monitor.proofs.Samples.{Same, two, at, ring, index, discard, pages}
+use Rattle.vb_monitor.specs.Still.{bytes_from, bytes_of, Holds, StaysUntil, AreThese}
+use Rattle.vb_monitor.proofs.Samples.{Same, two, at, index, discard, pages}
 
 -- each byte is the lowest of its address; all are 0
 abbrev pub own : ℕ → ℕ
@@ -22,15 +21,6 @@ three = refl
 
 none : bytes_from own 5 0 ≡ []
 none = refl
-
--- the index and the flags in front, an entry for each descriptor; 16 bytes for each descriptor
-available : avail_copy own (record ring { avail = 100; size = 2 }) ≡
-    100 ∷ 101 ∷ 102 ∷ 103 ∷ 104 ∷ 105 ∷ 106 ∷ 107 ∷ []
-available = refl
-
-descriptors : table_copy own (record ring { table = 20; size = 1 }) ≡
-    20 ∷ 21 ∷ 22 ∷ 23 ∷ 24 ∷ 25 ∷ 26 ∷ 27 ∷ 28 ∷ 29 ∷ 30 ∷ 31 ∷ 32 ∷ 33 ∷ 34 ∷ 35 ∷ []
-descriptors = refl
 
 one_behind_the_other : bytes_of own (record { addr = 5; len = 2; writable = false }
     ∷ record { addr = 9; len = 1; writable = true } ∷ []) ≡ 5 ∷ 6 ∷ 9 ∷ []

@@ -1,5 +1,5 @@
 -- A chain's first descriptor, and the word that is read next.
-use Rattle.vb_core.{proofs.PieceLemmas.none_in, specs.Next.pieces_in, specs.Devices.ring_of}
+use Rattle.vb_core.{proofs.PieceLemmas.none_in, specs.Pieces.pieces_in, specs.Devices.ring_of}
 use Rattle.vb_core.specs.declared.device.Device.{Device}
 use Rattle.std.proofs.Common.{◌≡◌, sym, subst, ℕ, ◌+◌, ◌-◌, ◌<◌, ◌*◌, Bool, true, false}
 use Rattle.std.{proofs.Common.{arith, refl, List, [], Option, Some, None, Result, Ok, Err}, proofs.lemmas.Bool.Decides.nat_tests}

@@ -6,7 +6,7 @@ use Rattle.vb_chain.specs.declared.descriptor.TheConstants.{DESCRIPTOR_SIZE}
 use Rattle.vb_chain.specs.declared.pieces.Piece.{Piece}
 use Rattle.vb_core.specs.declared.kinds.Kind.{Kind}
 use Rattle.vb_core.specs.declared.runs.Run.{Run}
-use Rattle.vb_core.specs.declared.next.ChainPiece.{ChainPiece}
+use Rattle.vb_core.specs.declared.pieces.ChainPiece.{ChainPiece}
 use Rattle.vb_core.specs.declared.statistics.Statistic.{Statistic}
 use Rattle.vb_core.specs.declared.device.Device.{Device}
 use Rattle.vb_core.specs.Devices.{ring_of}
@@ -32,7 +32,7 @@ use Rattle.vb_monitor.specs.Ends.{Whole, Stops, AsksFlags}
 use Rattle.vb_monitor.specs.Giving.{Then, used_accesses, with_given, WritesUsed, DiscardsThen}
 use Rattle.vb_monitor.specs.Giving.{TellsThen}
 use Rattle.vb_monitor.specs.Pieces.{second_part, unless_empty, all_parts, AsksPart}
-use Rattle.vb_core.specs.Next.{pieces_in}
+use Rattle.vb_core.specs.Pieces.{pieces_in}
 use Rattle.vb_monitor.specs.Pieces.{CopiesParts}
 use Rattle.vb_monitor.specs.Chains.{descriptors, TableRow, row_of, AsksRow, Follows, ServesPieces}
 use Rattle.vb_monitor.specs.Chains.{AfterBytes, TellsThenEnds}
@@ -154,7 +154,7 @@ waits (GivesBack spots entry) = false
 
 -- What comes once the chain that is being served was given back.
 abbrev pub next_chain : Whole → Tally → Then
-next_chain w tally = AfterGiven w.kind w (ServesPublished tally.chains w)
+next_chain w tally = AfterGiven w (ServesPublished tally.chains w)
 
 abbrev pub serves : Whole → Tally → Device → ℕ → List Piece → List Access → Type 0
 serves w tally d head pieces log =

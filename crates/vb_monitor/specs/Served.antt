@@ -3,7 +3,7 @@ use Rattle.std.specs.Prelude.{ℕ, Bool, true, false, not, ◌&&◌, ◌==◌, n
 use Rattle.std.specs.Prelude.{length, take, Option, Some, None, is_some, if◌then◌else◌}
 use Rattle.vb_core.specs.declared.kinds.Kind.{Kind}
 use Rattle.vb_core.specs.declared.kinds.Kind.TheVariants.{Inflate, Deflate, Statistics, Report}
-use Rattle.vb_core.specs.declared.next.ChainPiece.{ChainPiece}
+use Rattle.vb_core.specs.declared.pieces.ChainPiece.{ChainPiece}
 use Rattle.vb_core.specs.declared.device.Device.{Device}
 use Rattle.vb_core.specs.declared.ring.UsedEntry.{UsedEntry}
 use Rattle.vb_core.specs.declared.runs.Run.{Run}
@@ -17,7 +17,7 @@ use Rattle.vb_monitor.specs.declared.parts.Part.{Part}
 use Rattle.vb_monitor.specs.Regions.{holds, cuts_of}
 use Rattle.vb_monitor.specs.Giving.{used_spots, with_given}
 use Rattle.vb_monitor.specs.Usual.{word_place}
-use Rattle.vb_core.specs.Next.{pieces_in}
+use Rattle.vb_core.specs.Pieces.{pieces_in}
 use Rattle.vb_monitor.specs.Machine.{behind_part}
 
 abbrev pub none_left : List Part → Bool
@@ -29,18 +29,11 @@ abbrev pub is_last : Place → List ChainPiece → Bool
 is_last place pieces =
     none_left (behind_part place.is_second place.piece (pieces_in (take place.count pieces)))
 
--- A queue of this kind goes on with its next chain once one was given back.
-abbrev pub goes_on : Kind → Bool
-goes_on Inflate = true
-goes_on Deflate = true
-goes_on Statistics = false
-goes_on Report = true
-
--- The word that is read once the chain of this head was given back, where that is a descriptor's
--- number, and all that is written for it is guest memory.
+-- The word that is read once the chain of this head was given back, where no chain is held, the
+-- head is a descriptor's number, and all that is written for it is guest memory.
 abbrev pub word_behind : List Region → Kind → Tally → ℕ → Device → Option NextWord
 word_behind regions kind tally head d =
-    if goes_on kind && nat_lt head (ring_of kind d).size
+    if not (is_some tally.held) && nat_lt head (ring_of kind d).size
     && is_some (used_spots regions (used_entry (ring_of kind d) head))
     then word_place regions (with_given tally) (ring_of kind d) else None
 

@@ -1,30 +1,40 @@
--- A notice over memory that stays as it is for as long as the notice reads of it, beside what the
--- device answers to private copies of that memory.
-use Rattle.std.specs.Prelude.{◌≡◌, ◌≢◌, ℕ, ◌+◌, ◌*◌, ◌<◌, List, [], ◌∷◌, ◌++◌, length, map, take}
-use Rattle.std.specs.Prelude.{Option, Some, None, Result, Ok, Err}
+-- A notice over memory that stays as it is for as long as the notice reads of it: it does what the
+-- bytes of memory say.
+use Rattle.std.specs.Prelude.{◌≡◌, ◌≢◌, ◌⊎◌, ℕ, ◌+◌, ◌*◌, ◌%◌, ◌<◌, List, [], ◌∷◌, ◌++◌, length}
+use Rattle.std.specs.Prelude.{map, Bool, true, false, Option, Some, None, Result, Ok, Err}
 use Rattle.std.specs.List.{range_with_len, flat_map, AllByRecursion}
 use Rattle.std.specs.Int.{w16, from_le_bytes}
+use Rattle.vb_chain.specs.declared.descriptor.Descriptor.{Descriptor}
 use Rattle.vb_chain.specs.declared.pieces.Piece.{Piece}
+use Rattle.vb_chain.specs.declared.fault.ChainFault.{ChainFault}
+use Rattle.vb_chain.specs.declared.fault.ChainFault.TheVariants.{IndexJump}
+use Rattle.vb_chain.specs.Chain.{ChainGives, FaultGives}
+use Rattle.vb_ring.specs.declared.device.Taken.{Taken}
+use Rattle.vb_ring.specs.Entries.{ahead, next_by}
+use Rattle.vb_request.specs.Request.{request_length}
+use Rattle.vb_request.specs.Statistics.{statistics_length}
+use Rattle.vb_request.specs.Report.{report_request}
+use Rattle.vb_core.specs.declared.kinds.Kind.{Kind}
+use Rattle.vb_core.specs.declared.kinds.Kind.TheVariants.{Inflate, Deflate, Statistics, Report}
 use Rattle.vb_core.specs.declared.ring.Virtqueue.{Virtqueue}
-use Rattle.vb_core.specs.declared.next.ChainPiece.{ChainPiece}
-use Rattle.vb_core.specs.declared.next.NextChain.{NextChain}
-use Rattle.vb_core.specs.declared.report.Reported.{Reported}
-use Rattle.vb_core.specs.declared.runs.Run.{Run}
 use Rattle.vb_core.specs.declared.device.Denial.{Denial}
+use Rattle.vb_core.specs.declared.device.Denial.TheVariants.{Broken}
 use Rattle.vb_core.specs.declared.device.Device.{Device}
+use Rattle.vb_core.specs.Devices.{ring_of, with_one_taken, needing_reset}
+use Rattle.vb_core.specs.Report.{run_of}
 use Rattle.vb_monitor.specs.declared.regions.Region.{Region}
 use Rattle.vb_monitor.specs.declared.parts.Part.{Part}
 use Rattle.vb_monitor.specs.declared.outcome.{Budget.Budget, Tally.Tally}
 use Rattle.vb_monitor.specs.Accesses.{Access, ReadWord, CopyBytes, Acquire, Release, Full}
 use Rattle.vb_monitor.specs.Accesses.{TellPages, TellFigures, Discard, WriteNumber, WriteWord}
 use Rattle.vb_monitor.specs.Regions.{spot}
+use Rattle.vb_monitor.specs.Chains.{descriptor_of, memory_end}
 use Rattle.vb_monitor.specs.Ends.{Whole}
 use Rattle.vb_monitor.specs.Notices.{entry_offset, fresh, with_chains, with_published}
-use Rattle.vb_core.specs.Next.{pieces_in}
 use Rattle.vb_monitor.specs.Machine.{next_chain, serves}
 use Rattle.vb_monitor.specs.Giving.{TellsThen, spent}
 
--- So many bytes of memory from an address on.
+-- n bytes of memory from an address on.
 abbrev pub bytes_from : (ℕ → ℕ) → ℕ → ℕ → List ℕ
 bytes_from byte a len = map byte (range_with_len a len)
 
@@ -73,16 +83,65 @@ pub record IsMapped (regions : List Region) (r : Virtqueue) : Type 0 where
   pub entry : spot regions (r.avail + entry_offset r) 2 ≢ None
   pub descriptors : (k : ℕ) → k < r.size → spot regions (r.table + 16 * k) 16 ≢ None
 
--- Copies of the available ring, up to its last entry, and of the table.
-abbrev pub avail_copy : (ℕ → ℕ) → Virtqueue → List ℕ
-avail_copy byte r = bytes_from byte r.avail (4 + 2 * r.size)
+-- ---- the chain that is next, by the bytes of memory
 
-abbrev pub table_copy : (ℕ → ℕ) → Virtqueue → List ℕ
-table_copy byte r = bytes_from byte r.table (16 * r.size)
-
--- The available index of memory.
+-- The available index of memory, and the entry that is taken next (VIRTIO 1.1, 2.6.6).
 abbrev pub index_in : (ℕ → ℕ) → Virtqueue → ℕ
 index_in byte r = from_le_bytes w16 (bytes_from byte (r.avail + 2) 2)
+
+abbrev pub entry_in : (ℕ → ℕ) → Virtqueue → ℕ
+entry_in byte r =
+    from_le_bytes w16 (bytes_from byte (r.avail + (4 + 2 * (r.next_avail % r.size))) 2)
+
+-- The descriptors that memory has from an address on.
+abbrev pub in_memory : (ℕ → ℕ) → ℕ → ℕ → Descriptor
+in_memory byte table i = descriptor_of (bytes_from byte (table + 16 * i) 16)
+
+-- The head that is next: none where the index says that all are taken, and a fault where the index
+-- is further ahead than the queue has descriptors.
+abbrev pub head_in : (ℕ → ℕ) → Virtqueue → Result (Option ℕ) ChainFault
+head_in byte r =
+    next_by (ahead (index_in byte r) r.next_avail) r.size IndexJump (entry_in byte r)
+
+-- A head is next, and this is the first rule that is broken on the way from it (VIRTIO 1.1, 2.6.5),
+-- in memory of n bytes.
+pub record IsBrokenNext (byte : ℕ → ℕ) (end : ℕ) (r : Virtqueue) (fault : ChainFault) :
+    Type 0 where
+  pub head : ℕ
+  pub is_next : head_in byte r ≡ Ok (Some head)
+  pub gives : FaultGives (in_memory byte r.table) r.size end head fault
+
+-- Memory of n bytes has this next on a queue: no chain; the chain of a head, with its pieces; or
+-- the rule that is broken.
+abbrev pub HasNext : (ℕ → ℕ) → ℕ → Virtqueue → Result (Option Taken) ChainFault → Type 0
+HasNext byte end r (Ok None) = head_in byte r ≡ Ok None
+HasNext byte end r (Ok (Some taken)) =
+    (head_in byte r ≡ Ok (Some taken.head)) ×
+    ChainGives (in_memory byte r.table) r.size end taken.head taken.chain
+HasNext byte end r (Err fault) = (head_in byte r ≡ Err fault) ⊎ IsBrokenNext byte end r fault
+
+-- Memory has something next on a kind's queue, of which `does` holds.
+pub record Finds (byte : ℕ → ℕ) (kind : Kind) (d : Device)
+    (does : Result (Option Taken) ChainFault → Type 0) : Type 0 where
+  pub found : Result (Option Taken) ChainFault
+  pub is_next : HasNext byte (memory_end d) (ring_of kind d) found
+  pub does_so : does found
+
+-- The bytes of the kind's chains are the device's to read.
+abbrev pub is_read : Kind → Bool
+is_read Inflate = true
+is_read Deflate = true
+is_read Statistics = true
+is_read Report = false
+
+-- How many bytes the pieces of a chain of this kind have, or what is wrong with them.
+abbrev pub length_of : Kind → List Piece → Result ℕ ChainFault
+length_of Inflate pieces = request_length pieces
+length_of Deflate pieces = request_length pieces
+length_of Statistics pieces = statistics_length pieces
+length_of Report pieces = request_length pieces
+
+-- ---- what is done
 
 -- What a notice of this budget may serve after the chain that it takes first, and this index.
 abbrev pub as_read : ℕ → Budget → ℕ → Tally
@@ -96,30 +155,47 @@ pub record AfterReads (still does : List Access → Type 0) (log : List Access) 
   pub is : does rest
   pub still_so : still rest
 
--- A notice does what is answered: it ends for the reason that is answered, or as nothing is there,
--- with the same device; or the chain that is answered is served, by its pieces, which are the first
--- of these. What still holds is known of the accesses then.
-abbrev pub DoesAs : (List Access → Type 0) → Result (Option NextChain) Denial → List ChainPiece →
-    Whole → Tally → Device → List Access → Type 0
-DoesAs still (Err why) buffers w tally d log =
-    (w.outcome.why ≡ Some why) × (w.device ≡ d) × still []
-DoesAs still (Ok None) buffers w tally d log =
-    (w.outcome.why ≡ None) × (w.device ≡ d) × still []
-DoesAs still (Ok (Some chain)) buffers w tally d log =
-    AfterReads still (serves w tally d chain.head (pieces_in (take chain.pieces buffers))) log
+-- A notice ends for this reason, or without one, and leaves this device; no further access comes.
+abbrev pub EndsSo : (List Access → Type 0) → Option Denial → Whole → Device → Type 0
+EndsSo still why w d = (w.outcome.why ≡ why) × (w.device ≡ d) × still []
 
--- A notice of reports does what is answered: it ends as above; or the pages of the report that is
--- answered are told, as the first of these runs, and then discarded, if they may be.
-abbrev pub ReportsAs : (List Access → Type 0) → Result (Option Reported) Denial → List Run →
-    Whole → Tally → Device → List Access → Type 0
-ReportsAs still (Err why) runs w tally d log =
-    (w.outcome.why ≡ Some why) × (w.device ≡ d) × still []
-ReportsAs still (Ok None) runs w tally d log =
-    (w.outcome.why ≡ None) × (w.device ≡ d) × still []
-ReportsAs still (Ok (Some found)) runs w tally d log =
-    AfterReads still (TellsThen w (next_chain w tally) d (spent found.pages tally) found.head
-    (take found.runs runs)
-    (record { runs = found.runs; pages = found.pages; skipped = 0 })) log
+-- A chain is served by its pieces; or a rule is broken, as their length is none of its kind.
+abbrev pub ServesTaken : (List Access → Type 0) → Taken → Result ℕ ChainFault → Whole → Tally →
+    Device → List Access → Type 0
+ServesTaken still taken (Err fault) w tally d log =
+    EndsSo still (Some (Broken fault)) w (needing_reset d)
+ServesTaken still taken (Ok bytes) w tally d log =
+    AfterReads still (serves w tally d taken.head taken.chain) log
+
+-- A notice does what memory has next: it ends as nothing is there, or as a rule is broken; or it
+-- serves the chain. What still holds is known of the accesses then.
+abbrev pub DoesNext : (List Access → Type 0) → Whole → Tally → Device → List Access →
+    Result (Option Taken) ChainFault → Type 0
+DoesNext still w tally d log (Err fault) =
+    EndsSo still (Some (Broken fault)) w (needing_reset d)
+DoesNext still w tally d log (Ok None) = EndsSo still None w d
+DoesNext still w tally d log (Ok (Some taken)) =
+    ServesTaken still taken (length_of w.kind taken.chain) w tally d log
+
+-- The pages of a report are told, a run for each piece, and then discarded, if they may be; or a
+-- rule is broken, as the pieces are no report.
+abbrev pub TellsTaken : (List Access → Type 0) → Taken → Result (List ℕ) ChainFault → Whole →
+    Tally → Device → List Access → Type 0
+TellsTaken still taken (Err fault) w tally d log =
+    EndsSo still (Some (Broken fault)) w (needing_reset d)
+TellsTaken still taken (Ok pages) w tally d log =
+    AfterReads still (TellsThen w (next_chain w tally) (with_one_taken Report d)
+    (spent (length pages) tally) taken.head (map run_of taken.chain)
+    (record { runs = length taken.chain; pages = length pages; skipped = 0 })) log
+
+-- A notice of reports does what memory has next: it ends as above, or the report's pages are told.
+abbrev pub ReportsNext : (List Access → Type 0) → Whole → Tally → Device → List Access →
+    Result (Option Taken) ChainFault → Type 0
+ReportsNext still w tally d log (Err fault) =
+    EndsSo still (Some (Broken fault)) w (needing_reset d)
+ReportsNext still w tally d log (Ok None) = EndsSo still None w d
+ReportsNext still w tally d log (Ok (Some taken)) =
+    TellsTaken still taken (report_request taken.chain d.settings.reserved_pages) w tally d log
 
 -- ---- the bytes of its pieces
 

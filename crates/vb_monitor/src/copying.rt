@@ -8,7 +8,7 @@ ghost use Rattle.vb_monitor.specs.declared.outcome.Outcome.{Outcome};
 ghost use Rattle.vb_monitor.specs.Accesses.{Access};
 ghost use Rattle.vb_monitor.specs.declared.room.TheConstants.{MAX_BYTES};
 ghost use Rattle.vb_monitor.specs.Pieces.{PartBy, fits_behind, CopiesParts, all_parts};
-ghost use Rattle.vb_core.specs.Next.{pieces_in};
+ghost use Rattle.vb_core.specs.Pieces.{pieces_in};
 ghost use Rattle.vb_monitor.specs.Machine.{Fits, Room, Ahead, whole, room_of, served, behind_part};
 ghost use Rattle.vb_monitor.specs.Left.{left, of_chains, once_named};
 ghost use Rattle.vb_virtio.specs.declared.limits.TheConstants.{MAX_QUEUE_SIZE};
@@ -75,14 +75,14 @@ fn ask_part(
     }
 }
 
-/// The first bytes, so many.
+/// The first `count` bytes.
 pub(crate) fn first_bytes(bytes: &[u8; MAX_BYTES], count: usize) -> &[u8]
     ensures { result.now ≡ take count bytes.now }
 {
     &bytes[..count.min(MAX_BYTES)]
 }
 
-/// Copies the pieces from this number on, behind so many bytes that were copied.
+/// Copies the pieces from this number on, after the bytes that were copied.
 #[tactic(auto, using(crate::proofs::NextLemmas::copy_steps))]
 #[inline(always)]
 pub(crate) fn copy_on(
@@ -126,7 +126,7 @@ pub(crate) fn copy_on(
     }
 }
 
-/// Copies the second part of a piece, or what stands behind it.
+/// Copies the second part of a piece, or what comes after it.
 #[tactic(auto, using(crate::proofs::NextLemmas::second_steps))]
 fn copy_second(
     device: &mut Device,
@@ -169,7 +169,7 @@ fn copy_second(
     )
 }
 
-/// A part was copied behind the others.
+/// A part was copied after the others.
 #[tactic(auto, using(crate::proofs::NextLemmas::end_steps))]
 pub fn after_part(
     device: &mut Device,

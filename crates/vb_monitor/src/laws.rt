@@ -1,25 +1,27 @@
 //! What the accesses of a notice come to, whatever memory answers.
 
 ghost use Rattle.std.specs.Prelude.{◌≡◌, ℕ, suc, ◌+◌, ◌*◌, ◌==◌, ◌≤◌, ◌||◌, true, false, List, []};
-ghost use Rattle.std.specs.Prelude.{None, length, Option, Result, Ok};
+ghost use Rattle.std.specs.Prelude.{None, Some, length, Option, Result, Ok};
+ghost use Rattle.vb_chain.specs.declared.fault.ChainFault.{ChainFault};
+ghost use Rattle.vb_ring.specs.declared.device.Taken.{Taken};
+ghost use Rattle.vb_core.specs.declared.ring.Virtqueue.{Virtqueue};
 ghost use Rattle.vb_core.specs.declared.kinds.Kind.{Kind};
 ghost use Rattle.vb_core.specs.declared.kinds.Kind.TheVariants.{Report};
-ghost use Rattle.vb_core.specs.declared.report.Reported.{Reported};
-ghost use Rattle.vb_core.specs.Report.{ReportsBy};
-ghost use Rattle.vb_virtio.specs.declared.limits.TheConstants.{MAX_REPORT_PIECES};
 ghost use Rattle.vb_core.specs.declared.device.Device.{Device};
 ghost use Rattle.vb_monitor.specs.declared.regions.Region.{Region};
 ghost use Rattle.vb_monitor.specs.declared.outcome.Budget.{Budget};
 ghost use Rattle.vb_monitor.specs.declared.outcome.Outcome.{Outcome};
 ghost use Rattle.vb_monitor.specs.Accesses.{Access};
-ghost use Rattle.vb_monitor.specs.Notices.{Serves, AsksStatistics};
+ghost use Rattle.vb_monitor.specs.Notices.{Serves, GivesHeldBack};
+ghost use Rattle.vb_monitor.specs.declared.outcome.HeldChain.{HeldChain};
+ghost use Rattle.vb_monitor.specs.Holding.{HoldsTold};
 ghost use Rattle.vb_core.specs.declared.runs.Run.{Run};
 ghost use Rattle.vb_monitor.specs.Regions.{cuts_of};
 ghost use Rattle.vb_monitor.specs.Touched.{Touches};
 ghost use Rattle.vb_monitor.specs.Counts.{others};
 ghost use Rattle.vb_monitor.specs.Order.{Row, MayFollow};
 ghost use Rattle.vb_monitor.specs.SoFar.{Each};
-ghost use Rattle.vb_monitor.specs.Asking.{GivesHeldAlone};
+ghost use Rattle.vb_monitor.specs.HeldBack.{GivesHeldAlone};
 ghost use Rattle.vb_monitor.specs.PartsOfRuns.{ArePartsOf};
 ghost use Rattle.vb_monitor.specs.declared.cuts.Cut.{Cut};
 ghost use Rattle.vb_monitor.specs.declared.large.Large.{Large};
@@ -27,20 +29,17 @@ ghost use Rattle.vb_monitor.specs.Large.{LargeBy, Goes, AreWholePages, may_go, i
 ghost use Rattle.vb_monitor.specs.Large.{small_pages};
 ghost use Rattle.vb_core.specs.Ballooned.{is_ballooned};
 ghost use Rattle.vb_monitor.specs.Turns.{ReadsInTurn, TellsInTurn, WritesUsedAlone};
-ghost use Rattle.vb_core.specs.declared.next.ChainPiece.{ChainPiece};
-ghost use Rattle.vb_core.specs.declared.next.NextChain.{NextChain};
 ghost use Rattle.vb_core.specs.declared.device.Denial.{Denial};
 ghost use Rattle.vb_core.specs.Devices.{ring_of, queue_denial};
-ghost use Rattle.vb_core.specs.Next.{NextBy, is_read, length_of};
 ghost use Rattle.vb_chain.specs.declared.pieces.Piece.{Piece};
 ghost use Rattle.vb_monitor.specs.declared.outcome.Tally.{Tally};
 ghost use Rattle.vb_monitor.specs.declared.room.TheConstants.{MAX_BYTES};
 ghost use Rattle.vb_monitor.specs.Ends.{Whole};
 ghost use Rattle.vb_monitor.specs.Pieces.{all_parts};
 ghost use Rattle.vb_monitor.specs.Machine.{whole, serves, served};
-ghost use Rattle.vb_monitor.specs.Still.{StaysUntil, IsMapped, avail_copy, table_copy, DoesAs};
-ghost use Rattle.vb_monitor.specs.Still.{AreThese, AfterReads, ReportsAs, bytes_of, index_in};
-ghost use Rattle.vb_monitor.specs.Still.{ArePartsMapped, as_read};
+ghost use Rattle.vb_monitor.specs.Still.{StaysUntil, IsMapped, HasNext, Finds, EndsSo, DoesNext};
+ghost use Rattle.vb_monitor.specs.Still.{AreThese, AfterReads, ReportsNext, bytes_of, index_in};
+ghost use Rattle.vb_monitor.specs.Still.{ArePartsMapped, as_read, is_read, length_of};
 ghost use Rattle.vb_monitor.specs.Giving.{after_use};
 ghost use Rattle.vb_core.specs.Using.{use_denial};
 
@@ -119,6 +118,16 @@ pub fn only_used_elements_are_written()
         Each (WritesUsedAlone regions kind d1) [] log }
 {}
 
+/// In a queue whose chains are held nothing is written, and nothing discarded; a chain whose pages
+/// or figures are told is held once the notice has ended, with the number of its pages.
+#[tactic(auto, using(crate::proofs::TurnLaws::holds_told))]
+pub fn a_chain_that_is_told_is_held()
+    ensures { (regions : List Region) (kind : Kind) (budget : Budget) (d1 d2 : Device)
+        (outcome : Outcome) (log : List Access) →
+        Serves regions kind budget d1 d2 outcome log →
+        Each (HoldsTold kind d1.settings outcome) [] log }
+{}
+
 /// What is discarded of runs is whole pages of them, each part within one region, and at its place
 /// in that region's file.
 #[tactic(auto, using(crate::proofs::PartsOfRunLemmas::parts_of_runs))]
@@ -127,21 +136,23 @@ pub fn a_part_is_whole_pages_of_its_run()
         ArePartsOf regions runs (cuts_of regions runs) }
 {}
 
-/// To ask for new statistics the buffer that is held is given back, and nothing else is done: the
-/// next used element of their queue is written, with the buffer's head, and the index behind it,
-/// and then the driver's flags are read (VIRTIO 1.1, 5.5.6.3). Or nothing is done at all.
-#[tactic(auto, using(crate::proofs::AskingLemmas::gives_held))]
-pub fn asking_gives_the_buffer_back()
-    ensures { (regions : List Region) (head : ℕ) (d1 d2 : Device) (outcome : Outcome)
-        (log : List Access) →
-        AsksStatistics regions head d1 d2 outcome log → GivesHeldAlone regions head d1 log }
+/// A chain that is held is given back, and nothing else is done: the next used element of its queue
+/// is written, with the chain's head, and the index behind it, and then the driver's flags are read
+/// (VIRTIO 1.1, 5.5.6 and 5.5.6.3). Or nothing is done at all.
+#[tactic(auto, using(crate::proofs::HeldBackLemmas::gives_held))]
+pub fn a_held_chain_is_given_back_alone()
+    ensures { (regions : List Region) (kind : Kind) (held : HeldChain) (d1 d2 : Device)
+        (outcome : Outcome) (log : List Access) →
+        GivesHeldBack regions kind held d1 d2 outcome log →
+        GivesHeldAlone regions held.head (ring_of kind d1) log }
 {}
 
-/// To ask for new statistics takes 6 accesses at most.
-#[tactic(auto, using(crate::proofs::AskingLemmas::few_to_ask))]
-pub fn asking_makes_few_accesses()
-    ensures { (regions : List Region) (head : ℕ) (d1 d2 : Device) (outcome : Outcome)
-        (log : List Access) → AsksStatistics regions head d1 d2 outcome log → length log ≤ 6 }
+/// To give a held chain back takes 6 accesses at most.
+#[tactic(auto, using(crate::proofs::HeldBackLemmas::few_to_give))]
+pub fn giving_back_makes_few_accesses()
+    ensures { (regions : List Region) (kind : Kind) (held : HeldChain) (d1 d2 : Device)
+        (outcome : Outcome) (log : List Access) →
+        GivesHeldBack regions kind held d1 d2 outcome log → length log ≤ 6 }
 {}
 
 /// Of large pages just those go back to the machine that a part enters and all whose pages of 4096
@@ -167,48 +178,56 @@ pub fn a_chain_that_is_given_back_leaves_its_queue_open()
         queue_denial kind (after_use kind d) ≡ None }
 {}
 
-/// Where memory stays as it is while a notice reads of it, and a queue that isn't refused is guest
-/// memory, the notice does what `vb_core`'s `next` answers to private copies of it: it refuses what
-/// that refuses, ends where nothing is there, and breaks the rule that the copies break; or it
-/// serves the chain of that head, by just those pieces. So what may be said of copies holds of
-/// notices too. From the first access on that is no read memory may change: the accesses from that
-/// one on are `rest`, whatever they read.
-pub fn a_notice_does_what_is_answered_to_copies()
-    ensures { (rest : List Access) (byte : ℕ → ℕ) (regions : List Region) (kind : Kind)
-        (budget : Budget) (n room : ℕ) (d1 d2 d3 : Device) (outcome : Outcome) (log : List Access)
-        (buffers : List ChainPiece) (answer : Result (Option NextChain) Denial) →
+/// Where memory stays as it is while a notice reads of it, the notice does what the bytes of memory
+/// say. A queue that may not be used is refused. Else, where what is read of the queue is guest
+/// memory, memory has something next there (VIRTIO 1.1, 2.6.5 and 2.6.6): no chain, and the notice
+/// ends; a rule that is broken, and the device needs a reset; or a chain, which is served by just
+/// its pieces, where their length is one of its kind. From the first access on that is no read
+/// memory may change: the accesses from that one on are `rest`, whatever they read.
+pub fn a_notice_does_what_memory_says()
+    ensures refuses { (rest : List Access) (byte : ℕ → ℕ) (regions : List Region) (kind : Kind)
+        (budget : Budget) (d1 d2 : Device) (outcome : Outcome) (log : List Access) (why : Denial) →
+        queue_denial kind d1 ≡ Some why → StaysUntil (AreThese rest) byte regions log →
+        Serves regions kind budget d1 d2 outcome log →
+        EndsSo (StaysUntil (AreThese rest) byte regions) (Some why)
+        (whole regions kind d2 outcome) d1 }
+    ensures does { (rest : List Access) (byte : ℕ → ℕ) (regions : List Region) (kind : Kind)
+        (budget : Budget) (n : ℕ) (d1 d2 : Device) (outcome : Outcome) (log : List Access) →
         is_read kind ≡ true → budget.chains ≡ suc n → (budget.pages == 0) ≡ false →
-        (queue_denial kind d1 ≡ None → IsMapped regions (ring_of kind d1)) →
-        (ring_of kind d1).size ≤ room →
+        queue_denial kind d1 ≡ None → IsMapped regions (ring_of kind d1) →
         StaysUntil (AreThese rest) byte regions log →
-        NextBy kind (avail_copy byte (ring_of kind d1)) (table_copy byte (ring_of kind d1)) room
-        buffers d1 d3 answer → Serves regions kind budget d1 d2 outcome log →
-        DoesAs (StaysUntil (AreThese rest) byte regions) answer buffers
-        (whole regions kind d2 outcome) (as_read n budget (index_in byte (ring_of kind d1))) d3
-        log }
+        Serves regions kind budget d1 d2 outcome log →
+        Finds byte kind d1 (DoesNext (StaysUntil (AreThese rest) byte regions)
+        (whole regions kind d2 outcome) (as_read n budget (index_in byte (ring_of kind d1))) d1
+        log) }
 {}
 
-/// Where memory stays as it is while a notice of reports reads of it, the notice does what
-/// `vb_core`'s `report` answers to private copies of its queue: it refuses what that refuses, ends
-/// where nothing is there, and breaks the rule that the copies break, so that the device needs a
-/// reset; or it tells just those pages, as those runs, with the same device.
-pub fn a_notice_reports_what_is_answered_to_copies()
-    ensures { (rest : List Access) (byte : ℕ → ℕ) (regions : List Region)
-        (budget : Budget) (n room : ℕ) (d1 d2 d3 : Device) (outcome : Outcome) (log : List Access)
-        (runs : List Run) (answer : Result (Option Reported) Denial) → budget.chains ≡ suc n →
-        (budget.pages == 0) ≡ false →
-        (queue_denial Report d1 ≡ None → IsMapped regions (ring_of Report d1)) →
-        MAX_REPORT_PIECES ≤ room → StaysUntil (AreThese rest) byte regions log →
-        ReportsBy (avail_copy byte (ring_of Report d1)) (table_copy byte (ring_of Report d1)) room
-        runs d1 d3 answer → Serves regions Report budget d1 d2 outcome log →
-        ReportsAs (StaysUntil (AreThese rest) byte regions) answer runs
-        (whole regions Report d2 outcome) (as_read n budget (index_in byte (ring_of Report d1))) d3
-        log }
+/// Where memory stays as it is while a notice of reports reads of it, the notice does what the
+/// bytes of memory say: it ends where nothing is next, or where a rule is broken, so that the
+/// device needs a reset; or it tells just the report's pages, a run for each piece, and takes the
+/// report.
+pub fn a_notice_reports_what_memory_says()
+    ensures { (rest : List Access) (byte : ℕ → ℕ) (regions : List Region) (budget : Budget)
+        (n : ℕ) (d1 d2 : Device) (outcome : Outcome) (log : List Access) →
+        budget.chains ≡ suc n → (budget.pages == 0) ≡ false → queue_denial Report d1 ≡ None →
+        IsMapped regions (ring_of Report d1) → StaysUntil (AreThese rest) byte regions log →
+        Serves regions Report budget d1 d2 outcome log →
+        Finds byte Report d1 (ReportsNext (StaysUntil (AreThese rest) byte regions)
+        (whole regions Report d2 outcome) (as_read n budget (index_in byte (ring_of Report d1))) d1
+        log) }
+{}
+
+/// Memory has one thing next on a queue.
+#[tactic(auto, using(crate::proofs::StillAnswers::one_next))]
+pub fn memory_has_one_chain_next()
+    ensures { (byte : ℕ → ℕ) (end : ℕ) (r : Virtqueue)
+        (one other : Result (Option Taken) ChainFault) →
+        HasNext byte end r one → HasNext byte end r other → one ≡ other }
 {}
 
 /// Where memory stays as it is while a chain's bytes are read, a chain of pieces that lie in it is
 /// served by the bytes that they have there: what a request names, or a buffer of statistics tells,
-/// is what `vb_core`'s `name` and `statistics` say of them.
+/// is what `Device::name` and `Device::statistics` say of them.
 pub fn a_chain_is_served_by_its_bytes()
     ensures { (rest : List Access) (byte : ℕ → ℕ) (w : Whole) (t : Tally) (d : Device)
         (head : ℕ) (pieces : List Piece) (n : ℕ) (log : List Access) → is_read w.kind ≡ true →

@@ -2,7 +2,7 @@
 
 ghost use Rattle.std.specs.Prelude.{◌≡◌, ◌≤◌, ◌++◌, ◌∷◌, ℕ, true, List, take, map, Some};
 ghost use Rattle.vb_monitor.specs.declared.cuts.NextCut.{NextCut};
-ghost use Rattle.vb_core.specs.declared.next.ChainPiece.{ChainPiece};
+ghost use Rattle.vb_core.specs.declared.pieces.ChainPiece.{ChainPiece};
 ghost use Rattle.vb_core.specs.declared.statistics.Statistic.{Statistic};
 ghost use Rattle.vb_core.specs.declared.device.Device.{Device};
 ghost use Rattle.vb_core.specs.Config.{keeps_reports};
@@ -48,7 +48,7 @@ pub struct Used {
     pub id: u32,
     /// How many bytes were written to the chain.
     pub length: u32,
-    /// The index behind the element.
+    /// The index after the element.
     pub index: u16,
 }
 

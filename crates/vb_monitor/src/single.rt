@@ -1,4 +1,4 @@
-//! Requests of one piece, as drivers mostly send them: where the next bytes are, which is all that
+//! Requests of one piece, as drivers usually send them: where the next bytes are, which is all that
 //! is new.
 
 ghost use Rattle.std.specs.Prelude.{◌≡◌, ◌+◌, ◌-◌, List, None, IfSome, take};
@@ -14,7 +14,7 @@ ghost use Rattle.vb_monitor.specs.Accesses.{Access};
 ghost use Rattle.vb_monitor.specs.Chains.{AfterDescriptor, Follows, descriptors, descriptor_of};
 ghost use Rattle.vb_monitor.specs.Chains.{memory_end};
 ghost use Rattle.vb_monitor.specs.Notices.{Looks};
-ghost use Rattle.vb_core.specs.Next.{pieces_in};
+ghost use Rattle.vb_core.specs.Pieces.{pieces_in};
 ghost use Rattle.vb_monitor.specs.Single.{index_place, is_single, single_place, single_of};
 ghost use Rattle.vb_monitor.specs.Machine.{Room, Fits, AheadAt, whole, room_of, serves, row_in};
 ghost use Rattle.vb_monitor.specs.Machine.{row_bytes};
@@ -71,7 +71,7 @@ pub struct FirstPart {
 }
 
 /// Where the first part of a request is copied from, once its only descriptor was that breaks no
-/// rule; that one's piece stands alone then. Else the pieces stay.
+/// rule; that one's piece is alone then. Else the pieces stay.
 #[tactic(auto, using(crate::proofs::SingleLemmas::single_goes))]
 pub fn first_of_single(
     device: &Device,

@@ -10,7 +10,7 @@ ghost use Rattle.vb_monitor.specs.Chains.{descriptors, memory_end, AfterDescript
 ghost use Rattle.vb_monitor.specs.Chains.{TakesRow, behind_in_row, unless_apart, table_fault};
 ghost use Rattle.vb_monitor.specs.Notices.{AfterEntry};
 ghost use Rattle.vb_monitor.specs.declared.room.TheConstants.{ROW_DESCRIPTORS};
-ghost use Rattle.vb_core.specs.Next.{pieces_in};
+ghost use Rattle.vb_core.specs.Pieces.{pieces_in};
 ghost use Rattle.vb_monitor.specs.Regions.{spot};
 ghost use Rattle.vb_monitor.specs.Machine.{Fits, Room, Ahead, whole, room_of, serves, next_chain};
 ghost use Rattle.vb_monitor.specs.Machine.{row_in, row_bytes};
@@ -41,7 +41,7 @@ pub(crate) fn memory_end(device: &Device) -> u64
     PAGE_BYTES * (device.settings.memory_end / PAGE_BYTES)
 }
 
-/// Asks for a row: of the descriptors behind its first one, unless they lie apart from it.
+/// Asks for a row: of the descriptors after its first one, unless they lie apart from it.
 #[tactic(auto, using(crate::proofs::TableRowLemmas::row_steps))]
 fn ask_row(device: &mut Device, regions: &[Region], kind: Kind, tally: Tally, walk: Walk) -> Step
     requires { walk.behind < ROW_DESCRIPTORS }

@@ -16,7 +16,7 @@ use Rattle.vb_model.specs.declared.replies.Reply.TheVariants.{Posted, Filled, No
 use Rattle.vb_model.specs.declared.replies.Reply.TheVariants.{Taken, Empty, Worked, Idle, Finished}
 use Rattle.vb_model.specs.declared.replies.Reply.TheVariants.{Swept, Asked, Targets, Places, Pages}
 use Rattle.vb_model.specs.declared.replies.Reply.TheVariants.{Balloon, Statistics, Backing, Frames}
-use Rattle.vb_model.specs.declared.replies.Reply.TheVariants.{Refused}
+use Rattle.vb_model.specs.declared.replies.Reply.TheVariants.{Refused, Served}
 use Rattle.std.specs.Fmt.{digits}
 use Rattle.hex.specs.Hex.{encode_with}
 use Rattle.vb_reply.specs.Replies.{refusal_text, reply_text, line_of}
@@ -37,11 +37,13 @@ refusals = refl
 
 calls : map reply_text (Plugged 3 ∷ Done ∷ Ready ∷ Page 16 ∷ ReadBytes (171 ∷ 5 ∷ []) ∷ Posted 2 40 ∷ Filled
     ∷ NotUsed ∷ Reaped 2 40 ∷ Taken 7 ∷ Empty ∷ Worked 20 true ∷ Worked 20 false ∷ Idle ∷ Finished 7
-    ∷ Swept true ∷ Swept false ∷ Asked ∷ Refused NoGuest ∷ [])
+    ∷ Served 0 None ∷ Served 16 None ∷ Served 2 (Some 10) ∷ Swept true ∷ Swept false ∷ Asked
+    ∷ Refused NoGuest ∷ [])
     ≡ codes "guest 3" ∷ codes "ok" ∷ codes "ready" ∷ codes "page 16" ∷ codes "bytes ab05"
     ∷ codes "posted 2 40" ∷ codes "filled" ∷ codes "none" ∷ codes "reaped 2 40" ∷ codes "taken 7"
     ∷ codes "empty" ∷ codes "worked 20 freed" ∷ codes "worked 20 bare" ∷ codes "idle"
-    ∷ codes "finished 7" ∷ codes "swept freed" ∷ codes "swept bare" ∷ codes "asked" ∷ codes "no guest" ∷ []
+    ∷ codes "finished 7" ∷ codes "served 0" ∷ codes "served 16" ∷ codes "served 2 broken C10"
+    ∷ codes "swept freed" ∷ codes "swept bare" ∷ codes "asked" ∷ codes "no guest" ∷ []
 unfolding digits encode_with
 calls = refl
 

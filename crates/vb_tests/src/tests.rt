@@ -1,6 +1,6 @@
 //! One module for each crate.
 
-mod copies;
+mod device;
 mod driver;
 mod faults;
 mod notices;

@@ -14,7 +14,7 @@ json_t *answer_guest(const struct host *host, unsigned number);
 /* All guests, in their order. */
 json_t *answer_guests(const struct host *host);
 
-/* Decisions from this number on, at most so many: `decisions`; `next`, where to go on; `lost`, how many of them aren't kept any
+/* Decisions from this number on, at most `limit`: `decisions`; `next`, where to go on; `lost`, how many of them aren't kept any
  * longer. */
 json_t *answer_log(const struct host *host, uint64_t since, uint64_t limit);
 

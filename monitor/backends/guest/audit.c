@@ -120,7 +120,7 @@ void audit_after(struct backend *backend, unsigned number)
             check_entry(backend, number, queue, (uint16_t)(audit.used + i));
 }
 
-/* Notes that pages may be holes from now on; they have to be, behind their discarding. */
+/* Notes that pages may be holes from now on; they have to be, after their discarding. */
 static void name_pages(struct backend *backend, uint64_t address, uint64_t length)
 {
     for (unsigned i = 0; i < backend->memory.count; i++) {
@@ -137,7 +137,7 @@ static void name_pages(struct backend *backend, uint64_t address, uint64_t lengt
     }
 }
 
-/* The pages whose numbers stand in a buffer. */
+/* The pages whose numbers are in a buffer. */
 static void name_numbers(struct backend *backend, const struct descriptor *buffer)
 {
     for (uint32_t at = 0; at + 4 <= buffer->length; at += 4) {

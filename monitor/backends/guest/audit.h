@@ -1,5 +1,5 @@
-/* What a build for tests looks at, besides: whether each used entry is what was taken, and whether only pages that
- * the guest named became holes. Its code stands apart from what it looks at. In the product none of it is there. */
+/* What a build for tests looks at, besides: whether each used element is what was taken, and whether only pages that
+ * the guest named became holes. Its code is apart from what it looks at. In the product none of it is there. */
 #ifndef AUDIT_H
 #define AUDIT_H
 #include "backend.h"
@@ -10,7 +10,7 @@
 void audit_before(struct backend *backend, unsigned number);
 void audit_after(struct backend *backend, unsigned number);
 
-/* The pages of a request or a report are told; then, behind their discarding, it is used next. */
+/* The pages of a request or a report are told; then, after their discarding, it is used next. */
 void audit_pages(struct backend *backend, uint32_t kind);
 void audit_use(void);
 

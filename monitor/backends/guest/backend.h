@@ -20,6 +20,7 @@ struct options {
     uint64_t features;
     bool strict, keep;
     bool events;                /* in-band notifications aren't offered */
+    bool lives_on;              /* the end of the control pipe isn't the end of the process */
 };
 
 struct backend {
@@ -99,6 +100,7 @@ struct control_line {
     char bytes[256];
     size_t length;
     bool cut;                   /* it is longer than that, and its first bytes are gone */
+    bool ended;                 /* the pipe has ended */
 };
 
 /* Reads what stands in the control pipe, and has its whole lines obeyed, as long as `obey` answers 1; returns what that

@@ -74,6 +74,7 @@ static void set_target(struct backend *backend, const char *number)
 int control_read(struct control_line *line, int (*obey)(void *context, const char *line), void *context)
 {
     ssize_t got = read(STDIN_FILENO, line->bytes + line->length, sizeof line->bytes - line->length);
+    line->ended = got == 0;
     if (got <= 0)
         return got < 0 && errno == EINTR;
     line->length += (size_t)got;

@@ -15,7 +15,7 @@ enum outcome get_features(struct backend *backend, struct message *message)
     return answer_u64(backend, message, device_of(backend)->settings.offered | HAS_PROTOCOL_FEATURES);
 }
 
-/* The features stand for all that comes before them. A client may send them twice before its queues run: the last ones
+/* The features represent all that comes before them. A client may send them twice before its queues run: the last ones
  * count. */
 enum outcome set_features(struct backend *backend, struct message *message)
 {

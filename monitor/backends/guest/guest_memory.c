@@ -28,7 +28,7 @@ static bool overlap(uint64_t one, uint64_t length, uint64_t other, uint64_t its)
     return one < other ? other - one < length : one - other < its;
 }
 
-/* Whether a region may stand beside the others. */
+/* Whether a region may be beside the others. */
 static bool has_room(const struct guest_memory *memory, const struct region_place *place)
 {
     for (unsigned i = 0; i < memory->count; i++)

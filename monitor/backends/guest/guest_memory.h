@@ -5,14 +5,14 @@
 
 enum { MOST_REGIONS = 32 };
 
-/* As a message has it: where a region stands in the guest, in the client, and in its file. */
+/* As a message has it: where a region is in the guest, in the client, and in its file. */
 struct region_place {
     uint64_t guest, size, user, offset;
 };
 
 struct guest_memory {
     struct balloon_region regions[MOST_REGIONS];
-    uint64_t user[MOST_REGIONS];    /* where each stands in the client */
+    uint64_t user[MOST_REGIONS];    /* where each is in the client */
     unsigned count;
 };
 

@@ -17,6 +17,7 @@ struct loop {
     int (*serve)(struct backend *backend);
     int64_t look;               /* when the next look is */
     int end;                    /* process_end */
+    int pipe;                   /* the control pipe; -1: it has ended */
     struct control_line line;
 };
 
@@ -79,12 +80,22 @@ static int patience(const struct loop *loop)
     return (int)(left < most ? left : most);
 }
 
+/* Obeys the lines of the control pipe, as control_read. */
+static int obey_pipe(struct loop *loop)
+{
+    int obeyed = control_read(&loop->line, obey, loop->backend);
+    if (obeyed != 0 || !loop->line.ended || !loop->backend->options->lives_on)
+        return obeyed;
+    loop->pipe = -1;
+    return 1;
+}
+
 /* Serves what has come: 1; 0 where the client has gone, or the pipe says to quit; -1 where the client can't be served. */
 static int serve(struct loop *loop, const struct pollfd files[FILES])
 {
     int served = files[CLIENT].revents ? loop->serve(loop->backend) : 1;
     if (served > 0 && files[PIPE].revents)
-        served = control_read(&loop->line, obey, loop->backend);
+        served = obey_pipe(loop);
     loop->backend->ended = files[END].revents;
     if (served <= 0 || loop->backend->ended)
         return served < 0 ? -1 : 0;
@@ -116,7 +127,7 @@ static int once(void *what)
     struct loop *loop = what;
     struct backend *backend = loop->backend;
     struct pollfd files[FILES] = {
-        [CLIENT] = {client_of(backend), POLLIN, 0}, [PIPE] = {STDIN_FILENO, POLLIN, 0}, [END] = {loop->end, POLLIN, 0}};
+        [CLIENT] = {client_of(backend), POLLIN, 0}, [PIPE] = {loop->pipe, POLLIN, 0}, [END] = {loop->end, POLLIN, 0}};
     rings_wait(backend, files + KICKS);
     int found = poll_some(files, FILES, patience(loop));
     if (found == 0 && backend->idle)
@@ -127,7 +138,8 @@ static int once(void *what)
 
 int backend_run(struct backend *backend, int (*serve)(struct backend *backend))
 {
-    struct loop loop = {.backend = backend, .serve = serve, .look = now() + LOOK_EVERY, .end = process_end()};
+    struct loop loop = {.backend = backend, .serve = serve, .look = now() + LOOK_EVERY, .end = process_end(),
+                        .pipe = STDIN_FILENO};
     int served = loop.end < 0 ? -1 : 1;
     while (served > 0)
         served = guard(once, &loop);

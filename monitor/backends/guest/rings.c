@@ -134,7 +134,7 @@ static void begin_life(struct backend *backend, uint16_t position)
         memset(balloon->ballooned, 0, balloon->ballooned_words * sizeof balloon->ballooned[0]), backend->ballooned = 0;
 }
 
-/* Starts a ring, and serves what stands there. */
+/* Starts a ring, and serves what is available. */
 static bool start(struct backend *backend, unsigned number)
 {
     struct ring *ring = &backend->rings[number];

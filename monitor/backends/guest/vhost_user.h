@@ -64,7 +64,7 @@ bool message_is_request(const struct message *message);
 /* Whether the client says that it waits for an answer to a message that has none of its own. */
 bool message_wants_answer(const struct message *message);
 
-/* Words of the body; 0 behind its end. */
+/* Words of the body; 0 after its end. */
 uint32_t message_u32(const struct message *message, unsigned at);
 uint64_t message_u64(const struct message *message, unsigned at);
 

@@ -7,7 +7,7 @@
 
 struct host;
 
-/* At most so many extras, each with at most so many files. */
+/* The most extras, and the most files of each. */
 enum { MOST_EXTRAS = 8, MOST_EXTRA_FILES = 40 };
 
 struct host_extra {

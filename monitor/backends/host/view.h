@@ -59,8 +59,8 @@ struct guest_view {
 /* All of them together. */
 struct host_view {
     const char *folder;
-    unsigned guests;            /* how many seats there are, whoever sits there */
-    uint32_t budget, floor, step;   /* pages; `step`: one part of so many of a guest, in a second */
+    unsigned guests;            /* how many seats there are, taken or not */
+    uint32_t budget, floor, step;   /* pages; `step`: a guest's pages divided by it, in a second */
     uint64_t held_kib, lent;    /* lent: frames of all loans together */
     uint64_t short_by;          /* pages by which the guests can't give what is missing */
     unsigned waiting, silent, uncooperative;    /* guests */

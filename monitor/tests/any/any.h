@@ -9,7 +9,7 @@ enum { ARENA = 16 * 4096 };
 extern uint64_t answers[VB_BAD_ARGUMENT + 1];   /* how often each code came */
 extern uint64_t went;                           /* how often large pages did */
 
-/* By chance. Each of three lists ends where nothing is mapped. */
+/* At random. Each of three lists ends where nothing is mapped. */
 uint64_t any(void);
 bool once_in(uint32_t times);
 uint64_t any_number(void);
@@ -21,15 +21,8 @@ VbRegion *any_regions(size_t *count);
 
 /* Compared. */
 bool same(const VbDevice *one, const VbDevice *other);
-void expect_answer(uint32_t code, uint32_t rule, uint32_t expected, const VbDevice *before, const VbDevice *after,
-                   const VbDevice *twin);
 
 /* One call of each kind. */
-void call_next(void);
-void call_name(void);
-void call_report(void);
-void call_statistics(void);
-void call_use(void);
 void call_driver(void);
 void call_config(void);
 void call_mark(void);

@@ -1,4 +1,4 @@
-/* Numbers, lists, devices and regions by chance, most of them such that calls have something to do. */
+/* Random numbers, lists, devices and regions, most of them such that calls have something to do. */
 #include "any.h"
 
 static uint64_t state = 88172645463325252ull;
@@ -23,7 +23,7 @@ uint64_t any_number(void)
     return once_in(4) ? number + any() % 3 - 1 : number;
 }
 
-/* A list of so many bytes behind which nothing is mapped. */
+/* A list of `bytes` bytes after which nothing is mapped. */
 void *list_of(int arena, size_t bytes)
 {
     EXPECT(bytes <= ARENA);
@@ -69,7 +69,7 @@ VbDevice any_device(void)
     return device;
 }
 
-/* Up to four regions: whole pages in a row with holes between them mostly, else any. */
+/* Up to four regions: whole pages in a row with holes between them usually, else any. */
 VbRegion *any_regions(size_t *count)
 {
     *count = any() % 5;

@@ -18,7 +18,7 @@ void call_driver(void)
     EXPECT(device.target == kind && (device.target = twin.target, same(&device, &twin)));
 }
 
-/* Reads and writes of the configuration space: mostly of a field, of all fields, or beside one. */
+/* Reads and writes of the configuration space: usually of a field, of all fields, or beside one. */
 void call_config(void)
 {
     VbDevice device = any_device(), twin = device;

@@ -15,16 +15,3 @@ bool same(const VbDevice *one, const VbDevice *other)
         && same_queue(&one->deflate, &other->deflate) && same_queue(&one->statistics, &other->statistics)
         && same_queue(&one->report, &other->report);
 }
-
-/* What holds of every call: a refusal changes nothing, a broken rule the status alone; a device that does the same
- * as the plain one is left as that one is. */
-void expect_answer(uint32_t code, uint32_t rule, uint32_t expected, const VbDevice *before, const VbDevice *after,
-                          const VbDevice *twin)
-{
-    VbDevice broken = *before;
-    broken.status |= 64;
-    EXPECT(code == expected && same(after, twin));
-    EXPECT(code <= VB_BAD_ARGUMENT && (code == VB_BROKEN) == (rule != 0) && rule <= 10);
-    EXPECT(code == VB_OK || same(after, code == VB_BROKEN ? &broken : before));
-    answers[code]++;
-}

@@ -3,7 +3,7 @@
 
 uint64_t went;
 
-/* A run of a set of so many words: mostly within it, at an end of a word as often as not. */
+/* A run of a set of `words` words: usually within it, at an end of a word as often as not. */
 static VbRun any_run(size_t words)
 {
     VbRun run = { (uint32_t)(any() % (64 * words + 1)), (uint32_t)(once_in(2) ? any() % 300 : any() % 3) };
@@ -36,7 +36,7 @@ void call_mark(void)
     answers[marked.code]++;
 }
 
-/* Parts of regions whose pages are large: mostly of 16 KiB, in sets of which most pages are there. */
+/* Parts of regions whose pages are large: usually of 16 KiB, in sets of which most pages are there. */
 void call_large(void)
 {
     VbDevice device = any_device();

@@ -13,7 +13,7 @@ from bigvasta.picture import PLAIN, Shown
 from bigvasta.sizes import mebibytes, parse_size, seconds
 from bigvasta.statuses import Usage
 from bigvasta.waits import wait_of
-from conftest import CLIENT, bigvasta, eventually
+from hosts import CLIENT, bigvasta, eventually
 
 MIB = 1 << 20
 

@@ -4,7 +4,7 @@ import os
 import signal
 
 import pytest
-from conftest import Host, eventually, limit_from_now
+from hosts import Host, eventually, limit_from_now
 
 MIB = 1 << 20
 

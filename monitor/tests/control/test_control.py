@@ -9,7 +9,7 @@ import time
 import pytest
 from bigvasta.connection import Connection
 from bigvasta.statuses import Refused
-from conftest import Host, eventually, limit_from_now
+from hosts import Host, eventually, limit_from_now
 
 MIB, PAGE = 1 << 20, 4096
 PAGES = "a whole number of bytes in pages of 4096, up to 17592186036224"
@@ -231,6 +231,7 @@ def test_followers_hear_each_event_once_and_in_order(host, arrive):
         it.join(10)
     assert said[0] == said[1]
     numbers = [it["number"] for it in said[0]]
+    assert numbers, "who follows is told of nothing"
     assert numbers == list(range(numbers[0], numbers[0] + len(numbers)))
     names = [it["event"] for it in said[0] if it["event"] not in ("decision", "state")]
     assert names == ["added", "arrived", "answers", "budget", "gone", "removed"], names

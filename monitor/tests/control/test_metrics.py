@@ -9,9 +9,9 @@ import time
 import urllib.request
 
 import pytest
-from conftest import CLIENT, ROOT, bigvasta, eventually
+from hosts import CLIENT, ROOT, bigvasta, eventually
 
-RULES = os.path.join(CLIENT, "prometheus")
+RULES = os.path.join(ROOT, "packaging", "prometheus")
 PAGE, MIB = 4096, 1 << 20
 
 pytestmark = pytest.mark.skipif(not shutil.which("promtool"), reason="promtool isn't there: apt-get install prometheus")
@@ -138,7 +138,7 @@ def test_a_real_prometheus_scrapes_and_its_alerts_fire(host, arrive, prometheus)
     eventually(lambda: alerts(prometheus) == wanted, lambda: alerts(prometheus))
     host.ask("budget", bytes=480 * MIB)
     eventually(lambda: alerts(prometheus) == set(), lambda: alerts(prometheus))
-    guest.ended.set()
+    guest.stop()
     if eventually(lambda: not host.guest("web-1")["answers"]) and host.guest("web-1")["silent"] > 0:
         eventually(lambda: alerts(prometheus) == {("BigvastaGuestSilent", "web-1")}, lambda: alerts(prometheus))
     # The host goes.

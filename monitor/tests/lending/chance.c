@@ -1,4 +1,4 @@
-/* Hosts, guests and events by chance. */
+/* Hosts, guests and random events. */
 #include "lending.h"
 #include <string.h>
 

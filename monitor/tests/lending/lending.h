@@ -33,7 +33,7 @@ struct day {
     struct event event;         /* the last one */
 };
 
-/* By chance. */
+/* At random. */
 uint64_t any(void);
 uint32_t chance(uint32_t below);
 uint32_t chance_in(uint32_t most);

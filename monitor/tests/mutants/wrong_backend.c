@@ -1,4 +1,4 @@
-/* Backends that are wrong on purpose: tools/test-vhost-user has to find each, by one test of its own. The linker puts these
+/* Backends that are wrong on purpose: tools/test vhost-user has to find each, by one test of its own. The linker puts these
  * functions before those of the same names, and the environment's BACKEND_WRONG names the one that it is:
  *
  *     no-call           a used buffer isn't told by the event of its queue

@@ -31,7 +31,7 @@ int madvise(void *from, size_t length, int advice)
     return failure ? -1 : (int)syscall(SYS_madvise, from, length, advice);
 }
 
-/* The guest's pages from this one on, so many, have their bytes. */
+/* The guest's `count` pages from this one on have their bytes. */
 static bool stay(const struct guest *guest, uint32_t first, uint32_t count)
 {
     bool all = true;

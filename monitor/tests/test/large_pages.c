@@ -18,7 +18,7 @@ static int discard_large(void *context, const struct balloon_region *region, uin
     return 0;
 }
 
-/* Inflates or deflates so many pages from one on, by requests of at most 256. */
+/* Inflates or deflates `count` pages from one on, by requests of at most 256. */
 static struct balloon_result move_pages(struct guest *guest, uint32_t kind, uint32_t first, uint32_t count)
 {
     struct balloon_result all = { 0 };
@@ -35,7 +35,7 @@ static struct balloon_result move_pages(struct guest *guest, uint32_t kind, uint
     return all;
 }
 
-/* Reports so many pages from one on. */
+/* Reports `count` pages from one on. */
 static struct balloon_result report_pages(struct guest *guest, uint32_t first, uint32_t count)
 {
     describe(guest, VB_REPORT, 0, first * 4096ull, count * 4096, WRITE, 0);
@@ -144,7 +144,7 @@ static void a_page_size_may_not_fit(void)
     }
 }
 
-/* Large pages behind the second region alone, and what waits of two of them in one request. */
+/* Large pages after the second region alone, and what waits of two of them in one request. */
 static void one_region_may_be_of_large_pages(void)
 {
     static struct guest guest;

@@ -26,7 +26,7 @@ static void publish_again(void *context, uint32_t kind, const VbRun *runs, uint3
     publish(context, kind, 0);
 }
 
-/* A driver that never stops gets the monitor's time in parts: what stands there when a notice begins, and no more. */
+/* A driver that never stops gets the monitor's time in parts: what is there when a notice begins, and no more. */
 static void a_driver_never_stops(void)
 {
     static struct guest guest;
@@ -43,7 +43,7 @@ static void a_driver_never_stops(void)
     free_memory(&guest);
 }
 
-/* No further chain after as many chains, or pages, as the monitor wants; the rest stands there. */
+/* No further chain after as many chains, or pages, as the monitor wants; the rest is there. */
 static void a_notice_keeps_to_its_budget(void)
 {
     static struct guest guest;

@@ -27,9 +27,9 @@ static void reports_are_discarded(void)
     free_memory(&guest);
 }
 
-enum { SLICES = 16, SLICE = LOW_MIB * MIB / SLICES };     /* the low memory as so many regions */
+enum { SLICES = 16, SLICE = LOW_MIB * MIB / SLICES };     /* the low memory, in regions of one slice */
 
-/* Counts bytes of slices that are discarded, each whole, one behind the other and from the first one again. */
+/* Counts bytes of slices that are discarded, each whole, one after the other and from the first one again. */
 static int discard_slice(void *context, const struct balloon_region *region, uint64_t at, uint64_t length)
 {
     uint64_t *calls = context;

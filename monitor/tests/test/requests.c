@@ -1,4 +1,4 @@
-/* Requests: pages go and come, as runs, from pieces that are cut anyhow, while indices wrap. */
+/* Requests: pages go and come, as runs, from buffers split at arbitrary offsets, while indices wrap. */
 #include "test.h"
 
 /* 256 pages go and come: those and no others are discarded, in memory of each sort. */
@@ -41,7 +41,7 @@ void see_pages(void *context, uint32_t kind, const VbRun *runs, uint32_t count)
     memcpy(seen->run, runs, count * sizeof *runs);
 }
 
-/* A number that follows the last run, or stands right before it, joins it. */
+/* A number that follows the last run, or is right before it, joins it. */
 static void neighbours_are_joined(void)
 {
     static struct guest guest;

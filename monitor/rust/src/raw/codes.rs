@@ -12,9 +12,9 @@ pub const NOT_READY: u32 = 3;
 pub const NEEDS_RESET: u32 = 4;
 /// No queue of that kind, or not with the negotiated features.
 pub const NO_QUEUE: u32 = 5;
-/// The queue has no place, or copies don't have its size.
+/// The queue has no place.
 pub const MISPLACED: u32 = 6;
-/// Too little room, a head that is no descriptor, settings out of range.
+/// An argument out of range (settings, regions, a page), or too little room.
 pub const BAD_ARGUMENT: u32 = 7;
 /// The guests can't spare enough (`vb_targets`).
 pub const SHORT: u32 = 8;
@@ -70,4 +70,4 @@ pub const MAX_RUNS: usize = 256;
 pub const MAX_BYTES: usize = 1024;
 pub const MAX_FIGURES: usize = 102;
 pub const MAX_CUTS: usize = 256;
-pub const STATE_BYTES: usize = 191;
+pub const STATE_BYTES: usize = 200;

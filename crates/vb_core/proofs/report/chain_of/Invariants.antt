@@ -1,5 +1,5 @@
 use Rattle.std.proofs.Common.{◌≡◌, length, take}
-use Rattle.vb_core.specs.Next.{pieces_in}
+use Rattle.vb_core.specs.Pieces.{pieces_in}
 use Rattle.vb_core.proofs.report.chain_of.Given as goal
 
 abbrev pub invariant-loop-buffer : goal.invariant-loop-buffer

@@ -1,6 +1,6 @@
 use Rattle.std.proofs.Common.{◌≡◌, ◌*◌, ◌≤◌, true, length, map, take}
 use Rattle.vb_request.specs.Report.{pages_of_pieces}
-use Rattle.vb_core.specs.{Next.pieces_in, Report.{run_of, are_reported}}
+use Rattle.vb_core.specs.{Pieces.pieces_in, Report.{run_of, are_reported}}
 use Rattle.vb_core.proofs.report.put_reported.Given as goal
 
 abbrev pub invariant-loop-k : goal.invariant-loop-k

@@ -1,6 +1,6 @@
 use Rattle.std.proofs.Common.{◌≡◌, drop}
 use Rattle.vb_monitor.specs.Pieces.{all_parts}
-use Rattle.vb_core.specs.Next.{pieces_in}
+use Rattle.vb_core.specs.Pieces.{pieces_in}
 use Rattle.vb_monitor.proofs.parts.next_part.Given as goal
 
 abbrev pub invariant-loop-number : goal.invariant-loop-number

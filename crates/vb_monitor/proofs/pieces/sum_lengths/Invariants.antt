@@ -1,5 +1,5 @@
 use Rattle.std.{proofs.Common.{◌≡◌, ◌*◌, ◌≤◌, take}, specs.Prelude.sum_by}
-use Rattle.vb_core.specs.declared.next.ChainPiece.{ChainPiece}
+use Rattle.vb_core.specs.declared.pieces.ChainPiece.{ChainPiece}
 use Rattle.vb_monitor.proofs.pieces.sum_lengths.Given as goal
 
 abbrev pub invariant-loop-buffer : goal.invariant-loop-buffer

@@ -1,7 +1,7 @@
 use Rattle.std.proofs.Common.{rules, ◌≡◌, ◌∙◌, ◌+◌, ◌-◌, ◌<◌, ap, sym, subst, arith, ℕ}
 use Rattle.std.proofs.Common.{List, Option, Some, None, length, take, drop, length-take, ◌≤◌}
 use Rattle.vb_chain.specs.declared.{fault.ChainFault.ChainFault, pieces.Piece.Piece}
-use Rattle.vb_core.specs.{Next.pieces_in, declared.next.ChainPiece.ChainPiece, Devices.ring_of}
+use Rattle.vb_core.specs.{Pieces.pieces_in, declared.pieces.ChainPiece.ChainPiece, Devices.ring_of}
 use Rattle.vb_core.specs.declared.device.Device.{Device}
 use Rattle.vb_monitor.specs.{Accesses.Access, Ends.Whole, declared.outcome.Tally.Tally}
 use Rattle.vb_monitor.specs.Chains.{row_of, in_row, FollowsBy, Follows, descriptors}

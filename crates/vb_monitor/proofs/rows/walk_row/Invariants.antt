@@ -1,7 +1,7 @@
 use Rattle.std.proofs.Common.{◌≡◌, ◌+◌, ◌-◌, ◌≤◌, ◌<◌, List, length, take, drop}
 use Rattle.vb_chain.specs.declared.descriptor.TheConstants.{DESCRIPTOR_SIZE}
 use Rattle.vb_core.specs.declared.device.Device.{Device}
-use Rattle.vb_core.specs.{Devices.ring_of, Next.pieces_in}
+use Rattle.vb_core.specs.{Devices.ring_of, Pieces.pieces_in}
 use Rattle.vb_monitor.specs.declared.outcome.Tally.{Tally}
 use Rattle.vb_monitor.specs.{Accesses.Access, Ends.Whole}
 use Rattle.vb_monitor.specs.Chains.{row_of, descriptors, memory_end}

@@ -1,4 +1,4 @@
-use Rattle.vb_core.{specs.Next.pieces_in, specs.declared.next.ChainPiece.ChainPiece}
+use Rattle.vb_core.{specs.Pieces.pieces_in, specs.declared.pieces.ChainPiece.ChainPiece}
 use Rattle.std.proofs.Common.{rules, ◌∙◌, ap, sym, ◌≤◌, List, length}
 use Rattle.vb_monitor.{specs.declared.parts.Part.Part, proofs.BufferLemmas.behind_in}
 use Rattle.vb_monitor.{specs.Machine.behind_part, specs.Served.none_left}

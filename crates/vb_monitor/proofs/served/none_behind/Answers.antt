@@ -1,4 +1,4 @@
-use Rattle.vb_core.specs.Next.{pieces_in}
+use Rattle.vb_core.specs.Pieces.{pieces_in}
 use Rattle.std.proofs.Common.{rules, ◌≡◌, ◌∙◌, ap, sym, subst, ◌<◌, Bool, false, List}
 use Rattle.vb_monitor.specs.{declared.parts.Part.Part, Machine.behind_part}
 use Rattle.vb_monitor.{specs.Served.none_left, proofs.BufferLemmas.{second_in, no_second_in}}

@@ -1,5 +1,5 @@
-use Rattle.vb_core.{specs.Next.pieces_in, proofs.PieceLemmas.{none_in, length_in}}
-use Rattle.vb_core.{specs.declared.next.ChainPiece.ChainPiece, specs.Devices.ring_of}
+use Rattle.vb_core.{specs.Pieces.pieces_in, proofs.PieceLemmas.{none_in, length_in}}
+use Rattle.vb_core.{specs.declared.pieces.ChainPiece.ChainPiece, specs.Devices.ring_of}
 use Rattle.std.proofs.Common.{rules, ◌≡◌, ◌+◌, ◌∙◌, sym, ap, arith, ℕ, List, [], Some, take, refl}
 use Rattle.std.proofs.Common.{length, false, Option, None}
 use Rattle.vb_chain.{specs.declared.descriptor.TheConstants.DESCRIPTOR_SIZE, specs.Rules.piece_of}

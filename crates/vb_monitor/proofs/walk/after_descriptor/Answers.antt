@@ -1,6 +1,6 @@
 use Rattle.std.proofs.Common.{◌≡◌, ◌∙◌, ◌+◌, ◌-◌, ap, sym, subst, ℕ, List, take}
 use Rattle.vb_core.specs.declared.{device.Device.Device, ring.Virtqueue.Virtqueue}
-use Rattle.vb_core.specs.{Devices.ring_of, Next.pieces_in}
+use Rattle.vb_core.specs.{Devices.ring_of, Pieces.pieces_in}
 use Rattle.vb_monitor.specs.declared.{outcome.Outcome.Outcome, rows.RowEnd.RowEnd}
 use Rattle.vb_monitor.specs.{Accesses.Access, Rows.EndsRow}
 use Rattle.vb_monitor.specs.Machine.{whole, serves, room_of, row_in, row_bytes}

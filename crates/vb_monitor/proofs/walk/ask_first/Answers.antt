@@ -1,5 +1,5 @@
 use Rattle.std.proofs.Common.{take}
-use Rattle.vb_core.{specs.Next.pieces_in, proofs.PieceLemmas.none_in}
+use Rattle.vb_core.{specs.Pieces.pieces_in, proofs.PieceLemmas.none_in}
 use Rattle.vb_monitor.specs.Machine.{whole}
 use Rattle.vb_monitor.proofs.TableRowLemmas.{first_goes}
 use Rattle.vb_monitor.proofs.walk.ask_first.Goals as goal

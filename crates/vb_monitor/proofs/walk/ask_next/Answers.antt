@@ -1,6 +1,6 @@
 use Rattle.std.proofs.Common.{◌≡◌, ◌∙◌, ◌+◌, ◌-◌, ap, take, arith}
 use Rattle.std.specs.Prelude.{min}
-use Rattle.vb_core.specs.{Devices.ring_of, Next.pieces_in, declared.ring.Virtqueue.Virtqueue}
+use Rattle.vb_core.specs.{Devices.ring_of, Pieces.pieces_in, declared.ring.Virtqueue.Virtqueue}
 use Rattle.vb_monitor.specs.{Machine.{whole, serves}, Chains.{descriptors, Follows}}
 use Rattle.vb_monitor.proofs.TableRowLemmas.{next_goes}
 use Rattle.vb_monitor.proofs.walk.ask_next.Goals as goal

@@ -1,5 +1,5 @@
 use Rattle.std.proofs.Common.{rules, ◌≡◌, ◌+◌, ◌-◌, ◌*◌, Some, None, take}
-use Rattle.vb_core.specs.{Devices.ring_of, Next.pieces_in}
+use Rattle.vb_core.specs.{Devices.ring_of, Pieces.pieces_in}
 use Rattle.vb_monitor.specs.{Regions.spot, Machine.{whole, serves}, Chains.{descriptors, Follows}}
 use Rattle.vb_monitor.proofs.TableRowLemmas.{takes_one}
 use Rattle.vb_monitor.proofs.walk.ask_row.Goals as goal

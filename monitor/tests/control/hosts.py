@@ -1,0 +1,128 @@
+"""A host for tests: its process, guests that answer it, and the client program beside it."""
+
+import os
+import select
+import signal
+import struct
+import subprocess
+import threading
+import time
+
+from bigvasta.connection import Connection
+from linux_guest import Lines
+from linux_kit import ROOT
+from vhost_client import BUFFERS, PAGE, STATISTICS, Client
+
+CLIENT = os.path.join(ROOT, "client")
+
+# Seconds of a wait.
+LIMIT = 20
+
+# The tag of free memory (VIRTIO 1.1, 5.5.6.3).
+FREE_MEMORY = 4
+
+
+def limit_from_now():
+    """Returns when a wait that begins now has to have ended."""
+    return time.monotonic() + LIMIT
+
+
+def eventually(condition, what=""):
+    """Waits until a condition holds, and returns what it came to."""
+    end = limit_from_now()
+    while True:
+        found = condition()
+        if found:
+            return found
+        assert time.monotonic() < end, what() if callable(what) else what
+        time.sleep(0.02)
+
+
+def bigvasta(control, *words, **options):
+    """Runs the client program; returns what came of it."""
+    return subprocess.run(
+        ["/usr/bin/python3", "-B", "-m", "bigvasta", *words], capture_output=True, text=True, timeout=LIMIT,
+        env={**os.environ, "PYTHONPATH": CLIENT, "BIGVASTA_CONTROL": control, "LC_ALL": "C.UTF-8", **options},
+    )
+
+
+class Host:
+    """A host's process, in a folder of its own."""
+
+    def __init__(self, program, folder, *options, environment=None, files=()):
+        self.folder, self.control = str(folder), f"{folder}/.control"
+        self.log = open(f"{folder}/log", "ab+")
+        self.process = subprocess.Popen(
+            [program, *options], stdin=subprocess.PIPE, stdout=subprocess.PIPE, stderr=self.log, pass_fds=files,
+            env={**os.environ, **(environment or {})},
+        )
+        self.lines = Lines(self.process.stdout, "the host")
+
+    def ask(self, request, **fields):
+        """Asks it over a connection of its own."""
+        with Connection(self.control) as it:
+            return it.ask(request, **fields)
+
+    def status(self):
+        """Returns what it says of itself."""
+        return self.ask("status")["host"]
+
+    def guest(self, name):
+        """Returns what it says of a guest."""
+        return self.ask("guest", name=name)["guest"]
+
+    def said(self):
+        """Returns the lines that it said on standard error."""
+        self.log.seek(0)
+        return self.log.read().decode().splitlines()
+
+    def end(self, number=signal.SIGTERM):
+        """Ends it; returns its status."""
+        if self.process.poll() is None:
+            self.process.send_signal(number)
+        try:
+            return self.process.wait(LIMIT)
+        finally:
+            self.process.kill()
+            self.process.wait()
+            self.process.stdin.close(), self.process.stdout.close()
+
+
+class Answering(threading.Thread):
+    """A guest of 128 pages, whose driver answers each question by how many pages it calls free."""
+
+    def __init__(self, host, name, free=60):
+        super().__init__(daemon=True)
+        self.free, self.ended = free, threading.Event()
+        self.client = Client(f"{host.folder}/{name}", lambda: "\n".join(host.said()[-2:]))
+        self.client.start()
+        self.tell()
+        self.start()
+
+    def tell(self):
+        """Posts statistics."""
+        data = struct.pack("<HQ", FREE_MEMORY, self.free * PAGE)
+        self.client.write(BUFFERS + PAGE, data)
+        self.client.describe(STATISTICS, 0, BUFFERS + PAGE, len(data))
+        self.client.publish(STATISTICS, 0)
+        self.client.kick(STATISTICS)
+
+    def run(self):
+        """Answers until it goes, or the host closes its socket."""
+        try:
+            while not self.ended.wait(0.02):
+                while select.select([self.client.own], [], [], 0)[0]:
+                    if self.client.told(LIMIT) == STATISTICS:
+                        self.tell()
+        except (OSError, TypeError, AssertionError):
+            pass
+
+    def stop(self):
+        """Answers no longer."""
+        self.ended.set()
+        self.join()
+
+    def leave(self):
+        """Goes."""
+        self.stop()
+        self.client.leave()

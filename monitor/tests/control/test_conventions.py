@@ -1,0 +1,111 @@
+"""A guest's backend is started as QEMU's conventions for vhost-user backends say: by a path, by a socket, and asked what it can."""
+
+import json
+import os
+import signal
+import socket
+import subprocess
+
+import pytest
+from hosts import LIMIT, ROOT, eventually, limit_from_now
+from linux_guest import Lines
+from vhost_client import Client
+
+
+@pytest.fixture(scope="session")
+def backend(programs):
+    """The backend's program, with the compiler's checks."""
+    return programs("vhost_user_balloon")
+
+
+class Running:
+    """A backend that runs without a control pipe, as a management program starts it."""
+
+    def __init__(self, program, *words, files=()):
+        self.process = subprocess.Popen(
+            [program, *words], stdin=subprocess.DEVNULL, stdout=subprocess.PIPE, stderr=subprocess.PIPE, pass_fds=files
+        )
+        self.first = Lines(self.process.stdout, "the backend").next(limit_from_now())
+
+    def end(self):
+        """Ends it by SIGTERM; returns its status."""
+        self.process.send_signal(signal.SIGTERM)
+        _, said = self.process.communicate(timeout=LIMIT)
+        return self.process.returncode, said.decode()
+
+
+def serve(client):
+    """Has a client's queues started, and inflates a page."""
+    client.start()
+    client.post_pages(0, [0x180])
+    eventually(lambda: client.used(0)[0] == 1)
+    assert client.holes() == [0x180]
+
+
+@pytest.mark.parametrize("words", (["--socket-path", "{path}"], ["--socket-path={path}"], ["--strict", "--socket-path={path}", "--lines", "5"]))
+def test_by_a_path(backend, tmp_path_factory, words):
+    path = f"{tmp_path_factory.mktemp('b')}/socket"
+    it = Running(backend, *(word.format(path=path) for word in words))
+    assert it.first == "listening"
+    serve(Client(path))
+    assert it.end() == (0, "")
+    assert not os.path.exists(path)
+
+
+@pytest.mark.parametrize("option", ("--fd {}", "--fd={}"))
+def test_by_a_socket_that_listens(backend, tmp_path_factory, option):
+    path = f"{tmp_path_factory.mktemp('b')}/socket"
+    with socket.socket(socket.AF_UNIX) as listener:
+        listener.bind(path)
+        listener.listen()
+        it = Running(backend, *option.format(listener.fileno()).split(), files=[listener.fileno()])
+    serve(Client(path))
+    assert it.end() == (0, "")
+    assert os.path.exists(path), "whoever made the socket removes it"
+
+
+class Connected(Client):
+    """A client whose socket is connected already."""
+
+    def __init__(self, end):
+        self.end = end
+        super().__init__("")
+
+    def connect(self):
+        self.socket, self.begun = self.end, False
+        self.own, self.theirs = socket.socketpair()
+
+
+def test_by_a_client_s_socket(backend):
+    ours, theirs = socket.socketpair()
+    it = Running(backend, f"--fd={theirs.fileno()}", files=[theirs.fileno()])
+    theirs.close()
+    serve(Connected(ours))
+    assert it.end() == (0, "")
+
+
+def test_what_it_can(backend):
+    ran = subprocess.run([backend, "--nonsense", "--print-capabilities", "--fd=x"], capture_output=True, text=True, timeout=LIMIT)
+    assert (ran.returncode, json.loads(ran.stdout), ran.stderr) == (0, {"type": "balloon"}, "")
+
+
+def test_the_description_file():
+    with open(f"{ROOT}/packaging/qemu/50-bigvasta-balloon.json", encoding="utf-8") as file:
+        its = json.load(file)
+    assert (its["type"], its["binary"], set(its)) == ("balloon", "/usr/bin/vhost_user_balloon", {"description", "type", "binary"})
+
+
+WRONG = (["--fd"], ["--fd", "x"], ["--fd", "-1"], ["--fd=99"], ["--fd", "0"], ["--fd="], ["--socket-path"], ["--socket-path", "a", "--fd", "{}"],
+         ["--fd", "{}", "--fd", "{}"], ["path", "--fd", "{}"])
+
+
+@pytest.mark.parametrize("words", WRONG)
+def test_command_lines_that_are_none(backend, words):
+    ours, theirs = socket.socketpair()
+    with ours, theirs:
+        number = theirs.fileno()
+        ran = subprocess.run(
+            [backend, *(it.format(number) for it in words)], capture_output=True, text=True, timeout=LIMIT, stdin=subprocess.DEVNULL, pass_fds=[number]
+        )
+    assert (ran.returncode, ran.stdout) == (2, "")
+    assert ran.stderr.startswith("vhost_user_balloon SOCKET | --socket-path SOCKET | --fd FD")

@@ -1,0 +1,135 @@
+"""The manual of the programs: each page is well formed, what it shows happens, and it names each command, option and key that there is.
+And the completion for bash, in a bash."""
+
+import os
+import re
+import shlex
+import shutil
+import subprocess
+
+import pytest
+from bigvasta.cli import parser
+from hosts import CLIENT, ROOT, Host, eventually, limit_from_now
+
+MAN = os.path.join(ROOT, "docs", "man")
+PAGES = ("bigvasta.1", "bigvasta-host.conf.5", "vhost_user_host.1", "vhost_user_balloon.1")
+
+
+def page(name):
+    """Returns a page's source."""
+    with open(f"{MAN}/{name}", encoding="utf-8") as file:
+        return file.read()
+
+
+def plain(text):
+    """Returns a line of a page as it is shown."""
+    return text.replace("\\-", "-").replace("\\&", "")
+
+
+@pytest.mark.parametrize("name", PAGES)
+def test_pages_are_well_formed(name):
+    if not shutil.which("man"):
+        pytest.skip("man isn't there: apt-get install man-db")
+    words = ["man", "--warnings", "-E", "UTF-8", "-l", "-Tutf8", "-Z", f"{MAN}/{name}"]
+    ran = subprocess.run(words, capture_output=True, text=True, timeout=60, env={**os.environ, "MANROFFSEQ": "", "MANWIDTH": "80", "LC_ALL": "C.UTF-8"})
+    assert (ran.returncode, ran.stderr) == (0, "")
+
+
+def examples(name):
+    """Yields the commands that a page shows, and the lines that each prints."""
+    for block in re.findall(r"(?s)\n\.EX\n(.*?)\.EE\n", page(name)):
+        for part in re.split(r"(?m)^\$ ", plain(block))[1:]:
+            command, *lines = part.splitlines()
+            yield shlex.split(command), lines
+
+
+def test_what_the_page_of_the_client_shows(host, folder):
+    shown = list(examples("bigvasta.1"))
+    assert len(shown) >= 5
+    for (program, *words), lines in shown:
+        assert program == "bigvasta"
+        ran = subprocess.run(
+            ["/usr/bin/python3", "-B", "-m", "bigvasta", *words], capture_output=True, text=True, timeout=20,
+            env={**os.environ, "PYTHONPATH": CLIENT, "BIGVASTA_CONTROL": host.control},
+        )
+        assert (ran.returncode, ran.stderr) == (0, ""), (words, ran)
+        assert ran.stdout.replace(str(folder), "/run/bigvasta").splitlines() == lines, words
+
+
+def test_what_the_page_of_the_host_shows(program, folder):
+    ((name, *words), lines), = examples("vhost_user_host.1")
+    assert name == "vhost_user_host"
+    said = [it.replace("/run/bigvasta", str(folder)) for it in words]
+    said[said.index("bigvasta")] = "root"
+    host = Host(program, folder, *said)
+    assert [host.lines.next(limit_from_now()) for _ in lines] == lines
+    assert host.end() == 0
+
+
+def test_what_the_page_of_the_configuration_shows(program, folder):
+    block, = re.findall(r"(?s)\n\.EX\n(.*?)\.EE\n", page("bigvasta-host.conf.5"))
+    (folder / "host.conf").write_text(plain(block).replace("/run/bigvasta", str(folder)).replace("group = bigvasta", "group = root"))
+    host = Host(program, folder, "--config", f"{folder}/host.conf")
+    assert host.lines.next(limit_from_now()) == "ready"
+    assert [it["name"] for it in host.ask("status")["guests"]] == ["web-1"]
+    assert host.end() == 0
+
+
+def commands():
+    """Returns the subcommands' parsers by their names."""
+    return next(it.choices for it in parser()._actions if it.dest == "==SUPPRESS==" or it.choices)
+
+
+def test_the_page_of_the_client_names_each_command_and_option():
+    text = plain(page("bigvasta.1"))
+    for name, command in commands().items():
+        assert re.search(rf"(?m)^\.B[RI]? .*\b{name}\b", text), name
+        for action in command._actions:
+            for option in action.option_strings:
+                assert option in text or option in ("-h", "--help", "--follow"), (name, option)
+
+
+def test_the_page_of_the_configuration_names_each_key():
+    with open(f"{ROOT}/monitor/backends/service/config.c", encoding="utf-8") as file:
+        keys = re.findall(r'(?m)^ +\{"(\w+)", "(\w+)", WORD_', file.read())
+    sections = dict(re.findall(r"(?ms)^\.SH \[(\w+)[^\]]*\]\n(.*?)(?=^\.SH)", page("bigvasta-host.conf.5")))
+    assert len(keys) == 13
+    for section, key in keys:
+        assert f"\n.B {key}\n" in "\n" + sections[section], (section, key)
+    assert sum(it.count("\n.B ") + it.startswith(".B ") for it in sections.values()) == len(keys)
+
+
+# What is typed, and what it may become.
+COMPLETIONS = (
+    (["bigvasta", ""], {"status", "guest", "add", "remove", "budget", "floor", "log", "watch", "metrics", "--help", "--version"}),
+    (["bigvasta", "st"], {"status"}),
+    (["bigvasta", "guest", ""], {"web-1", "web-2"}),
+    (["bigvasta", "remove", "--control", "{control}", "web-1"], set()),
+    (["bigvasta", "guest", "web-1", "l"], {"least="}),
+    (["bigvasta", "guest", "web-1", "t"], {"target="}),
+    (["bigvasta", "add", "web-3", "t"], set()),
+    (["bigvasta", "add", "web-3", "m"], {"most="}),
+    (["bigvasta", "log", "--s"], {"--since"}),
+    (["bigvasta", "status", "--"], {"--control", "--json", "--help", "--names"}),
+)
+
+
+def test_completion_in_bash(host, folder):
+    for name in ("web-1", "web-2"):
+        host.ask("add", name=name)
+    program = folder / "bigvasta"
+    program.write_text(f"#!/bin/sh\nPYTHONPATH={CLIENT} exec /usr/bin/python3 -B -m bigvasta \"$@\"\n")
+    program.chmod(0o755)
+    script = ". {file}; COMP_WORDS=({words}); COMP_CWORD=$(({count} - 1)); _bigvasta 2> /dev/null; printf '%s\\n' \"${{COMPREPLY[@]}}\""
+    for words, wanted in COMPLETIONS:
+        words = [it.format(control=host.control) for it in words]
+        text = script.format(file=f"{ROOT}/packaging/bash-completion/bigvasta", words=" ".join(map(shlex.quote, words)), count=len(words))
+        environment = {**os.environ, "PATH": f"{folder}:{os.environ['PATH']}", "BIGVASTA_CONTROL": host.control}
+        ran = subprocess.run(["bash", "-c", text], capture_output=True, text=True, timeout=20, env=environment)
+        assert set(ran.stdout.split()) == wanted, (words, ran)
+
+
+def test_the_completion_knows_each_command():
+    with open(f"{ROOT}/packaging/bash-completion/bigvasta", encoding="utf-8") as file:
+        listed = re.search(r'"" \) ?options="([^"]*)"|""\) options="([^"]*)"', file.read())
+    assert set((listed[1] or listed[2]).split()) - {"--help", "--version"} == set(commands())

@@ -1,0 +1,189 @@
+"""A host as a service: what its service manager is told, by a small one that speaks the protocol of sd_notify(3) and keeps files; its units."""
+
+import array
+import os
+import re
+import shutil
+import signal
+import socket
+import subprocess
+import sys
+import time
+
+import pytest
+from bigvasta.connection import Connection
+from hosts import ROOT, Host, bigvasta, eventually, limit_from_now
+
+SYSTEMD = os.path.join(ROOT, "packaging", "systemd")
+UNITS = ("bigvasta-host.service", "bigvasta-metrics.service")
+
+# What a service is started by: files are handed over from number 3 on, with its own number, as sd_listen_fds(3) wants it.
+STARTER = """import os, sys
+files = [int(it) for it in sys.argv[1].split()]
+for number, file in enumerate([os.dup2(it, 100 + it) for it in files]):
+    os.dup2(file, 3 + number)
+os.environ["LISTEN_PID"] = str(os.getpid())
+os.execv(sys.argv[2], sys.argv[2:])
+"""
+
+
+class Manager:
+    """A service manager for one service."""
+
+    def __init__(self, folder):
+        self.folder, self.kept = folder, {}
+        self.socket = socket.socket(socket.AF_UNIX, socket.SOCK_DGRAM)
+        self.socket.bind(f"{folder}/notify")
+        self.socket.settimeout(10)
+
+    def environment(self, watchdog=0):
+        """Returns what it starts a service with."""
+        return {"NOTIFY_SOCKET": f"{self.folder}/notify"} | ({"WATCHDOG_USEC": str(watchdog)} if watchdog else {})
+
+    def word(self):
+        """Returns the next thing that it is told, by names; a file that comes with it is kept."""
+        data, control, *_ = self.socket.recvmsg(4096, socket.CMSG_SPACE(16))
+        told = dict(line.split("=", 1) for line in data.decode().splitlines())
+        for _, _, its in control:
+            files = array.array("i")
+            files.frombytes(its)
+            assert told.get("FDSTORE") == "1" and len(files) == 1
+            self.kept[told["FDNAME"]] = files[0]
+        return told
+
+    def until(self, name):
+        """Returns the next word of this name."""
+        while True:
+            told = self.word()
+            if name in told:
+                return told
+
+    def start(self, program, folder, *words, watchdog=0):
+        """Starts a host, with the files that were kept."""
+        kept = {"LISTEN_FDS": str(len(self.kept)), "LISTEN_FDNAMES": ":".join(self.kept)} if self.kept else {}
+        environment = self.environment(watchdog) | kept
+        return Started(program, folder, *words, files=list(self.kept.values()), environment=environment)
+
+    def close(self):
+        """Lets go of all."""
+        self.socket.close()
+        for it in self.kept.values():
+            os.close(it)
+
+
+class Started(Host):
+    """A host that a service manager starts."""
+
+    def __init__(self, program, folder, *words, files, environment):
+        numbers = " ".join(map(str, files))
+        super().__init__(sys.executable, folder, "-c", STARTER, numbers, program, *words, environment=environment, files=files)
+
+
+@pytest.fixture
+def manager(folder):
+    it = Manager(folder)
+    yield it
+    it.close()
+
+
+def test_what_a_manager_is_told(program, folder, manager):
+    (folder / "host.conf").write_text(f"[host]\nfolder = {folder}\nbudget = 480M\n")
+    host = manager.start(program, folder, "--config", f"{folder}/host.conf", watchdog=400000)
+    # Its socket is kept, and is there once it is ready.
+    assert manager.word() == {"FDSTORE": "1", "FDNAME": "control"}
+    assert manager.word() == {"READY": "1"}
+    assert host.status()["budget"] == 480 << 20
+    # A word for the watchdog each half of its time, with a line about what there is.
+    begin = time.monotonic()
+    words = [manager.word() for _ in range(5)]
+    assert all(it == {"WATCHDOG": "1", "STATUS": "0 guests, 0 of 480 MiB held, 0 wait"} for it in words), words
+    assert 0.6 < time.monotonic() - begin < 2
+    (folder / "host.conf").write_text(f"[host]\nfolder = {folder}\nbudget = 400M\n")
+    host.process.send_signal(signal.SIGHUP)
+    told = manager.until("RELOADING")
+    assert 0 < int(told["MONOTONIC_USEC"]) <= time.monotonic() * 1e6
+    assert manager.until("READY") == {"READY": "1"}
+    assert host.status()["budget"] == 400 << 20
+    host.process.send_signal(signal.SIGTERM)
+    assert manager.until("STOPPING") == {"STOPPING": "1"}
+    assert host.end() == 0
+
+
+def test_a_client_that_comes_while_no_host_is_there(program, folder, manager):
+    host = manager.start(program, folder, str(folder), "--budget", "480")
+    manager.until("READY")
+    assert host.end() == 0
+    assert os.path.exists(host.control), "the socket that is kept has its name"
+    waiting = Connection(host.control)
+    waiting.socket.sendall(b'{"version": 1, "request": "budget"}\n')
+    host = manager.start(program, folder, str(folder), "--budget", "300")
+    assert waiting.receive()["budget"] == 300 << 20
+    assert host.status()["control"]["accepted"] == 2
+    waiting.close()
+    assert host.end() == 0
+
+
+def test_without_a_watchdog(program, folder, manager):
+    host = manager.start(program, folder, str(folder), "--budget", "480")
+    manager.until("READY")
+    assert "STATUS" in manager.word()
+    manager.socket.settimeout(1)
+    with pytest.raises(TimeoutError):
+        manager.word()
+    assert host.end() == 0
+
+
+def test_without_a_manager(program, folder):
+    host = Host(program, folder, str(folder), "--budget", "480", environment={"NOTIFY_SOCKET": f"{folder}/none"})
+    host.lines.next(limit_from_now())
+    assert host.end() == 0
+
+
+@pytest.mark.parametrize("unit", UNITS)
+def test_units(unit, tmp_path):
+    if not shutil.which("systemd-analyze"):
+        pytest.skip("systemd-analyze isn't there: apt-get install systemd")
+    with open(f"{SYSTEMD}/{unit}", encoding="utf-8") as file:
+        text = file.read()
+    # The programs aren't installed here.
+    (tmp_path / unit).write_text(re.sub(r"(?m)^ExecStart=\S+", "ExecStart=/bin/true", text))
+    ran = subprocess.run(["systemd-analyze", "verify", "--man=no", str(tmp_path / unit)], capture_output=True, text=True, timeout=60)
+    assert (ran.returncode, [it for it in ran.stderr.splitlines() if unit in it]) == (0, []), ran
+    words = ["systemd-analyze", "security", "--offline=yes", "--no-pager", "--threshold=20", f"{SYSTEMD}/{unit}"]
+    ran = subprocess.run(words, capture_output=True, text=True, timeout=60)
+    exposure = float(re.search(r"Overall exposure level for \S+: ([\d.]+)", ran.stdout)[1])
+    assert ran.returncode == 0 and exposure <= 2.0, exposure
+
+
+def test_the_user_and_the_folder_of_sockets(tmp_path):
+    if not shutil.which("systemd-sysusers") or os.geteuid():
+        pytest.skip("systemd-sysusers isn't there, or this isn't root")
+    (tmp_path / "etc").mkdir()
+    for program, file in (("systemd-sysusers", "sysusers.d/bigvasta.conf"), ("systemd-tmpfiles", "tmpfiles.d/bigvasta.conf")):
+        words = [program, f"--root={tmp_path}", *(["--create"] if program.endswith("tmpfiles") else []), os.path.join(os.path.dirname(SYSTEMD), file)]
+        ran = subprocess.run(words, capture_output=True, text=True, timeout=60)
+        assert ran.returncode == 0, ran
+    user = next(it.split(":") for it in (tmp_path / "etc/passwd").read_text().splitlines() if it.startswith("bigvasta:"))
+    folder = os.stat(tmp_path / "run/bigvasta")
+    assert (user[6], oct(folder.st_mode & 0o7777), folder.st_uid) == ("/usr/sbin/nologin", "0o750", int(user[2]))
+
+
+def test_what_the_units_start():
+    for unit, words in zip(UNITS, ("/usr/bin/vhost_user_host --config /etc/bigvasta/host.conf", "/usr/bin/bigvasta metrics --listen localhost:9750")):
+        with open(f"{SYSTEMD}/{unit}", encoding="utf-8") as file:
+            assert f"ExecStart={words}\n" in file.read()
+
+
+def test_the_configuration_of_the_package(program, folder):
+    """With a budget, the file that the package installs is right, and with each line that is a comment in it, too."""
+    with open(f"{ROOT}/packaging/etc/host.conf", encoding="utf-8") as file:
+        text = file.read().replace("/run/bigvasta", str(folder)).replace("group = bigvasta", "group = root")
+    bare = text.replace("# budget", "budget")
+    full = re.sub(r"(?m)^# (\[guest|least|most|priority)", r"\1", bare)
+    for text in bare, full:
+        (folder / "host.conf").write_text(text)
+        host = Host(program, folder, "--config", f"{folder}/host.conf")
+        assert host.lines.next(limit_from_now()) == "ready"
+        assert host.status()["guests"] == ("[guest web-1]" in re.sub(r"(?m)^#.*$", "", text))
+        assert bigvasta(host.control, "budget").stdout == "8192 MiB\n"
+        assert host.end() == 0

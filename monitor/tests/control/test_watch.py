@@ -1,0 +1,128 @@
+"""`bigvasta watch` in a real terminal: tmux sends the keys and shows the screen."""
+
+import os
+import shlex
+import shutil
+import subprocess
+
+import pytest
+from hosts import CLIENT, Host, eventually, limit_from_now
+
+PAGE, MIB = 4096, 1 << 20
+
+pytestmark = pytest.mark.skipif(not shutil.which("tmux"), reason="tmux isn't there: apt-get install tmux")
+
+
+class Terminal:
+    """A terminal of 100 columns and 14 lines with a server of its own, in which the client program runs."""
+
+    def __init__(self, folder, control, *words, locale="C.UTF-8"):
+        self.socket = f"{folder}/tmux"
+        program = ["env", f"PYTHONPATH={CLIENT}", f"LC_ALL={locale}", "/usr/bin/python3", "-B", "-m", "bigvasta", "watch", "--control", control, *words]
+        command = f"trap : INT; {shlex.join(program)}; echo \"ended with $?\"; sleep 60"
+        self.tmux("-f", "/dev/null", "-u", "new-session", "-d", "-x", "100", "-y", "14", "/bin/sh", "-c", command)
+
+    def tmux(self, *words):
+        """Runs a command of tmux; returns what it printed."""
+        environment = {**os.environ, "TERM": "screen-256color", "LC_ALL": "C.UTF-8"}
+        return subprocess.run(["tmux", "-S", self.socket, *words], capture_output=True, text=True, timeout=10, env=environment, check=True).stdout
+
+    def screen(self):
+        """Returns the lines that the terminal shows."""
+        return [it.rstrip() for it in self.tmux("capture-pane", "-p").split("\n")]
+
+    def key(self, name):
+        """Presses a key."""
+        self.tmux("send-keys", name)
+
+    def resize(self, columns, lines):
+        """Changes the size."""
+        self.tmux("resize-window", "-x", str(columns), "-y", str(lines))
+
+    def close(self):
+        """Ends it."""
+        self.tmux("kill-server")
+
+
+@pytest.fixture
+def terminal(folder, host):
+    it = Terminal(folder, host.control, "--interval", "0.2")
+    yield it
+    it.close()
+
+
+def shows(terminal, wanted):
+    """Waits until a line of the screen is this, or begins so where it ends in two dots."""
+    def found():
+        lines = terminal.screen()
+        return any(it.startswith(wanted[:-2]) if wanted.endswith("..") else it == wanted for it in lines)
+
+    eventually(found, lambda: "\n".join([f"no line {wanted!r} in:", *terminal.screen()]))
+
+
+def test_guests_keys_and_sizes(host, arrive, terminal):
+    shows(terminal, "budget 480  held 0  lent 0  promised 0 MiB")
+    shows(terminal, "0 guests, by name")
+    host.ask("floor", bytes=0)
+    arrive("web-2"), arrive("web-1")
+    eventually(lambda: all(host.guest(it)["answers"] for it in ("web-1", "web-2")))
+    host.ask("budget", bytes=156 * PAGE)
+    eventually(lambda: host.guest("web-2")["target"] == 60 * PAGE)
+    shows(terminal, "guest          held   loan target  spare  memory")
+    # Its 128 pages are the whole bar: 68 are held and kept, 60 of them it can spare, and the target leaves it 68.
+    shows(terminal, "web-2           0.5    0.5    0.2    0.2  ██████████████████████│▒▒▒▒▒▒▒▒▒▒▒▒▒▒▒▒▒▒]")
+    lines = terminal.screen()
+    assert [it.split()[0] for it in lines[5:7]] == ["web-1", "web-2"], lines
+    assert lines[13] == "█ held  ▒ of it spare  ░ lent  │ left by the target   q quit  s sort  p pause"
+    terminal.key("s")
+    shows(terminal, "2 guests, by held")
+    terminal.key("s")
+    shows(terminal, "2 guests, by waits")
+    terminal.key("p")
+    shows(terminal, "2 guests, by waits, paused")
+    host.ask("budget", bytes=480 * MIB)
+    eventually(lambda: host.status()["budget"] == 480 * MIB)
+    assert terminal.screen()[0].startswith("budget 0.6  held 1.0"), "a paused view goes on"
+    terminal.key("p")
+    shows(terminal, "budget 480  held 1.0..")
+    terminal.key("Down")
+    eventually(lambda: terminal.screen()[5].startswith("web-2"), lambda: terminal.screen())
+    terminal.key("Up")
+    eventually(lambda: terminal.screen()[5].startswith("web-1"), lambda: terminal.screen())
+    terminal.resize(40, 8)
+    eventually(lambda: terminal.screen()[7] == "█ held  ▒ of it spare  ░ lent  │ left by", lambda: terminal.screen())
+    terminal.key("q")
+    shows(terminal, "ended with 0")
+
+
+def test_a_terminal_without_utf8(folder, host):
+    terminal = Terminal(folder, host.control, locale="C")
+    shows(terminal, "# held  = of it spare  . lent  | left by the target   q quit  s sort  p pause")
+    terminal.key("C-c")
+    shows(terminal, "ended with 0")
+    terminal.close()
+
+
+def test_a_host_that_goes_and_comes_back(program, folder):
+    host = Host(program, folder, str(folder), "--budget", "480")
+    host.lines.next(limit_from_now())
+    terminal = Terminal(folder, host.control, "--interval", "0.2")
+    shows(terminal, "0 guests, by name")
+    assert host.end() == 0
+    shows(terminal, "no host answers, and this was its last word: ..")
+    assert terminal.screen()[0] == "budget 480  held 0  lent 0  promised 0 MiB"
+    host = Host(program, folder, str(folder), "--budget", "400")
+    host.lines.next(limit_from_now())
+    shows(terminal, "budget 400  held 0  lent 0  promised 0 MiB")
+    shows(terminal, "0 guests, by name")
+    terminal.key("q")
+    shows(terminal, "ended with 0")
+    terminal.close()
+    assert host.end() == 0
+
+
+def test_no_host(folder):
+    terminal = Terminal(folder, f"{folder}/none")
+    shows(terminal, f"bigvasta: {folder}/none: No such file or directory")
+    shows(terminal, "ended with 3")
+    terminal.close()

@@ -1,0 +1,57 @@
+"""A Linux of Debian's own on a backend: the cases that the command line asks for, and what all of them share."""
+
+import argparse
+
+import linux_kit
+import pytest
+from linux_bench import FORMS, SIZES, WRONG_DEVICES, Bench
+from linux_runs import RUNS
+
+
+def count(word):
+    """Reads the number of --times."""
+    number = int(word)
+    if number < 1:
+        raise argparse.ArgumentTypeError("at least once")
+    return number
+
+
+def pytest_addoption(parser):
+    """The options of this suite."""
+    words = parser.getgroup("linux")
+    words.addoption("--times", type=count, default=1, metavar="K", help="each run so many times")
+    words.addoption("--form", choices=FORMS, help="the one form in which guest and device notify each other")
+    words.addoption("--suite", metavar="NAME", help="User Mode Linux of another Debian than the machine's: bookworm, trixie, sid")
+
+
+def forms_of(config):
+    """Returns the forms that the command line asks for."""
+    if config.getoption("--client") == "qemu":
+        return ["messages"]
+    return [config.getoption("--form")] if config.getoption("--form") else list(FORMS)
+
+
+def cases(forms, seeds, names=tuple(RUNS)):
+    """Returns all runs: with a guest of each size, in each of the forms, which change places from run to run."""
+    return [
+        (name, memory, forms[(number + place + seed) % len(forms)], seed)
+        for seed in seeds for place, name in enumerate(names) for number, memory in enumerate(SIZES)
+    ]
+
+
+def pytest_generate_tests(metafunc):
+    """Makes a test of each run, and of each wrong device in each form."""
+    forms = forms_of(metafunc.config)
+    if "name" in metafunc.fixturenames:
+        runs = cases(forms, range(metafunc.config.getoption("--times")))
+        metafunc.parametrize("name, memory, form, seed", runs, ids=["-".join(map(str, it)) for it in runs])
+    if "wrong" in metafunc.fixturenames:
+        devices = [pytest.param(it, form, marks=pytest.mark.wrong(it)) for it in WRONG_DEVICES for form in forms]
+        metafunc.parametrize("wrong, form", devices)
+
+
+@pytest.fixture(scope="session")
+def bench(tmp_path_factory, request):
+    """A kernel, the program under test, and a folder."""
+    asked = request.config.getoption
+    return Bench(linux_kit.core_of(), asked("--client"), asked("--suite"), str(tmp_path_factory.mktemp("linux")))

@@ -1,0 +1,83 @@
+"""Backends of one guest, and clients of theirs that aren't Linux."""
+
+import os
+
+import pytest
+from vhost_client import QEMU_PROTOCOL
+from vhost_served import Served
+
+pytest.register_assert_rewrite("vhost_demands")
+
+
+@pytest.fixture(scope="session")
+def program(programs):
+    """The backend under test: one that the environment names, or one that is built with the compiler's checks."""
+    return os.environ.get("BACKEND_PROGRAM") or programs("vhost_user_balloon")
+
+
+@pytest.fixture(scope="session")
+def wrong_program(programs):
+    """The backend that is wrong in the way that its environment's BACKEND_WRONG names."""
+    return programs("vhost_user_balloon", wrong=True)
+
+
+@pytest.fixture
+def serve(program):
+    """Returns a client with a backend of its own, whose end the test looks at; what is left is ended after the test."""
+    clients = []
+
+    def make(*options, built=program, environment=None):
+        clients.append(Served(built, *options, environment=environment))
+        return clients[-1]
+
+    yield make
+    for it in clients:
+        it.backend.process.kill()
+        it.backend.process.wait()
+
+
+@pytest.fixture
+def serve_ready(serve):
+    """The same, once its driver is ready."""
+    def make(*options):
+        client = serve(*options)
+        client.start()
+        return client
+
+    return make
+
+
+@pytest.fixture
+def serve_well(serve):
+    """Returns a client with a backend of its own, which has to end well."""
+    clients = []
+
+    def make(*options):
+        clients.append(serve(*options))
+        return clients[-1]
+
+    yield make
+    for it in clients:
+        assert it.close() == (0, "")
+
+
+@pytest.fixture
+def start(serve_well):
+    """The same, once its driver is ready; it kicks and is called by messages, as virtio_uml."""
+    def make(*options):
+        client = serve_well(*options)
+        client.start()
+        return client
+
+    return make
+
+
+@pytest.fixture
+def start_by_events(serve_well):
+    """The same, once its driver is ready; it kicks and is called by events, as QEMU."""
+    def make(*options, protocol=QEMU_PROTOCOL):
+        client = serve_well(*options)
+        client.start_by_events(protocol=protocol)
+        return client
+
+    return make

@@ -1,0 +1,335 @@
+"""Tests of a device's life with a client that kicks and is called by events: its status, what stays and what a reset forgets."""
+
+import os
+import struct
+
+import pytest
+import vhost_client
+from vhost_client import (
+    DEFLATE, FEATURES, GET_CONFIG, GET_STATUS, INFLATE, PAGE, POISON, QEMU_PROTOCOL, REGIONS, REPORT, RESET_DEVICE, SET_CONFIG,
+    SET_FEATURES, SET_STATUS, SET_VRING_ADDR, SET_VRING_ENABLE, SET_VRING_KICK, SET_VRING_NUM, SIZE, WRITE,
+)
+from vhost_demands import FIRST, demand_served, demand_unserved, word
+
+
+def test_status(serve_well):
+    client = serve_well()
+    client.negotiate(protocol=QEMU_PROTOCOL)
+    client.add_memory()
+    answers = []
+    for status in (8, 9, 1, 12, 11, 15, 0x100, 0):
+        answers.append((client.send(SET_STATUS, word(status)) == bytes(8), client.send(GET_STATUS)[0]))
+    accepted = [(True, 8), (True, 9), (False, 9), (False, 9), (True, 11), (True, 15), (False, 15), (True, 0)]
+    assert answers == accepted
+
+
+@pytest.mark.parametrize("message, body", ((vhost_client.RESET_OWNER, b""), (SET_STATUS, word(0)), (RESET_DEVICE, b"")))
+def test_what_stops_all_rings(start_by_events, message, body):
+    client = start_by_events()
+    demand_served(client, INFLATE, [FIRST])
+    client.accepted(message, body)
+    assert client.counter("status") == 0
+    client.post_pages(INFLATE, [FIRST + 1])
+    demand_unserved(client, INFLATE)
+
+
+def test_features_before_the_status_that_stands_on_them(serve_well):
+    client = serve_well()
+    client.begin(QEMU_PROTOCOL)
+    assert client.send(SET_STATUS, word(11)) != bytes(8)
+    assert client.send(GET_STATUS) == bytes(8)
+
+
+def test_a_driver_that_has_failed(start_by_events):
+    client = start_by_events()
+    client.accepted(SET_STATUS, word(15 | 128))
+    client.post_pages(INFLATE, [FIRST])
+    demand_unserved(client, INFLATE)
+    assert (client.used(INFLATE)[0], client.counter("status")) == (0, 0)
+
+
+def test_a_device_goes_on_where_it_was(start_by_events):
+    client = start_by_events()
+    demand_served(client, INFLATE, [FIRST])
+    demand_served(client, DEFLATE, [FIRST])
+    client.accepted(SET_CONFIG, struct.pack("<IIII", 4, 4, 0, 77))
+    bases = [client.stop_ring(number) for number in range(4)]
+    assert bases == [1, 1, 0, 0]
+    client.accepted(SET_STATUS, word(0))
+    assert client.counter("status") == 0
+    client.accepted(SET_FEATURES, word(FEATURES | vhost_client.HAS_PROTOCOL))
+    client.go_on(bases, order=(2, 3, 1, 0))  # one that begins at 0 before the one that goes on
+    assert (client.counter("status"), client.counter("actual")) == (15, 77)
+    client.called(INFLATE)
+    demand_served(client, INFLATE, [FIRST + 1])
+    # One ring stops and starts beside others: `actual` stays what it is.
+    client.accepted(SET_CONFIG, struct.pack("<IIII", 4, 4, 0, 5))
+    for on in (0, 1):
+        client.accepted(SET_VRING_ENABLE, struct.pack("<II", INFLATE, on))
+    assert client.counter("actual") == 5
+
+
+def test_calls_stay_over_a_status_of_0(start_by_events):
+    client = start_by_events()
+    demand_served(client, INFLATE, [FIRST])
+    client.accepted(SET_STATUS, word(0))
+    client.accepted(SET_FEATURES, word(FEATURES | vhost_client.HAS_PROTOCOL))
+    client.tell_place(INFLATE, base=1)
+    client.accepted(SET_VRING_KICK, word(INFLATE), [client.kicks[INFLATE]])
+    client.accepted(SET_VRING_ENABLE, struct.pack("<II", INFLATE, 1))
+    assert client.called(INFLATE) == 1  # where it goes on, it calls once
+    demand_served(client, INFLATE, [FIRST + 1])
+
+
+def test_a_ring_runs_once_all_is_told(serve_well):
+    place = struct.pack("<IIQQQQ", INFLATE, 0, *(REGIONS[0][1] + it * PAGE for it in (0, 2, 1)), 0)
+    kick = os.eventfd(0, os.EFD_NONBLOCK)
+    messages = (
+        (SET_VRING_NUM, struct.pack("<II", INFLATE, SIZE)), (SET_VRING_ADDR, place), (SET_VRING_KICK, word(INFLATE), [kick]),
+        (SET_VRING_ENABLE, struct.pack("<II", INFLATE, 1)),
+    )
+    for late in messages:
+        client = serve_well()
+        client.negotiate(protocol=QEMU_PROTOCOL)
+        client.add_memory()
+        client.clear(INFLATE)
+        client.kicks[INFLATE] = os.dup(kick)
+        for it in messages:
+            if it is not late:
+                client.accepted(*it)
+        client.post_pages(INFLATE, [FIRST])
+        assert [client.counter(it) for it in ("kicks", "chains", "status")] == [0, 0, 11]
+        client.accepted(*late)
+        assert (client.counter("status"), client.used(INFLATE)) == (15, (1, [(0, 0)]))
+    os.close(kick)
+
+
+def test_a_status_of_0_before_the_indexes_are_asked_for(start_by_events):
+    client = start_by_events()
+    for page in range(3):
+        demand_served(client, INFLATE, [FIRST + page])
+    client.accepted(SET_STATUS, word(0))
+    for number in range(4):
+        client.accepted(SET_VRING_ENABLE, struct.pack("<II", number, 0))
+    assert [client.stop_ring(number) for number in range(4)] == [3, 0, 0, 0]
+    client.go_on([3, 0, 0, 0])
+    client.called(INFLATE)
+    demand_served(client, INFLATE, [FIRST + 9])
+
+
+def test_a_new_driver_has_nothing_in_its_balloon(start_by_events):
+    client = start_by_events()
+    demand_served(client, INFLATE, [FIRST])
+    client.accepted(SET_CONFIG, struct.pack("<IIII", 4, 4, 0, 77))
+    client.accepted(SET_STATUS, word(0))
+    client.accepted(SET_FEATURES, word(FEATURES | vhost_client.HAS_PROTOCOL))
+    client.go_on()
+    assert (client.counter("status"), client.counter("actual")) == (15, 0)
+    demand_served(client, INFLATE, [FIRST])
+
+
+def test_a_device_that_is_plugged_again(serve_well):
+    client = serve_well()
+    client.begin(QEMU_PROTOCOL)
+    files = client.open_files()
+    for stops in (True, True, False):
+        client.start_by_events()
+        assert (client.counter("status"), client.counter("actual")) == (15, 0)
+        demand_served(client, INFLATE, [FIRST, FIRST + 1])
+        client.accepted(SET_CONFIG, struct.pack("<IIII", 4, 4, 0, 77))
+        for number in range(4 * stops):  # as QEMU unplugs it, whose memory and events stay
+            client.accepted(SET_VRING_ENABLE, struct.pack("<II", number, 0))
+            client.stop_ring(number)
+        client.begin(QEMU_PROTOCOL)
+        assert (client.send(GET_STATUS), client.counter("status"), client.counter("actual")) == (bytes(8), 0, 0)
+        assert (client.open_files(), client.mappings()) == (files, 0)
+        assert client.send(SET_STATUS, word(11)) != bytes(8)  # as no features are taken
+    client.start_by_events()
+    demand_served(client, INFLATE, [FIRST])
+    assert (client.backend.ask("target 3"), client.told()) == ("ok", None)
+
+
+def poisoned(serve_well):
+    """Returns a client whose driver said that its free pages hold 0xff, and the word of PAGE_POISON."""
+    client = serve_well("--features", "100000037")
+    client.begin(QEMU_PROTOCOL)
+    client.accepted(SET_CONFIG, struct.pack("<IIII", 12, 4, 0, 0xFFFFFFFF))
+    client.start_by_events(features=FEATURES | POISON)
+    return client
+
+
+def demand_reported(client, page, kept):
+    """Posts a report of a page, and demands that its bytes are kept, or gone."""
+    before = client.backend.counters()
+    client.describe(REPORT, 0, page * PAGE, PAGE, WRITE)
+    client.publish(REPORT, 0)
+    client.kick(REPORT)
+    assert client.called(REPORT) == 1
+    counters = client.backend.counters()
+    assert [counters[it] - before[it] for it in ("reported", "kept", "discarded")] == [1, kept, 1 - kept]
+    assert client.read(page * PAGE, PAGE) == (b"\xff" if kept else b"\0") * PAGE
+
+
+def test_poisoned_reports_are_kept(serve_well):
+    client = poisoned(serve_well)
+    demand_reported(client, FIRST, 1)
+    demand_served(client, INFLATE, [FIRST + 1])
+    assert (client.holes(), client.counter("in_holes")) == ([FIRST + 1], 0)
+    client.accepted(SET_CONFIG, struct.pack("<IIII", 12, 4, 0, 0))
+    demand_reported(client, FIRST + 2, 0)
+
+
+def write_whole(client, *words):
+    """Writes the whole configuration, as QEMU from 11 on does at each write of the driver; returns whether it is taken."""
+    return client.send(SET_CONFIG, struct.pack("<IIIIIII", 0, 16, 0, *words)) == bytes(8)
+
+
+def configuration(client):
+    """Returns the words of the configuration."""
+    return struct.unpack("<IIIIIII", client.send(GET_CONFIG, struct.pack("<III", 0, 16, 0) + bytes(16)))[3:]
+
+
+def test_the_whole_configuration_at_once(start_by_events, serve_well):
+    client = start_by_events()
+    assert (client.backend.ask("target 258"), client.told()) == ("ok", None)
+    assert write_whole(client, 0xAAAAAAAA, 77, 0xBBBBBBBB, 0xCCCCCCCC)
+    assert (client.counter("actual"), client.counter("target")) == (77, 258)
+    assert configuration(client) == (258, 77, 0, 0)
+    client = poisoned(serve_well)
+    assert write_whole(client, 9, 78, 9, 0x11223344)
+    assert configuration(client) == (0, 78, 0, 0x11223344)
+    demand_reported(client, FIRST, 1)
+    assert write_whole(client, 0, 0, 0, 0)
+    assert configuration(client) == (0, 0, 0, 0)
+    demand_reported(client, FIRST + 1, 0)
+
+
+# Where a write begins, how many bytes it has, and `actual` and poison_val after it: refused where it covers neither.
+ACTUAL, POISON_VAL, NEITHER = (0x07060504, 0xFFFFFFFF), (0, 0x0F0E0D0C), (0, 0xFFFFFFFF)
+BOTH = (ACTUAL[0], POISON_VAL[1])
+WRITES = (
+    (4, 4, ACTUAL), (0, 8, ACTUAL), (4, 8, ACTUAL), (0, 15, ACTUAL), (3, 12, ACTUAL), (12, 4, POISON_VAL), (8, 8, POISON_VAL),
+    (5, 11, POISON_VAL), (0, 16, BOTH), (4, 12, BOTH), (0, 4, NEITHER), (8, 4, NEITHER), (0, 0, NEITHER), (4, 3, NEITHER),
+    (0, 7, NEITHER), (5, 7, NEITHER), (5, 10, NEITHER), (13, 3, NEITHER), (6, 6, NEITHER),
+)
+
+
+@pytest.mark.parametrize("offset, size, wanted", WRITES)
+def test_a_part_of_the_configuration(serve_well, offset, size, wanted):
+    client = poisoned(serve_well)
+    body = struct.pack("<III", offset, size, 0) + bytes(range(offset, offset + size))
+    assert (client.send(SET_CONFIG, body) == bytes(8)) == (wanted != NEITHER)
+    assert configuration(client)[1::2] == wanted
+
+
+def test_poison_val_is_there_only_where_it_is_offered(start_by_events, serve_well):
+    client = start_by_events()
+    assert client.send(SET_CONFIG, struct.pack("<IIII", 12, 4, 0, 7)) != bytes(8)
+    client = poisoned(serve_well)
+    body = struct.pack("<III", 8, 8, 0) + bytes(8)
+    answer = client.send(GET_CONFIG, body, flags=1) or client.receive()[1]
+    assert answer[12:] == struct.pack("<II", 0, 0xFFFFFFFF)
+
+
+def test_poison_val_stays_while_no_ring_runs(serve_well):
+    client = poisoned(serve_well)
+    bases = [client.stop_ring(number) for number in range(4)]
+    client.accepted(SET_STATUS, word(0))
+    client.accepted(SET_FEATURES, word(FEATURES | POISON | vhost_client.HAS_PROTOCOL))
+    client.go_on(bases)
+    demand_reported(client, FIRST, 1)
+    client.accepted(RESET_DEVICE)
+    client.accepted(SET_FEATURES, word(FEATURES | POISON | vhost_client.HAS_PROTOCOL))
+    client.go_on()
+    demand_reported(client, FIRST + 1, 0)
+
+
+def test_poison_val_is_kept_in_the_state(serve_well):
+    client = serve_well()
+    words = ("--features", "100000037", "--state", client.file("state"))
+    client.restart(*words)
+    client.connect()
+    client.begin(QEMU_PROTOCOL)
+    client.accepted(SET_CONFIG, struct.pack("<IIII", 12, 4, 0, 0xFFFFFFFF))
+    client.counter("status")
+    client.restart(*words, killed=True)
+    client.connect()
+    client.start_by_events(features=FEATURES | POISON)
+    demand_reported(client, FIRST, 1)
+
+
+def test_a_state_s_file_is_whole_at_each_moment(serve_well):
+    client = serve_well()
+    state = client.file("state")
+    client.restart("--state", state)
+    assert (client.backend.ask("target 7"), client.counter("target")) == ("ok", 7)
+    with open(state, "rb") as before:
+        saved = before.read()
+        assert (client.backend.ask("target 8"), client.counter("target")) == ("ok", 8)
+        before.seek(0)
+        assert (len(saved), before.read()) == (191, saved)  # an open file is the old one, whole
+    with open(state, "rb") as after:
+        assert after.read() != saved
+    client.connect()
+
+
+def test_a_reset_forgets_the_rings(start_by_events):
+    client = start_by_events()
+    client.accepted(SET_CONFIG, struct.pack("<IIII", 4, 4, 0, 77))
+    client.accepted(RESET_DEVICE)
+    assert (client.counter("status"), client.counter("actual")) == (0, 0)
+    assert client.send(GET_STATUS) == bytes(8)
+    assert client.send(SET_STATUS, word(11)) != bytes(8)
+    client.accepted(SET_FEATURES, word(FEATURES | vhost_client.HAS_PROTOCOL))
+    client.accepted(SET_STATUS, word(15))
+    client.post_pages(INFLATE, [FIRST + 1])
+    demand_unserved(client, INFLATE)
+    assert (client.used(INFLATE)[0], client.stop_ring(INFLATE)) == (0, 0)
+    client.go_on()
+    demand_served(client, INFLATE, [FIRST + 2])
+    # Nor does `actual` come back, of rings that had stopped before.
+    client.accepted(SET_CONFIG, struct.pack("<IIII", 4, 4, 0, 77))
+    client.accepted(SET_STATUS, word(0))
+    client.accepted(RESET_DEVICE)
+    client.accepted(SET_FEATURES, word(FEATURES | vhost_client.HAS_PROTOCOL))
+    client.go_on([1, 0, 0, 0])
+    assert (client.counter("status"), client.counter("actual")) == (15, 0)
+
+
+def test_a_backend_that_is_killed_goes_on(serve_well):
+    client = serve_well()
+    state = client.file("state")
+    client.restart("--state", state)
+    client.connect()
+    client.start_by_events()
+    demand_served(client, INFLATE, [FIRST])
+    demand_served(client, INFLATE, [FIRST + 1])
+    client.backend.ask("target 99")
+    client.accepted(SET_CONFIG, struct.pack("<IIII", 4, 4, 0, 2))
+    client.counter("target")
+    client.post_pages(INFLATE, [FIRST + 2])
+    client.called(INFLATE)
+    client.restart("--state", state, killed=True)
+    client.post_pages(INFLATE, [FIRST + 3])
+    assert client.backend.counters()["target"] == 99
+    client.connect()
+    client.negotiate(protocol=QEMU_PROTOCOL)
+    client.add_memory()
+    client.go_on([client.used(number)[0] for number in range(4)])
+    assert (client.counter("status"), client.counter("actual")) == (15, 2)
+    assert client.called(INFLATE) > 0
+    assert client.used(INFLATE)[0] == 4
+    assert client.holes() == [FIRST + it for it in range(4)]
+    demand_served(client, INFLATE, [FIRST + 4])
+    # And again while no ring runs.
+    bases = [client.stop_ring(number) for number in range(4)]
+    client.accepted(SET_STATUS, word(0))
+    client.counter("status")
+    client.restart("--state", state, killed=True)
+    client.connect()
+    client.negotiate(protocol=QEMU_PROTOCOL)
+    client.add_memory()
+    client.go_on(bases)
+    assert (client.counter("status"), client.counter("actual")) == (15, 2)
+    assert client.called(INFLATE) > 0
+    demand_served(client, INFLATE, [FIRST + 5])

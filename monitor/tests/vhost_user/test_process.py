@@ -1,0 +1,174 @@
+"""Tests of a backend as a process: its standard files, the signals that end it, the files that it may open, and the one that
+keeps its state."""
+
+import os
+import resource
+import signal
+import stat
+import subprocess
+import tempfile
+import time
+
+import pytest
+import linux_guest
+import linux_kit
+from vhost_client import INFLATE, LIMIT, PAGE, PAGES_OF_REGION, SIZE, Client
+from vhost_demands import FIRST, demand_served
+
+# What a saved state has.
+STATE_BYTES = 191
+
+
+def state_of(path):
+    """Returns the bytes of a file."""
+    with open(path, "rb") as file:
+        return file.read()
+
+
+@pytest.fixture
+def started_by(program, tmp_path):
+    """Returns the process of a backend that has this standard file closed, and a client of it."""
+    running = []
+
+    def make(closed):
+        path = str(tmp_path / "socket")
+        words = ["sh", "-c", f'exec "$0" "$@" {closed}', program, path]
+        backend = subprocess.Popen(words, stdin=subprocess.PIPE, stdout=subprocess.PIPE, stderr=subprocess.PIPE)
+        running.append(backend)
+        end = time.monotonic() + LIMIT
+        while not os.path.exists(path):
+            assert time.monotonic() < end, "the backend doesn't listen"
+        return backend, Client(path)
+
+    yield make
+    for it in running:
+        it.kill()
+        it.communicate()
+
+
+@pytest.mark.parametrize("number, closed", ((1, ">&-"), (2, "2>&-")))
+def test_standard_files_that_are_closed(started_by, number, closed):
+    backend, client = started_by(closed)
+    client.start_by_events()
+    assert os.readlink(f"/proc/{backend.pid}/fd/{number}") == "/dev/null"
+    for it in client.files:
+        os.lseek(it, 0, os.SEEK_SET)  # where one who writes to it would
+    client.publish(INFLATE, SIZE)
+    client.kick(INFLATE)
+    assert backend.wait(LIMIT) == 1
+    assert [os.fstat(it).st_size for it in client.files] == 2 * [PAGES_OF_REGION * PAGE]
+    assert [os.lseek(it, 0, os.SEEK_CUR) for it in client.files] == [0, 0]
+    client.leave()
+
+
+def test_a_standard_input_that_is_closed(program):
+    with tempfile.TemporaryDirectory() as folder:
+        words = ["sh", "-c", 'exec "$0" "$@" <&-', program, f"{folder}/socket"]
+        ran = subprocess.run(words, capture_output=True, text=True, timeout=LIMIT)
+        assert (ran.returncode, ran.stderr) == (2, f"vhost_user_balloon: {folder}/socket: Operation canceled\n")
+
+
+@pytest.mark.parametrize("number", (signal.SIGTERM, signal.SIGINT, signal.SIGHUP))
+def test_signals_end_it_and_remove_the_socket(serve, program, number):
+    with tempfile.TemporaryDirectory() as folder:
+        backend = linux_guest.Backend(program, folder, [f"{folder}/socket"])
+        backend.process.send_signal(number)
+        assert (backend.process.wait(LIMIT), os.listdir(folder), backend.why()) == (0, ["backend.log"], "")
+        backend.process.stdout.close(), backend.process.stdin.close()
+    client = serve()
+    client.start_by_events()
+    client.backend.process.send_signal(number)
+    assert client.backend.process.wait(LIMIT) == 0
+    assert (sorted(os.listdir(client.folder.name)), client.close()) == (["backend.log"], (0, ""))
+
+
+@pytest.mark.parametrize("words, said", (
+    (["--help"], "vhost_user_balloon SOCKET ["), (["--version"], "vhost_user_balloon VERSION\n"), (["socket", "--help"], "vhost_user_balloon SOCKET ["),
+))
+def test_help_and_version(program, words, said):
+    with open(os.path.join(linux_kit.ROOT, "VERSION"), encoding="ascii") as file:
+        said = said.replace("VERSION", file.read().strip())
+    ran = subprocess.run([program, *words], stdin=subprocess.DEVNULL, capture_output=True, text=True, timeout=LIMIT)
+    assert (ran.returncode, ran.stderr, ran.stdout[: len(said)]) == (0, "", said)
+
+
+def test_no_file_is_left_for_a_client(serve_well):
+    client = serve_well()
+    client.restart()
+    client.counter("status")  # once it waits, all that it opens by itself is open
+    process = client.backend.process.pid
+    soft, hard = resource.prlimit(process, resource.RLIMIT_NOFILE)
+    resource.prlimit(process, resource.RLIMIT_NOFILE, (client.open_files(), hard))
+    client.connect()
+    assert client.is_at_rest(), "no file is left, and the backend looks again and again"
+    assert client.backend.why() == "a client can't be taken: Too many open files"
+    resource.prlimit(process, resource.RLIMIT_NOFILE, (soft, hard))
+    client.start_by_events()
+    demand_served(client, INFLATE, [FIRST])
+    os.truncate(client.backend.log, 0)
+
+
+def test_few_files_are_allowed(program):
+    words = ["sh", "-c", 'ulimit -n 20; exec "$0" "$@"', program, "/nowhere/socket"]
+    ran = subprocess.run(words, stdin=subprocess.DEVNULL, capture_output=True, text=True, timeout=LIMIT)
+    assert " files may be wanted, and 20 may be open (RLIMIT_NOFILE)\n" in ran.stderr
+
+
+def test_no_file_is_left_for_memory(serve):
+    client = serve()
+    client.negotiate()
+    resource.prlimit(client.backend.process.pid, resource.RLIMIT_NOFILE, (client.open_files() + 1,) * 2)
+    with pytest.raises((AssertionError, ConnectionResetError)):
+        client.hand_over_memory()
+    assert client.close() == (1, "refused: SET_MEM_TABLE has 1 files and more")
+
+
+def target(client, pages):
+    """Sets a target, and waits until what follows is served."""
+    assert (client.backend.ask(f"target {pages}"), client.counter("target"), client.counter("target")) == ("ok", pages, pages)
+
+
+def test_a_link_in_the_place_of_a_state(serve_well):
+    client = serve_well()
+    state, other = client.file("state"), client.file("other")
+    with open(other, "wb") as file:
+        file.write(b"here")
+    client.restart("--state", state)
+    for name in (f"{state}.part", state):
+        if os.path.lexists(name):
+            os.remove(name)
+        os.symlink(other, name)
+        target(client, 5 + len(name))
+        assert (state_of(other), len(state_of(state)), os.path.islink(state)) == (b"here", STATE_BYTES, False)
+        assert stat.S_IMODE(os.stat(state).st_mode) == 0o600
+    client.connect()
+
+
+def test_a_state_that_cannot_be_written(serve):
+    client = serve()
+    state = client.file("state")
+    client.restart("--state", state)
+    target(client, 5)
+    before = state_of(state)
+    os.mkdir(f"{state}.part")
+    for pages in (6, 7, 8):
+        target(client, pages)
+    assert (client.backend.why(), state_of(state)) == (f"{state} isn't written: Is a directory", before)
+    client.connect()
+    client.start_by_events()
+    demand_served(client, INFLATE, [FIRST])
+    assert client.is_at_rest(), "a state can't be written, and the backend tries again and again"
+    os.rmdir(f"{state}.part")
+    end = time.monotonic() + LIMIT
+    while state_of(state) == before:
+        assert time.monotonic() < end, "a state isn't written once it can be"
+    client.counter("target")
+    status, _ = client.close()
+    assert (status, client.lines) == (0, [f"{state} isn't written: Is a directory", f"{state} is written again"])
+
+
+def test_a_state_that_the_disk_does_not_keep(serve, wrong_program, tmp_path):
+    client = serve("--state", f"{tmp_path}/state", built=wrong_program, environment={"BACKEND_WRONG": "bad-disk"})
+    target(client, 5)
+    assert not os.path.exists(f"{tmp_path}/state"), "what the disk may not keep is in the place of what it keeps"
+    assert client.close() == (0, f"{tmp_path}/state isn't written: Input/output error")

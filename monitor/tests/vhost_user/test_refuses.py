@@ -1,0 +1,307 @@
+"""Tests of what ends a backend's service: a line says why, and the socket is closed."""
+
+import os
+import struct
+import subprocess
+import tempfile
+
+import pytest
+import linux_guest
+from vhost_client import (
+    ADD_MEM_REG, BUFFERS, FEATURES, GET_CONFIG, GET_FEATURES, GET_STATUS, GET_VRING_BASE, HAS_PROTOCOL, INDIRECT, INFLATE,
+    LIMIT, NEXT, NO_FILE, PAGE, PAGES_OF_REGION, QEMU_PROTOCOL, REGIONS, REM_MEM_REG, SET_BACKEND_REQ_FD, SET_CONFIG,
+    SET_FEATURES, SET_MEM_TABLE, SET_PROTOCOL_FEATURES, SET_STATUS, SET_VRING_ADDR, SET_VRING_BASE, SET_VRING_CALL,
+    SET_VRING_ENABLE, SET_VRING_ERR, SET_VRING_KICK, SET_VRING_NUM, SIZE, STATISTICS, VRING_KICK, WRITE,
+)
+from vhost_demands import demand_refused
+
+
+PAGE_OF_SECOND = REGIONS[1][0] // PAGE
+FAR = REGIONS[1][0] + PAGES_OF_REGION * PAGE
+
+# Rules of a chain: the number, what is said of it, the head, and the descriptors (number, address, length, flags, next).
+RULES = (
+    (1, "the head is no descriptor of the queue", SIZE, []),
+    (2, "a next field names no descriptor of the queue", 0, [(0, BUFFERS, 4, NEXT, SIZE)]),
+    (3, "the chain is longer than the queue", 0, [(0, BUFFERS, 4, NEXT, 1), (1, BUFFERS, 4, NEXT, 0)]),
+    (4, "an indirect descriptor", 0, [(0, BUFFERS, 16, INDIRECT, 0)]),
+    (5, "a piece has the wrong direction", 0, [(0, BUFFERS, 4, WRITE, 0)]),
+    (6, "a buffer is out of guest memory", 0, [(0, FAR, 4, 0, 0)]),
+    (8, "a length that the queue doesn't take", 0, [(0, BUFFERS, 5, 0, 0)]),
+    (9, "no such page", 0, [(0, BUFFERS, 4, 0, 0)]),
+)
+
+
+@pytest.mark.parametrize("rule, words, head, descriptors", RULES)
+def test_rules(serve_ready, rule, words, head, descriptors):
+    client = serve_ready("--strict")
+    client.write(BUFFERS, struct.pack("<I", PAGE_OF_SECOND + PAGES_OF_REGION))
+    for it in descriptors:
+        client.describe(INFLATE, *it)
+    client.publish(INFLATE, head)
+    # The kick is answered well: what it leads to comes after that.
+    assert client.kick(INFLATE) == bytes(8)
+    demand_refused(client, f"the guest's bytes break a rule: {words} (rule {rule})")
+
+
+def test_what_was_served_before_a_fault_is_told(serve_ready):
+    client = serve_ready()
+    client.write(BUFFERS, struct.pack("<I", REGIONS[1][0] // PAGE))
+    client.describe(INFLATE, 0, BUFFERS, 4)
+    client.publish(INFLATE, 0), client.publish(INFLATE, SIZE)
+    client.kick(INFLATE)
+    assert (client.told(), client.used(INFLATE)) == (INFLATE, (1, [(0, 0)]))
+    demand_refused(client, "(rule 1)")
+
+
+def test_index_that_jumps(serve_ready):
+    client = serve_ready()
+    client.publish(INFLATE, 0, SIZE + 1)
+    client.kick(INFLATE)
+    demand_refused(client, "the available index has jumped (rule 7)")
+
+
+def test_buffer_in_the_hole(serve_ready):
+    client = serve_ready()
+    client.describe(INFLATE, 0, REGIONS[0][0] + PAGES_OF_REGION * PAGE - 4, 8)
+    client.publish(INFLATE, 0)
+    client.kick(INFLATE)
+    demand_refused(client, "(rule 6)")
+
+
+def test_fault_before_the_driver_is_ready(serve):
+    client = serve()
+    client.negotiate()
+    client.hand_over_memory()
+    for number in range(4):
+        client.place(number)
+    client.publish(STATISTICS, SIZE)
+    client.enable(STATISTICS)
+    demand_refused(client, "(rule 1)")
+
+
+def test_features(serve):
+    client = serve()
+    client.negotiate()
+    for features in (0x27, FEATURES | 8):
+        assert client.send(SET_FEATURES, struct.pack("<Q", features)) != bytes(8)
+    client.start()
+    assert client.counter("status") == 15
+    assert client.close()[0] == 0
+
+
+@pytest.mark.parametrize("words, how", (
+    ("has 257 entries", {"size": 257}),
+    ("answered 6", {"size": 6}),
+    ("answered 6", {"shift": 8}),
+    ("goes on at 9, and its used index is 0", {"base": 9}),
+    ("goes on at 65535, and its used index is 0", {"base": 65535}),
+    ("goes on at 65536", {"base": 65536}),
+    ("isn't in the guest's memory", {"shift": 1 << 45}),
+    ("answered 6", {"shift": (PAGES_OF_REGION - 2) * PAGE - 64}),
+))
+def test_places(serve, words, how):
+    client = serve()
+    client.negotiate()
+    client.hand_over_memory()
+    client.place(INFLATE, **how)
+    assert client.enable(INFLATE) != bytes(8)
+    demand_refused(client, words)
+
+
+# A body with the first number that is no queue's; where the parts of a queue are, and with one of them a page further.
+NO_QUEUE = struct.pack("<II", 5, 0)
+PARTS = [REGIONS[0][1] + it * PAGE for it in (3, 5, 4)]
+MOVED = [[place + (part == it) * PAGE for it, place in enumerate(PARTS)] for part in range(3)]
+
+# What is said, and the message: its number, its body, and how many files.
+MESSAGES = (
+    ("message 99 is unknown", 99, b"", 0),
+    ("no queue 5", SET_VRING_NUM, NO_QUEUE, 0),
+    ("no queue 5", SET_VRING_ADDR, NO_QUEUE + bytes(32), 0),
+    ("no queue 5", SET_VRING_BASE, NO_QUEUE, 0),
+    ("no queue 5", GET_VRING_BASE, NO_QUEUE, 0),
+    ("no queue 5", SET_VRING_ENABLE, struct.pack("<II", 5, 1), 0),
+    ("no queue 5", SET_VRING_KICK, NO_QUEUE, 1),
+    ("no queue 5", SET_VRING_CALL, NO_QUEUE, 1),
+    ("no queue 5", SET_VRING_ERR, NO_QUEUE, 1),
+    ("no queue 5", VRING_KICK, NO_QUEUE, 0),
+    ("queue 1 runs", SET_VRING_NUM, struct.pack("<II", 1, 8), 0),
+    ("queue 1 runs", SET_VRING_BASE, struct.pack("<II", 1, 0), 0),
+    *(("queue 1 runs, and can't move", SET_VRING_ADDR, struct.pack("<IIQQQQ", 1, 0, *it, 0), 0) for it in MOVED),
+    ("0 files for an event of queue 1", SET_VRING_CALL, struct.pack("<Q", 1), 0),
+    ("1 files for an event of queue 1", SET_VRING_CALL, struct.pack("<Q", 1 | NO_FILE), 1),
+    ("by the word 0x401", SET_VRING_CALL, struct.pack("<Q", 0x401), 1),
+    ("a file of queue 1 is no event", SET_VRING_CALL, struct.pack("<Q", 1), 1),
+    ("the channel is no socket", SET_BACKEND_REQ_FD, b"", 1),
+    ("features 0x100000021 while queues run", SET_FEATURES, struct.pack("<Q", 0x100000021), 0),
+    ("protocol features 0x2 aren't offered", SET_PROTOCOL_FEATURES, struct.pack("<Q", 2), 0),
+    ("SET_MEM_TABLE has 0 files", SET_MEM_TABLE, struct.pack("<II", 2, 0) + bytes(64), 0),
+    ("SET_MEM_TABLE has 39 bytes", SET_MEM_TABLE, struct.pack("<II", 1, 0) + bytes(31), 1),
+    ("SET_MEM_TABLE has 296 bytes", SET_MEM_TABLE, struct.pack("<II", 9, 0) + bytes(288), 8),
+    ("a memory table of 2 regions with 1 files", SET_MEM_TABLE, struct.pack("<II", 2, 0) + bytes(64), 1),
+    ("a memory table of 2 regions with 2 files", SET_MEM_TABLE, struct.pack("<II", 2, 0) + bytes(32), 2),
+    ("SET_MEM_TABLE has 8 files and more", SET_MEM_TABLE, struct.pack("<II", 8, 0) + bytes(256), 9),
+    ("can't be mapped", SET_MEM_TABLE, struct.pack("<IIQQQQ", 1, 0, 0, 0, 0, 0), 1),
+    ("can't be mapped", SET_MEM_TABLE, struct.pack("<IIQQQQ", 1, 0, 2**64 - PAGE, 2 * PAGE, 0, 0), 1),
+    ("can't be mapped", SET_MEM_TABLE, struct.pack("<IIQQQQ", 1, 0, 0, PAGE, 0, 1), 1),
+    ("can't be mapped", SET_MEM_TABLE, struct.pack("<IIQQQQ", 1, 0, 0, 2 * PAGE, 2**64 - PAGE, 0), 1),
+    ("can't be mapped", SET_MEM_TABLE, struct.pack("<IIQQQQ", 1, 0, 0, 2 * PAGE, 0, 2**64 - PAGE), 1),
+    ("can't be mapped", SET_MEM_TABLE, struct.pack("<IIQQQQ", 1, 0, 0, PAGE, 0, 2**63), 1),
+    ("can't be mapped", SET_MEM_TABLE, struct.pack("<IIQQQQ", 1, 0, 0, PAGE, 0, PAGES_OF_REGION * PAGE), 1),
+    ("can't be mapped", SET_MEM_TABLE, struct.pack("<IIQQQQ", 1, 0, 0, PAGE + 1, 0, 0), 1),
+    ("can't be mapped", SET_MEM_TABLE, struct.pack("<IIQQQQ", 1, 0, 1, PAGE, 0, 0), 1),
+    ("can't be mapped", SET_MEM_TABLE, struct.pack("<IIQQQQ", 1, 0, 0, PAGE * 65, 0, 0), 1),
+    ("can't be mapped", SET_MEM_TABLE, struct.pack("<II8Q", 2, 0, 0, PAGE * 2, 0, 0, PAGE, PAGE, 1 << 40, 0), 2),
+    ("can't be mapped", SET_MEM_TABLE, struct.pack("<II8Q", 2, 0, 0, PAGE, 0, 0, PAGE, PAGE, PAGE - 1, 0), 2),
+    ("can't be mapped", SET_MEM_TABLE, struct.pack("<II8Q", 2, 0, PAGE, PAGE, 0, 0, 0, PAGE * 2, 1 << 40, 0), 2),
+    ("can't be mapped", SET_MEM_TABLE, struct.pack("<II8Q", 2, 0, 0, PAGE, PAGE, 0, PAGE, PAGE * 2, 0, 0), 2),
+    ("isn't in the guest's memory any longer", SET_MEM_TABLE, struct.pack("<IIQQQQ", 1, 0, 0, 2 * PAGE, 0, 0), 1),
+    ("too far up", SET_MEM_TABLE, struct.pack("<IIQQQQ", 1, 0, (1 << 44) - PAGE, PAGE, 0, 0), 1),
+    ("ADD_MEM_REG isn't negotiated", ADD_MEM_REG, bytes(40), 1),
+    ("GET_STATUS isn't negotiated", GET_STATUS, b"", 0),
+    ("GET_CONFIG has 0 bytes", GET_CONFIG, b"", 0),
+    ("4000 bytes of the configuration, in a message with 0", GET_CONFIG, struct.pack("<III", 0, 4000, 0), 0),
+    ("5 bytes of the configuration, in a message with 4", SET_CONFIG, struct.pack("<IIII", 4, 5, 0, 0), 0),
+)
+
+
+@pytest.mark.parametrize("words, number, body, files", MESSAGES)
+def test_messages(serve_ready, words, number, body, files):
+    client = serve_ready()
+    client.send(number, body, [client.files[0]] * files, flags=1)
+    demand_refused(client, words)
+
+
+def test_more_regions_than_slots(serve):
+    client = serve()
+    client.negotiate(protocol=QEMU_PROTOCOL)
+    region = lambda it: struct.pack("<QQQQQ", 0, (1 + it) * PAGE, PAGE, REGIONS[0][1] + it * PAGE, it * PAGE)
+    for it in (*range(16, 32), *range(15, -1, -1)):  # each touches one that is there, from above or from below
+        client.accepted(ADD_MEM_REG, region(it), [client.files[0]])
+    assert client.counter("end") == 33
+    client.send(ADD_MEM_REG, region(32), [client.files[0]], flags=1)
+    demand_refused(client, "a region of the guest's memory can't be mapped")
+
+
+def test_channels_that_are_no_sockets(serve_ready):
+    ends = os.pipe()
+    event = os.eventfd(0)
+    for file in (*ends, event):
+        client = serve_ready()
+        client.send(SET_BACKEND_REQ_FD, b"", [file], flags=1)
+        demand_refused(client, "the channel is no socket")
+        os.close(file)
+
+
+@pytest.mark.parametrize("flags", (0, 2, 3, 5))
+def test_flags(serve_ready, flags):
+    client = serve_ready()
+    client.send(GET_FEATURES, flags=flags)
+    demand_refused(client, f"GET_FEATURES has the flags 0x{flags:x}")
+
+
+GUEST, USER, BYTES = *REGIONS[1], PAGES_OF_REGION * PAGE
+
+
+@pytest.mark.parametrize("words, gone, body", (
+    ("no such region", True, (GUEST, BYTES, USER)), ("no such region", False, (GUEST + PAGE, BYTES, USER)),
+    ("no such region", False, (GUEST, BYTES - PAGE, USER)), ("no such region", False, (GUEST, BYTES, USER + PAGE)),
+    ("isn't in the guest's memory any longer", True, (REGIONS[0][0], BYTES, REGIONS[0][1])),
+))
+def test_regions_that_are_taken_away(serve, words, gone, body):
+    client = serve()
+    client.start_by_events()
+    if gone:
+        client.accepted(REM_MEM_REG, client.region_body(1))
+    client.send(REM_MEM_REG, struct.pack("<QQQQQ", 0, *body, 0), flags=1)
+    demand_refused(client, words)
+
+
+def test_a_broken_rule_is_told_by_its_event(serve):
+    client = serve()
+    client.start_by_events()
+    fault = os.eventfd(0, os.EFD_NONBLOCK)
+    client.accepted(SET_VRING_ERR, struct.pack("<Q", INFLATE), [fault])
+    client.accepted(SET_STATUS, bytes(8))  # which forgets other things
+    client.accepted(SET_FEATURES, struct.pack("<Q", FEATURES | HAS_PROTOCOL))
+    client.go_on()
+    client.post_pages(INFLATE, [REGIONS[1][0] // PAGE])
+    assert client.called(INFLATE) == 1
+    client.publish(INFLATE, SIZE)
+    client.kick(INFLATE)
+    demand_refused(client, "(rule 1)")
+    assert os.eventfd_read(fault) == 1
+    os.close(fault)
+
+
+def test_memory_that_is_cut_off(serve_ready):
+    client = serve_ready()
+    os.ftruncate(client.files[0], 0)
+    client.send(VRING_KICK, struct.pack("<II", INFLATE, 0), flags=1)
+    demand_refused(client, "its memory's file has been cut off")
+
+
+def test_saved_states_that_are_none(program):
+    with tempfile.TemporaryDirectory() as folder:
+        path, words = os.path.join(folder, "state"), [f"{folder}/socket", "--state", os.path.join(folder, "state")]
+        backend = linux_guest.Backend(program, folder, words)
+        assert (backend.ask("target 5"), backend.counters()["target"], backend.close()) == ("ok", 5, 2)
+        backend.process.stdout.close()
+        with open(path, "rb") as file:
+            saved = file.read()
+        # The codes of vb.h, in the order in which vb_restore tests for them.
+        for data, code in (
+            (b"", 9), (saved[:15], 9), (bytes(187), 10), (bytes(1000), 10), (saved[:-1], 9), (saved + b"\0", 9),
+            (saved[:-1] + bytes([saved[-1] ^ 1]), 12),
+        ):
+            with open(path, "wb") as file:
+                file.write(data)
+            ran = subprocess.run([program, *words], stdin=subprocess.DEVNULL, capture_output=True, text=True, timeout=LIMIT)
+            said = f"refused: {path} is no saved state: it is answered {code}\n"
+            assert (ran.returncode, ran.stdout, ran.stderr) == (2, "", said)
+
+
+@pytest.mark.parametrize("words, make", (
+    ("Too many levels of symbolic links", lambda path: os.symlink("state", path)),
+    ("Too many levels of symbolic links", lambda path: os.symlink("/dev/null", path)),
+    ("Invalid argument", os.mkfifo),
+    ("Invalid argument", os.mkdir),
+))
+def test_states_that_cannot_be_read(program, tmp_path, words, make):
+    path = str(tmp_path / "state")
+    make(path)
+    options = [program, f"{tmp_path}/socket", "--state", path]
+    ran = subprocess.run(options, stdin=subprocess.DEVNULL, capture_output=True, text=True, timeout=LIMIT)
+    assert (ran.returncode, ran.stdout, ran.stderr) == (2, "", f"refused: {path}: {words}\n")
+
+
+def test_bytes_that_are_no_message(serve_ready):
+    client = serve_ready()
+    client.socket.sendall(struct.pack("<III", GET_FEATURES, 1, 1 << 20))
+    demand_refused(client, "no message")
+
+
+def test_a_file_in_the_socket_s_place_stays(program):
+    with tempfile.NamedTemporaryFile() as file:
+        file.write(b"here"), file.flush()
+        ran = subprocess.run([program, file.name], stdin=subprocess.DEVNULL, capture_output=True, text=True, timeout=LIMIT)
+        assert (ran.returncode, ran.stderr) == (2, f"vhost_user_balloon: {file.name}: Address already in use\n")
+        file.seek(0)
+        assert file.read() == b"here"
+
+
+def test_nobody_comes(program):
+    with tempfile.TemporaryDirectory() as folder:
+        words = [program, f"{folder}/socket"]
+        backend = subprocess.Popen(words, stdin=subprocess.PIPE, stdout=subprocess.PIPE, stderr=subprocess.PIPE, text=True)
+        _, said = backend.communicate(timeout=LIMIT)
+        assert (backend.returncode, said) == (2, f"vhost_user_balloon: {words[1]}: Operation canceled\n")
+        assert os.listdir(folder) == []
+
+
+@pytest.mark.parametrize("words", ([], ["--features"], ["a", "b"], ["a", "--features", "x"], ["--wrong", "a"], ["x" * 200],
+    *(["a", "--features", it] for it in ("8", "", " 100000027", "+100000027", "100000027 ", "10000000000000000"))))
+def test_command_lines(program, words):
+    ran = subprocess.run([program, *words], stdin=subprocess.DEVNULL, capture_output=True, timeout=LIMIT)
+    assert (ran.returncode, ran.stdout) == (2, b""), words

@@ -1,0 +1,195 @@
+"""What pages claim of commands, lists and counts, for tools/check-sources: each is compared with what it is about."""
+
+import ast
+import glob
+import importlib.machinery
+import importlib.util
+import os
+import re
+import sys
+
+ROOT = os.path.realpath(os.path.join(os.path.dirname(__file__), "../.."))
+
+WORDS = "no one two three four five six seven eight nine ten eleven twelve thirteen fourteen fifteen sixteen seventeen eighteen nineteen twenty".split()
+
+
+def read(path):
+    """Returns a file's text, by its name from the top."""
+    with open(f"{ROOT}/{path}", encoding="utf-8") as file:
+        return file.read()
+
+
+def tool(name):
+    """Returns a tool as a module; those beside it are its modules."""
+    sys.dont_write_bytecode = True
+    if f"{ROOT}/tools" not in sys.path:
+        sys.path.append(f"{ROOT}/tools")
+    loader = importlib.machinery.SourceFileLoader(name.replace("-", "_"), f"{ROOT}/tools/{name}")
+    module = importlib.util.module_from_spec(importlib.util.spec_from_loader(loader.name, loader))
+    loader.exec_module(module)
+    return module
+
+
+def number(text):
+    """Returns what a number of a page says: digits, or a word."""
+    plain = text.replace(",", "").lower()
+    return int(plain) if plain.isdigit() else WORDS.index(plain) if plain in WORDS else None
+
+
+def entries(path, name):
+    """Returns how many entries a table of this name has, which a file of Python writes out."""
+    def count():
+        tree = ast.parse(read(path))
+        tables = [it.value for it in tree.body if isinstance(it, ast.Assign) and any(isinstance(to, ast.Name) and to.id == name for to in it.targets)]
+        return len(tables[0].keys if isinstance(tables[0], ast.Dict) else tables[0].elts)
+
+    return count
+
+
+def lines_of(path):
+    """Returns how many lines a file has."""
+    return lambda: len(read(path).splitlines())
+
+
+def scripts(*folders):
+    """Returns how many scripts these folders have."""
+    return lambda: sum(len(glob.glob(f"{ROOT}/{it}/*.script")) for it in folders)
+
+
+def wrong_shims(*paths):
+    """Returns how many edits tools/wrong-shims plants into these files of monitor."""
+    return lambda: sum(it[1].startswith(paths) for it in tool("wrong-shims").WRONG)
+
+
+SHIM, CALLS, OBEY = "monitor/include/balloon.h", "monitor/include/balloon_calls.h", "monitor/rust/src/obey.rs"
+
+# A page, the pattern of a number in it, and what the number has to be.
+COUNTS = (
+    ("README.md", r"the shims \((\w+) lines of C", lines_of(SHIM)),
+    ("README.md", r"lines of C, (\w+) of Rust\)", lines_of(OBEY)),
+    ("CHANGELOG.md", r"shims in C and Rust obey it: (\w+) and \w+ lines", lines_of(SHIM)),
+    ("CHANGELOG.md", r"shims in C and Rust obey it: \w+ and (\w+) lines", lines_of(OBEY)),
+    ("CHANGELOG.md", r"\(`tools/conform`\): (\w+), by topic", scripts("crates/vb_conformance/data/*")),
+    ("monitor/README.md", r"`balloon\.h` \((\w+) lines\)", lines_of(SHIM)),
+    ("monitor/README.md", r"`balloon_calls\.h`, (\w+) lines", lines_of(CALLS)),
+    ("monitor/README.md", r"by (\w+) wrong shims in C", wrong_shims("include/")),
+    ("monitor/README.md", r"wrong shims in C and (\w+) in Rust", wrong_shims("rust/")),
+    ("monitor/rust/README.md", r"`src/obey\.rs`\n?\s*\((\w+) lines\)", lines_of(OBEY)),
+    ("docs/LINUX.md", r"`tools/test linux` \| (\w+) runs", entries("monitor/tests/linux/linux_runs.py", "RUNS")),
+    ("docs/LINUX.md", r"`tools/test linux --wrong all` \| (\w+) devices", entries("monitor/tests/linux/linux_bench.py", "WRONG_DEVICES")),
+    ("docs/LINUX.md", r"`tools/test-host` \| (\w+) runs", lambda: len(tool("test-host").RUNS)),
+    ("docs/LINUX.md", r"`tools/test-host` \|[^|]* with (\w+) that are wrong", lambda: len(tool("test-host").WRONG_HOSTS)),
+    ("docs/LINUX.md", r"`tools/test vhost-user --wrong all` \| (\w+) backends", entries("monitor/tests/vhost_user/test_mutants.py", "WRONG")),
+)
+
+
+def counts():
+    """Returns the numbers of pages that aren't what they count, and the patterns that a page hasn't just once."""
+    found = []
+    for path, pattern, count in COUNTS:
+        said = re.findall(pattern, read(path))
+        if len(said) != 1:
+            found.append(f"{path}: {len(said)} texts {pattern}")
+        elif number(said[0]) != count():
+            found.append(f"{path}: '{said[0]}' in place of {count()}: {pattern}")
+    return found
+
+
+# Lists of packages that are one: each place is a file, and the pattern of the list in it.
+PACKAGES = (
+    (
+        ("monitor/Makefile", r"(?m)^PACKAGES = (.*)$"),
+        ("README.md", r"`make -C monitor test` \|[^|]*\(`([^`]*)`\)"),
+        ("monitor/README.md", r"`apt-get install ([^`]*librust-vm-memory-dev)`"),
+    ),
+    (
+        ("README.md", r"`tools/boot-linux` \|[^|]*\(`([^`]*)`\)"),
+        ("docs/LINUX.md", r"on amd64, with `apt-get install ([^`]*)`"),
+        ("tools/host-linux", r"what tools/boot-linux does: apt-get install ([^,]*),"),
+    ),
+    (
+        ("README.md", r"`tools/release` \|[^|]*\(`([^`]*)`\)"),
+        ("tools/release", r"`apt-get install ([^`]*)`"),
+    ),
+)
+
+
+def packages():
+    """Returns where a list of packages isn't the one that another place has."""
+    found = []
+    for (first, pattern), *others in PACKAGES:
+        wanted = re.findall(pattern, read(first))
+        if len(wanted) != 1:
+            found.append(f"{first}: {len(wanted)} lists of packages {pattern}")
+            continue
+        for path, pattern in others:
+            lists = re.findall(pattern, read(path))
+            if len(lists) != 1 or set(lists[0].split()) != set(wanted[0].split()):
+                found.append(f"{path}: packages {' or '.join(lists) or 'none'}, and {first} has {wanted[0]}")
+    return found
+
+
+TABLES = ("README.md", "docs/LINUX.md")
+DURATION = r"\b(?:minutes?|hours?)\b"
+
+
+def times():
+    """Returns commands whose tables have several times, and pages and tools that state one beside the tables."""
+    stated, found = {}, []
+    for path in TABLES:
+        for command, time in re.findall(r"(?m)^\| `([^`]+)` \|.*\| ([^|]*\b(?:seconds|minutes?|hour)\b[^|]*) \|$", read(path)):
+            if stated.setdefault(command, time) != time:
+                found.append(f"{path}: `{command}` takes {time} here, and {stated[command]} elsewhere")
+    named = {it.split()[0] for it in stated if it.startswith("tools/")} | {"tools/wrong-shims"}
+    texts = {it: ast.get_docstring(ast.parse(read(it))) for it in sorted(named)}
+    texts |= {it: read(it) for it in ("monitor/README.md", "monitor/rust/README.md")}
+    for path, text in texts.items():
+        found += [f"{path}: a time belongs into {' and '.join(TABLES)} alone: {it.strip()}" for it in text.splitlines() if re.search(DURATION, it)]
+    return found
+
+
+# A page, the language of its listings, and the file that they quote: whole, or in parts that `...` divides.
+WHOLE, PARTS = True, False
+LISTINGS = (
+    ("README.md", "c", "monitor/examples/example.c", PARTS),
+    ("README.md", "rust", "monitor/rust/examples/monitor.rs", PARTS),
+    ("docs/INTEGRATION.md", "c", "monitor/examples/example.c", WHOLE),
+)
+
+
+def listings():
+    """Returns the pages whose listing of a file isn't what the file has."""
+    found = []
+    for path, language, source, is_whole in LISTINGS:
+        shown = re.findall(rf"(?s)\n```{language}\n(.*?)```\n", read(path))
+        parts = [part for it in shown for part in it.split("...\n")]
+        text = read(source)
+        if text not in shown if is_whole else not parts or any(it not in text for it in parts):
+            found.append(f"{path}: a listing isn't in {source}")
+    return found
+
+
+def order():
+    """Returns what is wrong with the map's table of crates, low to high: each is there once, after those that it needs."""
+    section = read("docs/MAP.md").partition("\n## The crates\n")[2].partition("\n## ")[0]
+    named = re.findall(r"(?m)^\| `(vb_\w+)` \|", section)
+    below = {name: set(rest.split()) for name, rest in re.findall(r"(?m)^(\w+)[^:#\n]*:(.*)$", read("crates.txt"))}
+    if sorted(named) != sorted(below):
+        return [f"docs/MAP.md: its crates aren't those of crates.txt: {', '.join(sorted(set(named) ^ set(below))) or 'one is there twice'}"]
+    late = [(it, low) for at, it in enumerate(named) for low in below[it] & set(named[at:])]
+    return [f"docs/MAP.md: crate {it} is listed before {low}, which it needs" for it, low in late]
+
+
+def sanitized():
+    """Returns where monitor/README.md names other tests as those without the address sanitizer than the Makefile has."""
+    page, makefile = read("monitor/README.md"), read("monitor/Makefile")
+    tests = set(re.findall(r"(?m)^\| `(\w+)\.c` \|", page))
+    run = {it for names in re.findall(r"(?m)^(?:C_TESTS \+?=|EXPLAINED =) (.*)$", makefile) for it in names.split()}
+    said = re.search(r"(?m)^.* run without the address sanitizer alone.*$", page)
+    named = set(re.findall(r"`(\w+)\.c`", said[0])) if said else set()
+    return [f"monitor/README.md: of tests without the sanitizer, {it}.c isn't rightly said" for it in sorted(named ^ (tests - run))]
+
+
+def claims():
+    """Returns all that pages claim falsely."""
+    return [*counts(), *packages(), *times(), *listings(), *order(), *sanitized()]

@@ -1,0 +1,52 @@
+"""The links of pages, for tools/check-sources: each leads to a file that is there, and to a heading that it has."""
+
+import os
+import re
+import subprocess
+
+ROOT = os.path.realpath(os.path.join(os.path.dirname(__file__), "../.."))
+
+LINK = re.compile(r"\]\(([^()\s]+)\)")
+HEADING = re.compile(r"(?m)^#+ (.*)$")
+CODE = re.compile(r"(?ms)^```.*?^```$|`[^`\n]*`")
+
+
+def read(path):
+    """Returns a file's text, by its name from the top."""
+    with open(f"{ROOT}/{path}", encoding="utf-8") as file:
+        return file.read()
+
+
+def pages():
+    """Returns the names of all pages, from the top."""
+    listed = subprocess.run(["git", "-C", ROOT, "ls-files", "-co", "--exclude-standard", "*.md"], stdout=subprocess.PIPE, text=True, check=True)
+    return [it for it in listed.stdout.splitlines() if os.path.isfile(f"{ROOT}/{it}")]
+
+
+def anchor(heading):
+    """Returns the anchor that a heading gets: lower case, words and hyphens, a hyphen for each space."""
+    plain = re.sub(r"\[([^\]]*)\]\([^)]*\)", r"\1", heading).strip().lower()
+    return re.sub(r"[^\w\- ]", "", plain).replace(" ", "-")
+
+
+def anchors(text):
+    """Returns the anchors of a page."""
+    return {anchor(it) for it in HEADING.findall(re.sub(r"(?ms)^```.*?^```$", "", text))}
+
+
+def dead():
+    """Returns the links that lead nowhere, each with its page and line."""
+    found = []
+    for page in pages():
+        text = CODE.sub(lambda it: re.sub(r"[^\n]", " ", it[0]), read(page))
+        for number, line in enumerate(text.splitlines(), 1):
+            for target in LINK.findall(line):
+                if re.match(r"[a-z]+:", target):
+                    continue
+                path, _, place = target.partition("#")
+                file = os.path.normpath(os.path.join(os.path.dirname(page), path)) if path else page
+                if not os.path.exists(f"{ROOT}/{file}"):
+                    found.append(f"{page}:{number}: no file {file}")
+                elif place and place not in anchors(read(file)):
+                    found.append(f"{page}:{number}: {file} has no heading #{place}")
+    return found

@@ -1,0 +1,80 @@
+"""What tools/test-release does in a fresh Debian: the packages that it wants, and shell words, each of which ends with status 0."""
+
+# What a monitor is built with, and what a host's package wants besides.
+WANTED = (
+    "gcc clang g++ pkg-config libc6-dev xz-utils rustc cargo librust-vm-memory-dev python3 lintian"
+    " libjansson4 libinih1 libsystemd0 systemd python3-prometheus-client man-db bash-completion"
+)
+
+WARNINGS = "-Wall -Wextra -Werror"
+FLAGS = "$(pkg-config --cflags vb)"
+LINKED = "$(pkg-config --cflags --libs vb)"
+EXAMPLE = "/usr/share/doc/libvb-dev/examples/example.c"
+HEADER = "printf '#include <balloon.h>\\n#include <vb_lending.h>\\nint main(void) { return 0; }\\n'"
+
+# Of the library and the simulator.
+STEPS = (
+    ("example.c by gcc", f"gcc -std=c11 -O2 {WARNINGS} {EXAMPLE} -o /tmp/c {LINKED} && /tmp/c"),
+    ("example.c by clang", f"clang -std=c11 -O2 {WARNINGS} {EXAMPLE} -o /tmp/clang {LINKED} && /tmp/clang"),
+    ("example.c by g++", f"g++ -std=c++17 -O2 {WARNINGS} -x c++ {EXAMPLE} -x none -o /tmp/cpp {LINKED} && /tmp/cpp"),
+    ("the headers as C11 by gcc", f"{HEADER} | gcc -std=c11 {WARNINGS} {FLAGS} -x c -c - -o /tmp/h"),
+    ("the headers as C11 by clang", f"{HEADER} | clang -std=c11 {WARNINGS} {FLAGS} -x c -c - -o /tmp/h"),
+    ("the headers as C++17 by g++", f"{HEADER} | g++ -std=c++17 {WARNINGS} {FLAGS} -x c++ -c - -o /tmp/h"),
+    ("the headers as C++17 by clang", f"{HEADER} | clang++ -std=c++17 {WARNINGS} {FLAGS} -x c++ -c - -o /tmp/h"),
+    (
+        "the Rust crate, offline",
+        "rm -rf /tmp/rust && cp -r /usr/share/cargo/registry/vb-balloon-* /tmp/rust && cd /tmp/rust"
+        " && cargo test --offline --quiet && cargo run --offline --quiet --example monitor",
+    ),
+    ("the conformance scripts", "python3 /usr/share/doc/bigvasta/conformance/conform vb_sim"),
+    ("the man pages", "test -s /usr/share/man/man1/vb_sim.1.gz && test -s /usr/share/man/man3/vb.3.gz"),
+)
+
+# A host that is run as its unit does, until it is told to end.
+RUN_HOST = """
+sed -i 's/^# budget = 8G/budget = 64M/' /etc/bigvasta/host.conf
+install -d -o bigvasta -g bigvasta -m 0750 /run/bigvasta
+rm -f /tmp/input && mkfifo /tmp/input
+runuser -u bigvasta -- /usr/bin/vhost_user_host --config /etc/bigvasta/host.conf <> /tmp/input > /tmp/host.out 2>&1 &
+host=$!
+for i in 1 2 3 4 5 6 7 8 9 10; do bigvasta status > /tmp/status 2>&1 && break; sleep 0.5; done
+cat /tmp/host.out /tmp/status
+bigvasta status | grep -q '^budget 64, held 0, lent 0, missing 0 MiB; 0 guests$'
+test "$(bigvasta add web-1)" = /run/bigvasta/web-1
+test -S /run/bigvasta/web-1
+test "$(bigvasta status --names)" = web-1
+bigvasta guest web-1 --json | python3 -c 'import json, sys; assert json.load(sys.stdin)["guest"]["state"] == "absent"'
+sed -i 's/^budget = 64M/budget = 32M/' /etc/bigvasta/host.conf && kill -HUP $(pidof vhost_user_host)
+for i in 1 2 3 4 5 6 7 8 9 10; do test "$(bigvasta budget)" = '32 MiB' && break; sleep 0.5; done
+test "$(bigvasta budget)" = '32 MiB'
+bigvasta metrics | grep -q '^bigvasta_budget_bytes 3.3554432e+07$'
+bigvasta remove web-1
+kill $(pidof vhost_user_host)
+wait $host
+test ! -e /run/bigvasta/.control
+rmdir /run/bigvasta
+"""
+
+# Of the daemons and the client program.
+HOST_STEPS = (
+    ("the programs say how they are called", "vhost_user_balloon 2>&1 | grep -q SOCKET; vhost_user_host 2>&1 | grep -q FOLDER; bigvasta --help | grep -q watch"),
+    ("the user and the group", "getent passwd bigvasta && getent group bigvasta"),
+    ("the backend's kind, and its description", "vhost_user_balloon --print-capabilities | diff - /usr/share/qemu/vhost-user/50-bigvasta-balloon.json | grep -c type && exit 1 || true"),
+    ("the units", "systemd-analyze verify --man=no bigvasta-host.service bigvasta-metrics.service"),
+    ("a host by its configuration, and the client program", RUN_HOST),
+    ("no host", "bigvasta status; test $? = 3"),
+    ("the completion", "bash -c '. /usr/share/bash-completion/completions/bigvasta && complete -p bigvasta'"),
+    ("the host's man pages", "for each in bigvasta.1 vhost_user_host.1 vhost_user_balloon.1 bigvasta-host.conf.5; do man -w ${each%.*} && test -s /usr/share/man/man${each##*.}/$each.gz; done"),
+)
+
+# A package as 0.1.0 had it: the daemons are in it.
+OLD = """
+rm -rf /tmp/old && mkdir -p /tmp/old/DEBIAN /tmp/old/usr/bin /tmp/old/usr/share/man/man1
+for each in vb_sim vhost_user_balloon vhost_user_host; do
+    printf '#!/bin/sh\\necho old\\n' > /tmp/old/usr/bin/$each && chmod 755 /tmp/old/usr/bin/$each
+    printf old | gzip -n > /tmp/old/usr/share/man/man1/$each.1.gz
+done
+printf 'Package: bigvasta\\nVersion: 0.1.0~~old\\nArchitecture: amd64\\nMaintainer: x <x@y.invalid>\\nDescription: x\\n' > /tmp/old/DEBIAN/control
+dpkg-deb --root-owner-group -b /tmp/old /tmp/old.deb && dpkg -i /tmp/old.deb && rm -rf /tmp/old /tmp/old.deb
+test "$(vhost_user_host)" = old
+"""

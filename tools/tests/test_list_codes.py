@@ -1,0 +1,116 @@
+"""A number that is changed in one place is refused by tools/list-codes, in a copy of what it reads."""
+
+import os
+import shutil
+import subprocess
+
+import pytest
+
+ROOT = os.path.realpath(os.path.join(os.path.dirname(__file__), "../.."))
+
+# What the tool reads.
+CRATES = ("vb_virtio", "vb_ram", "vb_chain", "vb_ring", "vb_request", "vb_core", "vb_monitor", "vb_c")
+READ = (
+    *(f"crates/{it}/src" for it in CRATES),
+    "crates.txt", "crates/vb_c/vb.h", "docs/RULES.md", "docs/INTEGRATION.md", "monitor/backends/guest/backend.c",
+    "monitor/reference/device.h", "monitor/include/ring_layout.h", "monitor/rust/src/raw/codes.rs", "tools/list-codes",
+)
+
+# Seconds that a call of the tool has.
+LIMIT = 60
+
+HEADER, REFERENCE = "crates/vb_c/vb.h: numbers", "monitor/reference/device.h: rules"
+BACKEND, RUST = "monitor/backends/guest/backend.c: rules", "monitor/rust/src/raw/codes.rs"
+LAYOUT = "monitor/include/ring_layout.h"
+RULES, CODES = "docs/RULES.md", "docs/INTEGRATION.md"
+
+# A file, its text, what is there in place of it, and what the tool then says differs.
+CHANGES = (
+    ("crates/vb_c/src/answers.rt", "NOT_READY: u32 = 3", "NOT_READY: u32 = 14", [HEADER, RUST, f"{CODES}: VB_NOT_READY is 3"]),
+    ("crates/vb_c/src/answers.rt", "NOT_READY: u32 = 3", "NOT_READY: u32 = 2",
+     ["answers: two codes of one number", HEADER, RUST, f"{CODES}: VB_NOT_READY is 3"]),
+    ("crates/vb_c/src/kinds.rt", "REPORT: u32 = 3", "REPORT: u32 = 5", [HEADER, RUST]),
+    ("crates/vb_c/src/bits.rt", "READ: u32 = 64", "READ: u32 = 256", [HEADER, RUST]),
+    ("crates/vb_c/src/places.rt", "EMPTY: u32 = 2", "EMPTY: u32 = 4", [HEADER, RUST]),
+    ("crates/vb_chain/src/fault.rt", "BadPage = 9", "BadPage = 11", [HEADER, REFERENCE, BACKEND, f"{RULES}: BadPage is 9"]),
+    ("crates/vb_chain/src/fault.rt", '"no such page"', '"no page"', [HEADER, BACKEND]),
+    ("crates/vb_virtio/src/limits.rt", "MAX_QUEUE_SIZE: u32 = 256", "MAX_QUEUE_SIZE: u32 = 512", [HEADER, RUST]),
+    ("crates/vb_virtio/src/layout.rt", "MAX_STATISTICS_LENGTH: u32 = 1020", "MAX_STATISTICS_LENGTH: u32 = 1030", [HEADER, RUST]),
+    ("crates/vb_core/src/format.rt", "SAVED_LENGTH: usize = 191", "SAVED_LENGTH: usize = 195", [HEADER, RUST]),
+    ("crates/vb_chain/src/descriptor.rt", "DESCRIPTOR_SIZE: usize = 16", "DESCRIPTOR_SIZE: usize = 32", [LAYOUT]),
+    ("crates/vb_ring/src/format.rt", "USED_ELEMENT_SIZE: u64 = 8", "USED_ELEMENT_SIZE: u64 = 12", [LAYOUT]),
+    ("crates/vb_ring/src/format.rt", "const RING_META_SIZE", "const RING_REST_SIZE", [LAYOUT]),
+    (LAYOUT, "RING_INDEX_AT = 2", "RING_INDEX_AT = 0", [LAYOUT]),
+    ("crates/vb_c/vb.h", "VB_NOT_READY = 3", "VB_NOT_READY = 4", [HEADER]),
+    ("crates/vb_c/vb.h", "VB_MAX_FIGURES = 102", "VB_MAX_FIGURES = 101", [HEADER]),
+    ("crates/vb_c/vb.h", "list-codes: numbers, to here", "", ["crates/vb_c/vb.h: no place for the table of numbers"]),
+    ("monitor/reference/device.h", "BAD_PAGE = 9", "BAD_PAGE = 8", [REFERENCE]),
+    ("monitor/backends/guest/backend.c", '[9] = "no such page"', '[9] = "a reserved page"', [BACKEND]),
+    ("monitor/rust/src/raw/codes.rs", "COPY: u32 = 128", "COPY: u32 = 64", [RUST]),
+    (RULES, "7 IndexJump", "8 IndexJump", [f"{RULES}: IndexJump is 8"]),
+    (RULES, "10 ReservedPage", "a reserved page", [f"{RULES}: no number for ReservedPage"]),
+    (CODES, "| 12 | `VB_BAD_SUM`", "| 11 | `VB_BAD_SUM`", [f"{CODES}: VB_BAD_SUM is 11"]),
+    (CODES, "| 13 | `VB_IMPOSSIBLE`", "| 13 | `VB_NEVER`", [f"{CODES}: VB_NEVER is 13", f"{CODES}: no number for VB_IMPOSSIBLE"]),
+)
+
+
+class Copy:
+    """A copy of what the tool reads, and the tool in it."""
+
+    def __init__(self, folder):
+        self.folder = folder
+        for path in READ:
+            there = f"{folder}/{path}"
+            os.makedirs(os.path.dirname(there), exist_ok=True)
+            (shutil.copytree if os.path.isdir(f"{ROOT}/{path}") else shutil.copy)(f"{ROOT}/{path}", there)
+
+    def call(self, word):
+        """Calls the tool; returns its status and what it says."""
+        ran = subprocess.run([f"{self.folder}/tools/list-codes", word], capture_output=True, text=True, timeout=LIMIT)
+        assert ran.stderr == ""
+        return ran.returncode, ran.stdout.splitlines()
+
+    def text(self, path):
+        """Returns a file of the copy."""
+        with open(f"{self.folder}/{path}", encoding="utf-8") as file:
+            return file.read()
+
+    def change(self, path, old, new):
+        """Puts another text once into a file of the copy."""
+        text = self.text(path)
+        assert text.count(old) == 1, f"{path}: {old}"
+        with open(f"{self.folder}/{path}", "w", encoding="utf-8") as file:
+            file.write(text.replace(old, new))
+
+
+@pytest.fixture
+def copy(tmp_path):
+    return Copy(str(tmp_path))
+
+
+def test_the_repository_is_as_the_owners_have_it(copy):
+    assert copy.call("--check") == (0, [])
+
+
+@pytest.mark.parametrize("path, old, new, wanted", CHANGES)
+def test_a_change_in_one_place_is_refused_by_name(copy, path, old, new, wanted):
+    copy.change(path, old, new)
+    status, said = copy.call("--check")
+    assert (status, [it.removesuffix(": not what tools/list-codes --write makes") for it in said]) == (1, wanted)
+
+
+def test_a_change_of_the_owner_is_written_to_all_tables(copy):
+    copy.change("crates/vb_c/src/bits.rt", "COPY: u32 = 128", "COPY: u32 = 512")
+    copy.change("crates/vb_chain/src/fault.rt", "BadPage = 9", "BadPage = 11")
+    assert copy.call("--write") == (1, [f"{RULES}: BadPage is 9"])
+    assert "VB_COPY = 512, " in copy.text("crates/vb_c/vb.h")
+    assert "10 a reserved page; 11 no such page. */" in " ".join(copy.text("crates/vb_c/vb.h").replace("\n *", "").split())
+    assert "RESERVED_PAGE = 10, BAD_PAGE = 11 };" in copy.text("monitor/reference/device.h")
+    assert '[11] = "no such page",\n' in copy.text("monitor/backends/guest/backend.c")
+    assert "pub const COPY: u32 = 512;\n" in copy.text("monitor/rust/src/raw/codes.rs")
+
+
+def test_what_is_written_stays(copy):
+    before = {it: copy.text(it) for it in ("crates/vb_c/vb.h", "monitor/reference/device.h", "monitor/backends/guest/backend.c")}
+    assert copy.call("--write") == (0, [])
+    assert {it: copy.text(it) for it in before} == before

@@ -1,0 +1,45 @@
+"""Tests that tools/lib/page_claims.py refuses each kind of false claim: a page, or what it is about, is changed in one place."""
+
+import os
+import re
+
+import pytest
+
+import page_claims
+
+# The check, a file, a pattern in it, what replaces it, and a part of what is said then.
+CHANGES = (
+    ("counts", "README.md", r"the shims \(\d+ lines of C", "the shims (1 lines of C", "'1' in place of"),
+    ("counts", "README.md", r"the shims \(", "the code (", "0 texts"),
+    ("counts", "docs/LINUX.md", r"`tools/test linux` \| \w+ runs", "`tools/test linux` | no runs", "'no' in place of"),
+    ("packages", "README.md", r"make gcc g\+\+ clang", "make gcc clang", "README.md: packages"),
+    ("packages", "tools/release", r"binutils", "binutils zip", "tools/release: packages"),
+    ("times", "README.md", r"\| 20 seconds \|", "| 30 seconds |", "takes"),
+    ("times", "monitor/README.md", r"## Tests\n", "## Tests\n\nThey take two minutes.\n", "a time belongs into"),
+    ("listings", "README.md", r"if \(result\.interrupts\)", "if (result.interrupt)", "README.md: a listing isn't in"),
+    ("listings", "docs/INTEGRATION.md", r"#include <stdio\.h>\n", "", "docs/INTEGRATION.md: a listing isn't in"),
+    ("listings", "monitor/rust/examples/monitor.rs", r"balloon\.notify", "balloon.serve", "README.md: a listing isn't in"),
+    ("order", "docs/MAP.md", r"(?m)^\| `vb_ram` \|.*\n", "", "its crates aren't those"),
+    ("order", "docs/MAP.md", r"(?m)^(\| `vb_ram` \|.*\n)", r"\1\1", "one is there twice"),
+    ("order", "docs/MAP.md", r"(?ms)^(\| `vb_ram` \|[^\n]*\n)(.*?)(^\| `vb_chain` \|[^\n]*\n)", r"\3\2\1", "is listed before"),
+    ("sanitized", "monitor/README.md", r"`order\.c`, `fences\.c`", "`fences.c`", "order.c isn't rightly said"),
+)
+
+TRUE = page_claims.read
+
+
+def changed(path, pattern, instead):
+    """Returns a reader of files, of which one is changed in one place."""
+    text, count = re.subn(pattern, instead, TRUE(path), count=1)
+    assert count == 1 and text != TRUE(path), f"{path} has no {pattern}"
+    return lambda asked: text if asked == path else TRUE(asked)
+
+
+@pytest.mark.parametrize("look, path, pattern, instead, said", CHANGES)
+def test_each_false_claim_is_refused(look, path, pattern, instead, said, monkeypatch):
+    monkeypatch.setattr(page_claims, "read", changed(path, pattern, instead))
+    assert any(said in line for line in getattr(page_claims, look)())
+
+
+def test_the_pages_claim_nothing_false():
+    assert page_claims.claims() == []

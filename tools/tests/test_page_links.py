@@ -1,0 +1,43 @@
+"""Tests which links tools/lib/page_links.py takes for dead: each page is one of a small repository."""
+
+import os
+import subprocess
+
+import pytest
+
+import page_links
+
+OTHER = "# A page\n\n## Who's there: `a_b`, twice\n\n```\n# no heading\n```\n"
+
+# A line of a page beside docs/OTHER.md, and what is said of it.
+LINES = (
+    ("[it](docs/OTHER.md) and [folder](docs)", []),
+    ("[it](docs/OTHER.md#whos-there-a_b-twice)", []),
+    ("[it](#first)", []),
+    ("[it](https://example.org/a#b)", []),
+    ("`[it](docs/NONE.md)` is code", []),
+    ("```\n[it](docs/NONE.md)\n```", []),
+    ("[it](docs/NONE.md)", ["PAGE.md:3: no file docs/NONE.md"]),
+    ("two [of](docs/NONE.md) [them](NONE.md#a)", ["PAGE.md:3: no file docs/NONE.md", "PAGE.md:3: no file NONE.md"]),
+    ("[it](docs/OTHER.md#no-heading)", ["PAGE.md:3: docs/OTHER.md has no heading #no-heading"]),
+    ("[it](#second)", ["PAGE.md:3: PAGE.md has no heading #second"]),
+)
+
+
+@pytest.mark.parametrize("line, said", LINES)
+def test_links(line, said, tmp_path, monkeypatch):
+    (tmp_path / "docs").mkdir()
+    (tmp_path / "docs/OTHER.md").write_text(OTHER)
+    (tmp_path / "PAGE.md").write_text(f"# First\n\n{line}\n")
+    subprocess.run(["git", "init", "-q", str(tmp_path)], check=True)
+    monkeypatch.setattr(page_links, "ROOT", str(tmp_path))
+    assert page_links.dead() == said
+
+
+def test_a_link_goes_from_its_page(tmp_path, monkeypatch):
+    (tmp_path / "docs").mkdir()
+    (tmp_path / "docs/OTHER.md").write_text("[up](../PAGE.md) [down](PAGE.md)\n")
+    (tmp_path / "PAGE.md").write_text("# First\n")
+    subprocess.run(["git", "init", "-q", str(tmp_path)], check=True)
+    monkeypatch.setattr(page_links, "ROOT", str(tmp_path))
+    assert page_links.dead() == ["docs/OTHER.md:1: no file docs/PAGE.md"]

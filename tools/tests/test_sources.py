@@ -1,0 +1,103 @@
+"""Each topic of tools/check-sources finds what is planted for it, in a folder of its own, and nothing where that is right."""
+
+import os
+import subprocess
+
+import pytest
+from page_claims import tool
+
+CHECK = tool("check-sources")
+
+EDIT = "file: src/a.rt\nold:     true\nnew:     false\n"
+CRATE = {"crates/a/src/a.rt": "fn f() -> bool {\n    true\n}\n"}
+RULE = "rule " + "T" + "4"
+WRITER = "static void f(VbDevice *device)\n{\n    %s;\n}\n"
+VERSIONS = {
+    "VERSION": "1.2.3\n", "monitor/rust/Cargo.toml": 'version = "1.2.3"\n', "crates/vb_c/vb.h": '#define VB_VERSION "1.2.3"\n',
+    "crates/vb_c/src/saving.rt": "/// The version of the library: 1.2.3, as text\n",
+}
+
+# A topic of a crate, files of the crate, and what is found in them.
+OF_CRATES = (
+    ("leaks", {"crates/a/src/a.rt": "    mem::forget(frame);\n"}, ["crates/a/src/a.rt:1: mem::forget(frame);"]),
+    ("leaks", {"crates/a/src/a.rt": "    // never mem::forget(frame)\n"}, []),
+    ("leaks", {"crates/a/src/tests/a.rt": "    mem::forget(frame);\n"}, []),
+    ("citations", {"crates/a/specs/A.antt": f"-- {RULE}\n"}, [f"crates/a/specs/A.antt:1: -- {RULE}"]),
+    ("citations", {"crates/a/README.md": "R, S and T\n"}, []),
+    ("columns", {"crates/a/src/a.rt": "x" * 101}, ["crates/a/src/a.rt:1: 101 columns"]),
+    ("columns", {"crates/a/src/a.rt": "x" * 100}, []),
+    ("edits", {**CRATE, "crates/a/must-fail/f-gives_up.edit": EDIT}, []),
+    ("edits", {**CRATE, "crates/a/must-fail/g-gives_up.edit": EDIT},
+     ["crates/a/must-fail/g-gives_up.edit: its name begins with no function of the crate"]),
+    ("edits", {**CRATE, "crates/a/must-fail/f-gives_up.edit": EDIT.replace("true", "false")},
+     ["crates/a/must-fail/f-gives_up.edit: its old text occurs 0 times"]),
+    ("numbers", {"crates/a/specs/A.antt": "f = status ≡ 15\n"},
+     ["crates/a/specs/A.antt:1: READY_STATUS or FAILED_STATUS of vb_virtio: f = status ≡ 15"]),
+    ("numbers", {"crates/a/specs/A.antt": "f = status ≡ READY_STATUS\n"}, []),
+)
+
+# A topic of all files, these, and what is found in them.
+OF_ALL = (
+    ("lengths", {"tools/lib/a.py": "\n" * 351}, ["tools/lib/a.py: 351 lines"]),
+    ("lengths", {"tools/lib/a.py": "\n" * 350, "crates/a/src/tests.rt": "\n" * 351}, []),
+    ("writes", {"monitor/backends/guest/a.c": WRITER % "device->status = 3"}, ["monitor/backends/guest/a.c:3: device->status = 3;"]),
+    ("writes", {"monitor/backends/guest/a.c": WRITER % "*device = other"}, ["monitor/backends/guest/a.c:3: *device = other;"]),
+    ("writes", {"monitor/backends/guest/a.c": WRITER % "memset(device, 0, 5)"}, ["monitor/backends/guest/a.c:3: memset(device, 0, 5);"]),
+    ("writes", {"monitor/backends/guest/a.c": WRITER % "return device->status == 3", "monitor/reference/a.h": WRITER % "device->status = 3"}, []),
+    ("versions", VERSIONS, []),
+    ("versions", {**VERSIONS, "monitor/rust/Cargo.toml": 'version = "1.2.4"\n'}, ["monitor/rust/Cargo.toml: 1.2.4 in place of 1.2.3"]),
+    ("versions", {**VERSIONS, "crates/vb_c/vb.h": ""}, ["crates/vb_c/vb.h: no version in place of 1.2.3"]),
+)
+
+
+@pytest.fixture
+def root(tmp_path, monkeypatch):
+    """A folder in place of the repository."""
+    monkeypatch.setattr(CHECK, "ROOT", str(tmp_path))
+    return tmp_path
+
+
+def put(root, files):
+    """Writes files into a folder."""
+    for path, text in files.items():
+        (root / path).parent.mkdir(parents=True, exist_ok=True)
+        (root / path).write_text(text, encoding="utf-8")
+
+
+@pytest.mark.parametrize("topic, files, wanted", OF_CRATES)
+def test_of_a_crate(root, topic, files, wanted):
+    put(root, files)
+    assert getattr(CHECK, topic)("a") == wanted
+
+
+@pytest.mark.parametrize("topic, files, wanted", OF_ALL)
+def test_of_all_files(root, topic, files, wanted):
+    put(root, files)
+    assert getattr(CHECK, topic)() == wanted
+
+
+def test_a_link(root):
+    put(root, {"docs/a.md": "", ".cache/a": ""})
+    assert CHECK.links() == []
+    os.symlink("a.md", root / "docs/b.md")
+    os.symlink("a", root / ".cache/b")
+    assert CHECK.links() == ["docs/b.md"]
+
+
+def test_a_file_that_clean_deletes(root):
+    put(root, {"monitor/Makefile": "clean:\n\trm -rf out made.h\n", "monitor/kept.h": ""})
+    subprocess.run(["git", "init", "-q", root], check=True)
+    subprocess.run(["git", "-C", root, "add", "."], check=True)
+    assert CHECK.cleaned() == []
+    put(root, {"monitor/made.h": ""})
+    subprocess.run(["git", "-C", root, "add", "."], check=True)
+    assert CHECK.cleaned() == ["monitor/made.h"]
+
+
+@pytest.mark.parametrize("script, wanted", (
+    ("true", []), ("echo 'a.h: differs'; exit 1", ["a.h: differs"]), ("exit 1", ["tools/list-codes failed"]),
+))
+def test_what_another_tool_refuses(root, script, wanted):
+    put(root, {"tools/list-codes": f"#!/bin/sh\n{script}\n"})
+    os.chmod(root / "tools/list-codes", 0o755)
+    assert CHECK.checked("list-codes") == wanted
