@@ -257,7 +257,7 @@ void seat_serve_pending(struct seat *seat)
 
 bool seat_ask(struct seat *seat)
 {
-    return seat_is_ready(seat) && seat->backend.balloon.state.held && serve(seat, ask, seat);
+    return seat_is_ready(seat) && seat->backend.balloon.state.held.statistics && serve(seat, ask, seat);
 }
 
 /* Tells its guest of a change of its configuration. */
