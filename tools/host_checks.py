@@ -111,12 +111,12 @@ def await_rest(town, budget, floor=12, limit=REST_LIMIT):
 
 
 def check_spares(town, floor=12):
-    """Demands that what guests can spare is what they call free themselves and have in the balloon, less the floor, and that
+    """Demands that what guests can spare is what they call available themselves and have in the balloon, less the floor, and that
     the host counts what their memory files hold."""
     seen, held = town.host.guests(), sum(town.sample().held)
     counted = town.host.counters()["held_kib"] / 1024
     demand(abs(held - counted) <= SLACK, f"the files hold {held:.1f} MiB, and the host counts {counted:.1f}")
     for it in town.members:
-        own = it.free_mib() + seen[it.name]["ballooned"] / PAGES_PER_MIB - floor if it.guest else 0
+        own = it.guest.available_mib() + seen[it.name]["ballooned"] / PAGES_PER_MIB - floor if it.guest else 0
         spare = seen[it.name]["spare"] / PAGES_PER_MIB
         demand(abs(spare - max(0, own)) <= SLACK, f"{it.name} can spare {own:.1f} MiB, and the host says {spare:.1f}")

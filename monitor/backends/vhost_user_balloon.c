@@ -24,6 +24,7 @@
 #include "guest/backend.h"
 #include "guest/conventions.h"
 #include "guest/inbox.h"
+#include "guest/lent.h"
 #include "guest/state.h"
 
 #include <errno.h>
@@ -123,6 +124,8 @@ int main(int count, char **words)
         fprintf(stderr, "%s\n", help);
         return 2;
     }
+    if (options.is_lent)
+        return lent_run(&options);
     options.lives_on = convention.is_one;
     if (convention.file >= 0)
         options.client = NULL;

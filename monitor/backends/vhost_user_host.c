@@ -1,39 +1,48 @@
-/* A host of many guests, as a vhost-user backend for the virtio_uml drivers of User Mode Linux: it lends them more memory
- * than it has, and their balloons give back what is missing.
+/* The lender of a host of many guests: it lends them more memory than it has, and their balloons give back what is missing.
  *
- *     vhost_user_host FOLDER --budget MIB [--floor MIB] [--period MS] [--features HEX] [--strict] [--events]
- *                     [--lines N] [--config FILE] [--control PATH] [--control-mode OCTAL] [--control-group NAME]
- *                     [--log-level WORD]
+ *     vhost_user_host FOLDER --budget MIB [--floor MIB] [--period MS] [--step N] [--strict-pages] [--events] [--features HEX]
+ *                     [--lines N] [--program PATH] [--no-sandbox] [--end-with-lender]
+ *                     [--config FILE] [--control PATH] [--control-mode OCTAL] [--control-group NAME] [--log-level WORD]
  *
- * It says `ready`, and obeys lines of its standard input. Each is answered by a line on standard output, or by one that
- * says how many follow:
+ * It says `ready`, and starts a process for each client that comes, which serves its balloon: vhost_user_balloon, beside this program or
+ * at --program. It obeys lines of its standard input, whose end is no line. Each is answered by a line on standard output, or by one
+ * that says how many follow:
  *
- *     add NAME            a guest may come to the socket FOLDER/NAME, and again once it has gone
+ *     add NAME [TERMS]    a guest may come to the socket FOLDER/NAME, and again once it has gone
+ *     terms NAME TERMS    its terms are these from now on: least=MIB, most=MIB, priority=NUMBER
  *     remove NAME         its service ends
  *     budget MIB          the host is to hold no more than this
  *     floor MIB           what each guest keeps free
  *     guests              each guest's names and numbers: pages, held_kib, ballooned, target, free, spare, ..
  *     counters            the same for all together: looks, looks above the budget, the peak, ..
  *     log                 the decisions since the last `log`: the needs, the targets and why
- *     NAME target PAGES   for one guest, as vhost_user_balloon takes them; the target stands while it serves
+ *     NAME target PAGES   for one guest, as vhost_user_balloon takes them; the target stays while it serves
  *     NAME counters, NAME ask, NAME statistics
- *     quit                end; so do the end of the input, and the signals SIGTERM and SIGINT, and without --config SIGHUP
+ *     leave               the lender ends alone: guests and their processes live on, and the next lender of the folder goes on with them
+ *     quit                end, and all guests' service; so do the signals SIGTERM and SIGINT, and without --config SIGHUP
  *
- * Each period (200 ms) it counts what the guests' files hold, and asks each for its statistics. Targets are decided anew
- * where the old ones don't serve any longer: by vb_targets, vb_spare and vb_needs_targets of the library. A guest that breaks a
+ * Each period (200 ms) it counts what the guests' files hold, and asks each for its statistics. Targets are decided anew where the old
+ * ones don't serve any longer: by vb_loan_class_targets, vb_spare and vb_needs_targets of the library. A guest that breaks a
  * rule or goes ends alone: a line on standard error says so. A guest whose memory has no room beside the others is refused.
  *
  * `bigvasta` speaks to it by its control socket, FOLDER/.control (--control): docs/CONTROL.md. --config: a file that says the same, and
  * the guests; SIGHUP has it read anew. --log-level: error, warning, notice, info (as it is) or debug.
  *
- * --floor: what each guest keeps free (12 MiB). --features, --strict, --events, --lines: as for vhost_user_balloon.
+ * --floor: what each guest keeps free (12 MiB). --step: a target grows by one part of so many of the guest in a second, while the host is
+ * within its budget (8; 0: at once). --strict-pages: a page number past the end breaks a rule. --features, --events, --lines: as for
+ * vhost_user_balloon. --no-sandbox: guests' processes may make any system call. --end-with-lender: the kernel ends them with the lender.
  */
 #include "host/host.h"
 #include "service/service.h"
 
-#include <stdio.h>
+#include <signal.h>
+#include <sys/pidfd.h>
+#include <unistd.h>
 
-enum { BALLOON_FEATURES = 0x27, PERIOD = 200, LEAST_PERIOD = 10, FLOOR_MIB = 12 };
+enum { BALLOON_FEATURES = 0x27, PERIOD = 200, LEAST_PERIOD = 10, FLOOR_MIB = 12, STEP = 8, FILES_OF_LENDER = 32 };
+
+/* Milliseconds in which guests' processes end that are told to. */
+enum { LEAVES_IN = 1000 };
 
 /* Reads one of the options that have a number. */
 static bool read_option(struct host *host, const char *name, const char *word)
@@ -41,18 +50,36 @@ static bool read_option(struct host *host, const char *name, const char *word)
     uint64_t number;
     bool pages = !strcmp(name, "--budget") || !strcmp(name, "--floor");
     if (!strcmp(name, "--features"))
-        return read_number(word, 16, UINT64_MAX, &host->options.features);
+        return read_number(word, 16, UINT64_MAX, &host->features);
     if (!strcmp(name, "--lines"))
         return read_lines(word);
+    if (!strcmp(name, "--program"))
+        return host->program = word, true;
     if (!read_number(word, 10, UINT32_MAX / PAGES_PER_MIB, &number))
         return false;
     if (pages)
         *(!strcmp(name, "--budget") ? &host->frames : &host->floor) = (uint32_t)number * PAGES_PER_MIB;
+    else if (!strcmp(name, "--step"))
+        host->step = (uint32_t)number;
     else if (!strcmp(name, "--period") && number >= LEAST_PERIOD)
         host->period = (int64_t)number;
     else
         return false;
     return true;
+}
+
+/* Takes a word that is all of an option; false where it is another. */
+static bool read_flag(struct host *host, const char *word)
+{
+    const struct {
+        const char *word;
+        bool *flag;
+    } flags[] = {{"--strict-pages", &host->strict_pages}, {"--events", &host->events}, {"--no-sandbox", &host->no_sandbox},
+                 {"--end-with-lender", &host->end_with_lender}};
+    for (unsigned i = 0; i < sizeof flags / sizeof flags[0]; i++)
+        if (!strcmp(word, flags[i].word))
+            return *flags[i].flag = true;
+    return false;
 }
 
 /* Reads an option with its word. */
@@ -65,8 +92,8 @@ static bool read_word(struct host *host, struct service *service, const char *na
 /* What the file says, where the command line doesn't say it. */
 static void take_config(struct host *host, const struct config *config)
 {
-    if (!host->options.client && config->fixed.folder[0])
-        host->options.client = config->fixed.folder;
+    if (!host->folder && config->fixed.folder[0])
+        host->folder = config->fixed.folder;
     if (host->frames == 0 && config->budget != UINT32_MAX)
         host->frames = config->budget;
     if (host->floor == UINT32_MAX)
@@ -77,34 +104,74 @@ static void take_config(struct host *host, const struct config *config)
 
 static bool read_options(struct host *host, struct service *service, int count, char **words)
 {
-    host->options.features = UINT64_C(1) << 32 | BALLOON_FEATURES;
+    host->features = UINT64_C(1) << 32 | BALLOON_FEATURES;
+    host->step = STEP;
     host->floor = UINT32_MAX;
     service_defaults(service);
     for (int i = 1; i < count; i++) {
-        if (!strcmp(words[i], "--strict"))
-            host->options.strict = true;
-        else if (!strcmp(words[i], "--events"))
-            host->options.events = true;
-        else if (words[i][0] != '-' && !host->options.client)
-            host->options.client = words[i];
+        if (read_flag(host, words[i]))
+            continue;
+        if (words[i][0] != '-' && !host->folder)
+            host->folder = words[i];
         else if (i + 1 >= count || !read_word(host, service, words[i], words[i + 1]))
             return false;
         else
             i++;
     }
     take_config(host, &service->config);
-    return host->options.client && host->frames > 0;
+    return host->folder && host->frames > 0;
+}
+
+/* The program of guests' processes: beside this one, where none is named. False where it isn't there, which is said. */
+static bool find_program(struct host *host)
+{
+    static char path[4096];
+    ssize_t length = readlink("/proc/self/exe", path, sizeof path - sizeof "vhost_user_balloon");
+    char *end = length > 0 ? memrchr(path, '/', (size_t)length) : NULL;
+    if (!host->program && end) {
+        strcpy(end + 1, "vhost_user_balloon");
+        host->program = path;
+    }
+    if (host->program && !access(host->program, X_OK))
+        return true;
+    complain("%s: %s", host->program ? host->program : "vhost_user_balloon", strerror(errno));
+    return false;
+}
+
+/* Whether a device can offer these features. */
+static bool can_offer(uint64_t features)
+{
+    VbDevice device;
+    VbSettings settings = {.memory_end = 2 * BALLOON_PAGE, .offered = features};
+    return vb_new(&device, settings) == VB_OK || refuse("the device can't offer the features 0x%llx", (unsigned long long)features);
+}
+
+/* Ends all guests' processes, which have a moment for it. */
+static void end_all(struct host *host)
+{
+    int64_t end = host_now() + LEAVES_IN;
+    while (host->count > 0 && !seat_remove(host, host->seats[0]))
+        continue;
+    for (unsigned i = 0; i < host->leaving_count; i++) {
+        struct seat *seat = host->leaving[i];
+        struct pollfd its = {seat->process_file >= 0 ? seat->process_file : seat->channel, POLLIN, 0};
+        int64_t left = end - host_now();
+        if (seat->process_file < 0 || poll(&its, 1, left > 0 ? (int)left : 0) > 0)
+            continue;
+        complain("%s doesn't end, and is killed", seat->name);
+        pidfd_send_signal(seat->process_file, SIGKILL, NULL, 0);
+    }
 }
 
 static const char help[] =
-    "vhost_user_host FOLDER --budget MIB [--floor MIB] [--period MS] [--features HEX] [--strict] [--events] [--lines N]\n"
+    "vhost_user_host FOLDER --budget MIB [--floor MIB] [--period MS] [--step N] [--strict-pages] [--events] [--features HEX] "
+    "[--lines N] [--program PATH] [--no-sandbox] [--end-with-lender]\n"
     "                [--config FILE] [--control PATH] [--control-mode OCTAL] [--control-group NAME] [--log-level WORD]";
 
 int main(int count, char **words)
 {
     static struct host host;
     static struct service service;
-    static struct backend trial;
     process_begin();
     if (process_answers(count, words, "vhost_user_host", help))
         return 0;
@@ -112,16 +179,20 @@ int main(int count, char **words)
         fprintf(stderr, "%s\n", help);
         return 2;
     }
-    process_allow_files(FILES_OF_PROCESS + MOST_GUESTS * (1 + FILES_OF_CLIENT) + MOST_CONTROL_CLIENTS);
-    if (!backend_start(&trial, &host.options) || !service_begin(&service, &host, host.options.client))
+    process_allow_files(FILES_OF_LENDER + MOST_GUESTS * 3 + MOST_CONTROL_CLIENTS);
+    if (!can_offer(host.features) || !find_program(&host) || !folder_lock(host.folder) || !answers_begin(&host.answers))
+        return 2;
+    folder_take_over(&host);
+    if (!service_begin(&service, &host, host.folder))
         return 2;
     host.end = process_end();
     if (host.end < 0)
         return 2;
-    puts("ready");
+    fputs("ready\n", host.answers.out);
+    answers_send(&host.answers);
     int status = host_run(&host);
     service_end(&service);
-    while (host.count > 0)
-        seat_remove(&host, host.seats[0]);
+    if (!host.leaves)
+        end_all(&host);
     return status;
 }

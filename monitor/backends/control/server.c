@@ -78,6 +78,8 @@ static void settle(struct control *control, struct control_client **place)
     }
     control->counters.dropped += client->overrun;
     control->counters.clients--;
+    /* A process that begins just now has the file for a moment, too: closing it alone isn't the end of its events. */
+    wait_for(control, EPOLL_CTL_DEL, client->socket, 0, NULL);
     client_free(client);
     *place = NULL;
 }

@@ -1,10 +1,8 @@
 #include "backend.h"
 #include "audit.h"
 
-#include <ctype.h>
 #include <stdarg.h>
 #include <stdio.h>
-#include <stdlib.h>
 #include <unistd.h>
 
 void remark(struct backend *backend, const char *format, ...)
@@ -17,23 +15,6 @@ void remark(struct backend *backend, const char *format, ...)
     vsnprintf(line, sizeof line, format, words);
     va_end(words);
     complain("%s", line);
-}
-
-bool read_number(const char *word, int base, uint64_t most, uint64_t *number)
-{
-    char *end;
-    errno = 0;
-    *number = strtoull(word, &end, base);
-    /* It would take spaces and a sign before them. */
-    return isxdigit((unsigned char)word[0]) && !*end && errno == 0 && *number <= most;
-}
-
-bool read_lines(const char *word)
-{
-    uint64_t lines;
-    bool read = read_number(word, 10, UINT32_MAX / 2, &lines);
-    most_lines = read ? (unsigned)lines : most_lines;
-    return read;
 }
 
 /* Counts the pages of a request that was served. */

@@ -3,9 +3,11 @@
 #define BACKEND_H
 #include "guest_memory.h"
 #include "counters.h"
+#include "numbers.h"
 #include "process.h"
 #include "rings.h"
 #include "say.h"
+#include "tags.h"
 
 /* A notice serves so many chains at most: then the other queues and the client have their turn. */
 enum { MOST_TAGS = 16, MOST_REMARKS = 100, MOST_REMARK = 256, MOST_CHAINS = 64, MOST_PAGES = 1024 };
@@ -20,6 +22,9 @@ struct options {
     uint64_t features;
     bool strict, keep;
     bool events;                /* in-band notifications aren't offered */
+    bool is_lent;               /* a lender has started the process, for the guest of the name `client` */
+    bool ends_with_lender;      /* the kernel ends it as its lender ends */
+    bool open;                  /* it isn't shut in a sandbox */
     bool lives_on;              /* the end of the control pipe isn't the end of the process */
 };
 
@@ -51,13 +56,6 @@ struct backend {
 
 /* Says something of a client that goes on being served; but not for ever. */
 void remark(struct backend *backend, const char *format, ...) __attribute__((format(printf, 2, 3)));
-
-/* Reads a word of digits, of base 10, or of base 16 with 0x before them or without; false where it is another word, or where
- * the number is more than `most`. */
-bool read_number(const char *word, int base, uint64_t most, uint64_t *number);
-
-/* Reads how many lines are said of a client in a second; false where it is no number. */
-bool read_lines(const char *word);
 
 /* Reads the words that follow a program's name; false where it doesn't know one. */
 bool backend_options(struct options *options, int count, char **words);

@@ -34,17 +34,27 @@ static bool read_option(struct options *options, const char *name, const char *w
     return true;
 }
 
+/* Takes a word that is all of an option; false where it is another. */
+static bool read_flag(struct options *options, const char *word)
+{
+    const struct {
+        const char *word;
+        bool *flag;
+    } flags[] = {{"--strict", &options->strict}, {"--keep", &options->keep}, {"--events", &options->events},
+                 {"--lent", &options->is_lent}, {"--end-with-lender", &options->ends_with_lender}, {"--no-sandbox", &options->open}};
+    for (unsigned i = 0; i < sizeof flags / sizeof flags[0]; i++)
+        if (!strcmp(word, flags[i].word))
+            return *flags[i].flag = true;
+    return false;
+}
+
 bool backend_options(struct options *options, int count, char **words)
 {
     options->features = UINT64_C(1) << 32 | BALLOON_FEATURES;
     for (int i = 1; i < count; i++) {
-        if (!strcmp(words[i], "--strict"))
-            options->strict = true;
-        else if (!strcmp(words[i], "--keep"))
-            options->keep = true;
-        else if (!strcmp(words[i], "--events"))
-            options->events = true;
-        else if (words[i][0] != '-' && !options->client)
+        if (read_flag(options, words[i]))
+            continue;
+        if (words[i][0] != '-' && !options->client)
             options->client = words[i];
         else if (i + 1 >= count || !read_option(options, words[i], words[i + 1]))
             return false;

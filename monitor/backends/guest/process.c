@@ -12,7 +12,11 @@
 #include <string.h>
 #include <sys/resource.h>
 #include <sys/signalfd.h>
+#include <sys/socket.h>
+#include <sys/stat.h>
 #include <unistd.h>
+
+bool process_is_shut;
 
 /* Milliseconds of a rest. */
 enum { REST = 100 };
@@ -32,11 +36,41 @@ static sigset_t ending(void)
     return signals;
 }
 
+/* Standard output and error once more, by files that don't block; the same where they can't be opened anew. */
+static int standard[STDERR_FILENO + 1] = {STDIN_FILENO, STDOUT_FILENO, STDERR_FILENO};
+
+static void open_anew(int file)
+{
+    char path[32];
+    struct stat its;
+    if (fstat(file, &its) || !(S_ISFIFO(its.st_mode) || S_ISCHR(its.st_mode)))
+        return; /* a plain file doesn't wait, and has its place in the old one; a socket is sent to */
+    snprintf(path, sizeof path, "/proc/self/fd/%d", file);
+    int anew = open(path, O_WRONLY | O_NONBLOCK | O_CLOEXEC | O_NOCTTY);
+    standard[file] = anew < 0 ? file : anew;
+}
+
+int file_of_output(void)
+{
+    return standard[STDOUT_FILENO];
+}
+
+ssize_t file_put(int file, const void *bytes, size_t length)
+{
+    struct pollfd its = {standard[file], POLLOUT, 0};
+    if (poll(&its, 1, 0) <= 0 || !(its.revents & (POLLOUT | POLLERR | POLLHUP)))
+        return -1;
+    ssize_t sent = send(its.fd, bytes, length, MSG_DONTWAIT | MSG_NOSIGNAL);
+    return sent >= 0 || errno != ENOTSOCK ? sent : write(its.fd, bytes, length);
+}
+
 void process_begin(void)
 {
     for (int file = 0; file <= STDERR_FILENO; file++)
         if (fcntl(file, F_GETFD) < 0 && open("/dev/null", O_RDWR) != file)
             abort();
+    open_anew(STDOUT_FILENO);
+    open_anew(STDERR_FILENO);
     setvbuf(stdout, NULL, _IOLBF, 0);
     signal(SIGPIPE, SIG_IGN);
     sigset_t signals = ending();
@@ -114,6 +148,8 @@ int poll_some(struct pollfd *files, nfds_t count, int limit)
 int file_number(int file, const char *name)
 {
     char path[32], text[512];
+    if (process_is_shut)
+        return -1;
     snprintf(path, sizeof path, "/proc/self/fdinfo/%d", file);
     int info = open(path, O_RDONLY | O_CLOEXEC);
     ssize_t length = info < 0 ? -1 : read(info, text, sizeof text - 1);

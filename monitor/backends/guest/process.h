@@ -3,11 +3,20 @@
 #define PROCESS_H
 #include <poll.h>
 #include <stdbool.h>
+#include <stddef.h>
+#include <sys/types.h>
 
 /* Begins a program. Where standard input, output or error is closed, it is /dev/null from now on, so that no other file is taken
  * for it; lines go out as they end; a client that has gone is noticed by what a write answers; signals that end it wait for
  * process_end. */
 void process_begin(void);
+
+/* Writes to standard output or standard error without waiting, whatever they are: how many bytes; -1 where there is no room. A pipe or
+ * a terminal is opened anew for it, as how its file blocks is shared with other processes. */
+ssize_t file_put(int standard, const void *bytes, size_t length);
+
+/* The file to poll for room on standard output. */
+int file_of_output(void);
 
 /* Answers --help, by these words, and --version; false where the command line has neither. */
 bool process_answers(int count, char **words, const char *name, const char *help);
@@ -33,7 +42,11 @@ enum { MOST_POLLED = 1024 };
  * it comes back after a while, and nothing has come. */
 int poll_some(struct pollfd *files, nfds_t count, int limit);
 
-/* The number that the kernel has of an open file by this name (/proc/self/fdinfo); -1 where it has none. */
+/* Set once the process can't open files any longer. */
+extern bool process_is_shut;
+
+/* The number that the kernel has of an open file by this name (/proc/self/fdinfo); -1 where it has none, or where no file can be
+ * opened. */
 int file_number(int file, const char *name);
 
 /* Closes a file; says where that fails. */

@@ -1,16 +1,21 @@
 #define _GNU_SOURCE
 #include "say.h"
 
+#include "process.h"
+
 #include <stdarg.h>
 #include <stdio.h>
 #include <string.h>
 #include <time.h>
+#include <unistd.h>
 
 enum { MOST_BYTES = 512, MOST_LINES = 20 };
 
 static struct speaker nobody;
 struct speaker *speaker = &nobody;
 unsigned most_lines = MOST_LINES;
+void (*say_through)(enum saying saying, const char *words);
+uint64_t lines_dropped;
 
 void speaker_begins(struct speaker *whose)
 {
@@ -34,9 +39,13 @@ static bool may_speak(void)
 }
 
 /* Says a line: how it begins, whose it is, and the words; what is too long is cut. */
-static void say(const char *begin, const char *between, const char *words)
+static void say(enum saying saying, const char *begin, const char *between, const char *words)
 {
     char line[MOST_BYTES];
+    if (say_through) {
+        say_through(saying, words);
+        return;
+    }
     const char *name = speaker->name ? speaker->name : "";
     if (may_speak())
         snprintf(line, sizeof line - 1, "%s%s%s%s", begin, name, between, words);
@@ -44,7 +53,9 @@ static void say(const char *begin, const char *between, const char *words)
         snprintf(line, sizeof line - 1, "%s%sfurther lines of this second are left out", name, *name ? ": " : "");
     else
         return;
-    fputs(strcat(line, "\n"), stderr);
+    strcat(line, "\n");
+    if (file_put(STDERR_FILENO, line, strlen(line)) != (ssize_t)strlen(line))
+        lines_dropped++;
 }
 
 bool refuse(const char *format, ...)
@@ -54,7 +65,7 @@ bool refuse(const char *format, ...)
     va_start(words, format);
     vsnprintf(line, sizeof line, format, words);
     va_end(words);
-    say(speaker->name ? "refused " : "refused", ": ", line);
+    say(SAY_REFUSED, speaker->name ? "refused " : "refused", ": ", line);
     return false;
 }
 
@@ -65,10 +76,10 @@ void complain(const char *format, ...)
     va_start(words, format);
     vsnprintf(line, sizeof line, format, words);
     va_end(words);
-    say("", speaker->name ? ": " : "", line);
+    say(SAY_REMARK, "", speaker->name ? ": " : "", line);
 }
 
 void say_gone(void)
 {
-    say("gone ", "", "");
+    say(SAY_GONE, "gone ", "", "");
 }

@@ -21,6 +21,15 @@ void speaker_ends(void);
 /* Lines that are said of a client in a second; one more says that others are left out. */
 extern unsigned most_lines;
 
+/* What is said. */
+enum saying { SAY_REFUSED, SAY_REMARK, SAY_GONE };
+
+/* Where words go, in place of standard error, if there is such a hook. */
+extern void (*say_through)(enum saying saying, const char *words);
+
+/* Lines that nobody read in time: writes to standard error don't wait. */
+extern uint64_t lines_dropped;
+
 /* Says why the client isn't served any longer; returns false. */
 bool refuse(const char *format, ...) __attribute__((format(printf, 1, 2)));
 

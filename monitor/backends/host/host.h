@@ -1,11 +1,17 @@
-/* A process for all guests of a host: it lends them more memory than the host has, and asks each for pages so that the
- * host's budget suffices. */
+/* The lender of a host: it lends its guests more memory than the host has, and asks each for pages so that the host's budget suffices.
+ * Each guest has a process of its own, which alone touches what a client sends. */
 #ifndef HOST_H
 #define HOST_H
-#include "../guest/backend.h"
-#include "../guest/guard.h"
-#include "../guest/inbox.h"
+#include "message.h"
+
 #include "extra.h"
+#include "vb_lending.h"
+#include "view.h"
+
+#include "../guest/process.h"
+#include "../guest/say.h"
+
+#include <stdio.h>
 
 enum {
     MOST_GUESTS = 64,
@@ -13,30 +19,42 @@ enum {
     MOST_PATH = 108,            /* of a socket's */
     SILENT_AFTER = 3,           /* periods without statistics, and a guest counts as one that doesn't answer */
     PAGES_PER_MIB = 256,
+    LATER_MARK = '+',           /* before a guest's name: the socket where a later lender finds its process */
 };
-
-/* Pages from `first` to before `end`. */
-struct span { uint64_t first, end; };
 
 /* A guest's place on the host, which it may leave and come back to. */
 struct seat {
-    struct backend backend;     /* the device of the client that is there; first, as its hooks get it */
     struct host *host;
     struct speaker speaker;     /* for what is said of its clients */
-    char name[MOST_NAME], path[MOST_PATH];
+    char name[MOST_NAME], path[MOST_PATH], later_path[MOST_PATH];
     int listener;               /* where its client comes */
-    struct inbox inbox;
-    uint64_t *set;              /* the pages in its balloon */
-    struct span spans[MOST_REGIONS];    /* of its memory, from the lowest one on */
-    unsigned span_count;
-    uint32_t pages;             /* of its memory; 0 until it has handed it over */
-    uint32_t ballooned;         /* pages in its balloon now */
-    /* What its last statistics came to: the pages it called free, and those that were ballooned then. */
-    uint32_t free, ballooned_then;
-    bool known;
-    unsigned silent;            /* periods since then */
+    struct guest_terms terms;
+    /* Its process. */
+    bool here;                  /* there is one */
+    pid_t process;              /* its number, by the kernel's word */
+    int process_file;           /* readable once it has ended; -1: its channel ends then */
+    int channel;                /* -1: none */
+    bool gone;                  /* its client has gone; the process hasn't ended yet */
+    bool adopts;                /* the first report of a process that an earlier lender has started is still to come */
+    int64_t comes_at;           /* before this no client is taken */
+    int64_t asked_at;           /* when the first order to look that isn't answered was given; 0: all are answered */
+    uint64_t number, answered;  /* of the last order to look; of the last one that is answered */
+    unsigned read;              /* messages of it that were read since the last refill */
+    uint64_t clients, lost;
+    struct lending_message report;      /* the last one; zeros without one */
+    /* What was made of it. */
+    uint32_t pages;             /* of its memory that has room */
+    uint32_t free, available, ballooned_then;
+    bool known, tells_available;
+    unsigned silent;            /* periods since its last statistics */
+    int64_t heard_at;
     uint64_t heard, taken;      /* its counters when they were last looked at */
-    uint32_t told_at;           /* `ballooned` when it was last told of its target */
+    int64_t paused_until;       /* it has taken pages itself: until then it is asked for no more than it has given */
+    uint32_t target, told;      /* what was decided, and what it is asked for so far */
+    enum guest_wait waits_for;
+    int64_t waits_since;
+    uint32_t wait_answered;     /* the last of its waits that was answered, and how */
+    bool wait_admitted;
 };
 
 /* What was decided, and why. */
@@ -49,7 +67,7 @@ struct decision {
     enum reason reason;
     char who[MOST_NAME];        /* BY_SPARE: who is asked for more than it can spare */
     unsigned count;
-    struct share shares[MOST_GUESTS];
+    struct share shares[2 * MOST_GUESTS];
 };
 
 enum { MOST_DECISIONS = 512 };
@@ -60,21 +78,57 @@ struct host_counters {
     uint64_t shorts, admitted, refused, gone;   /* shorts: decisions that found the guests short */
 };
 
+/* The answers of standard output that nobody has read yet. */
+struct answers {
+    FILE *out;
+    char *bytes;
+    size_t length, sent;
+};
+
+/* Lines of standard input that weren't obeyed yet. */
+struct input {
+    char bytes[4096];
+    size_t length;
+    bool cut, ended;
+};
+
+/* A line whose answer waits for new reports. */
+struct question {
+    char line[256];             /* empty: none */
+    uint64_t number;            /* reports with a later number are new */
+    uint64_t ask;               /* the number of the order to ask a guest, and whether it could be asked */
+    bool asked;
+    int64_t until;
+};
+
 struct host {
-    struct options options;     /* `client` is the folder of the sockets */
+    const char *folder, *program;
+    uint64_t features;
+    bool strict, strict_pages, events, no_sandbox, end_with_lender;
     struct seat *seats[MOST_GUESTS];
     unsigned count;
+    struct seat *leaving[MOST_GUESTS];  /* seats that were taken away, whose processes haven't ended yet */
+    unsigned leaving_count;
     uint32_t frames, floor;     /* pages: the budget, and what each guest is to keep free */
+    uint32_t step;              /* a target grows by one part of so many of the guest in a second; 0: at once */
     int64_t period;             /* milliseconds */
     int64_t rests_until;        /* clients aren't taken before this, as there was no file left for one */
+    int64_t refills_at;         /* when messages are read again of processes that have sent too many */
+    int64_t decides_at;         /* what guests do isn't decided on before this */
+    int64_t stepped_at;         /* when targets were last let grow */
     int end;                    /* has something to read once a signal tells the host to end */
+    bool leaves;                /* it ends alone, and guests' processes live on */
     bool anew;                  /* the guests, the budget or the floor have changed */
     enum reason reason;         /* which of them */
     bool news;                  /* what the guests can spare may have changed */
     uint64_t missing;           /* as the last decision had it */
+    uint64_t looks_asked;       /* the number of the last order to look */
     struct host_counters counters;
-    struct decision log[MOST_DECISIONS];        /* the last ones: decision n stands at n % MOST_DECISIONS */
+    struct decision log[MOST_DECISIONS];        /* the last ones: decision n has its place at n % MOST_DECISIONS */
     uint64_t printed;           /* how many decisions `log` has printed or lost */
+    struct input input;
+    struct answers answers;
+    struct question question;
     struct host_extra extras[MOST_EXTRAS];
     unsigned extra_count;
 };
@@ -82,50 +136,82 @@ struct host {
 /* The guests, the budget or the floor have changed: targets are decided anew at the next look. */
 void host_changed(struct host *host, enum reason reason);
 
-/* Serves until the control pipe says to quit; returns the program's status. */
+/* Serves until a line or a signal says to quit or to leave; returns the program's status. */
 int host_run(struct host *host);
+
+/* ---- folder.c */
+
+/* Whether the folder is this host's alone; says why not. It stays so until the process ends. */
+bool folder_lock(const char *folder);
+
+/* Makes a seat for each guest that an earlier lender has left in the folder. */
+void folder_take_over(struct host *host);
+
+/* Removes the socket of an earlier host, and nothing else. */
+void remove_socket(const char *path);
+
+/* Whether a guest may have this name: letters, digits, dashes and underscores. */
+bool is_name(const char *name);
 
 /* ---- seats.c */
 
 /* The seat of this name, or NULL. */
-struct seat *seat_of(struct host *host, const char *name);
+struct seat *seat_of(const struct host *host, const char *name);
 
-/* Makes a seat, whose socket waits for its client; NULL, or why it can't. */
-const char *seat_add(struct host *host, const char *name);
+/* Makes a seat, whose socket waits for its client, or takes over its process; NULL, or why it can't. */
+const char *seat_add(struct host *host, const char *name, const struct guest_terms *terms);
 
-/* Ends the service of its client, if there is one, and takes the seat away. */
-void seat_remove(struct host *host, struct seat *seat);
+/* Ends the service of its client, if there is one, and takes the seat away; NULL, or why it can't. */
+const char *seat_remove(struct host *host, struct seat *seat);
 
-/* Takes the client that waits at its socket. */
-void seat_accept(struct seat *seat);
+/* Nobody is there, and nobody was. */
+void seat_clear(struct seat *seat);
 
-/* Serves what its client has sent, the kicks of its queues, and what is left on them. A client that can't be served any
- * longer leaves. */
-void seat_serve(struct seat *seat);
-void seat_serve_kicks(struct seat *seat, const struct pollfd kicks[QUEUES]);
-void seat_serve_pending(struct seat *seat);
-
-/* Asks its guest for statistics; false where it can't, or where the guest hasn't answered the last question. */
-bool seat_ask(struct seat *seat);
-
-/* Tells its guest how many pages the host wants in the balloon. */
-void seat_set_target(struct seat *seat, uint32_t pages);
-
-/* Tells its guest the target again where the balloon stays off it, as Linux may have missed it. */
-void seat_remind(struct seat *seat);
-
-/* Whether somebody is there, and whether its driver is ready. */
+/* Whether somebody is there, and whether its driver is ready; whether its statistics come, and its process answers. */
 bool seat_is_taken(const struct seat *seat);
 bool seat_is_ready(const struct seat *seat);
+bool seat_answers(const struct seat *seat);
+bool seat_reports(const struct seat *seat);
 
-/* ---- marks.c */
+/* Frees what a seat is made of. */
+void seat_free(struct seat *seat);
 
-/* Takes the marks of pages out of its guest's set that weren't memory before, or aren't now, and makes the set as large as memory
- * that ends at this page; false where it can't. */
-bool marks_follow(struct seat *seat, uint64_t end);
+/* ---- start.c */
 
-/* Nothing is in the balloon, and there is no set. */
-void marks_end(struct seat *seat);
+/* Starts a process for the client that waits at its socket. */
+void seat_start(struct seat *seat);
+
+/* Takes over the process of an earlier lender, if there is one. */
+void seat_take_over(struct seat *seat);
+
+/* Its process has ended. */
+void seat_ended(struct seat *seat);
+
+/* ---- orders.c */
+
+/* Orders its process to look, and to ask the guest for statistics; or to remind it of its target. */
+void seat_look(struct seat *seat, bool asks);
+void seat_remind(struct seat *seat);
+
+/* Decides how many pages the host wants in its balloon, and tells it as many as a step allows. */
+void seat_set_target(struct seat *seat, uint32_t pages);
+
+/* Lets what it is asked for grow by what `milliseconds` allow, and says again what it hasn't heard. */
+void seat_step(struct seat *seat, int64_t milliseconds);
+
+/* Has its process keep its terms for a later lender. */
+void seat_keep_terms(struct seat *seat);
+
+/* Tells its process to end. */
+void seat_leave(struct seat *seat);
+
+/* Answers its process, which waits for pages: whether they may be had. */
+void seat_answer(struct seat *seat, bool admitted);
+
+/* ---- reports.c */
+
+/* Reads what its process has sent, at most so many messages, and notes what came of it; returns how many it read. */
+unsigned seat_read(struct seat *seat, unsigned most);
 
 /* ---- policy.c */
 
@@ -136,9 +222,8 @@ uint32_t policy_spare(const struct seat *seat);
 void policy_hears(struct seat *seat);
 void policy_sees_taken(struct seat *seat);
 
-/* Whether there are frames for a guest of so many pages, which gives none at first; else says by how much they are too
- * few. */
-bool policy_admits(struct host *host, struct seat *newcomer, uint32_t pages);
+/* By how many frames a guest of so many pages, which gives none at first, finds too few: 0, or so many pages. */
+uint64_t policy_lacks(struct host *host, const struct seat *newcomer, uint32_t pages);
 
 /* Sets targets where those that there are no longer serve. */
 void policy_decide(struct host *host);
@@ -154,9 +239,21 @@ void journal_add(struct host *host, const struct decision *decision);
 /* Prints the decisions since the last time, each on a line. */
 void journal_print(struct host *host);
 
-/* ---- lines.c */
+/* ---- lines.c, input.c */
 
-/* Obeys one line of the control pipe; false where it says to quit. */
+/* Obeys one line of the control pipe; false where it says to quit or to leave. */
 bool host_line(struct host *host, const char *line);
+
+/* Answers the line that waits for new reports, if they have come. */
+void question_answer(struct host *host);
+
+/* Reads what has come of standard input, and obeys whole lines, as long as all answers were read; false where one says to quit. */
+void input_read(struct input *input);
+bool input_obey(struct host *host);
+
+/* Begins the answers; writes what there is room for; whether all were read. */
+bool answers_begin(struct answers *answers);
+void answers_send(struct answers *answers);
+bool answers_were_read(const struct answers *answers);
 
 #endif

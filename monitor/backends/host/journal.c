@@ -1,32 +1,31 @@
-/* The decisions, kept for whoever asks for them. */
+/* The decisions, kept for those who ask for them. */
 #include "host.h"
 
 #include <inttypes.h>
-#include <stdio.h>
 
 void journal_add(struct host *host, const struct decision *decision)
 {
     host->log[host->counters.decisions++ % MOST_DECISIONS] = *decision;
 }
 
-static void print_reason(const struct decision *decision)
+static void print_reason(FILE *to, const struct decision *decision)
 {
     static const char *const words[] = {
         [BY_GUESTS] = "guests", [BY_BUDGET] = "budget", [BY_SPARE] = "spare", [BY_MISSING] = "missing"};
-    printf(" why %s %s", words[decision->reason], decision->reason == BY_SPARE ? decision->who : "-");
+    fprintf(to, " why %s %s", words[decision->reason], decision->reason == BY_SPARE ? decision->who : "-");
 }
 
-static void print_decision(const struct decision *decision)
+static void print_decision(FILE *to, const struct decision *decision)
 {
-    printf("ms %" PRId64 " frames %" PRIu32 " floor %" PRIu32 " short %" PRIu64, decision->at, decision->frames,
+    fprintf(to, "ms %" PRId64 " frames %" PRIu32 " floor %" PRIu32 " short %" PRIu64, decision->at, decision->frames,
            decision->floor, decision->missing);
-    print_reason(decision);
+    print_reason(to, decision);
     for (unsigned i = 0; i < decision->count; i++) {
         const struct share *share = &decision->shares[i];
-        printf(" | %s pages %" PRIu32 " spare %" PRIu32 " most %" PRIu32 " old %" PRIu32 " target %" PRIu32, share->name,
+        fprintf(to, " | %s pages %" PRIu32 " spare %" PRIu32 " most %" PRIu32 " old %" PRIu32 " target %" PRIu32, share->name,
                share->need.pages, share->need.spare, share->most, share->old, share->target);
     }
-    putchar('\n');
+    fputc('\n', to);
 }
 
 void journal_print(struct host *host)
@@ -34,7 +33,7 @@ void journal_print(struct host *host)
     uint64_t end = host->counters.decisions;
     if (end - host->printed > MOST_DECISIONS)
         host->printed = end - MOST_DECISIONS;
-    printf("log %" PRIu64 "\n", end - host->printed);
+    fprintf(host->answers.out, "log %" PRIu64 "\n", end - host->printed);
     for (; host->printed < end; host->printed++)
-        print_decision(&host->log[host->printed % MOST_DECISIONS]);
+        print_decision(host->answers.out, &host->log[host->printed % MOST_DECISIONS]);
 }

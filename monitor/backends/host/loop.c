@@ -1,12 +1,13 @@
-/* The loop of a host: all sockets at once, its control pipe, and a look each period. */
+/* The loop of a lender: all sockets where clients come, the channels of their processes, its lines, and a look each period. */
 #include "host.h"
 
 #include <poll.h>
-#include <stdio.h>
 #include <time.h>
 #include <unistd.h>
 
-enum { POLL_EVERY = 10 };
+/* Milliseconds between two decisions on what guests do; messages of a process that are read in REFILL milliseconds; milliseconds
+ * between two steps of targets. */
+enum { DECIDE_EVERY = 10, MESSAGES = 40, REFILL = 50, STEP_EVERY = 50, MESSAGES_A_TURN = 8 };
 
 int64_t host_now(void)
 {
@@ -25,8 +26,9 @@ uint64_t host_held(const struct host *host)
 {
     uint64_t held = 0;
     for (unsigned i = 0; i < host->count; i++)
-        if (host->seats[i]->pages > 0)
-            held += memory_held(&host->seats[i]->backend.memory);
+        held += host->seats[i]->report.held_kib;
+    for (unsigned i = 0; i < host->leaving_count; i++)
+        held += host->leaving[i]->report.held_kib;
     return held;
 }
 
@@ -41,27 +43,79 @@ static void look(struct host *host)
     policy_decide(host);
     for (unsigned i = 0; i < host->count; i++) {
         host->seats[i]->silent++;
-        seat_ask(host->seats[i]);
+        seat_look(host->seats[i], true);
     }
 }
 
 /* Between two looks, since a notice beside a question for statistics may wait in Linux. */
 static void remind(struct host *host)
 {
-    for (unsigned i = 0; i < host->count; i++)
-        if (host->seats[i]->silent <= SILENT_AFTER)
-            seat_remind(host->seats[i]);
+    for (unsigned i = 0; i < host->count; i++) {
+        seat_remind(host->seats[i]);
+        seat_look(host->seats[i], false);
+    }
 }
 
-static int obey(void *host, const char *line)
+/* What is waited for: lines, room for answers, the signals that end it; of each seat its clients, its channel and its process, and of
+ * each that was taken away the last two. */
+enum { LINES, ROOM, END, SEATS };
+enum { CLIENT, CHANNEL, PROCESS, OF_SEAT };
+enum { MOST_FILES_OF_ALL = SEATS + 2 * MOST_GUESTS * OF_SEAT + MOST_EXTRAS * MOST_EXTRA_FILES };
+_Static_assert((int)MOST_FILES_OF_ALL <= (int)MOST_POLLED, "files of a lender");
+
+/* A turn: what is waited for. */
+struct turn {
+    struct pollfd files[MOST_FILES_OF_ALL];
+    nfds_t count;
+    nfds_t begins[MOST_EXTRAS + 1];     /* where the files of each extra begin */
+    struct seat *seats[2 * MOST_GUESTS];
+    unsigned seat_count;
+    int64_t until;
+};
+
+static void wait_until(struct turn *turn, int64_t when)
 {
-    return host_line(host, line);
+    turn->until = when < turn->until ? when : turn->until;
 }
 
-/* What is waited for: the control pipe, the signals that end it, and of each seat its socket and the kicks of its queues. */
-enum { PIPE, END, SEATS, OF_SEAT = 1 + QUEUES, EXTRAS = SEATS + MOST_GUESTS * OF_SEAT };
-enum { MOST_FILES_OF_ALL = EXTRAS + MOST_EXTRAS * MOST_EXTRA_FILES };
-_Static_assert((int)MOST_FILES_OF_ALL <= (int)MOST_POLLED, "files of a host");
+static void wait_for_lines(struct host *host, struct turn *turn)
+{
+    bool asks = *host->question.line, were_read = answers_were_read(&host->answers);
+    turn->files[LINES] = (struct pollfd){host->input.ended || asks || !were_read ? -1 : STDIN_FILENO, POLLIN, 0};
+    turn->files[ROOM] = (struct pollfd){were_read ? -1 : file_of_output(), POLLOUT, 0};
+    turn->files[END] = (struct pollfd){host->end, POLLIN, 0};
+    turn->count = SEATS;
+    if (asks)
+        wait_until(turn, host->question.until);
+}
+
+static void wait_for_seat(struct turn *turn, struct seat *seat, int64_t now)
+{
+    struct pollfd *its = turn->files + turn->count;
+    int64_t comes_at = seat->comes_at > seat->host->rests_until ? seat->comes_at : seat->host->rests_until;
+    bool waits = !seat->here && seat->listener >= 0;
+    its[CLIENT] = (struct pollfd){waits && comes_at <= now ? seat->listener : -1, POLLIN, 0};
+    its[CHANNEL] = (struct pollfd){seat->read < MESSAGES ? seat->channel : -1, POLLIN, 0};
+    its[PROCESS] = (struct pollfd){seat->process_file, POLLIN, 0};
+    if (waits && comes_at > now)
+        wait_until(turn, comes_at);
+    if (seat->read >= MESSAGES)
+        wait_until(turn, seat->host->refills_at);
+    turn->seats[turn->seat_count++] = seat;
+    turn->count += OF_SEAT;
+}
+
+static void wait_for_extras(struct host *host, struct turn *turn)
+{
+    for (unsigned i = 0; i < host->extra_count; i++) {
+        const struct host_extra *extra = &host->extras[i];
+        if (extra->next)
+            wait_until(turn, extra->next(extra->context));
+        turn->begins[i] = turn->count;
+        turn->count += extra->files(extra->context, turn->files + turn->count, MOST_EXTRA_FILES);
+    }
+    turn->begins[host->extra_count] = turn->count;
+}
 
 bool host_add_extra(struct host *host, struct host_extra extra)
 {
@@ -71,108 +125,124 @@ bool host_add_extra(struct host *host, struct host_extra extra)
     return true;
 }
 
-/* Adds the files of all extras after `at` others, and notes where each one's begin; returns when one of them wants a turn. */
-static int64_t wait_for_extras(struct host *host, struct pollfd *files, nfds_t *at, nfds_t begins[MOST_EXTRAS + 1])
+/* Waits until something has come, at most until `next`. */
+static void wait_for(struct host *host, struct turn *turn, int64_t next)
 {
-    int64_t next = INT64_MAX;
-    for (unsigned i = 0; i < host->extra_count; i++) {
-        const struct host_extra *extra = &host->extras[i];
-        int64_t wants = extra->next ? extra->next(extra->context) : INT64_MAX;
-        begins[i] = *at;
-        *at += extra->files(extra->context, files + *at, MOST_EXTRA_FILES);
-        next = wants < next ? wants : next;
-    }
-    begins[host->extra_count] = *at;
-    return next;
+    int64_t now = host_now();
+    turn->until = next;
+    turn->seat_count = 0;
+    wait_for_lines(host, turn);
+    for (unsigned i = 0; i < host->count; i++)
+        wait_for_seat(turn, host->seats[i], now);
+    for (unsigned i = 0; i < host->leaving_count; i++)
+        wait_for_seat(turn, host->leaving[i], now);
+    wait_for_extras(host, turn);
+    if (host->news)
+        wait_until(turn, host->decides_at);
+    if (host->step > 0)
+        wait_until(turn, host->stepped_at + STEP_EVERY);
+    poll_some(turn->files, turn->count, turn->until > now ? (int)(turn->until - now) : 0);
 }
 
-static void serve_extras(struct host *host, const struct pollfd *files, const nfds_t begins[MOST_EXTRAS + 1])
+/* Serves each guest once: a client that comes, what its process has sent, and that it has ended. */
+static void serve(struct turn *turn)
+{
+    for (unsigned i = 0; i < turn->seat_count; i++) {
+        struct seat *seat = turn->seats[i];
+        const struct pollfd *its = turn->files + SEATS + i * OF_SEAT;
+        if (its[CLIENT].revents)
+            seat_start(seat);
+        else if (its[PROCESS].revents)
+            seat_ended(seat);
+        else if (its[CHANNEL].revents)
+            seat->read += seat_read(seat, MESSAGES_A_TURN);
+        if (seat->here && seat->channel < 0 && seat->process_file < 0)
+            seat_ended(seat);
+    }
+}
+
+/* Frees the seats that were taken away, once their processes have ended. */
+static void bury(struct host *host)
+{
+    unsigned kept = 0;
+    for (unsigned i = 0; i < host->leaving_count; i++)
+        if (host->leaving[i]->here)
+            host->leaving[kept++] = host->leaving[i];
+        else
+            seat_free(host->leaving[i]);
+    host->leaving_count = kept;
+}
+
+/* Lets processes that have sent too many messages be read again. */
+static void refill(struct host *host, int64_t now)
+{
+    if (now < host->refills_at)
+        return;
+    host->refills_at = now + REFILL;
+    for (unsigned i = 0; i < host->count; i++)
+        host->seats[i]->read = 0;
+    for (unsigned i = 0; i < host->leaving_count; i++)
+        host->leaving[i]->read = 0;
+}
+
+/* Lets what guests are asked for grow. */
+static void step(struct host *host, int64_t now)
+{
+    int64_t passed = now - host->stepped_at;
+    if (passed < STEP_EVERY)
+        return;
+    host->stepped_at = now;
+    for (unsigned i = 0; i < host->count; i++)
+        if (seat_is_taken(host->seats[i]))
+            seat_step(host->seats[i], passed);
+}
+
+static void serve_extras(struct host *host, const struct turn *turn)
 {
     for (unsigned i = 0; i < host->extra_count; i++)
-        host->extras[i].serve(host->extras[i].context, host, files + begins[i], (unsigned)(begins[i + 1] - begins[i]));
+        host->extras[i].serve(host->extras[i].context, host, turn->files + turn->begins[i],
+                              (unsigned)(turn->begins[i + 1] - turn->begins[i]));
 }
 
-/* The file on which a seat's client, or what it sends, comes; -1: none is looked at. */
-static int client_of(const struct seat *seat, bool rests)
+/* Obeys lines, and answers those whose answers have waited; false where one says to quit. */
+static bool serve_lines(struct host *host, const struct turn *turn)
 {
-    if (seat_is_taken(seat))
-        return seat->backend.socket;
-    return rests ? -1 : seat->listener;
+    if (turn->files[ROOM].revents)
+        answers_send(&host->answers);
+    if (turn->files[LINES].revents)
+        input_read(&host->input);
+    question_answer(host);
+    return input_obey(host);
 }
 
-/* Whether a seat has something to do without being told. */
-static bool has_work(const struct seat *seat)
+/* Decides on what guests have done; not too often, whatever they do. */
+static void decide(struct host *host, int64_t now)
 {
-    return seat_is_taken(seat) && (seat->backend.pending || rings_polled(&seat->backend));
-}
-
-/* Waits until something has come, at most so long. */
-static void wait_for(struct host *host, struct pollfd *files, nfds_t begins[MOST_EXTRAS + 1], int64_t left)
-{
-    nfds_t count = SEATS + host->count * OF_SEAT;
-    int64_t rest = host->rests_until - host_now();
-    files[PIPE] = (struct pollfd){STDIN_FILENO, POLLIN, 0};
-    files[END] = (struct pollfd){host->end, POLLIN, 0};
-    left = rest > 0 && rest < left ? rest : left;
-    for (unsigned i = 0; i < host->count; i++) {
-        struct seat *seat = host->seats[i];
-        struct pollfd *its = files + SEATS + i * OF_SEAT;
-        its[0] = (struct pollfd){client_of(seat, rest > 0), POLLIN, 0};
-        rings_wait(&seat->backend, its + 1);
-        if (seat->backend.pending)
-            left = 0;
-        else if (has_work(seat) && left > POLL_EVERY)
-            left = POLL_EVERY;
-    }
-    int64_t next = wait_for_extras(host, files, &count, begins) - host_now();
-    left = next < left ? next : left;
-    poll_some(files, count, left < 0 ? 0 : (int)left);
-}
-
-/* Whether a kick has come. */
-static bool is_kicked(const struct pollfd kicks[QUEUES])
-{
-    for (unsigned number = 0; number < QUEUES; number++)
-        if (kicks[number].revents)
-            return true;
-    return false;
-}
-
-/* Serves each guest once: what it sent, what it kicked, and what is left on its queues. */
-static void serve(struct host *host, const struct pollfd *files)
-{
-    for (unsigned i = 0; i < host->count; i++) {
-        struct seat *seat = host->seats[i];
-        const struct pollfd *its = files + SEATS + i * OF_SEAT;
-        if (its[0].revents && !seat_is_taken(seat))
-            seat_accept(seat);
-        else if (its[0].revents)
-            seat_serve(seat);
-        if (seat_is_taken(seat) && is_kicked(its + 1))
-            seat_serve_kicks(seat, its + 1);
-        if (has_work(seat))
-            seat_serve_pending(seat);
-    }
+    if (!host->news || (now < host->decides_at && !(host->anew && host->reason == BY_BUDGET)))
+        return;
+    policy_decide(host);
+    host->decides_at = now + DECIDE_EVERY;
 }
 
 int host_run(struct host *host)
 {
-    struct pollfd files[MOST_FILES_OF_ALL];
-    nfds_t begins[MOST_EXTRAS + 1];
-    struct control_line line = {.length = 0};
+    static struct turn turn;
     int64_t next = host_now() + host->period;
     for (bool asks = true;;) {
-        wait_for(host, files, begins, next - host_now());
-        serve(host, files);
-        serve_extras(host, files, begins);
-        if (files[END].revents || (files[PIPE].revents && control_read(&line, obey, host) <= 0))
+        refill(host, host_now());
+        wait_for(host, &turn, next);
+        serve(&turn);
+        bury(host);
+        serve_extras(host, &turn);
+        if (turn.files[END].revents || !serve_lines(host, &turn))
             return 0;
-        if (host->news)
-            policy_decide(host);
-        if (host_now() < next)
+        int64_t now = host_now();
+        step(host, now);
+        decide(host, now);
+        if (now < next)
             continue;
         asks ? look(host) : remind(host);
         asks = !asks;
-        next = host_now() + host->period / 2;
+        next = now + host->period / 2;
     }
 }

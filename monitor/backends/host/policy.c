@@ -2,20 +2,23 @@
  * which ones do. */
 #include "host.h"
 
-#include <stdio.h>
-
 enum {
-    FREE_MEMORY = 4,            /* the tag (VIRTIO 1.1, 5.5.6.3) */
+    FREE_MEMORY = 4,            /* the tags (VIRTIO 1.1, 5.5.6.3) */
+    AVAILABLE_MEMORY = 6,
     SLACK_PART = 8,             /* old targets serve while each guest has its floor but for this part of it */
+    PAUSE = 2000,               /* milliseconds in which a guest that took pages itself is asked for no more */
+    MOST_NEEDS = 2 * MOST_GUESTS,
 };
 
-/* The guests that have memory, in the order of their seats. */
+/* The guests that have memory, in the order of their seats, and those that are leaving after them. What a guest's `most` wants of it,
+ * whatever there is, is `forced`: what is decided is about the rest of it. */
 struct guests {
     unsigned count;
-    struct seat *seats[MOST_GUESTS];
-    VbNeed needs[MOST_GUESTS];
-    VbNeed most[MOST_GUESTS];       /* the same where a guest may have a little less than its floor */
-    uint32_t old[MOST_GUESTS], targets[MOST_GUESTS];
+    struct seat *seats[MOST_NEEDS];
+    VbLoan loans[MOST_NEEDS];
+    VbTerms terms[MOST_NEEDS];
+    VbNeed most[MOST_NEEDS];        /* what each can spare where it may have a little less than its floor */
+    uint32_t forced[MOST_NEEDS], old[MOST_NEEDS], targets[MOST_NEEDS];
 };
 
 static uint32_t least(uint64_t one, uint64_t other)
@@ -23,17 +26,26 @@ static uint32_t least(uint64_t one, uint64_t other)
     return (uint32_t)(one < other ? one : other);
 }
 
+/* Whether its statistics say what it can spare. */
+static bool is_heard(const struct seat *seat)
+{
+    return seat_reports(seat) && seat_answers(seat);
+}
+
 /* What a guest can spare so that this much stays free. One that doesn't answer spares nothing beyond what is ballooned. Of
- * another, the ballooned pages count as free ones that it doesn't use: so one that has less than its floor is asked for
+ * another, the ballooned pages count as available ones that it doesn't use: so one that has less than its floor is asked for
  * less than it has given. */
 static uint32_t spare_above(const struct seat *seat, uint32_t floor)
 {
+    uint32_t ballooned = least(seat->report.ballooned, seat->pages);
     if (!seat_is_ready(seat))
         return 0;
-    if (!seat->known || seat->silent > SILENT_AFTER)
-        return vb_spare(seat->pages, least(seat->ballooned, seat->pages), 0, 0, floor, 0);
-    uint32_t unused = least((uint64_t)seat->ballooned_then + seat->free, seat->pages);
-    return vb_spare(seat->pages, 0, unused, 1, floor, 0);
+    if (!is_heard(seat))
+        return vb_spare(seat->pages, ballooned, 0, 0, floor, 0);
+    uint32_t available = seat->tells_available ? seat->available : seat->free;
+    uint32_t unused = least((uint64_t)seat->ballooned_then + available, seat->pages);
+    uint32_t spare = vb_spare(seat->pages, 0, unused, 1, floor, 0);
+    return host_now() < seat->paused_until ? least(spare, ballooned) : spare;
 }
 
 uint32_t policy_spare(const struct seat *seat)
@@ -43,15 +55,17 @@ uint32_t policy_spare(const struct seat *seat)
 
 void policy_hears(struct seat *seat)
 {
-    const struct backend *backend = &seat->backend;
-    seat->known = false;
-    for (uint32_t i = 0; i < backend->figure_count; i++) {
-        if (backend->figures[i].tag != FREE_MEMORY)
-            continue;
-        seat->free = least(backend->figures[i].value / BALLOON_PAGE, seat->pages);
-        seat->known = true;
+    const struct lending_message *report = &seat->report;
+    seat->known = seat->tells_available = false;
+    for (uint32_t i = 0; i < report->figure_count; i++) {
+        uint32_t pages = least(report->figures[i].value / BALLOON_PAGE, seat->pages);
+        if (report->figures[i].tag == FREE_MEMORY)
+            seat->free = pages, seat->known = true;
+        if (report->figures[i].tag == AVAILABLE_MEMORY)
+            seat->available = pages, seat->tells_available = true;
     }
-    seat->ballooned_then = seat->ballooned;
+    seat->known |= seat->tells_available;
+    seat->ballooned_then = report->ballooned_then;
     seat->host->news = true;
 }
 
@@ -59,17 +73,39 @@ void policy_hears(struct seat *seat)
 void policy_sees_taken(struct seat *seat)
 {
     seat->known = true;
-    seat->free = 0;
-    seat->ballooned_then = seat->ballooned;
+    seat->free = seat->available = 0;
+    seat->ballooned_then = seat->report.ballooned_then;
+    seat->paused_until = host_now() + PAUSE;
     seat->host->news = true;
 }
 
-static void add(struct guests *guests, struct seat *seat, VbNeed need, VbNeed most)
+/* The pages for which a guest counts: all that it has; of one whose driver is ready and that doesn't answer, what it holds, and what is
+ * in its balloon. */
+static uint32_t charged(const struct seat *seat)
 {
-    guests->seats[guests->count] = seat;
-    guests->old[guests->count] = seat->backend.balloon.state.device.target;
-    guests->needs[guests->count] = need;
-    guests->most[guests->count++] = most;
+    uint64_t held = seat->report.held_kib / 4;
+    if (!seat_is_taken(seat))
+        return least(held, UINT32_MAX);
+    if (!seat_is_ready(seat) || is_heard(seat))
+        return seat->pages;
+    return least(held + least(seat->report.ballooned, seat->pages), seat->pages);
+}
+
+/* A guest counts by these pages, and can spare so many of them; fewer of what it has than its least stay with the host. */
+static void add(struct guests *guests, struct seat *seat, uint32_t pages, uint32_t spare, uint32_t low)
+{
+    unsigned number = guests->count++;
+    const struct guest_terms *terms = &seat->terms;
+    uint32_t kept = terms->least < pages ? pages - terms->least : 0;
+    uint32_t forced = terms->most < pages ? least(least(pages - terms->most, spare), kept) : 0;
+    uint32_t ballooned = least(seat->report.ballooned, pages);
+    guests->seats[number] = seat;
+    guests->forced[number] = forced;
+    guests->loans[number] = (VbLoan){.pages = pages - forced, .ballooned = least(ballooned, pages - forced),
+                                     .lent = pages - forced - least(ballooned, pages - forced), .spare = spare - forced};
+    guests->terms[number] = (VbTerms){terms->least, terms->priority};
+    guests->most[number] = (VbNeed){pages - forced, least(low, kept) - least(forced, least(low, kept))};
+    guests->old[number] = seat->target;
 }
 
 static void collect(const struct host *host, const struct seat *except, struct guests *guests)
@@ -78,48 +114,58 @@ static void collect(const struct host *host, const struct seat *except, struct g
     guests->count = 0;
     for (unsigned i = 0; i < host->count; i++) {
         struct seat *seat = host->seats[i];
-        if (seat == except || seat->pages == 0)
-            continue;
-        add(guests, seat, (VbNeed){seat->pages, policy_spare(seat)}, (VbNeed){seat->pages, spare_above(seat, low)});
+        uint32_t pages = charged(seat);
+        if (seat != except && pages > 0)
+            add(guests, seat, pages, least(policy_spare(seat), pages), least(spare_above(seat, low), pages));
     }
+    for (unsigned i = 0; i < host->leaving_count; i++)
+        if (charged(host->leaving[i]) > 0)
+            add(guests, host->leaving[i], charged(host->leaving[i]), 0, 0);
 }
 
-bool policy_admits(struct host *host, struct seat *newcomer, uint32_t pages)
+/* Targets for what isn't forced of these guests; by how much they are short: then each is asked for all that it can spare. */
+static uint64_t share_out(struct guests *guests, uint32_t frames)
 {
-    struct guests guests;
+    static VbShare shares[MOST_NEEDS];
+    static VbNeed needs[MOST_NEEDS];
+    unsigned count = guests->count;
+    VbTargets answer = vb_loan_class_targets(frames, guests->loans, count, guests->terms, count, shares, count, needs, count,
+                                             guests->targets, count);
+    for (unsigned i = 0; i < count; i++)
+        guests->targets[i] += guests->forced[i];
+    return answer.code == VB_SHORT ? answer.missing : 0;
+}
+
+uint64_t policy_lacks(struct host *host, const struct seat *newcomer, uint32_t pages)
+{
+    static struct guests guests;
     collect(host, newcomer, &guests);
-    add(&guests, newcomer, (VbNeed){pages, 0}, (VbNeed){pages, 0});
-    VbTargets answer = vb_targets(guests.needs, guests.count, host->frames, guests.targets, guests.count);
-    if (answer.code == VB_OK)
-        return true;
-    return refuse("no room for %u pages: %llu are missing", pages, (unsigned long long)answer.missing);
+    add(&guests, (struct seat *)newcomer, pages, 0, 0);
+    return share_out(&guests, host->frames);
 }
 
-/* Targets for these guests; returns by how much they fall short. Then each is asked for all that it can spare, as it
- * would be where there were so many frames more. */
-static uint64_t share(struct guests *guests, uint32_t frames)
+/* Whether what the guests are asked for now is enough, and each can spare it. */
+static bool old_serve(const struct guests *guests, uint32_t frames)
 {
-    VbTargets answer = vb_targets(guests->needs, guests->count, frames, guests->targets, guests->count);
-    if (answer.code == VB_OK)
-        return 0;
-    uint64_t enough = frames + answer.missing;
-    if (enough > UINT32_MAX
-        || vb_targets(guests->needs, guests->count, (uint32_t)enough, guests->targets, guests->count).code != VB_OK)
-        memcpy(guests->targets, guests->old, sizeof guests->old);
-    return answer.missing;
+    static uint32_t old[MOST_NEEDS];
+    for (unsigned i = 0; i < guests->count; i++) {
+        if (guests->old[i] < guests->forced[i])
+            return false;
+        old[i] = guests->old[i] - guests->forced[i];
+    }
+    return !vb_needs_targets(old, guests->count, guests->most, guests->count, frames);
 }
 
-/* Why the targets don't serve, for whoever reads the log. */
+/* Why the old targets don't serve, where nothing but what guests can spare has changed. */
 static void explain(const struct host *host, const struct guests *guests, struct decision *decision)
 {
     decision->reason = host->anew ? host->reason : BY_MISSING;
-    for (unsigned i = 0; i < guests->count && !host->anew; i++) {
-        if (guests->old[i] <= guests->most[i].spare)
-            continue;
-        decision->reason = BY_SPARE;
-        strcpy(decision->who, guests->seats[i]->name);
-        return;
-    }
+    for (unsigned i = 0; i < guests->count && !host->anew; i++)
+        if (guests->old[i] > guests->most[i].spare + guests->forced[i]) {
+            decision->reason = BY_SPARE;
+            strcpy(decision->who, guests->seats[i]->name);
+            return;
+        }
 }
 
 static void note(struct host *host, const struct guests *guests, uint64_t missing)
@@ -130,9 +176,10 @@ static void note(struct host *host, const struct guests *guests, uint64_t missin
     explain(host, guests, &decision);
     for (unsigned i = 0; i < guests->count; i++) {
         struct share *share = &decision.shares[i];
+        uint32_t forced = guests->forced[i];
         strcpy(share->name, guests->seats[i]->name);
-        share->need = guests->needs[i];
-        share->most = guests->most[i].spare;
+        share->need = (VbNeed){guests->loans[i].pages + forced, guests->loans[i].spare + forced};
+        share->most = guests->most[i].spare + forced;
         share->old = guests->old[i];
         share->target = guests->targets[i];
     }
@@ -154,14 +201,14 @@ static unsigned tell(const struct guests *guests)
 
 void policy_decide(struct host *host)
 {
-    struct guests guests;
+    static struct guests guests;
     host->news = false;
     collect(host, NULL, &guests);
-    if (!host->anew && !vb_needs_targets(guests.old, guests.count, guests.most, guests.count, host->frames)) {
+    if (!host->anew && old_serve(&guests, host->frames)) {
         host->missing = 0;
         return;
     }
-    uint64_t missing = share(&guests, host->frames);
+    uint64_t missing = share_out(&guests, host->frames);
     if (host->anew || missing != host->missing || memcmp(guests.old, guests.targets, guests.count * sizeof guests.old[0]))
         note(host, &guests, missing);
     host->counters.shorts += missing > 0;

@@ -2,12 +2,9 @@
 #include "host.h"
 #include "view.h"
 
-static const struct guest_terms usual = {.most = UINT32_MAX};
-
 struct guest_terms host_usual_terms(const struct host *host)
 {
-    (void)host;
-    return usual;
+    return (struct guest_terms){.most = UINT32_MAX, .strict = host->strict};
 }
 
 const char *guest_state_word(enum guest_state state)
@@ -26,20 +23,44 @@ const char *guest_wait_word(enum guest_wait wait)
 
 static enum guest_state state_of(const struct seat *seat)
 {
-    if (!seat_is_taken(seat))
+    if (!seat->here)
         return GUEST_ABSENT;
+    if (seat->gone)
+        return GUEST_LEAVING;
+    if (seat->waits_for == WAITS_FOR_ROOM)
+        return GUEST_WAITING;
     if (seat->pages == 0)
         return GUEST_COMING;
     return seat_is_ready(seat) ? GUEST_READY : GUEST_STARTING;
 }
 
+static uint32_t excess_of(const struct seat *seat, uint32_t loan)
+{
+    uint64_t held = seat->report.held_kib / 4;
+    return held > loan ? (uint32_t)(held - loan) : 0;
+}
+
+/* Frames that are lent to a guest. */
+static uint32_t loan_of(const struct seat *seat)
+{
+    return seat->pages - (seat->report.ballooned < seat->pages ? seat->report.ballooned : seat->pages);
+}
+
 void host_see(const struct host *host, struct host_view *view)
 {
     const struct host_counters *its = &host->counters;
-    *view = (struct host_view){.folder = host->options.client, .guests = host->count, .budget = host->frames, .floor = host->floor,
-                               .held_kib = host_held(host), .short_by = host->missing, .period = host->period, .looks = its->looks,
-                               .above = its->above, .peak_kib = its->peak, .decisions = its->decisions, .changed = its->changed,
-                               .shorts = its->shorts, .admitted = its->admitted, .refused = its->refused, .gone = its->gone};
+    *view = (struct host_view){
+        .folder = host->folder, .guests = host->count, .budget = host->frames, .floor = host->floor, .step = host->step,
+        .held_kib = host_held(host), .short_by = host->missing, .strict = host->strict, .period = host->period, .looks = its->looks,
+        .above = its->above, .peak_kib = its->peak, .decisions = its->decisions, .changed = its->changed, .shorts = its->shorts,
+        .admitted = its->admitted, .refused = its->refused, .gone = its->gone, .dropped = lines_dropped};
+    for (unsigned i = 0; i < host->count; i++) {
+        const struct seat *seat = host->seats[i];
+        view->lent += loan_of(seat);
+        view->waiting += seat->waits_for != WAITS_FOR_NOTHING;
+        view->silent += seat_is_ready(seat) && !seat_answers(seat);
+        view->uncooperative += seat->report.counters.taken > 0;
+    }
 }
 
 static void see_counters(const struct counters *its, struct guest_view *view)
@@ -56,18 +77,31 @@ static void see_counters(const struct counters *its, struct guest_view *view)
     view->kicks = its->kicks;
 }
 
+/* Seconds since then; 0 where there is no then. */
+static double seconds_since(int64_t then)
+{
+    return then == 0 ? 0 : (double)(host_now() - then) / 1000;
+}
+
 void host_see_guest(const struct host *host, unsigned number, struct guest_view *view)
 {
     const struct seat *seat = host->seats[number];
-    const VbDevice *device = &seat->backend.balloon.state.device;
-    *view = (struct guest_view){.name = seat->name, .path = seat->path, .state = state_of(seat), .terms = usual, .pages = seat->pages,
-                                .held_kib = seat_is_taken(seat) ? memory_held(&seat->backend.memory) : 0, .target = device->target,
-                                .ballooned = seat->ballooned, .actual = device->actual, .free = seat->free,
-                                .spare = policy_spare(seat), .answers = seat->known && seat->silent <= SILENT_AFTER, .reports = true,
-                                .cooperates = true};
-    view->loan = seat->pages - (seat->ballooned < seat->pages ? seat->ballooned : seat->pages);
-    view->excess = view->held_kib / 4 > view->loan ? (uint32_t)(view->held_kib / 4) - view->loan : 0;
-    see_counters(&seat->backend.counters, view);
+    const struct lending_message *report = &seat->report;
+    uint32_t loan = loan_of(seat);
+    *view = (struct guest_view){
+        .name = seat->name, .path = seat->path, .process = seat->process, .state = state_of(seat), .terms = seat->terms,
+        .pages = seat->pages, .held_kib = report->held_kib, .loan = loan, .excess = excess_of(seat, loan), .target = seat->target,
+        .ballooned = report->ballooned, .actual = report->actual, .free = seat->free, .available = seat->available,
+        .spare = policy_spare(seat), .answers = seat_answers(seat), .reports = seat_reports(seat),
+        .cooperates = report->counters.taken == 0, .waits_for = seat->waits_for, .clients = seat->clients,
+        .lost = seat->lost + report->lost};
+    if (seat->waits_for != WAITS_FOR_NOTHING)
+        view->waits = seconds_since(seat->waits_since);
+    if (seat_is_taken(seat)) {
+        view->silent = seconds_since(seat->heard_at);
+        view->process_silent = seconds_since(seat->asked_at);
+    }
+    see_counters(&report->counters, view);
 }
 
 int host_find(const struct host *host, const char *name)
@@ -96,23 +130,26 @@ static const char nobody[] = "no guest has that name";
 
 const char *host_add(struct host *host, const char *name, const struct guest_terms *terms)
 {
-    (void)terms;
-    return seat_add(host, name);
+    return seat_add(host, name, terms);
 }
 
 const char *host_remove(struct host *host, const char *name)
 {
     struct seat *seat = seat_of(host, name);
-    if (!seat)
-        return nobody;
-    seat_remove(host, seat);
-    return NULL;
+    return seat ? seat_remove(host, seat) : nobody;
 }
 
 const char *host_set_terms(struct host *host, const char *name, const struct guest_terms *terms)
 {
-    (void)terms;
-    return seat_of(host, name) ? "terms aren't kept yet" : nobody;
+    struct seat *seat = seat_of(host, name);
+    if (!seat)
+        return nobody;
+    if (terms->least > terms->most)
+        return "a guest's least is above its most";
+    seat->terms = *terms;
+    seat_keep_terms(seat);
+    host_changed(host, BY_BUDGET);
+    return NULL;
 }
 
 const char *host_set_target(struct host *host, const char *name, uint32_t pages)

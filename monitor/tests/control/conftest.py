@@ -13,9 +13,7 @@ def program(tmp_path_factory):
     """The host's program, beside that of its guests: one that the environment names, or one that is built with the compiler's checks."""
     if "HOST_PROGRAM" in os.environ:
         return os.environ["HOST_PROGRAM"]
-    folder = str(tmp_path_factory.mktemp("programs"))
-    _, host = (linux_kit.build(folder, linux_kit.core_of(), it, flags=CHECKS) for it in ("vhost_user_balloon", "vhost_user_host"))
-    return host
+    return linux_kit.build(str(tmp_path_factory.mktemp("programs")), linux_kit.core_of(), "vhost_user_host", flags=CHECKS)
 
 
 @pytest.fixture

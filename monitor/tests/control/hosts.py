@@ -53,7 +53,7 @@ class Host:
         self.folder, self.control = str(folder), f"{folder}/.control"
         self.log = open(f"{folder}/log", "ab+")
         self.process = subprocess.Popen(
-            [program, *options], stdin=subprocess.PIPE, stdout=subprocess.PIPE, stderr=self.log, pass_fds=files,
+            [program, *options, "--step", "0"], stdin=subprocess.PIPE, stdout=subprocess.PIPE, stderr=self.log, pass_fds=files,
             env={**os.environ, **(environment or {})},
         )
         self.lines = Lines(self.process.stdout, "the host")

@@ -340,5 +340,5 @@ def test_command_lines_that_are_none(program, folder, words):
 def test_a_folder_without_room_for_a_socket(program, folder):
     it = Host(program, folder, f"{folder}/none", "--budget", "480")
     assert it.process.wait(10) == 2
-    assert it.said()[-1] == f"{folder}/none/.control: No such file or directory"
+    assert it.said()[-1] == f"{folder}/none: No such file or directory"
     it.end()

@@ -183,6 +183,11 @@ class Guest:
             raise Fault(f"the guest ends {line!r} with status {status}: {' / '.join(said[-3:])}")
         return said
 
+    def available_mib(self):
+        """Returns the MiB that it calls available: free, or in use for what it can let go."""
+        words = dict(it.split(":") for it in self.do("memory"))
+        return int(words["MemAvailable"].split()[0]) / 1024
+
     def memory_mib(self):
         """Returns the MiB that it has in all, and those that are free."""
         words = dict(it.split(":") for it in self.do("memory"))

@@ -40,6 +40,14 @@ class Host(Backend):
         self.folder, self.budget = folder, budget
         super().__init__(program, folder, [folder, "--budget", str(budget), *options], environment=environment)
 
+    def close(self):
+        """Ends it, and all guests' service; returns its status, or None where it had to be killed."""
+        try:
+            self.process.stdin.write(b"quit\n")
+        except OSError:
+            pass
+        return super().close()
+
     def demand(self, line):
         """Has it obey a line."""
         answer = self.ask(line)
@@ -59,8 +67,20 @@ class Host(Backend):
             except (OSError, Fault) as fault:
                 raise Fault(f"the host doesn't answer {line!r}: {self.why() or fault}") from None
 
+    def why(self):
+        """Returns the last thing that it said on standard error."""
+        self.hear()
+        return super().why()
+
+    def hear(self):
+        """Has it say what guests' processes have told it so far: it answers a line after that."""
+        if self.process.poll() is None and self.lock.acquire(blocking=False):
+            self.lock.release()
+            self.ask("floor")
+
     def why_of(self, name):
         """Returns the last thing that it said of a guest that it refused."""
+        self.hear()
         with open(self.log, encoding="latin-1") as log:
             said = [it.strip() for it in log if it.startswith(f"refused {name}:")]
         return said[-1] if said else "nothing"
@@ -280,5 +300,6 @@ class Town:
 
 
 def build(folder, core, wrong=False, flags=()):
-    """Compiles a host over this core; with hosts in it that are wrong on purpose, where they are asked for."""
+    """Compiles a host over this core, and the program of its guests' processes; with hosts in it that are wrong on purpose, where they
+    are asked for."""
     return linux_kit.build(folder, core, "vhost_user_host", wrong=wrong, flags=flags)

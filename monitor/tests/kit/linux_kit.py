@@ -19,29 +19,33 @@ REFERENCE = os.path.join(MONITOR, "reference/reference.c")
 HEADERS = os.path.join(ROOT, "crates/vb_c")
 LIBRARY = os.path.join(ROOT, "crates", "vb_c", "out", "libvb_c.a")
 
-# The backends' files, from monitor/backends: of all, of each, and what a build for tests has besides.
-PARTS = tuple(
-    f"guest/{it}"
-    for it in (
-        "backend", "control", "counters", "events", "guard", "guest_memory", "kicks", "levels", "process", "rings", "say", "statistics", "stream",
-    )
+# The backends' files, from monitor/backends: of all, of one guest's, of each, and what a build for tests has besides.
+COMMON_PARTS = tuple(f"guest/{it}" for it in ("levels", "numbers", "process", "say", "tags"))
+PARTS = (
+    *(f"guest/{it}" for it in ("backend", "control", "counters", "events", "guard", "guest_memory", "kicks", "rings", "statistics", "stream")),
+    *COMMON_PARTS,
 )
 VHOST_PARTS = tuple(
     f"guest/{it}" for it in ("features", "inbox", "messages", "ring_messages", "slots", "vhost_user")
 )
+HOST_PARTS = ("folder", "input", "journal", "lines", "loop", "message", "orders", "policy", "reports", "seats", "start", "view")
+LENT_PARTS = ("guest/lent", "guest/lent_channel", "guest/marks", "guest/sandbox", "host/message")
 CLIENT_PARTS = {
-    "vhost_user_balloon": ("guest/conventions", "guest/loop", "guest/state", *VHOST_PARTS),
-    "pci_proxy_balloon": ("guest/loop", "guest/state", "guest/virtio_pci"),
+    "vhost_user_balloon": (*PARTS, "guest/conventions", "guest/loop", "guest/state", *LENT_PARTS, *VHOST_PARTS),
+    "pci_proxy_balloon": (*PARTS, "guest/loop", "guest/state", "guest/virtio_pci"),
     "vhost_user_host": (
-        *VHOST_PARTS,
-        *(f"host/{it}" for it in ("journal", "lines", "loop", "marks", "policy", "seats", "view")),
+        *COMMON_PARTS,
+        *(f"host/{it}" for it in HOST_PARTS),
         *(f"control/{it}" for it in ("answers", "client", "decisions", "events", "fields", "requests", "server", "socket")),
         *(f"service/{it}" for it in ("config", "config_words", "notify", "service")),
     ),
 }
 
 # The libraries of Debian's that a program is linked to: their names for pkg-config, and the packages to install.
-LINKED = {"vhost_user_host": {"jansson": "libjansson-dev", "inih": "libinih-dev", "libsystemd": "libsystemd-dev"}}
+LINKED = {
+    "vhost_user_host": {"jansson": "libjansson-dev", "inih": "libinih-dev", "libsystemd": "libsystemd-dev"},
+    "vhost_user_balloon": {"libseccomp": "libseccomp-dev"},
+}
 AUDIT_PARTS = ("guest/audit", "../tests/mutants/wrong_device")
 FLAGS = ("-std=c11", "-O2", "-Wall", "-Wextra", "-Werror")
 
@@ -51,6 +55,7 @@ AUDIT_WRAPPED = ("vb_begin", "vb_ask", "vb_go_on", "poll")
 WRONG_PARTS = {
     "vhost_user_balloon": ("../tests/mutants/wrong_backend",),
     "vhost_user_host": ("../tests/mutants/wrong_host", "../tests/mutants/wrong_control"),
+    "lent": ("../tests/mutants/wrong_lent",),
 }
 WRONG_WRAPPED = {
     "vhost_user_balloon": (
@@ -59,11 +64,11 @@ WRONG_WRAPPED = {
         "event_take_kick", "backend_start", "stream_fill", "file_number", "fsync",
     ),
     "vhost_user_host": (
-        "vb_targets", "vb_spare", "vb_needs_targets", "counters_taken", "seat_set_target", "policy_decide", "host_changed",
-        "marks_follow",
+        "vb_loan_class_targets", "vb_spare", "vb_needs_targets", "host_changed",
         "fields_refusal", "request_answer", "client_line_is_too_long", "client_is_served", "decisions_kept_from", "events_look", "socket_listen",
         "word_read", "config_read", "config_stays", "process_took_reload", "notify_ready", "notify_lives", "notify_keep",
     ),
+    "lent": ("counters_taken", "marks_follow"),
 }
 
 # The last QEMU whose PCI proxy works.
@@ -103,11 +108,15 @@ def linked(name):
 
 def build(folder, core, name="vhost_user_balloon", audited=False, wrong=False, flags=()):
     """Compiles a backend over this core into a folder, with more flags, and returns its path: one for tests that looks at the
-    device, or one that is wrong on purpose."""
+    device, or one that is wrong on purpose, in its own way or in another program's (`wrong` is that one's name). A host's comes with
+    the program of its guests' processes."""
     program = os.path.join(folder, name)
-    names = (name, *CLIENT_PARTS[name], *PARTS, *(AUDIT_PARTS if audited else ()), *(WRONG_PARTS[name] if wrong else ()))
+    if name == "vhost_user_host":
+        build(folder, core, wrong="lent" if wrong else False, flags=flags)
+    which = name if wrong is True else wrong
+    names = (name, *CLIENT_PARTS[name], *(AUDIT_PARTS if audited else ()), *(WRONG_PARTS[which] if wrong else ()))
     parts = [os.path.join(MONITOR, "backends", f"{it}.c") for it in names]
-    wrapped = (*(AUDIT_WRAPPED if audited else ()), *(WRONG_WRAPPED[name] if wrong else ()))
+    wrapped = (*(AUDIT_WRAPPED if audited else ()), *(WRONG_WRAPPED[which] if wrong else ()))
     words = [need("cc", "gcc libc6-dev"), *FLAGS, *flags, "-I", SHIM, "-I", HEADERS, "-o", program, *parts, core, *linked(name)]
     words += [*(["-DBALLOON_AUDIT"] if audited else []), *(f"-Wl,--wrap={it}" for it in wrapped)]
     ran = subprocess.run(words, capture_output=True, text=True)

@@ -1,0 +1,204 @@
+/* What a guest's process says to the lender, and how it obeys. */
+#include "lent.h"
+
+#include <poll.h>
+#include <sys/socket.h>
+#include <time.h>
+#include <unistd.h>
+
+/* Milliseconds between two reports that nobody asked for; orders that are obeyed in one turn. */
+enum { NEWS_EVERY = 10, ORDERS = 16 };
+
+int64_t lent_now(void)
+{
+    struct timespec time;
+    clock_gettime(CLOCK_MONOTONIC, &time);
+    return time.tv_sec * INT64_C(1000) + time.tv_nsec / 1000000;
+}
+
+/* Whose words go to the lender. */
+static struct lent *speaks;
+
+static void send_to_lender(struct lent *lent, struct lending_message *message)
+{
+    if (!lending_send(lent->channel, message))
+        lent->lost++;
+}
+
+static void say_to_lender(enum saying saying, const char *words)
+{
+    static const uint32_t kinds[] = {[SAY_REFUSED] = TELL_REFUSED, [SAY_REMARK] = TELL_REMARK, [SAY_GONE] = TELL_GONE};
+    struct lending_message message = {.kind = kinds[saying]};
+    strncpy(message.words, words, MOST_WORDS - 1);
+    send_to_lender(speaks, &message);
+}
+
+void lent_speaks(struct lent *lent)
+{
+    speaks = lent;
+    say_through = say_to_lender;
+}
+
+void lent_report(struct lent *lent, uint64_t number, bool asked)
+{
+    const struct backend *backend = &lent->backend;
+    const VbDevice *device = &backend->balloon.state.device;
+    struct lending_message message = {
+        .kind = TELL_REPORT, .number = number, .serial = ++lent->serial, .held_kib = memory_held(&backend->memory),
+        .end = device->settings.memory_end / BALLOON_PAGE, .lost = lent->lost, .pages = lent->pages, .wanted = lent->wanted, .wait = lent->wait,
+        .waits = lent->waits, .target = device->target, .actual = device->actual, .ballooned = backend->ballooned,
+        .status = device->status, .ready = backend_is_ready(backend), .asked = asked, .ballooned_then = lent->ballooned_then,
+        .taken_since = lent->taken_since, .has_terms = lent->has_terms, .terms = lent->terms, .counters = backend->counters,
+        .figure_count = backend->figure_count};
+    memcpy(message.figures, backend->figures, sizeof message.figures);
+    send_to_lender(lent, &message);
+    lent->news = false;
+    lent->report_at = lent_now() + NEWS_EVERY;
+}
+
+void lent_note(struct lent *lent)
+{
+    struct backend *backend = &lent->backend;
+    const struct counters *counters = &backend->counters;
+    bool ready = backend_is_ready(backend);
+    bool heard = counters->statistics != lent->heard, taken = counters->taken != lent->taken;
+    if (heard || taken)
+        lent->ballooned_then = backend->ballooned;
+    if (heard)
+        lent->taken_since = false;
+    if (taken)
+        lent->taken_since = true;
+    lent->news |= heard || taken || ready != lent->ready_then;
+    lent->heard = counters->statistics;
+    lent->taken = counters->taken;
+    lent->ready_then = ready;
+    if (lent->news && lent_now() >= lent->report_at)
+        lent_report(lent, 0, false);
+}
+
+/* Asks the guest for its statistics: 1; 0 where it can't be asked, or hasn't answered the last question; -1 where it can't be served. */
+static int ask(struct lent *lent)
+{
+    struct backend *backend = &lent->backend;
+    if (!backend_is_ready(backend) || !backend->balloon.state.held)
+        return 0;
+    struct balloon_result result = balloon_ask_statistics(&backend->balloon);
+    return backend_finish(backend, VB_STATISTICS, &result) ? 1 : -1;
+}
+
+static void set_target(struct lent *lent, uint32_t pages)
+{
+    struct backend *backend = &lent->backend;
+    balloon_set_target(&backend->balloon, pages);
+    lent->ballooned_told = backend->ballooned;
+    backend_tell_change(backend);
+}
+
+/* Linux may have missed its target where the balloon stays off it. */
+static void remind(struct lent *lent)
+{
+    struct backend *backend = &lent->backend;
+    bool off = backend->ballooned != backend->balloon.state.device.target;
+    if (off && backend->ballooned == lent->ballooned_told)
+        backend_tell_change(backend);
+    lent->ballooned_told = backend->ballooned;
+}
+
+/* What the lender says of pages that are waited for: it tells itself why they aren't to be had. */
+static void take_answer(struct lent *lent, const struct lending_message *order)
+{
+    if (lent->waits != WAIT_NOTHING && order->wait == lent->wait)
+        lent->answered = order->kind == ORDER_REFUSE ? -1 : 1;
+}
+
+/* Obeys one order; false where the client can't be served any longer. */
+static bool obey(struct lent *lent, const struct lending_message *order)
+{
+    int asked = 0;
+    switch (order->kind) {
+    case ORDER_LOOK:
+        asked = order->asks ? ask(lent) : 0;
+        lent_report(lent, order->number, asked > 0);
+        return asked >= 0;
+    case ORDER_REMIND:
+        remind(lent);
+        return true;
+    case ORDER_TARGET:
+        set_target(lent, order->target);
+        return true;
+    case ORDER_ADMIT:
+    case ORDER_REFUSE:
+    case ORDER_GRANT:
+        take_answer(lent, order);
+        return true;
+    case ORDER_KEEP:
+        lent->terms = order->terms;
+        lent->has_terms = true;
+        return true;
+    case ORDER_LEAVE:
+        lent->leaves = true;
+        return true;
+    default:
+        return true; /* of a later lender's */
+    }
+}
+
+bool lent_obey(struct lent *lent)
+{
+    struct lending_message order;
+    for (unsigned i = 0; i < ORDERS; i++) {
+        int got = lending_read(lent->channel, &order);
+        if (got < 0) {
+            file_close(lent->channel);
+            lent->channel = -1;
+        }
+        if (got <= 0)
+            return true;
+        if (!obey(lent, &order))
+            return false;
+    }
+    return true;
+}
+
+void lent_take_lender(struct lent *lent)
+{
+    int channel = accept4(lent->later, NULL, NULL, SOCK_CLOEXEC | SOCK_NONBLOCK);
+    if (channel < 0)
+        return;
+    if (lent->channel >= 0)
+        file_close(lent->channel);
+    lent->channel = channel;
+    lent_report(lent, 0, false);
+}
+
+/* Waits for a moment for the lender, or until the client goes; false where it has. */
+static bool wait_once(struct lent *lent)
+{
+    enum { CLIENT, CHANNEL, LATER, END, FILES };
+    struct pollfd files[FILES] = {[CLIENT] = {lent->backend.socket, POLLRDHUP, 0}, [CHANNEL] = {lent->channel, POLLIN, 0},
+                                  [LATER] = {lent->later, POLLIN, 0}, [END] = {lent->end, POLLIN, 0}};
+    poll_some(files, FILES, NEWS_EVERY * 100);
+    if (files[LATER].revents)
+        lent_take_lender(lent);
+    if (files[CHANNEL].revents)
+        lent_obey(lent);
+    lent->leaves |= files[END].revents != 0;
+    lent->backend.gone |= files[CLIENT].revents != 0;
+    lent->backend.gone |= lent->leaves;
+    return !lent->backend.gone;
+}
+
+bool lent_await(struct lent *lent, enum lending_wait what, uint32_t pages)
+{
+    lent->waits = what;
+    lent->wanted = pages;
+    lent->wait++;
+    lent->answered = 0;
+    lent_report(lent, 0, false);
+    while (lent->answered == 0 && wait_once(lent))
+        if (lent->answered == 0 && lent_now() >= lent->report_at)
+            lent_report(lent, 0, false);
+    lent->waits = WAIT_NOTHING;
+    lent->news = true;
+    return lent->answered > 0;
+}

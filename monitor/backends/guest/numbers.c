@@ -1,0 +1,25 @@
+/* Words of digits. */
+#include "numbers.h"
+
+#include "say.h"
+
+#include <ctype.h>
+#include <errno.h>
+#include <stdlib.h>
+
+bool read_number(const char *word, int base, uint64_t most, uint64_t *number)
+{
+    char *end;
+    errno = 0;
+    *number = strtoull(word, &end, base);
+    /* It would take spaces and a sign before them. */
+    return isxdigit((unsigned char)word[0]) && !*end && errno == 0 && *number <= most;
+}
+
+bool read_lines(const char *word)
+{
+    uint64_t lines;
+    bool read = read_number(word, 10, UINT32_MAX / 2, &lines);
+    most_lines = read ? (unsigned)lines : most_lines;
+    return read;
+}

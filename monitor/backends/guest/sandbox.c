@@ -1,0 +1,60 @@
+#define _GNU_SOURCE
+#include "sandbox.h"
+
+#include "say.h"
+
+#include <errno.h>
+#include <fcntl.h>
+#include <seccomp.h>
+#include <string.h>
+#include <sys/mman.h>
+#include <sys/prctl.h>
+
+/* A call that may be made; with an argument that has to be as it is said, where there is a mask or a value to compare. */
+struct allowed {
+    int call;
+    bool compares;
+    struct scmp_arg_cmp argument;
+};
+
+#define ANY(name) {SCMP_SYS(name), false, {0, SCMP_CMP_EQ, 0, 0}}
+#define WITH(name, ...) {SCMP_SYS(name), true, {__VA_ARGS__}}
+
+static const struct allowed calls[] = {
+    /* The client, the lender, kicks and interrupts. No file goes to anybody: there is no sendmsg. */
+    ANY(accept4), ANY(recvmsg), ANY(recvfrom), WITH(sendto, 4, SCMP_CMP_EQ, 0, 0), ANY(poll), ANY(ppoll), ANY(getsockopt),
+    ANY(read), ANY(write), ANY(preadv2), ANY(setitimer), ANY(close),
+    /* The guest's memory, which is never code. */
+    WITH(mmap, 2, SCMP_CMP_MASKED_EQ, PROT_EXEC, 0), ANY(munmap), ANY(madvise), ANY(fallocate), ANY(fstatfs), ANY(fstat),
+    WITH(newfstatat, 3, SCMP_CMP_EQ, AT_EMPTY_PATH, 0), WITH(fcntl, 1, SCMP_CMP_EQ, F_GETFL, 0),
+    WITH(fcntl, 1, SCMP_CMP_EQ, F_SETFL, 0), WITH(fcntl, 1, SCMP_CMP_EQ, F_ADD_SEALS, 0),
+    /* What sort of file a kick is. */
+    ANY(readlink), ANY(readlinkat),
+    /* The C library, signals, the end. */
+    ANY(brk), ANY(mremap), ANY(clock_gettime), ANY(gettimeofday), ANY(getrandom), ANY(rt_sigaction), ANY(rt_sigprocmask),
+    ANY(rt_sigreturn), ANY(restart_syscall), ANY(futex), ANY(exit), ANY(exit_group),
+};
+
+/* Allows each call of the list; 0 or an errno, negative. */
+static int allow(scmp_filter_ctx filter)
+{
+    int code = 0;
+    for (unsigned i = 0; i < sizeof calls / sizeof calls[0] && code == 0; i++)
+        code = seccomp_rule_add_array(filter, SCMP_ACT_ALLOW, calls[i].call, calls[i].compares, &calls[i].argument);
+    return code;
+}
+
+bool sandbox_enter(void)
+{
+    if (prctl(PR_SET_NO_NEW_PRIVS, 1, 0, 0, 0))
+        return complain("new privileges can't be given up: %s", strerror(errno)), false;
+    scmp_filter_ctx filter = seccomp_init(SCMP_ACT_KILL_PROCESS);
+    if (!filter)
+        return complain("there is no memory for a filter of system calls"), false;
+    int code = allow(filter);
+    code = code == 0 ? seccomp_load(filter) : code;
+    seccomp_release(filter);
+    if (code != 0)
+        complain("system calls can't be filtered: %s", strerror(-code));
+    return code == 0;
+}

@@ -1,0 +1,17 @@
+/* What a guest's process may still do once its client's bytes are read: serve, and no more. */
+#ifndef SANDBOX_H
+#define SANDBOX_H
+#include <stdbool.h>
+
+/* The compiler's checks make system calls of their own: a build with them has no sandbox. */
+#ifdef __SANITIZE_ADDRESS__
+enum { HAS_SANDBOX = 0 };
+#else
+enum { HAS_SANDBOX = 1 };
+#endif
+
+/* From now on the process gets no new privileges, and a system call that it has no use for ends it (seccomp). It opens no file, and
+ * sends none. False, which is said, where the machine doesn't allow that. */
+bool sandbox_enter(void);
+
+#endif

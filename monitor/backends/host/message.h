@@ -1,0 +1,66 @@
+/* What the lender and a guest's process say to each other: messages of one size over a SOCK_SEQPACKET socket, in both directions. Neither
+ * waits for the other: a message for which there is no room is dropped and counted. Nothing is lost by that, since each report says all
+ * anew, and each order is given again until a report shows that it was obeyed. */
+#ifndef MESSAGE_H
+#define MESSAGE_H
+#include "../guest/backend.h"
+
+enum { LENDING_VERSION = 1, MOST_WORDS = 256 };
+
+enum lending_kind {
+    /* Of the lender. */
+    ORDER_LOOK = 1,             /* report; and, where `asks` is set, ask the guest for its statistics */
+    ORDER_REMIND,               /* tell the guest its target again, where its balloon stays off it */
+    ORDER_TARGET,               /* the host wants `target` pages in the balloon */
+    ORDER_ADMIT,                /* there is room for the `pages` that it waits for */
+    ORDER_REFUSE,               /* there is none */
+    ORDER_KEEP,                 /* keep the terms for the lender that comes after this one */
+    ORDER_GRANT,                /* the deflate or the reset that waits has its `pages` */
+    ORDER_LEAVE,                /* end */
+    /* Of a guest's process. */
+    TELL_REPORT,                /* all that it is */
+    TELL_REFUSED,               /* its client isn't served any longer, by `words` */
+    TELL_REMARK,                /* words, while all goes on */
+    TELL_GONE,                  /* its client has gone; the process ends */
+};
+
+/* What a guest's process waits for. */
+enum lending_wait { WAIT_NOTHING, WAIT_ROOM, WAIT_DEFLATE, WAIT_RESET };
+
+/* The terms that a process keeps for a lender that doesn't know them. */
+struct kept_terms {
+    uint32_t least, most, priority, strict;
+};
+
+struct lending_message {
+    uint32_t version, kind;
+    uint64_t number;            /* of an order to look: the report that answers it has the same; 0: none */
+    uint64_t serial;            /* of a report: how many there were */
+    uint64_t held_kib, end;     /* what the memory's files hold; the page at which memory ends */
+    uint64_t lost;              /* messages of the process that found no room */
+    uint32_t pages;             /* of its memory that has room; of an order: what it is about */
+    uint32_t wanted;            /* pages that it waits for */
+    uint32_t wait;              /* how many times it has waited: the answer has the same number */
+    uint32_t waits;             /* enum lending_wait */
+    uint32_t target, actual, ballooned, status, ready;
+    uint32_t asks, asked;       /* whether to ask for statistics; whether the guest could be asked */
+    uint32_t ballooned_then;    /* what was in the balloon at its last statistics, or when it took pages itself after them */
+    uint32_t taken_since;       /* it has taken pages itself after its last statistics */
+    uint32_t has_terms;         /* unless 0, `terms` are those of a lender */
+    uint32_t figure_count;
+    struct kept_terms terms;
+    struct counters counters;
+    VbStatistic figures[MOST_TAGS];
+    char words[MOST_WORDS];
+};
+
+/* The files with which a guest's process begins: where its client comes, its end of the channel, and where a later lender comes. */
+enum { CLIENT_FILE = 3, CHANNEL_FILE, LATER_FILE, FILES_OF_GUEST };
+
+/* Sends a message; false where there is no room, or nobody at the other end. */
+bool lending_send(int channel, struct lending_message *message);
+
+/* Reads the next message: 1; 0 where there is none yet; -1 where the other end has gone, or has sent something else. */
+int lending_read(int channel, struct lending_message *message);
+
+#endif

@@ -1,0 +1,83 @@
+/* What the lender says to a guest's process. Nothing waits: what finds no room is said again at the next look. */
+#include "host.h"
+
+/* Sends an order; one that finds no room is counted. */
+static void order(struct seat *seat, struct lending_message *message)
+{
+    if (seat_is_taken(seat) && !lending_send(seat->channel, message))
+        seat->lost++;
+}
+
+void seat_look(struct seat *seat, bool asks)
+{
+    struct lending_message message = {.kind = ORDER_LOOK, .number = ++seat->host->looks_asked, .asks = asks};
+    if (!seat_is_taken(seat))
+        return;
+    seat->number = message.number;
+    if (seat->asked_at == 0)
+        seat->asked_at = host_now();
+    order(seat, &message);
+}
+
+void seat_remind(struct seat *seat)
+{
+    struct lending_message message = {.kind = ORDER_REMIND};
+    if (seat_is_ready(seat) && seat->silent <= SILENT_AFTER)
+        order(seat, &message);
+}
+
+static void tell_target(struct seat *seat)
+{
+    struct lending_message message = {.kind = ORDER_TARGET, .target = seat->told};
+    order(seat, &message);
+}
+
+/* What a guest may be asked for at once: all of its target, unless a step is smaller, and the host is within its budget. */
+static bool goes_by_steps(const struct seat *seat)
+{
+    const struct host *host = seat->host;
+    return host->step > 0 && seat->target > seat->told && host_held(host) <= host->frames * UINT64_C(4);
+}
+
+void seat_set_target(struct seat *seat, uint32_t pages)
+{
+    seat->target = pages;
+    if (goes_by_steps(seat))
+        return;
+    seat->told = pages;
+    tell_target(seat);
+}
+
+void seat_step(struct seat *seat, int64_t milliseconds)
+{
+    uint32_t left = seat->target - seat->told;
+    if (goes_by_steps(seat)) {
+        uint64_t step = (uint64_t)seat->pages * (uint64_t)milliseconds / (UINT64_C(1000) * seat->host->step) + 1;
+        seat->told += step < left ? (uint32_t)step : left;
+        tell_target(seat);
+    } else if (seat->told != seat->target || seat->report.target != seat->told) {
+        seat->told = seat->target;
+        tell_target(seat);
+    }
+}
+
+void seat_keep_terms(struct seat *seat)
+{
+    const struct guest_terms *terms = &seat->terms;
+    struct lending_message message = {.kind = ORDER_KEEP, .terms = {terms->least, terms->most, terms->priority, terms->strict}};
+    order(seat, &message);
+}
+
+void seat_leave(struct seat *seat)
+{
+    struct lending_message message = {.kind = ORDER_LEAVE};
+    order(seat, &message);
+}
+
+void seat_answer(struct seat *seat, bool admitted)
+{
+    struct lending_message message = {.kind = admitted ? ORDER_ADMIT : ORDER_REFUSE, .wait = seat->report.wait};
+    seat->wait_answered = seat->report.wait;
+    seat->wait_admitted = admitted;
+    order(seat, &message);
+}

@@ -1,0 +1,139 @@
+/* What a guest's process has sent, and what the lender makes of it. */
+#include "host.h"
+
+/* A guest waits for room: whether there is, it is answered; and again, where it hasn't heard that. */
+static void answer_arrival(struct seat *seat)
+{
+    struct host *host = seat->host;
+    uint32_t wanted = seat->report.wanted;
+    if (seat->report.wait == seat->wait_answered) {
+        seat_answer(seat, seat->wait_admitted);
+        return;
+    }
+    uint64_t missing = wanted > seat->pages ? policy_lacks(host, seat, wanted) : 0;
+    if (missing > 0) {
+        refuse("no room for %u pages: %llu are missing", wanted, (unsigned long long)missing);
+        host->counters.refused++;
+        seat_answer(seat, false);
+        return;
+    }
+    host->counters.admitted += seat->pages == 0;
+    seat->pages = wanted;
+    seat_answer(seat, true);
+    host_changed(host, BY_GUESTS);
+}
+
+/* What may have changed by what was served: statistics, and pages that the guest took back by itself. */
+static void take_note(struct seat *seat)
+{
+    const struct counters *counters = &seat->report.counters;
+    if (counters->statistics != seat->heard) {
+        seat->heard = counters->statistics;
+        seat->silent = 0;
+        seat->heard_at = host_now();
+        policy_hears(seat);
+    }
+    if (counters->taken != seat->taken && seat->report.taken_since)
+        policy_sees_taken(seat);
+    seat->taken = counters->taken;
+}
+
+/* The first report of a process that an earlier lender has started: its target and its terms go on. */
+static void adopt(struct seat *seat)
+{
+    const struct lending_message *report = &seat->report;
+    seat->adopts = false;
+    seat->target = seat->told = report->target;
+    seat->taken = report->counters.taken;
+    if (report->has_terms)
+        seat->terms = (struct guest_terms){.least = report->terms.least, .most = report->terms.most,
+                                           .priority = report->terms.priority, .strict = report->terms.strict != 0};
+}
+
+static void note_wait(struct seat *seat)
+{
+    static const enum guest_wait waits[] = {[WAIT_NOTHING] = WAITS_FOR_NOTHING, [WAIT_ROOM] = WAITS_FOR_ROOM,
+                                            [WAIT_DEFLATE] = WAITS_FOR_DEFLATE, [WAIT_RESET] = WAITS_FOR_RESET};
+    uint32_t its = seat->report.waits;
+    enum guest_wait now = its < sizeof waits / sizeof waits[0] ? waits[its] : WAITS_FOR_NOTHING;
+    if (now != seat->waits_for)
+        seat->waits_since = host_now();
+    seat->waits_for = now;
+}
+
+static void take_report(struct seat *seat, const struct lending_message *message)
+{
+    struct question *question = &seat->host->question;
+    seat->report = *message;
+    if (message->number == seat->number)
+        seat->asked_at = 0;
+    seat->answered = message->number > seat->answered ? message->number : seat->answered;
+    if (message->number != 0 && message->number == question->ask)
+        question->asked = message->asked;
+    if (seat->adopts)
+        adopt(seat);
+    note_wait(seat);
+    take_note(seat);
+    if (message->waits == WAIT_ROOM) {
+        answer_arrival(seat);
+    } else if (message->pages != seat->pages) {
+        seat->pages = message->pages;
+        host_changed(seat->host, BY_GUESTS);
+    }
+}
+
+/* Its client has gone, and its memory with it. */
+static void take_leave(struct seat *seat)
+{
+    bool had_pages = seat->pages > 0;
+    say_gone();
+    seat->host->counters.gone++;
+    seat_clear(seat);
+    seat->gone = true;
+    if (had_pages)
+        host_changed(seat->host, BY_GUESTS);
+}
+
+/* Words of a process: those of its client's making have nothing in them that a terminal obeys. */
+static void print_words(struct lending_message *message)
+{
+    for (char *it = message->words; *it; it++)
+        if ((unsigned char)*it < ' ' || (unsigned char)*it > '~')
+            *it = '?';
+    if (message->kind == TELL_REFUSED)
+        refuse("%s", message->words);
+    else
+        complain("%s", message->words);
+}
+
+static void take(struct seat *seat, struct lending_message *message)
+{
+    if (seat->gone)
+        return;
+    if (message->kind == TELL_REPORT)
+        take_report(seat, message);
+    else if (message->kind == TELL_GONE)
+        take_leave(seat);
+    else if (message->kind == TELL_REFUSED || message->kind == TELL_REMARK)
+        print_words(message);
+}
+
+unsigned seat_read(struct seat *seat, unsigned most)
+{
+    struct lending_message message;
+    unsigned count = 0;
+    speaker_begins(&seat->speaker);
+    while (count < most && seat->channel >= 0) {
+        int got = lending_read(seat->channel, &message);
+        if (got < 0) {
+            file_close(seat->channel);
+            seat->channel = -1;
+        }
+        if (got <= 0)
+            break;
+        count++;
+        take(seat, &message);
+    }
+    speaker_ends();
+    return count;
+}

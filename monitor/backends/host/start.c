@@ -1,0 +1,214 @@
+/* A guest's process: how it begins, is taken over, and ends. */
+#include "host.h"
+
+#include <limits.h>
+#include <signal.h>
+#include <spawn.h>
+#include <sys/pidfd.h>
+#include <sys/socket.h>
+#include <sys/un.h>
+#include <sys/wait.h>
+#include <unistd.h>
+
+extern char **environ;
+
+/* Milliseconds without new clients, once there was no file or no process left for one; between two clients of one guest. */
+enum { REST = 1000, PACE = 20 };
+
+/* The lowest number of a file that is handed on, so that none is written over as they are put in their places. */
+enum { ABOVE_ALL = 16, FILES_HANDED = 3 };
+
+/* The words of a guest's process. */
+static unsigned make_words(const struct seat *seat, char features[24], char lines[16], const char *words[16])
+{
+    const struct host *host = seat->host;
+    unsigned count = 0;
+    snprintf(features, 24, "%llx", (unsigned long long)host->features);
+    snprintf(lines, 16, "%u", most_lines);
+    const char *const always[] = {host->program, seat->name, "--lent", "--features", features, "--lines", lines};
+    for (; count < sizeof always / sizeof always[0]; count++)
+        words[count] = always[count];
+    if (host->strict_pages)
+        words[count++] = "--strict";
+    if (host->events)
+        words[count++] = "--events";
+    if (host->no_sandbox)
+        words[count++] = "--no-sandbox";
+    if (host->end_with_lender)
+        words[count++] = "--end-with-lender";
+    words[count] = NULL;
+    return count;
+}
+
+/* Starts the program with these files, and no other; 0 or an errno. */
+static int spawn(const struct seat *seat, const int files[FILES_HANDED], pid_t *process)
+{
+    char features[24], lines[16];
+    const char *words[16];
+    posix_spawn_file_actions_t actions;
+    posix_spawnattr_t its;
+    sigset_t none;
+    make_words(seat, features, lines, words);
+    posix_spawn_file_actions_init(&actions);
+    posix_spawnattr_init(&its);
+    posix_spawnattr_setflags(&its, POSIX_SPAWN_SETSID | POSIX_SPAWN_SETSIGMASK);
+    posix_spawnattr_setsigmask(&its, (sigemptyset(&none), &none));
+    posix_spawn_file_actions_addopen(&actions, STDIN_FILENO, "/dev/null", O_RDONLY, 0);
+    posix_spawn_file_actions_addopen(&actions, STDOUT_FILENO, "/dev/null", O_WRONLY, 0);
+    for (int i = 0; i < FILES_HANDED; i++)
+        posix_spawn_file_actions_adddup2(&actions, files[i], CLIENT_FILE + i);
+    int code = posix_spawn(process, words[0], &actions, &its, (char *const *)words, environ);
+    posix_spawn_file_actions_destroy(&actions);
+    posix_spawnattr_destroy(&its);
+    return code;
+}
+
+/* A socket where a later lender finds the process; -1 with errno. */
+static int listen_later(const char *path)
+{
+    struct sockaddr_un address = {.sun_family = AF_UNIX};
+    int listener = socket(AF_UNIX, SOCK_SEQPACKET | SOCK_CLOEXEC | SOCK_NONBLOCK, 0);
+    strcpy(address.sun_path, path);
+    remove_socket(path);
+    if (listener < 0 || (!bind(listener, (struct sockaddr *)&address, sizeof address) && !listen(listener, 1)))
+        return listener;
+    int why = errno;
+    file_close(listener);
+    return errno = why, -1;
+}
+
+/* The files of a process that is to begin, in `handed`, and the lender's end of the channel; 0 or an errno, and then there is none. */
+static int open_files(struct seat *seat, int handed[FILES_HANDED])
+{
+    int pair[2] = {-1, -1}, later = -1, why = 0;
+    if (socketpair(AF_UNIX, SOCK_SEQPACKET | SOCK_CLOEXEC | SOCK_NONBLOCK, 0, pair) || (later = listen_later(seat->later_path)) < 0)
+        why = errno;
+    const int files[FILES_HANDED] = {seat->listener, pair[1], later};
+    for (int i = 0; i < FILES_HANDED; i++) {
+        handed[i] = why == 0 ? fcntl(files[i], F_DUPFD_CLOEXEC, ABOVE_ALL) : -1;
+        why = why == 0 && handed[i] < 0 ? errno : why;
+    }
+    if (later >= 0)
+        file_close(later);
+    if (pair[1] >= 0)
+        file_close(pair[1]);
+    if (why != 0 && pair[0] >= 0)
+        file_close(pair[0]);
+    seat->channel = why == 0 ? pair[0] : -1;
+    return why;
+}
+
+static void close_files(const int files[FILES_HANDED])
+{
+    for (int i = 0; i < FILES_HANDED; i++)
+        if (files[i] >= 0)
+            file_close(files[i]);
+}
+
+/* Its client can't be taken, and nobody's is for a while. */
+static void rest(struct seat *seat, int why)
+{
+    complain("%s can't come: %s", seat->name, strerror(why));
+    seat->host->rests_until = host_now() + REST;
+}
+
+void seat_start(struct seat *seat)
+{
+    int files[FILES_HANDED] = {-1, -1, -1};
+    seat_clear(seat);
+    seat->comes_at = host_now() + PACE;
+    int why = open_files(seat, files);
+    why = why == 0 ? spawn(seat, files, &seat->process) : why;
+    close_files(files);
+    if (why == 0 && (seat->process_file = pidfd_open(seat->process, 0)) < 0) {
+        why = errno;
+        kill(seat->process, SIGKILL);
+        waitpid(seat->process, NULL, 0);
+    }
+    if (why == 0) {
+        seat->clients++;
+        seat->here = true;
+        seat->heard_at = host_now();
+        seat_keep_terms(seat);
+        return;
+    }
+    seat->process = 0;
+    if (seat->channel >= 0)
+        file_close(seat->channel);
+    seat->channel = -1;
+    remove_socket(seat->later_path);
+    rest(seat, why);
+}
+
+/* Connects to a process that an earlier lender has started; -1 where there is none. */
+static int connect_later(const char *path)
+{
+    struct sockaddr_un address = {.sun_family = AF_UNIX};
+    int channel = socket(AF_UNIX, SOCK_SEQPACKET | SOCK_CLOEXEC | SOCK_NONBLOCK, 0);
+    strcpy(address.sun_path, path);
+    if (channel < 0 || !connect(channel, (struct sockaddr *)&address, sizeof address))
+        return channel;
+    file_close(channel);
+    return -1;
+}
+
+void seat_take_over(struct seat *seat)
+{
+    struct ucred its;
+    socklen_t size = sizeof its;
+    int channel = connect_later(seat->later_path);
+    bool known = channel >= 0 && !getsockopt(channel, SOL_SOCKET, SO_PEERCRED, &its, &size) && its.uid == geteuid();
+    if (!known) {
+        if (channel >= 0)
+            file_close(channel);
+        remove_socket(seat->later_path);
+        return;
+    }
+    seat_clear(seat);
+    seat->channel = channel;
+    seat->process = its.pid;
+    seat->process_file = pidfd_open(its.pid, 0);
+    seat->here = seat->adopts = true;
+    seat->heard_at = host_now();
+    seat->clients++;
+    seat_look(seat, false);
+}
+
+/* Says how a process ended that hasn't said itself why. */
+static void explain(const struct seat *seat)
+{
+    int status = 0;
+    if (waitpid(seat->process, &status, WNOHANG) != seat->process)
+        complain("its process has ended");
+    else if (WIFSIGNALED(status) && WTERMSIG(status) == SIGSYS)
+        complain("its process has ended by a system call that isn't allowed");
+    else if (WIFSIGNALED(status))
+        complain("its process has ended by signal %d", WTERMSIG(status));
+    else
+        complain("its process has ended with status %d", WEXITSTATUS(status));
+}
+
+void seat_ended(struct seat *seat)
+{
+    seat_read(seat, UINT_MAX);
+    speaker_begins(&seat->speaker);
+    if (!seat->gone) {
+        explain(seat);
+        seat->host->counters.gone++;
+        say_gone();
+    } else {
+        waitpid(seat->process, NULL, WNOHANG);
+    }
+    speaker_ends();
+    host_changed(seat->host, BY_GUESTS);
+    if (seat->process_file >= 0)
+        file_close(seat->process_file);
+    if (seat->channel >= 0)
+        file_close(seat->channel);
+    seat->process_file = seat->channel = -1;
+    seat->process = 0;
+    seat->here = false;
+    if (seat->listener >= 0)
+        remove_socket(seat->later_path);
+    seat_clear(seat);
+}

@@ -1,0 +1,50 @@
+"""What the tests of a lender have in common."""
+
+import pytest
+from tenants import Guest, Lender
+
+
+@pytest.fixture(scope="session")
+def plain(programs):
+    """The lender's program as it is installed, beside that of its guests."""
+    return programs("vhost_user_host", flags=())
+
+
+@pytest.fixture(scope="session")
+def checked(programs):
+    """The same with the compiler's checks, and without a sandbox."""
+    return programs("vhost_user_host")
+
+
+@pytest.fixture
+def lend(tmp_path_factory, plain):
+    """Starts lenders of this budget in MiB; those that are still there have to end well."""
+    begun = []
+
+    def begin(budget, *options, folder=None, program=plain):
+        it = Lender(program, folder or str(tmp_path_factory.mktemp("l")), budget, options)
+        begun.append(it)
+        return it
+
+    yield begin
+    for it in begun:
+        if it.is_there():
+            assert it.close() == 0, it.said()[-5:]
+
+
+@pytest.fixture
+def come():
+    """Has guests come to seats that are there or are added; they go at the end."""
+    guests = []
+
+    def begin(lender, name, figures, terms="", **how):
+        if name not in lender.guests():
+            lender.demand(f"add {name} {terms}".strip())
+        it = Guest(lender, name, figures, **how)
+        guests.append(it)
+        lender.become(name, ready=1, answers=1)
+        return it
+
+    yield begin
+    for it in guests:
+        it.leave()

@@ -1,0 +1,144 @@
+"""A lender for tests, and guests that answer it: clients of 128 pages, which tell what they are set to."""
+
+import os
+import select
+import signal
+import struct
+import threading
+import time
+
+import linux_host
+from vhost_client import BUFFERS, INFLATE, PAGE, REGIONS, STATISTICS, Client
+
+# Seconds of a wait.
+LIMIT = 20
+
+# Tags of statistics (VIRTIO 1.1, 5.5.6.3), and the first page of a client's second region.
+FREE, AVAILABLE = 4, 6
+PAGES = REGIONS[1][0] // PAGE
+
+
+def eventually(condition, what=""):
+    """Waits until a condition holds, and returns what it came to."""
+    end = time.monotonic() + LIMIT
+    while True:
+        found = condition()
+        if found:
+            return found
+        assert time.monotonic() < end, what() if callable(what) else what
+        time.sleep(0.02)
+
+
+class Lender(linux_host.Host):
+    """A lender in a folder of its own."""
+
+    def is_there(self):
+        """Whether it still runs."""
+        return self.process.poll() is None
+
+    def become(self, name, **wanted):
+        """Waits until a guest has these numbers."""
+        def seen():
+            return {it: self.guests()[name][it] for it in wanted}
+
+        eventually(lambda: seen() == wanted, lambda: f"{name} has {seen()}, and should have {wanted}")
+
+    def said(self):
+        """Returns what it has said on standard error."""
+        with open(self.log, encoding="latin-1") as log:
+            return log.read().splitlines()
+
+    def kill(self):
+        """Ends it without a word."""
+        self.process.kill()
+        self.process.wait()
+        self.process.stdin.close(), self.process.stdout.close()
+
+
+class Guest(threading.Thread):
+    """A guest whose driver answers each question by these figures, and obeys its target, as Linux does."""
+
+    def __init__(self, lender, name, figures, obeys=True):
+        super().__init__(daemon=True)
+        self.figures, self.obeys, self.lender, self.name_of = dict(figures), obeys, lender, name
+        self.client = Client(f"{lender.folder}/{name}", lambda: "")
+        self.ended, self.answers, self.lock = threading.Event(), True, threading.Lock()
+        self.client.start()
+        self.tell()
+        self.start()
+
+    def tell(self):
+        """Posts statistics."""
+        data = b"".join(struct.pack("<HQ", tag, pages * PAGE) for tag, pages in self.figures.items())
+        self.client.write(BUFFERS + PAGE, data)
+        self.client.describe(STATISTICS, 0, BUFFERS + PAGE, len(data))
+        self.client.publish(STATISTICS, 0)
+        self.client.kick(STATISTICS)
+
+    def give(self, pages):
+        """Puts pages into its balloon."""
+        with self.lock:
+            self.client.post_pages(INFLATE, pages)
+
+    def run(self):
+        """Answers until it goes, or the lender's process closes its socket."""
+        try:
+            while not self.ended.wait(0.01):
+                while select.select([self.client.own], [], [], 0)[0]:
+                    with self.lock:
+                        if self.client.told(LIMIT) == STATISTICS and self.answers:
+                            self.tell()
+        except (OSError, TypeError, AssertionError, ValueError):
+            pass
+
+    def fill(self):
+        """Has all its pages held by the host."""
+        for file in self.client.files:
+            os.posix_fallocate(file, 0, os.fstat(file).st_size)
+
+    def leave(self):
+        """Goes."""
+        self.ended.set()
+        self.join()
+        self.client.leave()
+
+
+def round_trips(client, seconds, limit=LIMIT):
+    """Has a client's requests served one after the other for so long; returns how many seconds the longest took."""
+    longest, end = 0.0, time.monotonic() + seconds
+    while time.monotonic() < end:
+        begin = time.monotonic()
+        client.post_pages(INFLATE, [PAGES])
+        while client.told(limit) != INFLATE:
+            pass
+        longest = max(longest, time.monotonic() - begin)
+    return longest
+
+
+def process_of(lender, name):
+    """Returns the number of a guest's process."""
+    return eventually(lambda: lender.guests()[name]["process"])
+
+
+def status_of(process):
+    """Returns what the kernel says of a process, by names."""
+    with open(f"/proc/{process}/status", encoding="ascii") as lines:
+        return dict(it.rstrip("\n").split(":\t", 1) for it in lines if ":\t" in it)
+
+
+def has_ended(process):
+    """Whether a process isn't there any longer, or is a zombie."""
+    try:
+        return status_of(process)["State"].startswith(("Z", "X"))
+    except FileNotFoundError:
+        return True
+
+
+def stop(process):
+    """Has a process stand still."""
+    os.kill(process, signal.SIGSTOP)
+
+
+def go_on(process):
+    """Has it go on."""
+    os.kill(process, signal.SIGCONT)

@@ -1,0 +1,102 @@
+"""A process for each guest: who ends with whom, and what the lender has of a client."""
+
+import os
+import signal
+import subprocess
+import time
+
+import pytest
+from tenants import FREE, LIMIT, eventually, go_on, has_ended, process_of, stop
+
+
+def test_a_second_host_of_a_folder_is_refused(lend, plain):
+    lender = lend(5)
+    ran = subprocess.run([plain, lender.folder, "--budget", "5"], stdin=subprocess.DEVNULL, capture_output=True, text=True, timeout=LIMIT)
+    assert (ran.returncode, ran.stdout, ran.stderr) == (2, "", f"{lender.folder} is another host's\n")
+    assert lender.demand("add a").startswith("listening")
+
+
+def test_the_end_of_its_input_is_not_its_end(plain, tmp_path):
+    with subprocess.Popen([plain, str(tmp_path), "--budget", "5"], stdin=subprocess.DEVNULL, stdout=subprocess.PIPE, text=True) as host:
+        assert host.stdout.readline() == "ready\n"
+        with pytest.raises(subprocess.TimeoutExpired):
+            host.wait(0.5)
+        host.send_signal(signal.SIGTERM)
+        assert host.wait(LIMIT) == 0
+
+
+def test_the_lender_has_no_file_of_a_client(lend, come):
+    lender = lend(5)
+    before = sorted(os.listdir(f"/proc/{lender.process.pid}/fd"))
+    lender.demand("add a")
+    listening = set(os.listdir(f"/proc/{lender.process.pid}/fd")) - set(before)
+    come(lender, "a", {FREE: 60})
+    added = set(os.listdir(f"/proc/{lender.process.pid}/fd")) - set(before) - listening
+    links = sorted(os.readlink(f"/proc/{lender.process.pid}/fd/{it}").split(":")[0] for it in added)
+    assert links == ["anon_inode", "socket"]  # its process, and the channel to it
+    with open(f"/proc/{lender.process.pid}/maps", encoding="ascii") as maps:
+        assert "memfd" not in maps.read()
+
+
+def test_a_process_that_is_killed_ends_its_guest_alone(lend, come):
+    lender = lend(5)
+    come(lender, "a", {FREE: 60}), come(lender, "b", {FREE: 60})
+    os.kill(process_of(lender, "a"), signal.SIGKILL)
+    lender.become("a", here=0, pages=0, held_kib=0)
+    lender.become("b", here=1, ready=1)
+    assert lender.said()[-2:] == ["a: its process has ended by signal 9", "gone a"]
+
+
+def test_a_process_that_stands_still_is_told_apart_from_a_silent_guest(lend, come):
+    lender = lend(5, "--floor", "0", "--period", "50")
+    silent, stuck = come(lender, "silent", {FREE: 60}), come(lender, "stuck", {FREE: 60})
+    silent.answers = False
+    process = process_of(lender, "stuck")
+    stop(process)
+    try:
+        lender.become("silent", answers=0, reports=1)
+        lender.become("stuck", reports=0)
+        # Nobody waits for it: lines are answered at once.
+        begin = time.monotonic()
+        for _ in range(20):
+            lender.guests()
+        assert time.monotonic() - begin < 5
+    finally:
+        go_on(process)
+    lender.become("stuck", reports=1, answers=1)
+
+
+def test_processes_end_with_the_lender_where_that_is_asked(lend, come):
+    lender = lend(5, "--end-with-lender")
+    come(lender, "a", {FREE: 60})
+    process = process_of(lender, "a")
+    lender.kill()
+    eventually(lambda: has_ended(process), "a process lives on")
+
+
+def test_quit_ends_all_processes_and_removes_all_sockets(lend, come):
+    lender = lend(5)
+    guests = [come(lender, it, {FREE: 60}) for it in ("a", "b")]
+    lender.demand("add c")
+    processes = [process_of(lender, it) for it in ("a", "b")]
+    assert lender.close() == 0
+    assert all(map(has_ended, processes))
+    assert os.listdir(lender.folder) == ["backend.log"]
+    assert guests[0].client.socket.recv(1) == b""
+
+
+def test_a_process_is_small(lend, come):
+    lender = lend(64)
+    for number in range(16):
+        come(lender, f"guest-{number}", {FREE: 60})
+    for number in range(16):
+        with open(f"/proc/{process_of(lender, f'guest-{number}')}/smaps_rollup", encoding="ascii") as numbers:
+            its = {it.split()[0]: int(it.split()[1]) for it in numbers if it.endswith("kB\n")}
+        private = its["Private_Clean:"] + its["Private_Dirty:"]
+        assert private <= 1536, f"a guest's process has {private} KiB for itself"
+
+
+def test_a_program_that_is_not_there(plain, tmp_path):
+    ran = subprocess.run([plain, str(tmp_path), "--budget", "5", "--program", "/nowhere"], stdin=subprocess.DEVNULL, capture_output=True,
+                         text=True, timeout=LIMIT)
+    assert (ran.returncode, ran.stderr) == (2, "/nowhere: No such file or directory\n")
