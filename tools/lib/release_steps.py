@@ -34,8 +34,7 @@ STEPS = (
 RUN_HOST = """
 sed -i 's/^# budget = 8G/budget = 64M/' /etc/bigvasta/host.conf
 install -d -o bigvasta -g bigvasta -m 0750 /run/bigvasta
-rm -f /tmp/input && mkfifo /tmp/input
-runuser -u bigvasta -- /usr/bin/vhost_user_host --config /etc/bigvasta/host.conf <> /tmp/input > /tmp/host.out 2>&1 &
+setpriv --reuid=bigvasta --regid=bigvasta --init-groups /usr/bin/vhost_user_host --config /etc/bigvasta/host.conf < /dev/null > /tmp/host.out 2>&1 &
 host=$!
 for i in 1 2 3 4 5 6 7 8 9 10; do bigvasta status > /tmp/status 2>&1 && break; sleep 0.5; done
 cat /tmp/host.out /tmp/status
@@ -44,12 +43,12 @@ test "$(bigvasta add web-1)" = /run/bigvasta/web-1
 test -S /run/bigvasta/web-1
 test "$(bigvasta status --names)" = web-1
 bigvasta guest web-1 --json | python3 -c 'import json, sys; assert json.load(sys.stdin)["guest"]["state"] == "absent"'
-sed -i 's/^budget = 64M/budget = 32M/' /etc/bigvasta/host.conf && kill -HUP $(pidof vhost_user_host)
+sed -i 's/^budget = 64M/budget = 32M/' /etc/bigvasta/host.conf && kill -HUP $host
 for i in 1 2 3 4 5 6 7 8 9 10; do test "$(bigvasta budget)" = '32 MiB' && break; sleep 0.5; done
 test "$(bigvasta budget)" = '32 MiB'
 bigvasta metrics | grep -q '^bigvasta_budget_bytes 3.3554432e+07$'
 bigvasta remove web-1
-kill $(pidof vhost_user_host)
+kill $host
 wait $host
 test ! -e /run/bigvasta/.control
 rmdir /run/bigvasta
