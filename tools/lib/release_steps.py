@@ -65,7 +65,7 @@ HOST_STEPS = (
     ),
     ("the units", "systemd-analyze verify --man=no bigvasta-host.service bigvasta-metrics.service"),
     ("a host by its configuration, and the client program", RUN_HOST),
-    ("no host", "bigvasta status; test $? = 3"),
+    ("no host", "bigvasta status || test $? = 3"),
     ("the completion", "bash -c '. /usr/share/bash-completion/completions/bigvasta && complete -p bigvasta'"),
     ("the host's man pages", "for each in bigvasta.1 vhost_user_host.1 vhost_user_balloon.1 bigvasta-host.conf.5; do man -w ${each%.*} && test -s /usr/share/man/man${each##*.}/$each.gz; done"),
 )
