@@ -118,6 +118,8 @@ def channel_that_nobody_reads(town):
     client = comes(town, "deaf")
     for target in range(3000):
         town.host.demand(f"deaf target {target}")
+        if target % 50 == 0:
+            town.host.ask("deaf counters")  # its process has heard all of them
 
     def said():
         with open(town.host.log, encoding="latin-1") as log:

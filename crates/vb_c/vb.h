@@ -48,7 +48,7 @@ enum { VB_INFLATE = 0, VB_DEFLATE = 1, VB_STATISTICS = 2, VB_REPORT = 3, VB_NO_K
  * guest memory; 7 the available index has jumped; 8 a length that the queue doesn't take; 9 no such page; 10 a reserved
  * page. */
 enum { VB_MAX_QUEUE_SIZE = 256, VB_MAX_PIECES = 256, VB_MAX_RUNS = 256, VB_MAX_BYTES = 1024, VB_MAX_FIGURES = 102,
-       VB_MAX_CUTS = 256, VB_STATE_BYTES = 191 };
+       VB_MAX_CUTS = 256, VB_STATE_BYTES = 200 };
 enum {                          /* what is to be done: `what` of a notice, in this order; other bits are the library's */
     VB_TELL_PAGES = 1,          /* the first `runs` of the room were given up, are requested back, or are free */
     VB_TELL_FIGURES = 2,        /* the first `figures` of the room are what the guest says */
@@ -73,6 +73,7 @@ typedef struct {
     uint8_t needs_must_tell;    /* unless 0: FEATURES_OK is refused without MUST_TELL_HOST */
     uint8_t skips_bad_pages;    /* unless 0: a page number past the end, or of a reserved page, is skipped and counted;
                                    0: it breaks rule 9 or 10, and then a Linux driver waits for ever */
+    uint8_t holds_deflates;     /* unless 0: a deflate is held until vb_give_held. Set needs_must_tell too: no other driver waits */
 } VbSettings;
 
 typedef struct {
@@ -110,8 +111,10 @@ typedef struct { size_t region; uint64_t offset, in_file, length; } VbCut;     /
 /* Whole large pages of one region (none: length 0), and how many pages of 4096 bytes of a part aren't among them. */
 typedef struct { VbCut cut; uint64_t waiting; } VbLarge;
 
-/* A device, and 1 more than the head of the statistics buffer that it holds until new ones are asked for; none: 0. */
-typedef struct { VbDevice device; uint32_t held; } VbBalloon;
+/* A device, and the chains that it holds until vb_give_held: 1 more than the head of a statistics buffer, and of a deflate; none:
+ * 0; and how many pages that deflate names. */
+typedef struct { uint32_t statistics, deflate, pages; } VbHeld;
+typedef struct { VbDevice device; VbHeld held; } VbBalloon;
 /* Where a queue starts, with how many of its chains were taken and given back until now, modulo 65,536. */
 typedef struct { uint64_t table, avail, used; uint16_t size, next; } VbQueueStart;
 
@@ -139,8 +142,9 @@ typedef struct {
     uint32_t more;              /* at the end: 1 where another chain stands there, for which there was no budget, else 0 */
     uint32_t chains_left, pages_left;           /* these too */
     uint16_t head, count, taken_head;
-    uint8_t given, taken, flag, phase, keeps;
+    uint8_t given, taken, flag, phase, keeps;   /* `taken`: 1 where the chain is held that was told: its pages stay in the set */
     uint16_t published;
+    uint32_t taken_pages;       /* how many pages that chain names */
 } VbNotice;
 
 /* The room that a notice needs, whatever stands in it at first; then the library's to write, but for `bytes`. One room
@@ -157,13 +161,15 @@ typedef struct {
 #define VB_HAS(type, size) (sizeof(Vb##type) == (size))
 #define VB_AT(type, field, at) (offsetof(Vb##type, field) == (at))
 VB_ASSERT(VB_HAS(Settings, 24) && VB_AT(Settings, offered, 8) && VB_AT(Settings, reserved_pages, 16)
-          && VB_AT(Settings, needs_must_tell, 20) && VB_AT(Settings, skips_bad_pages, 21) && VB_HAS(Queue, 32)
+          && VB_AT(Settings, needs_must_tell, 20) && VB_AT(Settings, skips_bad_pages, 21)
+          && VB_AT(Settings, holds_deflates, 22) && VB_HAS(Queue, 32)
           && VB_AT(Queue, avail, 8) && VB_AT(Queue, used, 16) && VB_AT(Queue, size, 24) && VB_AT(Queue, next_avail, 26)
           && VB_AT(Queue, next_used, 28) && VB_HAS(QueueStart, 32) && VB_AT(QueueStart, avail, 8) && VB_AT(QueueStart, used, 16)
           && VB_AT(QueueStart, size, 24) && VB_AT(QueueStart, next, 26) && VB_HAS(Device, 176) && VB_AT(Device, settings, 0)
           && VB_AT(Device, features, 24) && VB_AT(Device, target, 32) && VB_AT(Device, actual, 36) && VB_AT(Device, inflate, 40)
           && VB_AT(Device, deflate, 72) && VB_AT(Device, statistics, 104) && VB_AT(Device, report, 136)
-          && VB_AT(Device, poison, 168) && VB_AT(Device, status, 172) && VB_HAS(Balloon, 184) && VB_AT(Balloon, held, 176));
+          && VB_AT(Device, poison, 168) && VB_AT(Device, status, 172) && VB_HAS(Held, 12)
+          && VB_AT(Held, deflate, 4) && VB_AT(Held, pages, 8) && VB_HAS(Balloon, 192) && VB_AT(Balloon, held, 176));
 VB_ASSERT(VB_HAS(Piece, 16) && VB_AT(Piece, length, 8) && VB_AT(Piece, writable, 12) && VB_HAS(Run, 8) && VB_AT(Run, count, 4)
           && VB_HAS(Statistic, 16) && VB_AT(Statistic, value, 8) && VB_HAS(Marked, 16) && VB_AT(Marked, pages, 8)
           && VB_HAS(Need, 8) && VB_AT(Need, spare, 4) && VB_HAS(Targets, 16) && VB_AT(Targets, missing, 8));
@@ -175,7 +181,8 @@ VB_ASSERT(VB_HAS(Region, 24) && VB_AT(Region, length, 8) && VB_AT(Region, in_fil
           && VB_AT(Notice, figures, 44) && VB_AT(Notice, kept, 52) && VB_AT(Notice, id_at, 56) && VB_AT(Notice, id, 104)
           && VB_AT(Notice, used_index, 112) && VB_AT(Notice, number, 120) && VB_AT(Notice, in_file, 136)
           && VB_AT(Notice, code, 152) && VB_AT(Notice, chains_left, 172) && VB_AT(Notice, given, 186)
-          && VB_AT(Notice, phase, 189) && VB_AT(Notice, keeps, 190) && VB_AT(Notice, published, 192));
+          && VB_AT(Notice, phase, 189) && VB_AT(Notice, keeps, 190) && VB_AT(Notice, published, 192)
+          && VB_AT(Notice, taken_pages, 196));
 
 /* The version of the library, as VB_VERSION_NUMBER. */
 uint32_t vb_version(void);
@@ -196,10 +203,10 @@ uint32_t vb_kind_of(uint64_t features, uint32_t number);
  * VB_NO_QUEUE where the negotiated features leave it out; VB_MISPLACED where size is no power of two from 2 to 256, or a
  * part isn't aligned (16, 2, 4) or doesn't end within memory. */
 uint32_t vb_place(VbDevice *device, uint32_t kind, uint64_t table, uint64_t avail, uint64_t used, uint16_t size);
-/* Reads or writes bytes of the configuration space (VIRTIO 1.1, 5.5.4), little-endian: num_pages at 0, actual at 4, and poison_val at
- * 12 where PAGE_POISON is offered (VIRTIO 1.2, 5.5.4). All other bytes read as 0. A write of any length at any offset writes actual,
- * and poison_val where that is offered, each where it covers all 4 of its bytes, as QEMU hands over all 16 for each field; all other
- * bytes are ignored. VB_OK; or VB_BAD_ARGUMENT where it covers neither, and then nothing is changed. */
+/* Reads or writes bytes of the configuration space (VIRTIO 1.1, 5.5.4), little-endian: num_pages at 0, actual at 4, and
+ * poison_val at 12 where PAGE_POISON is offered (VIRTIO 1.2, 5.5.4). All other bytes read as 0. A write of any length at any
+ * offset writes actual, and poison_val where that is offered, each where it covers all 4 of its bytes, as QEMU hands over all 16
+ * for each field; all other bytes are ignored. VB_OK; or VB_BAD_ARGUMENT where it covers neither, and then nothing is changed. */
 void vb_read_config(const VbDevice *device, uint32_t offset, uint8_t *out, size_t length);
 uint32_t vb_write_config(VbDevice *device, uint32_t offset, const uint8_t *bytes, size_t length);
 /* 1 where the pages of a report keep what is in them: the driver negotiated PAGE_POISON, and poison_val isn't 0. A notice
@@ -221,17 +228,22 @@ uint32_t vb_keeps_reports(const VbDevice *device);
 /* The driver kicked the queue of this kind, or may have: it is served, at most `chains` chains, and none once `pages` pages
  * were named. Where `keeps` isn't 0, no page is discarded: what is named is told, and stays. The available index is read once,
  * first of all: what the driver publishes later waits for its next kick, which it owes, as the device never asks for none
- * (VIRTIO 1.1, 2.6.10). Nothing is done (VB_NOTHING) while the statistics buffer is held. All three answer `what`. */
+ * (VIRTIO 1.1, 2.6.10). Nothing is done (VB_NOTHING) while a chain of this queue is held. All three answer `what`.
+ * With holds_deflates a notice of deflates ends with its first request, whose pages are told, and whose chain is held. */
 uint32_t vb_begin(VbNotice *notice, VbBalloon *balloon, const VbRegion *regions, size_t count, VbRoom *room,
                   uint32_t kind, uint32_t chains, uint32_t pages, uint32_t keeps);
-/* New statistics are asked for, by giving the held buffer back (5.5.6.3): VB_NOTHING where none is held. */
-uint32_t vb_ask(VbNotice *notice, VbBalloon *balloon, const VbRegion *regions, size_t count, VbRoom *room);
+/* Gives the chain that is held back: new statistics are asked for (5.5.6.3), or a deflate is granted (5.5.6), whose pages leave
+ * the set before; look at its queue again then. VB_NO_QUEUE for no kind; VB_NOTHING where none is held; as is said at the end,
+ * VB_BAD_ARGUMENT for a head that is no descriptor; VB_BROKEN where the used ring lies in a hole. Then it is held still; with
+ * VB_OK no longer. */
+uint32_t vb_give_held(VbNotice *notice, VbBalloon *balloon, const VbRegion *regions, size_t count, VbRoom *room, uint32_t kind);
+/* VB_OK where a chain is held, and `pages` gets how many it names; VB_NOTHING where none is, VB_NO_QUEUE for no kind, and 0. */
+uint32_t vb_held(const VbBalloon *balloon, uint32_t kind, uint32_t *pages);
 /* What is to be done next, once that was done which was to be done. A notice that the calls didn't make may end as
  * VB_BAD_ARGUMENT, with nothing else changed. */
-uint32_t vb_go_on(VbNotice *notice, VbBalloon *balloon, const VbRegion *regions, size_t count, VbRoom *room,
-                  uint16_t answer);
+uint32_t vb_go_on(VbNotice *notice, VbBalloon *balloon, const VbRegion *regions, size_t count, VbRoom *room, uint16_t answer);
 
-/* vb_new over these regions: where settings.memory_end is 0, memory ends with the last of them. The balloon holds no buffer.
+/* vb_new over these regions: where settings.memory_end is 0, memory ends with the last of them. The balloon holds no chain.
  * VB_OK; or VB_BAD_ARGUMENT where a region isn't as VbRegion says, or vb_new refuses, and then nothing is changed. */
 uint32_t vb_new_over(VbBalloon *balloon, VbSettings settings, const VbRegion *regions, size_t count);
 /* These regions are guest memory from now on, and it ends where the last of them does. Refused as vb_new_over is. */
@@ -240,18 +252,18 @@ uint32_t vb_set_regions(VbBalloon *balloon, const VbRegion *regions, size_t coun
 uint32_t vb_place_over(VbBalloon *balloon, const VbRegion *regions, size_t count, uint32_t kind, uint64_t table,
                        uint64_t avail, uint64_t used, uint16_t size);
 /* For a backend or a migration: starts a queue over these regions at `at.next`, in place of what it was before. The chains before
- * that index were given back, and none is taken; of the queue of statistics, the held buffer is forgotten. It may start from
- * FEATURES_OK on, when a driver sets its queues up (VIRTIO 1.1, 3.1.1), also beside queues that run. VB_OK, or refused as is said at
- * the end (VB_MISPLACED as by vb_place_over), and then nothing is changed. */
+ * that index were given back, and none is taken; what is held of the queue is forgotten. It may start from FEATURES_OK on, when a
+ * driver sets its queues up (VIRTIO 1.1, 3.1.1), also beside queues that run. VB_OK, or refused as is said at the end
+ * (VB_MISPLACED as by vb_place_over), and then nothing is changed. */
 uint32_t vb_start_queue(VbBalloon *balloon, const VbRegion *regions, size_t count, uint32_t kind, VbQueueStart at);
-/* Stops a queue, at any status: it has no place any longer, and of the queue of statistics, the held buffer is forgotten. `next` gets
- * the index at which it was: where it starts there, a chain that was taken and not given back stands again. VB_OK; VB_NO_QUEUE for no
- * kind; VB_MISPLACED where it has no place; then nothing is changed, and `next` is 0. */
+/* Stops a queue, at any status: it has no place any longer, and what is held of it is forgotten. `next` gets the index at which
+ * it was: where it starts there, a chain that was taken and not given back, as one that was held, stands again. VB_OK;
+ * VB_NO_QUEUE for no kind; VB_MISPLACED where it has no place; then nothing is changed, and `next` is 0. */
 uint32_t vb_stop_queue(VbBalloon *balloon, uint32_t kind, uint16_t *next);
-/* Forgets the held buffer, which isn't given back: VB_OK, or VB_NOTHING where none is held. */
-uint32_t vb_forget_held(VbBalloon *balloon);
+/* Forgets the chain that is held, which isn't given back: VB_OK; VB_NOTHING where none is; VB_NO_QUEUE for no kind. */
+uint32_t vb_forget_held(VbBalloon *balloon, uint32_t kind);
 /* vb_write_status, and `then` gets what is to be done then: bits VB_LOOK, each queue is to be looked at (vb_begin), and
- * VB_EMPTY, the set of ballooned pages is empty now. 0 where it is refused. A reset forgets the held buffer. */
+ * VB_EMPTY, the set of ballooned pages is empty now. 0 where it is refused. A reset forgets what is held. */
 uint32_t vb_set_status(VbBalloon *balloon, uint8_t status, uint32_t *then);
 /* vb_restore over these regions: also VB_MISPLACED where memory ends elsewhere than the balloon's does, or a part of a queue
  * lies in a hole; then nothing is changed. */
@@ -260,15 +272,15 @@ uint32_t vb_restore_over(VbBalloon *balloon, const VbRegion *regions, size_t cou
 uint32_t vb_may_tell(const VbDevice *device);
 
 /* Puts the device into the front of `out`, as VB_STATE_BYTES bytes that vb_restore takes: little-endian numbers of a
- * format with a version, a length and a checksum (docs/INTEGRATION.md has it). `held` is 1 more than the head of the
- * statistics buffer that was taken and isn't given back; 0 where none is. VB_OK; VB_BAD_LENGTH where there is less
- * room; VB_IMPOSSIBLE where no calls lead to such a device: a struct that was written to, memory_end set below a queue's
- * place, or a `held` that is no descriptor of the queue. Then nothing is changed. */
-uint32_t vb_save(const VbDevice *device, uint32_t held, uint8_t *out, size_t room);
+ * format with a version, a length and a checksum (docs/INTEGRATION.md has it). `held` is the balloon's, or zeros. VB_OK;
+ * VB_BAD_LENGTH where there is less room; VB_IMPOSSIBLE where no calls lead to such a device: a struct that was written to,
+ * memory_end set below a queue's place, or a held chain that is none of its queue, or a deflate without holds_deflates or of more
+ * than 256 pages. Then nothing is changed. */
+uint32_t vb_save(const VbDevice *device, VbHeld held, uint8_t *out, size_t room);
 /* Makes `device` and `held` those that were saved as these bytes. VB_OK, or, tested in this order, VB_BAD_LENGTH where
  * there are fewer than 16; VB_NOT_A_STATE; VB_OTHER_VERSION; VB_BAD_LENGTH; VB_BAD_SUM; VB_IMPOSSIBLE. Then nothing is
- * changed. What is restored is just what vb_save made of it. */
-uint32_t vb_restore(VbDevice *device, uint32_t *held, const uint8_t *bytes, size_t length);
+ * changed. What is restored is just what vb_save made of it; or the 191 bytes of version 2, whose devices hold no deflates. */
+uint32_t vb_restore(VbDevice *device, VbHeld *held, const uint8_t *bytes, size_t length);
 
 /* The set of the pages in the balloon, for a monitor that wants to know them: words of its own, where page p is bit
  * p % 64 of word p / 64. Zeros are the empty set, and so it is again once the driver resets the device. */

@@ -51,6 +51,9 @@ struct balloon {
      * it is discarded, and taken out before its chain is given back. A reset empties it. Save and restore it beside `state`. */
     uint64_t *ballooned;
     size_t ballooned_words;     /* for all pages: memory_end / 4096 / 64, rounded up */
+    /* The pages of the deflate that is held (holds_deflates): they leave the set once it is granted. Save them beside the set. */
+    VbRun held_runs[VB_MAX_RUNS];
+    uint32_t held_count;
     VbNotice notice;            /* what is to be done */
     VbRoom room;                /* the private copies, and what the library makes of them */
 };
@@ -62,6 +65,8 @@ struct balloon_result {
     uint32_t interrupts;        /* bit 1 << kind: interrupt for a used buffer of this queue */
     bool configuration;         /* tell of a change of configuration: the device needs a reset */
     bool more;                  /* as much was served as a notice may, and more stands there: call again, later */
+    bool held;                  /* a deflate is held now, of `held_pages` pages: balloon_give_deflate grants it */
+    uint32_t held_pages;
     uint64_t pages, discarded;  /* named by inflates, deflates and reports; of these, discarded */
     uint64_t waiting;           /* of these, pages whose large page wasn't given up whole yet (vb_large_pages) */
     uint64_t skipped;           /* numbers past the end or of reserved pages */
@@ -127,14 +132,17 @@ static inline void balloon_discard(const struct balloon *balloon, const VbCut *p
     result->error = error ? error : result->error;
 }
 
-/* Tells the pages that are named, and keeps the set of those in the balloon. */
+/* Tells the pages that are named, and keeps the set of those in the balloon: those of a deflate that is held stay in it. */
 static inline void balloon_tell_pages(struct balloon *balloon, struct balloon_result *result)
 {
     const VbNotice *notice = &balloon->notice;
     result->pages += notice->pages;
     result->skipped += notice->skipped;
     result->kept += notice->kept;
-    if (balloon->ballooned) {
+    if (notice->taken) {
+        memcpy(balloon->held_runs, balloon->room.runs, notice->runs * sizeof *balloon->held_runs);
+        balloon->held_count = notice->runs;
+    } else if (balloon->ballooned) {
         VbMarked marked = vb_mark(notice->kind, balloon->room.runs, notice->runs, balloon->ballooned, balloon->ballooned_words);
         result->marked += marked.pages;
         result->unmarked += marked.code == VB_BAD_ARGUMENT ? notice->pages : 0;

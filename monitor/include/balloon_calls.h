@@ -38,6 +38,8 @@ static inline struct balloon_result balloon_finish(struct balloon *balloon)
     result.interrupts = notice->interrupt << (notice->kind & 3);
     result.configuration = notice->configuration != 0;
     result.more = notice->more != 0;
+    result.held = notice->taken && !notice->given && notice->code == VB_OK && notice->kind == VB_DEFLATE;
+    result.held_pages = result.held ? notice->taken_pages : 0;
     result.in_holes = notice->kind == VB_DEFLATE ? 0 : result.pages - result.discarded - result.kept - result.waiting;
     return result;
 }
@@ -61,8 +63,38 @@ static inline struct balloon_result balloon_notify_number(struct balloon *balloo
  * VB_NOTHING: the driver has the buffer. */
 static inline struct balloon_result balloon_ask_statistics(struct balloon *balloon)
 {
-    vb_ask(&balloon->notice, &balloon->state, balloon->places, balloon->region_count, &balloon->room);
+    vb_give_held(&balloon->notice, &balloon->state, balloon->places, balloon->region_count, &balloon->room, VB_STATISTICS);
     return balloon_finish(balloon);
+}
+
+/* Whether a deflate is held, and of how many pages. */
+static inline bool balloon_held_deflate(const struct balloon *balloon, uint32_t *pages)
+{
+    return vb_held(&balloon->state, VB_DEFLATE, pages) == VB_OK;
+}
+
+/* Grants the deflate that is held (VIRTIO 1.1, 5.5.6): the set loses its pages (marked), and then its chain is given back. VB_NOTHING:
+ * none is held; VB_BAD_ARGUMENT: held_runs aren't of so many pages as it names; then nothing is changed. Look at the queue again
+ * then (balloon_notify), as its kicks did nothing meanwhile. */
+static inline struct balloon_result balloon_give_deflate(struct balloon *balloon)
+{
+    VbMarked marked = { VB_OK, 0 };
+    const uint32_t most = VB_MAX_RUNS, count = balloon->held_count < most ? balloon->held_count : most;
+    uint32_t named;
+    uint64_t pages = 0;
+    for (uint32_t i = 0; i < count; i++)
+        pages += balloon->held_runs[i].count;
+    if (!balloon_held_deflate(balloon, &named))
+        return balloon_result_of(VB_NOTHING);
+    if (pages != named)
+        return balloon_result_of(VB_BAD_ARGUMENT);
+    if (balloon->ballooned)
+        marked = vb_mark(VB_DEFLATE, balloon->held_runs, count, balloon->ballooned, balloon->ballooned_words);
+    vb_give_held(&balloon->notice, &balloon->state, balloon->places, balloon->region_count, &balloon->room, VB_DEFLATE);
+    struct balloon_result result = balloon_finish(balloon);
+    result.marked = marked.pages;
+    result.unmarked = marked.code == VB_BAD_ARGUMENT ? named : 0;
+    return result;
 }
 
 /* Adds what one queue's result says to that of all. */
@@ -76,6 +108,8 @@ static inline void balloon_add_result(struct balloon_result *all, const struct b
     all->interrupts |= one->interrupts;
     all->configuration |= one->configuration;
     all->more |= one->more;
+    all->held |= one->held;
+    all->held_pages += one->held_pages;
     all->pages += one->pages;
     all->discarded += one->discarded;
     all->waiting += one->waiting;
@@ -166,10 +200,10 @@ static inline uint32_t balloon_stop_queue(struct balloon *balloon, uint32_t kind
     return vb_stop_queue(&balloon->state, kind, next);
 }
 
-/* Forgets the buffer of statistics that is held: VB_OK, or VB_NOTHING where none is. */
-static inline uint32_t balloon_forget_held(struct balloon *balloon)
+/* Forgets the chain that is held of this queue: as vb_forget_held. The pages of a deflate stay in the set. */
+static inline uint32_t balloon_forget_held(struct balloon *balloon, uint32_t kind)
 {
-    return vb_forget_held(&balloon->state);
+    return vb_forget_held(&balloon->state, kind);
 }
 
 /* The driver writes the status: 0, or why it is refused (vb_write_status). At DRIVER_OK each queue is looked at, as

@@ -17,14 +17,15 @@ VbMarked reference_mark(uint32_t, const VbRun *, size_t, uint64_t *, size_t);
 uint32_t reference_is_ballooned(const uint64_t *, size_t, uint32_t);
 uint64_t reference_count_ballooned(const uint64_t *, size_t);
 uint32_t reference_begin(VbNotice *, VbBalloon *, const VbRegion *, size_t, VbRoom *, uint32_t, uint32_t, uint32_t, uint32_t);
-uint32_t reference_ask(VbNotice *, VbBalloon *, const VbRegion *, size_t, VbRoom *);
+uint32_t reference_give_held(VbNotice *, VbBalloon *, const VbRegion *, size_t, VbRoom *, uint32_t);
+uint32_t reference_held(const VbBalloon *, uint32_t, uint32_t *);
 uint32_t reference_go_on(VbNotice *, VbBalloon *, const VbRegion *, size_t, VbRoom *, uint16_t);
 uint32_t reference_new_over(VbBalloon *, VbSettings, const VbRegion *, size_t);
 uint32_t reference_set_regions(VbBalloon *, const VbRegion *, size_t);
 uint32_t reference_place_over(VbBalloon *, const VbRegion *, size_t, uint32_t, uint64_t, uint64_t, uint64_t, uint16_t);
 uint32_t reference_start_queue(VbBalloon *, const VbRegion *, size_t, uint32_t, VbQueueStart);
 uint32_t reference_stop_queue(VbBalloon *, uint32_t, uint16_t *);
-uint32_t reference_forget_held(VbBalloon *);
+uint32_t reference_forget_held(VbBalloon *, uint32_t);
 uint32_t reference_set_status(VbBalloon *, uint8_t, uint32_t *);
 /* A host that lends. */
 uint32_t reference_loan_arrive(VbLoan *, size_t, size_t, uint32_t, uint16_t);

@@ -9,7 +9,7 @@ static Descriptor descriptor_at(const uint8_t *table, uint32_t number)
                          (uint16_t)little(at + 14, 2) };
 }
 
-/* The rule that a descriptor breaks behind `before` others of its chain; 0: none (VIRTIO 1.1, 2.6.5). */
+/* The rule that a descriptor breaks after `before` others of its chain; 0: none (VIRTIO 1.1, 2.6.5). */
 static uint32_t broken_rule(const VbDevice *device, uint16_t size, const Descriptor *it, uint32_t before, bool writing)
 {
     uint64_t end = page_count(device) * PAGE;

@@ -22,7 +22,8 @@
 #define vb_save reference_save
 #define vb_restore reference_restore
 #define vb_begin reference_begin
-#define vb_ask reference_ask
+#define vb_give_held reference_give_held
+#define vb_held reference_held
 #define vb_go_on reference_go_on
 #define vb_new_over reference_new_over
 #define vb_set_regions reference_set_regions

@@ -72,7 +72,7 @@ static uint32_t look(const Call *call)
     return wait_for(call, AT_INDEX, VB_READ);
 }
 
-/* The chain that stands next by the index that was read, or the end. */
+/* The chain that is next by the index that was read, or the end. */
 static uint32_t next_chain(const Call *call)
 {
     VbNotice *notice = call->notice;
@@ -101,7 +101,7 @@ static uint32_t after_index(const Call *call, uint16_t index)
 
 /* ---- a chain */
 
-/* Asks for the descriptor of this number: a chain's first alone, and another one with those that stand behind it in the table, as
+/* Asks for the descriptor of this number: a chain's first alone, and another one with those that come after it in the table, as
  * many as a row has, where one region has them all. `number` is the first of the copy, `from` how many it has. */
 static uint32_t ask_row(const Call *call, uint16_t number)
 {
@@ -165,7 +165,7 @@ static uint32_t after_part(const Call *call)
     return ask_part(call);
 }
 
-/* The pages of a report, whose pieces stand in the room. */
+/* The pages of a report, whose pieces are in the room. */
 static uint32_t serve_report(const Call *call)
 {
     VbDevice *device = &call->balloon->device;

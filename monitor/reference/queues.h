@@ -1,4 +1,4 @@
-/* Where queues stand, and what calls are refused for by status, features and place, in plain C, a part of reference.c. */
+/* Where queues are, and what calls are refused for by status, features and place, in plain C, a part of reference.c. */
 
 uint32_t vb_kind_of(uint64_t features, uint32_t number)
 {
@@ -24,7 +24,7 @@ static bool lacks_feature(const VbDevice *device, uint32_t kind)
         || (kind == VB_REPORT && !(device->features & REPORTING));
 }
 
-/* Whether a part of a ring may not stand there. */
+/* Whether a part of a ring may not be there. */
 static bool misplaced(const VbDevice *device, uint64_t address, uint64_t alignment, uint64_t length)
 {
     uint64_t end = device->settings.memory_end;

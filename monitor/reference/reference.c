@@ -10,6 +10,7 @@
 
 #include "device.h"
 #include "queues.h"
+#include "held.h"
 #include "chains.h"
 #include "requests.h"
 #include "saved.h"

@@ -38,7 +38,7 @@ static bool end_of(const VbRegion *regions, size_t count, uint64_t *end)
 uint32_t vb_new_over(VbBalloon *balloon, VbSettings settings, const VbRegion *regions, size_t count)
 {
     uint64_t end;
-    VbBalloon made = { .held = 0 };
+    VbBalloon made = { .held = { 0, 0, 0 } };
     if (!end_of(regions, count, &end))
         return VB_BAD_ARGUMENT;
     if (settings.memory_end == 0)
@@ -102,8 +102,7 @@ uint32_t vb_start_queue(VbBalloon *balloon, const VbRegion *regions, size_t coun
     if (code != VB_OK)
         return code;
     *queue = started;
-    if (kind == VB_STATISTICS)
-        balloon->held = 0;
+    vb_forget_held(balloon, kind);
     return VB_OK;
 }
 
@@ -117,16 +116,8 @@ uint32_t vb_stop_queue(VbBalloon *balloon, uint32_t kind, uint16_t *next)
         return VB_MISPLACED;
     *next = queue->next_used;
     memset(queue, 0, sizeof *queue);
-    if (kind == VB_STATISTICS)
-        balloon->held = 0;
+    vb_forget_held(balloon, kind);
     return VB_OK;
-}
-
-uint32_t vb_forget_held(VbBalloon *balloon)
-{
-    uint32_t held = balloon->held;
-    balloon->held = 0;
-    return held ? VB_OK : VB_NOTHING;
 }
 
 uint32_t vb_set_status(VbBalloon *balloon, uint8_t status, uint32_t *then)
@@ -135,7 +126,7 @@ uint32_t vb_set_status(VbBalloon *balloon, uint8_t status, uint32_t *then)
     uint32_t code = vb_write_status(&balloon->device, status);
     *then = 0;
     if (code == 0 && status == 0) {
-        balloon->held = 0;
+        memset(&balloon->held, 0, sizeof balloon->held);
         *then = VB_EMPTY;
     }
     if (code == 0 && (status & DRIVER_OK) && !(before & DRIVER_OK))

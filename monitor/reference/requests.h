@@ -3,7 +3,7 @@
 /* What a request or a report names: its pages as runs, or why it is refused. */
 typedef struct { uint32_t code, rule, runs, pages, skipped; } Named;
 
-/* Puts a page behind the others: it joins the last run where it stands at one of its ends. */
+/* Puts a page after the others: it joins the last run where it is at one of its ends. */
 static void add_page(Named *named, VbRun *runs, uint32_t page)
 {
     VbRun *last = named->runs ? &runs[named->runs - 1] : NULL;

@@ -2,8 +2,9 @@
 
 uint32_t vb_version(void) { return VB_VERSION_NUMBER; }
 
-enum { STATE_SUM_AT = VB_STATE_BYTES - 8 };
-static const uint8_t STATE_BEGINS[16] = { 'V', 'B', 'S', 'T', 'A', 'T', 'E', 0, 2, 0, 0, 0, VB_STATE_BYTES, 0, 0, 0 };
+/* The newest version, and the one before it, which doesn't say what is held of deflates. */
+enum { STATE_VERSION = 3, OLDER_VERSION = 2, OLDER_BYTES = VB_STATE_BYTES - 9, SUM_BYTES = 8 };
+static const uint8_t STATE_BEGINS[16] = { 'V', 'B', 'S', 'T', 'A', 'T', 'E', 0, STATE_VERSION, 0, 0, 0, VB_STATE_BYTES, 0, 0, 0 };
 
 /* Where a number stands in a saved state, or is read from it. */
 typedef struct { uint8_t *at; bool writes; } Cursor;
@@ -29,7 +30,7 @@ static void ring_numbers(Cursor *cursor, VbQueue *queue)
     NUMBER(queue->next_used);
 }
 
-static void state_numbers(Cursor *cursor, VbDevice *device, uint32_t *held)
+static void state_numbers(Cursor *cursor, VbDevice *device, VbHeld *held, bool newest)
 {
     NUMBER(device->settings.memory_end);
     NUMBER(device->settings.offered);
@@ -39,20 +40,25 @@ static void state_numbers(Cursor *cursor, VbDevice *device, uint32_t *held)
     NUMBER(device->features);
     NUMBER(device->target);
     NUMBER(device->actual);
-    NUMBER(*held);
+    NUMBER(held->statistics);
     NUMBER(device->status);
     ring_numbers(cursor, &device->inflate);
     ring_numbers(cursor, &device->deflate);
     ring_numbers(cursor, &device->statistics);
     ring_numbers(cursor, &device->report);
     number(cursor, &device->poison, 4);
+    if (newest) {
+        NUMBER(device->settings.holds_deflates);
+        NUMBER(held->deflate);
+        NUMBER(held->pages);
+    }
 }
 
 /* FNV-1a with 64 bits. */
-static uint64_t state_sum(const uint8_t *bytes)
+static uint64_t state_sum(const uint8_t *bytes, size_t count)
 {
     uint64_t sum = 0xcbf29ce484222325;
-    for (int i = 0; i < STATE_SUM_AT; i++)
+    for (size_t i = 0; i < count; i++)
         sum = (sum ^ bytes[i]) * 0x100000001b3;
     return sum;
 }
@@ -85,53 +91,65 @@ static bool is_ring(const VbDevice *device, uint32_t kind)
         && (!moved || ((device->status & FEATURES_OK) && !lacks_feature(device, kind)));
 }
 
-/* Whether calls lead to this device, with this buffer of statistics held. */
-static bool is_possible(const VbDevice *device, uint32_t held)
+/* Whether what is held of a queue is nothing, or one of its chains, which the device holds, and which names so many pages. */
+static bool may_be_held(const VbDevice *device, uint32_t kind, uint32_t held, uint32_t pages)
+{
+    VbDevice copy = *device;
+    if (!held)
+        return pages == 0;
+    return holds_chains(device, kind) && (device->status & DRIVER_OK) && !lacks_feature(device, kind)
+        && held <= queue_of(&copy, kind)->size && pages <= VB_MAX_RUNS;
+}
+
+/* Whether calls lead to this device, which holds this. */
+static bool is_possible(const VbDevice *device, const VbHeld *held)
 {
     return !are_impossible(&device->settings) && is_status(device->status) && are_agreed(device)
         && is_ring(device, VB_INFLATE) && is_ring(device, VB_DEFLATE) && is_ring(device, VB_STATISTICS)
         && is_ring(device, VB_REPORT) && (!device->poison || (device->settings.offered & VB_F_PAGE_POISON))
-        && (!held || ((device->status & DRIVER_OK) && !lacks_feature(device, VB_STATISTICS)
-                      && held <= device->statistics.size));
+        && may_be_held(device, VB_STATISTICS, held->statistics, 0)
+        && may_be_held(device, VB_DEFLATE, held->deflate, held->pages);
 }
 
-uint32_t vb_save(const VbDevice *device, uint32_t held, uint8_t *out, size_t room)
+uint32_t vb_save(const VbDevice *device, VbHeld held, uint8_t *out, size_t room)
 {
     VbDevice copy = *device;
     Cursor cursor = { out + sizeof STATE_BEGINS, true };
     if (room < VB_STATE_BYTES)
         return VB_BAD_LENGTH;
-    if (!is_possible(device, held))
+    if (!is_possible(device, &held))
         return VB_IMPOSSIBLE;
     memcpy(out, STATE_BEGINS, sizeof STATE_BEGINS);
-    state_numbers(&cursor, &copy, &held);
-    uint64_t sum = state_sum(out);
-    number(&cursor, &sum, 8);
+    state_numbers(&cursor, &copy, &held, true);
+    uint64_t sum = state_sum(out, VB_STATE_BYTES - SUM_BYTES);
+    number(&cursor, &sum, SUM_BYTES);
     return VB_OK;
 }
 
-uint32_t vb_restore(VbDevice *device, uint32_t *held, const uint8_t *bytes, size_t length)
+uint32_t vb_restore(VbDevice *device, VbHeld *held, const uint8_t *bytes, size_t length)
 {
     VbDevice restored;
-    uint32_t head;
+    VbHeld chains = { 0, 0, 0 };
     uint8_t copy[VB_STATE_BYTES];
     memset(&restored, 0, sizeof restored);
     if (length < sizeof STATE_BEGINS)
         return VB_BAD_LENGTH;
     if (memcmp(bytes, STATE_BEGINS, 8) != 0)
         return VB_NOT_A_STATE;
-    if (little(bytes + 8, 4) != 2)
+    uint64_t version = little(bytes + 8, 4);
+    if (version != STATE_VERSION && version != OLDER_VERSION)
         return VB_OTHER_VERSION;
-    if (little(bytes + 12, 4) != VB_STATE_BYTES || length != VB_STATE_BYTES)
+    size_t whole = version == STATE_VERSION ? VB_STATE_BYTES : OLDER_BYTES;
+    if (little(bytes + 12, 4) != whole || length != whole)
         return VB_BAD_LENGTH;
-    if (little(bytes + STATE_SUM_AT, 8) != state_sum(bytes))
+    if (little(bytes + whole - SUM_BYTES, SUM_BYTES) != state_sum(bytes, whole - SUM_BYTES))
         return VB_BAD_SUM;
-    memcpy(copy, bytes, sizeof copy);
+    memcpy(copy, bytes, whole);
     Cursor cursor = { copy + sizeof STATE_BEGINS, false };
-    state_numbers(&cursor, &restored, &head);
-    if (!is_possible(&restored, head))
+    state_numbers(&cursor, &restored, &chains, version == STATE_VERSION);
+    if (!is_possible(&restored, &chains))
         return VB_IMPOSSIBLE;
     *device = restored;
-    *held = head;
+    *held = chains;
     return VB_OK;
 }

@@ -64,6 +64,17 @@ static uint32_t ask_cut(const Call *call)
     return wait_for(call, AT_CUT, VB_DISCARD);
 }
 
+/* The chain is held until it is asked for. */
+static void hold(const Call *call, uint32_t pages)
+{
+    VbNotice *notice = call->notice;
+    notice->taken = 1;
+    notice->taken_pages = pages;
+    *held_of(&call->balloon->held, notice->kind) = 1 + (uint32_t)notice->head;
+    if (notice->kind == VB_DEFLATE)
+        call->balloon->held.pages = pages;
+}
+
 static uint32_t tell_pages(const Call *call, const Named *named)
 {
     VbNotice *notice = call->notice;
@@ -76,6 +87,8 @@ static uint32_t tell_pages(const Call *call, const Named *named)
     notice->skipped = named->skipped;
     notice->kept = is_kept(call) ? named->pages : 0;
     notice->pages_left = named->pages < notice->pages_left ? notice->pages_left - named->pages : 0;
+    if (holds_chains(&call->balloon->device, notice->kind))
+        hold(call, named->pages);
     notice->number = 0, notice->from = 0;
     return wait_for(call, AT_TOLD, VB_TELL_PAGES);
 }
@@ -93,17 +106,16 @@ static uint32_t serve_bytes(const Call *call)
     if (code != VB_OK)
         return end(call, code);
     notice->figures = count;
-    notice->taken = 1;
-    call->balloon->held = 1 + notice->head;
+    hold(call, 0);
     return wait_for(call, AT_FIGURES, VB_TELL_FIGURES);
 }
 
 static uint32_t after_given(const Call *call)
 {
     call->notice->given = 1;
-    if (call->notice->kind != VB_STATISTICS)
+    if (!call->notice->taken)
         return next_chain(call);
-    call->balloon->held = 0;
+    vb_forget_held(call->balloon, call->notice->kind);
     return end(call, VB_NOTHING);
 }
 
@@ -129,7 +141,8 @@ static uint32_t step(const Call *call, uint16_t answer)
     case AT_WORD: return after_entry(call, answer);
     case AT_DESCRIPTOR: return notice->from <= VB_MAX_BYTES / DESCRIPTOR_SIZE ? after_row(call) : stop(call, VB_BAD_ARGUMENT);
     case AT_PART: return after_part(call);
-    case AT_TOLD: case AT_CUT: return ask_cut(call);
+    case AT_TOLD: return notice->taken ? end(call, VB_NOTHING) : ask_cut(call);
+    case AT_CUT: return ask_cut(call);
     case AT_FIGURES: return end(call, VB_NOTHING);
     case AT_GIVEN: return after_given(call);
     case AT_FLAGS: return wait_for(call, AT_FLAG_WORD, VB_READ);
@@ -171,17 +184,23 @@ uint32_t vb_begin(VbNotice *notice, VbBalloon *balloon, const VbRegion *regions,
     notice->keeps = keeps != 0;
     if (!call.queue)
         return stop(&call, VB_NO_QUEUE);
-    kind == VB_STATISTICS && balloon->held ? stop(&call, VB_NOTHING) : look(&call);
+    is_held(balloon, kind) ? stop(&call, VB_NOTHING) : look(&call);
     return grouped(&call);
 }
 
-uint32_t vb_ask(VbNotice *notice, VbBalloon *balloon, const VbRegion *regions, size_t count, VbRoom *room)
+uint32_t vb_give_held(VbNotice *notice, VbBalloon *balloon, const VbRegion *regions, size_t count, VbRoom *room, uint32_t kind)
 {
-    const Call call = { notice, balloon, &balloon->device.statistics, regions, count, room };
+    const Call call = { notice, balloon, queue_of(&balloon->device, kind), regions, count, room };
     memset(notice, 0, sizeof *notice);
-    notice->kind = VB_STATISTICS;
-    notice->head = (uint16_t)(balloon->held - 1);
-    balloon->held ? give_back(&call) : stop(&call, VB_NOTHING);
+    notice->kind = kind;
+    if (!call.queue)
+        return stop(&call, VB_NO_QUEUE);
+    if (vb_held(balloon, kind, &notice->taken_pages) != VB_OK)
+        return stop(&call, VB_NOTHING);
+    uint32_t head = *held_of(&balloon->held, kind) - 1;
+    notice->head = head > UINT16_MAX ? UINT16_MAX : (uint16_t)head;
+    notice->taken = 1;
+    give_back(&call);
     return grouped(&call);
 }
 

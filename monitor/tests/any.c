@@ -1,4 +1,4 @@
-/* Any argument gets an answer: devices, lists and lengths at random, each list at the end of a page behind which
+/* Any argument gets an answer: devices, lists and lengths at random, each list at the end of a page after which
  * nothing is mapped. A refusal changes nothing, a broken rule the status alone, and where vb.h says what the answer
  * is, it is the plain implementation's.
  *

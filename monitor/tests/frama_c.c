@@ -114,7 +114,7 @@ static void any_call(void)
     uint8_t bytes[VB_STATE_BYTES];
     VbQueueStart start = { any_u64(), any_u64(), any_u64(), ANY_UP_TO(UINT16_MAX), ANY_UP_TO(UINT16_MAX) };
     uint16_t next;
-    switch (Frama_C_interval(0, 12)) {
+    switch (Frama_C_interval(0, 13)) {
     case 0: balloon_notify(&balloon, any_u32()); break;
     case 1: balloon_ask_statistics(&balloon); break;
     case 2: balloon_write_status(&balloon, ANY_UP_TO(255), &result); break;
@@ -126,7 +126,8 @@ static void any_call(void)
     case 8: balloon_set_regions(&balloon, regions, BALLOON_MOST_REGIONS + 1); break;
     case 9: balloon_start_queue(&balloon, any_u32(), start); break;
     case 10: balloon_stop_queue(&balloon, any_u32(), &next); break;
-    case 11: balloon_forget_held(&balloon); break;
+    case 11: balloon_forget_held(&balloon, any_u32()); break;
+    case 12: balloon_give_deflate(&balloon); break;
     default: balloon_negotiate(&balloon, any_u64()); break;
     }
 }

@@ -38,6 +38,8 @@ static void put_bytes(uint64_t address, uint64_t value, size_t bytes)
     memcpy(memory + address, &value, bytes);
 }
 
+static bool holds;
+
 /* A ready device of these kinds, each with its queue at the one place, in one region or two. */
 static void begin(uint32_t kind, uint32_t count)
 {
@@ -46,7 +48,7 @@ static void begin(uint32_t kind, uint32_t count)
     memset(memory, 0, PAGES * 4096);
     regions[0] = (struct balloon_region){ 0, count == 1 ? PAGES * 4096 : BORDER, memory, BALLOON_PRIVATE, 0, 0 };
     regions[1] = (struct balloon_region){ BORDER, PAGES * 4096 - BORDER, memory + BORDER, BALLOON_PRIVATE, 0, 0 };
-    EXPECT(balloon_init(&balloon, regions, count, (VbSettings){ .offered = LINUX_FEATURES }) == VB_OK);
+    EXPECT(balloon_init(&balloon, regions, count, (VbSettings){ .offered = LINUX_FEATURES, .holds_deflates = holds }) == VB_OK);
     balloon.discard = discard;
     balloon.on_pages = be_told;
     balloon.on_statistics = hear;
@@ -91,7 +93,7 @@ static void expect_touches(const struct touch *expected)
     uint32_t i = 0;
     for (; expected->what != OTHER; expected++) {
 #ifdef RUST_SHIM
-        if (expected->what == FENCE)
+        if (expected->what == FENCE || expected->what == SET)
             continue;
 #endif
         bool same = i < touch_count && touches[i].what == expected->what && touches[i].number == expected->number
@@ -183,6 +185,36 @@ static void statistics_are_in_order(void)
     expect_touches((const struct touch[]){ GIVEN, ASKED });
 }
 
+/* A deflate that is held is told, and nothing is written. Once it is granted its pages leave the set, which lies out of reach too where
+ * the shim works on it there, and then it is given back. */
+static void a_held_deflate_is_in_order(void)
+{
+    static uint64_t elsewhere;
+    holds = true;
+    begin(VB_DEFLATE, 1);
+    offer(VB_DEFLATE);
+    for (uint32_t i = 0; i < 5; i++)
+        put_bytes(BUFFER + 4 * i, NAMED + i, 4);
+    put_bytes(SET_AT, elsewhere = UINT64_MAX, 8);
+#ifdef RUST_SHIM
+    balloon.ballooned = &elsewhere;
+#else
+    balloon.ballooned = (uint64_t *)(void *)(memory + SET_AT);
+#endif
+    balloon.ballooned_words = 1;
+    struct balloon_result result = notify(VB_DEFLATE);
+    EXPECT(result.held && result.held_pages == 5 && result.chains == 0 && result.marked == 0);
+    expect_touches((const struct touch[]){ TAKEN, { BYTES, 0, READS }, { TOLD, VB_DEFLATE, READS }, { OTHER, 0, READS } });
+    touch_count = 0;
+    reach(PROT_NONE);
+    result = balloon_give_deflate(&balloon);
+    reach(PROT_READ | PROT_WRITE);
+    EXPECT(result.chains == 1 && result.interrupts == 1 << VB_DEFLATE && result.marked == 5);
+    EXPECT(*balloon.ballooned == (UINT64_MAX & ~(UINT64_C(31) << NAMED)) && memory[USED + 4] == 3 && memory[USED + 2] == 1);
+    expect_touches((const struct touch[]){ { SET, 0, READS }, GIVEN, ASKED });
+    holds = false;
+}
+
 /* The driver publishes a third chain while the second one is served. */
 static void publish_third(void *context, uint32_t kind, const VbRun *runs, uint32_t count)
 {
@@ -263,6 +295,7 @@ int main(void)
     a_report_is_in_order();
     pages_may_be_kept();
     statistics_are_in_order();
+    a_held_deflate_is_in_order();
     the_index_is_read_once();
     a_chain_in_a_row_is_copied_at_once();
     a_jump_out_of_a_row_is_copied_again();

@@ -24,7 +24,7 @@ static void saved_states_have_the_format(void)
         EXPECT(vb_restore(&restored.device, &restored.held, bytes, VB_STATE_BYTES) == VB_OK);
         EXPECT(are_same(&restored.device, restored.held, &it->device, it->held));
     }
-    EXPECT(state == 10);
+    EXPECT(state == 11);
 }
 
 /* A restore that is refused, by this name, and changes nothing. */
@@ -47,10 +47,11 @@ static void each_damaged_byte_is_refused(void)
         EXPECT(balloon_save(&guest.balloon, bytes, VB_STATE_BYTES) == VB_OK);
         bytes[VB_STATE_BYTES] = 0;
         for (size_t at = 0; at < VB_STATE_BYTES; at++) {
-            uint32_t code = at < 8 ? VB_NOT_A_STATE : at < 12 ? VB_OTHER_VERSION : at < 16 ? VB_BAD_LENGTH : VB_BAD_SUM;
             uint8_t good = bytes[at];
             for (unsigned change = 1; change < 256; change++) {
                 bytes[at] = good ^ (uint8_t)change;
+                bool older = at == 8 && bytes[at] == 2;         /* of another length */
+                uint32_t code = at < 8 ? VB_NOT_A_STATE : at < 12 && !older ? VB_OTHER_VERSION : at < 16 ? VB_BAD_LENGTH : VB_BAD_SUM;
                 is_refused(bytes, VB_STATE_BYTES, code, at);
             }
             bytes[at] = good;
@@ -67,6 +68,8 @@ static const struct { unsigned state; size_t at; int bytes; uint64_t value; } IM
     { 7, 16, 8, 8191 }, { 7, 16, 8, 1ull << 44 }, { 7, 16, 8, 0x10000 },         /* the end of memory; before the queues */
     { 7, 24, 8, 0x37 }, { 7, 24, 8, 1ull << 32 | 0x3f },                         /* offered */
     { 7, 38, 8, 1ull << 32 | 0x40 }, { 7, 38, 8, 0x27 }, { 7, 24, 8, 1ull << 32 }, /* features */
+    { 7, HOLD_AT + 1, 4, 65 }, { 7, HOLD_AT + 5, 4, 1 }, { 8, HOLD_AT, 1, 0 }, { 8, HOLD_AT + 1, 4, 0 },      /* a deflate that is held */
+    { 8, HOLD_AT + 1, 4, 65 }, { 8, HOLD_AT + 5, 4, 257 }, { 5, HOLD_AT + 1, 4, 1 },
     { 7, 54, 4, 65 }, { 7, 54, 4, UINT32_MAX }, { 7, 38, 8, 1ull << 32 | 0x25 },  /* held; moved without STATS_VQ */
     { 7, 58, 1, 0 }, { 7, 58, 1, 2 }, { 7, 58, 1, 3 }, { 7, 58, 1, 5 }, { 7, 58, 1, 7 }, { 7, 58, 1, 11 },
     { 7, 58, 1, 13 }, { 7, 58, 1, 14 }, { 7, 58, 1, 31 }, { 7, 58, 1, 47 }, { 5, 58, 1, 75 }, { 5, 58, 1, 0 },
@@ -83,7 +86,7 @@ static const struct { unsigned state; size_t at; int bytes; uint64_t value; } IM
 /* Fields that may have any value in a running device. */
 static const struct { size_t at; int bytes; } FREE[] = {
     { 32, 4 }, { 37, 1 }, { 46, 4 }, { 50, 4 }, { RINGS_AT + 26, 2 }, { RINGS_AT + 28, 2 },
-    { RINGS_AT + RING_BYTES + 26, 2 }, { RINGS_AT + 3 * RING_BYTES + 28, 2 }, { POISON_AT, 4 },
+    { RINGS_AT + RING_BYTES + 26, 2 }, { RINGS_AT + 3 * RING_BYTES + 28, 2 }, { POISON_AT, 4 }, { HOLD_AT, 1 },
 };
 
 static void impossible_devices_are_refused(void)
@@ -110,6 +113,34 @@ static void impossible_devices_are_refused(void)
     }
 }
 
+static const VbHeld NOTHING_HELD = { 0, 0, 0 };
+
+/* Bytes of version 2 are restored, as a device that neither holds a deflate nor may; damaged ones by name are not. */
+static void older_states_are_restored(void)
+{
+    for (unsigned state = 0; reach(state); state++) {
+        VbBalloon it = guest.balloon.state, restored;
+        uint8_t bytes[OLDER_BYTES + 9] = { 0 };
+        it.device.settings.holds_deflates = 0;
+        it.held.deflate = it.held.pages = 0;
+        encode_older(&it.device, it.held, bytes);
+        scribble_state(&restored);
+        EXPECT(vb_restore(&restored.device, &restored.held, bytes, OLDER_BYTES) == VB_OK);
+        EXPECT(are_same(&restored.device, restored.held, &it.device, it.held));
+        is_refused(bytes, VB_STATE_BYTES, VB_BAD_LENGTH, 0);
+        is_refused(bytes, OLDER_BYTES - 1, VB_BAD_LENGTH, 0);
+        bytes[100] ^= 1;
+        is_refused(bytes, OLDER_BYTES, VB_BAD_SUM, 100);
+        bytes[100] ^= 1;
+        for (unsigned version = 0; version < 5; version++) {
+            bytes[8] = (uint8_t)version;
+            put_sum_at(bytes, HOLD_AT);
+            if (version != 2)
+                is_refused(bytes, OLDER_BYTES, version == 3 ? VB_BAD_LENGTH : VB_OTHER_VERSION, 8);
+        }
+    }
+}
+
 /* What vb_save refuses: structs that were written to. */
 static void impossible_devices_are_not_saved(void)
 {
@@ -119,18 +150,18 @@ static void impossible_devices_are_not_saved(void)
     EXPECT(reach(7));
     VbDevice good = guest.balloon.state.device, device = good;
     device.status = 64;
-    EXPECT(vb_save(&device, 0, bytes, sizeof bytes) == VB_IMPOSSIBLE);
+    EXPECT(vb_save(&device, NOTHING_HELD, bytes, sizeof bytes) == VB_IMPOSSIBLE);
     device = good;
     device.inflate.table += 1;
-    EXPECT(vb_save(&device, 0, bytes, sizeof bytes) == VB_IMPOSSIBLE);
+    EXPECT(vb_save(&device, NOTHING_HELD, bytes, sizeof bytes) == VB_IMPOSSIBLE);
     device = good;
     device.settings.memory_end = 8192;
-    EXPECT(vb_save(&device, 0, bytes, sizeof bytes) == VB_IMPOSSIBLE);
-    EXPECT(vb_save(&good, 65, bytes, sizeof bytes) == VB_IMPOSSIBLE && memcmp(bytes, before, sizeof bytes) == 0);
+    EXPECT(vb_save(&device, NOTHING_HELD, bytes, sizeof bytes) == VB_IMPOSSIBLE);
+    EXPECT(vb_save(&good, (VbHeld){ .statistics = 65 }, bytes, sizeof bytes) == VB_IMPOSSIBLE && memcmp(bytes, before, sizeof bytes) == 0);
     const size_t rooms[] = { 0, 1, VB_STATE_BYTES - 1 };
     for (size_t i = 0; i < sizeof rooms / sizeof *rooms; i++)
         EXPECT(balloon_save(&guest.balloon, bytes, rooms[i]) == VB_BAD_LENGTH && memcmp(bytes, before, sizeof bytes) == 0);
-    EXPECT(vb_save(&good, 64, bytes, sizeof bytes) == VB_OK);
+    EXPECT(vb_save(&good, (VbHeld){ .statistics = 64 }, bytes, sizeof bytes) == VB_OK);
 }
 
 /* A balloon goes on where it stood; not over other memory, or with a queue in a hole. */
@@ -171,6 +202,7 @@ int main(void)
     make_memory(&guest, BALLOON_PRIVATE);
     saved_states_have_the_format();
     each_damaged_byte_is_refused();
+    older_states_are_restored();
     impossible_devices_are_refused();
     impossible_devices_are_not_saved();
     a_balloon_goes_on();

@@ -157,6 +157,7 @@ static uint32_t notice(uint32_t kind, uint64_t random)
     uint16_t index = (uint16_t)get(&guest, queue->avail + 2, 2);
     state->device.status = 15;
     state->device.settings.skips_bad_pages = random / 16 % 4 != 0;
+    state->device.settings.holds_deflates = random / 256 % 4 == 0;
     if (random % 4 != 0)
         queue->next_avail = (uint16_t)(index - random / 4 % 4);
     guest.balloon.keeps_pages = random / 64 % 4 == 0;
@@ -165,7 +166,9 @@ static uint32_t notice(uint32_t kind, uint64_t random)
     EXPECT(result.code <= VB_BROKEN && result.kept == (keeps ? result.pages : 0) && result.error == 0);
     EXPECT(!guest.balloon.keeps_pages || result.discarded == 0);
     EXPECT(result.configuration == (result.code == VB_BROKEN));
-    if (state->held && balloon_ask_statistics(&guest.balloon).code != VB_OK)
+    if (state->held.statistics && balloon_ask_statistics(&guest.balloon).code != VB_OK)
+        exit(1);
+    if (result.held && (result.held_pages != result.pages || balloon_give_deflate(&guest.balloon).code != VB_OK))
         exit(1);
     return result.code;
 }

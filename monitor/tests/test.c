@@ -4,6 +4,7 @@
 
 /* What other languages declare of vb.h has to have these sizes (rust/src/raw/structs.rs). */
 _Static_assert(sizeof(VbSettings) == 24 && sizeof(VbQueue) == 32 && sizeof(VbDevice) == 176, "a device's state");
+_Static_assert(sizeof(VbHeld) == 12 && sizeof(VbBalloon) == 192, "a device and what it holds");
 _Static_assert(sizeof(VbQueueStart) == 32, "where a queue starts");
 _Static_assert(sizeof(VbPiece) == 16 && sizeof(VbRun) == 8 && sizeof(VbStatistic) == 16, "lists");
 _Static_assert(sizeof(VbMarked) == 16, "what is marked");
@@ -20,6 +21,7 @@ int main(void)
     test_regions();
     test_set();
     test_statistics();
+    test_holds();
     test_reports();
     test_large_pages();
     test_holes();

@@ -10,6 +10,7 @@ use Rattle.vb_c.specs.{Marks.{marked_of, MarksFor}, Registers.Places}
 use Rattle.vb_c.specs.{Places.PlacesOver, Saving.Saves}
 use Rattle.vb_c.specs.declared.marks.VbMarked.{VbMarked}
 use Rattle.vb_c.proofs.Samples.{Same, begun, two, balloon}
+use Rattle.vb_c.proofs.Samples.{a_buffer}
 
 abbrev target_of : Device → ℕ
 target_of d = d.target
@@ -36,9 +37,9 @@ place_changes : Places Inflate 0 0x100 0x200 9 begun (changed begun) 6 → ⊥
 unfolding lib.Count.ones
 place_changes h = let e : Same 1 0 = ap target_of (h.denied Misplaced refl).1 in omega arith
 
-place_over_changes : PlacesOver Inflate two 0 0x100 0x200 9 balloon (record balloon { held = 5 }) 6 → ⊥
+place_over_changes : PlacesOver Inflate two 0 0x100 0x200 9 balloon (record balloon { held = a_buffer 5 }) 6 → ⊥
 unfolding lib.Count.ones
-place_over_changes h = let e : Same 5 4 = ap (λ (b : Balloon). b.held) (h.denied Misplaced refl).1 in omega arith
+place_over_changes h = let e : Same 5 4 = ap (λ (b : Balloon). b.held.statistics) (h.denied Misplaced refl).1 in omega arith
 
 -- ---- a queue that lies in memory is placed, and nothing else is changed
 

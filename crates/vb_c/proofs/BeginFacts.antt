@@ -12,6 +12,8 @@ use Rattle.vb_c.{specs.Codes.code_of_kind, specs.Notices.{tally_of, notice_of}}
 use Rattle.vb_c.specs.Serving.{room_in, HandsOver, with_device, Begins, BeginsIf, GoesOn, held_then}
 use Rattle.vb_c.proofs.HandingFacts.{spot, shown, nothing, at_index, handed}
 use Rattle.vb_c.proofs.Samples.{Same, two, begun, ready, balloon}
+use Rattle.vb_c.proofs.Samples.{a_buffer}
+use Rattle.vb_core.specs.declared.held.Held.{Held}
 
 abbrev room : VbRoom
 room = record { pieces = []; bytes = []; runs = []; figures = []; cuts = [] }
@@ -52,12 +54,13 @@ of_another_kind h =
 bytes_changed : Begins Reads two Inflate balloon balloon room (record room { bytes = 1 ∷ [] }) shown → ⊥
 bytes_changed h = let e : Same 1 0 = ap (λ (r : Room). length r.bytes) h.room in omega arith
 
-buffer_lost : Begins Reads two Inflate balloon (record balloon { held = 0 }) room room shown → ⊥
+buffer_lost : Begins Reads two Inflate balloon (record balloon { held = a_buffer 0 }) room room shown → ⊥
 buffer_lost h =
-    let noted : Same 4 (held_then h.hands.notice (with_device h.device balloon)) =
-    ap (λ (n : Notice). held_then n (with_device h.device balloon)) (handed_is at_index h.first (with_device h.device balloon)
-    (record balloon { held = 0 }) shown refl h.hands) in
-    let e : Same 0 (held_then h.hands.notice (with_device h.device balloon)) = h.hands.held in
+    let noted : Same 4 (held_then h.hands.notice (with_device h.device balloon)).statistics =
+    ap (λ (n : Notice). (held_then n (with_device h.device balloon)).statistics) (handed_is at_index h.first (with_device h.device balloon)
+    (record balloon { held = a_buffer 0 }) shown refl h.hands) in
+    let e : Same 0 (held_then h.hands.notice (with_device h.device balloon)).statistics =
+    ap (λ (x : Held). x.statistics) h.hands.held in
     omega (arith, noted, e)
 
 -- no chain is available, and the notice ends
@@ -96,7 +99,7 @@ abbrev eight : Budget
 eight = record { chains = 8; pages = 256; keeps = false }
 
 abbrev driven : Balloon
-driven = record { device = ready; held = 0 }
+driven = record { device = ready; held = a_buffer 0 }
 
 abbrev BeginsOf : Kind → VbRoom → Type 0
 BeginsOf kind then = BeginsIf true two kind eight driven driven room then shown
@@ -219,12 +222,13 @@ goes_on_as_another_kind h =
     let e : Same (kind_code h.next) 1 = ap (λ (k : Kind). code_of_kind (Some k)) h.kind_is in
     omega (arith, read, next, e)
 
-lost_meanwhile : GoesOn at_flags two 0 balloon (record balloon { held = 0 }) room room ended → ⊥
+lost_meanwhile : GoesOn at_flags two 0 balloon (record balloon { held = a_buffer 0 }) room room ended → ⊥
 lost_meanwhile h =
-    let noted : Same 4 (held_then h.hands.notice (with_device h.device balloon)) =
-    ap (λ (n : Notice). held_then n (with_device h.device balloon)) (handed_is at_end h.next (with_device h.device balloon)
-    (record balloon { held = 0 }) ended refl h.hands) in
-    let e : Same 0 (held_then h.hands.notice (with_device h.device balloon)) = h.hands.held in
+    let noted : Same 4 (held_then h.hands.notice (with_device h.device balloon)).statistics =
+    ap (λ (n : Notice). (held_then n (with_device h.device balloon)).statistics) (handed_is at_end h.next (with_device h.device balloon)
+    (record balloon { held = a_buffer 0 }) ended refl h.hands) in
+    let e : Same 0 (held_then h.hands.notice (with_device h.device balloon)).statistics =
+    ap (λ (x : Held). x.statistics) h.hands.held in
     omega (arith, noted, e)
 
 -- by flags that want no interrupt it doesn't end with one

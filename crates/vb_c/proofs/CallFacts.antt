@@ -75,7 +75,7 @@ in_another_queue : Places Inflate 0 0x100 0x200 8 begun (record begun { deflate 
 unfolding lib.Count.ones
 in_another_queue h = let e : Same 0 8 = ap (λ (d : Device). d.inflate.size) (h.placed_so refl).1 in omega arith
 
--- an available ring stands at an even address, and a used one at a multiple of four
+-- an available ring is at an even address, and a used one at a multiple of four
 at_an_even_address : Places Inflate 0 0x102 0x200 8 begun (record begun { inflate = placed 0 0x102 0x200 8 }) 0
 unfolding lib.Count.ones
 at_an_even_address = record { denied = λ why e. absurd cc; placed_so = λ e. (refl, refl) }

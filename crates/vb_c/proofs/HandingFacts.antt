@@ -13,6 +13,8 @@ use Rattle.vb_c.specs.declared.notice.{VbNotice.VbNotice, VbRoom.VbRoom}
 use Rattle.vb_virtio.specs.Tests.{one_if}
 use Rattle.vb_c.specs.{Notices.{tally_of, told_bits, asked_bits, answer_bits, what_of}, Serving.{held_then, Refuses}, Served.telling_pages}
 use Rattle.vb_c.{specs.Serving.HandsOver, proofs.Samples.{Same, two, begun, balloon}}
+use Rattle.vb_c.proofs.Samples.{a_buffer, chain_of}
+use Rattle.vb_core.specs.declared.held.Held.{Held}
 
 abbrev pub spot : Spot
 spot = record { region = 0; offset = 0x102 }
@@ -55,6 +57,7 @@ shown = record {
   phase = 1;
   keeps = 0;
   published = 0;
+  taken_pages = 0;
 }
 
 abbrev pub nothing : Asked
@@ -131,13 +134,14 @@ past_the_room n b1 b2 h = let e = h.is.read in absurd cc
 
 abbrev held_in : Option Notice → Balloon → ℕ
 held_in None b = 0
-held_in (Some n) b = held_then n b
+held_in (Some n) b = (held_then n b).statistics
 
 -- the buffer that is held isn't lost while the notice goes on
-buffer_lost : (n : Notice) → HandsOver n two [] balloon (record balloon { held = 0 }) [] shown → ⊥
+buffer_lost : (n : Notice) → HandsOver n two [] balloon (record balloon { held = a_buffer 0 }) [] shown → ⊥
 buffer_lost n h =
-    let noted : Same 4 (held_then h.notice balloon) = ap (λ (o : Option Notice). held_in o balloon) h.is.read in
-    let e : Same 0 4 = h.held ∙ sym noted in
+    let noted : Same 4 (held_then h.notice balloon).statistics =
+    ap (λ (o : Option Notice). held_in o balloon) h.is.read in
+    let e : Same 0 4 = ap (λ (x : Held). x.statistics) h.held ∙ sym noted in
     omega arith
 
 -- ---- how many of the pages that are told are kept
@@ -203,25 +207,29 @@ told_of_3 : telling_pages Inflate (tally_of shown) 3 two_pages ≡
     record { kind = Inflate; step = record { tally = tally_of shown; phase = TellsPages 3 two_pages } }
 told_of_3 = refl
 
--- ---- the buffer that is held: another one where a notice of statistics has ended that took one
+-- ---- what is held: a chain where a notice has ended that took one of a kind that is held
 
 abbrev taking : Kind → Phase → Notice
 taking kind phase =
-    record { kind = kind; step = record { tally = record (tally_of shown) { held = Some 6 }; phase = phase } }
+    record { kind = kind; step = record { tally = record (tally_of shown) { held = chain_of 6 2 }; phase = phase } }
 
-held_then_7 : held_then (taking Statistics (Ended None false false)) balloon ≡ 7
+held_then_7 : held_then (taking Statistics (Ended None false false)) (record balloon { held = a_buffer 0 }) ≡ a_buffer 7
 held_then_7 = refl
 
-not_yet : held_then (taking Statistics (AwaitsIndex spot)) balloon ≡ 4
+of_deflates : held_then (taking Deflate (Ended None false false)) balloon
+    ≡ record (a_buffer 4) { deflate = 7; pages = 2 }
+of_deflates = refl
+
+not_yet : held_then (taking Deflate (AwaitsIndex spot)) balloon ≡ a_buffer 4
 not_yet = refl
 
-of_inflates : held_then (taking Inflate (Ended None false false)) balloon ≡ 4
+of_inflates : held_then (taking Inflate (Ended None false false)) balloon ≡ a_buffer 4
 of_inflates = refl
 
 -- ---- what is refused changes nothing
 
-refused_and_forgotten : (r1 r2 : VbRoom) (c : VbNotice) → Refuses 1 balloon (record balloon { held = 0 }) r1 r2 c → ⊥
-refused_and_forgotten r1 r2 c h = let e : Same 0 4 = ap (λ (b : Balloon). b.held) h.balloon in omega arith
+refused_and_forgotten : (r1 r2 : VbRoom) (c : VbNotice) → Refuses 1 balloon (record balloon { held = a_buffer 0 }) r1 r2 c → ⊥
+refused_and_forgotten r1 r2 c h = let e : Same 0 4 = ap (λ (b : Balloon). b.held.statistics) h.balloon in omega arith
 
 -- ---- where nothing is asked for, it has ended
 

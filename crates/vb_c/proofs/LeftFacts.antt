@@ -7,11 +7,12 @@ use Rattle.vb_monitor.{specs.declared.balloon.Balloon.Balloon, specs.Places.Lies
 use Rattle.vb_c.specs.Registers.{Negotiates, WritesStatus, Places}
 use Rattle.vb_c.specs.Places.{MapsAnew, PlacesOver}
 use Rattle.vb_c.proofs.Samples.{Same, settings, two, first_alone}
+use Rattle.vb_c.proofs.Samples.{a_buffer}
 
 -- no field of it is as a device has it that was just made
 abbrev full : Device
 full = record {
-  settings = record settings { offered = 0x100000037; reserved_pages = 3; needs_must_tell = 1; skips_bad_pages = 1 };
+  settings = record settings { offered = 0x100000037; reserved_pages = 3; needs_must_tell = 1; skips_bad_pages = 1; holds_deflates = 1 };
   features = 0x100000037;
   target = 20;
   actual = 21;
@@ -59,15 +60,15 @@ poison_over_a_reset h = let e : Same 22 0 = ap (λ (d : Device). d.poison) (h.ac
 -- ---- other regions
 
 abbrev holding : Balloon
-holding = record { device = full; held = 4 }
+holding = record { device = full; held = a_buffer 4 }
 
 mapped : (b : Balloon) (n : ℕ) → MapsAnew first_alone holding b n → (n ≡ 0)
-    × (b ≡ record { device = record full { settings = record full.settings { memory_end = 0x15000 } }; held = 4 })
+    × (b ≡ record { device = record full { settings = record full.settings { memory_end = 0x15000 } }; held = a_buffer 4 })
 mapped b n h = h.mapped refl
 
 unheld_too : MapsAnew first_alone holding
-    (record { device = record full { settings = record full.settings { memory_end = 0x15000 } }; held = 0 }) 0 → ⊥
-unheld_too h = let e : Same 0 4 = ap (λ (b : Balloon). b.held) (h.mapped refl).1 in omega arith
+    (record { device = record full { settings = record full.settings { memory_end = 0x15000 } }; held = a_buffer 0 }) 0 → ⊥
+unheld_too h = let e : Same 0 4 = ap (λ (b : Balloon). b.held.statistics) (h.mapped refl).1 in omega arith
 
 -- ---- places
 
@@ -83,6 +84,6 @@ another_queue_too h = let e : Same 4 32 = ap (λ (d : Device). d.deflate.size) (
 
 placed_over_alone : (b : Balloon) (n : ℕ) → Lies two (placed 0 0x100 0x200 4) →
     PlacesOver Statistics two 0 0x100 0x200 4 holding b n →
-    b ≡ record { device = record full { statistics = placed 0 0x100 0x200 4 }; held = 4 }
+    b ≡ record { device = record full { statistics = placed 0 0x100 0x200 4 }; held = a_buffer 4 }
 unfolding lib.Count.ones
 placed_over_alone b n lies h = (h.placed_so refl lies).1

@@ -11,12 +11,13 @@ use Rattle.vb_monitor.{specs.declared.placing.RestoreDenial.TheVariants.State, s
 use Rattle.vb_c.specs.Places.{code_of_restore, StartsOver, MapsAnew, PlacesOver, PlacesOverFor}
 use Rattle.vb_c.{specs.Codes.{code_in, number_in}, specs.Places.{SetsStatus, RestoresOver}}
 use Rattle.vb_c.proofs.Samples.{Same, settings, begun, ready, two, first_alone, half, balloon}
+use Rattle.vb_c.proofs.Samples.{a_buffer}
 
 abbrev held_of : Balloon → ℕ
-held_of b = b.held
+held_of b = b.held.statistics
 
 abbrev changed : Balloon
-changed = record balloon { held = 5 }
+changed = record balloon { held = a_buffer 5 }
 
 -- ---- a start
 
@@ -24,16 +25,16 @@ abbrev made_of : Option Balloon → Balloon
 made_of None = balloon
 made_of (Some b) = b
 
-started : StartsOver settings two balloon (record { device = new_device settings; held = 0 }) 0
+started : StartsOver settings two balloon (record { device = new_device settings; held = a_buffer 0 }) 0
 started = record { made = λ b e. (refl, ap made_of e); denied = λ e. absurd cc }
 
 not_over_half_a_page : StartsOver settings half balloon balloon 7
 not_over_half_a_page = record { made = λ b e. absurd cc; denied = λ e. (refl, refl) }
 
-started_although_refused : StartsOver settings half balloon (record { device = new_device settings; held = 0 }) 7 → ⊥
+started_although_refused : StartsOver settings half balloon (record { device = new_device settings; held = a_buffer 0 }) 7 → ⊥
 started_although_refused h = let e : Same 0 4 = ap held_of (h.denied refl).1 in omega arith
 
-held_still : StartsOver settings two balloon (record { device = new_device settings; held = 4 }) 0 → ⊥
+held_still : StartsOver settings two balloon (record { device = new_device settings; held = a_buffer 4 }) 0 → ⊥
 held_still h = let e : Same 4 0 = ap held_of (h.made _ refl).1 in omega arith
 
 refused_although_possible : (b : Balloon) → StartsOver settings two balloon b 7 → ⊥

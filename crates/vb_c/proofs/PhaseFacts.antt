@@ -2,7 +2,7 @@
 use Rattle.std.proofs.Common.{◌≡◌, refl, ap, arith, ℕ, Bool, true, false, [], ◌∷◌, map, Option, Some, None}
 use Rattle.vb_chain.specs.declared.fault.ChainFault.TheVariants.{TooLong}
 use Rattle.vb_core.specs.declared.ring.UsedEntry.{UsedEntry}
-use Rattle.vb_core.specs.declared.kinds.Kind.TheVariants.{Inflate, Statistics}
+use Rattle.vb_core.specs.declared.kinds.Kind.TheVariants.{Inflate, Deflate, Statistics}
 use Rattle.vb_core.specs.declared.device.Denial.TheVariants.{NoQueue, BadArgument, NotReady, NeedsReset, Misplaced, Broken}
 use Rattle.vb_monitor.specs.declared.{regions.Spot.Spot, outcome.Tally.Tally}
 use Rattle.vb_monitor.specs.declared.{outcome.Outcome.Outcome, orders.Orders.Orders}
@@ -16,6 +16,9 @@ use Rattle.vb_c.specs.Notices.{walk_of, phase_of, notice_of, end_code, end_rule,
 use Rattle.vb_c.specs.Notices.{answer_bits, why_code, place_of, cut_of_notice, discarding_of}
 use Rattle.vb_c.specs.{Notices.{SameElse, IsNotice, HasEnded}, Serving.{held_by, held_then}}
 use Rattle.vb_c.proofs.Samples.{Same, balloon}
+use Rattle.vb_monitor.specs.declared.balloon.Balloon.{Balloon}
+use Rattle.vb_c.proofs.Samples.{a_buffer, chain_of}
+use Rattle.vb_monitor.specs.declared.outcome.HeldChain.{HeldChain}
 
 abbrev spot : Spot
 spot = record { region = 1; offset = 0x102 }
@@ -61,6 +64,7 @@ notice = record {
   phase = 1;
   keeps = 0;
   published = 14;
+  taken_pages = 15;
 }
 
 -- ---- what it waits for
@@ -95,7 +99,7 @@ last_that_fits = refl
 one_past_it : phase_of (record notice { phase = 4; into = 1021 }) ≡ None
 one_past_it = refl
 
-tally_is : tally_of notice ≡ record { chains = 9; pages = 10; keeps = false; given = false; held = Some 13; published = 14 }
+tally_is : tally_of notice ≡ record { chains = 9; pages = 10; keeps = false; given = false; held = chain_of 13 15; published = 14 }
 tally_is = refl
 
 keeping : map (λ n. (tally_of (record notice { keeps = n })).keeps) (0 ∷ 1 ∷ 7 ∷ []) ≡ false ∷ true ∷ true ∷ []
@@ -172,6 +176,14 @@ nothing_else = (refl, refl, refl)
 another_tally : SameElse notice (record notice { chains_left = 8 }) → ⊥
 another_tally h = let e : Same 8 9 = ap (λ (t : Tally). t.chains) h.0 in omega arith
 
+abbrev pages_in : Option HeldChain → ℕ
+pages_in None = 0
+pages_in (Some x) = x.pages
+
+pages_forgotten : SameElse notice (record notice { taken_pages = 14 }) → ⊥
+pages_forgotten h =
+    let e : Same 14 15 = ap (λ (t : Tally). pages_in t.held) h.0 in omega arith
+
 buffer_forgotten : SameElse notice (record notice { taken = 0 }) → ⊥
 buffer_forgotten h = let e = ap (λ (t : Tally). t.held) h.0 in absurd cc
 
@@ -209,13 +221,13 @@ of_sixteen_bits = refl
 
 -- ---- its end
 
-abbrev tally : Bool → Option ℕ → Tally
+abbrev tally : Bool → Option HeldChain → Tally
 tally given held = record { chains = 0; pages = 0; keeps = false; given = given; held = held; published = 0 }
 
 served : end_code None (tally true None) ≡ 0
 served = refl
 
-held : end_code None (tally false (Some 3)) ≡ 0
+held : end_code None (tally false (chain_of 3 2)) ≡ 0
 held = refl
 
 nothing_stood_there : end_code None (tally false None) ≡ 1
@@ -297,22 +309,28 @@ by_a_rule h = let e : Same 3 0 = h.rule in omega arith
 with_a_change : HasEnded (record over { configuration = 1 }) 7 → ⊥
 with_a_change h = let e : Same 1 0 = h.configuration in omega arith
 
--- ---- the buffer that is held
+-- ---- the chains that are held
 
 abbrev outcome : Outcome
-outcome = record { tally = tally false (Some 6); why = None; interrupt = false; more = false }
+outcome = record { tally = tally false (chain_of 6 2); why = None; interrupt = false; more = false }
 
-taken_by_statistics : held_by (Some outcome) Statistics balloon ≡ 7
+abbrev none : Balloon
+none = record balloon { held = a_buffer 0 }
+
+taken_by_statistics : held_by (Some outcome) Statistics none ≡ a_buffer 7
 taken_by_statistics = refl
 
-kept_by_others : held_by (Some outcome) Inflate balloon ≡ 4
+taken_by_deflates : held_by (Some outcome) Deflate balloon ≡ record (a_buffer 4) { deflate = 7; pages = 2 }
+taken_by_deflates = refl
+
+kept_by_others : held_by (Some outcome) Inflate balloon ≡ a_buffer 4
 kept_by_others = refl
 
-kept_meanwhile : held_by None Statistics balloon ≡ 4
+kept_meanwhile : held_by None Statistics balloon ≡ a_buffer 4
 kept_meanwhile = refl
 
 noted_at_its_end : held_then (record {
   kind = Statistics;
   step = record { tally = tally true None; phase = Ended None true false };
-}) balloon ≡ 0
+}) balloon ≡ a_buffer 0
 noted_at_its_end = refl

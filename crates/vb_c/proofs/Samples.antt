@@ -1,7 +1,8 @@
 -- Settings, regions and balloons that the facts share.
-use Rattle.std.proofs.Common.{◌≡◌, ℕ, [], ◌∷◌, List}
+use Rattle.std.proofs.Common.{◌≡◌, ℕ, [], ◌∷◌, List, Option, Some}
 use Rattle.vb_core.{specs.declared.settings.Settings.Settings, specs.declared.device.Device.Device}
-use Rattle.vb_core.specs.Devices.{new_device, placed}
+use Rattle.vb_core.specs.{Devices.{new_device, placed}, declared.held.Held.Held}
+use Rattle.vb_monitor.specs.declared.outcome.HeldChain.{HeldChain}
 use Rattle.vb_monitor.{specs.declared.regions.Region.Region, specs.declared.balloon.Balloon.Balloon}
 
 abbrev pub Same : ℕ → ℕ → Type 0
@@ -14,6 +15,7 @@ settings = record {
   reserved_pages = 0;
   needs_must_tell = 0;
   skips_bad_pages = 0;
+  holds_deflates = 0;
 }
 
 -- settings that no device may have: no memory
@@ -40,5 +42,13 @@ first_alone = record { guest = 0; length = 0x15000; in_file = 0 } ∷ []
 abbrev pub half : List Region
 half = record { guest = 0; length = 0x800; in_file = 0 } ∷ []
 
+-- 1 more than the head of a buffer of statistics is held
+abbrev pub a_buffer : ℕ → Held
+a_buffer n = record { statistics = n; deflate = 0; pages = 0 }
+
+-- a chain of this head is held, which names so many pages
+abbrev pub chain_of : ℕ → ℕ → Option HeldChain
+chain_of head pages = Some (record { head = head; pages = pages })
+
 abbrev pub balloon : Balloon
-balloon = record { device = begun; held = 4 }
+balloon = record { device = begun; held = a_buffer 4 }

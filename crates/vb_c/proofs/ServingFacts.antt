@@ -1,16 +1,17 @@
 -- From which balloon, room and lists a notice begins, goes on and is handed over.
 use Rattle.std.proofs.Common.{◌≡◌, refl, ℕ, true, false, List, ◌++◌, Some}
 use Rattle.vb_core.specs.declared.kinds.Kind.{Kind}
-use Rattle.vb_core.specs.declared.kinds.Kind.TheVariants.{Inflate, Statistics}
+use Rattle.vb_core.specs.declared.kinds.Kind.TheVariants.{Inflate}
+use Rattle.vb_monitor.specs.declared.outcome.HeldChain.{HeldChain}
 use Rattle.vb_core.specs.declared.{device.{Device.Device, Denial.Denial}, runs.Run.Run}
 use Rattle.vb_monitor.specs.declared.outcome.{Outcome.Outcome, Budget.Budget, Tally.Tally}
 use Rattle.vb_monitor.specs.declared.{balloon.Balloon.Balloon, cuts.Cut.Cut, notice.Notice.Notice}
-use Rattle.vb_monitor.specs.{Accesses.Access, Ends.Ends, Machine.{Room, Ahead, Awaited, whole, room_of}, Notices.{Serves, AsksStatistics}}
+use Rattle.vb_monitor.specs.{Accesses.Access, Ends.Ends, Machine.{Room, Ahead, Awaited, whole, room_of}, Notices.{Serves, GivesHeldBack}}
 use Rattle.vb_c.specs.declared.notice.{VbNotice.VbNotice, VbRoom.VbRoom}
-use Rattle.vb_c.specs.{Serving.{room_in, with_device, HandsOver, Begins, BeginsIf, BeginsFor, AsksFor, GoesOn}, Served.Denies}
+use Rattle.vb_c.specs.{Serving.{room_in, with_device, HandsOver, Begins, BeginsIf, BeginsFor, GivesHeldOf, GoesOn}, Served.Denies}
 use Rattle.vb_c.proofs.Samples.{two, balloon}
 
--- ---- a notice of a queue is of the device as it was, and may begin while a buffer of statistics
+-- ---- a notice of a queue is of the device as it was, and may begin while a chain of another one
 -- is held
 
 of_the_device_before : (kind : Kind) (budget : Budget) (b1 b2 : Balloon) (r1 r2 : VbRoom) (c : VbNotice) →
@@ -22,9 +23,10 @@ while_one_is_held : (budget : Budget) (b2 : Balloon) (r1 r2 : VbRoom) (c : VbNot
     BeginsFor (Some Inflate) two budget balloon b2 r1 r2 c → BeginsIf true two Inflate budget balloon b2 r1 r2 c
 while_one_is_held budget b2 r1 r2 c h = h
 
-of_the_buffer : (b1 b2 : Balloon) (r1 r2 : VbRoom) (c : VbNotice) → AsksFor (Some 3) two b1 b2 r1 r2 c →
-    Begins (λ after outcome log. AsksStatistics two 3 b1.device after outcome log) two Statistics b1 b2 r1 r2 c
-of_the_buffer b1 b2 r1 r2 c h = h
+of_the_chain : (kind : Kind) (held : HeldChain) (b1 b2 : Balloon) (r1 r2 : VbRoom) (c : VbNotice) →
+    GivesHeldOf (Some held) two kind b1 b2 r1 r2 c →
+    Begins (λ after outcome log. GivesHeldBack two kind held b1.device after outcome log) two kind b1 b2 r1 r2 c
+of_the_chain kind held b1 b2 r1 r2 c h = h
 
 -- ---- what is handed over is of the lists as they are then
 

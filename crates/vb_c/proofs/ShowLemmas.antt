@@ -10,7 +10,7 @@ use Rattle.vb_chain.specs.declared.fault.ChainFault.TheVariants.{ReservedPage}
 use Rattle.vb_core.specs.declared.device.Denial.{Denial}
 use Rattle.vb_core.specs.declared.device.Denial.TheVariants.{NoQueue, BadArgument, NotReady}
 use Rattle.vb_core.specs.declared.device.Denial.TheVariants.{NeedsReset, Misplaced, Broken}
-use Rattle.vb_monitor.specs.declared.outcome.Tally.{Tally}
+use Rattle.vb_monitor.specs.declared.outcome.{HeldChain.HeldChain, Tally.Tally}
 use Rattle.vb_c.specs.Codes.{code_of, rule_in, why_of}
 use Rattle.vb_c.specs.Notices.{end_code, end_rule, why_code, taken_code}
 
@@ -31,7 +31,7 @@ some_back NoQueue = refl
 some_back Misplaced = refl
 some_back BadArgument = refl
 
-none_back : (given : Bool) (held : Option ℕ) →
+none_back : (given : Bool) (held : Option HeldChain) →
     why_of (if given then 0 else taken_code held) 0 ≡ None
 none_back true held = refl
 none_back false (Some head) = refl

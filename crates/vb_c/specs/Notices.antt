@@ -12,7 +12,7 @@ use Rattle.vb_monitor.specs.declared.cuts.Cut.{Cut}
 use Rattle.vb_monitor.specs.declared.orders.Told.{Told}
 use Rattle.vb_monitor.specs.declared.orders.Told.TheVariants.{Nothing, Pages, Figures}
 use Rattle.vb_monitor.specs.declared.orders.Asked.{Asked}
-use Rattle.vb_monitor.specs.declared.outcome.Tally.{Tally}
+use Rattle.vb_monitor.specs.declared.outcome.{HeldChain.HeldChain, Tally.Tally}
 use Rattle.vb_monitor.specs.declared.step.Walk.{Walk}
 use Rattle.vb_monitor.specs.declared.step.Place.{Place}
 use Rattle.vb_monitor.specs.declared.step.Discarding.{Discarding}
@@ -32,13 +32,16 @@ use Rattle.vb_c.specs.Codes.{code_of, rule_in, why_of, kind_of_code}
 abbrev pub says_yes : ℕ → Bool
 says_yes n = not (n == 0)
 
+abbrev pub held_in : Bool → ℕ → ℕ → Option HeldChain
+held_in none head pages = if none then None else Some (record { head = head; pages = pages })
+
 abbrev pub tally_of : VbNotice → Tally
 tally_of c = record {
   chains = c.chains_left;
   pages = c.pages_left;
   keeps = says_yes c.keeps;
   given = says_yes c.given;
-  held = if c.taken == 0 then None else Some c.taken_head;
+  held = held_in (c.taken == 0) c.taken_head c.taken_pages;
   published = c.published;
 }
 
@@ -103,8 +106,8 @@ notice_of c = notice_by (kind_of_code c.kind) (phase_of c) (tally_of c)
 
 -- ---- what else it says
 
-abbrev pub taken_code : Option ℕ → ℕ
-taken_code (Some head) = 0
+abbrev pub taken_code : Option HeldChain → ℕ
+taken_code (Some held) = 0
 taken_code None = 1
 
 -- What a notice came to: why its last chain wasn't served; else whether one was.

@@ -1,6 +1,7 @@
 -- What the exports that save and restore a device answer.
 use Rattle.std.specs.Prelude.{◌≡◌, ℕ, List, ◌++◌, drop, length, Some, None, Ok, Err}
 use Rattle.vb_core.specs.declared.device.Device.{Device}
+use Rattle.vb_core.specs.declared.held.Held.{Held}
 use Rattle.vb_core.specs.declared.saved.Saved.{Saved}
 use Rattle.vb_core.specs.declared.saved.StateDenial.{StateDenial}
 use Rattle.vb_core.specs.declared.saved.StateDenial.TheVariants.{BadLength, NotAState}
@@ -24,8 +25,9 @@ pub record Saves (s : Saved) (old new : List ℕ) (result : ℕ) : Type 0 where
       (result ≡ 0) × FitsSaved s × (new ≡ saved_bytes s ++ drop SAVED_LENGTH old)
 
 -- The device is that of the bytes, or stays as it is.
-pub record Restores (bytes : List ℕ) (d1 d2 : Device) (held1 held2 result : ℕ) : Type 0 where
-  pub denied : (why : StateDenial) → restored bytes ≡ Err why →
-      (result ≡ code_of_state why) × (d2 ≡ d1) × (held2 ≡ held1)
-  pub restored_so : (s : Saved) → restored bytes ≡ Ok s →
-      (result ≡ 0) × (d2 ≡ s.device) × (held2 ≡ s.held)
+pub record Restores (bytes : List ℕ) (d1 d2 : Device) (held1 held2 : Held) (result : ℕ) : Type 0
+  where
+    pub denied : (why : StateDenial) → restored bytes ≡ Err why →
+        (result ≡ code_of_state why) × (d2 ≡ d1) × (held2 ≡ held1)
+    pub restored_so : (s : Saved) → restored bytes ≡ Ok s →
+        (result ≡ 0) × (d2 ≡ s.device) × (held2 ≡ s.held)

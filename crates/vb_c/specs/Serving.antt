@@ -2,7 +2,7 @@
 -- plain data.
 use Rattle.std.specs.Prelude.{◌≡◌, ℕ, Bool, true, false, List, ◌++◌, Option, Some, None}
 use Rattle.vb_core.specs.declared.kinds.Kind.{Kind}
-use Rattle.vb_core.specs.declared.kinds.Kind.TheVariants.{Statistics}
+use Rattle.vb_core.specs.declared.held.Held.{Held}
 use Rattle.vb_core.specs.declared.device.Device.{Device}
 use Rattle.vb_core.specs.declared.device.Denial.TheVariants.{BadArgument, NoQueue}
 use Rattle.vb_core.specs.declared.pieces.ChainPiece.{ChainPiece}
@@ -19,8 +19,9 @@ use Rattle.vb_monitor.specs.declared.notice.Notice.{Notice}
 use Rattle.vb_core.specs.Config.{keeps_reports}
 use Rattle.vb_monitor.specs.Accesses.{Access}
 use Rattle.vb_monitor.specs.Giving.{is_kept, kept_pages}
-use Rattle.vb_monitor.specs.Balloons.{may_look, held_after}
-use Rattle.vb_monitor.specs.Notices.{Serves, AsksStatistics}
+use Rattle.vb_monitor.specs.declared.outcome.HeldChain.{HeldChain}
+use Rattle.vb_monitor.specs.Balloons.{may_look, held_chain, held_after}
+use Rattle.vb_monitor.specs.Notices.{Serves, GivesHeldBack}
 use Rattle.vb_monitor.specs.Machine.{Fits, waits, Room, Ahead, Awaited, whole, room_of}
 use Rattle.vb_monitor.specs.Machine.{outcome_at}
 use Rattle.vb_monitor.specs.Orders.{at_once, HasRoom, FillsList}
@@ -29,12 +30,12 @@ use Rattle.vb_c.specs.declared.notice.VbRoom.{VbRoom}
 use Rattle.vb_c.specs.Codes.{code_of}
 use Rattle.vb_c.specs.Notices.{IsNotice, HasEnded}
 
-abbrev pub held_by : Option Outcome → Kind → Balloon → ℕ
+abbrev pub held_by : Option Outcome → Kind → Balloon → Held
 held_by (Some outcome) kind b = held_after kind outcome b
 held_by None kind b = b.held
 
--- The buffer that is held behind a step: what the notice came to is noted once it has ended.
-abbrev pub held_then : Notice → Balloon → ℕ
+-- What is held after a step: what the notice came to is noted once it has ended.
+abbrev pub held_then : Notice → Balloon → Held
 held_then n b = held_by (outcome_at n.step.phase n.step.tally) n.kind b
 
 abbrev pub room_in : VbRoom → Room
@@ -92,20 +93,27 @@ BeginsIf true regions kind budget b1 b2 r1 r2 c =
     kind b1 b2 r1 r2 c
 BeginsIf false regions kind budget b1 b2 r1 r2 c = Refuses 1 b1 b2 r1 r2 c
 
--- The queue of a kind is served; nothing is where its buffer of statistics is held.
+-- The queue of a kind is served; nothing is where a chain of it is held.
 abbrev pub BeginsFor : Option Kind → List Region → Budget → Balloon → Balloon → VbRoom → VbRoom →
     VbNotice → Type 0
 BeginsFor None regions budget b1 b2 r1 r2 c = Refuses (code_of NoQueue) b1 b2 r1 r2 c
 BeginsFor (Some kind) regions budget b1 b2 r1 r2 c =
     BeginsIf (may_look kind b1) regions kind budget b1 b2 r1 r2 c
 
--- New statistics are asked for, where a buffer is held.
-abbrev pub AsksFor : Option ℕ → List Region → Balloon → Balloon → VbRoom → VbRoom → VbNotice →
-    Type 0
-AsksFor None regions b1 b2 r1 r2 c = Refuses 1 b1 b2 r1 r2 c
-AsksFor (Some head) regions b1 b2 r1 r2 c =
-    Begins (λ after outcome log. AsksStatistics regions head b1.device after outcome log) regions
-    Statistics b1 b2 r1 r2 c
+-- A chain is given back, where it is held.
+abbrev pub GivesHeldOf : Option HeldChain → List Region → Kind → Balloon → Balloon → VbRoom →
+    VbRoom → VbNotice → Type 0
+GivesHeldOf None regions kind b1 b2 r1 r2 c = Refuses 1 b1 b2 r1 r2 c
+GivesHeldOf (Some held) regions kind b1 b2 r1 r2 c =
+    Begins (λ after outcome log. GivesHeldBack regions kind held b1.device after outcome log)
+    regions kind b1 b2 r1 r2 c
+
+-- The chain that is held of a kind's queue is given back.
+abbrev pub GivesHeldFor : Option Kind → List Region → Balloon → Balloon → VbRoom → VbRoom →
+    VbNotice → Type 0
+GivesHeldFor None regions b1 b2 r1 r2 c = Refuses (code_of NoQueue) b1 b2 r1 r2 c
+GivesHeldFor (Some kind) regions b1 b2 r1 r2 c =
+    GivesHeldOf (held_chain kind b1.held) regions kind b1 b2 r1 r2 c
 
 -- A notice goes on with this answer: where this was done, and whatever may still come then, the
 -- whole may come. It is handed over then.

@@ -17,8 +17,8 @@ use crate::rules::{
 use vb_chain::{ChainFault, DESCRIPTOR_SIZE};
 use vb_core::{ChainPiece, Denial, Run, Statistic};
 use vb_monitor::{
-    Cut, Discarding, MAX_BYTES, MAX_CUTS, MAX_FIGURES, MAX_PIECES, MAX_RUNS, Notice, Orders, Phase,
-    Place, Spot, Step, Tally, Walk,
+    Cut, Discarding, HeldChain, MAX_BYTES, MAX_CUTS, MAX_FIGURES, MAX_PIECES, MAX_RUNS, Notice,
+    Orders, Phase, Place, Spot, Step, Tally, Walk,
 };
 
 /// The available index is read.
@@ -89,6 +89,7 @@ pub struct VbNotice {
     pub phase: u8,
     pub keeps: u8,
     pub published: u16,
+    pub taken_pages: u32,
 }
 
 /// The room that a notice needs.
@@ -151,7 +152,10 @@ impl VbNotice {
             held: if self.taken == 0 {
                 None
             } else {
-                Some(self.taken_head)
+                Some(HeldChain {
+                    head: self.taken_head,
+                    pages: self.taken_pages,
+                })
             },
             published: self.published,
         }

@@ -1,8 +1,9 @@
-//! Queues of a balloon over regions that start at an index and stop, and the held buffer.
+//! Queues of a balloon over regions that start at an index and stop, and what is held of them.
 
 ghost use Rattle.std.specs.Prelude.{◌≡◌};
 ghost use Rattle.vb_c.specs.Codes.{kind_of_code};
-ghost use Rattle.vb_c.specs.Queues.{StartsFor, StopsFor, Forgets, code_of_stop, next_of};
+ghost use Rattle.vb_c.specs.Queues.{StartsFor, StopsFor, ForgetsFor, SaysHeld};
+ghost use Rattle.vb_c.specs.Queues.{code_of_stop, next_of};
 
 use crate::answers::{NO_QUEUE, NOTHING, OK, code_of, kind_of_code};
 use crate::registers::code_in;
@@ -60,10 +61,37 @@ pub extern "C" fn vb_stop_queue(balloon: &mut Balloon, kind: u32, next: &mut u16
     }
 }
 
-/// Forgets the buffer of statistics that is held.
+/// Forgets the chain that is held of a queue.
 #[unsafe(no_mangle)]
-pub extern "C" fn vb_forget_held(balloon: &mut Balloon) -> u32
-    ensures { Forgets balloon.old balloon.new result }
+pub extern "C" fn vb_forget_held(balloon: &mut Balloon, kind: u32) -> u32
+    ensures { ForgetsFor (kind_of_code kind) balloon.old balloon.new result }
 {
-    if balloon.forget_held() { OK } else { NOTHING }
+    match kind_of_code(kind) {
+        None => NO_QUEUE,
+        Some(kind) => {
+            if balloon.forget_held(kind) {
+                OK
+            } else {
+                NOTHING
+            }
+        }
+    }
+}
+
+/// Whether a chain is held of a queue, and how many pages it names.
+#[unsafe(no_mangle)]
+pub extern "C" fn vb_held(balloon: &Balloon, kind: u32, pages: &mut u32) -> u32
+    ensures { SaysHeld (kind_of_code kind) balloon.now pages.new result }
+{
+    *pages = 0;
+    match kind_of_code(kind) {
+        None => NO_QUEUE,
+        Some(kind) => match balloon.held_chain(kind) {
+            None => NOTHING,
+            Some(held) => {
+                *pages = held.pages;
+                OK
+            }
+        },
+    }
 }

@@ -72,6 +72,7 @@ fn give_named(
     requires parts { cuts_for kind (is_kept kind (tally_of shown.old).keeps
         (keeps_reports balloon.old.device)) regions.now (take named.runs runs.now) ≡
         take count cuts.old }
+    requires unheld { shown.old.taken ≡ 0 }
     ensures hands { HandsOver (telling_pages kind (tally_of shown.old) head named) regions.now
         runs.now balloon.old balloon.new cuts.new shown.new }
     ensures what { result ≡ shown.new.what }
@@ -118,6 +119,7 @@ fn serve_many(
     requires kind { kind_of_code shown.old.kind ≡ Some kind }
     requires few { named.runs ≤ MAX_RUNS }
     requires ready { queue_denial kind balloon.old.device ≡ None }
+    requires unheld { shown.old.taken ≡ 0 }
     ensures hands { HandsOver (telling_pages kind (tally_of shown.old) head named) regions.now
         runs.now balloon.old balloon.new cuts.new shown.new }
     ensures what { result ≡ shown.new.what }
@@ -165,7 +167,8 @@ fn serve_many(
     }
 }
 
-/// Serves a request by a fast path for at most one discard range, else by `serve_many`.
+/// Serves a request by a fast path for at most one discard range of a chain that isn't held, else
+/// by `hand_named` or `serve_many`.
 #[inline(always)]
 fn serve_named(
     shown: &mut VbNotice,
@@ -184,6 +187,9 @@ fn serve_named(
         runs.now balloon.old balloon.new cuts.new shown.new }
     ensures what { result ≡ shown.new.what }
 {
+    if shown.taken != 0 {
+        return hand_named(shown, balloon, regions, runs, cuts, kind, head, named);
+    }
     let keeps = shown.keeps != 0;
     match fill_few(
         &balloon.device,
@@ -317,7 +323,7 @@ pub(crate) fn go_request(
             why,
         ),
         Ok(named) => {
-            notice.pages_left = notice.pages_left.saturating_sub(named.pages);
+            notice.show_named(&balloon.device.settings, kind, head, named.pages);
             serve_named(
                 notice,
                 balloon,

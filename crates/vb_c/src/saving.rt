@@ -4,7 +4,7 @@ ghost use Rattle.std.specs.Prelude.{◌≡◌};
 ghost use Rattle.vb_c.specs.Saving.{code_of_state, Saves, Restores};
 
 use crate::answers::{BAD_LENGTH, BAD_SUM, IMPOSSIBLE, NOT_A_STATE, OK, OTHER_VERSION};
-use vb_core::{Device, Saved, StateDenial};
+use vb_core::{Device, Held, Saved, StateDenial};
 
 /// The version of the library: 0.1.0, as 65,536 times the first number, 256 times the second, and
 /// the third.
@@ -33,7 +33,7 @@ pub extern "C" fn vb_version() -> u32
 
 /// Puts the bytes of a saved device into the front of the caller's array.
 #[unsafe(no_mangle)]
-pub extern "C" fn vb_save(device: &Device, held: u32, out: &mut [u8]) -> u32
+pub extern "C" fn vb_save(device: &Device, held: Held, out: &mut [u8]) -> u32
     ensures { Saves (record { device = device.now; held = held }) out.old out.new result }
 {
     let saved = Saved {
@@ -48,7 +48,7 @@ pub extern "C" fn vb_save(device: &Device, held: u32, out: &mut [u8]) -> u32
 
 /// Makes the device that of the bytes.
 #[unsafe(no_mangle)]
-pub extern "C" fn vb_restore(device: &mut Device, held: &mut u32, bytes: &[u8]) -> u32
+pub extern "C" fn vb_restore(device: &mut Device, held: &mut Held, bytes: &[u8]) -> u32
     ensures { Restores bytes.now device.old device.new held.old held.new result }
 {
     match Saved::restore(bytes) {

@@ -2,12 +2,11 @@
 
 ghost use Rattle.std.specs.Prelude.{◌≡◌, ◌+◌, ◌≤◌, Some};
 ghost use Rattle.vb_monitor.specs.declared.room.TheConstants.{MAX_BYTES};
-ghost use Rattle.vb_monitor.specs.Balloons.{held_head};
 ghost use Rattle.vb_monitor.specs.Machine.{Fits};
 ghost use Rattle.vb_c.specs.Codes.{kind_of_code};
 ghost use Rattle.vb_c.specs.Notices.{HasEnded, notice_of, says_yes};
 ghost use Rattle.vb_monitor.specs.Notices.{Serves};
-ghost use Rattle.vb_c.specs.Serving.{HandsOver, Begins, BeginsFor, AsksFor, GoesOnBy};
+ghost use Rattle.vb_c.specs.Serving.{HandsOver, Begins, BeginsFor, GivesHeldFor, GoesOnBy};
 
 use crate::answers::{BAD_ARGUMENT, NO_QUEUE, NOTHING, kind_of_code};
 use crate::notice::{VbNotice, VbRoom};
@@ -112,31 +111,35 @@ pub extern "C" fn vb_begin(
     }
 }
 
-/// New statistics are asked for.
+/// A chain that is held is given back.
 #[unsafe(no_mangle)]
-pub extern "C" fn vb_ask(
+pub extern "C" fn vb_give_held(
     notice: &mut VbNotice,
     balloon: &mut Balloon,
     regions: &[Region],
     room: &mut VbRoom,
+    kind: u32,
 ) -> u32
-    ensures asks { AsksFor (held_head balloon.old) regions.now balloon.old balloon.new room.old
+    ensures gives { GivesHeldFor (kind_of_code kind) regions.now balloon.old balloon.new room.old
         room.new notice.new }
     ensures what { result ≡ notice.new.what }
 {
-    match balloon.held_head() {
-        None => refuse(notice, NOTHING),
-        Some(head) => {
-            let mut begun = Notice::ask_statistics(&mut balloon.device, regions, head);
-            hand_over(
-                notice,
-                balloon,
-                regions,
-                &room.runs,
-                &mut room.cuts,
-                &mut begun,
-            )
-        }
+    match kind_of_code(kind) {
+        None => refuse(notice, NO_QUEUE),
+        Some(queue) => match balloon.held_chain(queue) {
+            None => refuse(notice, NOTHING),
+            Some(held) => {
+                let mut begun = Notice::give_held(&mut balloon.device, regions, queue, held);
+                hand_over(
+                    notice,
+                    balloon,
+                    regions,
+                    &room.runs,
+                    &mut room.cuts,
+                    &mut begun,
+                )
+            }
+        },
     }
 }
 

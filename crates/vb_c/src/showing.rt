@@ -2,6 +2,7 @@
 
 ghost use Rattle.std.specs.Prelude.{◌≡◌, ◌+◌, ◌<◌, true, List, Some};
 ghost use Rattle.vb_monitor.specs.declared.outcome.Tally.{Tally};
+ghost use Rattle.vb_monitor.specs.Giving.{with_named};
 ghost use Rattle.vb_monitor.specs.declared.step.Phase.TheVariants.{AwaitsDescriptor, AwaitsPart};
 ghost use Rattle.vb_monitor.specs.declared.step.Phase.TheVariants.{Discards, AwaitsFlags, Ended};
 ghost use Rattle.vb_monitor.specs.Machine.{Fits, waits};
@@ -17,7 +18,7 @@ use crate::notice::{
     VbNotice,
 };
 use vb_chain::DESCRIPTOR_SIZE;
-use vb_core::Denial;
+use vb_core::{Denial, Kind, Settings};
 use vb_monitor::{Asked, Cut, Discarding, NextWord, Notice, Phase, Place, Spot, Tally, Told, Walk};
 
 /// The code of what a notice came to.
@@ -105,10 +106,27 @@ impl VbNotice {
         self.published = tally.published;
         match tally.held {
             None => self.taken = 0,
-            Some(head) => {
+            Some(held) => {
                 self.taken = 1;
-                self.taken_head = head;
+                self.taken_head = held.head;
+                self.taken_pages = held.pages;
             }
+        }
+    }
+
+    /// Shows that the pages of the chain of this head were named, so many; it is held where the
+    /// settings say so.
+    #[inline(always)]
+    pub(crate) fn show_named(&mut self, settings: &Settings, kind: Kind, head: u16, pages: u32)
+        ensures tally { tally_of self.new ≡
+            with_named kind settings.now head pages (tally_of self.old) }
+        ensures kind { self.new.kind ≡ self.old.kind }
+    {
+        self.pages_left = self.pages_left.saturating_sub(pages);
+        if settings.holds_chains(kind) {
+            self.taken = 1;
+            self.taken_head = head;
+            self.taken_pages = pages;
         }
     }
 

@@ -172,14 +172,14 @@ impl Usual for Single {
     }
 }
 
-/// Whether no buffer of this kind's queue is held.
+/// Whether no chain of this kind's queue is ever held.
 fn holds_none(kind: Kind) -> bool
     ensures { result ≡ true → (outcome : Outcome) (balloon : Balloon) →
         held_after kind outcome balloon ≡ balloon.held }
 {
     match kind {
-        Kind::Inflate | Kind::Deflate | Kind::Report => true,
-        Kind::Statistics => false,
+        Kind::Inflate | Kind::Report => true,
+        Kind::Deflate | Kind::Statistics => false,
     }
 }
 

@@ -11,6 +11,7 @@ offering offered = record {
   reserved_pages = 16;
   needs_must_tell = 0;
   skips_bad_pages = 0;
+  holds_deflates = 0;
 }
 
 abbrev pub settings : Settings

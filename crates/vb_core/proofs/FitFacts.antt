@@ -1,6 +1,6 @@
 -- Numbers that fit the fields of a saved device, worked out: the largest ones, and one more of each.
-use Rattle.std.proofs.Common.{arith}
-use Rattle.vb_core.specs.Format.{FitsSettings, FitsRing, FitsSaved}
+use Rattle.std.proofs.Common.{ℕ, arith}
+use Rattle.vb_core.specs.Format.{FitsSettings, FitsRing, FitsHolds, FitsSaved}
 use Rattle.vb_core.specs.declared.{device.Device.Device, ring.Virtqueue.Virtqueue}
 use Rattle.vb_core.specs.declared.{saved.Saved.Saved, settings.Settings.Settings}
 
@@ -12,6 +12,7 @@ settings = record {
   reserved_pages = 0xffffffff;
   needs_must_tell = 255;
   skips_bad_pages = 255;
+  holds_deflates = 255;
 }
 
 abbrev ring : Virtqueue
@@ -39,7 +40,10 @@ device = record {
 }
 
 abbrev saved : Device → Saved
-saved d = record { device = d; held = 0xffffffff }
+saved d = record {
+  device = d;
+  held = record { statistics = 0xffffffff; deflate = 0xffffffff; pages = 0xffffffff };
+}
 
 -- they fit: in settings, in a ring, and in the device with both
 settings_fit : FitsSettings settings
@@ -61,6 +65,9 @@ ring_fits = record {
   next_used = omega arith;
 }
 
+holds_fit : FitsHolds (saved device)
+holds_fit = record { setting = omega arith; deflate = omega arith; pages = omega arith }
+
 all_fit : FitsSaved (saved device)
 all_fit = record {
   settings = settings_fit;
@@ -73,7 +80,8 @@ all_fit = record {
   report = ring_fits;
   poison = omega arith;
   status = omega arith;
-  held = omega arith;
+  statistics_held = omega arith;
+  holds = holds_fit;
 }
 
 -- one more doesn't fit: of settings, of a ring, and of the device
@@ -110,14 +118,14 @@ device_past : (FitsSaved (saved (record device { features = 0x10000000000000000 
     × (FitsSaved (saved (record device { actual = 0x100000000 })) → ⊥)
     × (FitsSaved (saved (record device { poison = 0x100000000 })) → ⊥)
     × (FitsSaved (saved (record device { status = 256 })) → ⊥)
-    × (FitsSaved (record (saved device) { held = 0x100000000 }) → ⊥)
+    × (FitsSaved (record (saved device) { held = record (saved device).held { statistics = 0x100000000 } }) → ⊥)
 device_past = (
   λ f. omega (arith, f.features),
   λ f. omega (arith, f.target),
   λ f. omega (arith, f.actual),
   λ f. omega (arith, f.poison),
   λ f. omega (arith, f.status),
-  λ f. omega (arith, f.held),
+  λ f. omega (arith, f.statistics_held),
 )
 
 -- nor one of its settings, and of each of its rings
@@ -135,4 +143,19 @@ parts_past = (
   λ f. omega (arith, f.deflate.size),
   λ f. omega (arith, f.statistics.size),
   λ f. omega (arith, f.report.size),
+)
+
+-- nor what is held of deflates, or may be
+abbrev holds : ℕ → ℕ → ℕ → Saved
+holds setting deflate pages = record {
+  device = record device { settings = record settings { holds_deflates = setting } };
+  held = record { statistics = 0; deflate = deflate; pages = pages };
+}
+
+holds_past : (FitsSaved (holds 256 0 0) → ⊥) × (FitsSaved (holds 0 0x100000000 0) → ⊥)
+    × (FitsSaved (holds 0 0 0x100000000) → ⊥)
+holds_past = (
+  λ f. omega (arith, f.holds.setting),
+  λ f. omega (arith, f.holds.deflate),
+  λ f. omega (arith, f.holds.pages),
 )

@@ -2,10 +2,10 @@
 use Rattle.std.specs.Prelude.{Ok, Err, take, drop}
 use Rattle.std.proofs.Common.{◌≡◌, ℕ, true, false, List, [], ◌∷◌, ◌++◌, map, refl}
 use Rattle.vb_core.specs.declared.{device.Device.Device, saved.Saved.Saved}
-use Rattle.vb_core.specs.declared.{ring.Virtqueue.Virtqueue, settings.Settings.Settings}
+use Rattle.vb_core.specs.declared.{ring.Virtqueue.Virtqueue}
 use Rattle.vb_core.specs.Format.{u16_bytes, u32_bytes, u64_bytes, u16_at, u32_at, u64_at, checksum}
-use Rattle.vb_core.specs.{Format.{saved_bytes, saved_in}, Saved.{can_be, restored}}
-use Rattle.vb_core.specs.declared.saved.StateDenial.TheVariants.{BadLength, BadSum, Impossible}
+use Rattle.vb_core.specs.{Format.{saved_bytes, saved_in, older_bytes, older_in}, Saved.{can_be, restored}}
+use Rattle.vb_core.specs.declared.saved.StateDenial.TheVariants.{BadLength, BadSum, Impossible, OtherVersion}
 use lib.Count
 
 abbrev ring : ℕ → ℕ → ℕ → ℕ → ℕ → ℕ → Virtqueue
@@ -27,6 +27,7 @@ saved = record {
       reserved_pages = 16;
       needs_must_tell = 1;
       skips_bad_pages = 2;
+      holds_deflates = 3;
     };
     features = 0x100000033;
     target = 0x1020304;
@@ -38,26 +39,50 @@ saved = record {
     poison = 0xaabbccdd;
     status = 15;
   };
-  held = 64;
+  held = record { statistics = 64; deflate = 100; pages = 200 };
 }
 
--- the header; the settings; features, target, actual, held and status; the four rings; poison_val; and
--- the checksum of all these
+-- the header; the settings; features, target, actual, the buffer that is held, and status; the four
+-- rings; poison_val; whether deflates are held, the one that is, and its pages; and the checksum of all
+-- these
 abbrev bytes : List ℕ
 bytes =
-    86 ∷ 66 ∷ 83 ∷ 84 ∷ 65 ∷ 84 ∷ 69 ∷ 0 ∷ 2 ∷ 0 ∷ 0 ∷ 0 ∷ 191 ∷ 0 ∷ 0 ∷ 0 ∷ 0 ∷ 8 ∷ 0 ∷ 1 ∷ 0
-    ∷ 0 ∷ 0 ∷ 0 ∷ 51 ∷ 0 ∷ 0 ∷ 0 ∷ 1 ∷ 0 ∷ 0 ∷ 0 ∷ 16 ∷ 0 ∷ 0 ∷ 0 ∷ 1 ∷ 2 ∷ 51 ∷ 0 ∷ 0 ∷ 0 ∷ 1
-    ∷ 0 ∷ 0 ∷ 0 ∷ 4 ∷ 3 ∷ 2 ∷ 1 ∷ 8 ∷ 7 ∷ 6 ∷ 5 ∷ 64 ∷ 0 ∷ 0 ∷ 0 ∷ 15 ∷ 0 ∷ 0 ∷ 1 ∷ 0 ∷ 0 ∷ 0 ∷ 0
-    ∷ 0 ∷ 0 ∷ 16 ∷ 1 ∷ 0 ∷ 0 ∷ 0 ∷ 0 ∷ 0 ∷ 0 ∷ 32 ∷ 1 ∷ 0 ∷ 0 ∷ 0 ∷ 0 ∷ 0 ∷ 0 ∷ 1 ∷ 2 ∷ 1 ∷ 4 ∷ 3
-    ∷ 0 ∷ 0 ∷ 2 ∷ 0 ∷ 0 ∷ 0 ∷ 0 ∷ 0 ∷ 2 ∷ 16 ∷ 2 ∷ 0 ∷ 0 ∷ 0 ∷ 0 ∷ 0 ∷ 4 ∷ 32 ∷ 2 ∷ 0 ∷ 0 ∷ 0 ∷ 0
-    ∷ 0 ∷ 128 ∷ 0 ∷ 5 ∷ 0 ∷ 6 ∷ 0 ∷ 16 ∷ 0 ∷ 3 ∷ 0 ∷ 0 ∷ 0 ∷ 0 ∷ 0 ∷ 0 ∷ 16 ∷ 3 ∷ 0 ∷ 0 ∷ 0 ∷ 0
-    ∷ 0 ∷ 0 ∷ 32 ∷ 3 ∷ 0 ∷ 0 ∷ 0 ∷ 0 ∷ 0 ∷ 64 ∷ 0 ∷ 7 ∷ 0 ∷ 8 ∷ 0 ∷ 0 ∷ 0 ∷ 4 ∷ 0 ∷ 0 ∷ 0 ∷ 0 ∷ 0
-    ∷ 0 ∷ 16 ∷ 4 ∷ 0 ∷ 0 ∷ 0 ∷ 0 ∷ 0 ∷ 0 ∷ 32 ∷ 4 ∷ 0 ∷ 0 ∷ 0 ∷ 0 ∷ 0 ∷ 32 ∷ 0 ∷ 9 ∷ 0 ∷ 10 ∷ 0
-    ∷ 221 ∷ 204 ∷ 187 ∷ 170 ∷ 218 ∷ 117 ∷ 255 ∷ 232 ∷ 126 ∷ 218 ∷ 143 ∷ 117 ∷ []
+    86 ∷ 66 ∷ 83 ∷ 84 ∷ 65 ∷ 84 ∷ 69 ∷ 0 ∷ 3 ∷ 0 ∷ 0 ∷ 0 ∷ 200 ∷ 0 ∷ 0 ∷ 0 ∷ 0 ∷ 8 ∷ 0 ∷ 1 ∷ 0 ∷ 0
+    ∷ 0 ∷ 0 ∷ 51 ∷ 0 ∷ 0 ∷ 0 ∷ 1 ∷ 0 ∷ 0 ∷ 0 ∷ 16 ∷ 0 ∷ 0 ∷ 0 ∷ 1 ∷ 2 ∷ 51 ∷ 0 ∷ 0 ∷ 0 ∷ 1 ∷ 0 ∷ 0
+    ∷ 0 ∷ 4 ∷ 3 ∷ 2 ∷ 1 ∷ 8 ∷ 7 ∷ 6 ∷ 5 ∷ 64 ∷ 0 ∷ 0 ∷ 0 ∷ 15 ∷ 0 ∷ 0 ∷ 1 ∷ 0 ∷ 0 ∷ 0 ∷ 0 ∷ 0 ∷ 0
+    ∷ 16 ∷ 1 ∷ 0 ∷ 0 ∷ 0 ∷ 0 ∷ 0 ∷ 0 ∷ 32 ∷ 1 ∷ 0 ∷ 0 ∷ 0 ∷ 0 ∷ 0 ∷ 0 ∷ 1 ∷ 2 ∷ 1 ∷ 4 ∷ 3 ∷ 0 ∷ 0
+    ∷ 2 ∷ 0 ∷ 0 ∷ 0 ∷ 0 ∷ 0 ∷ 2 ∷ 16 ∷ 2 ∷ 0 ∷ 0 ∷ 0 ∷ 0 ∷ 0 ∷ 4 ∷ 32 ∷ 2 ∷ 0 ∷ 0 ∷ 0 ∷ 0 ∷ 0 ∷ 128
+    ∷ 0 ∷ 5 ∷ 0 ∷ 6 ∷ 0 ∷ 16 ∷ 0 ∷ 3 ∷ 0 ∷ 0 ∷ 0 ∷ 0 ∷ 0 ∷ 0 ∷ 16 ∷ 3 ∷ 0 ∷ 0 ∷ 0 ∷ 0 ∷ 0 ∷ 0 ∷ 32
+    ∷ 3 ∷ 0 ∷ 0 ∷ 0 ∷ 0 ∷ 0 ∷ 64 ∷ 0 ∷ 7 ∷ 0 ∷ 8 ∷ 0 ∷ 0 ∷ 0 ∷ 4 ∷ 0 ∷ 0 ∷ 0 ∷ 0 ∷ 0 ∷ 0 ∷ 16 ∷ 4
+    ∷ 0 ∷ 0 ∷ 0 ∷ 0 ∷ 0 ∷ 0 ∷ 32 ∷ 4 ∷ 0 ∷ 0 ∷ 0 ∷ 0 ∷ 0 ∷ 32 ∷ 0 ∷ 9 ∷ 0 ∷ 10 ∷ 0 ∷ 221 ∷ 204 ∷ 187
+    ∷ 170 ∷ 3 ∷ 100 ∷ 0 ∷ 0 ∷ 0 ∷ 200 ∷ 0 ∷ 0 ∷ 0 ∷ 245 ∷ 8 ∷ 154 ∷ 234 ∷ 253 ∷ 119 ∷ 176 ∷ 25 ∷ []
+
+-- those that the older version had of the same device, but for its deflates
+abbrev older : List ℕ
+older =
+    86 ∷ 66 ∷ 83 ∷ 84 ∷ 65 ∷ 84 ∷ 69 ∷ 0 ∷ 2 ∷ 0 ∷ 0 ∷ 0 ∷ 191 ∷ 0 ∷ 0 ∷ 0 ∷ 0 ∷ 8 ∷ 0 ∷ 1 ∷ 0 ∷ 0
+    ∷ 0 ∷ 0 ∷ 51 ∷ 0 ∷ 0 ∷ 0 ∷ 1 ∷ 0 ∷ 0 ∷ 0 ∷ 16 ∷ 0 ∷ 0 ∷ 0 ∷ 1 ∷ 2 ∷ 51 ∷ 0 ∷ 0 ∷ 0 ∷ 1 ∷ 0 ∷ 0
+    ∷ 0 ∷ 4 ∷ 3 ∷ 2 ∷ 1 ∷ 8 ∷ 7 ∷ 6 ∷ 5 ∷ 64 ∷ 0 ∷ 0 ∷ 0 ∷ 15 ∷ 0 ∷ 0 ∷ 1 ∷ 0 ∷ 0 ∷ 0 ∷ 0 ∷ 0 ∷ 0
+    ∷ 16 ∷ 1 ∷ 0 ∷ 0 ∷ 0 ∷ 0 ∷ 0 ∷ 0 ∷ 32 ∷ 1 ∷ 0 ∷ 0 ∷ 0 ∷ 0 ∷ 0 ∷ 0 ∷ 1 ∷ 2 ∷ 1 ∷ 4 ∷ 3 ∷ 0 ∷ 0
+    ∷ 2 ∷ 0 ∷ 0 ∷ 0 ∷ 0 ∷ 0 ∷ 2 ∷ 16 ∷ 2 ∷ 0 ∷ 0 ∷ 0 ∷ 0 ∷ 0 ∷ 4 ∷ 32 ∷ 2 ∷ 0 ∷ 0 ∷ 0 ∷ 0 ∷ 0 ∷ 128
+    ∷ 0 ∷ 5 ∷ 0 ∷ 6 ∷ 0 ∷ 16 ∷ 0 ∷ 3 ∷ 0 ∷ 0 ∷ 0 ∷ 0 ∷ 0 ∷ 0 ∷ 16 ∷ 3 ∷ 0 ∷ 0 ∷ 0 ∷ 0 ∷ 0 ∷ 0 ∷ 32
+    ∷ 3 ∷ 0 ∷ 0 ∷ 0 ∷ 0 ∷ 0 ∷ 64 ∷ 0 ∷ 7 ∷ 0 ∷ 8 ∷ 0 ∷ 0 ∷ 0 ∷ 4 ∷ 0 ∷ 0 ∷ 0 ∷ 0 ∷ 0 ∷ 0 ∷ 16 ∷ 4
+    ∷ 0 ∷ 0 ∷ 0 ∷ 0 ∷ 0 ∷ 0 ∷ 32 ∷ 4 ∷ 0 ∷ 0 ∷ 0 ∷ 0 ∷ 0 ∷ 32 ∷ 0 ∷ 9 ∷ 0 ∷ 10 ∷ 0 ∷ 221 ∷ 204 ∷ 187
+    ∷ 170 ∷ 218 ∷ 117 ∷ 255 ∷ 232 ∷ 126 ∷ 218 ∷ 143 ∷ 117 ∷ []
 
 written : saved_bytes saved ≡ bytes
 unfolding u16_bytes u32_bytes u64_bytes checksum
 written = refl
+
+abbrev without : Saved → Saved
+without s = record {
+  device = record s.device { settings = record s.device.settings { holds_deflates = 0 } };
+  held = record { statistics = 64; deflate = 0; pages = 0 };
+}
+
+written_before : older_bytes saved ≡ older
+unfolding u16_bytes u32_bytes u64_bytes checksum
+written_before = refl
 
 read : saved_in bytes ≡ saved
 unfolding u16_at u32_at u64_at
@@ -67,16 +92,33 @@ back : restored bytes ≡ Ok saved
 unfolding u16_at u32_at u64_at checksum lib.Count.ones
 back = refl
 
+read_before : older_in older ≡ without saved
+unfolding u16_at u32_at u64_at
+read_before = refl
+
+back_before : restored older ≡ Ok (without saved)
+unfolding u16_at u32_at u64_at checksum lib.Count.ones
+back_before = refl
+
 -- ---- what a device may be: each of these alone makes it impossible
 
 abbrev with_device : (Device → Device) → Saved
 with_device change = record saved { device = change saved.device }
 
+abbrev holding : ℕ → ℕ → ℕ → Saved
+holding statistics deflate pages =
+    record saved { held = record { statistics = statistics; deflate = deflate; pages = pages } }
+
+-- a deflate is held that isn't to be
+abbrev without_setting : Saved
+without_setting =
+    with_device (λ d. record d { settings = record d.settings { holds_deflates = 0 } })
+
 abbrev six : Virtqueue
 six = ring 0x10000 0x11000 0x12000 6 0 0
 
 impossible : map can_be (
-    saved ∷ record saved { held = 65 } ∷ with_device (λ d. record d { inflate = six })
+    saved ∷ holding 65 100 200 ∷ holding 64 129 200 ∷ holding 64 100 257 ∷ holding 64 0 1 ∷ without_setting ∷ with_device (λ d. record d { inflate = six })
     ∷ with_device (λ d. record d { deflate = six })
     ∷ with_device (λ d. record d { statistics = record d.statistics { table = 1 } })
     ∷ with_device (λ d. record d { report = six }) ∷ with_device (λ d. record d { status = 31 })
@@ -86,7 +128,8 @@ impossible : map can_be (
       features = 0x100000023;
       settings = record d.settings { offered = 0x100000023 };
     }) ∷ []
-    ) ≡ true ∷ false ∷ false ∷ false ∷ false ∷ false ∷ false ∷ false ∷ false ∷ false ∷ []
+    ) ≡ true ∷ false ∷ false ∷ false ∷ false ∷ false ∷ false ∷ false ∷ false ∷ false ∷ false ∷ false
+    ∷ false ∷ false ∷ []
 unfolding lib.Count.ones
 impossible = refl
 
@@ -95,8 +138,18 @@ impossible = refl
 -- a byte less or more, another length in the header, a wrong checksum, and an impossible device with a
 -- right one
 not_restored : map restored (
-    take 15 bytes ∷ take 190 bytes ∷ (bytes ++ 0 ∷ []) ∷ (take 12 bytes ++ 190 ∷ drop 13 bytes)
-    ∷ (take 182 bytes ++ 171 ∷ drop 183 bytes) ∷ saved_bytes (record saved { held = 65 }) ∷ []
+    take 15 bytes ∷ take 199 bytes ∷ (bytes ++ 0 ∷ []) ∷ (take 12 bytes ++ 199 ∷ drop 13 bytes)
+    ∷ (take 182 bytes ++ 171 ∷ drop 183 bytes) ∷ saved_bytes (holding 65 100 200) ∷ []
     ) ≡ Err BadLength ∷ Err BadLength ∷ Err BadLength ∷ Err BadLength ∷ Err BadSum ∷ Err Impossible ∷ []
 unfolding u16_bytes u32_bytes u64_bytes u16_at u32_at u64_at checksum lib.Count.ones
 not_restored = refl
+
+-- of the older version: the newer one's length, or bytes of it under the other's number
+not_restored_before : map restored (
+    take 190 older ∷ (older ++ take 9 older) ∷ (take 8 bytes ++ 2 ∷ drop 9 bytes)
+    ∷ (take 8 older ++ 3 ∷ drop 9 older) ∷ (take 182 older ++ 171 ∷ drop 183 older)
+    ∷ (take 8 older ++ 4 ∷ drop 9 older) ∷ older_bytes (holding 65 0 0) ∷ []
+    ) ≡ Err BadLength ∷ Err BadLength ∷ Err BadLength ∷ Err BadLength ∷ Err BadSum
+    ∷ Err OtherVersion ∷ Err Impossible ∷ []
+unfolding u16_bytes u32_bytes u64_bytes u16_at u32_at u64_at checksum lib.Count.ones
+not_restored_before = refl

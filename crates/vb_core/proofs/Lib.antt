@@ -23,6 +23,7 @@ mod QueueFacts
 mod LifeFacts
 mod WriteFacts
 mod FormatFacts
+mod HeldFacts
 pub mod Numbers
 pub mod PieceLemmas
 pub mod RoundTrip

@@ -73,7 +73,7 @@ tenth : used_entry (record (placed 0 256 512 8) { next_used = 9 }) 5
     ≡ record { element_at = 524; index_at = 514; id = 5; length = 0; index = 10 }
 tenth = refl
 
--- the index behind the last one, and behind the first
+-- the index after the last one, and after the first
 indices : (used_entry (record (placed 0 256 512 8) { next_used = 65535 }) 5).index
     ∷ (with_used (placed 0 256 512 8)).next_used ∷ [] ≡ 0 ∷ 1 ∷ []
 indices = refl

@@ -1,10 +1,13 @@
 -- A device is saved and restored.
-use Rattle.std.proofs.Common.{◌≡◌, ℕ, ◌+◌, ◌≤◌, List, [], ◌∷◌, ◌++◌, length, get_or, drop, refl}
-use Rattle.std.proofs.Common.{◌∙◌, ap, arith, lit<}
-use Rattle.vb_core.specs.declared.format.TheConstants.{MAGIC, FORMAT_VERSION, SAVED_LENGTH}
+use Rattle.std.proofs.Common.{◌≡◌, ℕ, ◌+◌, ◌^◌, ◌<◌, ◌≤◌, List, [], ◌∷◌, ◌++◌, length, get_or, drop}
+use Rattle.std.proofs.Common.{refl, ◌∙◌, ap, arith, lit<}
+use Rattle.vb_core.specs.declared.format.TheConstants.{MAGIC}
+use Rattle.vb_core.specs.declared.format.TheConstants.{HOLD_AT}
 use Rattle.vb_core.specs.declared.format.TheConstants.{VERSION_AT, LENGTH_AT, CHECKSUM_AT}
 use Rattle.vb_core.specs.Format.{u32_bytes, u64_bytes, u32_at, u64_at, in_a_row, settings_parts}
-use Rattle.vb_core.specs.Format.{ring_parts, saved_parts, settings_at, ring_at, saved_in}
+use Rattle.vb_core.specs.Format.{header_parts, device_parts, hold_parts, ring_parts}
+use Rattle.vb_core.specs.Format.{settings_at, ring_at, older_in, saved_in, with_holds}
+use Rattle.vb_core.specs.Format.{FitsHolds}
 use Rattle.vb_core.{specs.Format.{FitsSettings, FitsRing, FitsSaved}, proofs.Numbers.AreBytes}
 use Rattle.vb_core.proofs.Numbers.{u16_then, u32_then, u64_then, byte_then, u16_again, u32_again}
 use Rattle.vb_core.{proofs.Numbers.{u64_again, byte_again}, specs.declared.ring.Virtqueue.Virtqueue}
@@ -22,8 +25,10 @@ ring_then r more bytes p f e = let a = u64_then r.table _ bytes p (p + 8) f.tabl
     let h = u16_then r.next_used _ bytes (p + 28) (p + 30) f.next_used (omega arith) g.1 in
     (rw (a.0, b.0, c.0, d.0, g.0, h.0), h.1)
 
+-- but for what the older version doesn't say
 settings_then : (s : Settings) (more bytes : List ℕ) (p : ℕ) → FitsSettings s → drop p bytes
-    ≡ in_a_row (settings_parts s) more → (settings_at bytes p ≡ s) × (drop (p + 22) bytes ≡ more)
+    ≡ in_a_row (settings_parts s) more
+    → (settings_at bytes p ≡ with_holds 0 s) × (drop (p + 22) bytes ≡ more)
 settings_then s more bytes p f e =
     let a = u64_then s.memory_end _ bytes p (p + 8) f.memory_end refl e in
     let b = u64_then s.offered _ bytes (p + 8) (p + 16) f.offered (omega arith) a.1 in
@@ -38,7 +43,7 @@ settings_then s more bytes p f e =
 then : (part : List ℕ) (x y z : List ℕ) → x ≡ part ++ y → y ≡ z → x ≡ part ++ z
 then part x y z e f = e ∙ ap (λ (xs : List ℕ). part ++ xs) f
 
-row : (parts : List (List ℕ)) (x y z : List ℕ) → x ≡ in_a_row parts y → y ≡ z → x ≡ in_a_row parts z
+pub row : (parts : List (List ℕ)) (x y z : List ℕ) → x ≡ in_a_row parts y → y ≡ z → x ≡ in_a_row parts z
 row parts x y z e f = e ∙ ap (λ (xs : List ℕ). in_a_row parts xs) f
 
 ring_again : (bytes : List ℕ) (p : ℕ) → AreBytes bytes → p + 30 ≤ length bytes
@@ -56,25 +61,37 @@ settings_again bytes p all l = then _ _ _ _ (u64_again bytes p (p + 8) all refl 
 
 -- ---- both, of all that is saved
 
--- what bytes say that are a saved device
-pub record Says (bytes : List ℕ) (s : Saved) (more : List ℕ) : Type 0 where
-  pub magic : u64_at bytes 0 ≡ MAGIC
-  pub version : u32_at bytes VERSION_AT ≡ FORMAT_VERSION
-  pub length_told : u32_at bytes LENGTH_AT ≡ SAVED_LENGTH
-  pub saved : saved_in bytes ≡ s
-  pub behind : drop CHECKSUM_AT bytes ≡ more
+-- what a saved device was in the older version
+abbrev pub older_of : Saved → Saved
+older_of s = record {
+  device = record s.device { settings = with_holds 0 s.device.settings };
+  held = record { statistics = s.held.statistics; deflate = 0; pages = 0 };
+}
 
-pub says : (s : Saved) (more bytes : List ℕ) → FitsSaved s → bytes ≡ in_a_row (saved_parts s) more
-    → Says bytes s more
-says s more bytes f e = let d = s.device in
+-- the parts that both versions have, of this version and length
+abbrev pub first_parts : ℕ → ℕ → Saved → List (List ℕ)
+first_parts version len s = header_parts version len ++ device_parts s.device s.held.statistics
+
+-- what bytes say that begin as a saved device of a version
+pub record Says (version len : ℕ) (bytes : List ℕ) (s : Saved) (more : List ℕ) : Type 0 where
+  pub magic : u64_at bytes 0 ≡ MAGIC
+  pub version_told : u32_at bytes VERSION_AT ≡ version
+  pub length_told : u32_at bytes LENGTH_AT ≡ len
+  pub saved : older_in bytes ≡ older_of s
+  pub behind : drop HOLD_AT bytes ≡ more
+
+pub says : (version len : ℕ) (s : Saved) (more bytes : List ℕ) → version < 2 ^ 32 → len < 2 ^ 32
+    → FitsSaved s → bytes ≡ in_a_row (first_parts version len s) more
+    → Says version len bytes s more
+says version len s more bytes low short f e = let d = s.device in
     let a = u64_then MAGIC _ bytes 0 8 (lit< tt) refl e in
-    let b = u32_then FORMAT_VERSION _ bytes 8 12 (lit< tt) refl a.1 in
-    let c = u32_then SAVED_LENGTH _ bytes 12 16 (lit< tt) refl b.1 in
+    let b = u32_then version _ bytes 8 12 low refl a.1 in
+    let c = u32_then len _ bytes 12 16 short refl b.1 in
     let t = settings_then d.settings _ bytes 16 f.settings c.1 in
     let g = u64_then d.features _ bytes 38 46 f.features refl t.1 in
     let h = u32_then d.target _ bytes 46 50 f.target refl g.1 in
     let i = u32_then d.actual _ bytes 50 54 f.actual refl h.1 in
-    let j = u32_then s.held _ bytes 54 58 f.held refl i.1 in
+    let j = u32_then s.held.statistics _ bytes 54 58 f.statistics_held refl i.1 in
     let k = byte_then d.status _ bytes 58 59 refl j.1 in
     let l = ring_then d.inflate _ bytes 59 f.inflate k.1 in
     let m = ring_then d.deflate _ bytes 89 f.deflate l.1 in
@@ -82,11 +99,21 @@ says s more bytes f e = let d = s.device in
     let o = ring_then d.report _ bytes 149 f.report n.1 in
     let q = u32_then d.poison _ bytes 179 183 f.poison refl o.1 in grind arith
 
+-- what stands behind that, in this version
+pub holds_then : (s : Saved) (more bytes : List ℕ) → FitsHolds s
+    → drop HOLD_AT bytes ≡ in_a_row (hold_parts s) more
+    → (get_or bytes 183 0 ≡ s.device.settings.holds_deflates) × (u32_at bytes 184 ≡ s.held.deflate)
+    × (u32_at bytes 188 ≡ s.held.pages) × (drop CHECKSUM_AT bytes ≡ more)
+holds_then s more bytes f e =
+    let a = byte_then s.device.settings.holds_deflates _ bytes 183 184 refl e in
+    let b = u32_then s.held.deflate _ bytes 184 188 f.deflate refl a.1 in
+    let c = u32_then s.held.pages _ bytes 188 192 f.pages refl b.1 in (a.0, b.0, c.0, c.1)
+
 -- bytes with a good header are what is saved of what they say, and more
-pub row_again : (bytes : List ℕ) → AreBytes bytes → 183 ≤ length bytes → u64_at bytes 0 ≡ MAGIC
-    → u32_at bytes VERSION_AT ≡ FORMAT_VERSION → u32_at bytes LENGTH_AT ≡ SAVED_LENGTH
-    → bytes ≡ in_a_row (saved_parts (saved_in bytes)) (drop CHECKSUM_AT bytes)
-row_again bytes all l m v c = then _ _ _ _ (u64_again bytes 0 8 all refl (omega arith)
+pub row_again : (version len : ℕ) (bytes : List ℕ) → AreBytes bytes → 183 ≤ length bytes
+    → u64_at bytes 0 ≡ MAGIC → u32_at bytes VERSION_AT ≡ version → u32_at bytes LENGTH_AT ≡ len
+    → bytes ≡ in_a_row (first_parts version len (older_in bytes)) (drop HOLD_AT bytes)
+row_again version len bytes all l m v c = then _ _ _ _ (u64_again bytes 0 8 all refl (omega arith)
     ∙ ap (λ (n : ℕ). u64_bytes n ++ drop 8 bytes) m) (then _ _ _ _
     (u32_again bytes 8 12 all refl (omega arith) ∙ ap (λ (n : ℕ). u32_bytes n ++ drop 12 bytes) v)
     (then _ _ _ _ (u32_again bytes 12 16 all refl (omega arith)
@@ -102,3 +129,10 @@ row_again bytes all l m v c = then _ _ _ _ (u64_again bytes 0 8 all refl (omega 
     (row (ring_parts (ring_at bytes 119)) _ _ _ (ring_again bytes 119 all (omega arith))
     (row (ring_parts (ring_at bytes 149)) _ _ _ (ring_again bytes 149 all (omega arith))
     (u32_again bytes 179 183 all refl (omega arith))))))))))))))
+
+pub holds_again : (bytes : List ℕ) → AreBytes bytes → 192 ≤ length bytes
+    → drop HOLD_AT bytes ≡ in_a_row (hold_parts (saved_in bytes)) (drop CHECKSUM_AT bytes)
+holds_again bytes all l =
+    then (get_or bytes 183 0 ∷ []) _ _ _ (byte_again bytes 183 184 refl (omega arith))
+    (then _ _ _ _ (u32_again bytes 184 188 all refl (omega arith))
+    (u32_again bytes 188 192 all refl (omega arith)))

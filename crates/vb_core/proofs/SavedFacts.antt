@@ -2,22 +2,37 @@
 use Rattle.std.specs.{List.range_with_len, Prelude.{Some, None, Err}}
 use Rattle.std.proofs.Common.{◌≡◌, ℕ, true, false, [], ◌∷◌, map, refl, count_by}
 use Rattle.vb_core.specs.Saved.{is_status, are_agreed, is_blank, has_moved, is_ring, is_held}
-use Rattle.vb_core.specs.Saved.{is_poison, save_denial}
+use Rattle.vb_core.specs.Saved.{is_poison, save_denial, is_version, length_of, is_length}
 use Rattle.vb_core.specs.declared.format.TheConstants.{SAVED_LENGTH, CHECKSUM_AT, HEADER_LENGTH}
+use Rattle.vb_core.specs.declared.format.TheConstants.{OLDER_VERSION, OLDER_LENGTH, HOLD_AT}
+use Rattle.vb_core.specs.declared.format.TheConstants.{CHECKSUM_LENGTH}
 use Rattle.vb_core.specs.declared.saved.StateDenial.TheVariants.{BadLength, NotAState, Impossible}
 use Rattle.vb_core.specs.declared.{device.Device.Device, saved.StateDenial.TheVariants.OtherVersion}
 use Rattle.vb_core.specs.declared.{ring.Virtqueue.Virtqueue, settings.Settings.Settings}
-use Rattle.vb_core.specs.{Devices.new_device, Rings.no_ring, declared.saved.Saved.Saved}
-use Rattle.vb_core.specs.declared.kinds.Kind.TheVariants.{Inflate, Statistics, Report}
+use Rattle.vb_core.specs.{Devices.new_device, Rings.no_ring, Held.nothing_held, declared.saved.Saved.Saved}
+use Rattle.vb_core.specs.declared.kinds.Kind.TheVariants.{Inflate, Deflate, Statistics, Report}
 use Rattle.vb_core.specs.declared.format.TheConstants.{FORMAT_VERSION, VERSION_AT, LENGTH_AT, MAGIC}
 use Rattle.vb_core.specs.{Format.{u16_bytes, u64_bytes, u32_at, u64_at, checksum}, Saved.restored}
 use lib.Count
 
 -- ---- bytes
 
-places_are : FORMAT_VERSION ∷ VERSION_AT ∷ LENGTH_AT ∷ HEADER_LENGTH ∷ CHECKSUM_AT ∷ SAVED_LENGTH
-    ∷ [] ≡ 2 ∷ 8 ∷ 12 ∷ 16 ∷ 183 ∷ 191 ∷ []
+places_are : FORMAT_VERSION ∷ VERSION_AT ∷ LENGTH_AT ∷ HEADER_LENGTH ∷ HOLD_AT ∷ CHECKSUM_AT
+    ∷ CHECKSUM_LENGTH ∷ SAVED_LENGTH ∷ [] ≡ 3 ∷ 8 ∷ 12 ∷ 16 ∷ 183 ∷ 192 ∷ 8 ∷ 200 ∷ []
 places_are = refl
+
+before_it : OLDER_VERSION ∷ OLDER_LENGTH ∷ [] ≡ 2 ∷ 191 ∷ []
+before_it = refl
+
+-- versions that are read, and how long they are
+versions : map is_version (0 ∷ 1 ∷ 2 ∷ 3 ∷ 4 ∷ []) ≡ false ∷ false ∷ true ∷ true ∷ false ∷ []
+versions = refl
+
+lengths : map length_of (2 ∷ 3 ∷ []) ≡ 191 ∷ 200 ∷ []
+lengths = refl
+
+are_lengths : map is_length (190 ∷ 191 ∷ 199 ∷ 200 ∷ 201 ∷ []) ≡ false ∷ true ∷ false ∷ true ∷ false ∷ []
+are_lengths = refl
 
 -- the text VBSTATE, and a 0
 it_begins_so : u64_bytes MAGIC ≡ 86 ∷ 66 ∷ 83 ∷ 84 ∷ 65 ∷ 84 ∷ 69 ∷ 0 ∷ []
@@ -66,6 +81,7 @@ settings = record {
   reserved_pages = 16;
   needs_must_tell = 1;
   skips_bad_pages = 0;
+  holds_deflates = 1;
 }
 
 abbrev at_step : ℕ → ℕ → Device
@@ -136,16 +152,37 @@ unfolding lib.Count.ones
 not_statistics = refl
 
 abbrev holding : ℕ → ℕ → ℕ → Saved
-holding status features held =
-    record { device = record (at_step status features) { statistics = ring 0 }; held = held }
+holding status features held = record {
+  device = record (at_step status features) { statistics = ring 0 };
+  held = record { statistics = held; deflate = 0; pages = 0 };
+}
 
-held_heads : map is_held (holding 3 0 0 ∷ holding 15 0x100000003 1 ∷ holding 15 0x100000003 64
-    ∷ holding 79 0x100000003 64 ∷ []) ≡ true ∷ true ∷ true ∷ true ∷ []
+held_heads : map (is_held Statistics) (holding 3 0 0 ∷ holding 15 0x100000003 1
+    ∷ holding 15 0x100000003 64 ∷ holding 79 0x100000003 64 ∷ []) ≡ true ∷ true ∷ true ∷ true ∷ []
 held_heads = refl
 
-not_held : map is_held (holding 11 0x100000003 1
+not_held : map (is_held Statistics) (holding 11 0x100000003 1
     ∷ holding 15 0x100000001 1 ∷ holding 15 0x100000003 65 ∷ []) ≡ false ∷ false ∷ false ∷ []
 not_held = refl
+
+-- a deflate of so many pages is held, or none
+abbrev asking : ℕ → ℕ → ℕ → Saved
+asking status held pages = record {
+  device = record (at_step status 0x100000001) { deflate = ring 0 };
+  held = record { statistics = 0; deflate = held; pages = pages };
+}
+
+held_deflates : map (is_held Deflate) (asking 3 0 0 ∷ asking 15 1 0 ∷ asking 15 64 256 ∷ asking 79 1 1 ∷ [])
+    ≡ true ∷ true ∷ true ∷ true ∷ []
+held_deflates = refl
+
+-- not before the driver is done, of no head of the queue, of more pages than a request has, pages of
+-- none, and where deflates aren't held
+not_held_deflates : map (is_held Deflate) (asking 11 1 1 ∷ asking 15 65 1 ∷ asking 15 1 257 ∷ asking 15 0 1
+    ∷ record (asking 15 1 1) {
+      device = record (asking 15 1 1).device { settings = record settings { holds_deflates = 0 } };
+    } ∷ []) ≡ false ∷ false ∷ false ∷ false ∷ false ∷ []
+not_held_deflates = refl
 
 -- ---- poison_val
 
@@ -161,10 +198,11 @@ no_poison = refl
 -- ---- what is saved
 
 abbrev poisoned : Saved
-poisoned = record { device = record (at_step 3 0) { poison = 7 }; held = 0 }
+poisoned = record { device = record (at_step 3 0) { poison = 7 }; held = nothing_held }
 
-saved_or_not : save_denial (holding 15 0x100000003 64) 191
-    ∷ save_denial (holding 15 0x100000003 64) 190 ∷ save_denial (holding 15 0x100000003 65) 191
-    ∷ save_denial poisoned 191 ∷ [] ≡ None ∷ Some BadLength ∷ Some Impossible ∷ Some Impossible ∷ []
+saved_or_not : save_denial (holding 15 0x100000003 64) 200
+    ∷ save_denial (holding 15 0x100000003 64) 199 ∷ save_denial (holding 15 0x100000003 65) 200
+    ∷ save_denial (asking 15 1 257) 200 ∷ save_denial poisoned 200 ∷ []
+    ≡ None ∷ Some BadLength ∷ Some Impossible ∷ Some Impossible ∷ Some Impossible ∷ []
 unfolding lib.Count.ones
 saved_or_not = refl

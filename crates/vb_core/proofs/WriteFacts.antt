@@ -3,7 +3,7 @@ use Rattle.std.specs.Prelude.{Some, None}
 use Rattle.std.proofs.Common.{◌≡◌, ℕ, [], ◌∷◌, ◌++◌, map, refl}
 use Rattle.vb_status.specs.declared.bits.StatusFault.TheVariants.{ClearsBit, OutOfOrder}
 use Rattle.vb_status.specs.declared.bits.StatusFault.TheVariants.{MustTellHostMissing, VersionMissing}
-use Rattle.vb_core.specs.declared.{device.Device.Device, settings.Settings.Settings}
+use Rattle.vb_core.specs.declared.{device.Device.Device}
 use Rattle.vb_core.{proofs.Examples.offering, specs.{Devices.new_device, Statuses.status_denial}}
 
 -- a device whose settings ask for MUST_TELL_HOST, or don't (0)

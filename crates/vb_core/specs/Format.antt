@@ -1,7 +1,7 @@
 -- The bytes of a saved device. Numbers are little-endian (as in VIRTIO 1.1, 1.4), and nothing
 -- stands between them.
 use Rattle.std.specs.Prelude.{ℕ, ◌+◌, ◌*◌, ◌%◌, ◌^◌, ◌<◌, List, [], ◌∷◌, ◌++◌, slice_index, take}
-use Rattle.std.specs.Prelude.{drop, bit_xor}
+use Rattle.std.specs.Prelude.{drop, bit_xor, ◌≡◌, ◌⊎◌, ◌==◌, if◌then◌else◌, length}
 use Rattle.std.specs.List.{fold}
 use Rattle.std.specs.Int.{w16, w32, w64, from_le_bytes, to_le_bytes}
 use Rattle.vb_core.specs.declared.settings.Settings.{Settings}
@@ -9,6 +9,7 @@ use Rattle.vb_core.specs.declared.ring.Virtqueue.{Virtqueue}
 use Rattle.vb_core.specs.declared.device.Device.{Device}
 use Rattle.vb_core.specs.declared.saved.Saved.{Saved}
 use Rattle.vb_core.specs.declared.format.TheConstants.{MAGIC, FORMAT_VERSION, SAVED_LENGTH}
+use Rattle.vb_core.specs.declared.format.TheConstants.{OLDER_VERSION, OLDER_LENGTH}
 
 -- ---- numbers
 
@@ -33,8 +34,8 @@ u64_at bytes at = from_le_bytes w64 (take 8 (drop at bytes))
 
 -- ---- what is saved, part by part
 
-abbrev pub header_parts : List (List ℕ)
-header_parts = u64_bytes MAGIC ∷ u32_bytes FORMAT_VERSION ∷ u32_bytes SAVED_LENGTH ∷ []
+abbrev pub header_parts : ℕ → ℕ → List (List ℕ)
+header_parts version len = u64_bytes MAGIC ∷ u32_bytes version ∷ u32_bytes len ∷ []
 
 abbrev pub settings_parts : Settings → List (List ℕ)
 settings_parts s =
@@ -59,8 +60,20 @@ abbrev pub in_a_row : List (List ℕ) → List ℕ → List ℕ
 in_a_row [] more = more
 in_a_row (part ∷ parts) more = part ++ in_a_row parts more
 
+-- what is held of deflates, or may be, which the older version doesn't say
+abbrev pub hold_parts : Saved → List (List ℕ)
+hold_parts s =
+    (s.device.settings.holds_deflates ∷ []) ∷ u32_bytes s.held.deflate ∷ u32_bytes s.held.pages ∷ []
+
 abbrev pub saved_parts : Saved → List (List ℕ)
-saved_parts s = header_parts ++ device_parts s.device s.held
+saved_parts s =
+    header_parts FORMAT_VERSION SAVED_LENGTH ++ device_parts s.device s.held.statistics
+    ++ hold_parts s
+
+-- the same in the older version
+abbrev pub older_parts : Saved → List (List ℕ)
+older_parts s =
+    header_parts OLDER_VERSION OLDER_LENGTH ++ device_parts s.device s.held.statistics
 
 -- all but the checksum
 abbrev pub body : Saved → List ℕ
@@ -71,9 +84,27 @@ unfoldable pub checksum : List ℕ → ℕ
 checksum bytes =
     fold (λ sum byte. (bit_xor sum byte * 0x100000001b3) % 2 ^ 64) 0xcbf29ce484222325 bytes
 
+-- parts in a row, and their checksum
+abbrev pub with_sum : List (List ℕ) → List ℕ
+with_sum parts = in_a_row parts (u64_bytes (checksum (in_a_row parts [])))
+
 -- the bytes of a saved device
 abbrev pub saved_bytes : Saved → List ℕ
-saved_bytes s = in_a_row (saved_parts s) (u64_bytes (checksum (body s)))
+saved_bytes s = with_sum (saved_parts s)
+
+-- those of the older version
+abbrev pub older_bytes : Saved → List ℕ
+older_bytes s = with_sum (older_parts s)
+
+-- it neither holds a deflate nor may, as each device of the older version
+pub record HoldsNoDeflate (s : Saved) : Type 0 where
+  pub setting : s.device.settings.holds_deflates ≡ 0
+  pub deflate : s.held.deflate ≡ 0
+  pub pages : s.held.pages ≡ 0
+
+-- these bytes are what was saved of it, by this version or the older one
+abbrev pub WasSaved : List ℕ → Saved → Type 0
+WasSaved bytes s = (bytes ≡ saved_bytes s) ⊎ ((bytes ≡ older_bytes s) × HoldsNoDeflate s)
 
 -- ---- what bytes say
 
@@ -84,6 +115,7 @@ settings_at bytes at = record {
   reserved_pages = u32_at bytes (at + 16);
   needs_must_tell = slice_index bytes (at + 20);
   skips_bad_pages = slice_index bytes (at + 21);
+  holds_deflates = 0;
 }
 
 abbrev pub ring_at : List ℕ → ℕ → Virtqueue
@@ -96,8 +128,9 @@ ring_at bytes at = record {
   next_used = u16_at bytes (at + 28);
 }
 
-abbrev pub saved_in : List ℕ → Saved
-saved_in bytes = record {
+-- a device of the older version
+abbrev pub older_in : List ℕ → Saved
+older_in bytes = record {
   device = record {
     settings = settings_at bytes 16;
     features = u64_at bytes 38;
@@ -110,8 +143,28 @@ saved_in bytes = record {
     poison = u32_at bytes 179;
     status = slice_index bytes 58;
   };
-  held = u32_at bytes 54;
+  held = record { statistics = u32_at bytes 54; deflate = 0; pages = 0 };
 }
+
+abbrev pub with_holds : ℕ → Settings → Settings
+with_holds n s = record s { holds_deflates = n }
+
+-- a device of this version, which says more behind that
+abbrev pub saved_in : List ℕ → Saved
+saved_in bytes = record {
+  device = record (older_in bytes).device {
+    settings = with_holds (slice_index bytes 183) (settings_at bytes 16);
+  };
+  held = record {
+    statistics = u32_at bytes 54;
+    deflate = u32_at bytes 184;
+    pages = u32_at bytes 188;
+  };
+}
+
+-- the device of either version
+abbrev pub state_in : List ℕ → Saved
+state_in bytes = if length bytes == SAVED_LENGTH then saved_in bytes else older_in bytes
 
 -- ---- numbers that fit their fields
 
@@ -130,6 +183,12 @@ pub record FitsRing (r : Virtqueue) : Type 0 where
   pub next_avail : r.next_avail < 65536
   pub next_used : r.next_used < 65536
 
+-- what is held of deflates, or may be
+pub record FitsHolds (s : Saved) : Type 0 where
+  pub setting : s.device.settings.holds_deflates < 256
+  pub deflate : s.held.deflate < 2 ^ 32
+  pub pages : s.held.pages < 2 ^ 32
+
 pub record FitsSaved (s : Saved) : Type 0 where
   pub settings : FitsSettings s.device.settings
   pub features : s.device.features < 2 ^ 64
@@ -141,4 +200,5 @@ pub record FitsSaved (s : Saved) : Type 0 where
   pub report : FitsRing s.device.report
   pub poison : s.device.poison < 2 ^ 32
   pub status : s.device.status < 256
-  pub held : s.held < 2 ^ 32
+  pub statistics_held : s.held.statistics < 2 ^ 32
+  pub holds : FitsHolds s

@@ -28,7 +28,7 @@ is_request Deflate = true
 is_request Statistics = false
 is_request Report = false
 
--- The numbers that may be named, where memory has so many pages, of which the first are reserved.
+-- The numbers that may be named, where memory has n pages, of which the first are reserved.
 abbrev pub right_numbers : ℕ → ℕ → List ℕ → List ℕ
 right_numbers reserved count ns = filter (λ n. is_none (number_fault reserved count n)) ns
 
@@ -37,8 +37,8 @@ abbrev pub fault_in : Bool → ℕ → ℕ → List ℕ → Option ChainFault
 fault_in skipping reserved count ns =
     if skipping then None else first_number_fault reserved count ns
 
--- The runs in the front of a list tell these pages in their order; and of so many numbers the
--- others were skipped.
+-- The runs in the front of a list tell these pages in their order; and of n numbers the others were
+-- skipped.
 pub record AreNamed (pages : List ℕ) (all : ℕ) (runs : List Run) (named : Named) : Type 0 where
   pub told_so : Tell (take named.runs runs) pages
   pub few : named.runs ≤ length pages
@@ -52,7 +52,7 @@ pub record NamesRuns (skipping : Bool) (reserved count : ℕ) (ns : List ℕ) (r
   pub named : fault_in skipping reserved count ns ≡ None →
       IsOkAnd result (AreNamed (right_numbers reserved count ns) (length ns) runs)
 
--- What a request is refused for, with so much room and so many bytes.
+-- What a request is refused for, with this much room and n bytes.
 abbrev pub name_denial : Kind → ℕ → ℕ → Device → Option Denial
 name_denial kind len room d =
     call_denial kind (is_request kind) (is_request_length len && nat_le (len / 4) room) d

@@ -1,9 +1,10 @@
 -- A device that is saved and restored: the states that its calls lead to, and what is refused.
-use Rattle.std.specs.Prelude.{ℕ, Bool, not, ◌&&◌, ◌||◌, ◌==◌, nat_le, nat_lt, List, length}
+use Rattle.std.specs.Prelude.{ℕ, ◌-◌, Bool, not, ◌&&◌, ◌||◌, ◌==◌, nat_le, nat_lt, List, length}
 use Rattle.std.specs.Prelude.{if◌then◌else◌, Option, Some, None, Result, Ok, Err, take}
 use Rattle.vb_virtio.specs.Features.{version_1, must_tell_host}
 use Rattle.vb_virtio.specs.Status.{contains, acknowledge, driver, driver_ok, features_ok}
 use Rattle.vb_virtio.specs.Status.{needs_reset}
+use Rattle.vb_virtio.specs.declared.limits.TheConstants.{MAX_REQUEST_PAGES}
 use Rattle.vb_virtio.specs.Queues.{lacks_feature}
 use Rattle.vb_core.specs.declared.ring.Virtqueue.{Virtqueue}
 use Rattle.vb_core.specs.declared.kinds.Kind.{Kind}
@@ -14,13 +15,14 @@ use Rattle.vb_core.specs.declared.saved.StateDenial.{StateDenial}
 use Rattle.vb_core.specs.declared.saved.StateDenial.TheVariants.{BadLength, NotAState}
 use Rattle.vb_core.specs.declared.saved.StateDenial.TheVariants.{OtherVersion, BadSum, Impossible}
 use Rattle.vb_core.specs.declared.format.TheConstants.{MAGIC, FORMAT_VERSION, HEADER_LENGTH}
-use Rattle.vb_core.specs.declared.format.TheConstants.{VERSION_AT, LENGTH_AT, CHECKSUM_AT}
-use Rattle.vb_core.specs.declared.format.TheConstants.{SAVED_LENGTH}
-use Rattle.vb_core.specs.Settings.{are_settings, needs_must_tell, page_poison}
+use Rattle.vb_core.specs.declared.format.TheConstants.{VERSION_AT, LENGTH_AT, CHECKSUM_LENGTH}
+use Rattle.vb_core.specs.declared.format.TheConstants.{SAVED_LENGTH, OLDER_VERSION, OLDER_LENGTH}
+use Rattle.vb_core.specs.Settings.{are_settings, needs_must_tell, page_poison, holds_chains}
+use Rattle.vb_core.specs.Held.{held_of, held_pages}
 use Rattle.vb_core.specs.Rings.{has_place}
 use Rattle.vb_core.specs.Kinds.{queue_of}
 use Rattle.vb_core.specs.Devices.{ring_of}
-use Rattle.vb_core.specs.Format.{u32_at, u64_at, checksum, saved_in}
+use Rattle.vb_core.specs.Format.{u32_at, u64_at, checksum, state_in}
 
 -- ---- the states that calls lead to
 
@@ -69,13 +71,16 @@ is_ring kind d =
     && (not (has_moved (ring_of kind d))
     || contains d.status features_ok && not (lacks_feature d.features (queue_of kind)))
 
--- The head of a statistics buffer that was taken is one of its queue's.
-abbrev pub is_held : Saved → Bool
-is_held s =
-    (s.held == 0)
-    || contains s.device.status driver_ok
-    && not (lacks_feature s.device.features (queue_of Statistics))
-    && nat_le s.held s.device.statistics.size
+-- Nothing is held of the kind's queue; or it is one of the queue's chains, which the device holds
+-- since the driver was done, and which names no more pages than a request may.
+abbrev pub is_held : Kind → Saved → Bool
+is_held kind s =
+    if held_of kind s.held == 0 then held_pages kind s.held == 0
+    else
+    contains s.device.status driver_ok && not (lacks_feature s.device.features (queue_of kind))
+    && holds_chains kind s.device.settings
+    && nat_le (held_of kind s.held) (ring_of kind s.device).size
+    && nat_le (held_pages kind s.held) MAX_REQUEST_PAGES
 
 -- poison_val is written only where PAGE_POISON is offered.
 abbrev pub is_poison : Device → Bool
@@ -85,7 +90,7 @@ abbrev pub can_be : Saved → Bool
 can_be s =
     are_settings s.device.settings && is_status s.device.status && are_agreed s.device
     && is_ring Inflate s.device && is_ring Deflate s.device && is_ring Statistics s.device
-    && is_ring Report s.device && is_held s && is_poison s.device
+    && is_ring Report s.device && is_held Statistics s && is_held Deflate s && is_poison s.device
 
 -- ---- refusals
 
@@ -99,15 +104,32 @@ save_denial s room =
 abbrev pub is_state : List ℕ → Bool
 is_state bytes = u64_at bytes 0 == MAGIC
 
+-- a version that is read: the newest, or the one before it
+abbrev pub is_version : ℕ → Bool
+is_version version = (version == FORMAT_VERSION) || (version == OLDER_VERSION)
+
 abbrev pub has_version : List ℕ → Bool
-has_version bytes = u32_at bytes VERSION_AT == FORMAT_VERSION
+has_version bytes = is_version (u32_at bytes VERSION_AT)
 
--- as many as a saved device has, and their header says so
+-- how many bytes a version has
+abbrev pub length_of : ℕ → ℕ
+length_of version = if version == OLDER_VERSION then OLDER_LENGTH else SAVED_LENGTH
+
+abbrev pub is_length : ℕ → Bool
+is_length len = (len == SAVED_LENGTH) || (len == OLDER_LENGTH)
+
+abbrev pub are_so_long : ℕ → List ℕ → Bool
+are_so_long len bytes = (u32_at bytes LENGTH_AT == len) && (length bytes == len)
+
+-- as many as a saved device of their version has, and their header says so
 abbrev pub has_length : List ℕ → Bool
-has_length bytes = (u32_at bytes LENGTH_AT == SAVED_LENGTH) && (length bytes == SAVED_LENGTH)
+has_length bytes = are_so_long (length_of (u32_at bytes VERSION_AT)) bytes
 
+-- the checksum of all bytes before it stands last
 abbrev pub has_sum : List ℕ → Bool
-has_sum bytes = u64_at bytes CHECKSUM_AT == checksum (take CHECKSUM_AT bytes)
+has_sum bytes =
+    u64_at bytes (length bytes - CHECKSUM_LENGTH)
+    == checksum (take (length bytes - CHECKSUM_LENGTH) bytes)
 
 -- in this order
 abbrev pub header_denial : List ℕ → Option StateDenial
@@ -122,8 +144,8 @@ header_denial bytes =
 abbrev pub read_saved : List ℕ → Result Saved StateDenial
 read_saved bytes =
     if not (has_sum bytes) then Err BadSum
-    else if not (can_be (saved_in bytes)) then Err Impossible
-    else Ok (saved_in bytes)
+    else if not (can_be (state_in bytes)) then Err Impossible
+    else Ok (state_in bytes)
 
 abbrev pub unless_denied : Option StateDenial → Result Saved StateDenial → Result Saved StateDenial
 unless_denied (Some why) other = Err why

@@ -1,9 +1,12 @@
 -- What a monitor settles for a device.
-use Rattle.std.specs.Prelude.{ℕ, ◌/◌, Bool, not, ◌==◌, ◌&&◌, nat_lt, bit_and, bit_or}
+use Rattle.std.specs.Prelude.{ℕ, ◌/◌, Bool, true, false, not, ◌==◌, ◌&&◌, nat_lt, bit_and}
+use Rattle.std.specs.Prelude.{bit_or}
 use Rattle.vb_virtio.specs.declared.negotiation.TheConstants.{OFFERED_FEATURES}
 use Rattle.vb_virtio.specs.Limits.{page_size}
 use Rattle.vb_virtio.specs.Features.{version_1}
 use Rattle.vb_virtio.specs.Status.{contains}
+use Rattle.vb_core.specs.declared.kinds.Kind.{Kind}
+use Rattle.vb_core.specs.declared.kinds.Kind.TheVariants.{Inflate, Deflate, Statistics, Report}
 use Rattle.vb_core.specs.declared.settings.Settings.{Settings}
 use Rattle.vb_core.specs.declared.settings.TheConstants.{MEMORY_LIMIT, PAGE_POISON}
 
@@ -36,3 +39,11 @@ needs_must_tell s = not (s.needs_must_tell == 0)
 -- A number that may not be named is skipped.
 abbrev pub skips : Settings → Bool
 skips s = not (s.skips_bad_pages == 0)
+
+-- A chain of the kind's queue that was taken is held until it is asked for: one of statistics
+-- always is (VIRTIO 1.1, 5.5.6.3), and a deflate where the settings say so.
+abbrev pub holds_chains : Kind → Settings → Bool
+holds_chains Inflate s = false
+holds_chains Deflate s = not (s.holds_deflates == 0)
+holds_chains Statistics s = true
+holds_chains Report s = false

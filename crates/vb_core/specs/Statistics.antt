@@ -14,13 +14,13 @@ abbrev pub figure_at : List ℕ → ℕ → Statistic
 figure_at bytes k =
     record { tag = (statistic_at bytes k).tag; value = (statistic_at bytes k).value }
 
--- The figures of these bytes, in order, stand in the front of a list.
+-- The figures of these bytes, in order, are in the front of a list.
 abbrev pub AreFigures : List ℕ → List Statistic → Type 0
 AreFigures bytes figures =
     (k : ℕ) (d : Statistic) → k < length bytes / STATISTIC_SIZE →
     slice_index_or figures k d ≡ figure_at bytes k
 
--- What a buffer of statistics is refused for, with so much room and so many bytes.
+-- What a buffer of statistics is refused for, with this much room and n bytes.
 abbrev pub statistics_denial : ℕ → ℕ → Device → Option Denial
 statistics_denial len room d =
     call_denial Statistics true

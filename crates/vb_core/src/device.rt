@@ -76,7 +76,7 @@ impl Device {
         }
     }
 
-    /// Where the ring of a kind's queue stands.
+    /// Where the ring of a kind's queue is.
     #[inline(always)]
     fn ring_at(&self, kind: Kind) -> &Virtqueue
         ensures { result.now ≡ ring_of kind self.now }
@@ -216,7 +216,7 @@ impl Device {
         }
     }
 
-    /// The host wants so many pages in the balloon.
+    /// Sets the balloon's target to `pages` pages.
     pub fn set_target(&mut self, pages: u32)
         ensures { self.new ≡ record self.old { target = pages } }
     {

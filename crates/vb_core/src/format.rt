@@ -1,21 +1,26 @@
 //! The bytes of a saved device: numbers in a row, each little-endian.
 
-ghost use Rattle.std.specs.Prelude.{◌≡◌, ◌+◌, ◌≤◌, ◌++◌, [], ◌∷◌, length};
+ghost use Rattle.std.specs.Prelude.{◌≡◌, ◌+◌, ◌≤◌, ◌++◌, [], ◌∷◌, true, length};
 ghost use Rattle.arrayvec.specs.ArrayVec.{array_vec_len};
 ghost use Rattle.vb_core.specs.Format.{u16_bytes, u32_bytes, u64_bytes, u16_at, u32_at, u64_at};
 ghost use Rattle.vb_core.specs.Format.{in_a_row, settings_parts, ring_parts, body, saved_bytes};
-ghost use Rattle.vb_core.specs.Format.{settings_at, ring_at, saved_in, checksum, header_parts};
-ghost use Rattle.vb_core.specs.Format.{FitsSettings, FitsRing, FitsSaved};
+ghost use Rattle.vb_core.specs.Format.{hold_parts, older_in, state_in};
+ghost use Rattle.vb_core.specs.Format.{settings_at, ring_at, checksum, header_parts};
+ghost use Rattle.vb_core.specs.Saved.{is_length};
+ghost use Rattle.vb_core.specs.Format.{FitsSettings, FitsRing, FitsHolds, FitsSaved};
 
 use crate::saved::Saved;
-use crate::{Device, Settings, Virtqueue};
+use crate::{Device, Held, Settings, Virtqueue};
 use arrayvec::ArrayVec;
 
 /// What a saved device begins with: the bytes of `VBSTATE` and a 0, as a little-endian number.
 pub(crate) const MAGIC: u64 = 0x0045_5441_5453_4256;
 
-/// The version of the format: 2 since a device has `poison_val`.
-pub const FORMAT_VERSION: u32 = 2;
+/// The version of the format: 3 since a device holds deflates.
+pub const FORMAT_VERSION: u32 = 3;
+
+/// The version before it, which is read too: no device of it holds deflates.
+pub const OLDER_VERSION: u32 = 2;
 
 /// Bytes that each version begins with: `MAGIC`, the version, the length.
 pub(crate) const HEADER_LENGTH: usize = 16;
@@ -26,11 +31,20 @@ pub(crate) const VERSION_AT: usize = 8;
 /// Where the length of the whole stands.
 pub(crate) const LENGTH_AT: usize = 12;
 
+/// Where stands what the older version doesn't say: its checksum stands there.
+pub(crate) const HOLD_AT: usize = 183;
+
 /// Where the checksum of all bytes before it stands.
-pub(crate) const CHECKSUM_AT: usize = 183;
+pub(crate) const CHECKSUM_AT: usize = 192;
+
+/// How many bytes the checksum has.
+pub(crate) const CHECKSUM_LENGTH: usize = 8;
 
 /// How many bytes a saved device has.
-pub const SAVED_LENGTH: usize = 191;
+pub const SAVED_LENGTH: usize = 200;
+
+/// How many it had in the older version.
+pub const OLDER_LENGTH: usize = 191;
 
 /// The bytes of a saved device, as far as they are there.
 pub(crate) type SavedBytes = ArrayVec<u8, SAVED_LENGTH>;
@@ -79,6 +93,7 @@ fn settings_at(bytes: &[u8], at: usize) -> Settings
         reserved_pages: u32_at(bytes, at + 16),
         needs_must_tell: bytes[at + 20],
         skips_bad_pages: bytes[at + 21],
+        holds_deflates: 0,
     }
 }
 
@@ -97,10 +112,10 @@ fn ring_at(bytes: &[u8], at: usize) -> Virtqueue
     }
 }
 
-/// The device that these bytes are of, whatever else they say.
-pub(crate) fn saved_in(bytes: &[u8]) -> Saved
-    requires { length bytes.now ≡ SAVED_LENGTH }
-    ensures { result ≡ saved_in bytes.now }
+/// The device that these bytes are of in the older version.
+fn older_in(bytes: &[u8]) -> Saved
+    requires { OLDER_LENGTH ≤ length bytes.now }
+    ensures { result ≡ older_in bytes.now }
 {
     let device = Device {
         settings: settings_at(bytes, 16),
@@ -114,10 +129,26 @@ pub(crate) fn saved_in(bytes: &[u8]) -> Saved
         poison: u32_at(bytes, 179),
         status: bytes[58],
     };
-    Saved {
-        device,
-        held: u32_at(bytes, 54),
+    let held = Held {
+        statistics: u32_at(bytes, 54),
+        deflate: 0,
+        pages: 0,
+    };
+    Saved { device, held }
+}
+
+/// The device that these bytes are of, by their number, whatever else they say.
+pub(crate) fn state_in(bytes: &[u8]) -> Saved
+    requires { is_length (length bytes.now) ≡ true }
+    ensures { result ≡ state_in bytes.now }
+{
+    let mut saved = older_in(bytes);
+    if bytes.len() == SAVED_LENGTH {
+        saved.device.settings.holds_deflates = bytes[HOLD_AT];
+        saved.held.deflate = u32_at(bytes, HOLD_AT + 1);
+        saved.held.pages = u32_at(bytes, HOLD_AT + 5);
     }
+    saved
 }
 
 /// Adds a byte.
@@ -165,7 +196,8 @@ fn push_u64(out: &mut SavedBytes, number: u64)
 /// Adds what a saved device begins with.
 fn push_header(out: &mut SavedBytes)
     requires { array_vec_len out.old + 16 ≤ SAVED_LENGTH }
-    ensures items { out.new.items ≡ out.old.items ++ in_a_row header_parts [] }
+    ensures items { out.new.items ≡ out.old.items ++
+        in_a_row (header_parts FORMAT_VERSION SAVED_LENGTH) [] }
     ensures len { array_vec_len out.new ≡ array_vec_len out.old + 16 }
 {
     push_u64(out, MAGIC);
@@ -185,6 +217,18 @@ fn push_settings(out: &mut SavedBytes, settings: &Settings)
     push_u32(out, settings.reserved_pages);
     push_u8(out, settings.needs_must_tell);
     push_u8(out, settings.skips_bad_pages);
+}
+
+/// Adds what is held of deflates, or may be.
+fn push_holds(out: &mut SavedBytes, saved: &Saved)
+    requires { array_vec_len out.old + 9 ≤ SAVED_LENGTH }
+    ensures items { out.new.items ≡ out.old.items ++ in_a_row (hold_parts saved.now) [] }
+    ensures len { array_vec_len out.new ≡ array_vec_len out.old + 9 }
+    ensures fits { FitsHolds saved.now }
+{
+    push_u8(out, saved.device.settings.holds_deflates);
+    push_u32(out, saved.held.deflate);
+    push_u32(out, saved.held.pages);
 }
 
 /// Adds a ring.
@@ -216,13 +260,14 @@ fn push_body(out: &mut SavedBytes, saved: &Saved)
     push_u64(out, device.features);
     push_u32(out, device.target);
     push_u32(out, device.actual);
-    push_u32(out, saved.held);
+    push_u32(out, saved.held.statistics);
     push_u8(out, device.status);
     push_ring(out, &device.inflate);
     push_ring(out, &device.deflate);
     push_ring(out, &device.statistics);
     push_ring(out, &device.report);
     push_u32(out, device.poison);
+    push_holds(out, saved);
 }
 
 /// The checksum of bytes: FNV-1a with 64 bits. A change of any one byte changes it.

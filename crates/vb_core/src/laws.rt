@@ -22,7 +22,7 @@ ghost use Rattle.vb_core.specs.Rings.{used_entry};
 
 /// Where the bytes are those of a request's pieces in memory, and no number is skipped, what is
 /// named is what a request names there: its first fault; or runs of just its pages, which they tell
-/// in the request's order where no number stands in it twice.
+/// in the request's order where no number is in it twice.
 pub fn runs_are_the_pages_of_the_request()
     ensures fault { (mem : Pages) (pieces : List Piece) (reserved total : ℕ) (runs : List Run)
         (result : Result Named ChainFault) (fault : ChainFault) →
@@ -45,7 +45,7 @@ pub fn runs_are_the_pages_of_the_request()
         IsOkAnd result (λ named. Tell (take named.runs runs) pages) }
 {}
 
-/// Just one list of runs tells given numbers: a number that follows the last run, or stands right
+/// Just one list of runs tells given numbers: a number that follows the last run, or is right
 /// before it, joins it, and any other begins one.
 pub fn numbers_are_told_by_one_list_of_runs()
     ensures { (runs others : List Run) (ns : List ℕ) → Tell runs ns → Tell others ns →

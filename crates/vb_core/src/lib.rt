@@ -7,6 +7,7 @@ mod ballooned;
 mod config;
 mod device;
 mod format;
+mod held;
 mod kinds;
 mod laws;
 mod name;
@@ -26,6 +27,7 @@ mod using;
 pub use ballooned::{count_ballooned, is_ballooned, mark};
 pub use device::{Denial, Device};
 pub use format::{FORMAT_VERSION, SAVED_LENGTH};
+pub use held::Held;
 pub use kinds::Kind;
 pub use laws::{
     a_used_entry_is_the_rings_next, numbers_are_told_by_one_list_of_runs,
@@ -37,7 +39,9 @@ pub use report::MAX_REPORT_RUNS;
 pub use ring::{UsedEntry, Virtqueue, place_in_ring};
 pub use runs::Run;
 pub use saved::{Saved, StateDenial};
-pub use saved_laws::{only_what_was_saved_is_restored, what_was_saved_is_restored};
+pub use saved_laws::{
+    an_older_state_is_restored, only_what_was_saved_is_restored, what_was_saved_is_restored,
+};
 pub use settings::{MEMORY_LIMIT, PAGE_POISON, Settings};
 pub use starting::QueueStart;
 pub use statistics::Statistic;

@@ -10,7 +10,7 @@ use crate::{Denial, Device, Kind, Run};
 use vb_chain::ChainFault;
 use vb_request::{is_request_length, number_at, number_fault as fault_of_number};
 
-/// What a request names: so many runs of pages.
+/// What a request names: runs of pages.
 #[repr(C)]
 #[derive(Clone, Copy, Debug)]
 pub struct Named {
@@ -25,15 +25,15 @@ pub struct Named {
 /// Which numbers a request may name.
 #[derive(Clone, Copy, Debug)]
 struct Limits {
-    /// Those of the first pages are reserved, so many.
+    /// How many of the first pages are reserved.
     reserved: u32,
-    /// There are so many pages.
+    /// How many pages memory has.
     count: u32,
     /// Others are skipped.
     skips: bool,
 }
 
-/// What is wrong with a page number; whether something is takes one comparison.
+/// What is wrong with a page number; validity is one comparison.
 #[tactic(auto, using(crate::proofs::NameLemmas::within))]
 #[inline(always)]
 fn number_fault(limits: Limits, number: u32) -> Option<ChainFault>
@@ -90,10 +90,10 @@ impl Kind {
 }
 
 impl Device {
-    /// Takes the chain that stood next on the queue of inflates or deflates, whose pieces' bytes
-    /// are these, in a row: the pages that it names, as runs in the front of `runs` (VIRTIO 1.1,
-    /// 5.5.6). A number that follows the last run, or stands right before it, joins it. A page that
-    /// is named again stands there again.
+    /// Takes the chain that was next on the queue of inflates or deflates, whose pieces' bytes are
+    /// these, in a row: the pages that it names, as runs in the front of `runs` (VIRTIO 1.1,
+    /// 5.5.6). A number that follows the last run, or is right before it, joins it. A page that is
+    /// named again is there again.
     ///
     /// Refused, tested in this order: `NoQueue` for a kind that the call isn't for; `BadArgument`
     /// where a request has no such length, or `runs` has less room than a quarter of it;

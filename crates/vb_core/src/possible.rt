@@ -12,6 +12,7 @@ use crate::{Device, Kind, Virtqueue};
 use bitflags::Flags;
 use vb_request::lacks_feature;
 use vb_status::{Features, Status};
+use vb_virtio::limits::MAX_REQUEST_PAGES;
 
 /// Whether a bit of the status stands only with the one that comes before it.
 fn comes_after(status: Status, bit: Status, before: Status) -> bool
@@ -108,15 +109,22 @@ impl Device {
 }
 
 impl Saved {
-    /// Whether the statistics buffer that is held is one of the queue's.
-    fn is_held(&self) -> bool
-        ensures { result ≡ is_held self.now }
+    /// Whether what is held of a kind's queue is nothing, or one of its chains, which the device
+    /// holds and which may name so many pages.
+    fn is_held(&self, kind: Kind) -> bool
+        ensures { result ≡ is_held kind self.now }
     {
         let device = &self.device;
-        let features = Features::from_bits_retain(device.features);
-        let lacks = lacks_feature(Kind::Statistics.queue(), features);
-        let may_take = device.has(Status::DRIVER_OK) && !lacks;
-        self.held == 0 || may_take && self.held <= u32::from(device.statistics.size)
+        let held = self.held.of(kind);
+        let pages = self.held.pages_of(kind);
+        if held == 0 {
+            return pages == 0;
+        }
+        let lacks = lacks_feature(kind.queue(), Features::from_bits_retain(device.features));
+        let may_take = device.has(Status::DRIVER_OK)
+            && !lacks
+            && device.settings.holds_chains(kind);
+        may_take && held <= u32::from(device.ring(kind).size) && pages <= MAX_REQUEST_PAGES
     }
 
     /// Whether calls of a device lead to this state.
@@ -131,7 +139,8 @@ impl Saved {
             && device.is_ring(Kind::Deflate)
             && device.is_ring(Kind::Statistics)
             && device.is_ring(Kind::Report)
-            && self.is_held()
+            && self.is_held(Kind::Statistics)
+            && self.is_held(Kind::Deflate)
             && device.is_poison()
     }
 }

@@ -4,13 +4,14 @@ ghost use Rattle.std.specs.Prelude.{◌≡◌, ◌≤◌, ◌++◌, true, Some, 
 ghost use Rattle.vb_core.specs.declared.saved.StateDenial.{StateDenial};
 ghost use Rattle.vb_core.specs.Format.{FitsSaved, saved_bytes};
 ghost use Rattle.vb_core.specs.Saved.{save_denial, is_state, has_version, has_length, has_sum};
-ghost use Rattle.vb_core.specs.Saved.{header_denial, read_saved, restored};
+ghost use Rattle.vb_core.specs.Saved.{header_denial, read_saved, restored, is_version, length_of};
+ghost use Rattle.vb_core.specs.Saved.{is_length};
 
-use crate::Device;
 use crate::format::{
-    CHECKSUM_AT, FORMAT_VERSION, HEADER_LENGTH, LENGTH_AT, MAGIC, SAVED_LENGTH, VERSION_AT,
-    checksum, push_saved, saved_in, u32_at, u64_at,
+    CHECKSUM_LENGTH, FORMAT_VERSION, HEADER_LENGTH, LENGTH_AT, MAGIC, OLDER_LENGTH, OLDER_VERSION,
+    SAVED_LENGTH, VERSION_AT, checksum, push_saved, state_in, u32_at, u64_at,
 };
+use crate::{Device, Held};
 use arrayvec::ArrayVec;
 
 /// Why a device isn't saved or restored.
@@ -34,9 +35,8 @@ pub enum StateDenial {
 pub struct Saved {
     /// The device.
     pub device: Device,
-    /// 1 more than the head of the statistics buffer that was taken and waits to be given back; 0
-    /// where none does.
-    pub held: u32,
+    /// The chains that were taken, and wait until they are asked for.
+    pub held: Held,
 }
 
 /// Puts bytes into the front.
@@ -56,35 +56,57 @@ fn is_state(bytes: &[u8]) -> bool
     u64_at(bytes, 0) == MAGIC
 }
 
-/// Whether they have the version that is read here.
+/// Whether this version is read here.
+fn is_version(version: u32) -> bool
+    ensures { result ≡ is_version version }
+{
+    version == FORMAT_VERSION || version == OLDER_VERSION
+}
+
+/// Whether they have a version that is read here.
 fn has_version(bytes: &[u8]) -> bool
     requires { HEADER_LENGTH ≤ length bytes.now }
     ensures { result ≡ has_version bytes.now }
 {
-    u32_at(bytes, VERSION_AT) == FORMAT_VERSION
+    is_version(u32_at(bytes, VERSION_AT))
 }
 
-/// Whether they are as many as a saved device has, and say so.
+/// How many bytes a version has.
+fn length_of(version: u32) -> usize
+    ensures value { result ≡ length_of version }
+    ensures length { is_length result ≡ true }
+    ensures few { result ≤ SAVED_LENGTH }
+{
+    if version == OLDER_VERSION {
+        OLDER_LENGTH
+    } else {
+        SAVED_LENGTH
+    }
+}
+
+/// Whether they are as many as a saved device of their version has, and say so.
 fn has_length(bytes: &[u8]) -> bool
     requires { HEADER_LENGTH ≤ length bytes.now }
     ensures value { result ≡ has_length bytes.now }
-    ensures length { result ≡ true → length bytes.now ≡ SAVED_LENGTH }
+    ensures length { result ≡ true → is_length (length bytes.now) ≡ true }
 {
-    u32_at(bytes, LENGTH_AT) == SAVED_LENGTH as u32 && bytes.len() == SAVED_LENGTH
+    let length = length_of(u32_at(bytes, VERSION_AT));
+    u32_at(bytes, LENGTH_AT) == length as u32 && bytes.len() == length
 }
 
 /// Whether their checksum stands behind them.
 fn has_sum(bytes: &[u8]) -> bool
-    requires { length bytes.now ≡ SAVED_LENGTH }
+    requires { is_length (length bytes.now) ≡ true }
     ensures { result ≡ has_sum bytes.now }
 {
-    u64_at(bytes, CHECKSUM_AT) == checksum(&bytes[..CHECKSUM_AT])
+    let end = bytes.len() - CHECKSUM_LENGTH;
+    u64_at(bytes, end) == checksum(&bytes[..end])
 }
 
 /// What the header refuses.
 fn header_denial(bytes: &[u8]) -> Option<StateDenial>
     ensures value { result ≡ header_denial bytes.now }
-    ensures length { result ≡ None → length bytes.now ≡ SAVED_LENGTH }
+    ensures length { result ≡ None → is_length (length bytes.now) ≡ true }
 {
     if bytes.len() < HEADER_LENGTH {
         return Some(StateDenial::BadLength);
@@ -103,13 +125,13 @@ fn header_denial(bytes: &[u8]) -> Option<StateDenial>
 
 /// The device of bytes with a good header, or what refuses them.
 fn read_saved(bytes: &[u8]) -> Result<Saved, StateDenial>
-    requires { length bytes.now ≡ SAVED_LENGTH }
+    requires { is_length (length bytes.now) ≡ true }
     ensures { result ≡ read_saved bytes.now }
 {
     if !has_sum(bytes) {
         return Err(StateDenial::BadSum);
     }
-    let saved = saved_in(bytes);
+    let saved = state_in(bytes);
     if !saved.is_possible() {
         return Err(StateDenial::Impossible);
     }
@@ -154,7 +176,8 @@ impl Saved {
         }
     }
 
-    /// The device of these bytes, which `Saved::save` made.
+    /// The device of these bytes, which `Saved::save` made, of this version or the older one, whose
+    /// devices hold no deflates.
     ///
     /// Refused, tested in this order: `BadLength` where they aren't even a header; `NotAState`;
     /// `OtherVersion`; `BadLength`; `BadSum`; `Impossible`.

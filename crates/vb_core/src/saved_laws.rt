@@ -2,7 +2,8 @@
 
 ghost use Rattle.std.specs.Prelude.{◌≡◌, ℕ, ◌<◌, true, List, Ok, slice_index};
 ghost use Rattle.vb_core.specs.declared.saved.Saved.{Saved};
-ghost use Rattle.vb_core.specs.Format.{FitsSaved, saved_bytes};
+ghost use Rattle.vb_core.specs.Format.{FitsSaved, HoldsNoDeflate, WasSaved};
+ghost use Rattle.vb_core.specs.Format.{saved_bytes, older_bytes};
 ghost use Rattle.vb_core.specs.Saved.{can_be, restored};
 
 /// The bytes of a device to which calls lead are restored to it.
@@ -10,8 +11,16 @@ pub fn what_was_saved_is_restored()
     ensures { (s : Saved) → FitsSaved s → can_be s ≡ true → restored (saved_bytes s) ≡ Ok s }
 {}
 
-/// Bytes that are restored are those that are saved of it, and calls lead to it.
+/// The bytes that the older version had of a device which holds no deflates, and to which calls
+/// lead, are restored to it.
+pub fn an_older_state_is_restored()
+    ensures { (s : Saved) → FitsSaved s → HoldsNoDeflate s → can_be s ≡ true →
+        restored (older_bytes s) ≡ Ok s }
+{}
+
+/// Bytes that are restored are those that are saved of it, or were in the older version, and calls
+/// lead to it.
 pub fn only_what_was_saved_is_restored()
     ensures { (bytes : List ℕ) (s : Saved) → ((i : ℕ) → slice_index bytes i < 256) →
-        restored bytes ≡ Ok s → (bytes ≡ saved_bytes s) × (can_be s ≡ true) }
+        restored bytes ≡ Ok s → WasSaved bytes s × (can_be s ≡ true) }
 {}

@@ -2,8 +2,9 @@
 
 ghost use Rattle.std.specs.Prelude.{◌≡◌, ◌<◌, ◌^◌, ◌==◌, true};
 ghost use Rattle.vb_core.specs.Settings.{are_settings, memory_pages, needs_must_tell, skips};
-ghost use Rattle.vb_core.specs.Settings.{page_poison, without_poison};
+ghost use Rattle.vb_core.specs.Settings.{page_poison, without_poison, holds_chains};
 
+use crate::Kind;
 use bitflags::Flags;
 use vb_status::Features;
 use vb_virtio::limits::PAGE_SIZE;
@@ -53,6 +54,9 @@ pub struct Settings {
     /// Unless 0, a number that is no page, or a reserved one, is skipped and counted, and breaks no
     /// rule.
     pub skips_bad_pages: u8,
+    /// Unless 0, a deflate is held until it is granted: its chain isn't given back before. A driver
+    /// waits for that only with MUST_TELL_HOST (VIRTIO 1.1, 5.5.6).
+    pub holds_deflates: u8,
 }
 
 impl Settings {
@@ -87,5 +91,17 @@ impl Settings {
         ensures { result ≡ skips self.now }
     {
         self.skips_bad_pages != 0
+    }
+
+    /// Whether a chain of a kind's queue is held once it was taken, until it is asked for: buffers
+    /// of statistics are (VIRTIO 1.1, 5.5.6.3), and deflates where `holds_deflates` says so.
+    pub fn holds_chains(&self, kind: Kind) -> bool
+        ensures { result ≡ holds_chains kind self.now }
+    {
+        match kind {
+            Kind::Statistics => true,
+            Kind::Deflate => self.holds_deflates != 0,
+            Kind::Inflate | Kind::Report => false,
+        }
     }
 }

@@ -35,8 +35,8 @@ fn put_figures(bytes: &[u8], figures: &mut [Statistic])
 }
 
 impl Device {
-    /// Takes the buffer that stood next on the queue of statistics, whose pieces' bytes are these,
-    /// in a row: its figures, in order, in the front of `figures`; answers how many there are.
+    /// Takes the buffer that was next on the queue of statistics, whose pieces' bytes are these, in
+    /// a row: its figures, in order, in the front of `figures`; answers how many there are.
     ///
     /// Refused, tested in this order, and then nothing is taken: `BadArgument` where a buffer has
     /// no such length, or `figures` has less room than a tenth of it; `NotReady`; `NeedsReset`;

@@ -31,7 +31,7 @@ impl Device {
         self.ring(kind).used_entry(self.settings.memory_end, head)
     }
 
-    /// Counts one more used entry of a kind's queue.
+    /// Counts one more used element of a kind's queue.
     #[inline(always)]
     pub fn count_used(&mut self, kind: Kind)
         ensures { self.new ≡ with_ring kind (with_used (ring_of kind self.old)) self.old }

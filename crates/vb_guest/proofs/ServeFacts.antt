@@ -49,10 +49,17 @@ replies = refl
 abbrev mem : Pages
 mem = None ∷ Some (record { number = 7; bytes = [] }) ∷ []
 
+-- a frame's number, of a page that has one
+abbrev framed : ℕ → Option ℕ
+framed number = Some number
+
+abbrev frameless : Option ℕ
+frameless = None
+
 -- a page keeps its frame or loses it; it gets no other, and none where it had none
 loses : LosesBehind mem mem
-    × (LosesBehind mem (Some (record { number = 8; bytes = [] }) ∷ []) → None ≡ Some 8)
-    × (LosesBehind mem (None ∷ Some (record { number = 9; bytes = [] }) ∷ []) → Some 7 ≡ Some 9)
+    × (LosesBehind mem (Some (record { number = 8; bytes = [] }) ∷ []) → frameless ≡ framed 8)
+    × (LosesBehind mem (None ∷ Some (record { number = 9; bytes = [] }) ∷ []) → framed 7 ≡ framed 9)
 loses = (λ page frame e. e, λ keeps. keeps 0 8 refl, λ keeps. keeps 1 9 refl)
 
 loses_all : LosesBehind mem (None ∷ None ∷ [])

@@ -46,7 +46,7 @@ none_stands : AheadAt (AwaitsIndex (at 0x102)) (over Inflate ready (ends tally N
     (ReadWord (at 0x102) 0 ∷ [])
 none_stands = record { index = 0; rest = []; asks = refl; goes_on = record { nothing = refl; device = refl; outcome = refl } }
 
--- one stands there: of a budget of one chain it is taken, and of none it isn't
+-- one is there: of a budget of one chain it is taken, and of none it isn't
 taken : AheadAt (AwaitsIndex (at 0x102)) (over Inflate needs_reset (ends (publishing 0) (Some (Broken BadHead)) false false))
     (chains_left 1) ready empty (ReadWord (at 0x102) 1 ∷ Acquire ∷ ReadWord (at 0x104) 8 ∷ [])
 taken = record {
@@ -96,7 +96,7 @@ another_entry : (w : Whole) (rest : List Access) →
     AheadAt (AwaitsEntry (at 0x104)) w tally ready empty (Acquire ∷ ReadWord (at 0x106) 3 ∷ rest) → ⊥
 another_entry w rest h = let e : Same 0x106 0x104 = ap word_at h.asks in omega arith
 
--- ---- a descriptor, behind pieces that were found: the first of them lies in the hole
+-- ---- a descriptor, after pieces that were found: the first of them lies in the hole
 
 abbrev in_the_hole : ChainPiece
 in_the_hole = record { address = 0x15000; length = 4; writable = 0 }
@@ -114,7 +114,7 @@ pieces found = room_of found [] [] []
 abbrev walk : ℕ → ℕ → Walk
 walk count behind = record { head = 3; count = count; writing = false; first = 5; behind = behind }
 
--- of what stands in the room the found ones alone count
+-- of what is in the room the found ones alone count
 behind_one : AheadAt (AwaitsDescriptor (at 0x50) (walk 1 0)) (breaks OutOfRam) tally ready (pieces (in_the_hole ∷ short ∷ []))
     (CopyBytes (at 0x50) last_descriptor ∷ [])
 unfolding pieces_in
@@ -138,7 +138,7 @@ in_a_row = record {
   goes_on = record { nothing = refl; device = refl; outcome = refl };
 }
 
--- behind six of the queue's eight two more fit, and behind seven one, however many stand in the room
+-- after six of the queue's eight two more fit, and after seven one, however many are in the room
 two_more : AheadAt (AwaitsDescriptor (at 0x50) (walk 6 1)) (breaks OutOfRam) tally ready
     (pieces (in_the_hole ∷ there ∷ there ∷ there ∷ there ∷ there ∷ [])) (CopyBytes (at 0x50) (naming 6 ++ last_descriptor) ∷ [])
 unfolding pieces_in
@@ -161,7 +161,7 @@ one_more = record {
   goes_on = record { nothing = refl; device = refl; outcome = refl };
 }
 
--- behind one that the device may write none is read
+-- after one that the device may write none is read
 read_behind : AheadAt (AwaitsDescriptor (at 0x50) (record (walk 1 0) { writing = true })) (breaks WrongDirection) tally ready
     (pieces (in_the_hole ∷ [])) (CopyBytes (at 0x50) last_descriptor ∷ [])
 unfolding pieces_in
@@ -189,7 +189,8 @@ another_row : (w : Whole) (rest : List Access) → AheadAt (AwaitsDescriptor (at
     (CopyBytes (at 0x60) last_descriptor ∷ rest) → ⊥
 another_row w rest h = let e : Same 0x60 0x50 = ap copied_at h.asks in omega arith
 
--- ---- a part of a piece that lies over the end of a page: a buffer of statistics of three bytes is none
+-- ---- a part of a piece that lies over the end of a page: a buffer of statistics of three bytes is
+-- none
 
 abbrev over_an_end : ChainPiece
 over_an_end = record { address = 4095; length = 3; writable = 0 }
@@ -204,7 +205,7 @@ no_statistics = over Statistics ready (ends tally (Some BadArgument) false false
 abbrev with_bytes : List ℕ → Room
 with_bytes bytes = room_of (over_an_end ∷ in_the_hole ∷ []) bytes [] []
 
--- behind the first part comes the second one, and then the chain's next piece, if it has one
+-- after the first part comes the second one, and then the chain's next piece, if it has one
 both_parts : AheadAt (AwaitsPart (at 4095) (place 1 false 0 1)) no_statistics tally ready (with_bytes [])
     (CopyBytes (at 4095) (9 ∷ []) ∷ CopyBytes (at 4096) (8 ∷ 7 ∷ []) ∷ [])
 unfolding pieces_in lib.Count.ones
@@ -234,7 +235,7 @@ next_piece = record {
   goes_on = record { nothing = refl; device = refl; outcome = refl };
 }
 
--- what was copied before it stands in front, and no more than that
+-- what was copied before it is in front, and no more than that
 one_before : AheadAt (AwaitsPart (at 4096) (place 1 true 1 2)) no_statistics tally ready
     (with_bytes (9 ∷ 1 ∷ 2 ∷ 3 ∷ 4 ∷ 5 ∷ 6 ∷ 7 ∷ [])) (CopyBytes (at 4096) (8 ∷ 7 ∷ []) ∷ [])
 unfolding pieces_in lib.Count.ones

@@ -2,7 +2,7 @@
 -- worked out.
 use Rattle.std.proofs.Common.{refl, ap, arith, ℕ, Bool, true, false, List, [], ◌∷◌, length, Some, None}
 use Rattle.vb_chain.specs.declared.fault.ChainFault.TheVariants.{BadHead}
-use Rattle.vb_core.specs.declared.kinds.Kind.TheVariants.{Inflate, Statistics}
+use Rattle.vb_core.specs.declared.kinds.Kind.TheVariants.{Inflate, Deflate, Statistics}
 use Rattle.vb_core.specs.declared.{statistics.Statistic.Statistic, device.Device.Device}
 use Rattle.vb_core.specs.declared.device.Denial.TheVariants.{Broken, NotReady, NeedsReset}
 use Rattle.vb_core.specs.{Rings.used_entry, Devices.needing_reset}
@@ -13,7 +13,7 @@ use Rattle.vb_monitor.specs.declared.giving.UsedSpots.{UsedSpots}
 use Rattle.vb_monitor.specs.Accesses.{Access, ReadWord, Acquire, Release, Full, TellPages, TellFigures, Discard}
 use Rattle.vb_monitor.specs.{Ends.Whole, Giving.{after_use, with_given}, Machine.{Room, room_of, AheadAt, Ahead, AwaitedBy, Awaited}}
 use Rattle.vb_monitor.proofs.Samples.{Same, at, ring, ready, tally, page_5, over_the_hole, cut_5, cut_20, cut_22, one_page, two}
-use Rattle.vb_monitor.proofs.Samples.{flags_are_read, index, discard, id, used_length, used_index, flags, given}
+use Rattle.vb_monitor.proofs.Samples.{flags_are_read, chain_of, index, discard, id, used_length, used_index, flags, given}
 use Rattle.vb_monitor.proofs.AheadFacts.{over, ends, empty, publishing, word_at}
 
 -- ---- pages: of the room's two runs so many are told, and discarded
@@ -35,7 +35,7 @@ unfolding lib.Count.ones
 told n = record {
   rest = discard ∷ given;
   asks = refl;
-  discards = record {
+  goes_on = record {
     rest = given;
     asks = refl;
     gives_back = record { rest = Full ∷ flags ∷ []; asks = refl; goes_on = flags_are_read refl refl };
@@ -142,9 +142,9 @@ next_one = record {
 no_budget : AheadAt gives (over Inflate ready (ends (with_given (publishing 0)) None true true)) (publishing 0) ready empty given
 no_budget = record { rest = Full ∷ flags ∷ []; asks = refl; goes_on = flags_are_read refl refl }
 
--- of statistics none does
-asked_for : AheadAt gives (over Statistics ready (ends (with_given (publishing 1)) None true false)) (publishing 1) ready empty
-    given
+-- after one that was held none does
+asked_for : AheadAt gives (over Deflate ready (ends (with_given (record (publishing 1) { held = chain_of 3 2 })) None true false))
+    (record (publishing 1) { held = chain_of 3 2 }) ready empty given
 asked_for = record { rest = Full ∷ flags ∷ []; asks = refl; goes_on = flags_are_read refl refl }
 
 nothing_given : (w : Whole) (rest : List Access) → AheadAt gives w tally ready empty (Full ∷ flags ∷ rest) → ⊥

@@ -1,17 +1,23 @@
--- The buffer of statistics that a balloon holds, when its queues may be looked at, and what a write
--- of the status makes of it, worked out.
+-- The chains that a balloon holds, when its queues may be looked at, and what a write of the status
+-- makes of it, worked out.
 use Rattle.std.proofs.Common.{◌≡◌, refl, ℕ, Bool, true, false, List, [], ◌∷◌, map, Option, Some, None}
+use Rattle.std.specs.Prelude.{option_map}
 use Rattle.vb_core.specs.declared.kinds.Kind.{Kind}
 use Rattle.vb_core.specs.declared.kinds.Kind.TheVariants.{Inflate, Deflate, Statistics, Report}
 use Rattle.vb_core.specs.declared.device.{Denial.TheVariants.NotReady}
-use Rattle.vb_core.specs.Devices.{new_device}
+use Rattle.vb_core.specs.{Devices.new_device, Held.nothing_held, declared.held.Held.Held}
 use Rattle.vb_monitor.specs.declared.{balloon.Balloon.Balloon, outcome.Outcome.Outcome}
-use Rattle.vb_monitor.specs.Balloons.{held_head, may_look, held_after, after_status, may_tell, becomes_ready}
+use Rattle.vb_monitor.specs.declared.outcome.HeldChain.{HeldChain}
+use Rattle.vb_monitor.specs.Balloons.{held_chain, may_look, held_after, after_status, may_tell, becomes_ready}
 use Rattle.vb_monitor.specs.Places.{is_memory, may_be_memory}
-use Rattle.vb_monitor.proofs.Samples.{two, low, settings, ready, tally}
+use Rattle.vb_monitor.proofs.Samples.{two, low, settings, ready, tally, chain_of, a_buffer}
 
 abbrev holding : ℕ → Balloon
-holding n = record { device = ready; held = n }
+holding n = record { device = ready; held = a_buffer n }
+
+-- a buffer and a deflate of three pages
+abbrev both : Held
+both = record { statistics = 4; deflate = 9; pages = 3 }
 
 abbrev kinds : List Kind
 kinds = Inflate ∷ Deflate ∷ Statistics ∷ Report ∷ []
@@ -19,13 +25,17 @@ kinds = Inflate ∷ Deflate ∷ Statistics ∷ Report ∷ []
 -- ---- the head of the buffer: one less than the number, and none for 0
 
 abbrev head_in : ℕ → Option ℕ
-head_in n = held_head (holding n)
+head_in n = option_map (λ (x : HeldChain). x.head) (held_chain Statistics (a_buffer n))
 
 heads : map head_in (0 ∷ 1 ∷ 256 ∷ 65535 ∷ 65536 ∷ 65537 ∷ [])
     ≡ None ∷ Some 0 ∷ Some 255 ∷ Some 65534 ∷ Some 65535 ∷ Some 65535 ∷ []
 heads = refl
 
--- ---- which queues may be looked at: all, but that of statistics only while none is held
+-- with its pages, of a deflate, and of no other kind
+chains : map (λ kind. held_chain kind both) kinds ≡ None ∷ chain_of 8 3 ∷ chain_of 3 0 ∷ None ∷ []
+chains = refl
+
+-- ---- which queues may be looked at: all, but those of which a chain is held
 
 abbrev looks : ℕ → List Bool
 looks n = map (λ kind. may_look kind (holding n)) kinds
@@ -36,9 +46,13 @@ none_held = refl
 one_held : looks 1 ≡ true ∷ true ∷ false ∷ true ∷ []
 one_held = refl
 
+both_held : map (λ kind. may_look kind (record { device = ready; held = both })) kinds
+    ≡ true ∷ false ∷ false ∷ true ∷ []
+both_held = refl
+
 -- ---- what is held after a notice
 
-abbrev came : Option ℕ → Bool → Outcome
+abbrev came : Option HeldChain → Bool → Outcome
 came taken given = record {
   tally = record tally { held = taken; given = given };
   why = None;
@@ -46,34 +60,44 @@ came taken given = record {
   more = false;
 }
 
-abbrev held_behind : Outcome → List ℕ
-held_behind outcome = map (λ kind. held_after kind outcome (holding 4)) kinds
+abbrev held_behind : Held → Outcome → List Held
+held_behind held outcome = map (λ kind. held_after kind outcome (record { device = ready; held = held })) kinds
 
--- the one that was taken, even where another one was given back; none where one was; or the one
--- before
-taken : held_behind (came (Some 6) false) ≡ 4 ∷ 4 ∷ 7 ∷ 4 ∷ []
+-- the chain that was taken is held of its kind's queue, with a deflate's pages
+taken : held_behind nothing_held (came (chain_of 6 2) false)
+    ≡ nothing_held ∷ record nothing_held { deflate = 7; pages = 2 } ∷ a_buffer 7 ∷ nothing_held ∷ []
 taken = refl
 
-first_one_taken : held_behind (came (Some 0) false) ≡ 4 ∷ 4 ∷ 1 ∷ 4 ∷ []
+first_one_taken : held_behind nothing_held (came (chain_of 0 0) false)
+    ≡ nothing_held ∷ record nothing_held { deflate = 1 } ∷ a_buffer 1 ∷ nothing_held ∷ []
 first_one_taken = refl
 
-taken_behind_another : held_behind (came (Some 6) true) ≡ 4 ∷ 4 ∷ 7 ∷ 4 ∷ []
-taken_behind_another = refl
+-- what is held stays so until it is given back: no second one of its kind is
+still_held : held_behind both (came (chain_of 6 2) false) ≡ both ∷ both ∷ both ∷ both ∷ []
+still_held = refl
 
-given_back : held_behind (came None true) ≡ 4 ∷ 4 ∷ 0 ∷ 4 ∷ []
+-- once it was, nothing of its kind is held; a deflate's pages go with it, and the other kind's
+-- stays
+given_back : held_behind both (came (chain_of 6 2) true)
+    ≡ both ∷ a_buffer 4 ∷ record both { statistics = 0 } ∷ both ∷ []
 given_back = refl
 
-neither : held_behind (came None false) ≡ 4 ∷ 4 ∷ 4 ∷ 4 ∷ []
+given_back_of_others : held_behind both (came None true)
+    ≡ both ∷ a_buffer 4 ∷ record both { statistics = 0 } ∷ both ∷ []
+given_back_of_others = refl
+
+neither : held_behind both (came None false) ≡ both ∷ both ∷ both ∷ both ∷ []
 neither = refl
 
 -- a notice that was refused leaves it too
-refused : held_behind (record (came None false) { why = Some NotReady }) ≡ 4 ∷ 4 ∷ 4 ∷ 4 ∷ []
+refused : held_behind both (record (came (chain_of 8 3) false) { why = Some NotReady })
+    ≡ both ∷ both ∷ both ∷ both ∷ []
 refused = refl
 
 -- ---- the status: DRIVER_OK is the bit of 4
 
 abbrev of_status : ℕ → Balloon
-of_status n = record { device = record ready { status = n; target = 5 }; held = 4 }
+of_status n = record { device = record ready { status = n; target = 5 }; held = both }
 
 told : map (λ n. may_tell (record ready { status = n })) (0 ∷ 3 ∷ 4 ∷ 8 ∷ 11 ∷ 15 ∷ 64 ∷ 79 ∷ [])
     ≡ false ∷ false ∷ true ∷ false ∷ false ∷ true ∷ false ∷ true ∷ []
@@ -91,7 +115,7 @@ set_before = refl
 
 -- a write of 0 makes the balloon new but for its settings and target; any other one keeps what is
 -- held
-reset : after_status 0 (of_status 15) ≡ record { device = record (new_device settings) { target = 5 }; held = 0 }
+reset : after_status 0 (of_status 15) ≡ record { device = record (new_device settings) { target = 5 }; held = nothing_held }
 reset = refl
 
 written : after_status 15 (of_status 11) ≡ of_status 15

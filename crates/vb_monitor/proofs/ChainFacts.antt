@@ -12,7 +12,7 @@ use Rattle.vb_monitor.specs.Ends.{Whole, wants_interrupt, Ends, Breaks}
 use Rattle.vb_monitor.specs.Pieces.{parts_of, all_parts, CopiesParts, PartBy, fits_behind}
 use Rattle.vb_core.specs.Pieces.{pieces_in}
 use Rattle.vb_monitor.specs.Giving.{Then}
-use Rattle.vb_monitor.specs.Chains.{descriptor_of, memory_end, descriptors, table_fault, GoesOn, no_row, Follows, ServesPieces, with_held}
+use Rattle.vb_monitor.specs.Chains.{descriptor_of, memory_end, descriptors, table_fault, GoesOn, no_row, Follows, ServesPieces}
 use Rattle.vb_monitor.proofs.Samples.{flags_are_read, Same, two, at, ring, ready, tally, piece, first_descriptor, last_descriptor, with_two, number, descriptor, part, discard, flags}
 
 -- ---- how a notice ends
@@ -304,6 +304,3 @@ three_bytes = record { nothing = refl; device = refl; outcome = refl }
 copied_although_broken : (d : Device) (outcome : Outcome) → ServesPieces Inflate (whole d outcome) of_none ready tally 3
     (record piece { len = 3 } ∷ []) (part ∷ []) → ⊥
 copied_although_broken d outcome h = let e = h.nothing in absurd cc
-
-now_held : with_held 3 tally ≡ record tally { held = Some 3 }
-now_held = refl

@@ -5,13 +5,14 @@ use Rattle.vb_core.specs.declared.kinds.Kind.TheVariants.{Inflate, Deflate, Stat
 use Rattle.vb_core.specs.{declared.device.Denial.TheVariants.BadArgument, Rings.used_entry}
 use Rattle.vb_core.specs.Devices.{ring_of}
 use Rattle.vb_core.specs.declared.ring.UsedEntry.{UsedEntry}
+use Rattle.vb_monitor.specs.declared.outcome.Tally.{Tally}
 use Rattle.vb_monitor.specs.declared.{cuts.Cut.Cut, regions.Region.Region}
 use Rattle.vb_monitor.specs.declared.giving.UsedSpots.{UsedSpots}
 use Rattle.vb_monitor.specs.declared.outcome.Outcome.{Outcome}
 use Rattle.vb_monitor.specs.Accesses.{Access, Acquire, Release, TellPages, Discard, WriteNumber, WriteWord}
 use Rattle.vb_monitor.specs.Ends.{Whole}
-use Rattle.vb_monitor.specs.Giving.{Then, used_spots, used_accesses, WritesUsed, with_given, after_use, GivesBack, cuts_for, DiscardsThen, TellsThen, spent, AfterName}
-use Rattle.vb_monitor.proofs.Samples.{Same, two, at, ring, ready, tally, page_5, over_the_hole, cut_5, cut_20, cut_22, one_page, pages, discard, id, used_length, used_index}
+use Rattle.vb_monitor.specs.Giving.{Then, used_spots, used_accesses, WritesUsed, with_given, after_use, GivesBack, cuts_for, DiscardsThen, TellsThen, spent, AfterName, with_held, with_named}
+use Rattle.vb_monitor.proofs.Samples.{Same, two, at, ring, ready, settings, chain_of, tally, page_5, over_the_hole, cut_5, cut_20, cut_22, one_page, pages, discard, id, used_length, used_index}
 
 -- ---- the used element
 
@@ -71,8 +72,23 @@ around = refl
 
 -- ---- tallies
 
-given : with_given (record tally { held = Some 3 }) ≡ record tally { given = true; held = Some 3 }
+given : with_given (record tally { held = chain_of 3 2 }) ≡ record tally { given = true; held = chain_of 3 2 }
 given = refl
+
+now_held : with_held 3 2 tally ≡ record tally { held = chain_of 3 2 }
+now_held = refl
+
+-- once its pages are named, a chain is held where its kind's are: deflates by the setting
+abbrev of_kind : ℕ → Kind → Tally
+of_kind setting kind = with_named kind (record settings { holds_deflates = setting }) 3 2 tally
+
+named_and_held : map (of_kind 1) (Inflate ∷ Deflate ∷ Statistics ∷ Report ∷ []) ≡
+    record tally { pages = 1 } ∷ record tally { pages = 1; held = chain_of 3 2 }
+    ∷ record tally { pages = 1; held = chain_of 3 2 } ∷ record tally { pages = 1 } ∷ []
+named_and_held = refl
+
+named_alone : of_kind 0 Deflate ≡ record tally { pages = 1 }
+named_alone = refl
 
 one_spent : spent 1 tally ≡ record tally { pages = 2 }
 one_spent = refl
@@ -118,7 +134,7 @@ unfolding lib.Count.ones
 told_discarded_given = record {
   rest = discard ∷ id ∷ used_length ∷ Release ∷ used_index ∷ [];
   asks = refl;
-  discards = record {
+  goes_on = record {
     rest = id ∷ used_length ∷ Release ∷ used_index ∷ [];
     asks = refl;
     gives_back = gives_back;
@@ -236,7 +252,7 @@ unfolding lib.Count.ones
 first_run = record {
   rest = discard ∷ id ∷ used_length ∷ Release ∷ used_index ∷ [];
   asks = refl;
-  discards = record {
+  goes_on = record {
     rest = id ∷ used_length ∷ Release ∷ used_index ∷ [];
     asks = refl;
     gives_back = record { rest = []; asks = refl; goes_on = (refl, refl) };

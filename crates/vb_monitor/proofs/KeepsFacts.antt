@@ -90,7 +90,7 @@ unfolding lib.Count.ones
 inflated = record {
   rest = back;
   asks = refl;
-  discards = record {
+  goes_on = record {
     rest = back;
     asks = refl;
     gives_back = record { rest = []; asks = refl; goes_on = (refl, (refl, refl)) };
@@ -102,7 +102,7 @@ unfolding lib.Count.ones
 reported = record {
   rest = back;
   asks = refl;
-  discards = record {
+  goes_on = record {
     rest = back;
     asks = refl;
     gives_back = record { rest = []; asks = refl; goes_on = (refl, (refl, refl)) };
@@ -114,7 +114,7 @@ unfolding lib.Count.ones
 deflated = record {
   rest = back;
   asks = refl;
-  discards = record {
+  goes_on = record {
     rest = back;
     asks = refl;
     gives_back = record { rest = []; asks = refl; goes_on = (refl, (refl, refl)) };
@@ -162,7 +162,7 @@ stays = record {
           goes_on = record {
             rest = given;
             asks = refl;
-            discards = record {
+            goes_on = record {
               rest = given;
               asks = refl;
               gives_back = record { rest = Full ∷ flags ∷ []; asks = refl; goes_on = flags_are_read refl refl };

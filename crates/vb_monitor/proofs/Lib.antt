@@ -32,7 +32,7 @@ pub mod NamedLemmas
 pub mod TurnRows
 pub mod TurnWalks
 pub mod TurnLaws
-pub mod AskingLemmas
+pub mod HeldBackLemmas
 pub mod PartsOfRunLemmas
 mod Samples
 mod RowFacts
@@ -40,7 +40,8 @@ mod TouchFacts
 mod SoFarFacts
 mod TurnFacts
 mod TellingFacts
-mod AskingFacts
+mod HeldBackFacts
+mod HoldingFacts
 mod PartsOfRunsFacts
 mod MachineFacts
 mod AheadFacts

@@ -5,7 +5,8 @@ use Rattle.vb_core.specs.declared.{ring.Virtqueue.Virtqueue, device.Device.Devic
 use Rattle.vb_core.specs.Devices.{placed, new_device}
 use Rattle.vb_monitor.specs.declared.{balloon.Balloon.Balloon, placing.RestoreDenial.TheVariants.Elsewhere}
 use Rattle.vb_monitor.specs.Places.{is_memory, HasMemory, Lies, AllLie, FitsOver, RestoresBy}
-use Rattle.vb_monitor.proofs.{PlaceLemmas.same_page, Samples.{Same, two, ring, settings, ready}}
+use Rattle.vb_monitor.proofs.{PlaceLemmas.same_page, Samples.{Same, two, ring, settings, ready, a_buffer}}
+use Rattle.vb_core.specs.Held.{nothing_held}
 
 -- ---- the parts of a queue of eight: a table of 128 bytes, an available ring of 22, a used one of 70
 
@@ -77,10 +78,10 @@ reports_over_it h = not_there h.report
 -- ---- what was saved of a device
 
 abbrev fresh : Balloon
-fresh = record { device = new_device settings; held = 0 }
+fresh = record { device = new_device settings; held = nothing_held }
 
 abbrev saved : Device → Saved
-saved d = record { device = d; held = 4 }
+saved d = record { device = d; held = a_buffer 4 }
 
 fits : FitsOver two fresh (saved ready)
 fits = record { same_end = refl; lie = all_lie }

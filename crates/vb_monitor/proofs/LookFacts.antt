@@ -3,13 +3,13 @@
 use Rattle.std.proofs.Common.{◌≡◌, refl, ap, arith, ℕ, Bool, true, false, List, [], ◌∷◌, Option}
 use Rattle.std.proofs.Common.{Some, None, Ok, Err}
 use Rattle.vb_chain.specs.declared.fault.ChainFault.TheVariants.{IndexJump, BadHead, OutOfRam}
-use Rattle.vb_core.specs.declared.kinds.Kind.TheVariants.{Inflate, Deflate, Statistics, Report}
+use Rattle.vb_core.specs.declared.kinds.Kind.TheVariants.{Inflate}
 use Rattle.vb_core.{specs.declared.device.Denial.Denial, specs.declared.device.Device.Device}
 use Rattle.vb_core.specs.declared.device.Denial.TheVariants.{Broken, NotReady, NeedsReset}
 use Rattle.vb_monitor.specs.Notices.{entry_offset, stands, AfterIndex, AfterGiven, TakesNext}
 use Rattle.vb_monitor.specs.Notices.{LooksBy, IndexAt, TakesUnlessSpent, ServesPublished, with_published}
 use Rattle.vb_monitor.specs.declared.outcome.Tally.{Tally}
-use Rattle.vb_monitor.{proofs.Samples.{Same, two, at, ring, ready, tally, index}, specs.Giving.Then}
+use Rattle.vb_monitor.{proofs.Samples.{Same, two, at, ring, ready, tally, index, chain_of}, specs.Giving.Then}
 use Rattle.vb_monitor.{specs.Notices.{with_chains, fresh, HeadBy}, specs.Accesses.{Access, ReadWord, Acquire}}
 use Rattle.vb_monitor.{specs.declared.outcome.Outcome.Outcome, specs.Ends.Whole}
 
@@ -198,24 +198,21 @@ at_first = refl
 remembered : with_published 4 tally ≡ record tally { published = 4 }
 remembered = refl
 
--- after a chain was given back the next one comes, but of statistics
+-- after a chain was given back the next one comes, but after one that was held
 abbrev next : Then
 next = λ d t log. log ≡ Acquire ∷ []
 
-inflates_go_on : AfterGiven Inflate (whole ready (end None false)) next ready tally (Acquire ∷ [])
-inflates_go_on = refl
+goes_on : AfterGiven (whole ready (end None false)) next ready tally (Acquire ∷ [])
+goes_on = refl
 
-deflates_go_on : AfterGiven Deflate (whole ready (end None false)) next ready tally (Acquire ∷ [])
-deflates_go_on = refl
+abbrev was_held : Tally
+was_held = record tally { held = chain_of 3 2 }
 
-reports_go_on : AfterGiven Report (whole ready (end None false)) next ready tally (Acquire ∷ [])
-reports_go_on = refl
+held_once : AfterGiven (whole ready (record (end None false) { tally = was_held })) next ready was_held []
+held_once = record { nothing = refl; device = refl; outcome = refl }
 
-statistics_once : AfterGiven Statistics (whole ready (end None false)) next ready tally []
-statistics_once = record { nothing = refl; device = refl; outcome = refl }
-
-statistics_again : (d : Device) (o : Outcome) → AfterGiven Statistics (whole d o) next ready tally (Acquire ∷ []) → ⊥
-statistics_again d o h = let e = h.nothing in absurd cc
+held_again : (d : Device) (o : Outcome) → AfterGiven (whole d o) next ready was_held (Acquire ∷ []) → ⊥
+held_again d o h = let e = h.nothing in absurd cc
 
 -- ---- heads
 

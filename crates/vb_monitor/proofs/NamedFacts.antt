@@ -148,7 +148,7 @@ asked_back o = record {
   goes_on = record {
     rest = back;
     asks = refl;
-    discards = record {
+    goes_on = record {
       rest = back;
       asks = refl;
       gives_back = record { rest = []; asks = refl; goes_on = (refl, refl, refl) };
@@ -203,7 +203,7 @@ both_told o = record {
     goes_on = record {
       rest = Discard (record cut_5 { length = 0x2000 }) ∷ back;
       asks = refl;
-      discards = record {
+      goes_on = record {
         rest = back;
         asks = refl;
         gives_back = record { rest = []; asks = refl; goes_on = tt };

@@ -11,10 +11,10 @@ use Rattle.vb_monitor.proofs.BufferLemmas.{second_in, no_second_in, behind_in}
 -- the budget, one chain less
 takes_by : (m : ℕ) (w : Whole) (d : Device) (t : Tally) (log : List Access) (spent : Bool) →
     (t.pages == 0) ≡ spent →
-    TakesUnlessSpent spent w (AfterGiven w.kind w (ServesPublished m w)) d (with_chains m t) log →
+    TakesUnlessSpent spent w (AfterGiven w (ServesPublished m w)) d (with_chains m t) log →
     TakesNext (suc m) w d t log
 takes_by m w d t log spent e h =
-    subst (λ (b : Bool). TakesUnlessSpent b w (AfterGiven w.kind w (ServesPublished m w)) d
+    subst (λ (b : Bool). TakesUnlessSpent b w (AfterGiven w (ServesPublished m w)) d
     (with_chains m t) log) (sym e) h
 
 pub takes_next : (n : ℕ) (w : Whole) (d : Device) (t : Tally) (log : List Access) → 0 < n →

@@ -1,10 +1,10 @@
 -- What a notice makes of answers, worked out, and lists of accesses that it doesn't make.
 use Rattle.std.proofs.Common.{◌≡◌, refl, ℕ, true, false, List, [], ◌∷◌, Option, Some, None, Ok, Err}
 use Rattle.vb_chain.specs.declared.fault.ChainFault.TheVariants.{IndexJump, TooLong, OutOfRam}
-use Rattle.vb_core.specs.declared.kinds.Kind.TheVariants.{Inflate, Statistics}
+use Rattle.vb_core.specs.declared.kinds.Kind.TheVariants.{Inflate, Deflate, Statistics}
 use Rattle.vb_core.specs.declared.ring.{Virtqueue.Virtqueue, UsedEntry.UsedEntry}
 use Rattle.vb_core.specs.declared.device.{Denial.Denial, Device.Device}
-use Rattle.vb_core.specs.Devices.{new_device, placed}
+use Rattle.vb_core.specs.{Devices.{new_device, placed}, Held.nothing_held}
 use Rattle.vb_monitor.specs.declared.{regions.Spot.Spot, giving.UsedSpots.UsedSpots}
 use Rattle.vb_monitor.specs.declared.{outcome.Tally.Tally, balloon.Balloon.Balloon}
 use Rattle.vb_monitor.specs.Accesses.{Access, ReadWord, Release, WriteNumber, WriteWord}
@@ -84,20 +84,24 @@ waiting = record {
     reserved_pages = 16;
     needs_must_tell = 0;
     skips_bad_pages = 0;
+    holds_deflates = 0;
   });
-  held = 4;
+  held = record { statistics = 4; deflate = 9; pages = 3 };
 }
 
 held_back : may_look Statistics waiting ≡ false
 held_back = refl
 
+deflates_held_back : may_look Deflate waiting ≡ false
+deflates_held_back = refl
+
 others_look : may_look Inflate waiting ≡ true
 others_look = refl
 
-forgotten : (after_status 0 waiting).held ≡ 0
+forgotten : (after_status 0 waiting).held ≡ nothing_held
 forgotten = refl
 
-kept : (after_status 1 waiting).held ≡ 4
+kept : (after_status 1 waiting).held ≡ waiting.held
 kept = refl
 
 now_ready : becomes_ready 15 (record waiting { device = record (waiting.device) { status = 11 } }) ≡ true

@@ -1,11 +1,11 @@
 -- Where memory of regions ends, what of it is memory, and which queues lie in it, worked out.
 use Rattle.std.proofs.Common.{◌≡◌, refl, arith, true, false, [], ◌∷◌, Some, None}
 use Rattle.vb_core.specs.{declared.settings.Settings.Settings, Devices.{new_device, placed}}
-use Rattle.vb_core.specs.declared.kinds.Kind.TheVariants.{Inflate, Statistics}
+use Rattle.vb_core.specs.Held.{nothing_held}
 use Rattle.vb_monitor.specs.Places.{memory_end_of, is_memory, AreMemory, HasMemory, balloon_over}
-use Rattle.vb_monitor.specs.{Places.{may_be_memory, ending_with}, Balloons.{held_head, held_after, may_tell}}
+use Rattle.vb_monitor.specs.{Places.{may_be_memory, ending_with}, Balloons.may_tell}
 use Rattle.vb_monitor.specs.{Counts.others, declared.cuts.Cut.Cut, Accesses.{Full, Release}}
-use Rattle.vb_monitor.specs.{Accesses.Discard, declared.outcome.Outcome.Outcome}
+use Rattle.vb_monitor.specs.{Accesses.Discard}
 use Rattle.vb_monitor.specs.declared.{regions.Region.Region, balloon.Balloon.Balloon}
 
 -- pages 0 to 20, and, one page on, pages 22 to 31
@@ -52,10 +52,11 @@ settings = record {
   reserved_pages = 0;
   needs_must_tell = 0;
   skips_bad_pages = 0;
+  holds_deflates = 0;
 }
 
 abbrev balloon : Balloon
-balloon = record { device = new_device (record settings { memory_end = 0x20000 }); held = 0 }
+balloon = record { device = new_device (record settings { memory_end = 0x20000 }); held = nothing_held }
 
 -- of settings that had another end, just that one is changed
 other_end : ending_with (record settings { memory_end = 0x15000; reserved_pages = 16 }) (low ∷ high ∷ []) ≡
@@ -70,40 +71,14 @@ ends_with_them : balloon_over settings (low ∷ high ∷ []) ≡ Some balloon
 ends_with_them = refl
 
 ends_as_said : balloon_over (record settings { memory_end = 0x8000 }) (low ∷ []) ≡
-    Some (record { device = new_device (record settings { memory_end = 0x8000 }); held = 0 })
+    Some (record { device = new_device (record settings { memory_end = 0x8000 }); held = nothing_held })
 ends_as_said = refl
 
-no_regions : balloon_over settings [] ≡ Some (record { device = new_device settings; held = 0 })
+no_regions : balloon_over settings [] ≡ Some (record { device = new_device settings; held = nothing_held })
 no_regions = refl
 
 no_page_and_a_half : may_be_memory settings (record low { length = 0x1800 } ∷ []) ≡ false
 no_page_and_a_half = refl
-
--- ---- the held buffer
-
-abbrev outcome : Outcome
-outcome = record {
-  tally = record { chains = 0; pages = 0; keeps = false; given = true; held = None; published = 0 };
-  why = None;
-  interrupt = false;
-  more = false;
-}
-
-fourth : held_head (record balloon { held = 4 }) ≡ Some 3
-fourth = refl
-
-past_16_bits : held_head (record balloon { held = 70000 }) ≡ Some 65535
-past_16_bits = refl
-
-given_back : held_after Statistics outcome (record balloon { held = 4 }) ≡ 0
-given_back = refl
-
-other_queues_keep_it : held_after Inflate outcome (record balloon { held = 4 }) ≡ 4
-other_queues_keep_it = refl
-
-taken : held_after Statistics
-    (record outcome { tally = record (outcome.tally) { given = false; held = Some 6 } }) balloon ≡ 7
-taken = refl
 
 nothing_told_before : may_tell balloon.device ≡ false
 nothing_told_before = refl

@@ -9,7 +9,7 @@ use Rattle.vb_core.specs.Devices.{with_ring, needing_reset}
 use Rattle.vb_monitor.specs.declared.outcome.{Outcome.Outcome, Tally.Tally}
 use Rattle.vb_monitor.specs.Accesses.{Access, ReadWord, CopyBytes, Acquire, Release, Full, WriteNumber}
 use Rattle.vb_monitor.specs.{Ends.{Whole, Ends}, Giving.{Then, with_given, after_use, GivesBack}}
-use Rattle.vb_monitor.specs.Notices.{Looks, LooksBy, TakesChain, ServesPublished, AsksStatistics}
+use Rattle.vb_monitor.specs.Notices.{Looks, LooksBy, TakesChain, ServesPublished, GivesHeldBack, only_asked}
 use Rattle.vb_monitor.proofs.Samples.{flags_are_read, two, at, ring, ready, far, only, tally, index, naming, used_length, used_index, flags, given}
 use Rattle.vb_monitor.proofs.AheadFacts.{over, ends}
 
@@ -184,8 +184,14 @@ gives Deflate = record { rest = Full ∷ flags ∷ []; asks = refl; goes_on = fl
 gives Statistics = record { rest = Full ∷ flags ∷ []; asks = refl; goes_on = flags_are_read refl refl }
 gives Report = record { rest = Full ∷ flags ∷ []; asks = refl; goes_on = flags_are_read refl refl }
 
--- a buffer of statistics is given back to its own queue
-asks : AsksStatistics two 3 (only Statistics) (used Statistics)
-    (ends (record (with_given tally) { chains = 0; pages = 0 }) None true false) given
+-- a chain that is held is given back to its own queue
+abbrev asked : Tally
+asked = only_asked (record { head = 3; pages = 2 })
+
+held_back : (kind : Kind) → GivesHeldBack two kind (record { head = 3; pages = 2 }) (only kind) (used kind)
+    (ends (with_given asked) None true false) given
 unfolding lib.Count.ones
-asks = record { rest = Full ∷ flags ∷ []; asks = refl; goes_on = flags_are_read refl refl }
+held_back Inflate = record { rest = Full ∷ flags ∷ []; asks = refl; goes_on = flags_are_read refl refl }
+held_back Deflate = record { rest = Full ∷ flags ∷ []; asks = refl; goes_on = flags_are_read refl refl }
+held_back Statistics = record { rest = Full ∷ flags ∷ []; asks = refl; goes_on = flags_are_read refl refl }
+held_back Report = record { rest = Full ∷ flags ∷ []; asks = refl; goes_on = flags_are_read refl refl }

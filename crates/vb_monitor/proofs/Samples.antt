@@ -1,11 +1,13 @@
 -- Regions, a ring, a device and the accesses of a notice, which the facts share.
-use Rattle.std.proofs.Common.{◌≡◌, ℕ, Bool, false, true, List, [], ◌∷◌, ◌++◌, Option, None, refl}
+use Rattle.std.proofs.Common.{◌≡◌, ℕ, Bool, false, true, List, [], ◌∷◌, ◌++◌, Option, Some, None, refl}
 use Rattle.std.specs.Prelude.{replicate}
 use Rattle.vb_chain.specs.declared.pieces.Piece.{Piece}
 use Rattle.vb_core.{specs.declared.kinds.Kind.{Kind, TheVariants.Inflate}, specs.declared.runs.Run.Run}
 use Rattle.vb_core.{specs.declared.ring.Virtqueue.Virtqueue, specs.declared.name.Named.Named}
 use Rattle.vb_core.{specs.declared.settings.Settings.Settings}
 use Rattle.vb_core.{specs.declared.device.Device.Device, specs.Devices.{new_device, placed, with_ring}}
+use Rattle.vb_core.specs.declared.held.Held.{Held}
+use Rattle.vb_monitor.specs.declared.outcome.HeldChain.{HeldChain}
 use Rattle.vb_monitor.specs.Accesses.{Access, ReadWord, CopyBytes, TellPages, TellFigures, Discard}
 use Rattle.vb_monitor.specs.Accesses.{Full, Release}
 use Rattle.vb_monitor.specs.{Accesses.{WriteNumber, WriteWord}, declared.regions.Region.Region}
@@ -57,6 +59,7 @@ settings = record {
   reserved_pages = 0;
   needs_must_tell = 0;
   skips_bad_pages = 0;
+  holds_deflates = 0;
 }
 
 -- eight descriptors: a table at 0, an available ring at 0x100, a used ring at 0x200
@@ -89,6 +92,20 @@ far = record ready {
 -- where the queue of just this kind is the first ring
 abbrev pub only : Kind → Device
 only kind = with_ring kind ring far
+
+-- a chain of this head is held, which names so many pages
+abbrev pub chain_of : ℕ → ℕ → Option HeldChain
+chain_of head pages = Some (record { head = head; pages = pages })
+
+abbrev pub head_of : Outcome → ℕ
+head_of o = number o.tally.held where
+  number : Option HeldChain → ℕ
+  number None = 70000
+  number (Some x) = x.head
+
+-- 1 more than the head of a buffer of statistics is held
+abbrev pub a_buffer : ℕ → Held
+a_buffer n = record { statistics = n; deflate = 0; pages = 0 }
 
 abbrev pub tally : Tally
 tally = record { chains = 8; pages = 3; keeps = false; given = false; held = None; published = 0 }

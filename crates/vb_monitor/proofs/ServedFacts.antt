@@ -1,13 +1,13 @@
 -- Worked facts of what is done at once of a chain whose pages were named.
 use Rattle.vb_core.specs.Pieces.{pieces_in}
-use Rattle.std.proofs.Common.{◌≡◌, refl, ℕ, Bool, true, false, [], ◌∷◌, map, Option, Some, None}
-use Rattle.vb_core.specs.declared.kinds.Kind.TheVariants.{Inflate, Deflate, Statistics, Report}
+use Rattle.std.proofs.Common.{◌≡◌, refl, ℕ, Bool, true, false, [], ◌∷◌, Option, Some, None}
+use Rattle.vb_core.specs.declared.kinds.Kind.TheVariants.{Inflate, Report}
 use Rattle.vb_core.specs.declared.{pieces.ChainPiece.ChainPiece, ring.Virtqueue.Virtqueue}
 use Rattle.vb_core.specs.{declared.kinds.Kind.Kind, Devices.with_ring}
 use Rattle.vb_monitor.specs.declared.usual.NextWord.{NextWord, TheVariants.{Entry, Flags}}
 use Rattle.vb_monitor.{specs.declared.step.Place.Place}
-use Rattle.vb_monitor.{specs.Served.{is_last, goes_on, word_behind, first_has}}
-use Rattle.vb_monitor.proofs.Samples.{two, at, ring, far, tally}
+use Rattle.vb_monitor.{specs.Served.{is_last, word_behind, first_has}}
+use Rattle.vb_monitor.proofs.Samples.{two, at, ring, far, tally, chain_of}
 
 -- ---- the last part of a chain's pieces
 
@@ -55,10 +55,6 @@ empty_piece_behind = refl
 
 -- ---- which word is read behind a chain
 
-all_but_statistics : map goes_on (Inflate ∷ Deflate ∷ Statistics ∷ Report ∷ []) ≡
-    true ∷ true ∷ false ∷ true ∷ []
-all_but_statistics = refl
-
 -- by an index that publishes so many chains, of which the first one was taken
 abbrev word : ℕ → Kind → ℕ → Virtqueue → Option NextWord
 word index kind head r = word_behind two kind (record tally { published = index }) head
@@ -79,8 +75,10 @@ report_in_the_hole = refl
 no_descriptor : word 1 Inflate 8 ring ≡ None
 no_descriptor = refl
 
-a_held_buffer : word 1 Statistics 7 ring ≡ None
-a_held_buffer = refl
+-- where a chain is held, the notice ends
+word_when_held : word_behind two Inflate (record tally { published = 1; held = chain_of 7 0 }) 7
+    (with_ring Inflate (record ring { next_avail = 1 }) far) ≡ None
+word_when_held = refl
 
 jumped : word 0 Inflate 7 ring ≡ None
 jumped = refl

@@ -1,7 +1,7 @@
 -- What is done at once of a chain whose pages were named.
 use Rattle.std.proofs.Common.{◌≡◌, ◌∙◌, ap, sym, subst, refl, ℕ, ◌+◌, ◌<◌, Bool, true, false, List}
 use Rattle.std.proofs.Common.{arith, [], ◌∷◌, ◌++◌, length, Option, Some, None, Result, Ok, Err}
-use Rattle.std.specs.Prelude.{nat_lt, nat_le, ◌&&◌, ◌/◌, ◌-◌, if◌then◌else◌, drop, get_or}
+use Rattle.std.specs.Prelude.{is_some, nat_lt, nat_le, ◌&&◌, ◌/◌, ◌-◌, if◌then◌else◌, drop, get_or}
 use Rattle.std.proofs.lemmas.{Bool.Decides.nat_tests, List.{drop_more, append-nil}}
 use Rattle.vb_virtio.specs.declared.limits.TheConstants.{MAX_REQUEST_PAGES}
 use Rattle.vb_chain.specs.declared.fault.ChainFault.{ChainFault}
@@ -18,10 +18,11 @@ use Rattle.vb_monitor.specs.{Regions.{holds, spot_from, cuts_from, cuts_of}, dec
 use Rattle.vb_monitor.specs.declared.{parts.Part.Part, outcome.Tally.Tally, orders.Used.Used}
 use Rattle.vb_monitor.specs.{Accesses.Access, Regions.spot, Ends.Whole, Pieces.CopiesParts}
 use Rattle.vb_monitor.specs.Giving.{Then, used_spots, used_accesses, UsedAt, GivesBack, GivesBackBy}
-use Rattle.vb_monitor.specs.{Giving.{with_given, after_use, AfterName, three_spots}, Orders.giving}
+use Rattle.vb_monitor.specs.{Giving.{with_given, after_use, AfterName, three_spots, TellsThen, held_if, spent}, Orders.giving}
 use Rattle.vb_monitor.specs.{Chains.{NamesBytes, AfterBytes}, Machine.{next_chain, served}}
-use Rattle.vb_monitor.specs.{Machine.{AheadAt, Room}, Notices.{stands, ServesPublished, AfterGiven}}
-use Rattle.vb_monitor.specs.{Served.{goes_on, none_left}, declared.usual.NextWord.NextWord}
+use Rattle.vb_monitor.specs.{Machine.{AheadAt, Room}, Notices.{stands, ServesPublished, AfterGivenBy}}
+use Rattle.vb_monitor.specs.{Served.none_left, declared.usual.NextWord.NextWord}
+use Rattle.vb_monitor.specs.declared.outcome.HeldChain.{HeldChain}
 use Rattle.vb_monitor.specs.Usual.{word_by, word_place, phase_at, tally_at}
 use Rattle.vb_core.specs.declared.ring.Virtqueue.{Virtqueue}
 use Rattle.vb_monitor.proofs.{TurnEnds.moves, UsualLemmas.word_goes}
@@ -42,12 +43,10 @@ used_open kind head d e =
 
 -- ---- a chain is given back, and the next one comes
 
-again : (kind : Kind) (w : Whole) (next : Then) (d : Device) (t : Tally) (log : List Access) →
-    goes_on kind ≡ true → next d t log → AfterGiven kind w next d t log
-again Inflate w next d t log e h = h
-again Deflate w next d t log e h = h
-again Statistics w next d t log e h = absurd (grind arith)
-again Report w next d t log e h = h
+again : (held : Option HeldChain) (w : Whole) (next : Then) (d : Device) (t : Tally)
+    (log : List Access) → is_some held ≡ false → next d t log → AfterGivenBy held w next d t log
+again None w next d t log e h = h
+again (Some x) w next d t log e h = absurd cc
 
 may_use : (kind : Kind) (head : ℕ) (d : Device) → head < (ring_of kind d).size →
     queue_denial kind d ≡ None → use_denial kind head d ≡ None
@@ -63,7 +62,7 @@ same_word (Ok false) rs t r = refl
 same_word (Err f) rs t r = refl
 
 pub given_goes : (w : Whole) (d d2 : Device) (t : Tally) (head : ℕ) (u : Used) (s : UsedSpots)
-    (word : NextWord) (room : Room) (log : List Access) → goes_on w.kind ≡ true
+    (word : NextWord) (room : Room) (log : List Access) → is_some t.held ≡ false
     → head < (ring_of w.kind d).size → queue_denial w.kind d ≡ None
     → used_spots w.regions (used_entry (ring_of w.kind d) head) ≡ Some s
     → word_place w.regions (with_given t) (ring_of w.kind d) ≡ Some word
@@ -87,7 +86,7 @@ given_goes w d d2 t head u s word room log goes lt ready spots place after write
     (giving true u ++ log)) (sym spots) (record {
       rest = log;
       asks = ap (λ (l : List Access). l ++ log) writes;
-      goes_on = again w.kind w (ServesPublished t.chains w) used (with_given t) log goes comes;
+      goes_on = again t.held w (ServesPublished t.chains w) used (with_given t) log goes comes;
     }))
 
 -- ---- a used element that lies in the first region
@@ -164,6 +163,16 @@ named_open kind bytes room runs d d2 named n =
     open_by (name_denial kind (length bytes) room d) kind bytes room runs d d2 named refl n
 
 pub ruleset named_steps = (few_named, named_open)
+
+-- pages that are told are served, whether their chain is held or not
+pub named_next : (w : Whole) (d : Device) (t : Tally) (head : ℕ) (runs : List Run) (named : Named)
+    (held : Bool) (log : List Access) →
+    TellsThen w (next_chain w (held_if held head named.pages (spent named.pages t))) d
+    (held_if held head named.pages (spent named.pages t)) head runs named log →
+    TellsThen w (next_chain w t) d (held_if held head named.pages (spent named.pages t)) head runs
+    named log
+named_next w d t head runs named true log h = h
+named_next w d t head runs named false log h = h
 
 by_bytes : (kind : Kind) (w : Whole) (next : Then) (d : Device) (t : Tally) (head : ℕ)
     (bytes : List ℕ) (log : List Access) → is_request kind ≡ true →

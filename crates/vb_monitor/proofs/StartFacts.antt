@@ -1,27 +1,29 @@
 -- Queues of a balloon that start at an index over regions, and stop, worked out: the answer, and all that
 -- is left, where it is done and where it is refused.
-use Rattle.std.proofs.Common.{◌≡◌, refl, ap, arith, inl, inr, ℕ, false, true, List, [], ◌∷◌, map, None}
+use Rattle.std.proofs.Common.{◌≡◌, refl, ap, arith, inl, inr, ℕ, false, true}
 use Rattle.std.proofs.Common.{Result, Ok, Err}
-use Rattle.vb_core.specs.declared.kinds.Kind.TheVariants.{Inflate, Deflate, Statistics, Report}
-use Rattle.vb_core.specs.declared.{starting.QueueStart.QueueStart, ring.Virtqueue.Virtqueue}
+use Rattle.vb_core.specs.declared.{held.Held.Held, kinds.Kind.TheVariants.{Inflate, Deflate, Statistics}}
+use Rattle.vb_core.specs.declared.{starting.QueueStart.QueueStart}
 use Rattle.vb_core.specs.declared.{device.Device.Device, device.Denial.Denial}
 use Rattle.vb_core.specs.declared.device.Denial.TheVariants.{NotReady, Misplaced}
 use Rattle.vb_core.specs.{Rings.no_ring, Starting.started}
-use Rattle.vb_monitor.specs.{Places.{HasMemory, Lies}, Queues.{held_without, StartsBy, StopsBy}}
+use Rattle.vb_monitor.specs.{Places.{Lies}, Queues.{StartsBy, StopsBy}}
 use Rattle.vb_monitor.specs.declared.balloon.Balloon.{Balloon}
-use Rattle.vb_monitor.proofs.{LieFacts.in_low_pages, Samples.{Same, two, ready, elsewhere}}
+use Rattle.vb_monitor.proofs.{LieFacts.in_low_pages, Samples.{Same, two, ready, elsewhere, a_buffer}}
 
--- ready, with a target, a buffer that is held, and queues that have moved
+-- ready, with a target, a buffer and a deflate that are held, and queues that have moved
 abbrev device : Device
 device = record ready { target = 3; inflate = elsewhere; statistics = record elsewhere { next_avail = 6 } }
 
-abbrev holding : Balloon
-holding = record { device = device; held = 4 }
+abbrev both : Held
+both = record { statistics = 4; deflate = 9; pages = 3 }
 
--- the queue of statistics alone takes what is held with it
-kept : map (λ kind. held_without kind holding) (Inflate ∷ Deflate ∷ Statistics ∷ Report ∷ [])
-    ≡ 4 ∷ 4 ∷ 0 ∷ 4 ∷ []
-kept = refl
+abbrev holding : Balloon
+holding = record { device = device; held = both }
+
+-- one of its chains is held, and wasn't given back
+abbrev deflating : Balloon
+deflating = record holding { device = record device { deflate = record elsewhere { next_avail = 6 } } }
 
 -- ---- starts
 
@@ -42,7 +44,7 @@ starts = record {
   starts = λ e lies. (refl, refl);
 }
 
--- just so: the buffer that is held stays, but for the queue of statistics
+-- just so: what is held stays, but for its own queue
 started_alone : (b : Balloon) (result : Result (Unit {0}) Denial) →
     StartsBy Inflate two at_7 holding b result → (result ≡ Ok tt) × (b ≡ inflating)
 unfolding lib.Count.ones
@@ -50,17 +52,29 @@ started_alone b result h = h.starts refl lies_there
 
 statistics_started : (b : Balloon) (result : Result (Unit {0}) Denial) →
     StartsBy Statistics two at_7 holding b result →
-    (result ≡ Ok tt) × (b ≡ record { device = record device { statistics = started at_7 }; held = 0 })
+    (result ≡ Ok tt) × (b ≡ record {
+      device = record device { statistics = started at_7 };
+      held = record both { statistics = 0 };
+    })
 unfolding lib.Count.ones
 statistics_started b result h = h.starts refl lies_there
 
 abbrev held_of : Balloon → ℕ
-held_of b = b.held
+held_of b = b.held.statistics
 
 held_still : StartsBy Statistics two at_7 holding
     (record holding { device = record device { statistics = started at_7 } }) (Ok tt) → ⊥
 unfolding lib.Count.ones
 held_still h = let e : Same 4 0 = ap held_of (h.starts refl lies_there).1 in omega arith
+
+-- and so is a deflate, with its pages, with its queue
+deflates_started : (b : Balloon) (result : Result (Unit {0}) Denial) →
+    StartsBy Deflate two at_7 holding b result → (result ≡ Ok tt) × (b ≡ record {
+      device = record device { deflate = started at_7 };
+      held = a_buffer 4;
+    })
+unfolding lib.Count.ones
+deflates_started b result h = h.starts refl lies_there
 
 -- ---- refusals, which leave the balloon as it was: a table in the hole, and a driver that has agreed to nothing
 
@@ -86,12 +100,19 @@ refused_early b result h = h.denied NotReady refl
 
 -- ---- stops: by what was given back, and not by what was taken
 
-stops : StopsBy Statistics holding (record { device = record device { statistics = no_ring }; held = 0 }) (Ok 5)
+stops : StopsBy Statistics holding (record {
+  device = record device { statistics = no_ring };
+  held = record both { statistics = 0 };
+}) (Ok 5)
 stops = record { denied = λ why e. absurd cc; stops = λ e. (refl, refl) }
 
 stopped_alone : (b : Balloon) (result : Result ℕ Denial) → StopsBy Inflate holding b result →
     (result ≡ Ok 5) × (b ≡ record holding { device = record device { inflate = no_ring } })
 stopped_alone b result h = h.stops refl
+
+deflates_stopped : (b : Balloon) (result : Result ℕ Denial) → StopsBy Deflate deflating b result →
+    (result ≡ Ok 5) × (b ≡ record { device = record device { deflate = no_ring }; held = a_buffer 4 })
+deflates_stopped b result h = h.stops refl
 
 abbrev next_of : Result ℕ Denial → ℕ
 next_of (Ok next) = next

@@ -7,11 +7,11 @@ use Rattle.vb_chain.specs.declared.fault.ChainFault.TheVariants.{WrongDirection,
 use Rattle.vb_core.specs.declared.{kinds.Kind.TheVariants.Statistics, statistics.Statistic.Statistic}
 use Rattle.vb_core.specs.declared.device.{Device.Device, Denial.TheVariants.{Broken, BadArgument, NotReady}}
 use Rattle.vb_core.specs.{Devices.with_one_taken, Statistics.{AreFigures}}
-use Rattle.vb_monitor.specs.declared.outcome.{Tally.Tally, Outcome.Outcome}
+use Rattle.vb_monitor.specs.declared.outcome.{HeldChain.HeldChain, Tally.Tally, Outcome.Outcome}
 use Rattle.vb_monitor.specs.Accesses.{Access, CopyBytes, Acquire, Release, Full, TellFigures, WriteNumber}
 use Rattle.vb_monitor.specs.{Ends.Whole, Giving.{Then, after_use}, Chains.{FiguresBy, AfterBytes, ServesPieces}}
-use Rattle.vb_monitor.specs.Notices.{Serves, AsksStatistics}
-use Rattle.vb_monitor.proofs.Samples.{flags_are_read, Same, two, at, ready, tally, budget, index, entry, flags, id, used_length, used_index, given}
+use Rattle.vb_monitor.specs.Notices.{Serves, GivesHeldBack}
+use Rattle.vb_monitor.proofs.Samples.{flags_are_read, chain_of, head_of, Same, two, at, ready, tally, budget, index, entry, flags, id, used_length, used_index, given}
 use Rattle.vb_monitor.proofs.AheadFacts.{over, ends, needs_reset}
 
 -- ---- two figures: 10 bytes each, a tag of two and a value of eight
@@ -48,7 +48,7 @@ taken = with_one_taken Statistics ready
 -- the buffer is held: it isn't given back, so that no interrupt is asked about
 abbrev held : Outcome
 held = record {
-  tally = record { chains = 7; pages = 256; keeps = false; given = false; held = Some 3; published = 1 };
+  tally = record { chains = 7; pages = 256; keeps = false; given = false; held = chain_of 3 0; published = 1 };
   why = None;
   interrupt = false;
   more = false;
@@ -90,7 +90,7 @@ abbrev none : Then
 none = λ d t log. ⊥
 
 abbrev one_held : Tally
-one_held = record tally { held = Some 3 }
+one_held = record tally { held = chain_of 3 0 }
 
 abbrev Told : Outcome → List ℕ → List Access → Type 0
 Told o bytes log = AfterBytes Statistics (over Statistics taken o) none ready tally 3 bytes log
@@ -158,9 +158,9 @@ unfolding lib.Count.ones
 one_alone o h = one_alone_in h.figures h.tells.rest h.tells.asks h.are
 
 -- another buffer is held, or none
-of_another_head : Told (ends (record tally { held = Some 4 }) None false false) both (TellFigures figures ∷ []) → ⊥
+of_another_head : Told (ends (record tally { held = chain_of 4 0 }) None false false) both (TellFigures figures ∷ []) → ⊥
 unfolding lib.Count.ones
-of_another_head h = let e = ap (λ (o : Outcome). o.tally.held) h.tells.ends.outcome in absurd cc
+of_another_head h = let e : Same 4 3 = ap head_of h.tells.ends.outcome in omega arith
 
 of_no_head : Told (ends tally None false false) both (TellFigures figures ∷ []) → ⊥
 unfolding lib.Count.ones
@@ -220,12 +220,15 @@ uncopied o h = let e = h.asks in absurd cc
 -- ---- new ones are asked for: the buffer is given back, and the flags are read
 
 abbrev spent : Tally
-spent = record { chains = 0; pages = 0; keeps = false; given = true; held = None; published = 0 }
+spent = record { chains = 0; pages = 0; keeps = false; given = true; held = chain_of 3 0; published = 0 }
+
+abbrev buffer_of : ℕ → HeldChain
+buffer_of head = record { head = head; pages = 0 }
 
 abbrev back : Device
 back = after_use Statistics ready
 
-asks : AsksStatistics two 3 ready back (ends spent None true false) given
+asks : GivesHeldBack two Statistics (buffer_of 3) ready back (ends spent None true false) given
 unfolding lib.Count.ones
 asks = record { rest = Full ∷ flags ∷ []; asks = refl; goes_on = flags_are_read refl refl }
 
@@ -233,23 +236,23 @@ abbrev number_written : List Access → ℕ
 number_written (WriteNumber at n ∷ xs) = n
 number_written xs = 0
 
-another_buffer : (d : Device) (o : Outcome) → AsksStatistics two 4 ready d o given → ⊥
+another_buffer : (d : Device) (o : Outcome) → GivesHeldBack two Statistics (buffer_of 4) ready d o given → ⊥
 unfolding lib.Count.ones
 another_buffer d o h = let e : Same 3 4 = ap number_written h.asks in omega arith
 
-nothing_given : (d : Device) (o : Outcome) → AsksStatistics two 3 ready d o (Full ∷ flags ∷ []) → ⊥
+nothing_given : (d : Device) (o : Outcome) → GivesHeldBack two Statistics (buffer_of 3) ready d o (Full ∷ flags ∷ []) → ⊥
 unfolding lib.Count.ones
 nothing_given d o h = let e = h.asks in absurd cc
 
-no_flags : (d : Device) (o : Outcome) → AsksStatistics two 3 ready d o (id ∷ used_length ∷ Release ∷ used_index ∷ []) → ⊥
+no_flags : (d : Device) (o : Outcome) → GivesHeldBack two Statistics (buffer_of 3) ready d o (id ∷ used_length ∷ Release ∷ used_index ∷ []) → ⊥
 unfolding lib.Count.ones
 no_flags d o h = let e = h.asks in let f = h.goes_on.asks in absurd cc
 
 -- what is no descriptor's head isn't given back
-no_such_head : AsksStatistics two 8 ready ready (ends (record spent { given = false }) (Some BadArgument) false false) []
+no_such_head : GivesHeldBack two Statistics (buffer_of 8) ready ready (ends (record spent { given = false; held = chain_of 8 0 }) (Some BadArgument) false false) []
 unfolding lib.Count.ones
 no_such_head = record { nothing = refl; device = refl; outcome = refl }
 
-given_all_the_same : (d : Device) (o : Outcome) → AsksStatistics two 8 ready d o given → ⊥
+given_all_the_same : (d : Device) (o : Outcome) → GivesHeldBack two Statistics (buffer_of 8) ready d o given → ⊥
 unfolding lib.Count.ones
 given_all_the_same d o h = let e = h.nothing in absurd cc

@@ -8,12 +8,12 @@ use Rattle.vb_chain.specs.declared.fault.ChainFault.{ChainFault, TheVariants.{Ou
 use Rattle.vb_chain.specs.declared.{pieces.Piece.Piece}
 use Rattle.vb_ring.specs.declared.device.Taken.{Taken}
 use Rattle.vb_core.specs.{Devices.with_one_taken}
-use Rattle.vb_monitor.specs.{Regions.spot, declared.outcome.Outcome.Outcome, Ends.Whole}
+use Rattle.vb_monitor.specs.{Regions.spot, Ends.Whole}
 use Rattle.vb_monitor.specs.Accesses.{Access, Acquire, TellPages, TellFigures}
 use Rattle.vb_monitor.specs.Machine.{whole, serves}
 use Rattle.vb_monitor.specs.Still.{IsMapped, AfterReads, DoesNext, ReportsNext, ArePartsMapped, is_read, length_of}
 use Rattle.vb_monitor.proofs.Samples.{Same, two, ring, ready, tally, index, discard}
-use Rattle.vb_monitor.proofs.Samples.{one_page, pages, piece}
+use Rattle.vb_monitor.proofs.Samples.{one_page, pages, piece, chain_of, head_of}
 use Rattle.vb_monitor.proofs.StillReadFacts.{Rest, Any}
 use lib.Count
 
@@ -135,7 +135,7 @@ unserved w h = unserved_in w h.read h.rest h.all h.is
 -- its head counts, which a buffer of statistics is held by
 abbrev holds : ℕ → Whole
 holds head = whole two Statistics (with_one_taken Statistics ready) (record {
-  tally = record tally { held = Some head };
+  tally = record tally { held = chain_of head 0 };
   why = None;
   interrupt = false;
   more = false;
@@ -160,7 +160,7 @@ held = record {
 
 of_another_head : DoesNext Any (holds 4) tally ready (index ∷ TellFigures [] ∷ []) empty → ⊥
 unfolding lib.Count.ones
-of_another_head h = let e = ap (λ (o : Outcome). o.tally.held) h.is.tells.ends.outcome in absurd cc
+of_another_head h = let e : Same 4 3 = ap head_of h.is.tells.ends.outcome in omega arith
 
 -- what the device reads, and which lengths it takes
 reads : map is_read (Inflate ∷ Deflate ∷ Statistics ∷ Report ∷ []) ≡ true ∷ true ∷ true ∷ false ∷ []

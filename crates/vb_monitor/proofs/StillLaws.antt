@@ -142,7 +142,7 @@ next_is byte r index e =
     ∙ tests_alike (ahead index r.next_avail == 0) (nat_le (ahead index r.next_avail) r.size)
     (entry_in byte r)
 
--- the budget has room for the chain that stands there
+-- the budget has room for the chain that is there
 unspent : (w : Whole) (d : Device) (t : Tally) (n : ℕ) (log : List Access) →
     (t.pages == 0) ≡ false → TakesNext (suc n) w d t log →
     TakesChain w (next_chain w (with_chains n t)) d (with_chains n t) log
@@ -172,7 +172,7 @@ by_index onward byte w d t n (Ok true) log is none some e stays h =
     none (λ head same. e ∙ ap (λ (n : ℕ). Ok (Some n)) (sym same)) refl is.mapped.entry stays
     (unspent w d t n log some h)
 
--- what may be served behind the first chain, and the index that memory has
+-- what may be served after the first chain, and the index that memory has
 abbrev pub left_then : (ℕ → ℕ) → Whole → Device → Tally → ℕ → Tally
 left_then byte w d t n = with_chains n (with_published (index_in byte (ring_of w.kind d)) t)
 

@@ -15,13 +15,13 @@ use Rattle.vb_core.specs.Devices.{ring_of, needing_reset, with_one_taken, queue_
 use Rattle.vb_core.specs.{Name.{after_request, told}, Report.{run_of, is_beyond}}
 use Rattle.vb_core.specs.{Report.{pieces_denial, named_by}, Settings.{memory_pages, are_settings}}
 use Rattle.vb_core.specs.declared.device.{Denial.Denial, Denial.TheVariants.Broken, Device.Device}
-use Rattle.vb_core.specs.declared.{kinds.Kind.TheVariants.Report, name.Named.Named}
+use Rattle.vb_core.specs.declared.{kinds.Kind.{Kind, TheVariants.Report}, name.Named.Named}
 use Rattle.vb_core.specs.declared.{runs.Run.Run}
 use Rattle.vb_core.specs.declared.settings.{Settings.Settings, TheConstants.MEMORY_LIMIT}
 use Rattle.vb_monitor.{specs.declared.regions.Region.Region, specs.declared.outcome.Tally.Tally}
 use Rattle.vb_monitor.{specs.declared.outcome.Budget.Budget, specs.declared.outcome.Outcome.Outcome}
 use Rattle.vb_monitor.{specs.Accesses.Access, specs.Ends.Whole, specs.Chains.memory_end}
-use Rattle.vb_monitor.specs.{Chains.NamesReport, Giving.{Then, AfterName, TellsThen, spent}}
+use Rattle.vb_monitor.specs.{Chains.NamesReport, Giving.{Then, AfterName, TellsThen, spent, with_named}}
 use Rattle.vb_monitor.specs.Notices.{Serves}
 use Rattle.vb_monitor.specs.Machine.{whole, next_chain}
 use Rattle.vb_monitor.specs.Still.{StaysUntil, IsMapped, AfterReads, HasNext, Finds}
@@ -68,12 +68,13 @@ refused_alike : (pieces : List Piece) (d : Device) → list_any is_beyond pieces
 refused_alike pieces d e = ap (λ (b : Bool). call_denial Report true (true && not b) d) e
 
 served_as : (still : List Access → Type 0) (w : Whole) (next : Then) (d : Device) (t : Tally)
-    (taken : Taken) (o : Result (List ℕ) ChainFault) (log : List Access) → t.given ≡ false
+    (taken : Taken) (o : Result (List ℕ) ChainFault) (log : List Access) → w.kind ≡ Report
+    → t.given ≡ false
     → next ≡ next_chain w t → pieces_denial taken.chain 256 d ≡ None
     → report_request taken.chain d.settings.reserved_pages ≡ o
     → still log → NamesReport w next d t taken.head taken.chain log
     → TellsTaken still taken o w t d log
-served_as still w next d t taken (Err f) log none same unrefused e stays h =
+served_as still w next d t taken (Err f) log kind none same unrefused e stays h =
     let count = length taken.chain in
     let answer : h.answer ≡ Err (Broken f) =
     h.names.answer unrefused ∙ ap (λ (r : Result (List ℕ) ChainFault). told (named_by count r)) e in
@@ -83,7 +84,7 @@ served_as still w next d t taken (Err f) log none same unrefused e stays h =
     (subst (λ (r : Result Named Denial). AfterName w next h.device t taken.head h.runs r log)
     answer h.goes_on) in
     (ends.0, ends.1 ∙ device, ends.2)
-served_as still w next d t taken (Ok pages) log none same unrefused e stays h =
+served_as still w next d t taken (Ok pages) log kind none same unrefused e stays h =
     let count = length taken.chain in
     let named : Named = record { runs = count; pages = length pages; skipped = 0 } in
     let answer : h.answer ≡ Ok named =
@@ -102,8 +103,10 @@ served_as still w next d t taken (Ok pages) log none same unrefused e stays h =
           taken.head rs named log) theirs
           (subst (λ (n : Then). TellsThen w n h.device (spent (length pages) t)
           taken.head (take count h.runs) named log) same
+          (subst (λ (x : Tally). TellsThen w next h.device x taken.head (take count h.runs) named log)
+          (ap (λ (k : Kind). with_named k h.device.settings taken.head (length pages) t) kind)
           (subst (λ (r : Result Named Denial). AfterName w next h.device t taken.head h.runs r log)
-          answer h.goes_on)));
+          answer h.goes_on))));
       still_so = stays;
     }
 
@@ -139,7 +142,7 @@ reports_of still byte rs d2 out d t (Ok (Some taken)) log none lt unrefused next
     refused_alike taken.chain d (none_beyond _ _ _ taken.head taken.chain next.1 lt) ∙ unrefused in
     let o = report_request taken.chain d.settings.reserved_pages in
     after_as still taken o w t d log (NamesReport w (next_chain w t) d t taken.head taken.chain)
-    (λ l stays x. served_as still w (next_chain w t) d t taken o l none refl denial refl stays x)
+    (λ l stays x. served_as still w (next_chain w t) d t taken o l refl none refl denial refl stays x)
     h
 
 pub reports_as : (onward : List Access → Type 0) (byte : ℕ → ℕ) (regions : List Region)

@@ -18,7 +18,7 @@ use Rattle.vb_monitor.proofs.TableRowLemmas.{first_in_row, in_row_is, none_in_no
 use Rattle.vb_monitor.specs.Still.{bytes_from, Holds, in_memory}
 use Rattle.vb_monitor.specs.Still.{StaysUntil}
 
--- the whole chain is served, behind what was read
+-- the whole chain is served, after what was read
 pub record IsWhole (still : List Access → Type 0) (whole : List Piece → List Access →
     Type 0) (d : ℕ → Descriptor)
     (q end head : ℕ) (log : List Access) : Type 0 where
@@ -45,7 +45,7 @@ abbrev pub Walk : (List Access → Type 0) → Whole → Device → Tally →
 Walk still w d t whole ds q end head log =
     IsWhole still whole ds q end head log ⊎ IsBroken still w d t ds q end head
 
--- behind one more access
+-- after one more access
 further : (still : List Access → Type 0) (w : Whole) (d : Device) (t : Tally) (whole : List Piece →
     List Access → Type 0)
     (ds : ℕ → Descriptor) (q end head : ℕ) (x : Access) (rest log : List Access) → log ≡ x ∷ rest →
@@ -314,7 +314,7 @@ row_by onward byte w d t whole follows q head path i index row writing pieces lo
     after onward byte w d t whole (follows row) q head path i index writing pieces bytes log
     (on row shows) is lt (shows.alike index bytes e) walked stays h
 
--- where so many more descriptors fit the table, i were visited, and this one is next
+-- where n more descriptors fit the table, i were visited, and this one is next
 pub walks : (n : ℕ) (onward : List Access → Type 0) (byte : ℕ →
     ℕ) (w : Whole) (d : Device) (t : Tally)
     (whole : List Piece → List Access → Type 0) (q head : ℕ) (path : List ℕ) (i index : ℕ)

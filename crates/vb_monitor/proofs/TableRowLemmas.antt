@@ -94,7 +94,7 @@ first_goes w d t head pieces log lt none h =
     (serves w t d head) head (unless_apart
     (spot w.regions ((ring_of w.kind d).table + 16 * head) 16) 0) false ps log) none h)))
 
--- another one, with those behind it
+-- another one, with those after it
 behind_some : (q number : ℕ) (pieces : List Piece) → 0 < length pieces →
     so_many_behind q number pieces ≡ min 31 (q - (number + 1))
 behind_some q number [] lt = absurd (omega (arith, lt))
@@ -150,14 +150,14 @@ pub front_of_row : (walk : Walk) (bytes : List ℕ) →
     take 16 (take (row_bytes walk) bytes) ≡ take 16 bytes
 front_of_row walk bytes = take-take 16 (row_bytes walk) bytes (omega arith)
 
--- what comes where a descriptor of these bytes is the next one, and so many were before it
+-- what comes where a descriptor of these bytes is the next one, and n were before it
 abbrev pub At : Whole → Device → Tally → ℕ → ℕ → TableRow → ℕ → Bool → List Piece → List ℕ →
     List Access → Type 0
 At w d t head q row k writing pieces bytes log =
     AfterDescriptor w d t (Follows (q - (k + 1)) w d t (serves w t d head) row) (serves w t d head)
     writing pieces bytes log
 
--- a descriptor was read of its bytes, and tested behind the first of these pieces
+-- a descriptor was read of its bytes, and tested after the first of these pieces
 pub record Tested (q end : ℕ) (writing : Bool) (k : ℕ) (ps : List ChainPiece) (bytes : List ℕ)
     (x : Descriptor) (fault : Option ChainFault) : Type 0 where
   pub says : x ≡ descriptor_of bytes

@@ -13,13 +13,13 @@ use Rattle.vb_monitor.specs.Accesses.{Access, ReadWord, CopyBytes, Acquire, Rele
 use Rattle.vb_monitor.specs.Accesses.{TellPages, TellFigures, Discard, WriteNumber, WriteWord}
 use Rattle.vb_monitor.{proofs.TouchLemmas.{within}, specs.Counts.{no_discard, others}}
 use Rattle.vb_monitor.specs.Giving.{after_use}
-use Rattle.vb_monitor.specs.{declared.outcome.Tally.Tally}
+use Rattle.vb_monitor.specs.declared.outcome.{Outcome.Outcome, Tally.Tally}
 use Rattle.vb_monitor.specs.Order.{MayFollow, is_read}
 use Rattle.vb_monitor.specs.SoFar.{Each, known, ring_after}
 use Rattle.vb_monitor.specs.SoFar.{index_read, earlier}
 use Rattle.vb_monitor.specs.Turns.{is_over, CopiesNext, ReadsInTurn, TellsInTurn}
 use Rattle.vb_monitor.specs.Turns.{WritesUsedAlone}
-use Rattle.vb_monitor.specs.Touched.{IsWithin, Touches}
+use Rattle.vb_monitor.specs.{Touched.{IsWithin, Touches}, Holding.HoldsTold}
 use Rattle.vb_monitor.{specs.Regions.spot, specs.Ends.{Whole, Ends, EndsWhere, FlagsAt, Breaks}}
 use Rattle.vb_monitor.specs.declared.regions.{Spot.Spot}
 
@@ -36,6 +36,7 @@ pub record Comes (w : Whole) (d0 : Device) (all : Bool) (before : List Access) (
     pub writes : WritesUsedAlone w.regions w.kind d0 before x
     pub follows : MayFollow (newest before) x
     pub touches : Touches w.regions x
+    pub holds : HoldsTold w.kind d0.settings w.outcome before x
 
 -- each of these does, behind those, and beside discards there are so many at most
 pub record Goes (w : Whole) (d0 : Device) (all : Bool) (most : ℕ) (before log : List Access) :
@@ -92,6 +93,7 @@ copy_comes w d0 all a len at bytes b next read e long = record {
   follows = read;
   touches = subst (λ (n : ℕ). IsWithin w.regions at.region at.offset n) (sym long)
       (within w.regions a len at e);
+  holds = tt;
 }
 
 -- ---- rings of devices
@@ -149,6 +151,29 @@ one_taken w d0 n runs named b d is = record {
 
 -- ---- the end
 
+-- what a notice that ends comes to
+flags_say : (w : Whole) (d : Device) (t : Tally) (why : Option Denial) (more : Bool)
+    (o : Option Spot) (log : List Access) → FlagsAt w d t why more o log →
+    (w.outcome.tally ≡ t) × (w.outcome.why ≡ why)
+flags_say w d t why more None log h =
+    (ap (λ (x : Outcome). x.tally) h.outcome, ap (λ (x : Outcome). x.why) h.outcome)
+flags_say w d t why more (Some at) log h = (
+  ap (λ (x : Outcome). x.tally) h.then_stops.outcome,
+  ap (λ (x : Outcome). x.why) h.then_stops.outcome,
+)
+
+where_says : (given : Bool) (w : Whole) (d : Device) (t : Tally) (why : Option Denial)
+    (more : Bool) (log : List Access) → EndsWhere given w d t why more log →
+    (w.outcome.tally ≡ t) × (w.outcome.why ≡ why)
+where_says false w d t why more log h =
+    (ap (λ (x : Outcome). x.tally) h.outcome, ap (λ (x : Outcome). x.why) h.outcome)
+where_says true w d t why more log h =
+    flags_say w d t why more (spot w.regions (ring_of w.kind d).avail 2) log h
+
+pub ends_say : (w : Whole) (d : Device) (t : Tally) (why : Option Denial) (more : Bool)
+    (log : List Access) → Ends w d t why more log → (w.outcome.tally ≡ t) × (w.outcome.why ≡ why)
+ends_say w d t why more log h = where_says t.given w d t why more log h
+
 -- the flags lie where the queue's are, and weren't read yet
 abbrev pub Flags : Whole → Device → List Access → Device → Type 0
 Flags w d0 b d =
@@ -165,13 +190,14 @@ flags_at : (w : Whole) (d0 d : Device) (t : Tally) (why : Option Denial) (more :
 flags_at w d0 d t why more m None b log le is e h = nothing w d0 t.keeps m b log h.nothing
 flags_at w d0 d t why more m (Some at) b log le is e h = asked w d0 t.keeps m b log _ h.asks
     (one_more w d0 t.keeps 1 m Full b _ le
-    (record { reads = is.1; tells = tt; writes = tt; follows = tt; touches = tt })
+    (record { reads = is.1; tells = tt; writes = tt; follows = tt; touches = tt; holds = tt })
     (one_more w d0 t.keeps 0 1 (ReadWord at h.flags) (Full ∷ b) _ (omega arith) (record {
       reads = subst (λ (a : ℕ). spot w.regions a 2 ≡ Some at) is.0 e;
       tells = tt;
       writes = tt;
       follows = tt;
       touches = within w.regions (ring_of w.kind d).avail 2 at e;
+      holds = tt;
     }) (nothing w d0 t.keeps 0 (ReadWord at h.flags ∷ Full ∷ b) h.rest h.then_stops.nothing)))
 
 ends_where : (given : Bool) (w : Whole) (d0 d : Device) (t : Tally) (why : Option Denial)

@@ -5,7 +5,6 @@ use Rattle.std.{proofs.Common.{Result, Ok, Err}, specs.Prelude.{◌==◌}}
 use Rattle.vb_virtio.specs.declared.limits.TheConstants.{MAX_QUEUE_SIZE}
 use Rattle.vb_chain.specs.declared.{fault.ChainFault.ChainFault}
 use Rattle.vb_core.{specs.declared.kinds.Kind.Kind, specs.declared.ring.Virtqueue.Virtqueue}
-use Rattle.vb_core.specs.declared.kinds.Kind.TheVariants.{Inflate, Deflate, Statistics, Report}
 use Rattle.vb_core.{specs.declared.device.Denial.Denial, specs.declared.device.Device.Device}
 use Rattle.vb_core.specs.Devices.{ring_of}
 use Rattle.vb_monitor.proofs.TurnEnds.{newest, Goes, one_more, asked, more_room, Agrees}
@@ -18,12 +17,14 @@ use Rattle.vb_monitor.specs.Chains.{no_row}
 use Rattle.vb_monitor.{specs.Ends.Whole, specs.Chains.descriptors}
 use Rattle.vb_monitor.proofs.TableRowLemmas.{none_of_none}
 use Rattle.vb_monitor.specs.{Giving.Then, Notices.{HeadBy, EntryAt, entry_offset, stands}}
-use Rattle.vb_monitor.specs.Notices.{AfterIndex, IndexAt, LooksBy, AfterGiven, TakesUnlessSpent}
+use Rattle.vb_monitor.specs.Notices.{AfterIndex, IndexAt, LooksBy, AfterGiven, AfterGivenBy}
+use Rattle.vb_monitor.specs.Notices.{TakesUnlessSpent}
 use Rattle.vb_monitor.specs.{Notices.{TakesNext, with_chains, Serves, fresh}, Regions.spot}
 use Rattle.vb_monitor.specs.Notices.{ServesPublished}
 use Rattle.vb_monitor.specs.SoFar.{Each, Unknown, Walks, known, ring_after}
 use Rattle.vb_monitor.specs.Turns.{IsPublished, ReadsInTurn, TellsInTurn, WritesUsedAlone}
-use Rattle.vb_monitor.specs.declared.outcome.{Budget.Budget, Outcome.Outcome, Tally.Tally}
+use Rattle.vb_monitor.specs.declared.outcome.{Budget.Budget, HeldChain.HeldChain, Outcome.Outcome, Tally.Tally}
+use Rattle.vb_monitor.specs.Holding.{HoldsTold}
 use Rattle.vb_monitor.specs.declared.regions.{Region.Region, Spot.Spot}
 use Rattle.vb_monitor.proofs.TurnWalks.{Behind, walk_room, walked_out, follows_from}
 
@@ -76,6 +77,7 @@ entry_at w d0 m next on d t (Some at) b log is there e h =
       writes = tt;
       follows = is.word;
       touches = tt;
+      holds = tt;
     })
     (one_more w d0 t.keeps (773 + m) (774 + m) x (Acquire ∷ b) _ (omega arith) (record {
       reads = subst (λ (r : Virtqueue). spot w.regions (r.avail + entry_offset r) 2 ≡ Some at)
@@ -84,6 +86,7 @@ entry_at w d0 m next on d t (Some at) b log is there e h =
       writes = tt;
       follows = tt;
       touches = within w.regions ((ring_of w.kind d).avail + entry_offset (ring_of w.kind d)) 2 at e;
+      holds = tt;
     })
     (head_by w d0 m next on d t h.head _ (x ∷ Acquire ∷ b) h.rest
     (one_on w d0 _ x (Acquire ∷ b) d fenced refl refl) refl refl h.goes_on)))
@@ -115,16 +118,19 @@ abbrev Next : Whole → Device → ℕ → Then → Type 0
 Next w d0 m next = (d : Device) (t : Tally) (b rest : List Access) → Between w d0 d t.published b →
     next d t rest → Goes w d0 t.keeps m b rest
 
-given_by : (w : Whole) (d0 : Device) (m : ℕ) (kind : Kind) (next : Then) (on : Next w d0 m next) →
-    2 ≤ m → After w d0 m (AfterGiven kind w next)
-given_by w d0 m Inflate next on le d t at n b rest is h =
+given_so : (w : Whole) (d0 : Device) (m : ℕ) (next : Then) (on : Next w d0 m next) (d : Device)
+    (t : Tally) (held : Option HeldChain) (at : Spot) (n : ℕ) (b rest : List Access) → 2 ≤ m →
+    Agrees w d0 t.published (WriteWord at n ∷ b) d → AfterGivenBy held w next d t rest →
+    Goes w d0 t.keeps m (WriteWord at n ∷ b) rest
+given_so w d0 m next on d t None at n b rest le is h =
     on d t (WriteWord at n ∷ b) rest (record { agrees = is; unknown = refl; word = refl }) h
-given_by w d0 m Deflate next on le d t at n b rest is h =
-    on d t (WriteWord at n ∷ b) rest (record { agrees = is; unknown = refl; word = refl }) h
-given_by w d0 m Statistics next on le d t at n b rest is h =
+given_so w d0 m next on d t (Some held) at n b rest le is h =
     let b2 = WriteWord at n ∷ b in ends_go w d0 d t _ false m b2 rest le (flags_of w d0 _ b2 d is) h
-given_by w d0 m Report next on le d t at n b rest is h =
-    on d t (WriteWord at n ∷ b) rest (record { agrees = is; unknown = refl; word = refl }) h
+
+given_by : (w : Whole) (d0 : Device) (m : ℕ) (next : Then) (on : Next w d0 m next) →
+    2 ≤ m → After w d0 m (AfterGiven w next)
+given_by w d0 m next on le d t at n b rest is h =
+    given_so w d0 m next on d t t.held at n b rest le is h
 
 takes_next : (n : ℕ) (w : Whole) (d0 d : Device) (t : Tally) →
     Taken w d0 d t (2 + 775 * n) (TakesNext n w d t)
@@ -133,8 +139,8 @@ takes_next zero w d0 d t b log is there h =
 takes_next (suc n) w d0 d t b log is there h =
     let m = 2 + 775 * n in
     more_room w d0 t.keeps (775 + m) _ b log (omega arith)
-    (unless_spent w d0 m (AfterGiven w.kind w (ServesPublished n w))
-    (given_by w d0 m w.kind _ (λ d2 t2 b2 rest is2. index_by w d0 d2 t2 m _ (takes_next n w d0 d2 t2) _
+    (unless_spent w d0 m (AfterGiven w (ServesPublished n w))
+    (given_by w d0 m _ (λ d2 t2 b2 rest is2. index_by w d0 d2 t2 m _ (takes_next n w d0 d2 t2) _
     b2 rest (omega arith) is2 refl) (omega arith)) d (with_chains n t) (t.pages == 0) b log is there h)
 
 index_at : (w : Whole) (d : Device) (m : ℕ) (next : Then) (on : Next w d m next) (t : Tally)
@@ -152,6 +158,7 @@ index_at w d m next on t (Some at) log le e h =
       writes = tt;
       follows = tt;
       touches = within w.regions ((ring_of w.kind d).avail + 2) 2 at e;
+      holds = tt;
     }) (on d _ (x ∷ []) h.rest (record {
       agrees = record { ring = refl; settings = refl; keeps = refl; lasts = refl; index = refl };
       unknown = refl;
@@ -205,6 +212,12 @@ pub writes_used : (regions : List Region) (kind : Kind) (budget : Budget) (d1 d2
     Each (WritesUsedAlone regions kind d1) [] log
 writes_used regions kind budget d1 d2 outcome log h =
     each_so _ _ [] log (λ b x is. is.writes) (all_go regions kind budget d1 d2 outcome log h).come
+
+pub holds_told : (regions : List Region) (kind : Kind) (budget : Budget) (d1 d2 : Device)
+    (outcome : Outcome) (log : List Access) → Serves regions kind budget d1 d2 outcome log →
+    Each (HoldsTold kind d1.settings outcome) [] log
+holds_told regions kind budget d1 d2 outcome log h =
+    each_so _ _ [] log (λ b x is. is.holds) (all_go regions kind budget d1 d2 outcome log h).come
 
 row_so : (may : Option Access → Access → Type 0) (b log : List Access) →
     Each (λ before x. may (newest before) x) b log → Row may (newest b) log

@@ -13,7 +13,9 @@ use Rattle.vb_monitor.specs.Accesses.{Access, Release}
 use Rattle.vb_monitor.specs.Accesses.{TellPages, Discard, WriteNumber, WriteWord}
 use Rattle.vb_monitor.{proofs.TouchLemmas.{within, AllWithin, cuts_within}}
 use Rattle.vb_monitor.specs.Giving.{Then, three_spots, UsedAt, GivesBackBy, with_given}
-use Rattle.vb_monitor.specs.Giving.{after_use, is_kept, cuts_for, TellsThen}
+use Rattle.vb_monitor.specs.Giving.{after_use, is_kept, cuts_for, OnceTold, TellsThen}
+use Rattle.vb_monitor.specs.{declared.outcome.HeldChain.HeldChain, Holding.HoldsChain}
+use Rattle.vb_core.specs.Settings.{holds_chains}
 use Rattle.vb_monitor.specs.{declared.cuts.Cut.Cut, declared.outcome.Tally.Tally}
 use Rattle.vb_monitor.specs.Order.{is_copied, is_told, is_named}
 use Rattle.vb_monitor.specs.SoFar.{Known, Has, known, ring_after, left, without_first}
@@ -22,7 +24,7 @@ use Rattle.vb_monitor.specs.Turns.{TellsOf, TellNamed, IsNext}
 use Rattle.vb_monitor.specs.Turns.{ends_in_number, NumberFor, IndexFor}
 use Rattle.vb_monitor.{specs.Regions.spot, specs.Ends.{Whole, Breaks}}
 use Rattle.vb_monitor.specs.declared.regions.{Spot.Spot}
-use Rattle.vb_monitor.proofs.TurnEnds.{Agrees, Comes, Goes, asked, breaks_go, ends_go, flags_of, moves, newest, one_more, one_on, one_taken}
+use Rattle.vb_monitor.proofs.TurnEnds.{Agrees, Comes, Goes, asked, breaks_go, ends_go, ends_say, flags_of, moves, newest, one_more, one_on, one_taken}
 
 -- ---- a chain that is given back
 
@@ -61,6 +63,7 @@ pub record Served (w : Whole) (d0 : Device) (all : Bool) (n head : ℕ) (pieces 
   pub done : left (is_kept w.kind all (keeps_reports d0)) w.regions b ≡ []
   pub first : ends_in_number b ≡ false
   pub named : is_named (newest b) ≡ true
+  pub unheld : holds_chains w.kind d0.settings ≡ false
 
 no_used_place : (w : Whole) (d0 d : Device) (t : Tally) (fault : ChainFault) (m n : ℕ)
     (b log : List Access) → Agrees w d0 n b d → Breaks w (after_use w.kind d) t fault log →
@@ -99,6 +102,7 @@ used_at w d0 m next on d t head pieces bytes (Some id) (Some len) (Some index) b
           (number_for w d0 d n head pieces bytes false b id e.id is.read is.agrees (x, refl));
       follows = is.named;
       touches = within w.regions e.element_at 4 id x;
+      holds = is.unheld;
     })
     (one_more w d0 t.keeps (2 + m) (3 + m) (WriteNumber len e.length) b1 _ (omega arith) (record {
       reads = tt;
@@ -106,15 +110,17 @@ used_at w d0 m next on d t head pieces bytes (Some id) (Some len) (Some index) b
       writes = number_for w d0 d n head pieces bytes true b len e.length is.read is.agrees (y, refl);
       follows = refl;
       touches = within w.regions (e.element_at + 4) 4 len y;
+      holds = is.unheld;
     })
     (one_more w d0 t.keeps (1 + m) (2 + m) Release b2 _ (omega arith)
-    (record { reads = tt; tells = tt; writes = tt; follows = refl; touches = tt })
+    (record { reads = tt; tells = tt; writes = tt; follows = refl; touches = tt; holds = tt })
     (one_more w d0 t.keeps m (1 + m) (WriteWord index e.index) b3 _ (omega arith) (record {
       reads = tt;
       tells = tt;
       writes = index_for w d0 d n head pieces bytes b index e.index is.read is.agrees (z, refl);
       follows = refl;
       touches = within w.regions e.index_at 2 index z;
+      holds = is.unheld;
     })
     (on (after_use w.kind d) (with_given t) index e.index b3 h.rest (record {
       ring = (moves w.kind d).used_ring ∙ ap (λ (r : Virtqueue). with_used r) is.agrees.ring;
@@ -141,35 +147,77 @@ discards_go : (w : Whole) (d0 d : Device) (all : Bool) (m n head : ℕ) (pieces 
     Agrees w d0 n b d → Read w head pieces bytes b →
     left (is_kept w.kind all (keeps_reports d0)) w.regions b ≡ cuts → ends_in_number b ≡ false →
     is_told (newest b) ≡ true → is_named (newest b) ≡ true → AllWithin w.regions cuts →
-    Goes w d0 all m b (map Discard cuts ++ rest)
-discards_go w d0 d all m n head pieces bytes [] b rest then_go is read left_so first told named inside =
-    then_go b (record { agrees = is; read = read; done = left_so; first = first; named = named })
-discards_go w d0 d all m n head pieces bytes (cut ∷ cuts) b rest then_go is read left_so first told named inside =
+    holds_chains w.kind d0.settings ≡ false → Goes w d0 all m b (map Discard cuts ++ rest)
+discards_go w d0 d all m n head pieces bytes [] b rest then_go is read left_so first told named inside unheld =
+    then_go b (record {
+      agrees = is;
+      read = read;
+      done = left_so;
+      first = first;
+      named = named;
+      unheld = unheld;
+    })
+discards_go w d0 d all m n head pieces bytes (cut ∷ cuts) b rest then_go is read left_so first told named inside unheld =
     let x : Access = Discard cut in
     let on = discards_go w d0 d all m n head pieces bytes cuts (x ∷ b) rest then_go
     (one_on w d0 n x b d is refl refl) read (ap (λ (l : List Cut). without_first l) left_so) refl refl refl
-    inside.1 in
+    inside.1 unheld in
     let comes : Comes w d0 all b x = record {
       reads = tt;
       tells = subst (λ (l : List Cut). IsNext cut l) (sym left_so) refl;
       writes = tt;
       follows = told;
       touches = inside.0;
+      holds = unheld;
     } in
     record { come = (comes, on.come); few = let few = on.few in omega (arith, few) }
 
--- pages that may be told are told, discarded, and their chain is given back
+-- the chain is held where its kind's are, and only there
+abbrev pub HeldSo : Whole → Device → ℕ → ℕ → Tally → Type 0
+HeldSo w d0 head pages t = (holds_chains w.kind d0.settings ≡ true →
+    t.held ≡ Some (record { head = head; pages = pages }))
+    × (t.held ≡ None → holds_chains w.kind d0.settings ≡ false)
+
+-- what comes once pages were told
+once_told : (w : Whole) (d0 : Device) (m : ℕ) (next : Then) (on : After w d0 m next) (d : Device)
+    (t : Tally) (held : Option HeldChain) (head : ℕ) (pieces : List Piece) (bytes : List ℕ)
+    (cuts : List Cut) (b log : List Access) → t.held ≡ held → Agrees w d0 t.published b d →
+    Read w head pieces bytes b → left (is_kept w.kind t.keeps (keeps_reports d0)) w.regions b ≡ cuts →
+    ends_in_number b ≡ false → is_told (newest b) ≡ true → is_named (newest b) ≡ true →
+    AllWithin w.regions cuts → (t.held ≡ None → holds_chains w.kind d0.settings ≡ false) →
+    OnceTold held w next d t head cuts log → Goes w d0 t.keeps (4 + m) b log
+once_told w d0 m next on d t (Some held) head pieces bytes cuts b log e is read left_so first told named inside unheld h =
+    ends_go w d0 d t None false (4 + m) b log (omega arith) (flags_of w d0 _ b d is) h
+once_told w d0 m next on d t None head pieces bytes cuts b log e is read left_so first told named inside unheld h =
+    asked w d0 t.keeps (4 + m) b log _ h.asks
+    (discards_go w d0 d t.keeps (4 + m) t.published head pieces bytes cuts b h.rest
+    (λ b2 is2. gives_by w d0 m next on d t head pieces bytes (use_denial w.kind head d) b2 _ is2
+    h.gives_back) is read left_so first told named inside (unheld e))
+
+-- a chain that is held is what the notice comes to
+told_held : (w : Whole) (next : Then) (d : Device) (t : Tally) (held : Option HeldChain)
+    (head pages : ℕ) (cuts : List Cut) (log : List Access) → t.held ≡ held →
+    held ≡ Some (record { head = head; pages = pages }) → OnceTold held w next d t head cuts log →
+    (w.outcome.tally.held ≡ Some (record { head = head; pages = pages })) × (w.outcome.why ≡ None)
+told_held w next d t None head pages cuts log e so h = absurd cc
+told_held w next d t (Some x) head pages cuts log e so h =
+    let says = ends_say w d t None false log h in
+    (ap (λ (y : Tally). y.held) says.0 ∙ (e ∙ so), says.1)
+
+-- pages that may be told are told; then they are discarded, and their chain is given back, or it is
+-- held
 pub tells_go : (w : Whole) (d0 : Device) (m : ℕ) (next : Then) (on : After w d0 m next) (d : Device)
     (t : Tally) (head : ℕ) (pieces : List Piece) (bytes : List ℕ) (runs : List Run)
     (named : Named) (b log : List Access) → Agrees w d0 t.published b d →
     Read w head pieces bytes b → is_copied (newest b) ≡ true →
-    TellNamed w.kind d.settings pieces bytes runs named →
+    TellNamed w.kind d.settings pieces bytes runs named → HeldSo w d0 head named.pages t →
     TellsThen w next (with_one_taken w.kind d) t head runs named log →
     Goes w d0 t.keeps (5 + m) b log
-tells_go w d0 m next on d t head pieces bytes runs named b log is read copied right h =
+tells_go w d0 m next on d t head pieces bytes runs named b log is read copied right held h =
     let x : Access = TellPages w.kind runs named in
     let d2 = with_one_taken w.kind d in
     let kept = is_kept w.kind t.keeps (keeps_reports d2) in
+    let cuts = cuts_for w.kind kept w.regions runs in
     let comes : Comes w d0 t.keeps b x = record {
       reads = tt;
       tells = (
@@ -180,13 +228,12 @@ tells_go w d0 m next on d t head pieces bytes runs named b log is read copied ri
       writes = tt;
       follows = copied;
       touches = tt;
+      holds = λ so. subst (λ (k : Known). HoldsChain k named.pages w.outcome) (sym read)
+          (told_held w next d2 t t.held head named.pages cuts h.rest refl (held.0 so) h.goes_on);
     } in
     asked w d0 t.keeps (5 + m) b log _ h.asks (one_more w d0 t.keeps (4 + m) (5 + m) x b _ (omega arith)
-    comes (asked w d0 t.keeps (4 + m) (x ∷ b) h.rest _ h.discards.asks
-    (discards_go w d0 d2 t.keeps (4 + m) t.published head pieces bytes
-    (cuts_for w.kind kept w.regions runs) (x ∷ b) h.discards.rest
-    (λ b2 is2. gives_by w d0 m next on d2 t head pieces bytes (use_denial w.kind head d2) b2 _ is2
-    h.discards.gives_back)
+    comes (once_told w d0 m next on d2 t t.held head pieces bytes cuts (x ∷ b) h.rest refl
     (one_taken w d0 t.published runs named b d is) read
     (ap (λ (k : Bool). cuts_for w.kind (is_kept w.kind t.keeps k) w.regions runs)
-    (sym ((moves w.kind d).taken_keeps ∙ is.keeps))) refl refl refl (cuts_within w.regions w.kind kept runs))))
+    (sym ((moves w.kind d).taken_keeps ∙ is.keeps))) refl refl refl
+    (cuts_within w.regions w.kind kept runs) held.1 h.goes_on))

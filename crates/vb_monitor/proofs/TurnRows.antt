@@ -16,13 +16,15 @@ use Rattle.vb_monitor.specs.Chains.{FiguresBy, AfterBytes, NamesBytes, CopiesBy,
 use Rattle.vb_monitor.specs.SoFar.{Known, Has, known, ring_after, parts_read, with_copied}
 use Rattle.vb_monitor.specs.Order.{is_copied, is_read}
 use Rattle.vb_monitor.proofs.TurnEnds.{newest, Goes, one_more, asked, more_room, Agrees, one_on}
-use Rattle.vb_monitor.proofs.TurnEnds.{copy_comes, flags_of, ends_go, breaks_go, moves}
+use Rattle.vb_monitor.proofs.TurnEnds.{copy_comes, flags_of, ends_go, ends_say, breaks_go, moves}
 use Rattle.vb_monitor.proofs.{TurnLemmas.{After, tells_go}, NamedLemmas.names_avail, PartCounts.two_at_most}
 use Rattle.vb_monitor.proofs.NamedLemmas.{pieces_avail, named_numbers, no_report, named_pieces}
 use Rattle.vb_monitor.specs.{Accesses.{Access, CopyBytes, TellFigures}, Pieces.{PartAt, PartBy}}
 use Rattle.vb_monitor.specs.{Pieces.{CopiesParts, all_parts}, Turns.CopiesNext}
 use Rattle.vb_monitor.specs.{Turns.{TellNamed, TellNumbers, FiguresOf}, Regions.spot, Giving.Then}
-use Rattle.vb_monitor.specs.Giving.{AfterName, TellsThen, spent}
+use Rattle.vb_monitor.specs.Giving.{AfterName, TellsThen, spent, held_if, with_held, with_named}
+use Rattle.vb_monitor.specs.Holding.{HoldsChain}
+use Rattle.vb_core.specs.{Settings.holds_chains, declared.settings.Settings.Settings}
 use Rattle.vb_monitor.specs.declared.{room.TheConstants.MAX_FIGURES, parts.Part.Part}
 use Rattle.vb_monitor.specs.{declared.regions.Spot.Spot, declared.outcome.Tally.Tally, Ends.Whole}
 
@@ -42,6 +44,25 @@ abbrev Right : Whole → Device → Device → List Piece → List ℕ → List 
 Right w d d2 pieces bytes runs answer = (named : Named) → answer ≡ Ok named → TellNamed
     w.kind d.settings pieces bytes (take named.runs runs) named × (d2 ≡ with_one_taken w.kind d)
 
+-- pages are told of a chain that is held, or isn't
+held_go : (w : Whole) (d0 : Device) (m : ℕ) (next : Then) (on : After w d0 m next) (d : Device)
+    (t : Tally) (head : ℕ) (pieces : List Piece) (bytes : List ℕ) (runs : List Run)
+    (named : Named) (held : Bool) (b log : List Access) → holds_chains w.kind d.settings ≡ held →
+    Reads w d0 d t.published head pieces [] bytes b →
+    TellNamed w.kind d.settings pieces bytes runs named →
+    TellsThen w next (with_one_taken w.kind d) (held_if held head named.pages (spent named.pages t))
+    head runs named log → Goes w d0 t.keeps (5 + m) b log
+held_go w d0 m next on d t head pieces bytes runs named true b log e is right h =
+    tells_go w d0 m next on d (with_held head named.pages (spent named.pages t)) head pieces bytes runs
+    named b log is.agrees is.known_so is.copied right (λ so. refl, λ none. absurd cc) h
+held_go w d0 m next on d t head pieces bytes runs named false b log e is right h =
+    tells_go w d0 m next on d (spent named.pages t) head pieces bytes runs named b log is.agrees
+    is.known_so is.copied right (
+      λ so. absurd (let not_so : true ≡ false =
+          sym so ∙ (ap (λ (s : Settings). holds_chains w.kind s) (sym is.agrees.settings) ∙ e) in cc),
+      λ none. ap (λ (s : Settings). holds_chains w.kind s) (sym is.agrees.settings) ∙ e,
+    ) h
+
 names_go : (w : Whole) (d0 : Device) (m : ℕ) (next : Then) (on : After w d0 m next)
     (d d2 : Device) (t : Tally) (head : ℕ) (pieces : List Piece) (bytes : List ℕ)
     (runs : List Run) (answer : Result Named Denial) (b log : List Access) →
@@ -53,10 +74,13 @@ names_go w d0 m next on d d2 t head pieces bytes runs (Err why) b log is same ri
     (same ∙ (flags_of w d0 _ b d is.agrees).0, is.agrees.lasts) h
 names_go w d0 m next on d d2 t head pieces bytes runs (Ok named) b log is same right h =
     let x = right named refl in
-    tells_go w d0 m next on d (spent named.pages t) head pieces bytes (take named.runs runs) named b
-    log is.agrees is.known_so is.copied x.0
-    (subst (λ (y : Device). TellsThen w next y (spent named.pages t) head (take named.runs runs)
-    named log) x.1 h)
+    held_go w d0 m next on d t head pieces bytes (take named.runs runs) named
+    (holds_chains w.kind d.settings) b log refl is x.0
+    (subst (λ (s : Settings). TellsThen w next (with_one_taken w.kind d)
+    (with_named w.kind s head named.pages t) head (take named.runs runs) named log)
+    (moves w.kind d).taken_settings
+    (subst (λ (y : Device). TellsThen w next y (with_named w.kind y.settings head named.pages t) head
+    (take named.runs runs) named log) x.1 h))
 
 -- figures that are told
 figures_go : (w : Whole) (d0 d : Device) (m : ℕ) (t : Tally) (head : ℕ) (pieces : List Piece)
@@ -78,6 +102,9 @@ figures_go w d0 d m t head pieces bytes None b log e is h =
       writes = tt;
       follows = is.copied;
       touches = tt;
+      holds = λ so. subst (λ (k : Known). HoldsChain k 0 w.outcome) (sym is.known_so)
+          (let says = ends_say w (with_one_taken Statistics d) (with_held head 0 t) None false
+          h.tells.rest h.tells.ends in (ap (λ (y : Tally). y.held) says.0, says.1));
     }) (ends_go w d0 (with_one_taken Statistics d) _ _ false (4 + m) (TellFigures told ∷ b)
     h.tells.rest (omega arith)
     ((moves w.kind d).figures_avail ∙ (flags_of w d0 _ b d is.agrees).0, refl) h.tells.ends))

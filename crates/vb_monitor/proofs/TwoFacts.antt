@@ -111,7 +111,7 @@ serves_second = record {
         goes_on = record {
           rest = discard ∷ given_then;
           asks = refl;
-          discards = record {
+          goes_on = record {
             rest = given_then;
             asks = refl;
             gives_back = record { rest = Full ∷ flags ∷ []; asks = refl; goes_on = flags_are_read refl refl };
@@ -151,7 +151,7 @@ serves_two = record {
           goes_on = record {
             rest = discard ∷ id ∷ used_length ∷ Release ∷ used_index ∷ of_the_second;
             asks = refl;
-            discards = record {
+            goes_on = record {
               rest = id ∷ used_length ∷ Release ∷ used_index ∷ of_the_second;
               asks = refl;
               gives_back = record { rest = of_the_second; asks = refl; goes_on = serves_second };

@@ -70,7 +70,7 @@ serves = record {
           goes_on = record {
             rest = discard ∷ given;
             asks = refl;
-            discards = record {
+            goes_on = record {
               rest = given;
               asks = refl;
               gives_back = record { rest = Full ∷ flags ∷ []; asks = refl; goes_on = flags_are_read refl refl };

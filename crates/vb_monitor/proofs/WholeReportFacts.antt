@@ -64,7 +64,7 @@ reported = record {
         goes_on = record {
           rest = discard ∷ given;
           asks = refl;
-          discards = record {
+          goes_on = record {
             rest = given;
             asks = refl;
             gives_back = record { rest = Full ∷ flags ∷ []; asks = refl; goes_on = flags_are_read refl refl };
@@ -115,7 +115,7 @@ kept = record {
         goes_on = record {
           rest = given;
           asks = refl;
-          discards = record {
+          goes_on = record {
             rest = given;
             asks = refl;
             gives_back = record { rest = Full ∷ flags ∷ []; asks = refl; goes_on = flags_are_read refl refl };
@@ -180,7 +180,7 @@ both_told o = record {
   goes_on = record {
     rest = discards;
     asks = refl;
-    discards = record {
+    goes_on = record {
       rest = back;
       asks = refl;
       gives_back = record { rest = []; asks = refl; goes_on = tt };

@@ -35,7 +35,7 @@ use Rattle.vb_monitor.specs.declared.outcome.Tally.{Tally}
 use Rattle.vb_monitor.specs.Accesses.{Access, CopyBytes, TellFigures}
 use Rattle.vb_monitor.specs.Regions.{spot}
 use Rattle.vb_monitor.specs.Ends.{Whole, Ends, Breaks}
-use Rattle.vb_monitor.specs.Giving.{Then, AfterName}
+use Rattle.vb_monitor.specs.Giving.{Then, AfterName, with_held}
 use Rattle.vb_monitor.specs.Pieces.{CopiesParts, all_parts}
 
 -- ---- what the bytes come to
@@ -58,9 +58,6 @@ pub record NamesReport (w : Whole) (next : Then) (d : Device) (tally : Tally) (h
   pub names : NamesPiecesBy pieces MAX_REQUEST_PAGES runs d device answer
   pub goes_on : AfterName w next device tally head runs answer log
 
-abbrev pub with_held : ℕ → Tally → Tally
-with_held head tally = record tally { held = Some head }
-
 -- These figures are told.
 pub record TellsThenEnds (w : Whole) (d : Device) (tally : Tally) (figures : List Statistic)
     (log : List Access) : Type 0 where
@@ -73,7 +70,7 @@ pub record TellsFigures (w : Whole) (d : Device) (tally : Tally) (head : ℕ) (b
     (log : List Access) : Type 0 where
   pub figures : List Statistic
   pub are : AreFigures bytes figures
-  pub tells : TellsThenEnds w (with_one_taken Statistics d) (with_held head tally)
+  pub tells : TellsThenEnds w (with_one_taken Statistics d) (with_held head 0 tally)
       (take (length bytes / STATISTIC_SIZE) figures) log
 
 abbrev pub FiguresBy : Option Denial → Whole → Device → Tally → ℕ → List ℕ → List Access → Type 0

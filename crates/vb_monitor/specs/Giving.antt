@@ -11,6 +11,8 @@ use Rattle.vb_core.specs.declared.name.Named.{Named}
 use Rattle.vb_core.specs.declared.ring.UsedEntry.{UsedEntry}
 use Rattle.vb_core.specs.declared.device.Denial.{Denial}
 use Rattle.vb_core.specs.declared.device.Device.{Device}
+use Rattle.vb_core.specs.declared.settings.Settings.{Settings}
+use Rattle.vb_core.specs.Settings.{holds_chains}
 use Rattle.vb_core.specs.Rings.{used_entry, with_used}
 use Rattle.vb_core.specs.Devices.{ring_of, with_ring}
 use Rattle.vb_core.specs.Config.{keeps_reports}
@@ -19,7 +21,7 @@ use Rattle.vb_monitor.specs.declared.regions.Region.{Region}
 use Rattle.vb_monitor.specs.declared.regions.Spot.{Spot}
 use Rattle.vb_monitor.specs.declared.cuts.Cut.{Cut}
 use Rattle.vb_monitor.specs.declared.giving.UsedSpots.{UsedSpots}
-use Rattle.vb_monitor.specs.declared.outcome.Tally.{Tally}
+use Rattle.vb_monitor.specs.declared.outcome.{HeldChain.HeldChain, Tally.Tally}
 use Rattle.vb_monitor.specs.Accesses.{Access, TellPages, Discard, WriteNumber, Release, WriteWord}
 use Rattle.vb_monitor.specs.Regions.{spot, cuts_of}
 use Rattle.vb_monitor.specs.Ends.{Whole, Ends, Breaks}
@@ -110,21 +112,43 @@ pub record DiscardsThen (w : Whole) (next : Then) (d : Device) (tally : Tally) (
   pub asks : log ≡ map Discard cuts ++ rest
   pub gives_back : GivesBack w next d tally head rest
 
--- The pages are told, then discarded unless they are kept.
+-- A chain that is held isn't given back, and its notice ends; of any other one these parts are
+-- discarded first.
+abbrev pub OnceTold : Option HeldChain → Whole → Then → Device → Tally → ℕ → List Cut →
+    List Access → Type 0
+OnceTold (Some held) w next d tally head cuts log = Ends w d tally None false log
+OnceTold None w next d tally head cuts log = DiscardsThen w next d tally head cuts log
+
+-- The pages are told; then their chain is held, or they are discarded unless they are kept.
 pub record TellsThen (w : Whole) (next : Then) (d : Device) (tally : Tally) (head : ℕ)
     (runs : List Run) (named : Named) (log : List Access) : Type 0 where
   pub rest : List Access
   pub asks : log ≡ TellPages w.kind runs named ∷ rest
-  pub discards : DiscardsThen w next d tally head
+  pub goes_on : OnceTold tally.held w next d tally head
       (cuts_for w.kind (is_kept w.kind tally.keeps (keeps_reports d)) w.regions runs) rest
 
 -- So many pages fewer may be named yet.
 abbrev pub spent : ℕ → Tally → Tally
 spent pages tally = record tally { pages = tally.pages - pages }
 
+-- ---- chains that are held
+
+-- The chain of this head, which names so many pages, is held.
+abbrev pub with_held : ℕ → ℕ → Tally → Tally
+with_held head pages tally = record tally { held = Some (record { head = head; pages = pages }) }
+
+abbrev pub held_if : Bool → ℕ → ℕ → Tally → Tally
+held_if true head pages tally = with_held head pages tally
+held_if false head pages tally = tally
+
+-- The pages of a chain were named, so many: it is held where the settings say so of its kind.
+abbrev pub with_named : Kind → Settings → ℕ → ℕ → Tally → Tally
+with_named kind s head pages tally = held_if (holds_chains kind s) head pages (spent pages tally)
+
 -- What was named is served, or the notice ends.
 abbrev pub AfterName : Whole → Then → Device → Tally → ℕ → List Run → Result Named Denial →
     List Access → Type 0
 AfterName w next d tally head runs (Err why) log = Ends w d tally (Some why) false log
 AfterName w next d tally head runs (Ok named) log =
-    TellsThen w next d (spent named.pages tally) head (take named.runs runs) named log
+    TellsThen w next d (with_named w.kind d.settings head named.pages tally) head
+    (take named.runs runs) named log

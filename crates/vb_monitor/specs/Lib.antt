@@ -18,8 +18,9 @@ pub mod Places
 pub mod Queues
 pub mod Counts
 pub mod SoFar
+pub mod Holding
 pub mod Turns
-pub mod Asking
+pub mod HeldBack
 pub mod PartsOfRuns
 pub mod Large
 pub mod Usual

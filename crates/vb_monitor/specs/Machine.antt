@@ -154,7 +154,7 @@ waits (GivesBack spots entry) = false
 
 -- What comes once the chain that is being served was given back.
 abbrev pub next_chain : Whole → Tally → Then
-next_chain w tally = AfterGiven w.kind w (ServesPublished tally.chains w)
+next_chain w tally = AfterGiven w (ServesPublished tally.chains w)
 
 abbrev pub serves : Whole → Tally → Device → ℕ → List Piece → List Access → Type 0
 serves w tally d head pieces log =

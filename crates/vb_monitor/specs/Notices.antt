@@ -7,20 +7,19 @@ use Rattle.vb_chain.specs.declared.fault.ChainFault.{ChainFault}
 use Rattle.vb_chain.specs.declared.fault.ChainFault.TheVariants.{BadHead, IndexJump, OutOfRam}
 use Rattle.vb_ring.specs.Entries.{ahead}
 use Rattle.vb_core.specs.declared.kinds.Kind.{Kind}
-use Rattle.vb_core.specs.declared.kinds.Kind.TheVariants.{Inflate, Deflate, Statistics, Report}
 use Rattle.vb_core.specs.declared.ring.Virtqueue.{Virtqueue}
 use Rattle.vb_core.specs.declared.device.Denial.{Denial}
 use Rattle.vb_core.specs.declared.device.Device.{Device}
 use Rattle.vb_core.specs.Devices.{ring_of, queue_denial}
 use Rattle.vb_monitor.specs.declared.regions.Region.{Region}
 use Rattle.vb_monitor.specs.declared.regions.Spot.{Spot}
-use Rattle.vb_monitor.specs.declared.outcome.Tally.{Tally}
+use Rattle.vb_monitor.specs.declared.outcome.{HeldChain.HeldChain, Tally.Tally}
 use Rattle.vb_monitor.specs.declared.outcome.Budget.{Budget}
 use Rattle.vb_monitor.specs.declared.outcome.Outcome.{Outcome}
 use Rattle.vb_monitor.specs.Accesses.{Access, ReadWord, Acquire}
 use Rattle.vb_monitor.specs.Regions.{spot}
-use Rattle.vb_monitor.specs.Ends.{Whole, Stops, Ends, Breaks}
-use Rattle.vb_monitor.specs.Giving.{Then, GivesBack}
+use Rattle.vb_monitor.specs.Ends.{Whole, Ends, Breaks}
+use Rattle.vb_monitor.specs.Giving.{Then, GivesBack, with_held}
 use Rattle.vb_monitor.specs.Chains.{descriptors, no_row, Follows, ServesPieces}
 
 -- ---- the chain that stands next
@@ -95,13 +94,14 @@ LooksBy None w next d tally log =
 
 -- ---- chain after chain
 
--- After a chain that was given back the next one comes; not so of statistics, whose buffer was
--- asked for.
-abbrev pub AfterGiven : Kind → Whole → Then → Device → Tally → List Access → Type 0
-AfterGiven Inflate w next d tally log = next d tally log
-AfterGiven Deflate w next d tally log = next d tally log
-AfterGiven Statistics w next d tally log = Ends w d tally None false log
-AfterGiven Report w next d tally log = next d tally log
+-- After a chain that was given back the next one comes; not so after one that was held, which was
+-- asked for by itself.
+abbrev pub AfterGivenBy : Option HeldChain → Whole → Then → Device → Tally → List Access → Type 0
+AfterGivenBy (Some held) w next d tally log = Ends w d tally None false log
+AfterGivenBy None w next d tally log = next d tally log
+
+abbrev pub AfterGiven : Whole → Then → Device → Tally → List Access → Type 0
+AfterGiven w next d tally log = AfterGivenBy tally.held w next d tally log
 
 abbrev pub with_chains : ℕ → Tally → Tally
 with_chains n tally = record tally { chains = n }
@@ -117,7 +117,7 @@ abbrev pub TakesNext : ℕ → Whole → Device → Tally → List Access → Ty
 TakesNext zero w d tally log = Ends w d tally None true log
 TakesNext (suc n) w d tally log =
     TakesUnlessSpent (tally.pages == 0) w
-    (AfterGiven w.kind w (λ d2 t2 rest.
+    (AfterGiven w (λ d2 t2 rest.
     AfterIndex (stands (ring_of w.kind d2) t2.published) w (TakesNext n w d2 t2) d2 t2 rest)) d
     (with_chains n tally) log
 
@@ -143,23 +143,28 @@ fresh budget = record {
   published = 0;
 }
 
--- The queue of a kind is served, where no buffer of statistics is held.
+-- The queue of a kind is served, of which no chain is held.
 abbrev pub Serves : List Region → Kind → Budget → Device → Device → Outcome → List Access → Type 0
 Serves regions kind budget d1 d2 outcome log =
     Looks budget.chains (record { regions = regions; kind = kind; device = d2; outcome = outcome })
     d1 (fresh budget) log
 
--- The buffer of statistics of this head, which is held, is given back, to ask for new ones.
-abbrev pub AsksStatistics : List Region → ℕ → Device → Device → Outcome → List Access → Type 0
-AsksStatistics regions head d1 d2 outcome log =
+-- Nothing may be served: a chain that is held is asked for, and no more.
+abbrev pub only_asked : HeldChain → Tally
+only_asked held =
+    with_held held.head held.pages (fresh (record { chains = 0; pages = 0; keeps = false }))
+
+-- A chain that is held of a kind's queue is given back: new statistics are asked for by it (VIRTIO
+-- 1.1, 5.5.6.3), or a deflate is granted (5.5.6).
+abbrev pub GivesHeldBack : List Region → Kind → HeldChain → Device → Device → Outcome →
+    List Access → Type 0
+GivesHeldBack regions kind held d1 d2 outcome log =
     GivesBack
-    (record { regions = regions; kind = Statistics; device = d2; outcome = outcome })
-    (AfterGiven Statistics
-    (record { regions = regions; kind = Statistics; device = d2; outcome = outcome })
-    (λ d tally rest. Stops (record {
+    (record { regions = regions; kind = kind; device = d2; outcome = outcome })
+    (AfterGiven (record { regions = regions; kind = kind; device = d2; outcome = outcome })
+    (ServesPublished 0 (record {
       regions = regions;
-      kind = Statistics;
+      kind = kind;
       device = d2;
       outcome = outcome;
-    }) d tally None false false rest)) d1
-    (fresh (record { chains = 0; pages = 0; keeps = false })) head log
+    }))) d1 (only_asked held) held.head log

@@ -11,6 +11,7 @@ use Rattle.vb_monitor.specs.declared.placing.RestoreDenial.{RestoreDenial}
 use Rattle.vb_monitor.specs.declared.placing.RestoreDenial.TheVariants.{State, Elsewhere}
 use Rattle.vb_core.specs.Settings.{are_settings}
 use Rattle.vb_core.specs.Devices.{new_device}
+use Rattle.vb_core.specs.Held.{nothing_held}
 use Rattle.vb_monitor.specs.declared.regions.Region.{Region}
 use Rattle.vb_monitor.specs.declared.balloon.Balloon.{Balloon}
 use Rattle.vb_monitor.specs.Regions.{is_region, holds}
@@ -70,7 +71,7 @@ settings_over s regions =
 abbrev pub balloon_over : Settings → List Region → Option Balloon
 balloon_over s regions =
     if are_regions regions && are_settings (settings_over s regions)
-    then Some (record { device = new_device (settings_over s regions); held = 0 })
+    then Some (record { device = new_device (settings_over s regions); held = nothing_held })
     else None
 
 -- The settings with the end of these regions.

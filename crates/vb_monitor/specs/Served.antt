@@ -29,18 +29,11 @@ abbrev pub is_last : Place → List ChainPiece → Bool
 is_last place pieces =
     none_left (behind_part place.is_second place.piece (pieces_in (take place.count pieces)))
 
--- A queue of this kind goes on with its next chain once one was given back.
-abbrev pub goes_on : Kind → Bool
-goes_on Inflate = true
-goes_on Deflate = true
-goes_on Statistics = false
-goes_on Report = true
-
--- The word that is read once the chain of this head was given back, where that is a descriptor's
--- number, and all that is written for it is guest memory.
+-- The word that is read once the chain of this head was given back, where no chain is held, the
+-- head is a descriptor's number, and all that is written for it is guest memory.
 abbrev pub word_behind : List Region → Kind → Tally → ℕ → Device → Option NextWord
 word_behind regions kind tally head d =
-    if goes_on kind && nat_lt head (ring_of kind d).size
+    if not (is_some tally.held) && nat_lt head (ring_of kind d).size
     && is_some (used_spots regions (used_entry (ring_of kind d) head))
     then word_place regions (with_given tally) (ring_of kind d) else None
 

@@ -34,7 +34,7 @@ use Rattle.vb_monitor.specs.Notices.{entry_offset, fresh, with_chains, with_publ
 use Rattle.vb_monitor.specs.Machine.{next_chain, serves}
 use Rattle.vb_monitor.specs.Giving.{TellsThen, spent}
 
--- So many bytes of memory from an address on.
+-- n bytes of memory from an address on.
 abbrev pub bytes_from : (ℕ → ℕ) → ℕ → ℕ → List ℕ
 bytes_from byte a len = map byte (range_with_len a len)
 
@@ -104,15 +104,15 @@ head_in byte r =
     next_by (ahead (index_in byte r) r.next_avail) r.size IndexJump (entry_in byte r)
 
 -- A head is next, and this is the first rule that is broken on the way from it (VIRTIO 1.1, 2.6.5),
--- in memory of so many bytes.
+-- in memory of n bytes.
 pub record IsBrokenNext (byte : ℕ → ℕ) (end : ℕ) (r : Virtqueue) (fault : ChainFault) :
     Type 0 where
   pub head : ℕ
   pub is_next : head_in byte r ≡ Ok (Some head)
   pub gives : FaultGives (in_memory byte r.table) r.size end head fault
 
--- Memory of so many bytes has this next on a queue: no chain; the chain of a head, with its pieces;
--- or the rule that is broken.
+-- Memory of n bytes has this next on a queue: no chain; the chain of a head, with its pieces; or
+-- the rule that is broken.
 abbrev pub HasNext : (ℕ → ℕ) → ℕ → Virtqueue → Result (Option Taken) ChainFault → Type 0
 HasNext byte end r (Ok None) = head_in byte r ≡ Ok None
 HasNext byte end r (Ok (Some taken)) =

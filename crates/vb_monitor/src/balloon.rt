@@ -4,25 +4,23 @@ ghost use Rattle.std.specs.Prelude.{◌≡◌, Some, None, Ok, Err};
 ghost use Rattle.vb_status.specs.declared.bits.StatusFault.{StatusFault};
 ghost use Rattle.vb_core.specs.Statuses.{status_denial};
 ghost use Rattle.vb_monitor.specs.declared.balloon.Balloon.{Balloon};
-ghost use Rattle.vb_monitor.specs.Balloons.{may_look, held_head, held_after, after_status};
+ghost use Rattle.vb_monitor.specs.Balloons.{may_look, held_chain, held_after, after_status};
 ghost use Rattle.vb_monitor.specs.Balloons.{becomes_ready, may_tell};
 
-use crate::Outcome;
-use vb_core::{Device, Kind};
+use crate::{HeldChain, Outcome};
+use vb_core::{Device, Held, Kind};
 use vb_status::StatusFault;
 
 /// The bit of the status by which a driver says that it is ready (VIRTIO 1.1, 2.1).
 const DRIVER_OK: u8 = 4;
 
-/// A device, and the buffer of statistics that it holds: plain data, so that a copy of it saves
-/// the balloon.
+/// A device, and the chains that it holds: plain data, so that a copy of it saves the balloon.
 #[repr(C)]
 #[derive(Clone, Copy, Debug)]
 pub struct Balloon {
     pub device: Device,
-    /// 1 more than the head of the buffer of statistics that waits until it is asked for; 0 where
-    /// none does.
-    pub held: u32,
+    /// The chains that were taken, and wait until they are asked for.
+    pub held: Held,
 }
 
 /// Whether the driver may be told of a change of configuration, or of used buffers: DRIVER_OK is
@@ -34,47 +32,46 @@ pub fn may_tell(device: &Device) -> bool
 }
 
 impl Balloon {
-    /// The head of the buffer of statistics that is held, if one is; no descriptor's where `held`
-    /// is no such number.
-    pub fn held_head(&self) -> Option<u16>
-        ensures { result ≡ held_head self.now }
+    /// The chain that is held of a kind's queue, if one is; its head is no descriptor's where what
+    /// is held is no such number.
+    pub fn held_chain(&self, kind: Kind) -> Option<HeldChain>
+        ensures { result ≡ held_chain kind self.now.held }
     {
-        if self.held == 0 {
+        let held = self.held.of(kind);
+        if held == 0 {
             return None;
         }
-        Some((self.held - 1).min(65_535) as u16)
+        Some(HeldChain {
+            head: (held - 1).min(65_535) as u16,
+            pages: self.held.pages_of(kind),
+        })
     }
 
-    /// Whether a notice of this kind's queue may begin: not while its buffer of statistics is held.
+    /// Whether a notice of this kind's queue may begin: not while a chain of it is held.
     pub fn may_look(&self, kind: Kind) -> bool
         ensures { result ≡ may_look kind self.now }
     {
-        match kind {
-            Kind::Statistics => self.held == 0,
-            Kind::Inflate | Kind::Deflate | Kind::Report => true,
-        }
+        self.held.of(kind) == 0
     }
 
-    /// Notes what a notice of this kind's queue came to: the buffer of statistics that it took is
-    /// held, and the one that it gave back no longer is.
+    /// Notes what a notice of this kind's queue came to: the chain that it gave back is held no
+    /// longer, and the one that it took and didn't give back is.
     pub fn note(&mut self, kind: Kind, outcome: &Outcome)
         ensures { self.new ≡ record self.old { held = held_after kind outcome.now self.old } }
     {
-        if kind != Kind::Statistics {
+        if outcome.tally.given {
+            self.held.forget(kind);
             return;
         }
-        match outcome.tally.held {
-            Some(head) => self.held = u32::from(head) + 1,
-            None => {
-                if outcome.tally.given {
-                    self.held = 0;
-                }
+        if let Some(taken) = outcome.tally.held {
+            if self.held.of(kind) == 0 {
+                self.held.hold(kind, taken.head, taken.pages);
             }
         }
     }
 
     /// The driver writes the status: whether each queue is to be looked at now, since DRIVER_OK was
-    /// set (a driver may have filled a queue before). A reset forgets the held buffer, which is its
+    /// set (a driver may have filled a queue before). A reset forgets what is held, which is its
     /// guest's again.
     ///
     /// Refused as by `Device::write_status`, and then nothing is changed.
@@ -90,7 +87,7 @@ impl Balloon {
             Err(why) => Err(why),
             Ok(()) => {
                 if write == 0 {
-                    self.held = 0;
+                    self.held = Held::NOTHING;
                 }
                 Ok(before & DRIVER_OK == 0 && write & DRIVER_OK != 0)
             }

@@ -75,14 +75,14 @@ fn ask_part(
     }
 }
 
-/// The first bytes, so many.
+/// The first `count` bytes.
 pub(crate) fn first_bytes(bytes: &[u8; MAX_BYTES], count: usize) -> &[u8]
     ensures { result.now ≡ take count bytes.now }
 {
     &bytes[..count.min(MAX_BYTES)]
 }
 
-/// Copies the pieces from this number on, behind so many bytes that were copied.
+/// Copies the pieces from this number on, after the bytes that were copied.
 #[tactic(auto, using(crate::proofs::NextLemmas::copy_steps))]
 #[inline(always)]
 pub(crate) fn copy_on(
@@ -126,7 +126,7 @@ pub(crate) fn copy_on(
     }
 }
 
-/// Copies the second part of a piece, or what stands behind it.
+/// Copies the second part of a piece, or what comes after it.
 #[tactic(auto, using(crate::proofs::NextLemmas::second_steps))]
 fn copy_second(
     device: &mut Device,
@@ -169,7 +169,7 @@ fn copy_second(
     )
 }
 
-/// A part was copied behind the others.
+/// A part was copied after the others.
 #[tactic(auto, using(crate::proofs::NextLemmas::end_steps))]
 pub fn after_part(
     device: &mut Device,

@@ -10,7 +10,7 @@ ghost use Rattle.vb_monitor.specs.Accesses.{Access};
 ghost use Rattle.vb_monitor.specs.Regions.{cuts_of};
 ghost use Rattle.vb_core.specs.Config.{keeps_reports};
 ghost use Rattle.vb_monitor.specs.declared.regions.Region.{Region};
-ghost use Rattle.vb_monitor.specs.Giving.{cuts_for, is_kept, kept_pages, DiscardsThen};
+ghost use Rattle.vb_monitor.specs.Giving.{cuts_for, is_kept, kept_pages, DiscardsThen, OnceTold};
 ghost use Rattle.vb_monitor.specs.Served.{is_discarded};
 ghost use Rattle.vb_monitor.specs.Machine.{Fits, stage, Ahead, whole, room_of, next_chain};
 ghost use Rattle.vb_monitor.specs.Machine.{cuts_behind};
@@ -19,6 +19,7 @@ ghost use Rattle.vb_monitor.specs.declared.room.TheConstants.{MAX_RUNS};
 ghost use Rattle.std.specs.Prelude.{◌-◌, ◌*◌, ◌+◌, length};
 
 use crate::cuts::{cut_behind, first_cut};
+use crate::ends::end;
 use crate::giving::give_back;
 use crate::room::MAX_RUNS;
 use crate::step::Discarding;
@@ -117,7 +118,8 @@ fn discard_on(
     }
 }
 
-/// The pages of the first runs, so many, were told, and are discarded unless they are kept.
+/// The pages of the first runs, so many, were told, and are discarded unless they are kept; or the
+/// notice ends, since their chain is held.
 #[inline(always)]
 pub(crate) fn after_told(
     device: &mut Device,
@@ -132,7 +134,7 @@ pub(crate) fn after_told(
         (figures : List Statistic) (log : List Access) →
         Ahead (whole regions.now kind after outcome) result device.new
         (room_of pieces bytes runs.now figures) log →
-        DiscardsThen (whole regions.now kind after outcome)
+        OnceTold tally.held (whole regions.now kind after outcome)
         (next_chain (whole regions.now kind after outcome) tally) device.old tally head
         (cuts_for kind (is_kept kind tally.keeps (keeps_reports device.old)) regions.now
         (take count runs.now)) log }
@@ -141,6 +143,9 @@ pub(crate) fn after_told(
     ensures left { left regions.now result ≤
         of_chains regions.now tally.chains + (2 + MAX_RUNS * length regions.now) }
 {
+    if tally.held.is_some() {
+        return end(device, regions, kind, tally, None, false);
+    }
     if !discards(device, kind, tally.keeps) {
         return give_back(device, regions, kind, tally, head);
     }

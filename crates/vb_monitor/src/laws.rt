@@ -12,14 +12,16 @@ ghost use Rattle.vb_monitor.specs.declared.regions.Region.{Region};
 ghost use Rattle.vb_monitor.specs.declared.outcome.Budget.{Budget};
 ghost use Rattle.vb_monitor.specs.declared.outcome.Outcome.{Outcome};
 ghost use Rattle.vb_monitor.specs.Accesses.{Access};
-ghost use Rattle.vb_monitor.specs.Notices.{Serves, AsksStatistics};
+ghost use Rattle.vb_monitor.specs.Notices.{Serves, GivesHeldBack};
+ghost use Rattle.vb_monitor.specs.declared.outcome.HeldChain.{HeldChain};
+ghost use Rattle.vb_monitor.specs.Holding.{HoldsTold};
 ghost use Rattle.vb_core.specs.declared.runs.Run.{Run};
 ghost use Rattle.vb_monitor.specs.Regions.{cuts_of};
 ghost use Rattle.vb_monitor.specs.Touched.{Touches};
 ghost use Rattle.vb_monitor.specs.Counts.{others};
 ghost use Rattle.vb_monitor.specs.Order.{Row, MayFollow};
 ghost use Rattle.vb_monitor.specs.SoFar.{Each};
-ghost use Rattle.vb_monitor.specs.Asking.{GivesHeldAlone};
+ghost use Rattle.vb_monitor.specs.HeldBack.{GivesHeldAlone};
 ghost use Rattle.vb_monitor.specs.PartsOfRuns.{ArePartsOf};
 ghost use Rattle.vb_monitor.specs.declared.cuts.Cut.{Cut};
 ghost use Rattle.vb_monitor.specs.declared.large.Large.{Large};
@@ -116,6 +118,16 @@ pub fn only_used_elements_are_written()
         Each (WritesUsedAlone regions kind d1) [] log }
 {}
 
+/// In a queue whose chains are held nothing is written, and nothing discarded; a chain whose pages
+/// or figures are told is held once the notice has ended, with the number of its pages.
+#[tactic(auto, using(crate::proofs::TurnLaws::holds_told))]
+pub fn a_chain_that_is_told_is_held()
+    ensures { (regions : List Region) (kind : Kind) (budget : Budget) (d1 d2 : Device)
+        (outcome : Outcome) (log : List Access) →
+        Serves regions kind budget d1 d2 outcome log →
+        Each (HoldsTold kind d1.settings outcome) [] log }
+{}
+
 /// What is discarded of runs is whole pages of them, each part within one region, and at its place
 /// in that region's file.
 #[tactic(auto, using(crate::proofs::PartsOfRunLemmas::parts_of_runs))]
@@ -124,21 +136,23 @@ pub fn a_part_is_whole_pages_of_its_run()
         ArePartsOf regions runs (cuts_of regions runs) }
 {}
 
-/// To ask for new statistics the buffer that is held is given back, and nothing else is done: the
-/// next used element of their queue is written, with the buffer's head, and the index behind it,
-/// and then the driver's flags are read (VIRTIO 1.1, 5.5.6.3). Or nothing is done at all.
-#[tactic(auto, using(crate::proofs::AskingLemmas::gives_held))]
-pub fn asking_gives_the_buffer_back()
-    ensures { (regions : List Region) (head : ℕ) (d1 d2 : Device) (outcome : Outcome)
-        (log : List Access) →
-        AsksStatistics regions head d1 d2 outcome log → GivesHeldAlone regions head d1 log }
+/// A chain that is held is given back, and nothing else is done: the next used element of its queue
+/// is written, with the chain's head, and the index behind it, and then the driver's flags are read
+/// (VIRTIO 1.1, 5.5.6 and 5.5.6.3). Or nothing is done at all.
+#[tactic(auto, using(crate::proofs::HeldBackLemmas::gives_held))]
+pub fn a_held_chain_is_given_back_alone()
+    ensures { (regions : List Region) (kind : Kind) (held : HeldChain) (d1 d2 : Device)
+        (outcome : Outcome) (log : List Access) →
+        GivesHeldBack regions kind held d1 d2 outcome log →
+        GivesHeldAlone regions held.head (ring_of kind d1) log }
 {}
 
-/// To ask for new statistics takes 6 accesses at most.
-#[tactic(auto, using(crate::proofs::AskingLemmas::few_to_ask))]
-pub fn asking_makes_few_accesses()
-    ensures { (regions : List Region) (head : ℕ) (d1 d2 : Device) (outcome : Outcome)
-        (log : List Access) → AsksStatistics regions head d1 d2 outcome log → length log ≤ 6 }
+/// To give a held chain back takes 6 accesses at most.
+#[tactic(auto, using(crate::proofs::HeldBackLemmas::few_to_give))]
+pub fn giving_back_makes_few_accesses()
+    ensures { (regions : List Region) (kind : Kind) (held : HeldChain) (d1 d2 : Device)
+        (outcome : Outcome) (log : List Access) →
+        GivesHeldBack regions kind held d1 d2 outcome log → length log ≤ 6 }
 {}
 
 /// Of large pages just those go back to the machine that a part enters and all whose pages of 4096

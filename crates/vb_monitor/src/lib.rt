@@ -42,16 +42,17 @@ pub use giving::UsedSpots;
 pub use large::{LARGEST_PAGE, Large, large_pages};
 pub use laws::{
     a_chain_is_served_by_its_bytes, a_chain_that_is_given_back_leaves_its_queue_open,
-    a_notice_does_what_memory_says, a_notice_makes_few_accesses, a_notice_reports_what_memory_says,
+    a_chain_that_is_told_is_held, a_held_chain_is_given_back_alone, a_notice_does_what_memory_says,
+    a_notice_makes_few_accesses, a_notice_reports_what_memory_says,
     a_part_is_whole_pages_of_its_run, a_run_has_few_parts, accesses_come_in_their_order,
-    asking_gives_the_buffer_back, asking_makes_few_accesses, large_pages_go_once_they_are_given_up,
+    giving_back_makes_few_accesses, large_pages_go_once_they_are_given_up,
     memory_has_one_chain_next, nothing_outside_the_regions_is_touched,
     only_named_pages_are_discarded, only_used_elements_are_written, what_counts_is_read_once,
 };
 pub use memory::LiveMemory;
 pub use notice::Notice;
 pub use orders::{Asked, MAX_CUTS, Orders, Told, Used};
-pub use outcome::{Budget, Outcome, Tally};
+pub use outcome::{Budget, HeldChain, Outcome, Tally};
 pub use parts::Part;
 pub use placing::{RestoreDenial, are_memory, memory_end_of};
 pub use regions::{FILE_LIMIT, Region, Spot, find};

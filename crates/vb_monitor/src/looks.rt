@@ -179,20 +179,18 @@ pub(crate) fn after_entry(
     ask_first(device, regions, kind, tally, head)
 }
 
-/// A chain was given back: the next one comes, but of statistics.
+/// A chain was given back: the next one comes, but after one that was held.
 pub(crate) fn after_given(device: &mut Device, regions: &[Region], kind: Kind, tally: Tally) -> Step
     ensures step { (after : Device) (outcome : Outcome) (room : Room) (log : List Access) →
         Ahead (whole regions.now kind after outcome) result device.new room log →
-        AfterGiven kind (whole regions.now kind after outcome)
+        AfterGiven (whole regions.now kind after outcome)
         (ServesPublished tally.chains (whole regions.now kind after outcome)) device.old tally log }
     ensures fits { Fits result.phase }
     ensures stage { stage result.phase ≡ 3 }
     ensures left { left regions.now result ≤ of_chains regions.now tally.chains + 1 }
 {
-    match kind {
-        Kind::Statistics => end(device, regions, kind, tally, None, false),
-        Kind::Inflate | Kind::Deflate | Kind::Report => {
-            serve_published(device, regions, kind, tally)
-        }
+    match tally.held {
+        Some(_) => end(device, regions, kind, tally, None, false),
+        None => serve_published(device, regions, kind, tally),
     }
 }

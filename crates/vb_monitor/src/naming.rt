@@ -11,7 +11,7 @@ ghost use Rattle.vb_monitor.specs.Accesses.{Access};
 ghost use Rattle.vb_core.specs.Statistics.{statistics_denial};
 ghost use Rattle.vb_monitor.specs.declared.room.TheConstants.{MAX_FIGURES};
 ghost use Rattle.vb_monitor.specs.declared.step.Phase.TheVariants.{TellsPages};
-ghost use Rattle.vb_monitor.specs.Giving.{spent};
+ghost use Rattle.vb_monitor.specs.Giving.{with_named};
 ghost use Rattle.vb_core.specs.Pieces.{pieces_in};
 ghost use Rattle.vb_monitor.specs.Chains.{NamesBytes, NamesReport, FiguresBy, CopiesBy};
 ghost use Rattle.vb_monitor.specs.Machine.{Fits, Ahead, whole, room_of, next_chain, serves, served};
@@ -22,19 +22,27 @@ use crate::copying::copy_on;
 use crate::ends::{end, fail};
 use crate::pieces::{first_pieces, report_named, request_length, statistics_length};
 use crate::room::{MAX_BYTES, MAX_FIGURES, MAX_PIECES, MAX_RUNS};
-use crate::{Phase, Place, Region, Step, Tally};
-use vb_core::{ChainPiece, Device, Kind, Named, Run, Statistic};
+use crate::{HeldChain, Phase, Place, Region, Step, Tally};
+use vb_core::{ChainPiece, Device, Kind, Named, Run, Settings, Statistic};
 
-/// Tells the pages that were named.
+/// Tells the pages that were named, of a chain that is held, where the settings say so.
 #[inline(always)]
-fn tell_pages(tally: Tally, head: u16, named: Named) -> Step
-    ensures { result ≡
-        record { tally = spent named.pages tally; phase = TellsPages head named } }
+fn tell_pages(settings: &Settings, kind: Kind, tally: Tally, head: u16, named: Named) -> Step
+    ensures { result ≡ record {
+      tally = with_named kind settings.now head named.pages tally;
+      phase = TellsPages head named;
+    } }
 {
-    let tally = Tally {
+    let mut tally = Tally {
         pages: tally.pages.saturating_sub(named.pages),
         ..tally
     };
+    if settings.holds_chains(kind) {
+        tally.held = Some(HeldChain {
+            head,
+            pages: named.pages,
+        });
+    }
     Step {
         tally,
         phase: Phase::TellsPages { head, named },
@@ -66,7 +74,7 @@ fn name_bytes(
 {
     match device.name(kind, bytes, runs) {
         Err(why) => end(device, regions, kind, tally, Some(why), false),
-        Ok(named) => tell_pages(tally, head, named),
+        Ok(named) => tell_pages(&device.settings, kind, tally, head, named),
     }
 }
 
@@ -95,7 +103,7 @@ fn name_report(
 {
     match report_named(device, chain, runs) {
         Err(why) => end(device, regions, kind, tally, Some(why), false),
-        Ok(named) => tell_pages(tally, head, named),
+        Ok(named) => tell_pages(&device.settings, kind, tally, head, named),
     }
 }
 
@@ -122,7 +130,7 @@ fn keep_figures(
         Err(why) => end(device, regions, kind, tally, Some(why), false),
         Ok(count) => Step {
             tally: Tally {
-                held: Some(head),
+                held: Some(HeldChain { head, pages: 0 }),
                 ..tally
             },
             phase: Phase::TellsFigures { head, count },

@@ -1,13 +1,12 @@
 //! A notice as plain data, for a caller that makes the accesses itself.
 
 ghost use Rattle.std.specs.Prelude.{◌≡◌, ◌++◌, ℕ, List};
-ghost use Rattle.vb_core.specs.declared.kinds.Kind.TheVariants.{Statistics};
 ghost use Rattle.vb_core.specs.declared.runs.Run.{Run};
 ghost use Rattle.vb_core.specs.declared.statistics.Statistic.{Statistic};
 ghost use Rattle.vb_core.specs.declared.device.Device.{Device};
 ghost use Rattle.vb_monitor.specs.declared.outcome.Outcome.{Outcome};
 ghost use Rattle.vb_monitor.specs.Accesses.{Access};
-ghost use Rattle.vb_monitor.specs.Notices.{Serves, AsksStatistics};
+ghost use Rattle.vb_monitor.specs.Notices.{Serves, GivesHeldBack};
 ghost use Rattle.vb_monitor.specs.Machine.{Fits, is_ended, Room, Ahead, Does, whole};
 ghost use Rattle.vb_monitor.specs.Machine.{room_of, outcome_at, is_discarding, Awaited};
 ghost use Rattle.vb_monitor.specs.Left.{left};
@@ -20,7 +19,7 @@ use crate::giving::give_back;
 use crate::looks::{after_entry, after_given, after_index, look};
 use crate::room::{MAX_BYTES, MAX_FIGURES, MAX_PIECES, MAX_RUNS};
 use crate::walk::after_descriptor;
-use crate::{Budget, Outcome, Phase, Region, Step, Tally};
+use crate::{Budget, HeldChain, Outcome, Phase, Region, Step, Tally};
 use vb_core::{ChainPiece, Device, Kind, Run, Statistic};
 
 /// A notice: whose queue it is of, and what is to be done next.
@@ -87,7 +86,7 @@ fn advance(
 
 impl Notice {
     /// The driver kicked the queue of this kind, or may have: it is served as far as the budget
-    /// has room. Not for the queue of statistics while its buffer is held.
+    /// has room. Not for a queue of which a chain is held.
     pub fn begin(device: &mut Device, regions: &[Region], kind: Kind, budget: Budget) -> Notice
         ensures kind { result.kind ≡ kind }
         ensures step { (after : Device) (outcome : Outcome) (room : Room) (log : List Access) →
@@ -107,13 +106,13 @@ impl Notice {
         Notice { kind, step }
     }
 
-    /// New statistics are asked for: the buffer that is held, of this head, is given back (VIRTIO
-    /// 1.1, 5.5.6.3).
-    pub fn ask_statistics(device: &mut Device, regions: &[Region], head: u16) -> Notice
-        ensures kind { result.kind ≡ Statistics }
+    /// A chain that is held of a kind's queue is given back: new statistics are asked for by it
+    /// (VIRTIO 1.1, 5.5.6.3), or a deflate is granted (5.5.6).
+    pub fn give_held(device: &mut Device, regions: &[Region], kind: Kind, held: HeldChain) -> Notice
+        ensures kind { result.kind ≡ kind }
         ensures step { (after : Device) (outcome : Outcome) (room : Room) (log : List Access) →
-            Ahead (whole regions.now Statistics after outcome) result.step device.new room log →
-            AsksStatistics regions.now head device.old after outcome log }
+            Ahead (whole regions.now kind after outcome) result.step device.new room log →
+            GivesHeldBack regions.now kind held device.old after outcome log }
         ensures fits { Fits result.step.phase }
     {
         let tally = Tally {
@@ -121,14 +120,11 @@ impl Notice {
             pages: 0,
             keeps: false,
             given: false,
-            held: None,
+            held: Some(held),
             published: 0,
         };
-        let step = give_back(device, regions, Kind::Statistics, tally, head);
-        Notice {
-            kind: Kind::Statistics,
-            step,
-        }
+        let step = give_back(device, regions, kind, tally, held.head);
+        Notice { kind, step }
     }
 
     /// Goes on, once what was to be done was done, with this answer. The room is as the call before

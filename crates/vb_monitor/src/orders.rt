@@ -48,7 +48,7 @@ pub struct Used {
     pub id: u32,
     /// How many bytes were written to the chain.
     pub length: u32,
-    /// The index behind the element.
+    /// The index after the element.
     pub index: u16,
 }
 

@@ -14,6 +14,15 @@ pub struct Budget {
     pub keeps: bool,
 }
 
+/// A chain that was taken, and isn't given back until it is asked for.
+#[derive(Clone, Copy, Debug)]
+pub struct HeldChain {
+    /// The number of its first descriptor.
+    pub head: u16,
+    /// How many pages it names; none of statistics.
+    pub pages: u32,
+}
+
 /// What a notice may serve yet, and what it did.
 #[derive(Clone, Copy, Debug)]
 pub struct Tally {
@@ -25,8 +34,8 @@ pub struct Tally {
     pub keeps: bool,
     /// A chain was given back.
     pub given: bool,
-    /// The head of the buffer of statistics that was taken, and is held until it is asked for.
-    pub held: Option<u16>,
+    /// The chain that was taken and is held; or the one that was held, and is asked for.
+    pub held: Option<HeldChain>,
     /// The available index, once it was read: the chains before it may be taken. 0 until then.
     pub published: u16,
 }

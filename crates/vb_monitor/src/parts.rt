@@ -14,7 +14,7 @@ use vb_core::ChainPiece;
 pub struct Part {
     /// Where the piece begins.
     pub address: u64,
-    /// So many bytes behind that the part begins.
+    /// How many bytes after that the part begins.
     pub plus: u32,
     /// How many bytes it has.
     pub length: u32,
@@ -32,7 +32,7 @@ pub(crate) fn first_part(piece: &ChainPiece) -> Part
     }
 }
 
-/// Its bytes behind that page.
+/// Its bytes after that page.
 pub(crate) fn second_part(piece: &ChainPiece) -> Part
     ensures { result ≡ second_part (piece_in piece.now) }
 {

@@ -1,4 +1,4 @@
-//! The pieces of a chain, as they stand in the room for them.
+//! The pieces of a chain, as they are in the room for them.
 
 ghost use Rattle.std.specs.Prelude.{◌≡◌, ◌+◌, ◌<◌, ◌≤◌, ◌++◌, ◌∷◌, [], ◌==◌, not, length};
 ghost use Rattle.std.specs.Prelude.{take, sum_by};
@@ -15,7 +15,7 @@ use vb_chain::{ChainFault, Descriptor};
 use vb_core::{ChainPiece, Denial, Device, Kind, Named, Run};
 use vb_request::{is_request_length, is_statistics_length};
 
-/// The first pieces, so many.
+/// The first `count` pieces.
 pub(crate) fn first_pieces(pieces: &[ChainPiece; MAX_PIECES], count: u16) -> &[ChainPiece]
     ensures { result.now ≡ take count pieces.now }
 {
@@ -33,7 +33,7 @@ pub(crate) fn buffer_of(descriptor: &Descriptor) -> ChainPiece
     }
 }
 
-/// Puts what a descriptor says of its buffer behind the first pieces, so many.
+/// Puts what a descriptor says of its buffer after the first `count` pieces.
 #[tactic(auto, using(crate::proofs::BufferLemmas::join_at))]
 pub(crate) fn push_piece(pieces: &mut [ChainPiece; MAX_PIECES], count: u16, descriptor: &Descriptor)
     requires { count < MAX_QUEUE_SIZE }

@@ -14,7 +14,7 @@ ghost use Rattle.vb_monitor.specs.Places.{balloon_over, ending_with, may_be_memo
 use crate::regions::{PAGE_BYTES, find};
 use crate::{Balloon, Region};
 use vb_chain::DESCRIPTOR_SIZE;
-use vb_core::{Denial, Device, Kind, MEMORY_LIMIT, Saved, Settings, StateDenial, Virtqueue};
+use vb_core::{Denial, Device, Held, Kind, MEMORY_LIMIT, Saved, Settings, StateDenial, Virtqueue};
 use vb_ring::{AVAIL_ENTRY_SIZE, RING_META_SIZE, USED_ELEMENT_SIZE};
 
 /// Why a balloon isn't restored over regions.
@@ -141,7 +141,7 @@ impl Balloon {
         }
         Some(Balloon {
             device: Device::new(settings),
-            held: 0,
+            held: Held::NOTHING,
         })
     }
 

@@ -53,7 +53,7 @@ fn is_writing(writing: bool, descriptor: &Descriptor) -> bool
     writing || descriptor.is_writable()
 }
 
-/// The first rule that a descriptor of a table of so many breaks, after `visited` others.
+/// The first rule that a descriptor of a table of `size` breaks, after `visited` others.
 pub(crate) fn ring_fault(
     size: u16,
     end: u64,
@@ -77,7 +77,7 @@ pub(crate) fn row_bytes(walk: &Walk) -> usize
     DESCRIPTOR_SIZE * (usize::from(walk.behind) + 1)
 }
 
-/// Where the bytes of a descriptor stand in a row, if the row has it.
+/// Where the bytes of a descriptor are in a row, if the row has it.
 fn place_in_row(first: u16, row: &[u8], number: u16) -> Option<usize>
     ensures place { MatchOption result (in_row (row_of first row.now) number ≡ None)
         (λ into. in_row (row_of first row.now) number ≡
@@ -108,7 +108,7 @@ pub(crate) enum RowEnd {
 /// How far the walk within a row goes.
 #[derive(Clone, Copy, Debug)]
 pub(crate) struct RowWalk {
-    /// How many pieces stand in the room for them.
+    /// How many pieces are in the room for them.
     pub(crate) count: u16,
     /// One of them is the device's to write.
     pub(crate) writing: bool,

@@ -22,7 +22,7 @@ ghost use Rattle.vb_monitor.specs.Orders.{cuts_left, giving};
 ghost use Rattle.vb_monitor.specs.Pieces.{all_parts};
 ghost use Rattle.vb_core.specs.Pieces.{pieces_in};
 ghost use Rattle.vb_monitor.specs.Machine.{behind_part};
-ghost use Rattle.vb_monitor.specs.Served.{word_behind, is_last, none_left, goes_on};
+ghost use Rattle.vb_monitor.specs.Served.{word_behind, is_last, none_left};
 ghost use Rattle.vb_monitor.specs.Served.{few_parts};
 ghost use Rattle.vb_monitor.specs.Usual.{phase_at, tally_at};
 
@@ -72,16 +72,6 @@ pub fn is_last(place: &Place, pieces: &[ChainPiece; MAX_PIECES]) -> bool
         return true;
     }
     none_behind(chain, place.piece, place.is_second)
-}
-
-/// Whether a queue of this kind goes on with its next chain once one was given back.
-fn goes_on(kind: Kind) -> bool
-    ensures { result ≡ goes_on kind }
-{
-    match kind {
-        Kind::Inflate | Kind::Deflate | Kind::Report => true,
-        Kind::Statistics => false,
-    }
 }
 
 /// Names the pages of a request, whose bytes are the first ones, so many.
@@ -166,7 +156,7 @@ pub fn fill_few(
 }
 
 /// Gives the chain of this head back, of a queue that is served, and says which word is read next;
-/// nothing is changed where none is, or a part of it is no guest memory.
+/// nothing is changed where none is, a part of it is no guest memory, or a chain is held.
 #[inline(always)]
 pub fn give_and_go(
     device: &mut Device,
@@ -187,7 +177,7 @@ pub fn give_and_go(
         (giving true used.new ++ rest)) }
     ensures stays { result ≡ None → device.new ≡ device.old }
 {
-    if !goes_on(kind) {
+    if tally.held.is_some() {
         return None;
     }
     if head >= device.ring(kind).size {

@@ -17,7 +17,7 @@ use crate::rows::row_bytes;
 use crate::{Budget, LiveMemory, Notice, Outcome, Phase, Region, Spot, UsedSpots};
 use vb_core::{ChainPiece, Device, Kind, Run, Statistic, UsedEntry};
 
-/// Copies so many bytes behind the first ones, so many.
+/// Copies `length` bytes after the first `from` ones.
 fn copy_bytes<M: LiveMemory>(
     memory: &mut M,
     at: Spot,
@@ -32,7 +32,7 @@ fn copy_bytes<M: LiveMemory>(
     memory.copy(at, &mut bytes[from..from + length]);
 }
 
-/// Writes a used element, and behind it the index.
+/// Writes a used element, and after it the index.
 fn write_used<M: LiveMemory>(memory: &mut M, spots: UsedSpots, entry: UsedEntry)
     ensures { Steps M.goes memory.old (used_accesses spots entry) memory.new }
 {
@@ -121,7 +121,7 @@ impl Notice {
         self.next(device, regions, answer, pieces, bytes, runs, figures);
     }
 
-    /// The same until the notice has ended, at most so many times; says whether it has.
+    /// Makes steps until the notice has ended, at most `times`; says whether it has.
     #[tactic(auto, using(crate::proofs::StepLemmas::on_steps))]
     pub fn serve_steps<M: LiveMemory>(
         &mut self,
@@ -152,7 +152,7 @@ impl Notice {
         self.is_ended()
     }
 
-    /// The same until the notice has ended; says what it came to.
+    /// Makes steps until the notice has ended; says what it came to.
     pub fn serve_all<M: LiveMemory>(
         &mut self,
         memory: &mut M,

@@ -1,4 +1,4 @@
-//! Requests of one piece, as drivers mostly send them: where the next bytes are, which is all that
+//! Requests of one piece, as drivers usually send them: where the next bytes are, which is all that
 //! is new.
 
 ghost use Rattle.std.specs.Prelude.{◌≡◌, ◌+◌, ◌-◌, List, None, IfSome, take};
@@ -71,7 +71,7 @@ pub struct FirstPart {
 }
 
 /// Where the first part of a request is copied from, once its only descriptor was that breaks no
-/// rule; that one's piece stands alone then. Else the pieces stay.
+/// rule; that one's piece is alone then. Else the pieces stay.
 #[tactic(auto, using(crate::proofs::SingleLemmas::single_goes))]
 pub fn first_of_single(
     device: &Device,

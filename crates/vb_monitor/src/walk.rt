@@ -41,7 +41,7 @@ pub(crate) fn memory_end(device: &Device) -> u64
     PAGE_BYTES * (device.settings.memory_end / PAGE_BYTES)
 }
 
-/// Asks for a row: of the descriptors behind its first one, unless they lie apart from it.
+/// Asks for a row: of the descriptors after its first one, unless they lie apart from it.
 #[tactic(auto, using(crate::proofs::TableRowLemmas::row_steps))]
 fn ask_row(device: &mut Device, regions: &[Region], kind: Kind, tally: Tally, walk: Walk) -> Step
     requires { walk.behind < ROW_DESCRIPTORS }

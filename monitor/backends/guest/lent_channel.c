@@ -81,7 +81,7 @@ void lent_note(struct lent *lent)
 static int ask(struct lent *lent)
 {
     struct backend *backend = &lent->backend;
-    if (!backend_is_ready(backend) || !backend->balloon.state.held)
+    if (!backend_is_ready(backend) || !backend->balloon.state.held.statistics)
         return 0;
     struct balloon_result result = balloon_ask_statistics(&backend->balloon);
     return backend_finish(backend, VB_STATISTICS, &result) ? 1 : -1;

@@ -31,7 +31,7 @@ bool state_load(struct backend *backend)
     const char *path = backend->options->state;
     VbDevice device = backend->balloon.state.device;
     uint8_t bytes[VB_STATE_BYTES + 1];
-    uint32_t held = 0;
+    VbHeld held = { 0, 0, 0 };
     int file = path ? open_state(path) : -1;
     if (file < 0)
         return !path || errno == ENOENT || refuse("%s: %s", path, strerror(errno));

@@ -47,8 +47,8 @@ void folder_take_over(struct host *host)
     if (!folder)
         return;
     for (struct dirent *it; (it = readdir(folder));) {
-        const char *name = it->d_name[0] == LATER_MARK ? it->d_name + 1 : it->d_name;
-        if (!is_name(name) || seat_of(host, name) || !is_socket(folder, it->d_name))
+        const char *name = it->d_name + 1;
+        if (it->d_name[0] != LATER_MARK || !is_name(name) || seat_of(host, name) || !is_socket(folder, it->d_name))
             continue;
         const char *fault = seat_add(host, name, &terms);
         if (fault)

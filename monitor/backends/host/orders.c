@@ -52,7 +52,8 @@ void seat_step(struct seat *seat, int64_t milliseconds)
 {
     uint32_t left = seat->target - seat->told;
     if (goes_by_steps(seat)) {
-        uint64_t step = (uint64_t)seat->pages * (uint64_t)milliseconds / (UINT64_C(1000) * seat->host->step) + 1;
+        uint64_t step = (uint64_t)seat->pages * (uint64_t)milliseconds / (UINT64_C(1000) * seat->host->step);
+        step = step > 0 ? step : 1;
         seat->told += step < left ? (uint32_t)step : left;
         tell_target(seat);
     } else if (seat->told != seat->target || seat->report.target != seat->told) {

@@ -74,13 +74,13 @@ static void take_report(struct seat *seat, const struct lending_message *message
     if (seat->adopts)
         adopt(seat);
     note_wait(seat);
-    take_note(seat);
-    if (message->waits == WAIT_ROOM) {
-        answer_arrival(seat);
-    } else if (message->pages != seat->pages) {
+    if (message->waits != WAIT_ROOM && message->pages != seat->pages) {
         seat->pages = message->pages;
         host_changed(seat->host, BY_GUESTS);
     }
+    take_note(seat);
+    if (message->waits == WAIT_ROOM)
+        answer_arrival(seat);
 }
 
 /* Its client has gone, and its memory with it. */

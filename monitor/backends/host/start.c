@@ -137,8 +137,15 @@ void seat_start(struct seat *seat)
     if (seat->channel >= 0)
         file_close(seat->channel);
     seat->channel = -1;
-    remove_socket(seat->later_path);
     rest(seat, why);
+}
+
+/* Leaves a socket in the folder by which a later lender knows the seat, though nobody is there. */
+static void mark_seat(const struct seat *seat)
+{
+    int listener = listen_later(seat->later_path);
+    if (listener >= 0)
+        file_close(listener);
 }
 
 /* Connects to a process that an earlier lender has started; -1 where there is none. */
@@ -162,7 +169,7 @@ void seat_take_over(struct seat *seat)
     if (!known) {
         if (channel >= 0)
             file_close(channel);
-        remove_socket(seat->later_path);
+        mark_seat(seat);
         return;
     }
     seat_clear(seat);
@@ -210,7 +217,5 @@ void seat_ended(struct seat *seat)
     seat->process_file = seat->channel = -1;
     seat->process = 0;
     seat->here = false;
-    if (seat->listener >= 0)
-        remove_socket(seat->later_path);
     seat_clear(seat);
 }

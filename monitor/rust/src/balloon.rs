@@ -20,6 +20,8 @@ pub struct Balloon {
     /// The set of the pages in the balloon, where it has words: page p is bit p % 64 of word p / 64. Make it of zeros, for all
     /// pages ([`Balloon::words_of_set`]), before DRIVER_OK; a reset empties it. Save it beside the state.
     pub ballooned: Vec<u64>,
+    /// The pages of the deflate that is held, which leave the set once it is granted. Save them beside the set.
+    pub held_runs: Vec<raw::Run>,
 }
 
 impl Balloon {
@@ -34,6 +36,7 @@ impl Balloon {
             reserved_pages: settings.reserved_pages,
             needs_must_tell: settings.needs_must_tell.into(),
             skips_bad_pages: settings.skips_bad_pages.into(),
+            holds_deflates: settings.holds_deflates.into(),
         };
         let mut balloon = Balloon::restore(State(raw::Balloon::default()));
         let (state, regions) = balloon.look_at(memory);
@@ -55,6 +58,7 @@ impl Balloon {
             most_pages: u32::MAX,
             keeps_pages: false,
             ballooned: Vec::new(),
+            held_runs: Vec::new(),
         }
     }
 
@@ -205,7 +209,7 @@ impl Balloon {
     }
 
     /// Starts a queue at an index, in place of what it was before, from FEATURES_OK on: the chains before the index were given
-    /// back, and none is taken. With the queue of statistics, the held buffer is forgotten.
+    /// back, and none is taken. What is held of it is forgotten.
     ///
     /// # Errors
     /// As vb_start_queue; nothing is changed.
@@ -219,7 +223,7 @@ impl Balloon {
     }
 
     /// Stops a queue, at any status, which has no place any longer: the index at which it was, where a chain that was taken and
-    /// not given back is available again. With the queue of statistics, the held buffer is forgotten.
+    /// not given back, as one that is held, is available again. What is held of it is forgotten.
     ///
     /// # Errors
     /// `Misplaced` where it has no place; nothing is changed.
@@ -232,10 +236,21 @@ impl Balloon {
         }
     }
 
-    /// Forgets the buffer of statistics that is held, which isn't given back; whether one was.
-    pub fn forget_held(&mut self) -> bool {
+    /// Forgets the chain that is held of this queue, which isn't given back; whether one was. The pages of a deflate stay in the
+    /// set.
+    pub fn forget_held(&mut self, kind: Kind) -> bool {
         // SAFETY: the pointer is of a `&mut`.
-        unsafe { raw::vb_forget_held(&mut self.state.0) == raw::OK }
+        unsafe { raw::vb_forget_held(&mut self.state.0, kind as u32) == raw::OK }
+    }
+
+    /// How many pages the deflate names that is held, if one is.
+    pub fn held_deflate(&self) -> Option<u32> {
+        let mut pages = 0;
+        // SAFETY: the pointers are of a `&` and of a `&mut`.
+        match unsafe { raw::vb_held(&self.state.0, raw::DEFLATE, &mut pages) } {
+            raw::OK => Some(pages),
+            _ => None,
+        }
     }
 
     /// The driver reads its configuration space.
@@ -276,15 +291,36 @@ impl Balloon {
     /// notice. No chain is served where the driver has the buffer.
     pub fn ask_statistics(&mut self, memory: &dyn LiveMemory) -> Served {
         memory.regions(&mut self.regions);
-        raw::ask(&mut self.notice, &mut self.state.0, &self.regions, &mut self.room);
+        raw::give_held(&mut self.notice, &mut self.state.0, &self.regions, &mut self.room, raw::STATISTICS);
         self.finish(memory, &mut ())
+    }
+
+    /// Grants the deflate that is held (VIRTIO 1.1, 5.5.6): the set loses its pages (`marked`), and then its chain is given back.
+    /// No chain is served where none is held; `BadArgument` where `held_runs` aren't of so many pages as it names, and then nothing
+    /// is changed. Notify the queue again then, as its kicks did nothing meanwhile.
+    pub fn give_deflate(&mut self, memory: &dyn LiveMemory) -> Served {
+        let named = match self.held_deflate() {
+            None => return Served::default(),
+            Some(named) => named,
+        };
+        if self.held_runs.iter().map(|run| u64::from(run.count)).sum::<u64>() != u64::from(named) {
+            return Served { stopped: Some(Refusal::BadArgument), ..Served::default() };
+        }
+        let mut marked = raw::Marked { code: raw::OK, pages: 0 };
+        if !self.ballooned.is_empty() {
+            marked = raw::mark(raw::DEFLATE, &self.held_runs, &mut self.ballooned);
+        }
+        memory.regions(&mut self.regions);
+        raw::give_held(&mut self.notice, &mut self.state.0, &self.regions, &mut self.room, raw::DEFLATE);
+        let unmarked = if marked.code == raw::BAD_ARGUMENT { named.into() } else { 0 };
+        Served { marked: marked.pages, unmarked, ..self.finish(memory, &mut ()) }
     }
 
     /// Obeys a notice that has begun; what it came to.
     fn finish(&mut self, memory: &dyn LiveMemory, monitor: &mut dyn Monitor) -> Served {
-        let Balloon { state, regions, notice, room, ballooned, .. } = self;
+        let Balloon { state, regions, notice, room, ballooned, held_runs, .. } = self;
         let balloon = &mut state.0;
-        let mut hands = Hands { memory, monitor, ballooned, balloon, regions, served: Served::default() };
+        let mut hands = Hands { memory, monitor, ballooned, held_runs, balloon, regions, served: Served::default() };
         let obeyed = hands.obey(notice, room);
         let mut served = hands.served;
         if notice.kind != Kind::Deflate as u32 {
@@ -301,6 +337,8 @@ impl Balloon {
         served.interrupts = notice.interrupt << (notice.kind & 3);
         served.configuration = notice.configuration != 0;
         served.more = notice.more != 0;
+        let holds = notice.taken != 0 && notice.given == 0 && notice.code == raw::OK && notice.kind == raw::DEFLATE;
+        served.held = holds.then(|| notice.taken_pages);
         served
     }
 

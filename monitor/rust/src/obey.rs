@@ -153,19 +153,24 @@ pub(crate) struct Hands<'a> {
     pub monitor: &'a mut dyn Monitor,
     /// The set of the pages in the balloon; empty where none is kept.
     pub ballooned: &'a mut [u64],
+    /// The pages of the deflate that is held.
+    pub held_runs: &'a mut Vec<Run>,
     pub balloon: &'a mut raw::Balloon,
     pub regions: &'a [Region],
     pub served: Served,
 }
 
 impl Hands<'_> {
-    /// Tells the pages that are named, and keeps the set of those in the balloon.
+    /// Tells the pages that are named, and keeps the set of those in the balloon: those of a deflate that is held stay in it.
     fn tell_pages(&mut self, notice: &Notice, room: &Room) {
         let runs = &room.runs[..notice.runs as usize];
         self.served.pages += u64::from(notice.pages);
         self.served.skipped += u64::from(notice.skipped);
         self.served.kept += u64::from(notice.kept);
-        if !self.ballooned.is_empty() {
+        if notice.taken != 0 {
+            self.held_runs.clear();
+            self.held_runs.extend_from_slice(runs);
+        } else if !self.ballooned.is_empty() {
             let marked = raw::mark(notice.kind, runs, self.ballooned);
             self.served.marked += marked.pages;
             self.served.unmarked += if marked.code == raw::BAD_ARGUMENT { u64::from(notice.pages) } else { 0 };

@@ -14,8 +14,8 @@ pub const VERSION: u32 = 0x00_0100;
 
 extern "C" {
     pub fn vb_version() -> u32;
-    pub fn vb_save(device: *const Device, held: u32, out: *mut u8, room: usize) -> u32;
-    pub fn vb_restore(device: *mut Device, held: *mut u32, bytes: *const u8, length: usize) -> u32;
+    pub fn vb_save(device: *const Device, held: Held, out: *mut u8, room: usize) -> u32;
+    pub fn vb_restore(device: *mut Device, held: *mut Held, bytes: *const u8, length: usize) -> u32;
     pub fn vb_set_target(device: *mut Device, pages: u32);
     pub fn vb_negotiate(device: *mut Device, features: u64) -> u32;
     pub fn vb_kind(device: *const Device, number: u32) -> u32;
@@ -55,7 +55,8 @@ extern "C" {
         at: QueueStart,
     ) -> u32;
     pub fn vb_stop_queue(balloon: *mut Balloon, kind: u32, next: *mut u16) -> u32;
-    pub fn vb_forget_held(balloon: *mut Balloon) -> u32;
+    pub fn vb_forget_held(balloon: *mut Balloon, kind: u32) -> u32;
+    pub fn vb_held(balloon: *const Balloon, kind: u32, pages: *mut u32) -> u32;
     pub fn vb_restore_over(
         balloon: *mut Balloon,
         regions: *const Region,
@@ -75,12 +76,13 @@ extern "C" {
         pages: u32,
         keeps: u32,
     ) -> u32;
-    fn vb_ask(
+    fn vb_give_held(
         notice: *mut Notice,
         balloon: *mut Balloon,
         regions: *const Region,
         count: usize,
         room: *mut Room,
+        kind: u32,
     ) -> u32;
     fn vb_go_on(
         notice: *mut Notice,
@@ -132,10 +134,10 @@ pub fn begin(
     unsafe { vb_begin(notice, balloon, regions.as_ptr(), regions.len(), room, kind, chains, pages, keeps.into()) };
 }
 
-/// Begins to give the held buffer of statistics back.
-pub fn ask(notice: &mut Notice, balloon: &mut Balloon, regions: &[Region], room: &mut Room) {
+/// Begins to give the chain back that is held of this queue.
+pub fn give_held(notice: &mut Notice, balloon: &mut Balloon, regions: &[Region], room: &mut Room, kind: u32) {
     // SAFETY: the pointers are of `&mut`, and of a slice with its length.
-    unsafe { vb_ask(notice, balloon, regions.as_ptr(), regions.len(), room) };
+    unsafe { vb_give_held(notice, balloon, regions.as_ptr(), regions.len(), room, kind) };
 }
 
 /// Says what is to be done next.

@@ -15,6 +15,8 @@ pub struct Served {
     pub configuration: bool,
     /// As much was served as a notice may, and more is available: call again, later.
     pub more: bool,
+    /// A deflate is held now, which names so many pages ([`Balloon::give_deflate`](crate::Balloon::give_deflate) grants it).
+    pub held: Option<u32>,
     /// Pages that inflates, deflates and reports named.
     pub pages: u64,
     /// Of these, discarded.
@@ -48,6 +50,7 @@ impl Served {
         self.interrupts |= other.interrupts;
         self.configuration |= other.configuration;
         self.more |= other.more;
+        self.held = other.held.or(self.held);
         self.pages += other.pages;
         self.discarded += other.discarded;
         self.waiting += other.waiting;

@@ -46,6 +46,9 @@ pub struct Settings {
     pub reserved_pages: u32,
     pub needs_must_tell: bool,
     pub skips_bad_pages: bool,
+    /// A deflate waits until it is granted ([`Balloon::give_deflate`](crate::Balloon::give_deflate)); ask for
+    /// `needs_must_tell` with it.
+    pub holds_deflates: bool,
 }
 
 /// Why a call is refused.

@@ -9,7 +9,7 @@ enum { ARENA = 16 * 4096 };
 extern uint64_t answers[VB_BAD_ARGUMENT + 1];   /* how often each code came */
 extern uint64_t went;                           /* how often large pages did */
 
-/* By chance. Each of three lists ends where nothing is mapped. */
+/* At random. Each of three lists ends where nothing is mapped. */
 uint64_t any(void);
 bool once_in(uint32_t times);
 uint64_t any_number(void);

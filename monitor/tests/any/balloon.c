@@ -3,13 +3,21 @@
 
 static VbBalloon any_balloon(void)
 {
-    VbBalloon balloon = { .device = any_device(), .held = once_in(2) ? 0 : (uint32_t)any_number() };
+    VbBalloon balloon = { .device = any_device() };
+    balloon.held.statistics = once_in(2) ? 0 : (uint32_t)any_number();
+    balloon.held.deflate = once_in(2) ? 0 : (uint32_t)any_number();
+    balloon.held.pages = once_in(2) ? 0 : (uint32_t)any_number();
     return balloon;
+}
+
+static bool same_held(const VbHeld *one, const VbHeld *other)
+{
+    return one->statistics == other->statistics && one->deflate == other->deflate && one->pages == other->pages;
 }
 
 static bool same_balloon(const VbBalloon *one, const VbBalloon *other)
 {
-    return same(&one->device, &other->device) && one->held == other->held;
+    return same(&one->device, &other->device) && same_held(&one->held, &other->held);
 }
 
 /* A start, a stop and a forgotten buffer, as the plain ones; a refusal leaves all as it was. */
@@ -28,7 +36,10 @@ static void call_queues(VbBalloon *balloon, VbBalloon *twin, const VbRegion *reg
     answers[code]++;
     code = vb_stop_queue(balloon, kind, &next);
     EXPECT(code == reference_stop_queue(twin, kind, &why) && next == why && same_balloon(balloon, twin));
-    EXPECT(once_in(2) || (vb_forget_held(balloon) == reference_forget_held(twin) && same_balloon(balloon, twin)));
+    uint32_t pages = 7, other = 8;
+    kind = once_in(2) ? kind : any() % 4;
+    EXPECT(vb_held(balloon, kind, &pages) == reference_held(twin, kind, &other) && pages == other);
+    EXPECT(once_in(2) || (vb_forget_held(balloon, kind) == reference_forget_held(twin, kind) && same_balloon(balloon, twin)));
     EXPECT(vb_kind_of(start.table, kind) == reference_kind_of(start.table, kind));
 }
 

@@ -54,7 +54,7 @@ uint32_t vb_begin(VbNotice *notice, VbBalloon *of, const VbRegion *places, size_
     return any_notice(notice, of, places, count, room);
 }
 
-uint32_t vb_ask(VbNotice *notice, VbBalloon *of, const VbRegion *places, size_t count, VbRoom *room)
+uint32_t vb_give_held(VbNotice *notice, VbBalloon *of, const VbRegion *places, size_t count, VbRoom *room, uint32_t kind)
 {
     return any_notice(notice, of, places, count, room);
 }
@@ -67,7 +67,7 @@ uint32_t vb_go_on(VbNotice *notice, VbBalloon *of, const VbRegion *places, size_
 VbMarked vb_mark(uint32_t kind, const VbRun *runs, size_t count, uint64_t *set, size_t set_words)
 {
     //@ assert the_set: set == (uint64_t *)words && set_words == WORDS;
-    //@ assert the_runs: runs == (VbRun *)balloon.room.runs && count <= VB_MAX_RUNS;
+    //@ assert the_runs: (runs == (VbRun *)balloon.room.runs || runs == (VbRun *)balloon.held_runs) && count <= VB_MAX_RUNS;
     Frama_C_make_unknown((char *)set, WORDS * sizeof *set);
     VbMarked marked = { any_u32(), ANY_UP_TO(UINT32_MAX) };
     return marked;
@@ -107,7 +107,13 @@ uint32_t vb_stop_queue(VbBalloon *of, uint32_t kind, uint16_t *next)
     return any_u32();
 }
 
-uint32_t vb_forget_held(VbBalloon *of) { return any_u32(); }
+uint32_t vb_forget_held(VbBalloon *of, uint32_t kind) { return any_u32(); }
+uint32_t vb_held(const VbBalloon *of, uint32_t kind, uint32_t *pages)
+{
+    *pages = any_u32();
+    return ANY_UP_TO(VB_IMPOSSIBLE);
+}
+
 
 uint32_t vb_restore_over(VbBalloon *of, const VbRegion *places, size_t count, const uint8_t *bytes, size_t length)
 {
@@ -128,7 +134,7 @@ void vb_read_config(const VbDevice *device, uint32_t offset, uint8_t *out, size_
 void vb_set_target(VbDevice *device, uint32_t pages) { device->target = pages; }
 
 uint32_t vb_may_tell(const VbDevice *device) { return ANY_UP_TO(1); }
-uint32_t vb_save(const VbDevice *device, uint32_t held, uint8_t *out, size_t room) { return any_u32(); }
+uint32_t vb_save(const VbDevice *device, VbHeld held, uint8_t *out, size_t room) { return any_u32(); }
 
 /* ---- large pages */
 

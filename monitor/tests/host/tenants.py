@@ -8,14 +8,14 @@ import threading
 import time
 
 import linux_host
-from vhost_client import BUFFERS, INFLATE, PAGE, REGIONS, STATISTICS, Client
+from vhost_client import BUFFERS, DEFLATE, INFLATE, PAGE, REGIONS, STATISTICS, Client
 
 # Seconds of a wait.
 LIMIT = 20
 
-# Tags of statistics (VIRTIO 1.1, 5.5.6.3), and the first page of a client's second region.
+# Tags of statistics (VIRTIO 1.1, 5.5.6.3), and the first pages of a client's regions: the first region has its rings.
 FREE, AVAILABLE = 4, 6
-PAGES = REGIONS[1][0] // PAGE
+PAGES_OF_ALL, PAGES = (it[0] // PAGE for it in REGIONS)
 
 
 def eventually(condition, what=""):
@@ -79,6 +79,11 @@ class Guest(threading.Thread):
         """Puts pages into its balloon."""
         with self.lock:
             self.client.post_pages(INFLATE, pages)
+
+    def take(self, pages):
+        """Takes pages out of its balloon."""
+        with self.lock:
+            self.client.post_pages(DEFLATE, pages)
 
     def run(self):
         """Answers until it goes, or the lender's process closes its socket."""

@@ -172,10 +172,10 @@ def seats(all_seats):
     before = all_seats.held()
     yield all_seats
     all_seats.serves()
-    for _ in range(200):
-        if all_seats.held() == before:
-            break
-    assert all_seats.held() == before
+    end = time.monotonic() + LIMIT
+    while all_seats.held() != before:  # its process ends after its client
+        assert time.monotonic() < end, f"the host has {all_seats.held()} files open, and had {before}"
+        time.sleep(0.01)
 
 
 def is_served(client, number, body, files):

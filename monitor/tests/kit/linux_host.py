@@ -12,6 +12,7 @@ from typing import NamedTuple
 import linux_kit
 from linux_guest import ANSWER_LIMIT, PAGES_PER_MIB, Backend, Guest
 from linux_kit import Fault
+from programs import CHECKS
 
 sys.path.append(os.path.join(linux_kit.ROOT, "client"))
 
@@ -319,3 +320,16 @@ def build(folder, core, wrong=False, flags=()):
     """Compiles a host over this core, and the program of its guests' processes; with hosts in it that are wrong on purpose, where they
     are asked for."""
     return linux_kit.build(folder, core, "vhost_user_host", wrong=wrong, flags=flags)
+
+
+class Programs(dict):
+    """The hosts under test by name, each compiled as it is first wanted."""
+
+    def __init__(self, folder, core):
+        super().__init__()
+        self.folder, self.core = folder, core
+
+    def __missing__(self, name):
+        os.makedirs(f"{self.folder}/{name}")
+        self[name] = build(f"{self.folder}/{name}", self.core, wrong=name == "wrong", flags=CHECKS if name == "checked" else ())
+        return self[name]

@@ -51,7 +51,7 @@ FLAGS = ("-std=c11", "-O2", "-Wall", "-Wextra", "-Werror")
 
 # What a wrong device gets in its hands (monitor/tests/mutants/wrong_device.c), and by their programs what a wrong backend and a wrong
 # host do (wrong_backend.c, wrong_host.c).
-AUDIT_WRAPPED = ("vb_begin", "vb_ask", "vb_go_on", "poll")
+AUDIT_WRAPPED = ("vb_begin", "vb_give_held", "vb_go_on", "poll")
 WRONG_PARTS = {
     "vhost_user_balloon": ("../tests/mutants/wrong_backend",),
     "vhost_user_host": ("../tests/mutants/wrong_host", "../tests/mutants/wrong_control"),

@@ -24,8 +24,8 @@ static int64_t late_at;
 
 uint32_t __real_vb_begin(VbNotice *, VbBalloon *, const VbRegion *, size_t, VbRoom *, uint32_t, uint32_t, uint32_t, uint32_t);
 uint32_t __wrap_vb_begin(VbNotice *, VbBalloon *, const VbRegion *, size_t, VbRoom *, uint32_t, uint32_t, uint32_t, uint32_t);
-uint32_t __real_vb_ask(VbNotice *, VbBalloon *, const VbRegion *, size_t, VbRoom *);
-uint32_t __wrap_vb_ask(VbNotice *, VbBalloon *, const VbRegion *, size_t, VbRoom *);
+uint32_t __real_vb_give_held(VbNotice *, VbBalloon *, const VbRegion *, size_t, VbRoom *, uint32_t);
+uint32_t __wrap_vb_give_held(VbNotice *, VbBalloon *, const VbRegion *, size_t, VbRoom *, uint32_t);
 uint32_t __real_vb_go_on(VbNotice *, VbBalloon *, const VbRegion *, size_t, VbRoom *, uint16_t);
 uint32_t __wrap_vb_go_on(VbNotice *, VbBalloon *, const VbRegion *, size_t, VbRoom *, uint16_t);
 int __real_poll(struct pollfd *, nfds_t, int);
@@ -94,9 +94,10 @@ uint32_t __wrap_vb_begin(VbNotice *notice, VbBalloon *balloon, const VbRegion *r
     return begin(notice, room);
 }
 
-uint32_t __wrap_vb_ask(VbNotice *notice, VbBalloon *balloon, const VbRegion *regions, size_t count, VbRoom *room)
+uint32_t __wrap_vb_give_held(VbNotice *notice, VbBalloon *balloon, const VbRegion *regions, size_t count, VbRoom *room,
+                             uint32_t kind)
 {
-    __real_vb_ask(notice, balloon, regions, count, room);
+    __real_vb_give_held(notice, balloon, regions, count, room, kind);
     return begin(notice, room);
 }
 

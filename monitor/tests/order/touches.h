@@ -8,12 +8,12 @@
 enum { SIZE = 8, PAGES = 32, MOST_TOUCHES = 4096, TRAP_FLAG = 0x100, WRITE_FAULT = 2 };
 
 /* The parts lie so that ring indices are on other pages than the entries. */
-static const uint64_t AVAIL = 0x1ffc, USED = 0x6ffc, BUFFER = 0x8ffd, NAMED = 16, BORDER = 0x5000;
+static const uint64_t AVAIL = 0x1ffc, USED = 0x6ffc, BUFFER = 0x8ffd, SET_AT = 0xa000, NAMED = 16, BORDER = 0x5000;
 static uint64_t table = 0x4000;
 
-enum what { INDEX, ENTRY, DESCRIPTOR, BYTES, TOLD, FIGURES, DISCARD, ELEMENT, USED_INDEX, FLAGS, FENCE, OTHER };
+enum what { INDEX, ENTRY, DESCRIPTOR, BYTES, TOLD, FIGURES, DISCARD, ELEMENT, USED_INDEX, FLAGS, FENCE, SET, OTHER };
 static const char *const WORDS[] = { "index", "entry", "descriptor", "bytes", "told", "figures", "discard", "element", "used index",
-                                     "flags", "fence", "other" };
+                                     "flags", "fence", "set", "other" };
 
 /* `number`: which entry, descriptor or word of an element, where a discard begins, the order of a fence. */
 static struct touch { enum what what; uint64_t number; bool write; } touches[MOST_TOUCHES];
@@ -35,6 +35,8 @@ static struct touch part_of(uint64_t address, bool write)
         return (struct touch){ DESCRIPTOR, (address - table) / 16, write };
     if (address >= BUFFER && address < BUFFER + VB_MAX_BYTES)
         return (struct touch){ BYTES, 0, write };
+    if (address >= SET_AT && address < SET_AT + 8)
+        return (struct touch){ SET, 0, false };
     if (address >= USED + 4 && address < USED + 4 + 8 * SIZE)
         return (struct touch){ ELEMENT, (address - USED - 4) / 4, write };
     return (struct touch){ address == USED + 2 ? USED_INDEX : OTHER, address == USED + 2 ? 0 : address, write };
@@ -53,7 +55,7 @@ static void note_access(uint64_t address, bool write)
     bool goes_on = last && (touch.what == BYTES || touch.what == DESCRIPTOR) && last->what == touch.what
         && last->number == touch.number && !write && address > last_address;
     last_address = address;
-    if (!goes_on)
+    if (!goes_on && !(last && last->what == SET && touch.what == SET))
         note(touch.what, touch.number, write);
 }
 

@@ -19,6 +19,7 @@ static void all_calls_work(void)
     for (uint32_t kind = 0; kind < 5; kind++)
         balloon_notify(&guest.balloon, kind);
     balloon_ask_statistics(&guest.balloon);
+    balloon_give_deflate(&guest.balloon);
     balloon_read_config(&guest.balloon, chance(9), word, sizeof word);
     balloon_place(&guest.balloon, chance(4), chance(1 << 24), chance(1 << 24), chance(1 << 24), (uint16_t)chance(300));
     balloon_write_status(&guest.balloon, (uint8_t)chance(256), &result);
@@ -29,7 +30,7 @@ void any_restored_device_works(void)
     unsigned restored = 0;
     for (unsigned round = 0; round < ROUNDS; round++) {
         uint8_t bytes[VB_STATE_BYTES];
-        EXPECT(reach(5 + chance(5)) && balloon_save(&guest.balloon, bytes, sizeof bytes) == VB_OK);
+        EXPECT(reach(5 + chance(6)) && balloon_save(&guest.balloon, bytes, sizeof bytes) == VB_OK);
         for (uint32_t changes = 1 + chance(3); changes > 0; changes--) {
             size_t at = 24 + chance(SUM_AT - 24);
             bytes[at] = chance(2) ? (uint8_t)chance(256) : bytes[at] ^ (uint8_t)(1u << chance(8));
@@ -69,7 +70,7 @@ static void any_stop(uint32_t kind)
 {
     uint16_t next;
     if (chance(8) == 0)
-        balloon_forget_held(&guest.balloon);
+        balloon_forget_held(&guest.balloon, kind);
     else if (balloon_stop_queue(&guest.balloon, kind, &next) == VB_OK && chance(4))
         balloon_start_queue(&guest.balloon, kind, (VbQueueStart){ table_of(kind), avail_of(kind), used_of(kind), 64, next });
 }
@@ -91,7 +92,7 @@ static void any_step(void)
     case 5: any_request(kind); break;
     case 6:
     case 7: balloon_notify(balloon, kind); break;
-    case 8: balloon_ask_statistics(balloon); break;
+    case 8: chance(2) ? balloon_ask_statistics(balloon) : balloon_give_deflate(balloon); break;
     case 9: balloon_write_config(balloon, 4 * chance(5), (const uint8_t[]){ (uint8_t)chance(3), 0, 0, 0 }, 4); break;
     case 10: balloon_start_queue(balloon, kind, any_start(kind)); break;
     default: any_stop(kind); break;
@@ -101,7 +102,7 @@ static void any_step(void)
 /* Whatever calls lead to is saved, and restored as it was. */
 void all_that_calls_lead_to_is_saved(void)
 {
-    unsigned kinds[256] = { 0 }, held = 0;
+    unsigned kinds[256] = { 0 }, held = 0, deflates = 0;
     EXPECT(reach(0));
     for (unsigned round = 0; round < 5 * ROUNDS; round++) {
         uint8_t bytes[VB_STATE_BYTES];
@@ -111,11 +112,12 @@ void all_that_calls_lead_to_is_saved(void)
         EXPECT(vb_restore(&restored.device, &restored.held, bytes, sizeof bytes) == VB_OK);
         EXPECT(are_same(&restored.device, restored.held, &it->device, it->held));
         kinds[it->device.status]++;
-        held += it->held > 0;
+        held += it->held.statistics > 0;
+        deflates += it->held.deflate > 0;
     }
     unsigned seen = 0;
     for (unsigned status = 0; status < 256; status++)
         seen += kinds[status] > 0;
-    printf("saved: %u statuses and %u held buffers on the way\n", seen, held);
-    EXPECT(seen == 12 && held > 0);
+    printf("saved: %u statuses, %u held buffers and %u held deflates on the way\n", seen, held, deflates);
+    EXPECT(seen == 12 && held > 0 && deflates > 0);
 }

@@ -3,7 +3,7 @@
 
 struct guest guest;
 
-const VbSettings SETTINGS = { .offered = 1ull << 32 | 0x37, .reserved_pages = 16, .skips_bad_pages = 7 };
+const VbSettings SETTINGS = { .offered = 1ull << 32 | 0x37, .reserved_pages = 16, .skips_bad_pages = 7, .holds_deflates = 1 };
 
 /* The states that a driver's steps lead through, by number; false past the last one. */
 bool reach(unsigned state)
@@ -38,19 +38,23 @@ bool reach(unsigned state)
     put(&guest, buffer_of(VB_STATISTICS) + 2, 99, 8);
     describe(&guest, VB_STATISTICS, 3, buffer_of(VB_STATISTICS), 10, 0, 0);
     publish(&guest, VB_STATISTICS, 3);
-    EXPECT(balloon_notify(balloon, VB_STATISTICS).chains == 1 && balloon->state.held == 4);
+    EXPECT(balloon_notify(balloon, VB_STATISTICS).chains == 1 && balloon->state.held.statistics == 4);
     if (state == 7)
         return true;
-    describe(&guest, VB_DEFLATE, 0, buffer_of(VB_DEFLATE), 3, 0, 0);
-    publish(&guest, VB_DEFLATE, 0);
-    EXPECT(balloon_notify(balloon, VB_DEFLATE).code == VB_BROKEN && balloon->state.device.status == 79);
+    name_pages(&guest, VB_DEFLATE, (const uint32_t[]){ 513, 512, 600 }, 3);
+    EXPECT(balloon_notify(balloon, VB_DEFLATE).held && balloon->state.held.pages == 3);
     if (state == 8)
         return true;
+    describe(&guest, VB_INFLATE, 0, buffer_of(VB_INFLATE), 3, 0, 0);
+    publish(&guest, VB_INFLATE, 0);
+    EXPECT(balloon_notify(balloon, VB_INFLATE).code == VB_BROKEN && balloon->state.device.status == 79);
+    if (state == 9)
+        return true;
     EXPECT(balloon_write_status(balloon, 207, &result) == 0);
-    return state == 9;
+    return state == 10;
 }
 
-bool are_same(const VbDevice *one, uint32_t held, const VbDevice *other, uint32_t other_held)
+bool are_same(const VbDevice *one, VbHeld held, const VbDevice *other, VbHeld other_held)
 {
     uint8_t first[VB_STATE_BYTES], second[VB_STATE_BYTES];
     encode(one, held, first);

@@ -14,26 +14,42 @@ static uint8_t *put_ring(uint8_t *at, const VbQueue *queue)
     return put_number(put_number(put_number(at, queue->size, 2), queue->next_avail, 2), queue->next_used, 2);
 }
 
-void put_sum(uint8_t *bytes)
+void put_sum_at(uint8_t *bytes, size_t at)
 {
     uint64_t sum = 14695981039346656037u;
-    for (int i = 0; i < SUM_AT; i++)
+    for (size_t i = 0; i < at; i++)
         sum = (sum ^ bytes[i]) * 1099511628211u;
-    put_number(bytes + SUM_AT, sum, 8);
+    put_number(bytes + at, sum, 8);
 }
 
-void encode(const VbDevice *device, uint32_t held, uint8_t *bytes)
+void put_sum(uint8_t *bytes) { put_sum_at(bytes, SUM_AT); }
+
+/* What both versions have. */
+static uint8_t *put_first(const VbDevice *device, VbHeld held, uint8_t *bytes, unsigned version, unsigned length)
 {
     const VbSettings *settings = &device->settings;
     uint8_t *at = put_number(bytes, 0x0045544154534256, 8);     /* VBSTATE and a 0 */
-    at = put_number(put_number(at, 2, 4), VB_STATE_BYTES, 4);
+    at = put_number(put_number(at, version, 4), length, 4);
     at = put_number(put_number(at, settings->memory_end, 8), settings->offered, 8);
     at = put_number(at, settings->reserved_pages, 4);
     at = put_number(put_number(at, settings->needs_must_tell, 1), settings->skips_bad_pages, 1);
     at = put_number(put_number(put_number(at, device->features, 8), device->target, 4), device->actual, 4);
-    at = put_number(put_number(at, held, 4), device->status, 1);
+    at = put_number(put_number(at, held.statistics, 4), device->status, 1);
     at = put_ring(put_ring(put_ring(put_ring(at, &device->inflate), &device->deflate), &device->statistics), &device->report);
-    at = put_number(at, device->poison, 4);
+    return put_number(at, device->poison, 4);
+}
+
+void encode(const VbDevice *device, VbHeld held, uint8_t *bytes)
+{
+    uint8_t *at = put_first(device, held, bytes, 3, 200);
+    at = put_number(at, device->settings.holds_deflates, 1);
+    at = put_number(put_number(at, held.deflate, 4), held.pages, 4);
     EXPECT(at == bytes + SUM_AT);
     put_sum(bytes);
+}
+
+void encode_older(const VbDevice *device, VbHeld held, uint8_t *bytes)
+{
+    EXPECT(put_first(device, held, bytes, 2, 191) == bytes + HOLD_AT);
+    put_sum_at(bytes, HOLD_AT);
 }

@@ -4,10 +4,10 @@
 
 /* Calls of the library that are explained: the linker puts the second ones in the place of the first ones. */
 uint32_t __real_vb_begin(VbNotice *, VbBalloon *, const VbRegion *, size_t, VbRoom *, uint32_t, uint32_t, uint32_t, uint32_t);
-uint32_t __real_vb_ask(VbNotice *, VbBalloon *, const VbRegion *, size_t, VbRoom *);
+uint32_t __real_vb_give_held(VbNotice *, VbBalloon *, const VbRegion *, size_t, VbRoom *, uint32_t);
 uint32_t __real_vb_go_on(VbNotice *, VbBalloon *, const VbRegion *, size_t, VbRoom *, uint16_t);
 uint32_t __wrap_vb_begin(VbNotice *, VbBalloon *, const VbRegion *, size_t, VbRoom *, uint32_t, uint32_t, uint32_t, uint32_t);
-uint32_t __wrap_vb_ask(VbNotice *, VbBalloon *, const VbRegion *, size_t, VbRoom *);
+uint32_t __wrap_vb_give_held(VbNotice *, VbBalloon *, const VbRegion *, size_t, VbRoom *, uint32_t);
 uint32_t __wrap_vb_go_on(VbNotice *, VbBalloon *, const VbRegion *, size_t, VbRoom *, uint16_t);
 
 bool is_named[PAGES], names;
@@ -90,7 +90,7 @@ static void expect_what(const VbNotice *notice, const VbBalloon *balloon, const 
     const VbNotice *why = &twin.notice;
     EXPECT(why->what == 0 && notice->code == why->code && (notice->code != VB_BROKEN || notice->rule == why->rule));
     EXPECT(notice->interrupt == why->interrupt && notice->configuration == why->configuration && notice->more == why->more);
-    EXPECT(notice->code <= VB_BROKEN && balloon->held == twin.balloon.held);
+    EXPECT(notice->code <= VB_BROKEN && !memcmp(&balloon->held, &twin.balloon.held, sizeof balloon->held));
 }
 
 /* Hands over the next thing, or all that is left; pages that were named are seen before their chain is given back. */
@@ -126,11 +126,12 @@ uint32_t __wrap_vb_begin(VbNotice *notice, VbBalloon *balloon, const VbRegion *r
     return explain(notice, balloon, regions, count, room);
 }
 
-uint32_t __wrap_vb_ask(VbNotice *notice, VbBalloon *balloon, const VbRegion *regions, size_t count, VbRoom *room)
+uint32_t __wrap_vb_give_held(VbNotice *notice, VbBalloon *balloon, const VbRegion *regions, size_t count, VbRoom *room,
+                             uint32_t kind)
 {
     begin_twin(balloon);
-    reference_ask(&twin.notice, &twin.balloon, regions, count, &twin.room);
-    EXPECT(__real_vb_ask(notice, balloon, regions, count, room) == notice->what);
+    reference_give_held(&twin.notice, &twin.balloon, regions, count, &twin.room, kind);
+    EXPECT(__real_vb_give_held(notice, balloon, regions, count, room, kind) == notice->what);
     return explain(notice, balloon, regions, count, room);
 }
 

@@ -71,20 +71,20 @@ static void a_held_buffer_is_taken_again(void)
     put(&guest, buffer_of(VB_STATISTICS) + 2, 5, 8);
     describe(&guest, VB_STATISTICS, 0, buffer_of(VB_STATISTICS), 10, 0, 0);
     publish(&guest, VB_STATISTICS, 0);
-    EXPECT(balloon_write_status(&guest.balloon, 15, &result) == 0 && calls == 1 && guest.balloon.state.held == 1);
-    EXPECT(balloon_stop_queue(&guest.balloon, VB_INFLATE, &next) == VB_OK && next == 0 && guest.balloon.state.held == 1);
-    EXPECT(balloon_start_queue(&guest.balloon, VB_INFLATE, there(VB_INFLATE, 8, 0)) == VB_OK && guest.balloon.state.held == 1);
-    EXPECT(balloon_stop_queue(&guest.balloon, VB_STATISTICS, &next) == VB_OK && next == 9 && guest.balloon.state.held == 0);
+    EXPECT(balloon_write_status(&guest.balloon, 15, &result) == 0 && calls == 1 && guest.balloon.state.held.statistics == 1);
+    EXPECT(balloon_stop_queue(&guest.balloon, VB_INFLATE, &next) == VB_OK && next == 0 && guest.balloon.state.held.statistics == 1);
+    EXPECT(balloon_start_queue(&guest.balloon, VB_INFLATE, there(VB_INFLATE, 8, 0)) == VB_OK && guest.balloon.state.held.statistics == 1);
+    EXPECT(balloon_stop_queue(&guest.balloon, VB_STATISTICS, &next) == VB_OK && next == 9 && guest.balloon.state.held.statistics == 0);
     EXPECT(balloon_ask_statistics(&guest.balloon).code == VB_NOTHING);
     EXPECT(balloon_start_queue(&guest.balloon, VB_STATISTICS, there(VB_STATISTICS, 8, 9)) == VB_OK);
-    EXPECT(balloon_notify(&guest.balloon, VB_STATISTICS).chains == 1 && calls == 2 && guest.balloon.state.held == 1);
+    EXPECT(balloon_notify(&guest.balloon, VB_STATISTICS).chains == 1 && calls == 2 && guest.balloon.state.held.statistics == 1);
     EXPECT(balloon_start_queue(&guest.balloon, VB_STATISTICS, there(VB_STATISTICS, 8, 9)) == VB_OK);     /* over itself */
-    EXPECT(guest.balloon.state.held == 0 && balloon_notify(&guest.balloon, VB_STATISTICS).chains == 1 && calls == 3);
+    EXPECT(guest.balloon.state.held.statistics == 0 && balloon_notify(&guest.balloon, VB_STATISTICS).chains == 1 && calls == 3);
     EXPECT(balloon_ask_statistics(&guest.balloon).chains == 1 && used_index(&guest, VB_STATISTICS) == 10);
     publish(&guest, VB_STATISTICS, 0);
     EXPECT(balloon_notify(&guest.balloon, VB_STATISTICS).chains == 1 && calls == 4);
-    EXPECT(balloon_forget_held(&guest.balloon) == VB_OK && guest.balloon.state.held == 0);
-    EXPECT(balloon_forget_held(&guest.balloon) == VB_NOTHING && guest.balloon.state.held == 0);
+    EXPECT(balloon_forget_held(&guest.balloon, VB_STATISTICS) == VB_OK && guest.balloon.state.held.statistics == 0);
+    EXPECT(balloon_forget_held(&guest.balloon, VB_STATISTICS) == VB_NOTHING && guest.balloon.state.held.statistics == 0);
     EXPECT(ring_of_kind(&guest.balloon, VB_STATISTICS)->next_avail == 11 && used_index(&guest, VB_STATISTICS) == 10);
     free_memory(&guest);
 }

@@ -9,7 +9,7 @@ static int discard_likewise(void *context, const struct balloon_region *region, 
 }
 #endif
 
-/* Two halves of a file that stand in memory in the other order: a run, a ring and a buffer over the boundary. A monitor may
+/* Two halves of a file that are in memory in the other order: a run, a ring and a buffer over the boundary. A monitor may
  * discard by itself as the balloon does. */
 static void regions_may_touch(int (*discard)(void *, const struct balloon_region *, uint64_t, uint64_t))
 {
@@ -103,7 +103,7 @@ static void memory_is_mapped_anew(void)
     free_memory(&guest);
 }
 
-/* Beyond 4 GiB of a region, and of its file, numbers of 64 bits say where a ring, a buffer and a page lie. What stands in the
+/* Beyond 4 GiB of a region, and of its file, numbers of 64 bits say where a ring, a buffer and a page lie. What is in the
  * `offset` of memory without a file means nothing. */
 static void regions_may_be_far(bool has_file)
 {

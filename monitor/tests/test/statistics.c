@@ -39,7 +39,7 @@ static void statistics_come(void)
     EXPECT(told.figure[9].tag == 63 && told.figure[9].value == 0xfedcba9876543219);
     EXPECT(used_index(&guest, VB_STATISTICS) == 0 && balloon_notify(&guest.balloon, VB_STATISTICS).code == VB_NOTHING);
     VbBalloon saved = guest.balloon.state;
-    guest.balloon.state = (VbBalloon){ .held = UINT32_MAX };
+    guest.balloon.state = (VbBalloon){ .held = { .statistics = UINT32_MAX } };
     guest.balloon.state = saved;
     result = balloon_ask_statistics(&guest.balloon);
     EXPECT(result.code == VB_OK && result.interrupts == 1 << VB_STATISTICS && used_index(&guest, VB_STATISTICS) == 1);

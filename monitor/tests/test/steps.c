@@ -1,4 +1,4 @@
-/* The steps of a driver, by vb.h alone: settings, status, features, configuration, and where queues stand. */
+/* The steps of a driver, by vb.h alone: settings, status, features, configuration, and where queues are. */
 #include "test.h"
 
 static void settings_have_bounds(void)

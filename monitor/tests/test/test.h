@@ -32,6 +32,7 @@ void test_discards(void);
 void test_regions(void);
 void test_set(void);
 void test_statistics(void);
+void test_holds(void);
 void test_reports(void);
 void test_large_pages(void);
 void test_holes(void);

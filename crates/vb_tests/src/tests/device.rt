@@ -15,6 +15,7 @@ const SETTINGS: Settings = Settings {
     reserved_pages: 0,
     needs_must_tell: 0,
     skips_bad_pages: 0,
+    holds_deflates: 0,
 };
 
 /// A ring of eight descriptors.

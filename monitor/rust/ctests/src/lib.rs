@@ -4,18 +4,16 @@
 //! Each call requires what balloon.h says of its pointers.
 #![allow(clippy::missing_safety_doc)]
 
+mod answers;
 mod memory;
 
+use answers::{code_of, codes, state_code, Outcome, BAD_LENGTH, NOTHING, NO_QUEUE, OK};
 use memory::Memory;
 use std::io;
 use std::os::raw::{c_int, c_void};
 use vb_balloon::{Balloon, Cut, Denied, Kind, LiveMemory, Monitor, QueueStart, Refusal, Run, Served, Settings};
-use vb_balloon::{State, StateError, Statistic};
+use vb_balloon::{State, Statistic};
 
-const OK: u32 = 0;
-const NOTHING: u32 = 1;
-const NO_QUEUE: u32 = 5;
-const BAD_LENGTH: u32 = 9;
 const MOST_REGIONS: usize = 64;
 
 type OnPages = unsafe extern "C" fn(*mut c_void, u32, *const Run, u32);
@@ -50,6 +48,8 @@ pub struct Struct {
     discard: Option<OnDiscard>,
     ballooned: *mut u64,
     ballooned_words: usize,
+    held_runs: [Run; 256],
+    held_count: u32,
 }
 
 /// `VbSettings`.
@@ -60,78 +60,7 @@ pub struct VbSettings {
     reserved_pages: u32,
     needs_must_tell: u8,
     skips_bad_pages: u8,
-}
-
-/// `struct balloon_result`.
-#[repr(C)]
-pub struct Outcome {
-    code: u32,
-    rule: u32,
-    chains: u32,
-    interrupts: u32,
-    configuration: bool,
-    more: bool,
-    pages: u64,
-    discarded: u64,
-    waiting: u64,
-    skipped: u64,
-    marked: u64,
-    unmarked: u64,
-    in_holes: u64,
-    kept: u64,
-    error: c_int,
-}
-
-/// The code and the rule of a refusal.
-fn codes(why: Refusal) -> (u32, u32) {
-    match why {
-        Refusal::Broken(rule) => (2, rule),
-        Refusal::NotReady => (3, 0),
-        Refusal::NeedsReset => (4, 0),
-        Refusal::NoQueue => (NO_QUEUE, 0),
-        Refusal::Misplaced => (6, 0),
-        Refusal::BadArgument => (7, 0),
-        Refusal::Unreachable => (u32::MAX, 0),
-    }
-}
-
-fn code_of(answer: Result<(), Refusal>) -> u32 {
-    answer.map_or_else(|why| codes(why).0, |()| OK)
-}
-
-fn state_code(why: StateError) -> u32 {
-    match why {
-        StateError::BadLength => BAD_LENGTH,
-        StateError::NotAState => 10,
-        StateError::OtherVersion => 11,
-        StateError::BadSum => 12,
-        StateError::Impossible => 13,
-        StateError::Misplaced => 6,
-    }
-}
-
-impl Outcome {
-    fn of(served: &Served) -> Outcome {
-        let served_code = if served.chains > 0 { OK } else { NOTHING };
-        let (code, rule) = served.stopped.map_or((served_code, 0), codes);
-        Outcome {
-            code,
-            rule,
-            chains: served.chains,
-            interrupts: served.interrupts,
-            configuration: served.configuration,
-            more: served.more,
-            pages: served.pages,
-            discarded: served.discarded,
-            waiting: served.waiting,
-            skipped: served.skipped,
-            marked: served.marked,
-            unmarked: served.unmarked,
-            in_holes: served.in_holes,
-            kept: served.kept,
-            error: served.error.unwrap_or(0),
-        }
-    }
+    holds_deflates: u8,
 }
 
 /// The hooks of the struct.
@@ -179,6 +108,7 @@ impl Struct {
         if !self.ballooned.is_null() {
             balloon.ballooned = std::slice::from_raw_parts(self.ballooned, self.ballooned_words).to_vec();
         }
+        balloon.held_runs = self.held_runs[..self.held_count as usize].to_vec();
         balloon
     }
 
@@ -187,6 +117,8 @@ impl Struct {
         if !self.ballooned.is_null() {
             balloon.ballooned.as_ptr().copy_to(self.ballooned, self.ballooned_words);
         }
+        self.held_count = balloon.held_runs.len() as u32;
+        self.held_runs[..balloon.held_runs.len()].copy_from_slice(&balloon.held_runs);
     }
 
     unsafe fn memory(&self) -> Memory {
@@ -215,6 +147,7 @@ pub unsafe extern "C" fn balloon_init(it: &mut Struct, regions: *const Mapped, c
         reserved_pages: settings.reserved_pages,
         needs_must_tell: settings.needs_must_tell != 0,
         skips_bad_pages: settings.skips_bad_pages != 0,
+        holds_deflates: settings.holds_deflates != 0,
     };
     match Balloon::new(&Memory::new(regions, count), settings) {
         Err(why) => codes(why).0,
@@ -268,8 +201,25 @@ pub unsafe extern "C" fn balloon_stop_queue(it: &mut Struct, kind: u32, next: &m
 }
 
 #[no_mangle]
-pub unsafe extern "C" fn balloon_forget_held(it: &mut Struct) -> u32 {
-    if it.run(|balloon, _, _| balloon.forget_held()) { OK } else { NOTHING }
+pub unsafe extern "C" fn balloon_forget_held(it: &mut Struct, kind: u32) -> u32 {
+    match Kind::ALL.get(kind as usize) {
+        None => NO_QUEUE,
+        Some(&kind) => {
+            if it.run(|balloon, _, _| balloon.forget_held(kind)) { OK } else { NOTHING }
+        }
+    }
+}
+
+#[no_mangle]
+pub unsafe extern "C" fn balloon_held_deflate(it: &Struct, pages: &mut u32) -> bool {
+    let held = it.balloon().held_deflate();
+    *pages = held.unwrap_or(0);
+    held.is_some()
+}
+
+#[no_mangle]
+pub unsafe extern "C" fn balloon_give_deflate(it: &mut Struct) -> Outcome {
+    Outcome::of(&it.run(|balloon, memory, _| balloon.give_deflate(memory)))
 }
 
 #[no_mangle]

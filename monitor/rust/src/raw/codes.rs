@@ -70,4 +70,4 @@ pub const MAX_RUNS: usize = 256;
 pub const MAX_BYTES: usize = 1024;
 pub const MAX_FIGURES: usize = 102;
 pub const MAX_CUTS: usize = 256;
-pub const STATE_BYTES: usize = 191;
+pub const STATE_BYTES: usize = 200;

@@ -10,6 +10,7 @@ pub struct Settings {
     pub reserved_pages: u32,
     pub needs_must_tell: u8,
     pub skips_bad_pages: u8,
+    pub holds_deflates: u8,
 }
 
 #[repr(C)]
@@ -110,13 +111,21 @@ pub struct Large {
     pub waiting: u64,
 }
 
+/// What a balloon holds: 1 more than the head of each chain, or 0, and how many pages the deflate names.
+#[repr(C)]
+#[derive(Clone, Copy, Default)]
+pub struct Held {
+    pub statistics: u32,
+    pub deflate: u32,
+    pub pages: u32,
+}
+
 /// All that a balloon is.
 #[repr(C)]
 #[derive(Clone, Copy, Default)]
 pub struct Balloon {
     pub device: Device,
-    /// One more than the head of the statistics buffer that is held, or 0.
-    pub held: u32,
+    pub held: Held,
 }
 
 /// What is to be done next.
@@ -148,8 +157,12 @@ pub struct Notice {
     pub more: u32,
     numbers: [u32; 2],
     words: [u16; 3],
-    flags: [u8; 5],
+    pub given: u8,
+    /// The chain is held that was told, or that is given back.
+    pub taken: u8,
+    flags: [u8; 3],
     published: u16,
+    pub taken_pages: u32,
 }
 
 /// The room that a notice needs.
@@ -201,6 +214,7 @@ macro_rules! layout {
 pub(crate) use layout;
 
 layout!(Settings, 24, memory_end at 0, offered at 8, reserved_pages at 16, needs_must_tell at 20, skips_bad_pages at 21);
+layout!(Settings, 24, holds_deflates at 22);
 layout!(Queue, 32, table at 0, avail at 8, used at 16, size at 24, next_avail at 26, next_used at 28);
 layout!(QueueStart, 32, table at 0, avail at 8, used at 16, size at 24, next at 26);
 layout!(Device, 176, settings.memory_end at 0, features at 24, target at 32, actual at 36, inflate.table at 40);
@@ -212,12 +226,14 @@ layout!(Region, 24, guest at 0, length at 8, in_file at 16);
 layout!(Spot, 16, region at 0, offset at 8);
 layout!(Cut, 32, region at 0, offset at 8, in_file at 16, length at 24);
 layout!(Large, 40, cut.region at 0, cut.length at 24, waiting at 32);
-layout!(Balloon, 184, device.status at 172, held at 176);
+layout!(Held, 12, statistics at 0, deflate at 4, pages at 8);
+layout!(Balloon, 192, device.status at 172, held.statistics at 176, held.pages at 184);
 layout!(Notice, 200, what at 0, kind at 4, at.region at 8, length at 24, into at 28, runs at 32, pages at 36);
 layout!(Notice, 200, skipped at 40, figures at 44, cuts at 48, kept at 52, id_at.region at 56);
 layout!(Notice, 200, length_at.region at 72, index_at.region at 88);
 layout!(Notice, 200, id at 104, used_length at 108, used_index at 112, code at 152, rule at 156);
-layout!(Notice, 200, interrupt at 160, configuration at 164, more at 168, published at 192);
+layout!(Notice, 200, interrupt at 160, configuration at 164, more at 168, given at 186, taken at 187);
+layout!(Notice, 200, published at 192, taken_pages at 196);
 
 /// Where the parts of a room begin, in bytes.
 const _: () = {

@@ -3,6 +3,7 @@
 mod calls;
 mod failing;
 mod guest;
+mod holds;
 mod memory;
 mod queues;
 mod scribbles;

@@ -48,8 +48,8 @@ fn a_large_page_goes_once_it_is_given_up() {
 fn memory_may_be_mapped_anew() {
     let mut guest = Guest::new();
     let mut balloon = guest.ready(Settings { skips_bad_pages: true, ..settings() });
-    let small: GuestMemoryMmap = GuestMemoryMmap::from_ranges(&[(GuestAddress(0), 4096)]).expect("memory");
-    assert_eq!(balloon.set_memory(&small), Err(Refusal::BadArgument));
+    let far: GuestMemoryMmap = GuestMemoryMmap::from_ranges(&[(GuestAddress((1 << 44) - 4096), 4096)]).expect("memory");
+    assert_eq!(balloon.set_memory(&far), Err(Refusal::BadArgument));
     let low: GuestMemoryMmap = GuestMemoryMmap::from_ranges(&[(GuestAddress(0), 8 << 20)]).expect("memory");
     guest.memory = low;
     assert_eq!(balloon.set_memory(&guest.memory), Ok(()));

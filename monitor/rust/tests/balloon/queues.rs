@@ -35,7 +35,7 @@ fn a_held_buffer_is_forgotten_with_its_queue() {
     assert_eq!(balloon.ask_statistics(&guest.memory).chains, 0);
     assert_eq!(balloon.start_queue(&guest.memory, Kind::Statistics, there(Kind::Statistics, 0)), Ok(()));
     assert_eq!(balloon.notify(&guest.memory, Kind::Statistics, &mut ()).chains, 1);
-    assert_eq!((balloon.forget_held(), balloon.forget_held()), (true, false));
+    assert_eq!((balloon.forget_held(Kind::Statistics), balloon.forget_held(Kind::Statistics)), (true, false));
 }
 
 #[test]

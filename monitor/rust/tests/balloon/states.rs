@@ -11,15 +11,16 @@ fn damaged_states_are_refused() {
     let saved = guest.ready(settings()).state().to_bytes().expect("calls led there");
     let refused = |bytes: &[u8]| State::from_bytes(bytes).err();
     for at in 0..STATE_BYTES {
-        let expected = match at {
-            0..=7 => StateError::NotAState,
-            8..=11 => StateError::OtherVersion,
-            12..=15 => StateError::BadLength,
-            _ => StateError::BadSum,
-        };
         for change in 1..=255 {
             let mut bytes = saved;
             bytes[at] ^= change;
+            let expected = match at {
+                0..=7 => StateError::NotAState,
+                8 if bytes[8] == 2 => StateError::BadLength, // the older version has another one
+                8..=11 => StateError::OtherVersion,
+                12..=15 => StateError::BadLength,
+                _ => StateError::BadSum,
+            };
             assert_eq!(refused(&bytes), Some(expected), "byte {at}");
         }
         assert_eq!(refused(&saved[..at]), Some(StateError::BadLength), "length {at}");

@@ -1,4 +1,4 @@
-use Rattle.std.proofs.Common.{rules, ◌≡◌, ◌∙◌, ap, sym, subst, refl, arith, ℕ, ◌+◌, ◌++◌, take, List}
+use Rattle.std.proofs.Common.{rules, ◌≡◌, ◌∙◌, ap, sym, subst, refl, ℕ, ◌+◌, ◌==◌, ◌++◌, take, List}
 use Rattle.std.proofs.Common.{None, true}
 use Rattle.std.proofs.lemmas.List.{append-nil}
 use Rattle.vb_monitor.specs.Usual.{phase_at, tally_at}
@@ -10,8 +10,8 @@ use Rattle.vb_monitor.specs.{Machine.{AheadAt, Room}, Accesses.Access}
 use Rattle.vb_monitor.specs.declared.outcome.{Tally.Tally, Outcome.Outcome}
 use Rattle.vb_monitor.specs.{Machine.next_chain, Orders.{at_once, giving, HasRoom}}
 use Rattle.vb_c.proofs.{ServedLemmas.told_given, UsualLemmas.{says_notice, word_shown, no_part_left}}
-use Rattle.vb_c.specs.{Codes.kind_of_code, Notices.{phase_of, tally_of, asked_bits, answer_bits}}
-use Rattle.vb_c.specs.{Served.telling_pages, Serving.HandsOver, declared.notice.VbNotice.VbNotice}
+use Rattle.vb_c.specs.{Codes.kind_of_code, Notices.{tally_of, held_in, asked_bits, answer_bits}}
+use Rattle.vb_c.specs.{Served.telling_pages, Serving.HandsOver}
 use Rattle.vb_core.specs.Config.{keeps_reports}
 use Rattle.vb_monitor.specs.Giving.{is_kept, kept_pages}
 use Rattle.vb_c.proofs.requests.give_named.Goals as goal
@@ -59,6 +59,7 @@ returns-in-Some-clause-hands c =
           (at_once asked kind o cuts runs figures rest)) (sym orders)
           (told_given w (next_chain w t) c.args.balloon.now.device t c.args.head named runs
           count cuts None (giving true used ++ rest) (c.requires.parts ∙ sym (append-nil (take count cuts))) refl
+          (ap (λ (n : ℕ). held_in (n == 0) old.taken_head old.taken_pages) c.requires.unheld)
           (goes after outcome (room_of pieces bytes runs figures) rest h));
       room = subst (λ (o : Orders). HasRoom asked o) (sym orders) (record {
         runs = λ e. c.requires.few;

@@ -1,7 +1,8 @@
-use Rattle.std.proofs.Common.{ap, sym, subst, refl, ℕ, ◌+◌, Option, Ok, Err, take}
+use Rattle.std.proofs.Common.{sym, subst, refl, ◌+◌, Option, Ok, Err, take}
 use Rattle.vb_monitor.{specs.declared.step.Phase.TheVariants.AwaitsPart, specs.Machine.whole}
 use Rattle.vb_monitor.{specs.declared.notice.Notice.Notice, specs.declared.outcome.Tally.Tally}
-use Rattle.vb_monitor.{specs.Giving.spent, proofs.ServedLemmas.request_goes}
+use Rattle.vb_core.specs.Settings.{holds_chains}
+use Rattle.vb_monitor.{specs.Giving.with_named, proofs.ServedLemmas.{request_goes, named_next}}
 use Rattle.vb_c.{specs.declared.notice.VbRoom.VbRoom, specs.Serving.{room_in, GoesOnBy, HandsOver}}
 use Rattle.vb_c.{specs.Notices.{tally_of, place_of}, specs.Served.telling_pages}
 use Rattle.vb_c.proofs.UsualLemmas.{awaits_part, says_notice, copied_part}
@@ -26,7 +27,8 @@ returns-in-Ok-clause-goes c =
       figures = r1.figures;
       cuts = c.serve_named.new.cuts;
     } in
-    let next = telling_pages kind (spent named.pages s) x.head named in
+    let t2 = with_named kind d2.settings x.head named.pages s in
+    let next = telling_pages kind t2 x.head named in
     subst (λ (o : Option Notice). GoesOnBy o regions c.args.answer b c.serve_named.new.balloon r1 r2
     c.serve_named.new.shown)
     (sym (says_notice kind (AwaitsPart old.at x) s old c.requires.kind
@@ -38,10 +40,12 @@ returns-in-Ok-clause-goes c =
       step = λ after outcome before done rest does h. copied_part _ old.at x.into x.length before _ done
           rest does (request_goes (whole regions kind after outcome) d d2 s x.head _
           (take (x.into + x.length) r1.bytes) r2.runs (Ok named) rest c.requires.request
-          c.requires.last c.in-Ok.ensures.names h);
+          c.requires.last c.in-Ok.ensures.names
+          (named_next (whole regions kind after outcome) d2 s x.head (take named.runs r2.runs) named
+          (holds_chains kind d2.settings) rest h));
       hands = subst (λ (t : Tally). HandsOver (telling_pages kind t x.head named) regions r2.runs
           (record b { device = d2 }) c.serve_named.new.balloon r2.cuts c.serve_named.new.shown)
-          (ap (λ (n : ℕ). record s { pages = n }) c.saturating_sub-notice.ensures)
+          c.show_named.ensures.tally
           c.serve_named.ensures.hands;
     })
 

@@ -1,4 +1,4 @@
-use Rattle.std.proofs.Common.{rules, ◌≡◌, ◌∙◌, ap, sym, subst, refl, ℕ, ◌+◌, false}
+use Rattle.std.proofs.Common.{rules, ◌≡◌, ◌∙◌, ap, sym, subst, refl, ℕ, ◌+◌, ◌==◌, false}
 use Rattle.std.proofs.Common.{Some}
 use Rattle.vb_monitor.specs.declared.step.Phase.TheVariants.{Discards}
 use Rattle.vb_monitor.specs.declared.orders.Told.TheVariants.{Pages}
@@ -6,7 +6,7 @@ use Rattle.vb_monitor.specs.declared.{orders.{Orders.Orders, Asked.Asked}, step.
 use Rattle.vb_monitor.{specs.Machine.{Ahead, whole, room_of, next_chain}}
 use Rattle.vb_monitor.specs.Orders.{at_once, HasRoom, FillsList}
 use Rattle.vb_c.proofs.{ServedLemmas.{told_left}, UsualLemmas.says_notice}
-use Rattle.vb_c.specs.{Codes.kind_of_code, Notices.{tally_of, asked_bits, answer_bits}}
+use Rattle.vb_c.specs.{Codes.kind_of_code, Notices.{tally_of, held_in, asked_bits, answer_bits}}
 use Rattle.vb_c.specs.{Served.telling_pages}
 use Rattle.vb_core.specs.Config.{keeps_reports}
 use Rattle.vb_monitor.specs.Giving.{is_kept, kept_pages}
@@ -46,7 +46,8 @@ returns-in-Some-clause-hands c =
           c.args.balloon.now.device (room_of pieces bytes runs figures)
           (at_once asked kind o cuts runs figures rest)) (sym orders)
           (told_left w (next_chain w t) c.args.balloon.now.device t c.args.head named runs
-          filled.count cuts filled.left left rest c.fill_named-filled.ensures.parts some h);
+          filled.count cuts filled.left left rest c.fill_named-filled.ensures.parts some
+          (ap (λ (n : ℕ). held_in (n == 0) old.taken_head old.taken_pages) c.requires.unheld) h);
       room = subst (λ (o : Orders). HasRoom asked o) (sym orders) (record {
         runs = λ e. c.requires.few;
         figures = λ e. absurd cc;

@@ -1,7 +1,8 @@
-use Rattle.std.proofs.Common.{rules, ◌≡◌, ◌∙◌, ap, ℕ, ◌<◌, true, Some}
+use Rattle.std.proofs.Common.{rules, ◌≡◌, ◌∙◌, ap, ℕ, ◌<◌, true, false, Some}
 use Rattle.vb_core.{specs.Devices.ring_of, specs.Rings.used_entry}
 use Rattle.vb_core.{proofs.DenialLemmas.open_call, specs.declared.ring.UsedEntry.UsedEntry}
-use Rattle.vb_monitor.{specs.Served.goes_on, proofs.ServedLemmas.given_goes}
+use Rattle.std.specs.Prelude.{is_some}
+use Rattle.vb_monitor.proofs.ServedLemmas.{given_goes}
 use Rattle.vb_monitor.specs.Usual.{word_place}
 use Rattle.vb_monitor.{specs.Giving.{used_spots, with_given}, specs.Machine.whole, specs.Orders.giving}
 use Rattle.vb_monitor.proofs.served.give_and_go.Goals as goal
@@ -14,7 +15,7 @@ pub returns-in-Some-clause-goes : goal.returns-in-Some-clause-goes
 returns-in-Some-clause-goes c after outcome room rest h =
     let d = c.args.device.now in
     let ring = ring_of c.args.kind d in
-    let goes : goes_on c.args.kind ≡ true = search rules in
+    let goes : is_some c.args.tally.held ≡ false = search rules in
     let lt : c.args.head < ring.size = search rules in
     let spots : used_spots c.args.regions.now (used_entry ring c.args.head) ≡ Some c.put_spots.new.spots =
     search rules in

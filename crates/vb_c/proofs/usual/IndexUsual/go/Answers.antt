@@ -1,4 +1,4 @@
-use Rattle.std.proofs.Common.{◌∙◌, ap, sym, refl, ℕ, List, ◌++◌}
+use Rattle.std.proofs.Common.{◌∙◌, ap, sym, ℕ, List, ◌++◌}
 use Rattle.vb_monitor.{specs.declared.orders.Orders.Orders, specs.declared.outcome.Tally.Tally}
 use Rattle.vb_monitor.specs.declared.step.Phase.TheVariants.{AwaitsIndex}
 use Rattle.vb_monitor.{specs.Accesses.Access, specs.Notices.with_published}

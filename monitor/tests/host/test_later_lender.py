@@ -1,0 +1,102 @@
+"""A lender that goes, and the next one, which goes on with the guests that there are."""
+
+import os
+import threading
+
+import pytest
+from tenants import FREE, PAGES, eventually, has_ended, process_of
+from vhost_client import Client
+
+QUICK = ("--floor", "0", "--period", "100", "--step", "0")
+
+
+def leave(lender):
+    """A lender says that it goes."""
+    lender.process.stdin.write(b"leave\n"), lender.process.stdin.flush()
+    assert lender.process.wait(10) == 0
+    lender.process.stdin.close(), lender.process.stdout.close()
+
+
+WAYS = (leave, lambda lender: lender.kill())
+
+
+@pytest.mark.parametrize("end", WAYS, ids=("leave", "killed"))
+def test_the_next_lender_goes_on_with_the_guests(lend, come, end):
+    first = lend(1, *QUICK)
+    a = come(first, "a", {FREE: 100}, "priority=2 least=0 most=3")
+    b = come(first, "b", {FREE: 100})
+    first.demand("add empty")
+    first.demand("budget 0"), first.demand("terms b priority=1")
+    eventually(lambda: [it["target"] for it in first.guests().values()] == [100, 100, 0])
+    a.give(list(range(PAGES, PAGES + 30)))
+    first.become("a", ballooned=30, inflated=30)
+    processes = [process_of(first, it) for it in "ab"]
+    end(first)
+    # Meanwhile the guests are served.
+    a.give(list(range(PAGES + 30, PAGES + 40)))
+    assert not any(map(has_ended, processes))
+    second = lend(1, *QUICK, folder=first.folder)
+    second.become("a", ballooned=40, inflated=40, ready=1, answers=1, pages=128, priority=2, most=768)
+    second.become("b", ready=1, answers=1, pages=128, priority=1)
+    second.become("empty", here=0)
+    assert [process_of(second, it) for it in "ab"] == processes
+    # Its budget is the new one's: of 256 pages nothing is missing, until a third guest comes.
+    eventually(lambda: [it["target"] for it in second.guests().values()] == [0, 0, 0], second.guests)
+    come(second, "empty", {FREE: 0})
+    eventually(lambda: [second.guests()[it]["target"] for it in "ab"] == [28, 100], second.guests)
+
+
+def test_the_last_lender_ends_all(lend, come):
+    first = lend(2, *QUICK)
+    come(first, "a", {FREE: 100})
+    process = process_of(first, "a")
+    first.kill()
+    second = lend(2, *QUICK, folder=first.folder)
+    second.become("a", ready=1)
+    assert second.close() == 0
+    eventually(lambda: has_ended(process))
+    assert os.listdir(first.folder) == ["backend.log"]
+
+
+def test_lenders_one_after_the_other(lend, come):
+    lender = lend(2, *QUICK)
+    guest = come(lender, "a", {FREE: 100})
+    process = process_of(lender, "a")
+    for number in range(10):
+        guest.give([PAGES + number])
+        lender.kill()
+        lender = lend(2, *QUICK, folder=lender.folder)
+        lender.become("a", ballooned=number + 1, ready=1, answers=1)
+    assert process_of(lender, "a") == process
+    assert lender.counters()["gone"] == 0
+
+
+def test_memory_that_comes_while_no_lender_is_there_waits_for_one(lend):
+    lender = lend(2, *QUICK)
+    client = Client(lender.add("a"), lambda: "")
+    client.negotiate()
+    lender.become("a", here=1, pages=0)
+    lender.kill()
+    waits = threading.Thread(target=client.hand_over_memory, daemon=True)
+    waits.start()
+    waits.join(0.5)
+    assert waits.is_alive()
+    second = lend(2, *QUICK, folder=lender.folder)
+    waits.join(10)
+    assert not waits.is_alive()
+    second.become("a", pages=128)
+    client.leave()
+
+
+def test_a_process_that_ends_while_no_lender_is_there_leaves_its_seat(lend, come):
+    lender = lend(2, *QUICK)
+    guest = come(lender, "a", {FREE: 100})
+    process = process_of(lender, "a")
+    lender.kill()
+    guest.ended.set(), guest.join()
+    guest.client.socket.close()
+    eventually(lambda: has_ended(process))
+    second = lend(2, *QUICK, folder=lender.folder)
+    second.become("a", here=0)
+    come(second, "a", {FREE: 50})
+    second.become("a", here=1, ready=1)

@@ -1,0 +1,164 @@
+"""What guests are asked for, by the figures that they tell and their terms. Each is of 128 pages; numbers are worked out by hand."""
+
+import time
+
+import pytest
+from tenants import AVAILABLE, FREE, PAGES, PAGES_OF_ALL, eventually
+
+# A lender that looks often, without a floor, and asks for all at once.
+QUICK = ("--floor", "0", "--period", "100", "--step", "0")
+
+
+def targets(lender):
+    """Returns the targets of all guests, by name."""
+    return {name: it["target"] for name, it in lender.guests().items()}
+
+
+def become(lender, wanted):
+    """Waits until the targets are these."""
+    eventually(lambda: targets(lender) == wanted, lambda: f"the targets are {targets(lender)}, and should be {wanted}")
+
+
+# What a guest tells, and what it can spare of its 128 pages.
+FIGURES = (
+    ({FREE: 12, AVAILABLE: 100}, 100),  # page cache can be let go
+    ({FREE: 60, AVAILABLE: 40}, 40),  # Linux keeps some free pages for itself
+    ({FREE: 70}, 70),
+    ({AVAILABLE: 30}, 30),
+    ({FREE: 3, AVAILABLE: 1 << 20}, 128),  # more than it has
+)
+
+
+@pytest.mark.parametrize("figures, spare", FIGURES)
+def test_what_a_guest_can_spare_goes_by_available_memory(lend, come, figures, spare):
+    lender = lend(1, *QUICK)
+    come(lender, "a", figures)
+    lender.become("a", spare=spare)
+
+
+def test_page_cache_is_taken(lend, come):
+    # Three guests of 128 pages, with 110 in their page cache and 4 free, on 256: all that is missing is asked for.
+    lender = lend(1, *QUICK)
+    for name in ("a", "b"):
+        come(lender, name, {FREE: 4, AVAILABLE: 110})
+    come(lender, "c", {FREE: 4, AVAILABLE: 110})
+    become(lender, {"a": 110, "b": 18, "c": 0})
+    assert lender.counters()["short"] == 0
+
+
+# The terms of a, b and c, who can each spare 100 of 128 pages on a budget of 256: 128 pages are missing.
+TERMS = (
+    (("", "", ""), {"a": 100, "b": 28, "c": 0}),
+    (("priority=2", "priority=1", ""), {"a": 0, "b": 28, "c": 100}),
+    (("priority=1", "priority=1", "priority=1"), {"a": 100, "b": 28, "c": 0}),
+    (("least=1", "", ""), {"a": 0, "b": 100, "c": 28}),  # 256 pages: all that it has
+    (("most=0", "", ""), {"a": 100, "b": 28, "c": 0}),
+    (("", "", "most=0"), {"a": 28, "b": 0, "c": 100}),
+    (("most=0", "most=0", "most=0"), {"a": 100, "b": 100, "c": 100}),
+    (("least=1 most=1", "priority=1", "priority=2"), {"a": 0, "b": 100, "c": 28}),
+)
+
+
+@pytest.mark.parametrize("terms, wanted", TERMS)
+def test_terms_of_guests(lend, come, terms, wanted):
+    lender = lend(2, *QUICK)
+    for name, its in zip("abc", terms):
+        come(lender, name, {FREE: 100}, its)
+    lender.demand("budget 1")
+    become(lender, wanted)
+
+
+def test_terms_that_change(lend, come):
+    lender = lend(1, *QUICK)
+    for name in "abc":
+        come(lender, name, {FREE: 100})
+    become(lender, {"a": 100, "b": 28, "c": 0})
+    assert lender.demand("terms a priority=1") == "ok"
+    become(lender, {"a": 0, "b": 100, "c": 28})
+    assert lender.demand("terms a priority=0 most=0") == "ok"
+    become(lender, {"a": 100, "b": 28, "c": 0})
+    seen = lender.guests()["a"]
+    assert (seen["least"], seen["most"], seen["priority"]) == (0, 0, 0)
+
+
+NO_TERMS = ("least=", "least=x", "most=-1", "priority=4294967296", "strict=2", "frames=1", "least=1  most=2", "least=16777216", "=")
+
+
+@pytest.mark.parametrize("words", NO_TERMS)
+def test_words_that_are_no_terms(lend, words):
+    lender = lend(5)
+    lender.demand("add a least=1 most=2 priority=3")
+    for line in (f"add b {words}", f"terms a {words}"):
+        assert lender.ask(line).startswith("error: "), line
+    assert list(lender.guests()) == ["a"]
+    seen = lender.guests()["a"]
+    assert (seen["least"], seen["most"], seen["priority"]) == (256, 512, 3)
+
+
+def test_least_above_most(lend):
+    lender = lend(5)
+    assert lender.ask("add a least=3 most=2") == "error: a: a guest's least is above its most"
+    lender.demand("add a least=1 most=2")
+    assert lender.ask("terms a least=3") == "error: a guest's least is above its most"
+    assert lender.ask("terms b least=3") == "error: no guest has that name"
+
+
+def test_a_silent_guest_counts_for_what_it_holds(lend, come):
+    lender = lend(1, *QUICK)
+    a, pages = come(lender, "a", {FREE: 0}), [*range(PAGES, PAGES + 64), *range(PAGES_OF_ALL + 20, PAGES_OF_ALL + 64)]
+    a.give(pages)
+    lender.become("a", ballooned=108)
+    a.take(pages)
+    lender.become("a", ballooned=0, held_kib=4 * 20)
+    a.answers = False
+    lender.become("a", answers=0)
+    # It holds 20 pages of its 128. So there is room on 256 pages for two guests that need 128 each, of whom one can spare 20.
+    come(lender, "b", {FREE: 20})
+    come(lender, "c", {FREE: 0})
+    become(lender, {"a": 0, "b": 20, "c": 0})
+    assert lender.counters()["short"] == 0
+    # As it takes more, the others make up for it, as far as they can.
+    a.fill()
+    eventually(lambda: lender.counters()["short"] == 108, lender.counters)
+
+
+def test_targets_grow_by_steps(lend, come):
+    lender = lend(64, "--floor", "0", "--period", "50", "--step", "4")
+    come(lender, "a", {FREE: 128})
+    lender.demand("terms a most=0")
+    begin, seen = time.monotonic(), []
+    while not seen or seen[-1][1] < 128:
+        seen.append((time.monotonic() - begin, lender.guests()["a"]["asked"]))
+        assert seen[-1][0] < 20
+    # 32 pages in a second, in more than 20 steps.
+    assert all(asked <= 32 * seconds + 16 for seconds, asked in seen), seen
+    assert len({asked for _, asked in seen}) > 20
+    # It gets pages back at once.
+    lender.demand("terms a most=64")
+    eventually(lambda: lender.guests()["a"]["asked"] == 0)
+
+
+def test_steps_do_not_bind_above_the_budget(lend, come):
+    lender = lend(64, "--floor", "0", "--period", "50", "--step", "1000")
+    guest = come(lender, "a", {FREE: 128})
+    guest.fill()
+    lender.become("a", held_kib=512)
+    lender.demand("budget 0")
+    begin = time.monotonic()
+    eventually(lambda: lender.guests()["a"]["asked"] == 128)
+    assert time.monotonic() - begin < 3
+
+
+def test_a_guest_that_took_pages_itself_is_left_alone_for_a_while(lend, come):
+    lender = lend(1, *QUICK)
+    guest = come(lender, "a", {FREE: 100})
+    lender.demand("budget 0")
+    become(lender, {"a": 100})
+    guest.give(list(range(PAGES, PAGES + 20)))
+    lender.become("a", ballooned=20)
+    begin = time.monotonic()
+    guest.take(list(range(PAGES, PAGES + 8)))
+    lender.become("a", ballooned=12, taken=8)
+    eventually(lambda: lender.guests()["a"]["spare"] == 12, lambda: lender.guests())
+    eventually(lambda: lender.guests()["a"]["spare"] > 12, lambda: lender.guests())
+    assert time.monotonic() - begin > 1.5
