@@ -12,7 +12,7 @@ import time
 
 import pytest
 from bigvasta.connection import Connection
-from hosts import ROOT, Host, bigvasta, eventually, limit_from_now
+from hosts import ROOT, Answering, Host, bigvasta, eventually, limit_from_now
 
 SYSTEMD = os.path.join(ROOT, "packaging", "systemd")
 UNITS = ("bigvasta-host.service", "bigvasta-metrics.service")
@@ -123,6 +123,22 @@ def test_a_client_that_comes_while_no_host_is_there(program, folder, manager):
     assert host.end() == 0
 
 
+def test_a_guest_lives_on_while_the_host_starts_anew(program, folder, manager):
+    host = manager.start(program, folder, str(folder), "--budget", "480", "--leave")
+    manager.until("READY")
+    host.ask("add", name="a", priority=3)
+    guest = Answering(host, "a")
+    process = eventually(lambda: host.guest("a")["answers"] and host.guest("a")["process"])
+    assert host.end() == 0
+    host = manager.start(program, folder, str(folder), "--budget", "480", "--leave")
+    manager.until("READY")
+    its = eventually(lambda: host.guest("a")["answers"] and host.guest("a"))
+    assert (its["process"], its["state"], its["memory"], its["terms"]["priority"]) == (process, "ready", 128 * 4096, 3)
+    guest.leave()
+    eventually(lambda: host.guest("a")["state"] == "absent")
+    assert host.end() == 0
+
+
 def test_without_a_watchdog(program, folder, manager):
     host = manager.start(program, folder, str(folder), "--budget", "480")
     manager.until("READY")
@@ -205,7 +221,7 @@ def test_the_user_and_the_folder_of_sockets(tmp_path):
 
 
 def test_what_the_units_start():
-    for unit, words in zip(UNITS, ("/usr/bin/vhost_user_host --config /etc/bigvasta/host.conf", "/usr/bin/bigvasta metrics --listen localhost:9750")):
+    for unit, words in zip(UNITS, ("/usr/bin/vhost_user_host --leave --config /etc/bigvasta/host.conf", "/usr/bin/bigvasta metrics --listen localhost:9750")):
         with open(f"{SYSTEMD}/{unit}", encoding="utf-8") as file:
             assert f"ExecStart={words}\n" in file.read()
 
