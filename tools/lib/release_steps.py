@@ -1,5 +1,10 @@
 """What tools/test-release does in a fresh Debian: the packages that it wants, and shell words, each of which ends with status 0."""
 
+import re
+
+from linux_kit import Fault
+from release_tree import read
+
 # What a monitor is built with, and what a host's package wants besides.
 WANTED = (
     "gcc clang g++ pkg-config libc6-dev xz-utils rustc cargo librust-vm-memory-dev python3 lintian"
@@ -81,3 +86,49 @@ printf 'Package: bigvasta\\nVersion: 0.1.0~~old\\nArchitecture: amd64\\nMaintain
 dpkg-deb --root-owner-group -b /tmp/old /tmp/old.deb && dpkg -i /tmp/old.deb && rm -rf /tmp/old /tmp/old.deb
 test "$(vhost_user_host)" = old
 """
+
+# What the unit of a service does, in a root where no service manager runs: by its user, with the words of its ExecStart.
+START = """
+words=$(sed -n 's/^ExecStart=//p' /lib/systemd/system/{unit}.service)
+setpriv --reuid=bigvasta --regid=bigvasta --init-groups $words < /dev/null > /tmp/{unit}.out 2>&1 &
+{name}=$!
+"""
+
+# What a command of README's becomes in such a root, by how it begins; every other one is run as it is.
+INSTEAD = (
+    ("systemctl enable --now bigvasta-host bigvasta-metrics", """
+systemctl enable bigvasta-host bigvasta-metrics
+install -d -o bigvasta -g bigvasta -m 0750 /run/bigvasta
+""" + START.format(unit="bigvasta-host", name="host") + """
+for i in $(seq 40); do bigvasta status > /dev/null 2>&1 && break; sleep 0.5; done
+""" + START.format(unit="bigvasta-metrics", name="metrics")),
+    # No QEMU of Debian 12 or 13 has that device: what it would connect to is there.
+    ("qemu-system-x86_64", "test -S $(echo '{command}' | sed -n 's/.*socket,id=balloon,path=\\([^ ,]*\\).*/\\1/p')"),
+    ("bigvasta watch", "sleep 2 && (sleep 2; printf q) | TERM=xterm timeout 20 script -qec 'bigvasta watch' /dev/null | grep -q 'budget 6144'"),
+)
+
+# What has to be true after README's commands, and how they are undone.
+AFTER = """
+for i in $(seq 40); do python3 -c '
+import urllib.request
+text = urllib.request.urlopen("http://localhost:9750/metrics").read().decode()
+assert "bigvasta_up 1.0" in text and "bigvasta_budget_bytes 6.442450944e+09" in text' 2> /tmp/metrics.err && break; sleep 0.5; done
+cat /tmp/metrics.err
+test ! -s /tmp/metrics.err
+kill $metrics $host && wait $host
+rm -rf /run/bigvasta
+systemctl disable bigvasta-host bigvasta-metrics
+"""
+
+
+def readme_step():
+    """Returns the step that runs README's commands for a host, as they are there."""
+    found = re.search(r"(?s)\n## Run a host\n.*?```sh\n(.*?)```", read("README.md"))
+    if not found:
+        raise Fault("README.md has no commands under 'Run a host'")
+    script = ["cd /tmp"]
+    for command in found[1].replace("\\\n", " ").splitlines():
+        command = command.removeprefix("sudo ")
+        instead = [text for begin, text in INSTEAD if command.startswith(begin)]
+        script.append(instead[0].replace("{command}", command) if instead else command.replace("apt-get install", "apt-get install -q -y --reinstall"))
+    return "README's commands for a host", "\n".join([*script, AFTER])

@@ -67,11 +67,11 @@ def test_what_the_host_measures(host, arrive):
     eventually(lambda: host.status()["measures"]["gone"] == wanted, lambda: host.status()["measures"])
     found = values(bigvasta(host.control, "metrics").stdout)
     assert {it: found[f'bigvasta_guest_gone_total{{reason="{it}"}}'] for it in wanted} == wanted
-    assert found["bigvasta_above_budget_seconds_total"] >= 0.4 and found["bigvasta_grants_total"] == 0
+    assert found["bigvasta_above_budget_seconds_total"] >= 0.4 and found["bigvasta_grants_total"] == found["bigvasta_wait_seconds_count"]
     for name in "loop", "decision", "wait":
         counts = [found[f'bigvasta_{name}_seconds_bucket{{le="{it}"}}'] for it in ("0.001", "0.005", "0.02", "0.1", "0.5", "2.0", "10.0", "+Inf")]
         assert counts == sorted(counts) and counts[-1] == found[f"bigvasta_{name}_seconds_count"], (name, counts)
-        assert (counts[-1] > 0) == (found[f"bigvasta_{name}_seconds_sum"] > 0) == (name != "wait")
+        assert name == "wait" or (counts[-1] > 0 and found[f"bigvasta_{name}_seconds_sum"] > 0)
     for it in refused, removed:
         it.stop()
 
