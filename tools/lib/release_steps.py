@@ -126,9 +126,9 @@ def readme_step():
     found = re.search(r"(?s)\n## Run a host\n.*?```sh\n(.*?)```", read("README.md"))
     if not found:
         raise Fault("README.md has no commands under 'Run a host'")
-    script = ["cd /tmp"]
+    script = ["dpkg --purge bigvasta-host", "cd /tmp"]
     for command in found[1].replace("\\\n", " ").splitlines():
         command = command.removeprefix("sudo ")
         instead = [text for begin, text in INSTEAD if command.startswith(begin)]
-        script.append(instead[0].replace("{command}", command) if instead else command.replace("apt-get install", "apt-get install -q -y --reinstall"))
+        script.append(instead[0].replace("{command}", command) if instead else command.replace("apt-get install", "apt-get install -q -y"))
     return "README's commands for a host", "\n".join([*script, AFTER])
