@@ -29,3 +29,4 @@ pub mod RegisterLemmas
 pub mod ServerLemmas
 mod StoreFacts
 mod OneFacts
+mod TieFacts
