@@ -41,7 +41,7 @@ sed -i 's/^# budget = 8G/budget = 64M/' /etc/bigvasta/host.conf
 install -d -o bigvasta -g bigvasta -m 0750 /run/bigvasta
 setpriv --reuid=bigvasta --regid=bigvasta --init-groups /usr/bin/vhost_user_host --config /etc/bigvasta/host.conf < /dev/null > /tmp/host.out 2>&1 &
 host=$!
-trap 'kill $host 2> /dev/null' EXIT
+trap 'kill $host 2> /dev/null || true' EXIT
 for i in $(seq 40); do bigvasta status > /tmp/status 2>&1 && break; sleep 0.5; done
 cat /tmp/host.out /tmp/status
 bigvasta status | grep -q '^budget 64, held 0, lent 0, missing 0 MiB; 0 guests$'
@@ -93,7 +93,7 @@ START = """
 words=$(sed -n 's/^ExecStart=//p' /lib/systemd/system/{unit}.service)
 setpriv --reuid=bigvasta --regid=bigvasta --init-groups $words < /dev/null > /tmp/{unit}.out 2>&1 &
 {name}=$!
-trap 'kill $host $metrics 2> /dev/null' EXIT
+trap 'kill $host $metrics 2> /dev/null || true' EXIT
 """
 
 # What a command of README's becomes in such a root, by how it begins; every other one is run as it is.
