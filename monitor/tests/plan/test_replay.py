@@ -31,8 +31,15 @@ NEWCOMER = day_of(a=((0, 80), (30, 40), 50), b=((10, 50), 50))
 # The same, but that a goes on as it was: b never starts.
 REFUSED = day_of(a=((0, 80), 50), b=((10, 50), 50))
 
+# a gives 50. At 10 c asks for its 100: a can spare 90 and b 40, 20 too few, and 10 + 60 are lent. At 20 a can spare 40, and asks for 50, which it
+# gets before c: 60 + 60 + 100 are more than 150.
+OVERTAKEN = day_of(a=((0, 10), (20, 60), 30), b=((0, 60), 30), c=((10, 50), 30))
+
 # a gives 50. At 10 it has 5 to spare, b 40: 5 too few; b gives 40, a asks for 45. At 20 b goes: a gets them, and then its last 5.
 LEAVING = day_of(a=((0, 10), (10, 95), 30), b=((0, 60), 20))
+
+# a gives all 50; b goes, and then nothing is missing: a gets them back.
+ALONE = day_of(a=((0, 10), 30), b=((0, 100), 20))
 
 # With a floor of 16 a can spare 64 and b 24: a gives 50. At 10 and 20 a can spare 50 and 48 above its floor, and 52 and 50 above 14 (the
 # floor but an eighth of it): its target stays. At 30 it can spare 49 above 14, and so 47: b gives the 3 that are missing, and a gets them at once.
@@ -47,8 +54,10 @@ WORKED_OUT = {
     "two guests on all that they need at once": (TWO, Terms(170), (0.0,), 0.0, 60.0, 0, 0.0, 0, 50),
     "a deflate waits for a reset": (RESET, Terms(200), (20.0, 10.0), 30.0, 120.0, 1, 20.0, 50, 280),
     "a newcomer waits": (NEWCOMER, Terms(150), (20.0,), 20.0, 90.0, 1, 20.0, 30, 50),
+    "a deflate comes before a newcomer": (OVERTAKEN, Terms(150), (0.0, 20.0), 20.0, 80.0, 1, 20.0, 70, 180),
     "a budget that is short": (REFUSED, Terms(150), (40.0,), 40.0, 90.0, 1, 40.0, 30, 20),
     "room by a guest that goes": (LEAVING, Terms(150), (10.0,), 10.0, 50.0, 1, 10.0, 5, 140),
+    "nothing is missing once a guest has gone": (ALONE, Terms(150), (0.0,), 0.0, 50.0, 0, 0.0, 0, 100),
     "a floor that lacks a little": (SLACK, Terms(150, 16), (0.0,), 0.0, 80.0, 0, 0.0, 0, 56),
     "a reset that has all": (FULL, Terms(100), (), 0.0, 20.0, 0, 0.0, 0, 0),
 }
