@@ -17,7 +17,7 @@ MOST_PAGES = (1 << 32) - 1
 
 
 class Use(NamedTuple):
-    """From this moment on a guest uses so many pages."""
+    """From this moment on a guest uses this many pages."""
 
     seconds: float
     pages: int
