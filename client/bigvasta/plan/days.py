@@ -17,7 +17,7 @@ MOST_PAGES = (1 << 32) - 1
 
 
 class Use(NamedTuple):
-    """From this moment on a guest uses so many pages."""
+    """A guest uses this number of pages from this moment on."""
 
     seconds: float
     pages: int
