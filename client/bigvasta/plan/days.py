@@ -17,7 +17,7 @@ MOST_PAGES = (1 << 32) - 1
 
 
 class Use(NamedTuple):
-    """A guest uses this number of pages from this moment on."""
+    """From this moment on a guest uses this many pages."""
 
     seconds: float
     pages: int

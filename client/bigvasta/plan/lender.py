@@ -86,7 +86,7 @@ class Lender:
         self.figure(guest)
 
     def use(self, guest, pages):
-        """A guest uses this number of pages now. One that uses none is reset: its balloon is to be empty."""
+        """A guest uses this many pages now. One that uses none is reset: its balloon is to be empty."""
         self.used[guest] = pages
         loan = self.loans[guest]
         if pages == 0 and self.runs[guest] and loan.lent < loan.pages:
