@@ -84,7 +84,7 @@ def add(commands, _):
     words.add_argument("--json", action="store_true", help="print the plan as an object: bytes and seconds")
     words.add_argument("--draw", metavar="FILE", help="draw it, too, into a file such as day.svg")
     words.add_argument("--library", metavar="FILE", help="the library, libvb.so")
-    words.add_argument("--make", type=int, metavar="GUESTS", help="print a day of so many guests, in place of all this")
+    words.add_argument("--make", type=int, metavar="GUESTS", help="print a day of this number of guests, in place of all this")
     words.add_argument("--seed", type=int, default=1, metavar="N", help="which day is made (1)")
     words.add_argument("--hours", type=float, default=24.0, metavar="H", help="how long the day is that is made (24)")
     words.set_defaults(run=run)
