@@ -8,7 +8,7 @@ from bigvasta.plan import days, drawing, library, making, search, tables
 from bigvasta.sizes import PAGE, parse_size
 from bigvasta.statuses import Usage
 
-MOST_GUESTS, MOST_HOURS, MOST_STEPS = 10000, 24 * 31, 1000
+MOST_GUESTS, LEAST_HOURS, MOST_HOURS, MOST_STEPS = 10000, 0.01, 24 * 31, 1000
 
 EXAMPLE = """example: a day that is made, and the budget that its guests need
   bigvasta plan --make 30 --seed 1 > day.csv
@@ -43,7 +43,7 @@ def demand(good, words):
 def run_make(asked):
     """Prints a day."""
     demand(1 <= asked.make <= MOST_GUESTS, f"--make: {asked.make} isn't from 1 to {MOST_GUESTS} guests")
-    demand(0 < asked.hours <= MOST_HOURS, f"--hours: {asked.hours} isn't above 0 and up to {MOST_HOURS}")
+    demand(LEAST_HOURS <= asked.hours <= MOST_HOURS, f"--hours: {asked.hours} isn't from {LEAST_HOURS} to {MOST_HOURS}")
     for line in making.make(asked.make, asked.seed, asked.hours):
         print(line)
 
@@ -84,7 +84,7 @@ def add(commands, _):
     words.add_argument("--json", action="store_true", help="print the plan as an object: bytes and seconds")
     words.add_argument("--draw", metavar="FILE", help="draw it, too, into a file such as day.svg")
     words.add_argument("--library", metavar="FILE", help="the library, libvb.so")
-    words.add_argument("--make", type=int, metavar="GUESTS", help="print a day of so many guests, in place of all this")
+    words.add_argument("--make", type=int, metavar="GUESTS", help="print a day of this number of guests, in place of all this")
     words.add_argument("--seed", type=int, default=1, metavar="N", help="which day is made (1)")
     words.add_argument("--hours", type=float, default=24.0, metavar="H", help="how long the day is that is made (24)")
     words.set_defaults(run=run)
