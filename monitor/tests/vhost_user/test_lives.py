@@ -267,7 +267,7 @@ def test_a_state_s_file_is_whole_at_each_moment(serve_well):
         saved = before.read()
         assert (client.backend.ask("target 8"), client.counter("target")) == ("ok", 8)
         before.seek(0)
-        assert (len(saved), before.read()) == (191, saved)  # an open file is the old one, whole
+        assert (len(saved), before.read()) == (vhost_client.STATE_BYTES, saved)  # an open file is the old one, whole
     with open(state, "rb") as after:
         assert after.read() != saved
     client.connect()

@@ -12,11 +12,8 @@ import time
 import pytest
 import linux_guest
 import linux_kit
-from vhost_client import INFLATE, LIMIT, PAGE, PAGES_OF_REGION, SIZE, Client
+from vhost_client import INFLATE, LIMIT, PAGE, PAGES_OF_REGION, SIZE, STATE_BYTES, Client
 from vhost_demands import FIRST, demand_served
-
-# What a saved state has.
-STATE_BYTES = 191
 
 
 def state_of(path):
@@ -36,9 +33,11 @@ def started_by(program, tmp_path):
         backend = subprocess.Popen(words, stdin=subprocess.PIPE, stdout=subprocess.PIPE, stderr=subprocess.PIPE)
         running.append(backend)
         end = time.monotonic() + LIMIT
-        while not os.path.exists(path):
-            assert time.monotonic() < end, "the backend doesn't listen"
-        return backend, Client(path)
+        while True:  # the socket's name is there before the socket listens
+            try:
+                return backend, Client(path)
+            except (FileNotFoundError, ConnectionRefusedError):
+                assert time.monotonic() < end, "the backend doesn't listen"
 
     yield make
     for it in running:
@@ -83,7 +82,7 @@ def test_signals_end_it_and_remove_the_socket(serve, program, number):
 
 
 @pytest.mark.parametrize("words, said", (
-    (["--help"], "vhost_user_balloon SOCKET ["), (["--version"], "vhost_user_balloon VERSION\n"), (["socket", "--help"], "vhost_user_balloon SOCKET ["),
+    (["--help"], "vhost_user_balloon SOCKET |"), (["--version"], "vhost_user_balloon VERSION\n"), (["socket", "--help"], "vhost_user_balloon SOCKET |"),
 ))
 def test_help_and_version(program, words, said):
     with open(os.path.join(linux_kit.ROOT, "VERSION"), encoding="ascii") as file:
