@@ -32,11 +32,13 @@ static void tell_target(struct seat *seat)
     order(seat, &message);
 }
 
-/* What a guest may be asked for at once: all of its target, unless a step is smaller, and the host is within its budget. */
+/* What a guest may be asked for at once: all of its target, unless a step is smaller, the host is within its budget, and nobody waits for
+ * pages. */
 static bool goes_by_steps(const struct seat *seat)
 {
     const struct host *host = seat->host;
-    return host->step > 0 && seat->target > seat->told && host_held(host) <= host->frames * UINT64_C(4);
+    bool is_calm = host_held(host) <= host->frames * UINT64_C(4) && !loans_wait(host);
+    return host->step > 0 && seat->target > seat->told && is_calm;
 }
 
 void seat_set_target(struct seat *seat, uint32_t pages)
@@ -72,6 +74,13 @@ void seat_keep_terms(struct seat *seat)
 void seat_leave(struct seat *seat)
 {
     struct lending_message message = {.kind = ORDER_LEAVE};
+    order(seat, &message);
+}
+
+void seat_grant(struct seat *seat)
+{
+    struct lending_message message = {.kind = ORDER_GRANT, .wait = seat->report.held_wait};
+    seat->held_granted = seat->report.held_wait;
     order(seat, &message);
 }
 
