@@ -26,7 +26,7 @@ def comes(town, name="a", size=8):
 
 
 def is_used(client, number, count):
-    """Whether so many chains of a queue are used."""
+    """Whether `count` chains of a queue are used."""
     return client.read(client.table(number) + 2 * PAGE + 2, 2) == struct.pack("<H", count)
 
 

@@ -130,26 +130,22 @@ def histogram(name, what, durations):
     return family
 
 
-# Of the host: durations of the status.
+# Of the host: what it has measured of itself.
 DURATIONS = (
     ("wait", "waits", "Time for which a guest waited for memory until it was granted"),
-    ("decision", "decision_time", "Time that a decision about targets took"),
-    ("loop", "loop_time", "Time that a turn of the host's loop took"),
+    ("decision", "decisions", "Time that a decision about targets took"),
+    ("loop", "turns", "Time that a turn of the host's loop took"),
 )
 
 
-def time_metrics(host):
-    """Yields the metrics of what took time."""
+def measured_metrics(measures):
+    """Yields the metrics of what took time, and of guests that went."""
     for name, field, what in DURATIONS:
-        if field in host:
-            yield histogram(name, what, host[field])
-    if "above_seconds" in host:
-        yield counter("above_budget_seconds", "Time for which the guests held more than the budget", [([], host["above_seconds"])])
-    if "grants" in host:
-        yield counter("grants", "Grants of memory to guests that asked for it", [([], host["grants"])])
-    if "gone_by" in host:
-        gone = [([reason], count) for reason, count in host["gone_by"].items()]
-        yield counter("guest_gone", "Guests that went, by the reason", gone, "reason")
+        yield histogram(name, what, measures[field])
+    yield counter("grants", "Grants of memory to guests that waited for it", [([], sum(measures["waits"]["counts"]))])
+    yield counter("above_budget_seconds", "Time for which the guests held more than the budget", [([], measures["above"])])
+    gone = [([reason], count) for reason, count in measures["gone"].items()]
+    yield counter("guest_gone", "Guests that went, by the reason", gone, "reason")
 
 
 class Collector:
@@ -168,5 +164,5 @@ class Collector:
             return
         yield gauge("up", "Whether the host answers", [([], 1)])
         yield from host_metrics(status["host"])
-        yield from time_metrics(status["host"])
+        yield from measured_metrics(status["host"]["measures"])
         yield from guest_metrics(status["guests"])

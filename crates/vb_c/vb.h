@@ -106,7 +106,7 @@ typedef struct {
     uint64_t guest, length;     /* bytes: where it begins in guest memory, and how many it has */
     uint64_t in_file;           /* where it begins in the file that has its bytes; none: 0 */
 } VbRegion;
-typedef struct { size_t region; uint64_t offset; } VbSpot;     /* so many bytes into the region of this number */
+typedef struct { size_t region; uint64_t offset; } VbSpot;     /* a region's number, and an offset in bytes */
 typedef struct { size_t region; uint64_t offset, in_file, length; } VbCut;     /* whole pages of one region */
 /* Whole large pages of one region (none: length 0), and how many pages of 4096 bytes of a part aren't among them. */
 typedef struct { VbCut cut; uint64_t waiting; } VbLarge;
@@ -130,7 +130,7 @@ typedef struct {
     uint32_t pages, skipped;
     uint32_t figures;           /* VB_TELL_FIGURES */
     uint32_t cuts;              /* VB_DISCARD */
-    uint32_t kept;              /* VB_TELL_PAGES: so many of the pages are kept: given up or free, and yet not discarded */
+    uint32_t kept;              /* VB_TELL_PAGES: how many of the pages are kept: given up or free, and yet not discarded */
     VbSpot id_at, length_at, index_at;          /* VB_GIVE_BACK */
     uint32_t id, used_length;
     uint16_t used_index;
@@ -139,7 +139,7 @@ typedef struct {
     uint32_t code, rule;        /* at the end: VB_OK where a chain was served; VB_NOTHING; or why the last one wasn't */
     uint32_t interrupt;         /* at the end: 1 where the driver wants an interrupt for its used buffers, else 0 */
     uint32_t configuration;     /* at the end: 1 where the driver is to be told of a change of configuration, else 0 */
-    uint32_t more;              /* at the end: 1 where another chain stands there, for which there was no budget, else 0 */
+    uint32_t more;              /* at the end: 1 where another chain is available, for which there was no budget, else 0 */
     uint32_t chains_left, pages_left;           /* these too */
     uint16_t head, count, taken_head;
     uint8_t given, taken, flag, phase, keeps;   /* `taken`: 1 where the chain is held that was told: its pages stay in the set */
@@ -147,7 +147,7 @@ typedef struct {
     uint32_t taken_pages;       /* how many pages that chain names */
 } VbNotice;
 
-/* The room that a notice needs, whatever stands in it at first; then the library's to write, but for `bytes`. One room
+/* The room that a notice needs, with any bytes at first; then the library's to write, but for `bytes`. One room
  * serves notice after notice, of any device, one at a time. */
 typedef struct {
     VbPiece pieces[VB_MAX_PIECES];              /* the chain's */
@@ -188,7 +188,7 @@ VB_ASSERT(VB_HAS(Region, 24) && VB_AT(Region, length, 8) && VB_AT(Region, in_fil
 uint32_t vb_version(void);
 /* Makes a device that waits for its driver. VB_OK or VB_BAD_ARGUMENT. */
 uint32_t vb_new(VbDevice *device, VbSettings settings);
-/* The host wants so many pages in the balloon: tell the driver of the change of configuration. */
+/* Sets the balloon's target to `pages` pages: send the driver a configuration change notification. */
 void vb_set_target(VbDevice *device, uint32_t pages);
 /* The driver writes the status register: 0 accepted (a write of 0 resets: features, actual, poison_val and all places
  * are gone), or, tested in this order, 1 clears a bit, 2 out of order, 5 VERSION_1 missing, 4 MUST_TELL_HOST missing;
@@ -199,7 +199,7 @@ uint32_t vb_negotiate(VbDevice *device, uint64_t features);
 /* The kind of the queue of this number: they are numbered without gaps, by the negotiated features, or by those of a driver. */
 uint32_t vb_kind(const VbDevice *device, uint32_t number);
 uint32_t vb_kind_of(uint64_t features, uint32_t number);
-/* Gives a queue its place, behind vb_negotiate: VB_OK; VB_NO_QUEUE for no kind; VB_BAD_ARGUMENT once DRIVER_OK is set;
+/* Gives a queue its place, after vb_negotiate: VB_OK; VB_NO_QUEUE for no kind; VB_BAD_ARGUMENT once DRIVER_OK is set;
  * VB_NO_QUEUE where the negotiated features leave it out; VB_MISPLACED where size is no power of two from 2 to 256, or a
  * part isn't aligned (16, 2, 4) or doesn't end within memory. */
 uint32_t vb_place(VbDevice *device, uint32_t kind, uint64_t table, uint64_t avail, uint64_t used, uint16_t size);
@@ -216,7 +216,7 @@ uint32_t vb_keeps_reports(const VbDevice *device);
 /* ---- notices over the memory of a running guest
  *
  * vb_begin says what is to be done first. While `what` isn't 0, do each thing whose bit it has, in the order of the bits,
- * and call vb_go_on with the answer, the word that was read (a number, whose lower byte stands first; else any). Places are
+ * and call vb_go_on with the answer, the word that was read (a number, whose lower byte comes first; else any). Places are
  * of the regions that the calls get: the same from begin to end. Who obeys has no bound to test and no sum to make. The
  * guest may write to its memory meanwhile.
  *
@@ -257,7 +257,7 @@ uint32_t vb_place_over(VbBalloon *balloon, const VbRegion *regions, size_t count
  * (VB_MISPLACED as by vb_place_over), and then nothing is changed. */
 uint32_t vb_start_queue(VbBalloon *balloon, const VbRegion *regions, size_t count, uint32_t kind, VbQueueStart at);
 /* Stops a queue, at any status: it has no place any longer, and what is held of it is forgotten. `next` gets the index at which
- * it was: where it starts there, a chain that was taken and not given back, as one that was held, stands again. VB_OK;
+ * it was: where it starts there, a chain that was taken and not given back, as one that was held, is available again. VB_OK;
  * VB_NO_QUEUE for no kind; VB_MISPLACED where it has no place; then nothing is changed, and `next` is 0. */
 uint32_t vb_stop_queue(VbBalloon *balloon, uint32_t kind, uint16_t *next);
 /* Forgets the chain that is held, which isn't given back: VB_OK; VB_NOTHING where none is; VB_NO_QUEUE for no kind. */
@@ -293,7 +293,7 @@ VbMarked vb_mark(uint32_t kind, const VbRun *runs, size_t count, uint64_t *set, 
 uint32_t vb_is_ballooned(const uint64_t *set, size_t words, uint32_t page);
 /* How many pages are in the set: all words are looked at. */
 uint64_t vb_count_ballooned(const uint64_t *set, size_t words);
-/* Of a part that a notice says to discard (VB_DISCARD), what goes back to a machine whose pages behind this region have
+/* Of a part that a notice says to discard (VB_DISCARD), what goes back to a machine whose pages that back this region have
  * `page_size` bytes: a large page goes once each of its pages of 4096 bytes is the part's, or was given up before. That the set
  * says, where the driver agreed to MUST_TELL_HOST; else it may use a page of the set, which doesn't count. `cut`: the large
  * pages that go of those that the part has a page of, more than the part or fewer. `waiting`: its pages that aren't among

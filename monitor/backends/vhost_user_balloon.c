@@ -9,7 +9,7 @@
  * rule (status 1, and one line on standard error that says which). Standard input is the control pipe, each line is
  * answered by one on standard output:
  *
- *     target PAGES    the host wants so many pages in the balloon
+ *     target PAGES    the balloon's target, in pages of 4096 bytes
  *     counters        names and numbers: target, actual, what the memory's files hold on the host, what was served
  *     ask             ask the guest for new statistics
  *     statistics      how often the guest told them, and what it said last

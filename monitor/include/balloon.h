@@ -27,9 +27,9 @@ enum { BALLOON_PRIVATE = -1, BALLOON_SHARED = -2, BALLOON_PAGE = 4096 };
 struct balloon_region {
     uint64_t guest, length;
     uint8_t *host;
-    int fd;                     /* the shared file behind it, or BALLOON_PRIVATE or BALLOON_SHARED */
+    int fd;                     /* the shared file that backs it, or BALLOON_PRIVATE or BALLOON_SHARED */
     uint64_t offset;            /* where the region begins in that file */
-    uint64_t page_size;         /* bytes of the pages of the machine that are behind it: 4096 (or 0) to 1 GiB, a power of two */
+    uint64_t page_size;         /* bytes of the pages of the machine that back it: 4096 (or 0) to 1 GiB, a power of two */
 };
 
 struct balloon {
@@ -38,10 +38,10 @@ struct balloon {
     size_t region_count;
     VbRegion places[BALLOON_MOST_REGIONS];  /* the same, as the library sees them */
     /* What a monitor may set after balloon_init; each hook may be NULL. They get `context`. */
-    uint32_t most_chains, most_pages;   /* a notice begins no further chain after so many chains, or so many pages */
+    uint32_t most_chains, most_pages;   /* a notice begins no further chain after these */
     bool keeps_pages;           /* no page is discarded (counted: kept), as under a passed-through device; may be set at any time */
     void *context;
-    /* These pages are given up (VB_INFLATE) or free (VB_REPORT), before any is discarded; or asked back (VB_DEFLATE). */
+    /* These pages are given up (VB_INFLATE) or free (VB_REPORT), before any is discarded; or requested back (VB_DEFLATE). */
     void (*on_pages)(void *context, uint32_t kind, const VbRun *runs, uint32_t count);
     /* The guest told its statistics, any tags in any order. */
     void (*on_statistics)(void *context, const VbStatistic *figures, uint32_t count);
@@ -64,7 +64,7 @@ struct balloon_result {
     uint32_t rule, chains;      /* of VB_BROKEN; how many were served */
     uint32_t interrupts;        /* bit 1 << kind: interrupt for a used buffer of this queue */
     bool configuration;         /* tell of a change of configuration: the device needs a reset */
-    bool more;                  /* as much was served as a notice may, and more stands there: call again, later */
+    bool more;                  /* as much was served as a notice may, and more is available: call again, later */
     bool held;                  /* a deflate is held now, of `held_pages` pages: balloon_give_deflate grants it */
     uint32_t held_pages;
     uint64_t pages, discarded;  /* named by inflates, deflates and reports; of these, discarded */
@@ -79,7 +79,7 @@ typedef uint64_t __attribute__((may_alias, aligned(1))) balloon_word64;     /* a
 typedef uint32_t __attribute__((may_alias, aligned(1))) balloon_word32;
 typedef uint16_t __attribute__((may_alias)) balloon_word16;
 
-/* Where a spot stands here. */
+/* Where a spot is here. */
 static inline uint8_t *balloon_at(const struct balloon *balloon, VbSpot spot)
 {
     return balloon->regions[spot.region].host + spot.offset;

@@ -44,7 +44,7 @@ static inline struct balloon_result balloon_finish(struct balloon *balloon)
     return result;
 }
 
-/* The driver kicked the queue of this kind: serves what stands there, at most as much as a notice may. Take the kick before: what
+/* The driver kicked the queue of this kind: serves what is available, at most as much as a notice may. Take the kick before: what
  * the driver publishes meanwhile waits for its next one. */
 static inline struct balloon_result balloon_notify(struct balloon *balloon, uint32_t kind)
 {
@@ -74,7 +74,7 @@ static inline bool balloon_held_deflate(const struct balloon *balloon, uint32_t 
 }
 
 /* Grants the deflate that is held (VIRTIO 1.1, 5.5.6): the set loses its pages (marked), and then its chain is given back. VB_NOTHING:
- * none is held; VB_BAD_ARGUMENT: held_runs aren't of so many pages as it names; then nothing is changed. Look at the queue again
+ * none is held; VB_BAD_ARGUMENT: held_runs aren't of as many pages as it names; then nothing is changed. Look at the queue again
  * then (balloon_notify), as its kicks did nothing meanwhile. */
 static inline struct balloon_result balloon_give_deflate(struct balloon *balloon)
 {
@@ -231,7 +231,7 @@ static inline uint32_t balloon_write_config(struct balloon *balloon, uint32_t of
 
 /* ---- the host's wishes */
 
-/* The host wants so many pages in the balloon: tell the driver of a change of configuration then. */
+/* Sets the balloon's target to `pages` pages: send the driver a configuration change notification then. */
 static inline void balloon_set_target(struct balloon *balloon, uint32_t pages)
 {
     vb_set_target(&balloon->state.device, pages);
@@ -259,7 +259,7 @@ static inline uint32_t balloon_save(const struct balloon *balloon, uint8_t *out,
     return vb_save(&balloon->state.device, balloon->state.held, out, room);
 }
 
-/* Goes on where the balloon stood that was saved as these bytes, over regions that balloon_init was told of. VB_OK, as
+/* Goes on where the balloon was that was saved as these bytes, over regions that balloon_init was told of. VB_OK, as
  * vb_restore, or VB_MISPLACED where memory ends elsewhere than it did, or a queue's part lies in a hole. Then nothing is
  * changed. */
 static inline uint32_t balloon_restore(struct balloon *balloon, const uint8_t *bytes, size_t length)

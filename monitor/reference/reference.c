@@ -1,4 +1,4 @@
-/* vb.h in plain C. Nothing is proved of it: it explains answers in tests, and stands in where the library isn't built yet. */
+/* vb.h in plain C. Nothing is proved of it: it explains answers in tests, and replaces the library where that isn't built yet. */
 
 #ifdef REFERENCE_NAMES
 #include "names.h"

@@ -6,7 +6,7 @@ uint32_t vb_version(void) { return VB_VERSION_NUMBER; }
 enum { STATE_VERSION = 3, OLDER_VERSION = 2, OLDER_BYTES = VB_STATE_BYTES - 9, SUM_BYTES = 8 };
 static const uint8_t STATE_BEGINS[16] = { 'V', 'B', 'S', 'T', 'A', 'T', 'E', 0, STATE_VERSION, 0, 0, 0, VB_STATE_BYTES, 0, 0, 0 };
 
-/* Where a number stands in a saved state, or is read from it. */
+/* Where a number is in a saved state, or is read from it. */
 typedef struct { uint8_t *at; bool writes; } Cursor;
 
 static void number(Cursor *cursor, void *field, size_t bytes)
@@ -91,7 +91,7 @@ static bool is_ring(const VbDevice *device, uint32_t kind)
         && (!moved || ((device->status & FEATURES_OK) && !lacks_feature(device, kind)));
 }
 
-/* Whether what is held of a queue is nothing, or one of its chains, which the device holds, and which names so many pages. */
+/* Whether what is held of a queue is nothing, or one of its chains, which the device holds, and which names `pages` pages. */
 static bool may_be_held(const VbDevice *device, uint32_t kind, uint32_t held, uint32_t pages)
 {
     VbDevice copy = *device;

@@ -151,7 +151,7 @@ static uint32_t step(const Call *call, uint16_t answer)
     }
 }
 
-/* Adds what needs no answer of what is to be done now, as long as its bit comes behind the others. */
+/* Adds what needs no answer of what is to be done now, as long as its bit comes after the others. */
 static uint32_t grouped(const Call *call)
 {
     VbNotice *notice = call->notice, before;

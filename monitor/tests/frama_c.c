@@ -1,6 +1,6 @@
 /* What ../tools/check-shim has Frama-C look at: balloon.h with any bytes of a guest, and with whatever the library may answer.
  *
- * The library stands in frama_c/library.h as what its contracts leave open: each answer is any that they allow, and what they
+ * The library is in frama_c/library.h as what its contracts leave open: each answer is any that they allow, and what they
  * promise is named where it is used. What is copied, written, told and discarded is looked at by the analysis itself, and by the
  * assertions of the monitor's hooks and of the machine's calls below. There are four analyses, each from a function of its own:
  * `main`, all but the copies, by the contract of balloon_discard; `discards`, that contract; `copies`, each copy that a notice
@@ -193,7 +193,7 @@ void discards(void)
     }
 }
 
-/* Each copy that a notice may ask for: it lies within a region, and has room behind what was copied (vb_monitor, Fits). Each
+/* Each copy that a notice may ask for: it lies within a region, and has room after what was copied (vb_monitor, Fits). Each
  * length is looked at by itself, so that the analysis sees that a place and its length belong together. */
 void copies(void)
 {

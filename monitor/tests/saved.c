@@ -164,7 +164,7 @@ static void impossible_devices_are_not_saved(void)
     EXPECT(vb_save(&good, (VbHeld){ .statistics = 64 }, bytes, sizeof bytes) == VB_OK);
 }
 
-/* A balloon goes on where it stood; not over other memory, or with a queue in a hole. */
+/* A balloon goes on where it was; not over other memory, or with a queue in a hole. */
 static void a_balloon_goes_on(void)
 {
     uint8_t bytes[VB_STATE_BYTES], again[VB_STATE_BYTES];

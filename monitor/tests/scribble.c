@@ -2,7 +2,7 @@
  *
  * Each thing that the library says is explained: the plain implementation says the same of the same answers.
  * Data pages have stamps. A page that a copy names is zeros before its chain is given back, and gets its stamp again; all
- * other stamps stay, and in a notice that keeps all pages each one does, and so do the bytes before and behind guest memory.
+ * other stamps stay, and in a notice that keeps all pages each one does, and so do the bytes before and after guest memory.
  *
  *     scribble [NOTICES]
  */
@@ -118,7 +118,7 @@ static void *scribble(void *nothing)
 
 /* ---- the device */
 
-/* Memory with bytes before and behind it that nobody may touch. */
+/* Memory with bytes before and after it that nobody may touch. */
 static uint8_t *guarded(size_t length)
 {
     uint8_t *all = mmap(NULL, length + 2 * GUARD, PROT_READ | PROT_WRITE, MAP_PRIVATE | MAP_ANONYMOUS, -1, 0);
@@ -149,7 +149,7 @@ static void begin(void)
     EXPECT(balloon_write_status(&guest.balloon, 15, &result) == 0);
 }
 
-/* A notice, from a device that stands a little behind the index of some moment; the code that it came to. */
+/* A notice, from a device that has taken a little less than the index of some moment; the code that it came to. */
 static uint32_t notice(uint32_t kind, uint64_t random)
 {
     VbBalloon *state = &guest.balloon.state;

@@ -1,4 +1,4 @@
-/* The balloon that a test is for: balloon.h, or with -DRUST_SHIM the Rust crate behind the same calls (rust/ctests). */
+/* The balloon that a test is for: balloon.h, or with -DRUST_SHIM the Rust crate as the same calls (rust/ctests). */
 #ifndef SHIM_H
 #define SHIM_H
 #ifdef RUST_SHIM

@@ -1,4 +1,4 @@
-"""Draws a run of host-linux: what the host holds of each guest, one above the other, over the time, and the targets."""
+"""Draws a run of host-linux: what the host holds of each guest, one above the other, over the time, what it lends, who waits, and the targets."""
 
 import os
 
@@ -8,6 +8,7 @@ from linux_kit import Fault
 GUESTS = ("#77aadd", "#eedd88", "#99ddbb", "#ffaabb", "#bbccee", "#ee8866", "#aaaa00", "#dddddd")
 BUDGET = {"color": "#cc0022", "linewidth": 1.6}
 PROMISED = {"color": "#444444", "linewidth": 1.2, "linestyle": (0, (1, 2))}
+LENT = {"color": "#225588", "linewidth": 1.2, "linestyle": (0, (4, 2))}
 
 # Seconds for which a picture has one point: that where the host held most.
 POINT_EVERY = 0.2
@@ -32,9 +33,19 @@ def draw_held(axes, samples, budget, promised):
         axes.fill_between(seconds, below, above, step="post", color=GUESTS[number % len(GUESTS)], linewidth=0)
         below = above
     axes.plot(seconds, below, drawstyle="steps-post", color="#333333", linewidth=0.8)
+    axes.plot(seconds, [sum(it.loans) for it in samples], drawstyle="steps-post", **LENT)
     axes.axhline(budget, **BUDGET)
     axes.axhline(promised, **PROMISED)
     axes.set(ylabel="MiB on the host", ylim=(0, promised * 1.05))
+
+
+def draw_waits(axes, samples, names):
+    """Draws, for each guest, the times at which it waits."""
+    seconds = [it.seconds for it in samples]
+    for number in range(len(names)):
+        waits = [bool(it.waits[number]) for it in samples]
+        axes.fill_between(seconds, number + 0.1, number + 0.9, where=waits, step="post", color=GUESTS[number % len(GUESTS)], linewidth=0)
+    axes.set(ylabel="waits", ylim=(0, len(names)), yticks=())
 
 
 def draw_targets(axes, samples):
@@ -51,6 +62,7 @@ def explain(library, axes, names):
     """Puts the legend beside the panels."""
     area, line = library.patches.Patch, library.lines.Line2D
     handles = [line([], [], label="promised to all", **PROMISED), line([], [], label="the host's budget", **BUDGET)]
+    handles.append(line([], [], label="lent to all", **LENT))
     handles.append(line([], [], label="held for all", color="#333333", linewidth=0.8))
     handles += [area(color=GUESTS[it % len(GUESTS)], label=name) for it, name in reversed(list(enumerate(names)))]
     axes.legend(handles=handles, loc="upper left", bbox_to_anchor=(1.01, 1.02), borderaxespad=0, frameon=False)
@@ -62,9 +74,10 @@ def draw(library, path, names, budget, promised, samples):
     if len(points) < 2:
         raise Fault("the run is too short for a picture")
     figure = library.figure.Figure(figsize=(10, 5.2))
-    above, below = figure.subplots(2, 1, sharex=True, gridspec_kw={"height_ratios": (5, 2)})
+    above, middle, below = figure.subplots(3, 1, sharex=True, gridspec_kw={"height_ratios": (10, 1, 4)})
     figure.subplots_adjust(left=0.07, right=0.84, top=0.97, bottom=0.09, hspace=0.08)
     draw_held(above, points, budget, promised)
+    draw_waits(middle, points, names)
     draw_targets(below, points)
     above.set_xlim(points[0].seconds, points[-1].seconds)
     explain(library, above, names)

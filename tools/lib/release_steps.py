@@ -1,5 +1,10 @@
 """What tools/test-release does in a fresh Debian: the packages that it wants, and shell words, each of which ends with status 0."""
 
+import re
+
+from linux_kit import Fault
+from release_tree import read
+
 # What a monitor is built with, and what a host's package wants besides.
 WANTED = (
     "gcc clang g++ pkg-config libc6-dev xz-utils rustc cargo librust-vm-memory-dev python3 lintian"
@@ -34,8 +39,7 @@ STEPS = (
 RUN_HOST = """
 sed -i 's/^# budget = 8G/budget = 64M/' /etc/bigvasta/host.conf
 install -d -o bigvasta -g bigvasta -m 0750 /run/bigvasta
-rm -f /tmp/input && mkfifo /tmp/input
-runuser -u bigvasta -- /usr/bin/vhost_user_host --config /etc/bigvasta/host.conf <> /tmp/input > /tmp/host.out 2>&1 &
+setpriv --reuid=bigvasta --regid=bigvasta --init-groups /usr/bin/vhost_user_host --config /etc/bigvasta/host.conf < /dev/null > /tmp/host.out 2>&1 &
 host=$!
 for i in 1 2 3 4 5 6 7 8 9 10; do bigvasta status > /tmp/status 2>&1 && break; sleep 0.5; done
 cat /tmp/host.out /tmp/status
@@ -44,12 +48,12 @@ test "$(bigvasta add web-1)" = /run/bigvasta/web-1
 test -S /run/bigvasta/web-1
 test "$(bigvasta status --names)" = web-1
 bigvasta guest web-1 --json | python3 -c 'import json, sys; assert json.load(sys.stdin)["guest"]["state"] == "absent"'
-sed -i 's/^budget = 64M/budget = 32M/' /etc/bigvasta/host.conf && kill -HUP $(pidof vhost_user_host)
+sed -i 's/^budget = 64M/budget = 32M/' /etc/bigvasta/host.conf && kill -HUP $host
 for i in 1 2 3 4 5 6 7 8 9 10; do test "$(bigvasta budget)" = '32 MiB' && break; sleep 0.5; done
 test "$(bigvasta budget)" = '32 MiB'
 bigvasta metrics | grep -q '^bigvasta_budget_bytes 3.3554432e+07$'
 bigvasta remove web-1
-kill $(pidof vhost_user_host)
+kill $host
 wait $host
 test ! -e /run/bigvasta/.control
 rmdir /run/bigvasta
@@ -59,10 +63,14 @@ rmdir /run/bigvasta
 HOST_STEPS = (
     ("the programs say how they are called", "vhost_user_balloon 2>&1 | grep -q SOCKET; vhost_user_host 2>&1 | grep -q FOLDER; bigvasta --help | grep -q watch"),
     ("the user and the group", "getent passwd bigvasta && getent group bigvasta"),
-    ("the backend's kind, and its description", "vhost_user_balloon --print-capabilities | diff - /usr/share/qemu/vhost-user/50-bigvasta-balloon.json | grep -c type && exit 1 || true"),
+    (
+        "the backend's kind, and its description",
+        "vhost_user_balloon --print-capabilities | python3 -c 'import json, sys;"
+        ' assert json.load(sys.stdin)["type"] == json.load(open("/usr/share/qemu/vhost-user/50-bigvasta-balloon.json"))["type"]\'',
+    ),
     ("the units", "systemd-analyze verify --man=no bigvasta-host.service bigvasta-metrics.service"),
     ("a host by its configuration, and the client program", RUN_HOST),
-    ("no host", "bigvasta status; test $? = 3"),
+    ("no host", "bigvasta status || test $? = 3"),
     ("the completion", "bash -c '. /usr/share/bash-completion/completions/bigvasta && complete -p bigvasta'"),
     ("the host's man pages", "for each in bigvasta.1 vhost_user_host.1 vhost_user_balloon.1 bigvasta-host.conf.5; do man -w ${each%.*} && test -s /usr/share/man/man${each##*.}/$each.gz; done"),
 )
@@ -78,3 +86,49 @@ printf 'Package: bigvasta\\nVersion: 0.1.0~~old\\nArchitecture: amd64\\nMaintain
 dpkg-deb --root-owner-group -b /tmp/old /tmp/old.deb && dpkg -i /tmp/old.deb && rm -rf /tmp/old /tmp/old.deb
 test "$(vhost_user_host)" = old
 """
+
+# What the unit of a service does, in a root where no service manager runs: by its user, with the words of its ExecStart.
+START = """
+words=$(sed -n 's/^ExecStart=//p' /lib/systemd/system/{unit}.service)
+setpriv --reuid=bigvasta --regid=bigvasta --init-groups $words < /dev/null > /tmp/{unit}.out 2>&1 &
+{name}=$!
+"""
+
+# What a command of README's becomes in such a root, by how it begins; every other one is run as it is.
+INSTEAD = (
+    ("systemctl enable --now bigvasta-host bigvasta-metrics", """
+systemctl enable bigvasta-host bigvasta-metrics
+install -d -o bigvasta -g bigvasta -m 0750 /run/bigvasta
+""" + START.format(unit="bigvasta-host", name="host") + """
+for i in $(seq 40); do bigvasta status > /dev/null 2>&1 && break; sleep 0.5; done
+""" + START.format(unit="bigvasta-metrics", name="metrics")),
+    # No QEMU of Debian 12 or 13 has that device: what it would connect to is there.
+    ("qemu-system-x86_64", "test -S $(echo '{command}' | sed -n 's/.*socket,id=balloon,path=\\([^ ,]*\\).*/\\1/p')"),
+    ("bigvasta watch", "sleep 2 && (sleep 2; printf q) | TERM=xterm timeout 20 script -qec 'bigvasta watch' /dev/null | grep -q 'budget 6144'"),
+)
+
+# What has to be true after README's commands, and how they are undone.
+AFTER = """
+for i in $(seq 40); do python3 -c '
+import urllib.request
+text = urllib.request.urlopen("http://localhost:9750/metrics").read().decode()
+assert "bigvasta_up 1.0" in text and "bigvasta_budget_bytes 6.442450944e+09" in text' 2> /tmp/metrics.err && break; sleep 0.5; done
+cat /tmp/metrics.err
+test ! -s /tmp/metrics.err
+kill $metrics $host && wait $host
+rm -rf /run/bigvasta
+systemctl disable bigvasta-host bigvasta-metrics
+"""
+
+
+def readme_step():
+    """Returns the step that runs README's commands for a host, as they are there."""
+    found = re.search(r"(?s)\n## Run a host\n.*?```sh\n(.*?)```", read("README.md"))
+    if not found:
+        raise Fault("README.md has no commands under 'Run a host'")
+    script = ["dpkg --purge bigvasta-host", "cd /tmp"]
+    for command in found[1].replace("\\\n", " ").splitlines():
+        command = command.removeprefix("sudo ")
+        instead = [text for begin, text in INSTEAD if command.startswith(begin)]
+        script.append(instead[0].replace("{command}", command) if instead else command.replace("apt-get install", "apt-get install -q -y"))
+    return "README's commands for a host", "\n".join([*script, AFTER])

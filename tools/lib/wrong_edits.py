@@ -4,7 +4,7 @@ H, CALLS = "include/balloon.h", "include/balloon_calls.h"
 OBEY, BALLOON, SERVED = "rust/src/obey.rs", "rust/src/balloon.rs", "rust/src/served.rs"
 LENDING = "rust/src/lending.rs"
 
-# name, file, the text, what stands in its place.
+# name, file, the text, what replaces it.
 WRONG = [
     ("no acquire fence", H, "__atomic_thread_fence(__ATOMIC_ACQUIRE);", ";"),
     ("no release fence", H, "    __atomic_thread_fence(__ATOMIC_RELEASE);\n", ""),

@@ -61,7 +61,7 @@ unfolding lib.Count.ones
 not_placed lies h =
     let e : Same 0 8 = ap (λ (b : Balloon). b.device.inflate.size) (h.placed_so refl lies).1 in omega arith
 
--- ---- a state that has room and may be one is saved: its bytes, and behind them what stood there
+-- ---- a state that has room and may be one is saved: its bytes, and after them what was there
 
 is_saved : (s : Saved) (old : List ℕ) → save_denial s (length old) ≡ None → FitsSaved s →
     Saves s old (saved_bytes s ++ drop SAVED_LENGTH old) 0

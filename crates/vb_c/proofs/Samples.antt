@@ -46,7 +46,7 @@ half = record { guest = 0; length = 0x800; in_file = 0 } ∷ []
 abbrev pub a_buffer : ℕ → Held
 a_buffer n = record { statistics = n; deflate = 0; pages = 0 }
 
--- a chain of this head is held, which names so many pages
+-- a chain of this head is held, which names n pages
 abbrev pub chain_of : ℕ → ℕ → Option HeldChain
 chain_of head pages = Some (record { head = head; pages = pages })
 

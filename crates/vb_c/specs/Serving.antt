@@ -47,7 +47,7 @@ pub record Refuses (code : ℕ) (b1 b2 : Balloon) (r1 r2 : VbRoom) (c : VbNotice
   pub balloon : b2 ≡ b1
   pub room : r2 ≡ r1
 
--- A notice is handed over, with all that is done before it waits: behind that, whatever may still
+-- A notice is handed over, with all that is done before it waits: after that, whatever may still
 -- come then, all that could come may come. Parts are left to discard only where the list of those
 -- that are discarded now is full. With the pages that are told it says how many of them are kept.
 pub record HandsOver (n : Notice) (regions : List Region) (runs : List Run) (b1 b2 : Balloon)

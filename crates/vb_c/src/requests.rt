@@ -21,7 +21,7 @@ use crate::showing::asked_bits;
 use vb_core::{Denial, Kind, Named, Run};
 use vb_monitor::{
     Asked, Balloon, Cut, Discarding, MAX_CUTS, MAX_RUNS, Notice, Phase, Region, Step, Tally, Told,
-    end, fill_few, fill_named, give_and_go, kept_pages, name_copied,
+    end, fill_named, give_and_go, kept_pages, name_copied,
 };
 
 /// Hands over a chain whose pages were named, however it is served.
@@ -104,9 +104,10 @@ fn give_named(
     }
 }
 
-/// Serves a request of any number of discard ranges.
+/// Hands over a chain whose pages were named, of a queue that is served: parts of its runs are
+/// discarded, as many as the list has room for. A chain that is held isn't given back.
 #[inline(never)]
-fn serve_many(
+fn serve_named(
     shown: &mut VbNotice,
     balloon: &mut Balloon,
     regions: &[Region],
@@ -119,11 +120,13 @@ fn serve_many(
     requires kind { kind_of_code shown.old.kind ≡ Some kind }
     requires few { named.runs ≤ MAX_RUNS }
     requires ready { queue_denial kind balloon.old.device ≡ None }
-    requires unheld { shown.old.taken ≡ 0 }
     ensures hands { HandsOver (telling_pages kind (tally_of shown.old) head named) regions.now
         runs.now balloon.old balloon.new cuts.new shown.new }
     ensures what { result ≡ shown.new.what }
 {
+    if shown.taken != 0 {
+        return hand_named(shown, balloon, regions, runs, cuts, kind, head, named);
+    }
     let keeps = shown.keeps != 0;
     let filled = fill_named(
         &balloon.device,
@@ -164,46 +167,6 @@ fn serve_many(
             shown.show_cut(bits, left.cut, discarding);
             shown.what
         }
-    }
-}
-
-/// Serves a request by a fast path for at most one discard range of a chain that isn't held, else
-/// by `hand_named` or `serve_many`.
-#[inline(always)]
-fn serve_named(
-    shown: &mut VbNotice,
-    balloon: &mut Balloon,
-    regions: &[Region],
-    runs: &[Run; MAX_RUNS],
-    cuts: &mut [Cut; MAX_CUTS],
-    kind: Kind,
-    head: u16,
-    named: Named,
-) -> u32
-    requires kind { kind_of_code shown.old.kind ≡ Some kind }
-    requires few { named.runs ≤ MAX_RUNS }
-    requires ready { queue_denial kind balloon.old.device ≡ None }
-    ensures hands { HandsOver (telling_pages kind (tally_of shown.old) head named) regions.now
-        runs.now balloon.old balloon.new cuts.new shown.new }
-    ensures what { result ≡ shown.new.what }
-{
-    if shown.taken != 0 {
-        return hand_named(shown, balloon, regions, runs, cuts, kind, head, named);
-    }
-    let keeps = shown.keeps != 0;
-    match fill_few(
-        &balloon.device,
-        regions,
-        kind,
-        keeps,
-        runs,
-        named.runs,
-        cuts,
-    ) {
-        None => serve_many(shown, balloon, regions, runs, cuts, kind, head, named),
-        Some(count) => give_named(
-            shown, balloon, regions, runs, cuts, kind, head, named, count,
-        ),
     }
 }
 

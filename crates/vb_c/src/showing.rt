@@ -114,8 +114,8 @@ impl VbNotice {
         }
     }
 
-    /// Shows that the pages of the chain of this head were named, so many; it is held where the
-    /// settings say so.
+    /// Shows that `pages` pages of the chain of this head were named; it is held where the settings
+    /// say so.
     #[inline(always)]
     pub(crate) fn show_named(&mut self, settings: &Settings, kind: Kind, head: u16, pages: u32)
         ensures tally { tally_of self.new ≡

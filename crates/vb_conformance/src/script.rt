@@ -1,6 +1,6 @@
 //! A script of a file, and what its runs have to write.
 
-ghost use Rattle.std.specs.Prelude.{◌≡◌, ◌==◌, ◌&&◌};
+ghost use Rattle.std.specs.Prelude.{◌≡◌, true};
 
 use std::alloc::{AllocError, Global};
 use std::rt::Files;
@@ -36,8 +36,10 @@ impl Script {
     /// Whether this is what its files say of a run: all that is written to the output and to the
     /// errors, and the exit status.
     pub fn says(&self, output: &[u8], errors: &[u8], status: u8) -> bool
-        ensures { result ≡ ((self.now.status == status) && (self.now.output.items == output.now)
-            && (self.now.errors.items == errors.now)) }
+        ensures yes { result ≡ true → (self.now.status ≡ status)
+            × (self.now.output.items ≡ output.now) × (self.now.errors.items ≡ errors.now) }
+        ensures no { self.now.status ≡ status → self.now.output.items ≡ output.now →
+            self.now.errors.items ≡ errors.now → result ≡ true }
     {
         self.status == status
             && self.output.as_slice() == output

@@ -1,8 +1,8 @@
 -- What reports name, worked out, and what they don't.
 use Rattle.std.proofs.Common.{◌≡◌, refl, ap, arith, ℕ, true, false, List, [], ◌∷◌, length, Some}
-use Rattle.std.proofs.Common.{None, Result, Ok, Err, map, ◌++◌}
+use Rattle.std.proofs.Common.{None, Result, Ok, Err, map}
 use Rattle.vb_core.specs.Report.{run_of, report_named, pieces_denial}
-use Rattle.vb_core.specs.{Report.are_reported, Pieces.pieces_in}
+use Rattle.vb_core.specs.{Pieces.pieces_in}
 use Rattle.vb_core.specs.declared.device.Denial.{Denial, TheVariants.{BadArgument, NotReady, Broken}}
 use Rattle.vb_core.specs.declared.{device.Device.Device, name.Named.Named, runs.Run.Run}
 use Rattle.vb_core.{proofs.Examples.{fresh, ready}, specs.Report.NamesPiecesBy}
@@ -41,13 +41,6 @@ says : pieces_in (map (λ (n : ℕ). record { address = 81920; length = 8192; wr
     ≡ record two { writable = false } ∷ two ∷ two ∷ []
 unfolding pieces_in
 says = refl
-
--- which pieces are a report: none at all, two, and one whose page is the first that isn't reserved
-are : map (are_reported 40) ([] ∷ (one ∷ one ∷ []) ∷ []) ++ map (λ piece. are_reported 16 (two ∷ piece ∷ []))
-    (one ∷ record one { writable = false } ∷ record one { len = 2048 } ∷ record one { len = 0 }
-    ∷ record one { addr = 163841 } ∷ []) ++ are_reported 41 (one ∷ []) ∷ []
-    ≡ true ∷ true ∷ true ∷ false ∷ false ∷ false ∷ false ∷ false ∷ []
-are = refl
 
 -- ---- a device
 

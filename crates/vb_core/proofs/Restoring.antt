@@ -81,7 +81,8 @@ front len parts bytes more enough so_long eight e =
     ) in
     ap (λ (xs : List ℕ). take (len - 8) xs) whole ∙ take_at (in_a_row parts []) more (len - 8) own
 
--- bytes with a good header and checksum are restored to the device that they say, if calls lead to it
+-- bytes with a good header and checksum are restored to the device that they say, if calls lead to
+-- it
 restores : (version len : ℕ) (s : Saved) (bytes : List ℕ) → is_version version ≡ true
     → length_of version ≡ len → nat_lt len HEADER_LENGTH ≡ false → length bytes ≡ len → u64_at bytes 0 ≡ MAGIC
     → u32_at bytes VERSION_AT ≡ version → u32_at bytes LENGTH_AT ≡ len
@@ -103,7 +104,7 @@ restores version len s bytes known so_many enough so_long magic told_version tol
     (ap (λ (x : Saved). can_be x) is ∙ possible)
     ∙ ap (λ (x : Saved). Ok x) is
 
--- the newer version's device, by the older one's fields and what stands behind them
+-- the newer version's device, by the older one's fields and what comes after them
 newer_is : (s : Saved) (bytes : List ℕ) → older_in bytes ≡ older_of s
     → get_or bytes 183 0 ≡ s.device.settings.holds_deflates → u32_at bytes 184 ≡ s.held.deflate
     → u32_at bytes 188 ≡ s.held.pages → saved_in bytes ≡ s

@@ -99,7 +99,7 @@ says version len s more bytes low short f e = let d = s.device in
     let o = ring_then d.report _ bytes 149 f.report n.1 in
     let q = u32_then d.poison _ bytes 179 183 f.poison refl o.1 in grind arith
 
--- what stands behind that, in this version
+-- what comes after that, in this version
 pub holds_then : (s : Saved) (more bytes : List ℕ) → FitsHolds s
     → drop HOLD_AT bytes ≡ in_a_row (hold_parts s) more
     → (get_or bytes 183 0 ≡ s.device.settings.holds_deflates) × (u32_at bytes 184 ≡ s.held.deflate)

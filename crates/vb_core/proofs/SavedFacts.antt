@@ -1,4 +1,5 @@
--- Worked facts of saved devices: their bytes, the states that calls lead to, and those that none do.
+-- Worked facts of saved devices: their bytes, the states that calls lead to, and those that none
+-- do.
 use Rattle.std.specs.{List.range_with_len, Prelude.{Some, None, Err}}
 use Rattle.std.proofs.Common.{◌≡◌, ℕ, true, false, [], ◌∷◌, map, refl, count_by}
 use Rattle.vb_core.specs.Saved.{is_status, are_agreed, is_blank, has_moved, is_ring, is_held}
@@ -165,7 +166,7 @@ not_held : map (is_held Statistics) (holding 11 0x100000003 1
     ∷ holding 15 0x100000001 1 ∷ holding 15 0x100000003 65 ∷ []) ≡ false ∷ false ∷ false ∷ []
 not_held = refl
 
--- a deflate of so many pages is held, or none
+-- a deflate of n pages is held, or none
 abbrev asking : ℕ → ℕ → ℕ → Saved
 asking status held pages = record {
   device = record (at_step status 0x100000001) { deflate = ring 0 };
@@ -176,8 +177,8 @@ held_deflates : map (is_held Deflate) (asking 3 0 0 ∷ asking 15 1 0 ∷ asking
     ≡ true ∷ true ∷ true ∷ true ∷ []
 held_deflates = refl
 
--- not before the driver is done, of no head of the queue, of more pages than a request has, pages of
--- none, and where deflates aren't held
+-- not before the driver is done, of no head of the queue, of more pages than a request has, pages
+-- of none, and where deflates aren't held
 not_held_deflates : map (is_held Deflate) (asking 11 1 1 ∷ asking 15 65 1 ∷ asking 15 1 257 ∷ asking 15 0 1
     ∷ record (asking 15 1 1) {
       device = record (asking 15 1 1).device { settings = record settings { holds_deflates = 0 } };

@@ -1,5 +1,5 @@
--- The bytes of a saved device. Numbers are little-endian (as in VIRTIO 1.1, 1.4), and nothing
--- stands between them.
+-- The bytes of a saved device. Numbers are little-endian (as in VIRTIO 1.1, 1.4), and nothing is
+-- between them.
 use Rattle.std.specs.Prelude.{ℕ, ◌+◌, ◌*◌, ◌%◌, ◌^◌, ◌<◌, List, [], ◌∷◌, ◌++◌, slice_index, take}
 use Rattle.std.specs.Prelude.{drop, bit_xor, ◌≡◌, ◌⊎◌, ◌==◌, if◌then◌else◌, length}
 use Rattle.std.specs.List.{fold}
@@ -22,7 +22,7 @@ u32_bytes n = to_le_bytes w32 n
 unfoldable pub u64_bytes : ℕ → List ℕ
 u64_bytes n = to_le_bytes w64 n
 
--- the numbers that stand so far behind the start
+-- the numbers that are so far after the start
 unfoldable pub u16_at : List ℕ → ℕ → ℕ
 u16_at bytes at = from_le_bytes w16 (take 2 (drop at bytes))
 
@@ -55,7 +55,7 @@ device_parts d held =
     ++ ring_parts d.inflate ++ ring_parts d.deflate
     ++ ring_parts d.statistics ++ ring_parts d.report ++ (u32_bytes d.poison ∷ [])
 
--- parts in a row, and more behind them
+-- parts in a row, and more after them
 abbrev pub in_a_row : List (List ℕ) → List ℕ → List ℕ
 in_a_row [] more = more
 in_a_row (part ∷ parts) more = part ++ in_a_row parts more
@@ -149,7 +149,7 @@ older_in bytes = record {
 abbrev pub with_holds : ℕ → Settings → Settings
 with_holds n s = record s { holds_deflates = n }
 
--- a device of this version, which says more behind that
+-- a device of this version, which says more after that
 abbrev pub saved_in : List ℕ → Saved
 saved_in bytes = record {
   device = record (older_in bytes).device {

@@ -1,12 +1,12 @@
 -- Reports, by their pieces.
 use Rattle.std.specs.Prelude.{◌≡◌, ℕ, ◌/◌, Bool, true, not, ◌&&◌, nat_le, List, length, map, take}
-use Rattle.std.specs.Prelude.{Option, Some, None, Result, Ok, Err, IsOk, is_none}
-use Rattle.std.specs.List.{list_any, list_all}
+use Rattle.std.specs.Prelude.{Option, Some, None, Result, Ok, Err, IsOk}
+use Rattle.std.specs.List.{list_any}
 use Rattle.vb_virtio.specs.declared.limits.TheConstants.{MAX_REPORT_PIECES}
 use Rattle.vb_virtio.specs.Limits.{page_size}
 use Rattle.vb_chain.specs.declared.pieces.Piece.{Piece}
 use Rattle.vb_chain.specs.declared.fault.ChainFault.{ChainFault}
-use Rattle.vb_request.specs.Report.{report_request, has_bad_length, piece_fault}
+use Rattle.vb_request.specs.Report.{report_request}
 use Rattle.vb_core.specs.declared.runs.Run.{Run}
 use Rattle.vb_core.specs.declared.name.Named.{Named}
 use Rattle.vb_core.specs.declared.settings.TheConstants.{MEMORY_LIMIT}
@@ -19,14 +19,6 @@ use Rattle.vb_core.specs.Name.{after_request, told}
 -- The pages of a piece of whole pages.
 abbrev pub run_of : Piece → Run
 run_of piece = record { first = piece.addr / page_size; count = piece.len / page_size }
-
--- The piece is some whole pages, none of them reserved, that the device may write.
-abbrev pub is_reported : ℕ → Piece → Bool
-is_reported reserved piece =
-    piece.writable && (not (has_bad_length piece) && is_none (piece_fault reserved piece))
-
-abbrev pub are_reported : ℕ → List Piece → Bool
-are_reported reserved pieces = list_all (is_reported reserved) pieces
 
 -- No guest has memory where the piece begins.
 abbrev pub is_beyond : Piece → Bool

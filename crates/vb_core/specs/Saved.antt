@@ -26,7 +26,7 @@ use Rattle.vb_core.specs.Format.{u32_at, u64_at, checksum, state_in}
 
 -- ---- the states that calls lead to
 
--- the bit stands only with the one before it
+-- the bit is only with the one before it
 abbrev pub comes_after : ℕ → ℕ → ℕ → Bool
 comes_after status bit before = not (contains status bit) || contains status before
 
@@ -125,7 +125,7 @@ are_so_long len bytes = (u32_at bytes LENGTH_AT == len) && (length bytes == len)
 abbrev pub has_length : List ℕ → Bool
 has_length bytes = are_so_long (length_of (u32_at bytes VERSION_AT)) bytes
 
--- the checksum of all bytes before it stands last
+-- the checksum of all bytes before it is last
 abbrev pub has_sum : List ℕ → Bool
 has_sum bytes =
     u64_at bytes (length bytes - CHECKSUM_LENGTH)

@@ -25,16 +25,16 @@ pub const OLDER_VERSION: u32 = 2;
 /// Bytes that each version begins with: `MAGIC`, the version, the length.
 pub(crate) const HEADER_LENGTH: usize = 16;
 
-/// Where the version stands.
+/// Where the version is.
 pub(crate) const VERSION_AT: usize = 8;
 
-/// Where the length of the whole stands.
+/// Where the length of the whole is.
 pub(crate) const LENGTH_AT: usize = 12;
 
-/// Where stands what the older version doesn't say: its checksum stands there.
+/// Where is what the older version doesn't say: its checksum is there.
 pub(crate) const HOLD_AT: usize = 183;
 
-/// Where the checksum of all bytes before it stands.
+/// Where the checksum of all bytes before it is.
 pub(crate) const CHECKSUM_AT: usize = 192;
 
 /// How many bytes the checksum has.
@@ -82,7 +82,7 @@ pub(crate) fn u64_at(bytes: &[u8], at: usize) -> u64
     u64::from_le_bytes(word)
 }
 
-/// The settings that stand here.
+/// The settings that are here.
 fn settings_at(bytes: &[u8], at: usize) -> Settings
     requires { at + 22 ≤ length bytes.now }
     ensures { result ≡ settings_at bytes.now at }
@@ -97,7 +97,7 @@ fn settings_at(bytes: &[u8], at: usize) -> Settings
     }
 }
 
-/// The ring that stands here.
+/// The ring that is here.
 fn ring_at(bytes: &[u8], at: usize) -> Virtqueue
     requires { at + 30 ≤ length bytes.now }
     ensures { result ≡ ring_at bytes.now at }
@@ -246,7 +246,7 @@ fn push_ring(out: &mut SavedBytes, ring: &Virtqueue)
     push_u16(out, ring.next_used);
 }
 
-/// Adds what stands before the checksum.
+/// Adds what comes before the checksum.
 fn push_body(out: &mut SavedBytes, saved: &Saved)
     requires empty { out.old.items ≡ [] }
     requires len { array_vec_len out.old ≡ 0 }

@@ -12,7 +12,7 @@ pub struct Held {
     /// 1 more than the head of the buffer of statistics that was taken, and waits until it is asked
     /// for; 0 where none does.
     pub statistics: u32,
-    /// The same of a deflate, which waits until it is granted.
+    /// 1 more than the head of the deflate that waits until it is granted; none: 0.
     pub deflate: u32,
     /// How many pages that deflate names; 0 where none is held.
     pub pages: u32,
@@ -61,7 +61,7 @@ impl Held {
         }
     }
 
-    /// Holds the chain of this head of a kind's queue, which names so many pages, in place of what
+    /// Holds the chain of this head of a kind's queue, which names `pages` pages, in place of what
     /// was held of it; chains of inflates and of reports aren't held.
     pub fn hold(&mut self, kind: Kind, head: u16, pages: u32)
         ensures { self.new ≡ with_held kind (head + 1) pages self.old }

@@ -14,7 +14,7 @@ use vb_request::lacks_feature;
 use vb_status::{Features, Status};
 use vb_virtio::limits::MAX_REQUEST_PAGES;
 
-/// Whether a bit of the status stands only with the one that comes before it.
+/// Whether a bit of the status is only with the one that comes before it.
 fn comes_after(status: Status, bit: Status, before: Status) -> bool
     ensures { result ≡ comes_after (status_bits status) (status_bits bit) (status_bits before) }
 {
@@ -100,7 +100,7 @@ impl Device {
         ring.is_blank() || placed && (!ring.has_moved() || may_move)
     }
 
-    /// Whether the driver could write what stands in `poison_val`.
+    /// Whether the driver could write what is in `poison_val`.
     fn is_poison(&self) -> bool
         ensures { result ≡ is_poison self.now }
     {
@@ -110,7 +110,7 @@ impl Device {
 
 impl Saved {
     /// Whether what is held of a kind's queue is nothing, or one of its chains, which the device
-    /// holds and which may name so many pages.
+    /// holds and which may name n pages.
     fn is_held(&self, kind: Kind) -> bool
         ensures { result ≡ is_held kind self.now }
     {

@@ -1,20 +1,21 @@
 //! Reports: chains of pages that are free in the guest.
 
-ghost use Rattle.std.specs.Prelude.{◌≡◌, ℕ, ◌≤◌, ◌<◌, ◌+◌, ◌==◌, not, false, true};
-ghost use Rattle.std.specs.Prelude.{MatchOption, IfSome, OnOk, Ok, Err};
+ghost use Rattle.std.specs.Prelude.{◌≡◌, ℕ, ◌≤◌, ◌<◌, ◌*◌, ◌^◌, not, false, true, All};
+ghost use Rattle.std.specs.Prelude.{OnOk, Ok, Err};
 ghost use Rattle.std.specs.Prelude.{length, map, take};
 ghost use Rattle.vb_virtio.specs.declared.limits.TheConstants.{MAX_REPORT_PIECES};
-ghost use Rattle.vb_request.specs.Report.{report_request, pages_of_pieces};
+ghost use Rattle.vb_virtio.specs.Limits.{page_size};
+ghost use Rattle.vb_request.specs.Report.{report_request};
 ghost use Rattle.std.specs.List.{list_any};
 ghost use Rattle.vb_core.specs.Pieces.{piece_in, pieces_in};
 ghost use Rattle.vb_core.specs.Report.{run_of, is_beyond, report_named};
-ghost use Rattle.vb_core.specs.Report.{NamesPiecesBy, is_reported, are_reported};
+ghost use Rattle.vb_core.specs.Report.{NamesPiecesBy};
 
 use crate::pieces::piece_in;
 use crate::{ChainPiece, Denial, Device, Kind, MEMORY_LIMIT, Named, Run};
 use arrayvec::ArrayVec;
 use vb_chain::{ChainFault, Piece};
-use vb_request::check_report;
+use vb_request::{check_report, count_pages};
 use vb_virtio::limits::{MAX_REPORT_PIECES, PAGE_SIZE};
 
 /// Runs that a report has room for at least: its pieces, at the most.
@@ -65,42 +66,26 @@ fn fault_of_many(pieces: &[ChainPiece]) -> ChainFault
     ChainFault::BadLength
 }
 
-/// Whether a piece is some whole pages, none of them reserved, that the device may write.
-#[inline(always)]
-fn is_reported(reserved: u32, piece: &ChainPiece) -> bool
-    ensures { result ≡ is_reported reserved (piece_in piece.now) }
+/// The pages of a piece of whole pages.
+fn run_of(piece: &Piece) -> Run
+    requires { piece.now.addr < page_size * 2 ^ 32 }
+    ensures { result ≡ run_of piece.now }
 {
-    let page_bytes = u64::from(PAGE_SIZE);
-    piece.writable != 0
-        && piece.length != 0
-        && piece.length % PAGE_SIZE == 0
-        && piece.address % page_bytes == 0
-        && piece.address / page_bytes >= u64::from(reserved)
+    Run {
+        first: (piece.addr / u64::from(PAGE_SIZE)) as u32,
+        count: piece.len / PAGE_SIZE,
+    }
 }
 
-/// Puts the runs of the pieces into the front of a slice, and says how many pages they have; none
-/// where one isn't some whole unreserved pages that the device may write.
-fn put_reported(reserved: u32, pieces: &[ChainPiece], runs: &mut [Run]) -> Option<u32>
-    requires few { length pieces.now ≤ MAX_REPORT_PIECES }
+/// Puts the runs of all pieces into the front of a slice.
+fn put_runs(pieces: &[Piece], runs: &mut [Run])
     requires room { length pieces.now ≤ length runs.old }
-    requires below { list_any is_beyond (pieces_in pieces.now) ≡ false }
-    ensures pages { MatchOption result (are_reported reserved (pieces_in pieces.now) ≡ false)
-        (λ pages. (are_reported reserved (pieces_in pieces.now) ≡ true) ×
-        (pages ≡ length (pages_of_pieces (pieces_in pieces.now)))) }
-    ensures runs { IfSome result (λ pages.
-        take (length (pieces_in pieces.now)) runs.new ≡ map run_of (pieces_in pieces.now)) }
+    requires inside { All (λ piece. piece.addr < page_size * 2 ^ 32) pieces.now }
+    ensures { take (length pieces.now) runs.new ≡ map run_of pieces.now }
 {
-    let mut pages = 0;
     for (k, piece) in pieces.iter().enumerate() {
-        if !is_reported(reserved, piece) {
-            return None;
-        }
-        let count = piece.length / PAGE_SIZE;
-        let first = (piece.address / u64::from(PAGE_SIZE)) as u32;
-        runs[k] = Run { first, count };
-        pages += count;
+        runs[k] = run_of(piece);
     }
-    Some(pages)
 }
 
 /// The pages of these pieces, or the rule that they break.
@@ -114,16 +99,17 @@ fn name_pieces(reserved: u32, pieces: &[ChainPiece], runs: &mut [Run]) -> Result
     if pieces.len() > MAX_REPORT_RUNS {
         return Err(fault_of_many(pieces));
     }
-    match put_reported(reserved, pieces, runs) {
-        Some(pages) => Ok(Named {
-            runs: pieces.len() as u32,
-            pages,
-            skipped: 0,
-        }),
-        None => match check_report(chain_of(pieces).as_slice(), reserved) {
-            Err(fault) => Err(fault),
-            Ok(()) => unreachable!(),
-        },
+    let chain = chain_of(pieces);
+    match check_report(chain.as_slice(), reserved) {
+        Err(fault) => Err(fault),
+        Ok(()) => {
+            put_runs(chain.as_slice(), runs);
+            Ok(Named {
+                runs: pieces.len() as u32,
+                pages: count_pages(chain.as_slice()),
+                skipped: 0,
+            })
+        }
     }
 }
 

@@ -23,7 +23,7 @@ pub enum StateDenial {
     NotAState,
     /// The format has another version.
     OtherVersion,
-    /// The bytes don't have the checksum that stands behind them.
+    /// The bytes don't have the checksum that comes after them.
     BadSum,
     /// No calls of a device lead to that state.
     Impossible,
@@ -94,7 +94,7 @@ fn has_length(bytes: &[u8]) -> bool
     u32_at(bytes, LENGTH_AT) == length as u32 && bytes.len() == length
 }
 
-/// Whether their checksum stands behind them.
+/// Whether their checksum comes after them.
 fn has_sum(bytes: &[u8]) -> bool
     requires { is_length (length bytes.now) ≡ true }
     ensures { result ≡ has_sum bytes.now }
@@ -139,7 +139,7 @@ fn read_saved(bytes: &[u8]) -> Result<Saved, StateDenial>
 }
 
 impl Saved {
-    /// What refuses to be put into so much room.
+    /// What refuses to be put into this much room.
     fn save_denial(&self, room: usize) -> Option<StateDenial>
         ensures value { result ≡ save_denial self.now room }
         ensures room { result ≡ None → SAVED_LENGTH ≤ room }

@@ -16,7 +16,7 @@ use Rattle.vb_monitor.proofs.Samples.{Same, at, ring, ready, tally, page_5, over
 use Rattle.vb_monitor.proofs.Samples.{flags_are_read, chain_of, index, discard, id, used_length, used_index, flags, given}
 use Rattle.vb_monitor.proofs.AheadFacts.{over, ends, empty, publishing, word_at}
 
--- ---- pages: of the room's two runs so many are told, and discarded
+-- ---- pages: of the room's two runs n are told, and discarded
 
 abbrev two_runs : Room
 two_runs = room_of [] [] (page_5 ∷ over_the_hole ∷ []) []
@@ -24,7 +24,7 @@ two_runs = room_of [] [] (page_5 ∷ over_the_hole ∷ []) []
 abbrev used : Device
 used = after_use Inflate ready
 
--- the chain is given back, and no other one stands there
+-- the chain is given back, and no other one is there
 abbrev last : Whole
 last = over Inflate used (ends (with_given tally) None true false)
 
@@ -53,7 +53,7 @@ both_told : (w : Whole) (rest : List Access) → AheadAt (TellsPages 3 one_page)
     (TellPages w.kind (page_5 ∷ over_the_hole ∷ []) one_page ∷ rest) → ⊥
 both_told w rest h = let e : Same 2 1 = ap runs_told h.asks in omega arith
 
--- ---- figures: of the room's two so many are told, and no answer comes
+-- ---- figures: of the room's two n are told, and no answer comes
 
 abbrev figure : ℕ → Statistic
 figure tag = record { tag = tag; value = 7 }
@@ -76,7 +76,8 @@ both_figures : (w : Whole) (rest : List Access) →
     AheadAt (TellsFigures 3 1) w tally ready two_figures (TellFigures (figure 4 ∷ figure 5 ∷ []) ∷ rest) → ⊥
 both_figures w rest h = let e : Same 2 1 = ap figures_told h.asks in omega arith
 
--- ---- discards: of the first run's two parts the second one is left, and a second run's if it is one
+-- ---- discards: of the first run's two parts the second one is left, and a second run's if it is
+-- one
 
 abbrev discarding : ℕ → Discarding
 discarding runs = record { head = 3; runs = runs; run = 0; from = 1 }
@@ -217,7 +218,7 @@ whatever_is_next h = absurd cc
 done_at_once : AwaitedBy false discards Inflate 0 [] empty [] → ⊥
 done_at_once h = absurd cc
 
--- of two runs or figures that stand in the room the first one is told
+-- of two runs or figures that are in the room the first one is told
 one_run_told : Awaited (TellsPages 3 (record one_page { pages = 2 })) Inflate 0 [] two_runs
     (TellPages Inflate (page_5 ∷ []) (record one_page { pages = 2 }) ∷ [])
 one_run_told = refl

@@ -121,7 +121,7 @@ last_of_all = refl
 
 -- ---- the walk
 
--- a chain goes on by the number that its descriptor names, and is whole behind its last one
+-- a chain goes on by the number that its descriptor names, and is whole after its last one
 abbrev On : ℕ → Bool → List Piece → List Access → Type 0
 On number writing pieces log = (number ≡ 5) × ((writing ≡ true) × ((pieces ≡ piece ∷ record piece { writable = true } ∷ []) × (log ≡ [])))
 
@@ -192,7 +192,7 @@ one_over = refl
 begun_at_a_page : parts_of (of_address 4096 4096) ≡ record { address = 4096; plus = 0; length = 4096 } ∷ []
 begun_at_a_page = refl
 
--- more than a page behind it is one part still
+-- more than a page after it is one part still
 two_pages : parts_of (of_address 4095 8192) ≡
     record { address = 4095; plus = 0; length = 1 } ∷ record { address = 4095; plus = 1; length = 8191 } ∷ []
 two_pages = refl
@@ -252,7 +252,7 @@ in_the_hole : CopiesParts (whole (record ready { status = 79 })
     (all_parts (of_address 0x15000 4 ∷ [])) [] []
 in_the_hole = record { nothing = refl; device = refl; outcome = refl }
 
--- one part alone, behind what was copied, so many bytes behind its piece's begin
+-- one part alone, after what was copied, n bytes after its piece's begin
 abbrev second_part : Part
 second_part = record { address = 4095; plus = 1; length = 2 }
 

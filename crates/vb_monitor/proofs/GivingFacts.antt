@@ -19,7 +19,7 @@ use Rattle.vb_monitor.proofs.Samples.{Same, two, at, ring, ready, settings, chai
 abbrev spots : UsedSpots
 spots = record { id = at 0x204; length = at 0x208; index = at 0x202 }
 
--- the id at the element, the length four bytes behind it, the index two bytes into the ring
+-- the id at the element, the length four bytes after it, the index two bytes into the ring
 places : used_spots two (used_entry ring 3) ≡ Some spots
 places = refl
 
@@ -41,7 +41,8 @@ to_the_end_of_a_region : used_spots two (record { element_at = 0x14ff8; index_at
     Some (record { id = at 0x14ff8; length = at 0x14ffc; index = at 0x14ffe })
 to_the_end_of_a_region = refl
 
--- the id lies in one region and the length in the next one; no number lies in both, and no index in half
+-- the id lies in one region and the length in the next one; no number lies in both, and no index in
+-- half
 abbrev halves : List Region
 halves = record { guest = 0; length = 0x1000; in_file = 0 } ∷ record { guest = 0x1000; length = 0x1000; in_file = 0 } ∷ []
 
@@ -58,7 +59,7 @@ id_in_both = refl
 half_an_index : used_spots halves (record (element 0x204) { index_at = 0xfff }) ≡ None
 half_an_index = refl
 
--- id and length, and behind a release fence the index
+-- id and length, and after a release fence the index
 in_their_order : used_accesses spots (record { element_at = 0x204; index_at = 0x202; id = 3; length = 7; index = 9 }) ≡
     WriteNumber (at 0x204) 3 ∷ WriteNumber (at 0x208) 7 ∷ Release ∷ WriteWord (at 0x202) 9 ∷ []
 in_their_order = refl
@@ -120,7 +121,7 @@ outcome = record { tally = with_given tally; why = None; interrupt = false; more
 abbrev whole : Whole
 whole = record { regions = two; kind = Inflate; device = after_use Inflate ready; outcome = outcome }
 
--- nothing comes behind it
+-- nothing comes after it
 abbrev last : Then
 last = λ d t log. (d ≡ after_use Inflate ready) × ((t ≡ with_given tally) × (log ≡ []))
 
@@ -153,7 +154,8 @@ last_descriptor_kept : GivesBack whole last ready tally 7 [] → ⊥
 unfolding lib.Count.ones
 last_descriptor_kept h = let e = h.asks in absurd cc
 
--- the element behind its index, its numbers exchanged, no fence, another fence, the fence too early or too late
+-- the element after its index, its numbers exchanged, no fence, another fence, the fence too early
+-- or too late
 abbrev Writes : List Access → Type 0
 Writes log = WritesUsed (λ rest. Unit {0}) spots (used_entry ring 3) log
 
@@ -185,7 +187,7 @@ fence_too_late h = let e = h.asks in absurd cc
 id_alone : Writes (id ∷ []) → ⊥
 id_alone h = let e = h.asks in absurd cc
 
--- discards behind giving back, one left out, two exchanged, one of another page
+-- discards after giving back, one left out, two exchanged, one of another page
 abbrev Cuts : List Cut → List Access → Type 0
 Cuts cuts log = DiscardsThen whole last ready tally 3 cuts log
 

@@ -21,7 +21,7 @@ kinds = Inflate ∷ Deflate ∷ Statistics ∷ Report ∷ []
 abbrev each_kept : Bool → Bool → List Bool
 each_kept all reports = map (λ kind. is_kept kind all reports) kinds
 
--- inflates and reports, of a notice that keeps all; what a deflate asks back wasn't given up
+-- inflates and reports, of a notice that keeps all; what a deflate requests back wasn't given up
 by_the_notice : each_kept true false ≡ true ∷ false ∷ false ∷ true ∷ []
 by_the_notice = refl
 
@@ -71,7 +71,7 @@ whole kind = record {
   outcome = record { tally = with_given keeps; why = None; interrupt = false; more = false };
 }
 
--- nothing comes behind it
+-- nothing comes after it
 abbrev last : Kind → Then
 last kind = λ d t log. (d ≡ after_use kind ready) × ((t ≡ with_given keeps) × (log ≡ []))
 
@@ -177,7 +177,7 @@ stays = record {
 abbrev IsServed : Budget → List Access → Type 0
 IsServed b log = (d : Device) × ((o : Outcome) × Serves two Inflate b ready d o log)
 
--- it isn't discarded, behind what is told or anywhere else
+-- it isn't discarded, after what is told or anywhere else
 discarded_all_the_same : IsServed keeping (index ∷ Acquire ∷ entry ∷ descriptor ∷ part ∷ pages ∷ discard ∷ given) → ⊥
 discarded_all_the_same (d, (o, h)) =
     absurd (tells_in_turn two Inflate keeping ready d o _ h).1.1.1.1.1.1.0
@@ -196,7 +196,7 @@ kept_without_need (d, (o, h)) =
 abbrev Comes : Kind → Bool → List Access → Access → Type 0
 Comes kind all before x = TellsInTurn two kind all ready before x
 
--- a used element directly behind what was told
+-- a used element directly after what was told
 used_at_once : Comes Inflate true (pages ∷ part ∷ descriptor ∷ entry ∷ Acquire ∷ index ∷ []) id
 used_at_once = refl
 

@@ -1,5 +1,4 @@
 pub mod RegionLemmas
-pub mod SoleLemmas
 pub mod SingleLemmas
 pub mod PartLemmas
 pub mod BufferLemmas
@@ -15,7 +14,6 @@ mod RoomFacts
 mod QueueFacts
 mod KindTurnFacts
 mod RegionFacts
-mod SoleFacts
 mod FewFacts
 mod SingleFacts
 mod NoticeFacts

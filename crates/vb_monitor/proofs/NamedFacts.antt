@@ -1,5 +1,5 @@
--- What the bytes of a request, and the pieces of a report, come to, worked out: their pages are named
--- and told, or the notice ends for what is wrong with them.
+-- What the bytes of a request, and the pieces of a report, come to, worked out: their pages are
+-- named and told, or the notice ends for what is wrong with them.
 use Rattle.std.proofs.Common.{◌≡◌, refl, Option, ap, subst, arith, ℕ, false, List, [], ◌∷◌, Some, None, Result, Ok, Err}
 use Rattle.vb_request.specs.Request.{numbers_of}
 use Rattle.vb_chain.specs.declared.fault.ChainFault.TheVariants.{WrongDirection, BadLength, OutOfRam}
@@ -107,7 +107,7 @@ broken_by_it why h =
     let e : Same 79 h.device.status = ap (λ (d : Device). d.status) stop.device in
     let f : Same h.device.status 15 = ap (λ (d : Device). d.status) says.1 in omega (arith, e, f)
 
--- ---- page 5 is asked back: it is told, and not discarded
+-- ---- page 5 is requested back: it is told, and not discarded
 
 abbrev taken : Device
 taken = with_one_taken Deflate ready
@@ -133,7 +133,7 @@ names_5 = record {
 abbrev back : List Access
 back = id ∷ used_length ∷ Release ∷ used_index ∷ []
 
--- one page fewer may be named, and nothing comes behind it
+-- one page fewer may be named, and nothing comes after it
 abbrev last : Then
 last d t log = (d ≡ after_use Deflate taken) × (t ≡ with_given (spent 1 tally)) × (log ≡ [])
 

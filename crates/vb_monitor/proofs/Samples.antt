@@ -93,7 +93,7 @@ far = record ready {
 abbrev pub only : Kind → Device
 only kind = with_ring kind ring far
 
--- a chain of this head is held, which names so many pages
+-- a chain of this head is held, which names n pages
 abbrev pub chain_of : ℕ → ℕ → Option HeldChain
 chain_of head pages = Some (record { head = head; pages = pages })
 

@@ -14,7 +14,7 @@ use Rattle.vb_monitor.proofs.Samples.{two, at, ring, far, tally, chain_of}
 abbrev bytes : ℕ → ℕ → ChainPiece
 bytes address length = record { address = address; length = length; writable = 0 }
 
--- a part of the piece of this number, of so many
+-- a part of the piece of this number, of n
 abbrev part : ℕ → ℕ → Bool → Place
 part count piece is_second =
     record { head = 3; count = count; piece = piece; is_second = is_second; into = 0; length = 4 }
@@ -23,7 +23,7 @@ only_piece : is_last (part 1 0 false) (bytes 0x400 4 ∷ []) ≡ true
 unfolding pieces_in
 only_piece = refl
 
--- four bytes stand in the next page
+-- four bytes are in the next page
 over_two_pages : is_last (part 1 0 false) (bytes 0xffc 8 ∷ []) ≡ false
 unfolding pieces_in
 over_two_pages = refl
@@ -44,7 +44,7 @@ second_of_two : is_last (part 2 1 false) (bytes 0x400 4 ∷ bytes 0x500 4 ∷ []
 unfolding pieces_in
 second_of_two = refl
 
--- what stands behind the chain's pieces is none of them
+-- what comes after the chain's pieces is none of them
 older_piece : is_last (part 1 0 false) (bytes 0x400 4 ∷ bytes 0x500 4 ∷ []) ≡ true
 unfolding pieces_in
 older_piece = refl
@@ -53,9 +53,9 @@ empty_piece_behind : is_last (part 2 0 false) (bytes 0x400 4 ∷ bytes 0x500 0 �
 unfolding pieces_in
 empty_piece_behind = refl
 
--- ---- which word is read behind a chain
+-- ---- which word is read after a chain
 
--- by an index that publishes so many chains, of which the first one was taken
+-- by an index that publishes n chains, of which the first one was taken
 abbrev word : ℕ → Kind → ℕ → Virtqueue → Option NextWord
 word index kind head r = word_behind two kind (record tally { published = index }) head
     (with_ring kind (record r { next_avail = 1 }) far)
@@ -89,14 +89,15 @@ flags_in_the_hole = refl
 used_ring_in_the_hole : word 1 Inflate 7 (record ring { used = 0x15000 }) ≡ None
 used_ring_in_the_hole = refl
 
--- the id is the last word of the region, and the length stands in the hole
+-- the id is the last word of the region, and the length is in the hole
 half_an_element : word 1 Inflate 7 (record ring { used = 0x14ff8 }) ≡ None
 half_an_element = refl
 
 whole_element : word 1 Inflate 7 (record ring { used = 0x14ff4 }) ≡ Some (Flags (at 0x100))
 whole_element = refl
 
--- ---- whether the first region has all that is written for a chain: 8 bytes of an element, and the index
+-- ---- whether the first region has all that is written for a chain: 8 bytes of an element, and the
+-- index
 
 abbrev in_first : ℕ → ℕ → Bool
 in_first element index = first_has two
@@ -108,7 +109,7 @@ all_in_first = refl
 first_has_its_start : in_first 0 2 ≡ true
 first_has_its_start = refl
 
--- an element of which half stands behind the region, an index there, and no region at all
+-- an element of which half comes after the region, an index there, and no region at all
 half_behind : in_first 0x14ffc 2 ≡ false
 half_behind = refl
 

@@ -2,7 +2,7 @@
 use Rattle.std.proofs.Common.{◌≡◌, ◌∙◌, ap, sym, subst, refl, ℕ, ◌+◌, ◌<◌, Bool, true, false, List}
 use Rattle.std.proofs.Common.{arith, [], ◌∷◌, ◌++◌, length, Option, Some, None, Result, Ok, Err}
 use Rattle.std.specs.Prelude.{is_some, nat_lt, nat_le, ◌&&◌, ◌/◌, ◌-◌, if◌then◌else◌, drop, get_or}
-use Rattle.std.proofs.lemmas.{Bool.Decides.nat_tests, List.{drop_more, append-nil}}
+use Rattle.std.proofs.lemmas.{Bool.Decides.nat_tests, List.drop_more}
 use Rattle.vb_virtio.specs.declared.limits.TheConstants.{MAX_REQUEST_PAGES}
 use Rattle.vb_chain.specs.declared.fault.ChainFault.{ChainFault}
 use Rattle.vb_request.specs.Request.{is_request_length}
@@ -14,7 +14,7 @@ use Rattle.vb_core.specs.Devices.{ring_of, call_denial, queue_denial}
 use Rattle.vb_core.specs.Name.{is_request, NamesBy, name_denial, after_request, told}
 use Rattle.vb_core.specs.Using.{use_denial}
 use Rattle.vb_monitor.specs.declared.{regions.{Region.Region, Spot.Spot}, giving.UsedSpots.UsedSpots}
-use Rattle.vb_monitor.specs.{Regions.{holds, spot_from, cuts_from, cuts_of}, declared.cuts.Cut.Cut}
+use Rattle.vb_monitor.specs.Regions.{holds, spot_from}
 use Rattle.vb_monitor.specs.declared.{parts.Part.Part, outcome.Tally.Tally, orders.Used.Used}
 use Rattle.vb_monitor.specs.{Accesses.Access, Regions.spot, Ends.Whole, Pieces.CopiesParts}
 use Rattle.vb_monitor.specs.Giving.{Then, used_spots, used_accesses, UsedAt, GivesBack, GivesBackBy}
@@ -130,13 +130,6 @@ first_spots rs d e some h k =
     (Some (record { region = 0; offset = e.element_at - r.guest }))
     (Some (record { region = 0; offset = (e.element_at - r.guest) + 4 })) o)
     (first_spot r more e.index_at 2 k)))
-
--- the parts of runs of which there is one
-pub only_run : (rs : List Region) (runs : List Run) (d : Run) (cuts : List Cut) → length runs ≡ 1 →
-    cuts_from 0 (drop 0 rs) (get_or runs 0 d) ≡ cuts → cuts_of rs runs ≡ cuts
-only_run rs [] d cuts e h = absurd (omega (arith, e))
-only_run rs (run ∷ []) d cuts e h = append-nil (cuts_from 0 rs run) ∙ h
-only_run rs (run ∷ next ∷ more) d cuts e h = absurd (omega (arith, e))
 
 -- ---- a request whose pages were named
 

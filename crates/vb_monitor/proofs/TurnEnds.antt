@@ -1,4 +1,5 @@
--- What each access of a notice is, by those before it, and how many there are: one more, and the end.
+-- What each access of a notice is, by those before it, and how many there are: one more, and the
+-- end.
 use Rattle.std.proofs.Common.{◌≡◌, ◌∙◌, ap, sym, subst, refl, arith, ℕ, suc, ◌≤◌, Bool, true}
 use Rattle.std.proofs.Common.{false, List, [], ◌∷◌, length, Option, Some, None, rules}
 use Rattle.vb_chain.{specs.declared.fault.ChainFault.ChainFault}
@@ -28,7 +29,7 @@ abbrev pub newest : List Access → Option Access
 newest [] = None
 newest (x ∷ xs) = Some x
 
--- the access comes in its turn, stands where it may, and touches memory alone
+-- the access comes in its turn, is where it may, and touches memory alone
 pub record Comes (w : Whole) (d0 : Device) (all : Bool) (before : List Access) (x : Access) : Type 0
   where
     pub reads : ReadsInTurn w.regions w.kind d0 before x
@@ -38,13 +39,13 @@ pub record Comes (w : Whole) (d0 : Device) (all : Bool) (before : List Access) (
     pub touches : Touches w.regions x
     pub holds : HoldsTold w.kind d0.settings w.outcome before x
 
--- each of these does, behind those, and beside discards there are so many at most
+-- each of these does, after those, and beside discards there are at most n
 pub record Goes (w : Whole) (d0 : Device) (all : Bool) (most : ℕ) (before log : List Access) :
     Type 0 where
   pub come : Each (Comes w d0 all) before log
   pub few : others log ≤ most
 
--- ---- one access, and those behind it
+-- ---- one access, and those after it
 
 at_most_one : (x : Access) → no_discard x ≤ 1
 at_most_one (ReadWord at answer) = omega arith
@@ -126,7 +127,7 @@ moves Deflate d = search rules
 moves Statistics d = search rules
 moves Report d = search rules
 
--- behind one more access that moves nothing in the ring, and isn't the flags
+-- after one more access that moves nothing in the ring, and isn't the flags
 pub one_on : (w : Whole) (d0 : Device) (n : ℕ) (x : Access) (b : List Access) (d : Device) →
     Agrees w d0 n b d → ring_after (ring_of w.kind d0) (x ∷ b) ≡ ring_after (ring_of w.kind d0) b →
     is_over (x ∷ b) ≡ false → Agrees w d0 n (x ∷ b) d

@@ -34,7 +34,7 @@ use Rattle.vb_monitor.proofs.TurnWalks.{Behind, walk_room, walked_out, follows_f
 a_table : (r : Virtqueue) → descriptors r ≤ 256
 a_table r = grind arith
 
--- behind a word another chain's entry may be read
+-- after a word another chain's entry may be read
 pub record Between (w : Whole) (d0 d : Device) (n : ℕ) (b : List Access) : Type 0 where
   pub agrees : Agrees w d0 n b d
   pub unknown : known w.kind b ≡ Unknown

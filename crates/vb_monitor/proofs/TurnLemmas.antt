@@ -1,5 +1,5 @@
--- What each access of a notice is, by those before it, and how many there are: a chain whose pages are
--- told, and that is given back.
+-- What each access of a notice is, by those before it, and how many there are: a chain whose pages
+-- are told, and that is given back.
 use Rattle.std.proofs.Common.{◌≡◌, ◌∙◌, ap, sym, subst, refl, arith, ℕ, ◌+◌, Bool, true}
 use Rattle.std.proofs.Common.{false, List, [], ◌∷◌, ◌++◌, map, Option, Some, None}
 use Rattle.vb_chain.{specs.declared.pieces.Piece.Piece, specs.declared.fault.ChainFault.ChainFault}
@@ -28,7 +28,7 @@ use Rattle.vb_monitor.proofs.TurnEnds.{Agrees, Comes, Goes, asked, breaks_go, en
 
 -- ---- a chain that is given back
 
--- what comes once a chain is given back, behind an index that was written: so many at most
+-- what comes once a chain is given back, after an index that was written: at most n
 abbrev pub After : Whole → Device → ℕ → Then → Type 0
 After w d0 m next = (d : Device) (t : Tally) (at : Spot) (n : ℕ) (b rest : List Access) →
     Agrees w d0 t.published (WriteWord at n ∷ b) d → next d t rest →

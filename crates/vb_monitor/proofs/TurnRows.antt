@@ -1,5 +1,5 @@
--- What each access of a notice is, by those before it, and how many there are: from a chain's pieces
--- to what their bytes come to.
+-- What each access of a notice is, by those before it, and how many there are: from a chain's
+-- pieces to what their bytes come to.
 use Rattle.std.proofs.Common.{◌≡◌, ◌∙◌, ap, sym, subst, refl, arith, ℕ, ◌+◌, ◌*◌, ◌/◌, ◌≤◌, Bool}
 use Rattle.std.proofs.Common.{true, false, List}
 use Rattle.std.proofs.Common.{[], ◌∷◌, ◌++◌, length, take, Option, Some, None, Result, Ok, Err}
@@ -30,7 +30,7 @@ use Rattle.vb_monitor.specs.{declared.regions.Spot.Spot, declared.outcome.Tally.
 
 -- ---- what is named
 
--- behind bytes of a chain's pieces, of which these parts are left
+-- after bytes of a chain's pieces, of which these parts are left
 pub record Reads (w : Whole) (d0 d : Device) (n head : ℕ) (pieces : List Piece) (parts : List Part)
     (bytes : List ℕ) (b : List Access) : Type 0 where
   pub agrees : Agrees w d0 n b d
@@ -211,7 +211,7 @@ copies_go w d0 d t m head pieces served on (part ∷ parts) so_far b log le is h
 
 -- ---- pieces
 
--- behind a chain's last descriptor, of which only the pieces are known
+-- after a chain's last descriptor, of which only the pieces are known
 abbrev pub Begun : Whole → Device → Device → ℕ → ℕ → List Piece → List Access → Type 0
 Begun w d0 d n head pieces b = Reads w d0 d n head pieces (parts_read w.kind pieces) [] b
 

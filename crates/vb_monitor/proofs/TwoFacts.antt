@@ -14,7 +14,7 @@ use Rattle.vb_monitor.specs.{declared.outcome.{Outcome.Outcome, Tally.Tally}, Gi
 use Rattle.vb_monitor.specs.{Ends.Whole, Notices.{Serves, ServesPublished}}
 use Rattle.vb_monitor.proofs.TurnLaws.{reads_in_turn}
 
--- ---- the device, behind each chain
+-- ---- the device, after each chain
 
 abbrev taken : Device → Device
 taken d = with_one_taken Inflate d
@@ -83,7 +83,7 @@ served_both = record outcome {
 abbrev whole : Device → Outcome → Whole
 whole d o = record { regions = two; kind = Inflate; device = d; outcome = o }
 
--- behind the first chain
+-- after the first chain
 abbrev one_given : Tally
 one_given = record { chains = 7; pages = 255; keeps = false; given = true; held = None; published = 2 }
 
@@ -168,7 +168,7 @@ serves_two = record {
 abbrev IsServed : List Access → Type 0
 IsServed log = (d : Device) × ((o : Outcome) × Serves two Inflate budget ready d o log)
 
--- the index read again behind the first chain, with a fence before it or without
+-- the index read again after the first chain, with a fence before it or without
 index_again : IsServed (index ∷ of_the_first (index ∷ of_the_second)) → ⊥
 index_again (d, (o, h)) = absurd (reads_in_turn two Inflate budget ready d o _ h).1.1.1.1.1.1.1.1.1.1.1.0
 
@@ -176,7 +176,7 @@ index_again (d, (o, h)) = absurd (reads_in_turn two Inflate budget ready d o _ h
 no_acquire : IsServed (index ∷ of_the_first (second_entry ∷ [])) → ⊥
 no_acquire (d, (o, h)) = absurd (reads_in_turn two Inflate budget ready d o _ h).1.1.1.1.1.1.1.1.1.1.1.0
 
--- ---- by an index that was read: behind the first chain, the second one's entry alone
+-- ---- by an index that was read: after the first chain, the second one's entry alone
 
 abbrev entry_at : List Access → ℕ
 entry_at (Acquire ∷ ReadWord at answer ∷ xs) = at.offset
@@ -194,7 +194,7 @@ flags_first d o h = let e = h.asks in absurd cc
 nothing_more : (d : Device) (o : Outcome) → ServesPublished 7 (whole d o) (used ready) one_given [] → ⊥
 nothing_more d o h = let e = h.asks in absurd cc
 
--- a chain more than it publishes isn't served: behind the last one the flags are read
+-- a chain more than it publishes isn't served: after the last one the flags are read
 abbrev of_one : Tally
 of_one = record one_given { published = 1 }
 
@@ -211,7 +211,7 @@ one_more d o rest h = let e = h.asks in absurd cc
 flags_left_out : (d : Device) (o : Outcome) → ServesPublished 7 (whole d o) (used ready) of_one [] → ⊥
 flags_left_out d o h = let e = h.asks in absurd cc
 
--- a budget of one chain of two: more stands there
+-- a budget of one chain of two: more is available
 abbrev unpaid : Tally
 unpaid = record one_given { chains = 0 }
 

@@ -116,7 +116,7 @@ told_twice (d, (o, h)) = let e : false ≡ true = (in_order two Inflate budget r
 untold : IsServed (index ∷ Acquire ∷ entry ∷ descriptor ∷ part ∷ discard ∷ given) → ⊥
 untold (d, (o, h)) = let e : false ≡ true = (in_order two Inflate budget ready d o _ h).1.1.1.1.1.0 in absurd cc
 
--- discarded behind its used element, twice, before it is told, or not at all
+-- discarded after its used element, twice, before it is told, or not at all
 discarded_behind : IsServed (index ∷ Acquire ∷ entry ∷ descriptor ∷ part ∷ pages ∷ id
     ∷ used_length ∷ Release ∷ used_index ∷ discard ∷ Full ∷ flags ∷ []) → ⊥
 discarded_behind (d, (o, h)) = let e = (tells_in_turn two Inflate budget ready d o _ h).1.1.1.1.1.1.0 in absurd cc

@@ -126,8 +126,8 @@ memory_end d = page_size * memory_pages d.settings
 
 -- ---- rows of descriptors
 
--- Descriptors that stand one behind the other in a table: the number of the first, and the bytes
--- that were copied of them together, 16 of each.
+-- Descriptors that are one after the other in a table: the number of the first, and the bytes that
+-- were copied of them together, 16 of each.
 pub record TableRow : Type 0 where
   pub first : ℕ
   pub bytes : List ℕ
@@ -150,9 +150,9 @@ in_row row number =
     if has_descriptor row number then Some (take 16 (drop (16 * (number - row.first)) row.bytes))
     else None
 
--- How many descriptors are copied together with one, behind which they stand in the table, once
--- these pieces are known: none with a chain's first, and with others as many as a row may have, up
--- to the end of the table.
+-- How many descriptors are copied together with one, after which they are in the table, once these
+-- pieces are known: none with a chain's first, and with others as many as a row may have, up to the
+-- end of the table.
 abbrev pub so_many_behind : ℕ → ℕ → List Piece → ℕ
 so_many_behind q number [] = 0
 so_many_behind q number (p ∷ ps) = min (ROW_DESCRIPTORS - 1) (q - (number + 1))
@@ -185,8 +185,7 @@ DescriptorBy (Some fault) w d tally on whole writing x pieces log = Breaks w d t
 DescriptorBy None w d tally on whole writing x pieces log =
     GoesOn (has_next x) on whole writing x pieces log
 
--- The first rule that a descriptor breaks, after k others; no more may stand there than the table
--- has.
+-- The first rule that a descriptor breaks, after k others; no more may be there than the table has.
 abbrev pub table_fault : ℕ → ℕ → Bool → ℕ → Descriptor → Option ChainFault
 table_fault q end writing k x =
     if nat_lt k q then first_fault q end writing k x else Some TooLong
@@ -201,8 +200,8 @@ AfterDescriptor w d tally on whole writing pieces bytes log =
     (length pieces) (descriptor_of bytes)) w d tally on whole writing (descriptor_of bytes) pieces
     log
 
--- The bytes of a descriptor are copied, once, and of so many that stand behind it in the table. The
--- walk goes on in this copy.
+-- The bytes of a descriptor are copied, once, and of n that come after it in the table. The walk
+-- goes on in this copy.
 pub record AsksRow (w : Whole) (d : Device) (tally : Tally)
     (on : TableRow → ℕ → Bool → List Piece → List Access → Type 0)
     (whole : List Piece → List Access → Type 0) (number behind : ℕ) (writing : Bool)
@@ -222,7 +221,7 @@ RowAt w d tally on whole number behind writing pieces None log = Breaks w d tall
 RowAt w d tally on whole number behind writing pieces (Some at) log =
     AsksRow w d tally on whole number behind writing pieces at log
 
--- A row is asked for that begins with this descriptor, and has so many behind it.
+-- A row is asked for that begins with this descriptor, and has n after it.
 abbrev pub TakesRow : Whole → Device → Tally →
     (TableRow → ℕ → Bool → List Piece → List Access → Type 0) →
     (List Piece → List Access → Type 0) → ℕ → ℕ → Bool → List Piece → List Access → Type 0
@@ -240,8 +239,8 @@ FollowsBy None w d tally on whole row number writing pieces log =
     TakesRow w d tally on whole number
     (behind_in_row w.regions (ring_of w.kind d) number pieces) writing pieces log
 
--- From a descriptor of this number on the chain is followed, where so many more fit its table, and
--- this row was copied last.
+-- From a descriptor of this number on the chain is followed, where n more fit its table, and this
+-- row was copied last.
 abbrev pub Follows : ℕ → Whole → Device → Tally → (List Piece → List Access → Type 0) → TableRow →
     ℕ → Bool → List Piece → List Access → Type 0
 Follows zero w d tally whole row number writing pieces log = Breaks w d tally TooLong log

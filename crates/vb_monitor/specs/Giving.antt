@@ -45,7 +45,7 @@ used_spots regions e =
     three_spots (spot regions e.element_at 4) (spot regions (e.element_at + 4) 4)
     (spot regions e.index_at 2)
 
--- The element, and behind a fence its index.
+-- The element, and after a fence its index.
 abbrev pub used_accesses : UsedSpots → UsedEntry → List Access
 used_accesses s e =
     WriteNumber s.id e.id ∷ WriteNumber s.length e.length ∷ Release ∷ WriteWord s.index e.index ∷ []
@@ -90,13 +90,13 @@ is_kept Deflate all reports = false
 is_kept Statistics all reports = false
 is_kept Report all reports = all || reports
 
--- Of so many pages so many are kept.
+-- Of n pages m are kept.
 abbrev pub kept_pages : Bool → ℕ → ℕ
 kept_pages true pages = pages
 kept_pages false pages = 0
 
--- What is to be discarded, of a kind's runs, where these are kept or not: what a deflate asks back
--- isn't.
+-- What is to be discarded, of a kind's runs, where these are kept or not: what a deflate requests
+-- back isn't.
 abbrev pub cuts_for : Kind → Bool → List Region → List Run → List Cut
 cuts_for Inflate true regions runs = []
 cuts_for Inflate false regions runs = cuts_of regions runs
@@ -127,13 +127,13 @@ pub record TellsThen (w : Whole) (next : Then) (d : Device) (tally : Tally) (hea
   pub goes_on : OnceTold tally.held w next d tally head
       (cuts_for w.kind (is_kept w.kind tally.keeps (keeps_reports d)) w.regions runs) rest
 
--- So many pages fewer may be named yet.
+-- n pages fewer may be named yet.
 abbrev pub spent : ℕ → Tally → Tally
 spent pages tally = record tally { pages = tally.pages - pages }
 
 -- ---- chains that are held
 
--- The chain of this head, which names so many pages, is held.
+-- The chain of this head, which names n pages, is held.
 abbrev pub with_held : ℕ → ℕ → Tally → Tally
 with_held head pages tally = record tally { held = Some (record { head = head; pages = pages }) }
 
@@ -141,7 +141,7 @@ abbrev pub held_if : Bool → ℕ → ℕ → Tally → Tally
 held_if true head pages tally = with_held head pages tally
 held_if false head pages tally = tally
 
--- The pages of a chain were named, so many: it is held where the settings say so of its kind.
+-- The pages of a chain were named, n: it is held where the settings say so of its kind.
 abbrev pub with_named : Kind → Settings → ℕ → ℕ → Tally → Tally
 with_named kind s head pages tally = held_if (holds_chains kind s) head pages (spent pages tally)
 

@@ -10,14 +10,14 @@ use Rattle.vb_monitor.specs.Accesses.{Access, ReadWord, Full}
 use Rattle.vb_monitor.specs.Regions.{spot}
 use Rattle.vb_monitor.specs.Giving.{used_spots, used_accesses}
 
--- Behind a full fence the driver's flags are read.
+-- After a full fence the driver's flags are read.
 pub record AsksForFlags (regions : List Region) (r : Virtqueue) (log : List Access) : Type 0 where
   pub at : Spot
   pub flags : ℕ
   pub place : spot regions r.avail 2 ≡ Some at
   pub asks : log ≡ Full ∷ ReadWord at flags ∷ []
 
--- The next used element of the queue is written, with this head as its id, and the index behind it;
+-- The next used element of the queue is written, with this head as its id, and the index after it;
 -- then the flags are read, if there is a place for them.
 pub record GivesHeld (regions : List Region) (head : ℕ) (r : Virtqueue) (log : List Access) :
     Type 0 where

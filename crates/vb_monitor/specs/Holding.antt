@@ -9,7 +9,7 @@ use Rattle.vb_monitor.specs.Accesses.{Access, ReadWord, CopyBytes, Acquire, Rele
 use Rattle.vb_monitor.specs.Accesses.{TellPages, TellFigures, Discard, WriteNumber, WriteWord}
 use Rattle.vb_monitor.specs.SoFar.{Known, Unknown, Walks, Has, known}
 
--- The outcome is that this chain is held, which names so many pages, and that no other was refused.
+-- The outcome is that this chain is held, which names n pages, and that no other was refused.
 abbrev pub HoldsChain : Known → ℕ → Outcome → Type 0
 HoldsChain Unknown pages outcome = ⊥
 HoldsChain (Walks head number pieces) pages outcome = ⊥

@@ -9,7 +9,6 @@ pub mod Notices
 pub mod Machine
 pub mod Left
 pub mod Orders
-pub mod Sole
 pub mod Single
 pub mod Touched
 pub mod Balloons

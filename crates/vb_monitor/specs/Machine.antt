@@ -38,7 +38,7 @@ use Rattle.vb_monitor.specs.Chains.{descriptors, TableRow, row_of, AsksRow, Foll
 use Rattle.vb_monitor.specs.Chains.{AfterBytes, TellsThenEnds}
 use Rattle.vb_monitor.specs.Notices.{AsksIndex, AsksEntry, ServesPublished, AfterGiven}
 
--- What stands in the room that a notice has.
+-- What is in the room that a notice has.
 pub record Room : Type 0 where
   pub pieces : List ChainPiece
   pub bytes : List ℕ
@@ -57,7 +57,7 @@ room_of pieces bytes runs figures =
 abbrev pub row_bytes : Walk → ℕ
 row_bytes walk = DESCRIPTOR_SIZE * (walk.behind + 1)
 
--- The row in which a walk goes on, once these bytes stand in the room.
+-- The row in which a walk goes on, once these bytes are in the room.
 abbrev pub row_in : Walk → List ℕ → TableRow
 row_in walk bytes = row_of walk.first (take (row_bytes walk) bytes)
 
@@ -68,7 +68,7 @@ abbrev pub seconds : List Piece → List Part
 seconds [] = []
 seconds (p ∷ ps) = unless_empty (second_part p)
 
--- The parts behind one of a piece's two: those behind its second one, or behind its first.
+-- The parts after one of a piece's two: those after its second one, or after its first.
 abbrev pub behind_part : Bool → ℕ → List Piece → List Part
 behind_part is_second piece pieces =
     (if is_second then [] else seconds (drop piece pieces)) ++ all_parts (drop (piece + 1) pieces)
@@ -78,7 +78,7 @@ abbrev pub cuts_on : List Region → ℕ → List Run → List Cut
 cuts_on regions from [] = []
 cuts_on regions from (run ∷ runs) = cuts_from from (drop from regions) run
 
--- The parts of one run in the regions from this number on, and those of the runs behind it.
+-- The parts of one run in the regions from this number on, and those of the runs after it.
 abbrev pub cuts_behind : ℕ → ℕ → List Region → List Run → List Cut
 cuts_behind from run regions runs =
     cuts_on regions from (drop run runs) ++ cuts_of regions (drop (run + 1) runs)
@@ -195,7 +195,7 @@ Ahead w step d room log = AheadAt step.phase w step.tally d room log
 
 -- ---- what was done
 
--- So many bytes were copied behind the first ones, so many; the room's bytes were others before.
+-- n bytes were copied after the first n ones; the room's bytes were others before.
 pub record Copies (at : Spot) (from len : ℕ) (before now : List ℕ) (done : List Access) :
     Type 0 where
   pub bytes : List ℕ

@@ -22,9 +22,9 @@ use Rattle.vb_monitor.specs.Ends.{Whole, Ends, Breaks}
 use Rattle.vb_monitor.specs.Giving.{Then, GivesBack, with_held}
 use Rattle.vb_monitor.specs.Chains.{descriptors, no_row, Follows, ServesPieces}
 
--- ---- the chain that stands next
+-- ---- the chain that is next
 
--- Where the entry stands that a device takes next, behind the available ring's begin.
+-- Where the entry is that a device takes next, after the available ring's begin.
 abbrev pub entry_offset : Virtqueue → ℕ
 entry_offset r = if r.size == 0 then 4 else 4 + 2 * (r.next_avail % r.size)
 
@@ -39,7 +39,7 @@ abbrev pub AfterEntry : Whole → Then → Device → Tally → ℕ → List Acc
 AfterEntry w next d tally head log =
     HeadBy (nat_lt head (descriptors (ring_of w.kind d))) w next d tally head log
 
--- Behind a fence the entry is read, once.
+-- After a fence the entry is read, once.
 pub record AsksEntry (w : Whole) (next : Then) (d : Device) (tally : Tally) (at : Spot)
     (log : List Access) : Type 0 where
   pub head : ℕ
@@ -58,7 +58,7 @@ TakesChain w next d tally log =
 
 -- ---- the available index
 
--- Whether a chain stands there by this index; it may be ahead by no more than the queue's size.
+-- Whether a chain is available by this index; it may be ahead by no more than the queue's size.
 abbrev pub stands_by : ℕ → ℕ → Result Bool ChainFault
 stands_by ahead size =
     if ahead == 0 then Ok false else (if nat_le ahead size then Ok true else Err IndexJump)
@@ -106,13 +106,13 @@ AfterGiven w next d tally log = AfterGivenBy tally.held w next d tally log
 abbrev pub with_chains : ℕ → Tally → Tally
 with_chains n tally = record tally { chains = n }
 
--- A chain stands there: where no more may be served or named, it is told that one does.
+-- A chain is available: where no more may be served or named, it is told that one does.
 abbrev pub TakesUnlessSpent : Bool → Whole → Then → Device → Tally → List Access → Type 0
 TakesUnlessSpent true w next d tally log = Ends w d tally None true log
 TakesUnlessSpent false w next d tally log = TakesChain w next d tally log
 
--- What is served of a chain that stands there, where so many may be yet. Behind it comes the next
--- one, if the index that was read publishes one more: it isn't read again.
+-- What is served of a chain that is there, where n may be yet. After it comes the next one, if the
+-- index that was read publishes one more: it isn't read again.
 abbrev pub TakesNext : ℕ → Whole → Device → Tally → List Access → Type 0
 TakesNext zero w d tally log = Ends w d tally None true log
 TakesNext (suc n) w d tally log =
@@ -121,18 +121,18 @@ TakesNext (suc n) w d tally log =
     AfterIndex (stands (ring_of w.kind d2) t2.published) w (TakesNext n w d2 t2) d2 t2 rest)) d
     (with_chains n tally) log
 
--- What comes by the index that was read, where so many chains may be served yet.
+-- What comes by the index that was read, where n chains may be served yet.
 abbrev pub ServesPublished : ℕ → Whole → Device → Tally → List Access → Type 0
 ServesPublished n w d tally log =
     AfterIndex (stands (ring_of w.kind d) tally.published) w (TakesNext n w d tally) d tally log
 
--- The queue is looked at, where so many chains may be served yet.
+-- The queue is looked at, where n chains may be served yet.
 abbrev pub Looks : ℕ → Whole → Device → Tally → List Access → Type 0
 Looks n w d tally log = LooksBy (queue_denial w.kind d) w (ServesPublished n w) d tally log
 
 -- ---- the whole
 
--- Nothing was served or read yet, and so much may be served.
+-- Nothing was served or read yet, and this much may be served.
 abbrev pub fresh : Budget → Tally
 fresh budget = record {
   chains = budget.chains;

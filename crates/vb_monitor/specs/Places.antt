@@ -39,7 +39,7 @@ abbrev pub is_memory : List Region → ℕ → Bool
 is_memory [] b = false
 is_memory (r ∷ rs) b = holds r b 1 || is_memory rs b
 
--- Each of so many bytes from an address on does.
+-- Each of n bytes from an address on does.
 abbrev pub AreMemory : List Region → ℕ → ℕ → Type 0
 AreMemory regions a len = (b : ℕ) → a ≤ b → b < a + len → is_memory regions b ≡ true
 

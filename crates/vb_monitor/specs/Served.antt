@@ -1,12 +1,11 @@
 -- What is done at once of a chain whose pages were named.
-use Rattle.std.specs.Prelude.{ℕ, Bool, true, false, not, ◌&&◌, ◌==◌, nat_lt, List, [], ◌∷◌}
-use Rattle.std.specs.Prelude.{length, take, Option, Some, None, is_some, if◌then◌else◌}
+use Rattle.std.specs.Prelude.{ℕ, Bool, true, false, not, ◌&&◌, nat_lt, List, [], ◌∷◌}
+use Rattle.std.specs.Prelude.{take, Option, None, is_some, if◌then◌else◌}
 use Rattle.vb_core.specs.declared.kinds.Kind.{Kind}
 use Rattle.vb_core.specs.declared.kinds.Kind.TheVariants.{Inflate, Deflate, Statistics, Report}
 use Rattle.vb_core.specs.declared.pieces.ChainPiece.{ChainPiece}
 use Rattle.vb_core.specs.declared.device.Device.{Device}
 use Rattle.vb_core.specs.declared.ring.UsedEntry.{UsedEntry}
-use Rattle.vb_core.specs.declared.runs.Run.{Run}
 use Rattle.vb_core.specs.Rings.{used_entry}
 use Rattle.vb_core.specs.Devices.{ring_of}
 use Rattle.vb_monitor.specs.declared.regions.Region.{Region}
@@ -14,7 +13,7 @@ use Rattle.vb_monitor.specs.declared.outcome.Tally.{Tally}
 use Rattle.vb_monitor.specs.declared.usual.NextWord.{NextWord}
 use Rattle.vb_monitor.specs.declared.step.Place.{Place}
 use Rattle.vb_monitor.specs.declared.parts.Part.{Part}
-use Rattle.vb_monitor.specs.Regions.{holds, cuts_of}
+use Rattle.vb_monitor.specs.Regions.{holds}
 use Rattle.vb_monitor.specs.Giving.{used_spots, with_given}
 use Rattle.vb_monitor.specs.Usual.{word_place}
 use Rattle.vb_core.specs.Pieces.{pieces_in}
@@ -43,12 +42,6 @@ is_discarded Inflate kept = not kept
 is_discarded Deflate kept = false
 is_discarded Statistics kept = false
 is_discarded Report kept = not kept
-
--- How many parts there are to discard, where nothing is discarded, or one run that has one part.
-abbrev pub few_parts : Kind → Bool → List Region → List Run → Option ℕ
-few_parts kind kept regions runs =
-    if not (is_discarded kind kept) then Some 0
-    else (if (length runs == 1) && (length (cuts_of regions runs) == 1) then Some 1 else None)
 
 -- The first region has all of a used element, and the index that is written after it.
 abbrev pub first_has : List Region → UsedEntry → Bool

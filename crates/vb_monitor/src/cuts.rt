@@ -5,7 +5,7 @@ ghost use Rattle.vb_monitor.specs.Regions.{cut_of, meets, cuts_from, cuts_of};
 ghost use Rattle.vb_monitor.specs.Machine.{cuts_behind};
 ghost use Rattle.vb_monitor.specs.Left.{parts_left};
 ghost use Rattle.vb_monitor.specs.declared.room.TheConstants.{MAX_RUNS};
-ghost use Rattle.std.specs.Prelude.{◌≤◌, ◌==◌, IfSome, ◌-◌, ◌*◌, take};
+ghost use Rattle.std.specs.Prelude.{◌≤◌, IfSome, ◌-◌, ◌*◌};
 
 use crate::Region;
 use crate::orders::MAX_CUTS;
@@ -75,23 +75,6 @@ pub(crate) fn next_cut(regions: &[Region], from: usize, run: Run) -> Option<Cut>
         }
     }
     None
-}
-
-/// Puts the only part of a run to the front of the list, where the run has just one; says whether
-/// it has.
-#[tactic(auto, using(crate::proofs::SoleLemmas::only_put))]
-#[inline(always)]
-pub(crate) fn put_only(regions: &[Region], run: Run, cuts: &mut [Cut; MAX_CUTS]) -> bool
-    ensures one { result ≡ (length (cuts_from 0 (drop 0 regions.now) run) == 1) }
-    ensures put { result ≡ true → cuts_from 0 (drop 0 regions.now) run ≡ take 1 cuts.new }
-{
-    match next_cut(regions, 0, run) {
-        None => false,
-        Some(cut) => {
-            cuts[0] = cut;
-            next_cut(regions, cut.region + 1, run).is_none()
-        }
-    }
 }
 
 /// A part of one of some runs.

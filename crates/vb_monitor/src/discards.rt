@@ -26,7 +26,7 @@ use crate::step::Discarding;
 use crate::{Phase, Region, Step, Tally};
 use vb_core::{Device, Kind, Run};
 
-/// The first runs, so many.
+/// The first `count` runs.
 pub fn first_runs(runs: &[Run; MAX_RUNS], count: usize) -> &[Run]
     ensures { result.now ≡ take count runs.now }
 {
@@ -46,7 +46,7 @@ fn is_kept(device: &Device, kind: Kind, keeps: bool) -> bool
     }
 }
 
-/// How many of so many pages that a kind's chains name are kept, by such a notice.
+/// How many of `pages` pages that a kind's chains name are kept, by such a notice.
 #[inline(always)]
 pub fn kept_pages(device: &Device, kind: Kind, keeps: bool, pages: u32) -> u32
     ensures { result ≡ kept_pages (is_kept kind keeps (keeps_reports device.now)) pages }
@@ -74,7 +74,7 @@ pub(crate) fn discards(device: &Device, kind: Kind, keeps: bool) -> bool
     }
 }
 
-/// Discards the first runs, so many, from this number on.
+/// Discards the first `count` runs, from number `from` on.
 #[inline(always)]
 fn discard_on(
     device: &mut Device,
@@ -118,7 +118,7 @@ fn discard_on(
     }
 }
 
-/// The pages of the first runs, so many, were told, and are discarded unless they are kept; or the
+/// The pages of the first `count` runs were told, and are discarded unless they are kept; or the
 /// notice ends, since their chain is held.
 #[inline(always)]
 pub(crate) fn after_told(

@@ -53,10 +53,10 @@ pub fn nothing_outside_the_regions_is_touched()
         Row (λ before x. Touches regions x) None log }
 {}
 
-/// The accesses of a notice come in their order: bytes directly behind what was read, pages that
-/// are told directly behind bytes that were copied, discards directly behind these pages or other
-/// discards, a used element's numbers directly behind those, a release fence directly behind the
-/// numbers, and the index directly behind that fence (VIRTIO 1.1, 2.6.8).
+/// The accesses of a notice come in their order: bytes directly after what was read, pages that are
+/// told directly after bytes that were copied, discards directly after these pages or other
+/// discards, a used element's numbers directly after those, a release fence directly after the
+/// numbers, and the index directly after that fence (VIRTIO 1.1, 2.6.8).
 #[tactic(auto, using(crate::proofs::TurnLaws::in_order))]
 pub fn accesses_come_in_their_order()
     ensures { (regions : List Region) (kind : Kind) (budget : Budget) (d1 d2 : Device)
@@ -71,7 +71,7 @@ pub fn a_run_has_few_parts()
         length (cuts_of regions runs) ≤ length runs * length regions }
 {}
 
-/// A notice makes few accesses beside its discards: 3, which are the index, and the flags behind
+/// A notice makes few accesses beside its discards: 3, which are the index, and the flags after
 /// their fence; and at most 775 for each chain that it may serve, which are 2 for its entry, 256
 /// descriptors, two parts for each piece, what is told, and 4 for the used element.
 #[tactic(auto, using(crate::proofs::TurnLaws::few_others))]
@@ -81,12 +81,12 @@ pub fn a_notice_makes_few_accesses()
         Serves regions kind budget d1 d2 outcome log → others log ≤ 3 + 775 * budget.chains }
 {}
 
-/// What counts is read once: the index once a notice, first of all; behind it, and behind a chain
+/// What counts is read once: the index once a notice, first of all; after it, and after a chain
 /// that is given back, the entry that is taken next, if that index publishes it; then rows of its
 /// chain's descriptors, each from the number on that the one before named; and then each part of
-/// each piece, in order (VIRTIO 1.1, 2.6.5 and 2.6.6). A descriptor counts as it stands in the row
-/// that was copied last, so nothing is asked for again that this row has, whatever the guest makes
-/// of it.
+/// each piece, in order (VIRTIO 1.1, 2.6.5 and 2.6.6). A descriptor counts as it is in the row that
+/// was copied last, so nothing is asked for again that this row has, whatever the guest makes of
+/// it.
 #[tactic(auto, using(crate::proofs::TurnLaws::reads_in_turn))]
 pub fn what_counts_is_read_once()
     ensures { (regions : List Region) (kind : Kind) (budget : Budget) (d1 d2 : Device)
@@ -109,7 +109,7 @@ pub fn only_named_pages_are_discarded()
 {}
 
 /// Nothing is written but the next used element of the queue's ring, with the id that was read as
-/// its entry and a length of 0, and the index behind it (VIRTIO 1.1, 2.6.8).
+/// its entry and a length of 0, and the index after it (VIRTIO 1.1, 2.6.8).
 #[tactic(auto, using(crate::proofs::TurnLaws::writes_used))]
 pub fn only_used_elements_are_written()
     ensures { (regions : List Region) (kind : Kind) (budget : Budget) (d1 d2 : Device)
@@ -137,7 +137,7 @@ pub fn a_part_is_whole_pages_of_its_run()
 {}
 
 /// A chain that is held is given back, and nothing else is done: the next used element of its queue
-/// is written, with the chain's head, and the index behind it, and then the driver's flags are read
+/// is written, with the chain's head, and the index after it, and then the driver's flags are read
 /// (VIRTIO 1.1, 5.5.6 and 5.5.6.3). Or nothing is done at all.
 #[tactic(auto, using(crate::proofs::HeldBackLemmas::gives_held))]
 pub fn a_held_chain_is_given_back_alone()
@@ -171,7 +171,7 @@ pub fn large_pages_go_once_they_are_given_up()
 {}
 
 /// A queue of which a chain may be given back is refused nothing once it was: so it is tested where
-/// it is looked at, and not behind each chain.
+/// it is looked at, and not after each chain.
 #[tactic(auto, using(crate::proofs::ServedLemmas::used_open))]
 pub fn a_chain_that_is_given_back_leaves_its_queue_open()
     ensures { (kind : Kind) (head : ℕ) (d : Device) → use_denial kind head d ≡ None →

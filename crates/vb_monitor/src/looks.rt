@@ -1,4 +1,4 @@
-//! A look at a queue: its available index, and the entry that stands next (VIRTIO 1.1, 2.6.6).
+//! A look at a queue: its available index, and the entry that is next (VIRTIO 1.1, 2.6.6).
 
 ghost use Rattle.std.specs.Prelude.{◌≡◌, ◌+◌, ◌<◌, List};
 ghost use Rattle.vb_core.specs.declared.device.Device.{Device};
@@ -18,7 +18,7 @@ use vb_chain::ChainFault;
 use vb_core::{Device, Kind, Virtqueue, place_in_ring};
 use vb_ring::{AVAIL_ENTRY_SIZE, RING_HEADER_SIZE, RING_INDEX_AT, RING_WORD_SIZE};
 
-/// Where the entry stands that is taken next, behind the available ring's begin.
+/// Where the entry is that is taken next, after the available ring's begin.
 pub(crate) fn entry_offset(ring: &Virtqueue) -> u64
     ensures { result ≡ entry_offset ring.now }
 {
@@ -28,7 +28,7 @@ pub(crate) fn entry_offset(ring: &Virtqueue) -> u64
     RING_HEADER_SIZE + AVAIL_ENTRY_SIZE * u64::from(place_in_ring(ring.next_avail, ring.size))
 }
 
-/// Whether a chain stands there by this index.
+/// Whether a chain is available by this index.
 pub(crate) fn stands(ring: &Virtqueue, index: u16) -> Result<bool, ChainFault>
     ensures { result ≡ stands ring.now index }
 {
@@ -69,7 +69,7 @@ pub(crate) fn look(device: &mut Device, regions: &[Region], kind: Kind, tally: T
     }
 }
 
-/// Asks for the entry that stands next.
+/// Asks for the entry that is next.
 fn ask_entry(device: &mut Device, regions: &[Region], kind: Kind, tally: Tally) -> Step
     ensures step { (after : Device) (outcome : Outcome) (room : Room) (log : List Access) →
         Ahead (whole regions.now kind after outcome) result device.new room log →
@@ -90,7 +90,7 @@ fn ask_entry(device: &mut Device, regions: &[Region], kind: Kind, tally: Tally) 
     }
 }
 
-/// Takes the chain that stands next, where the budget has room for one.
+/// Takes the chain that is next, where the budget has room for one.
 #[tactic(auto, using(crate::proofs::NextLemmas::take_steps))]
 fn take(device: &mut Device, regions: &[Region], kind: Kind, tally: Tally) -> Step
     ensures step { (after : Device) (outcome : Outcome) (room : Room) (log : List Access) →

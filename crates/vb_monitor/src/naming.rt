@@ -167,7 +167,7 @@ pub(crate) fn serve_bytes(
     }
 }
 
-/// Serves a chain of the first pieces, so many.
+/// Serves a chain of the first `count` pieces.
 #[inline(always)]
 pub(crate) fn serve_pieces(
     device: &mut Device,

@@ -6,9 +6,9 @@ use vb_core::Denial;
 #[repr(C)]
 #[derive(Clone, Copy, Debug)]
 pub struct Budget {
-    /// So many chains.
+    /// The most chains of a notice.
     pub chains: u32,
-    /// No further chain once so many pages were named.
+    /// No further chain begins once this many pages were named.
     pub pages: u32,
     /// No page is discarded: what is named is told, and stays.
     pub keeps: bool,
@@ -26,9 +26,9 @@ pub struct HeldChain {
 /// What a notice may serve yet, and what it did.
 #[derive(Clone, Copy, Debug)]
 pub struct Tally {
-    /// So many chains may be served yet.
+    /// How many chains may be served yet.
     pub chains: u32,
-    /// So many pages may be named before another chain is served.
+    /// How many pages may be named before another chain is served.
     pub pages: u32,
     /// No page is discarded.
     pub keeps: bool,
@@ -49,6 +49,6 @@ pub struct Outcome {
     pub why: Option<Denial>,
     /// The driver wants an interrupt for its used buffers.
     pub interrupt: bool,
-    /// Another chain stands there, for which the budget had no room.
+    /// Another chain is available, for which the budget had no room.
     pub more: bool,
 }

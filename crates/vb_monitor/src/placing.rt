@@ -50,7 +50,7 @@ fn is_memory(regions: &[Region], byte: u64) -> bool
     find(regions, byte, 1).is_some()
 }
 
-/// Whether each of so many bytes from an address on lies in one of the regions.
+/// Whether each of `length` bytes from an address on lies in one of the regions.
 #[tactic(auto, using(crate::proofs::PlaceLemmas::byte_steps))]
 pub fn are_memory(regions: &[Region], address: u64, length: u64) -> bool
     ensures yes { result ≡ true → AreMemory regions.now address length }
@@ -231,7 +231,7 @@ impl Balloon {
         Ok(())
     }
 
-    /// Goes on where the balloon stood that was saved as these bytes, over these regions.
+    /// Goes on where the balloon was that was saved as these bytes, over these regions.
     ///
     /// Refused as by `Saved::restore`, and then `Elsewhere` where memory ends elsewhere than this
     /// balloon's, or a part of a queue lies in a hole. Then nothing is changed.

@@ -39,7 +39,7 @@ impl Balloon {
     }
 
     /// Stops a kind's queue, and answers the index at which it was, as `Device::stop`: where it
-    /// starts there, a chain that was held stands again. What is held of it is forgotten.
+    /// starts there, a chain that was held is again. What is held of it is forgotten.
     ///
     /// Refused with `Misplaced` where the queue has no place; then nothing is changed.
     pub fn stop(&mut self, kind: Kind) -> Result<u16, Denial>

@@ -8,7 +8,6 @@ ghost use Rattle.vb_core.specs.declared.runs.Run.{Run};
 ghost use Rattle.vb_core.specs.Name.{NamesBy};
 ghost use Rattle.vb_monitor.specs.declared.room.TheConstants.{MAX_RUNS};
 ghost use Rattle.vb_monitor.specs.declared.regions.Region.{Region};
-ghost use Rattle.vb_monitor.specs.Regions.{cuts_of};
 ghost use Rattle.vb_core.specs.declared.device.Device.{Device};
 ghost use Rattle.vb_core.specs.Config.{keeps_reports};
 ghost use Rattle.vb_core.specs.Devices.{queue_denial};
@@ -23,11 +22,10 @@ ghost use Rattle.vb_monitor.specs.Pieces.{all_parts};
 ghost use Rattle.vb_core.specs.Pieces.{pieces_in};
 ghost use Rattle.vb_monitor.specs.Machine.{behind_part};
 ghost use Rattle.vb_monitor.specs.Served.{word_behind, is_last, none_left};
-ghost use Rattle.vb_monitor.specs.Served.{few_parts};
 ghost use Rattle.vb_monitor.specs.Usual.{phase_at, tally_at};
 
 use crate::copying::first_bytes;
-use crate::cuts::{first_cut, put_only};
+use crate::cuts::first_cut;
 use crate::discards::{discards, first_runs};
 use crate::filling::{Filled, fill};
 use crate::giving::put_spots;
@@ -123,36 +121,6 @@ pub fn fill_named(
         },
         Some(first) => fill(regions, named, &first, cuts),
     }
-}
-
-/// The same where nothing is discarded, or one run that has one part: says how many parts there are
-/// then.
-#[tactic(auto, using(crate::proofs::ServedLemmas::only_run))]
-#[inline(always)]
-pub fn fill_few(
-    device: &Device,
-    regions: &[Region],
-    kind: Kind,
-    keeps: bool,
-    runs: &[Run; MAX_RUNS],
-    count: u32,
-    cuts: &mut [Cut; MAX_CUTS],
-) -> Option<u32>
-    ensures value { result ≡ few_parts kind (is_kept kind keeps (keeps_reports device.now))
-        regions.now (take count runs.now) }
-    ensures few { IfSome result (λ n. n ≤ MAX_CUTS) }
-    ensures parts { IfSome result (λ n. cuts_for kind
-        (is_kept kind keeps (keeps_reports device.now)) regions.now (take count runs.now) ≡
-        take n cuts.new) }
-{
-    if !discards(device, kind, keeps) {
-        return Some(0);
-    }
-    let named = first_runs(runs, count as usize);
-    if named.len() != 1 || !put_only(regions, named[0], cuts) {
-        return None;
-    }
-    Some(1)
 }
 
 /// Gives the chain of this head back, of a queue that is served, and says which word is read next;

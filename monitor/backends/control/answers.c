@@ -2,6 +2,7 @@
 
 #include "fields.h"
 
+#include "../host/measures.h"
 #include "../host/view.h"
 #include "vb.h"
 
@@ -90,16 +91,38 @@ static json_t *answer_control_counters(const struct control_counters *its)
                      count(its->refused));
 }
 
+static json_t *answer_durations(const struct durations *durations)
+{
+    json_t *bounds = json_array(), *counts = json_array();
+    for (unsigned i = 0; i < DURATION_BOUNDS; i++)
+        json_array_append_new(bounds, json_real(duration_bounds[i]));
+    for (unsigned i = 0; i <= DURATION_BOUNDS; i++)
+        json_array_append_new(counts, count(durations->counts[i]));
+    return json_pack("{s:o, s:o, s:f}", "bounds", bounds, "counts", counts, "sum", durations->sum);
+}
+
+/* What the lender has measured. */
+static json_t *answer_measures(void)
+{
+    const struct measures *its = measures_see();
+    json_t *gone = json_object();
+    for (unsigned i = 0; i < GONE_REASONS; i++)
+        json_object_set_new(gone, gone_reason_word(i), count(its->gone[i]));
+    return json_pack("{s:o, s:o, s:o, s:f, s:o}", "waits", answer_durations(&its->waits), "decisions",
+                     answer_durations(&its->decisions), "turns", answer_durations(&its->turns), "above", its->above, "gone", gone);
+}
+
 json_t *answer_host(const struct control *control, const struct host *host)
 {
     struct host_view view;
     host_see(host, &view);
-    return json_pack("{s:s, s:s, s:i, s:o, s:o, s:i, s:o, s:o, s:o, s:i, s:i, s:i, s:b, s:f, s:o, s:o}", "version", VB_VERSION,
+    return json_pack("{s:s, s:s, s:i, s:o, s:o, s:i, s:o, s:o, s:o, s:i, s:i, s:i, s:b, s:f, s:o, s:o, s:o}", "version", VB_VERSION,
                      "folder", view.folder, "guests", (int)view.guests, "budget", bytes(view.budget), "floor", bytes(view.floor),
                      "step", (int)view.step, "held", kibibytes(view.held_kib), "lent", bytes(view.lent), "missing",
                      bytes(view.short_by), "waiting", (int)view.waiting, "silent", (int)view.silent, "uncooperative",
                      (int)view.uncooperative, "strict", view.strict, "period", (double)view.period / 1000, "counters",
-                     answer_host_counters(&view), "control", answer_control_counters(&control->counters));
+                     answer_host_counters(&view), "control", answer_control_counters(&control->counters), "measures",
+                     answer_measures());
 }
 
 json_t *answer_log(const struct host *host, uint64_t since, uint64_t limit)

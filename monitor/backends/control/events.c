@@ -4,6 +4,7 @@
 #include "answers.h"
 #include "client.h"
 
+#include "../host/measures.h"
 #include "../host/view.h"
 
 #include <stdio.h>
@@ -96,9 +97,11 @@ static void tell_state(struct control *control, const struct seen *seen, const s
 static void tell_wait(struct control *control, const struct seen *seen, const struct guest_view *guest)
 {
     bool ended = seen->waits_for != WAITS_FOR_NOTHING && (guest->waits_for != seen->waits_for || guest->waits < seen->waits);
-    if (ended)
+    if (ended) {
+        measure_wait(seen->waits);
         tell(control, "granted", guest->name,
              json_pack("{s:s, s:f}", "waits_for", guest_wait_word(seen->waits_for), "waits", seen->waits));
+    }
     if (guest->waits_for != WAITS_FOR_NOTHING && (ended || guest->waits_for != seen->waits_for))
         tell(control, "waits", guest->name, json_pack("{s:s}", "waits_for", guest_wait_word(guest->waits_for)));
 }

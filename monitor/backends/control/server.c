@@ -31,7 +31,7 @@ bool control_open(struct control *control, const struct control_options *options
     control->listener = control->waits < 0 ? -1 : options->listener >= 0 ? options->listener : socket_listen(options);
     if (control->listener >= 0 && wait_for(control, EPOLL_CTL_ADD, control->listener, EPOLLIN, NULL))
         return true;
-    complain("%s: %s", options->path, strerror(errno));
+    say_fault("%s: %s", options->path, strerror(errno));
     control_close(control);
     return false;
 }

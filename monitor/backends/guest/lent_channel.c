@@ -27,7 +27,8 @@ static void send_to_lender(struct lent *lent, struct lending_message *message)
 
 static void say_to_lender(enum saying saying, const char *words)
 {
-    static const uint32_t kinds[] = {[SAY_REFUSED] = TELL_REFUSED, [SAY_REMARK] = TELL_REMARK, [SAY_GONE] = TELL_GONE};
+    static const uint32_t kinds[] = {[SAY_REFUSED] = TELL_REFUSED, [SAY_REMARK] = TELL_REMARK, [SAY_GONE] = TELL_GONE,
+                                     [SAY_FAULT] = TELL_REMARK, [SAY_NEWS] = TELL_REMARK};
     struct lending_message message = {.kind = kinds[saying]};
     strncpy(message.words, words, MOST_WORDS - 1);
     send_to_lender(speaks, &message);

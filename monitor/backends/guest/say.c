@@ -1,6 +1,7 @@
 #define _GNU_SOURCE
 #include "say.h"
 
+#include "levels.h"
 #include "process.h"
 
 #include <stdarg.h>
@@ -38,6 +39,13 @@ static bool may_speak(void)
     return speaker->lines++ < most_lines;
 }
 
+static enum level level_of(enum saying saying)
+{
+    static const enum level levels[] = {[SAY_REFUSED] = LEVEL_NOTICE, [SAY_REMARK] = LEVEL_WARNING, [SAY_GONE] = LEVEL_INFO,
+                                        [SAY_FAULT] = LEVEL_ERROR, [SAY_NEWS] = LEVEL_INFO};
+    return levels[saying];
+}
+
 /* Says a line: how it begins, whose it is, and the words; what is too long is cut. */
 static void say(enum saying saying, const char *begin, const char *between, const char *words)
 {
@@ -46,11 +54,13 @@ static void say(enum saying saying, const char *begin, const char *between, cons
         say_through(saying, words);
         return;
     }
-    const char *name = speaker->name ? speaker->name : "";
+    const char *name = speaker->name ? speaker->name : "", *prefix = level_prefix(level_of(saying));
+    if (!level_is_said(level_of(saying)))
+        return;
     if (may_speak())
-        snprintf(line, sizeof line - 1, "%s%s%s%s", begin, name, between, words);
+        snprintf(line, sizeof line - 1, "%s%s%s%s%s", prefix, begin, name, between, words);
     else if (speaker->lines == most_lines + 1)
-        snprintf(line, sizeof line - 1, "%s%sfurther lines of this second are left out", name, *name ? ": " : "");
+        snprintf(line, sizeof line - 1, "%s%s%sfurther lines of this second are left out", prefix, name, *name ? ": " : "");
     else
         return;
     strcat(line, "\n");
@@ -82,4 +92,25 @@ void complain(const char *format, ...)
 void say_gone(void)
 {
     say(SAY_GONE, "gone ", "", "");
+}
+
+bool say_fault(const char *format, ...)
+{
+    char line[MOST_BYTES];
+    va_list words;
+    va_start(words, format);
+    vsnprintf(line, sizeof line, format, words);
+    va_end(words);
+    say(SAY_FAULT, "", speaker->name ? ": " : "", line);
+    return false;
+}
+
+void say_news(const char *format, ...)
+{
+    char line[MOST_BYTES];
+    va_list words;
+    va_start(words, format);
+    vsnprintf(line, sizeof line, format, words);
+    va_end(words);
+    say(SAY_NEWS, "", speaker->name ? ": " : "", line);
 }

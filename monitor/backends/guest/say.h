@@ -1,4 +1,4 @@
-/* What is said on standard error: whole lines, of which each client has only some in a second. */
+/* What is said on standard error: whole lines, of which each client has only some in a second. How severe each is: levels.h. */
 #ifndef SAY_H
 #define SAY_H
 #include <stdbool.h>
@@ -22,7 +22,7 @@ void speaker_ends(void);
 extern unsigned most_lines;
 
 /* What is said. */
-enum saying { SAY_REFUSED, SAY_REMARK, SAY_GONE };
+enum saying { SAY_REFUSED, SAY_REMARK, SAY_GONE, SAY_FAULT, SAY_NEWS };
 
 /* Where words go, in place of standard error, if there is such a hook. */
 extern void (*say_through)(enum saying saying, const char *words);
@@ -38,5 +38,11 @@ void complain(const char *format, ...) __attribute__((format(printf, 1, 2)));
 
 /* Says that a client has gone. */
 void say_gone(void);
+
+/* Says what somebody has to mend, of the program's own; returns false. */
+bool say_fault(const char *format, ...) __attribute__((format(printf, 1, 2)));
+
+/* Says something that is as it should be. */
+void say_news(const char *format, ...) __attribute__((format(printf, 1, 2)));
 
 #endif

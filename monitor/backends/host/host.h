@@ -36,6 +36,7 @@ struct seat {
     int process_file;           /* readable once it has ended; -1: its channel ends then */
     int channel;                /* -1: none */
     bool gone;                  /* its client has gone; the process hasn't ended yet */
+    bool refused;               /* its client isn't served any longer, as it broke a rule or found no room */
     bool adopts;                /* the first report of a process that an earlier lender has started is still to come */
     int64_t comes_at;           /* before this no client is taken */
     int64_t asked_at;           /* when the first order to look that isn't answered was given; 0: all are answered */

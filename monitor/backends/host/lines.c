@@ -255,9 +255,11 @@ void question_answer(struct host *host)
 bool host_line(struct host *host, const char *line)
 {
     uint64_t number = host->looks_asked;
-    host->leaves = !strcmp(line, "leave");
-    if (host->leaves || !strcmp(line, "quit"))
+    bool leaves = !strcmp(line, "leave");
+    if (leaves || !strcmp(line, "quit")) {
+        host->leaves = leaves;
         return false;
+    }
     if (!wants_reports(host, line)) {
         obey(host, line);
         return true;

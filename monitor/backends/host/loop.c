@@ -1,5 +1,6 @@
 /* The loop of a lender: all sockets where clients come, the channels of their processes, its lines, and a look each period. */
 #include "host.h"
+#include "measures.h"
 
 #include <poll.h>
 #include <time.h>
@@ -39,6 +40,7 @@ static void look(struct host *host)
     uint64_t held = host_held(host);
     counters->looks++;
     counters->above += held > host->frames * UINT64_C(4);
+    measure_above(held > host->frames * UINT64_C(4) ? (double)host->period / 1000 : 0);
     counters->peak = held > counters->peak ? held : counters->peak;
     policy_decide(host);
     loans_grant(host);
@@ -230,9 +232,13 @@ int host_run(struct host *host)
 {
     static struct turn turn;
     int64_t next = host_now() + host->period;
+    double begin = 0;
     for (bool asks = true;;) {
         refill(host, host_now());
+        if (begin > 0)
+            measure_turn(measure_now() - begin);
         wait_for(host, &turn, next);
+        begin = measure_now();
         serve(&turn);
         bury(host);
         serve_extras(host, &turn);

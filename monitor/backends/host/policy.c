@@ -1,6 +1,7 @@
 /* What the library is asked, and what is done with its answers: who can spare what, whether targets still serve, and
  * which ones do. */
 #include "host.h"
+#include "measures.h"
 
 enum {
     FREE_MEMORY = 4,            /* the tags (VIRTIO 1.1, 5.5.6.3) */
@@ -218,7 +219,7 @@ static unsigned tell(const struct guests *guests)
     return changed;
 }
 
-void policy_decide(struct host *host)
+static void decide(struct host *host)
 {
     static struct guests guests;
     host->news = false;
@@ -234,4 +235,11 @@ void policy_decide(struct host *host)
     host->counters.changed += tell(&guests);
     host->missing = missing;
     host->anew = false;
+}
+
+void policy_decide(struct host *host)
+{
+    double begin = measure_now();
+    decide(host);
+    measure_decision(measure_now() - begin);
 }

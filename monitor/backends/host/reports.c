@@ -1,5 +1,6 @@
 /* What a guest's process has sent, and what the lender makes of it. */
 #include "host.h"
+#include "measures.h"
 
 /* A guest waits: whether there is room, it is answered at once, unless it waits for its grant; and again, where it hasn't heard that. */
 static void answer_wait(struct seat *seat)
@@ -94,6 +95,7 @@ static void take_leave(struct seat *seat)
     bool had_pages = seat->pages > 0;
     say_gone();
     seat->host->counters.gone++;
+    measure_gone(seat->listener < 0 ? GONE_REMOVED : seat->refused ? GONE_REFUSED : GONE_LEFT);
     seat_clear(seat);
     loan_leave(seat);
     seat->gone = true;
@@ -123,6 +125,7 @@ static void take(struct seat *seat, struct lending_message *message)
         take_leave(seat);
     else if (message->kind == TELL_REFUSED || message->kind == TELL_REMARK)
         print_words(message);
+    seat->refused |= message->kind == TELL_REFUSED;
 }
 
 unsigned seat_read(struct seat *seat, unsigned most)

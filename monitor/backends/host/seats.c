@@ -39,7 +39,7 @@ void seat_clear(struct seat *seat)
 {
     memset(&seat->report, 0, sizeof seat->report);
     seat->pages = seat->free = seat->available = seat->ballooned_then = seat->target = seat->told = seat->silent = 0;
-    seat->known = seat->tells_available = seat->gone = seat->adopts = false;
+    seat->known = seat->tells_available = seat->gone = seat->refused = seat->adopts = false;
     seat->heard = seat->taken = seat->number = seat->answered = seat->lost = 0;
     seat->heard_at = seat->paused_until = seat->asked_at = seat->waits_since = 0;
     seat->waits_for = WAITS_FOR_NOTHING;

@@ -1,5 +1,6 @@
 /* A guest's process: how it begins, is taken over, and ends. */
 #include "host.h"
+#include "measures.h"
 
 #include <limits.h>
 #include <signal.h>
@@ -204,6 +205,7 @@ void seat_ended(struct seat *seat)
     if (!seat->gone) {
         explain(seat);
         seat->host->counters.gone++;
+        measure_gone(GONE_DIED);
         say_gone();
     } else {
         waitpid(seat->process, NULL, WNOHANG);

@@ -55,8 +55,7 @@ static const struct key guest_keys[] = {
 static bool fault(struct reader *reader, const char *key, const char *words)
 {
     reader->faulty = true;
-    complain("%s: line %u: %s%s%s", reader->path, reader->line, key, *key ? ": " : "", words);
-    return false;
+    return say_fault("%s: line %u: %s%s%s", reader->path, reader->line, key, *key ? ": " : "", words);
 }
 
 /* The guest of a section `guest NAME`, which may be new; NULL, which is said, where it is none. */
@@ -171,7 +170,7 @@ static void check_guests(struct reader *reader)
         if (guest->terms.least <= guest->terms.most)
             continue;
         reader->faulty = true;
-        complain("%s: guest %s: its least is more than its most", reader->path, guest->name);
+        say_fault("%s: guest %s: its least is more than its most", reader->path, guest->name);
     }
 }
 
@@ -179,10 +178,8 @@ bool config_read(const char *path, struct config *config)
 {
     struct reader reader = {.path = path, .config = config, .file = fopen(path, "re")};
     *config = (struct config){.budget = UINT32_MAX, .floor = UINT32_MAX, .lines = UINT32_MAX, .level = UINT32_MAX, .fixed.mode = 0660};
-    if (!reader.file) {
-        complain("%s: %s", path, strerror(errno));
-        return false;
-    }
+    if (!reader.file)
+        return say_fault("%s: %s", path, strerror(errno));
     int line = ini_parse_stream(next_line, &reader, take, &reader);
     fclose(reader.file);
     if (line > 0) {

@@ -34,7 +34,7 @@ struct config {
 };
 
 /* Reads a file into a configuration that says nothing yet; false where it can't be read or says something wrong, and each fault is a line
- * of complain(): the file, the line, the key and what should be there. */
+ * of say_fault(): the file, the line, the key and what should be there. */
 bool config_read(const char *path, struct config *config);
 
 /* Whether two configurations agree in what stays; else the key of the first that differs is in `*key`. */

@@ -101,7 +101,7 @@ static bool apply_guests(const struct config *config, struct host *host)
         const char *fault = host_find(host, guest->name) < 0 ? host_add(host, guest->name, &terms)
                                                              : host_set_terms(host, guest->name, &terms);
         if (fault)
-            complain("guest %s: %s", guest->name, fault);
+            say_fault("guest %s: %s", guest->name, fault);
         good &= !fault;
     }
     return good;
@@ -114,9 +114,9 @@ static void reload(struct service *service, struct host *host)
     const char *key;
     notify_reloads();
     if (!config_read(service->file, &config))
-        complain("%s: the old configuration stays", service->file);
+        say_fault("%s: the old configuration stays", service->file);
     else if (!config_stays(&service->config, &config, &key))
-        complain("%s: %s can't change while the host runs: the old configuration stays", service->file, key);
+        say_fault("%s: %s can't change while the host runs: the old configuration stays", service->file, key);
     else {
         service->config = config;
         take_config(service);
@@ -125,7 +125,7 @@ static void reload(struct service *service, struct host *host)
         if (config.floor != UINT32_MAX)
             host_set_floor(host, config.floor);
         apply_guests(&config, host);
-        complain("%s: read anew", service->file);
+        say_news("%s: read anew", service->file);
     }
     notify_ready();
 }
@@ -176,10 +176,8 @@ static int64_t next(void *context)
 bool service_begin(struct service *service, struct host *host, const char *folder)
 {
     struct control_options *options = &service->control_options;
-    if (!service->path[0] && snprintf(service->path, sizeof service->path, "%s/%s", folder, socket_name) >= (int)sizeof service->path) {
-        complain("%s/%s: %s", folder, socket_name, strerror(ENAMETOOLONG));
-        return false;
-    }
+    if (!service->path[0] && snprintf(service->path, sizeof service->path, "%s/%s", folder, socket_name) >= (int)sizeof service->path)
+        return say_fault("%s/%s: %s", folder, socket_name, strerror(ENAMETOOLONG));
     options->path = service->path;
     options->listener = notify_socket("control");
     options->stays = getenv("NOTIFY_SOCKET") != NULL;

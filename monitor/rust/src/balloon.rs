@@ -296,7 +296,7 @@ impl Balloon {
     }
 
     /// Grants the deflate that is held (VIRTIO 1.1, 5.5.6): the set loses its pages (`marked`), and then its chain is given back.
-    /// No chain is served where none is held; `BadArgument` where `held_runs` aren't of so many pages as it names, and then nothing
+    /// No chain is served where none is held; `BadArgument` where `held_runs` aren't of as many pages as it names, and then nothing
     /// is changed. Notify the queue again then, as its kicks did nothing meanwhile.
     pub fn give_deflate(&mut self, memory: &dyn LiveMemory) -> Served {
         let named = match self.held_deflate() {

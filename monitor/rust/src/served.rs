@@ -15,7 +15,7 @@ pub struct Served {
     pub configuration: bool,
     /// As much was served as a notice may, and more is available: call again, later.
     pub more: bool,
-    /// A deflate is held now, which names so many pages ([`Balloon::give_deflate`](crate::Balloon::give_deflate) grants it).
+    /// A deflate is held now, which names this many pages ([`Balloon::give_deflate`](crate::Balloon::give_deflate) grants it).
     pub held: Option<u32>,
     /// Pages that inflates, deflates and reports named.
     pub pages: u64,

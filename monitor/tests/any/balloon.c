@@ -1,4 +1,4 @@
-/* A balloon over any regions, and notices that begin or go on anyhow. */
+/* A balloon over any regions, and notices that begin or go on at random. */
 #include "any.h"
 
 static VbBalloon any_balloon(void)

@@ -149,7 +149,7 @@ def test_the_old_configuration_stays_where_the_new_one_is_wrong(configured, fold
         assert f"{file}: {said}" in configured.said()[count:], configured.said()[count:]
     after = configured.ask("status")
     for it in before, after:
-        del it["host"]["control"], it["host"]["counters"]
+        del it["host"]["control"], it["host"]["counters"], it["host"]["measures"]
     assert after == before
 
 

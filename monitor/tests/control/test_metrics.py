@@ -53,6 +53,29 @@ def test_metrics_without_a_remark(host, arrive):
         assert f'bigvasta_build_info{{core="{file.read().strip()}",version=' in ran.stdout
 
 
+def test_what_the_host_measures(host, arrive):
+    """Guests that go are counted by why; a budget that is passed by how long; and what took time is."""
+    left, refused, removed = arrive("left"), arrive("refused"), arrive("removed")
+    eventually(lambda: host.status()["counters"]["admitted"] == 3)
+    host.ask("budget", bytes=256 * PAGE)
+    eventually(lambda: host.status()["measures"]["above"] >= 0.4)
+    host.ask("budget", bytes=480 * MIB)
+    left.leave()
+    refused.client.socket.sendall(b"\xff" * 12)
+    host.ask("remove", name="removed")
+    wanted = {"left": 1, "refused": 1, "removed": 1, "died": 0}
+    eventually(lambda: host.status()["measures"]["gone"] == wanted, lambda: host.status()["measures"])
+    found = values(bigvasta(host.control, "metrics").stdout)
+    assert {it: found[f'bigvasta_guest_gone_total{{reason="{it}"}}'] for it in wanted} == wanted
+    assert found["bigvasta_above_budget_seconds_total"] >= 0.4 and found["bigvasta_grants_total"] == found["bigvasta_wait_seconds_count"]
+    for name in "loop", "decision", "wait":
+        counts = [found[f'bigvasta_{name}_seconds_bucket{{le="{it}"}}'] for it in ("0.001", "0.005", "0.02", "0.1", "0.5", "2.0", "10.0", "+Inf")]
+        assert counts == sorted(counts) and counts[-1] == found[f"bigvasta_{name}_seconds_count"], (name, counts)
+        assert name == "wait" or (counts[-1] > 0 and found[f"bigvasta_{name}_seconds_sum"] > 0)
+    for it in refused, removed:
+        it.stop()
+
+
 def test_metrics_of_a_host_that_is_away(tmp_path):
     ran = bigvasta(f"{tmp_path}/none", "metrics")
     assert ran.returncode == 0 and values(ran.stdout) == {"bigvasta_up": 0}

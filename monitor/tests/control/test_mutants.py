@@ -32,9 +32,7 @@ HERE = os.path.dirname(os.path.realpath(__file__))
 @pytest.fixture(scope="session")
 def wrong_program(tmp_path_factory):
     """The host that is wrong in the way that its environment's CONTROL_WRONG names, beside the program of its guests."""
-    folder = str(tmp_path_factory.mktemp("wrong"))
-    linux_kit.build(folder, linux_kit.core_of(), "vhost_user_balloon", flags=CHECKS)
-    return linux_kit.build(folder, linux_kit.core_of(), "vhost_user_host", wrong=True, flags=CHECKS)
+    return linux_kit.build(str(tmp_path_factory.mktemp("wrong")), linux_kit.core_of(), "vhost_user_host", wrong=True, flags=CHECKS)
 
 
 @pytest.mark.parametrize("name", [pytest.param(it, marks=pytest.mark.wrong(it)) for it in WRONG])

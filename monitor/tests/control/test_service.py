@@ -12,7 +12,7 @@ import time
 
 import pytest
 from bigvasta.connection import Connection
-from hosts import ROOT, Host, bigvasta, eventually, limit_from_now
+from hosts import ROOT, Answering, Host, bigvasta, eventually, limit_from_now
 
 SYSTEMD = os.path.join(ROOT, "packaging", "systemd")
 UNITS = ("bigvasta-host.service", "bigvasta-metrics.service")
@@ -33,12 +33,12 @@ class Manager:
     def __init__(self, folder):
         self.folder, self.kept = folder, {}
         self.socket = socket.socket(socket.AF_UNIX, socket.SOCK_DGRAM)
-        self.socket.bind(f"{folder}/notify")
+        self.socket.bind(f"{folder}/.notify")
         self.socket.settimeout(10)
 
     def environment(self, watchdog=0):
         """Returns what it starts a service with."""
-        return {"NOTIFY_SOCKET": f"{self.folder}/notify"} | ({"WATCHDOG_USEC": str(watchdog)} if watchdog else {})
+        return {"NOTIFY_SOCKET": f"{self.folder}/.notify"} | ({"WATCHDOG_USEC": str(watchdog)} if watchdog else {})
 
     def word(self):
         """Returns the next thing that it is told, by names; a file that comes with it is kept."""
@@ -123,6 +123,22 @@ def test_a_client_that_comes_while_no_host_is_there(program, folder, manager):
     assert host.end() == 0
 
 
+def test_a_guest_lives_on_while_the_host_starts_anew(program, folder, manager):
+    host = manager.start(program, folder, str(folder), "--budget", "480", "--leave")
+    manager.until("READY")
+    host.ask("add", name="a", priority=3)
+    guest = Answering(host, "a")
+    process = eventually(lambda: host.guest("a")["answers"] and host.guest("a")["process"])
+    assert host.end() == 0
+    host = manager.start(program, folder, str(folder), "--budget", "480", "--leave")
+    manager.until("READY")
+    its = eventually(lambda: host.guest("a")["answers"] and host.guest("a"))
+    assert (its["process"], its["state"], its["memory"], its["terms"]["priority"]) == (process, "ready", 128 * 4096, 3)
+    guest.leave()
+    eventually(lambda: host.guest("a")["state"] == "absent")
+    assert host.end() == 0
+
+
 def test_without_a_watchdog(program, folder, manager):
     host = manager.start(program, folder, str(folder), "--budget", "480")
     manager.until("READY")
@@ -137,6 +153,42 @@ def test_without_a_manager(program, folder):
     host = Host(program, folder, str(folder), "--budget", "480", environment={"NOTIFY_SOCKET": f"{folder}/none"})
     host.lines.next(limit_from_now())
     assert host.end() == 0
+
+
+# A level, and how the lines begin that are said of a wrong file, of a right one, and of a guest that breaks a rule and goes.
+LEVELS = (("error", ["<3>", "<3>"]), ("warning", ["<3>", "<3>"]), ("notice", ["<3>", "<3>", "<5>"]), ("info", ["<3>", "<3>", "<6>", "<5>", "<6>"]))
+
+
+@pytest.mark.parametrize("level, begins", LEVELS)
+def test_levels_in_the_journal(program, folder, level, begins):
+    path, file = folder / "log", folder / "host.conf"
+    path.write_bytes(b"")
+    its = os.stat(path)
+    good = f"[host]\nfolder = {folder}\nbudget = 480M\n[log]\nlevel = {level}\n[guest a]\n"
+    file.write_text(good)
+    host = Host(program, folder, "--config", str(file), environment={"JOURNAL_STREAM": f"{its.st_dev}:{its.st_ino}"})
+    host.lines.next(limit_from_now())
+    file.write_text(good.replace("480M", "480"))
+    host.process.send_signal(signal.SIGHUP)
+    eventually(lambda: len(host.said()) == 2)
+    file.write_text(good.replace("480M", "400M"))
+    host.process.send_signal(signal.SIGHUP)
+    eventually(lambda: host.status()["budget"] == 400 << 20)
+    with socket.socket(socket.AF_UNIX) as client:
+        client.connect(f"{folder}/a")
+        client.sendall(b"\xff" * 12)
+        assert client.recv(1) == b""
+    eventually(lambda: host.guest("a")["state"] == "absent")
+    assert host.end() == 0
+    assert [it[:3] for it in host.said()] == begins, host.said()
+
+
+def test_lines_elsewhere_have_no_level(program, folder):
+    (folder / "host.conf").write_text("[host]\nbudget = 5\n")
+    host = Host(program, folder, "--config", f"{folder}/host.conf", environment={"JOURNAL_STREAM": "1:1"})
+    assert host.process.wait(20) == 2
+    assert host.said()[0].startswith(f"{folder}/host.conf: line 2: budget: ")
+    host.end()
 
 
 @pytest.mark.parametrize("unit", UNITS)
@@ -169,7 +221,7 @@ def test_the_user_and_the_folder_of_sockets(tmp_path):
 
 
 def test_what_the_units_start():
-    for unit, words in zip(UNITS, ("/usr/bin/vhost_user_host --config /etc/bigvasta/host.conf", "/usr/bin/bigvasta metrics --listen localhost:9750")):
+    for unit, words in zip(UNITS, ("/usr/bin/vhost_user_host --leave --config /etc/bigvasta/host.conf", "/usr/bin/bigvasta metrics --listen localhost:9750")):
         with open(f"{SYSTEMD}/{unit}", encoding="utf-8") as file:
             assert f"ExecStart={words}\n" in file.read()
 

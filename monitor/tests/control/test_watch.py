@@ -17,7 +17,7 @@ class Terminal:
     """A terminal of 100 columns and 14 lines with a server of its own, in which the client program runs."""
 
     def __init__(self, folder, control, *words, locale="C.UTF-8"):
-        self.socket = f"{folder}/tmux"
+        self.socket = f"{folder}/.tmux"
         program = ["env", f"PYTHONPATH={CLIENT}", f"LC_ALL={locale}", "/usr/bin/python3", "-B", "-m", "bigvasta", "watch", "--control", control, *words]
         command = f"trap : INT; {shlex.join(program)}; echo \"ended with $?\"; sleep 60"
         self.tmux("-f", "/dev/null", "-u", "new-session", "-d", "-x", "100", "-y", "14", "/bin/sh", "-c", command)

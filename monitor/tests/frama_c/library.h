@@ -1,14 +1,14 @@
 /* The library as its contracts allow, a part of frama_c.c: each answer is any that they leave open, and what they promise is
  * named where it is used. */
 
-/* vb_monitor, law nothing_outside_the_regions_is_touched: a place of so many bytes lies within one region. */
+/* vb_monitor, law nothing_outside_the_regions_is_touched: a place of `length` bytes lies within one region. */
 static VbSpot any_spot(uint64_t bytes)
 {
     VbSpot spot = { ANY_UP_TO(REGIONS - 1), ANY_UP_TO(LENGTH - bytes) };
     return spot;
 }
 
-/* So many pages of this size, within one region, and where that region's file has them (vb_monitor, IsPartOf of a part of a run
+/* Whole pages of this size, within one region, and where that region's file has them (vb_monitor, IsPartOf of a part of a run
  * and GoesBack of large pages; that they lie within it is IsWithin and AreWholePages). */
 static VbCut any_cut(uint64_t region, uint64_t size, uint64_t pages)
 {

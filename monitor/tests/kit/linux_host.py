@@ -4,6 +4,7 @@ and what the host holds meanwhile."""
 import os
 import random
 import signal
+import sys
 import threading
 import time
 from typing import NamedTuple
@@ -12,6 +13,12 @@ import linux_kit
 from linux_guest import ANSWER_LIMIT, PAGES_PER_MIB, Backend, Guest
 from linux_kit import Fault
 from programs import CHECKS
+
+sys.path.append(os.path.join(linux_kit.ROOT, "client"))
+
+from bigvasta.connection import Connection
+
+MIB = 1 << 20
 
 # Seconds between two looks at what the host holds.
 LOOK_EVERY = 0.05
@@ -48,6 +55,11 @@ class Host(Backend):
         except OSError:
             pass
         return super().close()
+
+    def status(self):
+        """Returns what it and its guests have, by its control socket."""
+        with Connection(os.path.join(self.folder, ".control")) as it:
+            return it.ask("status")
 
     def demand(self, line):
         """Has it obey a line."""
@@ -193,13 +205,15 @@ class Ledger:
 
 
 class Sample(NamedTuple):
-    """What the host holds at one time, in MiB, and what it asks for."""
+    """What the host holds at one time, in MiB, what it lends and asks for, and what each guest waits for, if it waits."""
 
     seconds: float
     held: tuple
     targets: tuple
     spare: tuple
     short: float
+    loans: tuple
+    waits: tuple
 
 
 class Town:
@@ -257,9 +271,11 @@ class Town:
     def sample(self):
         """Takes a sample."""
         held = tuple(it.guest.held_mib() if it.guest else 0.0 for it in self.members)
-        seen = self.host.guests()
-        targets, spare = (tuple(seen[it.name][name] / PAGES_PER_MIB for it in self.members) for name in ("target", "spare"))
-        return Sample(time.monotonic() - self.begin, held, targets, spare, self.host.counters()["short"] / PAGES_PER_MIB)
+        status = self.host.status()
+        seen = {it["name"]: it for it in status["guests"]}
+        targets, spare, loans = (tuple(seen[it.name][name] / MIB for it in self.members) for name in ("target", "spare", "loan"))
+        waits = tuple(seen[it.name]["waits_for"].replace("nothing", "") for it in self.members)
+        return Sample(time.monotonic() - self.begin, held, targets, spare, status["host"]["missing"] / MIB, loans, waits)
 
     def watch(self, seconds, every=None):
         """Takes samples for `seconds` seconds; calls `every` with one each second."""

@@ -1,7 +1,7 @@
 /* Devices that are wrong on purpose: tests have to find each. The linker puts these functions before those of the same
  * names, and the environment's BALLOON_WRONG says which device it is:
  *
- *     1  discards what stands a page behind that which an inflate names
+ *     1  discards the page after the one that an inflate names
  *     2  gives a chain back by another id
  *     3  discards pages again half a second after they came back to the guest
  *     4  adds two to the used index

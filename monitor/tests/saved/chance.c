@@ -1,4 +1,4 @@
-/* States by chance: bytes with a right sum are refused, or a device that all calls work on; and what calls lead to is saved. */
+/* Random states: bytes with a right sum are refused, or a device that all calls work on; and what calls lead to is saved. */
 #include "saved.h"
 
 enum { ROUNDS = 200000 };
@@ -75,7 +75,7 @@ static void any_stop(uint32_t kind)
         balloon_start_queue(&guest.balloon, kind, (VbQueueStart){ table_of(kind), avail_of(kind), used_of(kind), 64, next });
 }
 
-/* One call of a driver, or of a host, by chance. */
+/* One random call of a driver, or of a host. */
 static void any_step(void)
 {
     static const uint8_t statuses[] = { 0, 1, 3, 11, 15, 128, 129, 131, 139, 143, 79, 207 };

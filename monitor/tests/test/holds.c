@@ -119,7 +119,7 @@ static void a_reset_forgets_it(void)
     free_memory(&guest);
 }
 
-/* A queue that stops says the index of the chain that is held, which stands there again; a forgotten one is lost. */
+/* A queue that stops says the index of the chain that is held, which is available again; a forgotten one is lost. */
 static void a_stopped_queue_forgets_it(void)
 {
     static struct guest guest;

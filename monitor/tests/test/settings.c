@@ -1,4 +1,4 @@
-/* What a balloon is made with, whatever stood in its place before, and what results of several queues come to. */
+/* What a balloon is made with, with any bytes in its place before, and what results of several queues come to. */
 #include "test.h"
 
 /* Each of two settings does what it is for, beside the other one and without it. */

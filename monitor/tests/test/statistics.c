@@ -21,7 +21,7 @@ static void fill_statistics(struct guest *guest, uint32_t count, uint64_t base)
     publish(guest, VB_STATISTICS, 0);
 }
 
-/* The first buffer stands there before DRIVER_OK; it is asked for, filled again, and saved meanwhile. */
+/* The first buffer is available before DRIVER_OK; it is asked for, filled again, and saved meanwhile. */
 static void statistics_come(void)
 {
     static struct guest guest;

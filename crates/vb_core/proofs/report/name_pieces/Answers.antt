@@ -1,16 +1,22 @@
-use Rattle.std.proofs.Common.{◌≡◌, ◌∙◌, sym, ap, arith, false, true, List}
+use Rattle.std.proofs.Common.{◌∙◌, sym, subst, arith}
+use Rattle.std.specs.Prelude.{All, ◌<◌, ◌*◌, ◌^◌}
+use Rattle.vb_virtio.specs.Limits.{page_size}
 use Rattle.vb_chain.specs.declared.pieces.Piece.{Piece}
-use Rattle.vb_core.specs.Report.{are_reported}
-use Rattle.vb_core.proofs.PieceLemmas.{is_report, is_none_else, length_in}
+use Rattle.vb_core.{specs.Pieces.pieces_in, proofs.PieceLemmas.{all_below, length_in}}
 use Rattle.vb_core.proofs.report.name_pieces.Goals as goal
 
-pub unreachable-requires : goal.unreachable-requires
-unreachable-requires c =
-    let right : are_reported c.args.reserved c.as_slice.result.now ≡ true =
-    is_none_else c.args.reserved c.as_slice.result.now _ c.in-Ok.ensures.answer in
-    let wrong : false ≡ true = sym c.in-None.ensures.pages
-    ∙ (ap (λ (ps : List Piece). are_reported c.args.reserved ps)
-    (sym (c.as_slice.ensures.value ∙ c.chain_of.ensures)) ∙ right) in absurd cc
+pub put_runs-requires-clause-inside : goal.put_runs-requires-clause-inside
+put_runs-requires-clause-inside c =
+    subst (All (λ (piece : Piece). piece.addr < page_size * 2 ^ 32))
+    (sym c.chain_of-chain.ensures ∙ sym c.as_slice-in-Ok.ensures.value)
+    (all_below (pieces_in c.args.pieces.now) c.requires.below)
 
-pub returns-in-Some-clause-answer : goal.returns-in-Some-clause-answer
-returns-in-Some-clause-answer c = grind (arith, is_report, length_in)
+pub returns-in-Ok-clause-answer : goal.returns-in-Ok-clause-answer
+returns-in-Ok-clause-answer c = grind (
+  arith,
+  length_in,
+  c.as_slice.ensures.value,
+  c.as_slice-in-Ok-2.ensures.value,
+  c.in-Ok.ensures.answer,
+  c.count_pages.ensures.value,
+)

@@ -1,4 +1,4 @@
-use Rattle.vb_conformance.proofs.Listing.{attached_list}
+use Rattle.vb_conformance.proofs.PageLists.{attached_list}
 use Rattle.vb_conformance.proofs.listed.ListedDeviceDevice.attach.Goals as goal
 
 pub invariant_of-self-2 : goal.invariant_of-self-2

@@ -2,7 +2,7 @@ use Rattle.std.{proofs.Common.{◌≡◌, ◌∙◌, ◌≤◌, List, ℕ, ap, l
 use Rattle.vb_virtio.specs.Tests.{is_in, pages_where}
 use Rattle.vb_model.specs.Guest.{is_ballooned}
 use Rattle.vb_device.specs.State.{DeviceState}
-use Rattle.vb_conformance.{specs.declared.listed.PageList.PageList, proofs.Listing.{told, listed_is}}
+use Rattle.vb_conformance.{specs.declared.listed.PageList.PageList, proofs.PageLists.{told, listed_is}}
 use Rattle.vb_conformance.proofs.listed.ListedDeviceDevice.ballooned.Goals as goal
 
 pub returns-in-Some : goal.returns-in-Some

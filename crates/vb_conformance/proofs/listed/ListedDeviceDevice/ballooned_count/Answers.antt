@@ -3,7 +3,7 @@ use Rattle.std.specs.Prelude.{vec_capacity, count_by}
 use Rattle.vb_virtio.specs.Tests.{pages_where}
 use Rattle.vb_device.specs.State.{DeviceState}
 use Rattle.vb_conformance.specs.declared.listed.PageList.{PageList}
-use Rattle.vb_conformance.proofs.Listing.{told, listed_count, listed_fits}
+use Rattle.vb_conformance.proofs.PageLists.{told, listed_count, listed_fits}
 use Rattle.vb_conformance.proofs.listed.ListedDeviceDevice.ballooned_count.Goals as goal
 
 pub count-requires : goal.count-requires

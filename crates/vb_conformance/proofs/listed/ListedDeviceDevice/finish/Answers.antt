@@ -1,7 +1,7 @@
 use Rattle.std.{proofs.Common.◌≡◌, specs.Prelude.{vec_capacity, length}}
 use Rattle.vb_virtio.specs.Tests.{pages_where}
 use Rattle.vb_conformance.specs.declared.listed.PageList.{PageList}
-use Rattle.vb_conformance.proofs.Listing.{finish_keeps, still_fits}
+use Rattle.vb_conformance.proofs.PageLists.{finish_keeps, still_fits}
 use Rattle.vb_conformance.proofs.listed.ListedDeviceDevice.finish.Goals as goal
 
 pub make_anew-requires : goal.make_anew-requires

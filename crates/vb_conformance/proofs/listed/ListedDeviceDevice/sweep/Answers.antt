@@ -1,7 +1,7 @@
 use Rattle.std.proofs.Common.{◌≡◌, ◌≤◌, List, Bool, sym, subst, length}
 use Rattle.std.specs.Prelude.{vec_capacity, MatchOption, ⊤}
 use Rattle.vb_virtio.specs.Tests.{pages_where}
-use Rattle.vb_conformance.{specs.declared.listed.PageList.PageList, proofs.Listing.sweep_keeps}
+use Rattle.vb_conformance.{specs.declared.listed.PageList.PageList, proofs.PageLists.sweep_keeps}
 use Rattle.vb_conformance.proofs.listed.ListedDeviceDevice.sweep.Goals as goal
 
 pub invariant_of-self : goal.invariant_of-self

@@ -1,5 +1,5 @@
 use Rattle.std.proofs.Common.{arith}
-use Rattle.vb_conformance.proofs.Listing.{listed_more}
+use Rattle.vb_conformance.proofs.PageLists.{listed_more}
 use Rattle.vb_conformance.proofs.listed.PageList.make_anew.Goals as goal
 
 pub loop-page-preserved : goal.loop-page-preserved

@@ -1,4 +1,4 @@
-use Rattle.std.proofs.Common.{rules, ◌≡◌, ◌∙◌, ap, sym, subst, refl, ℕ, ◌+◌, ◌==◌, false}
+use Rattle.std.proofs.Common.{rules, ◌≡◌, ◌∙◌, ap, sym, subst, refl, arith, ℕ, ◌+◌, ◌==◌, false}
 use Rattle.std.proofs.Common.{Some}
 use Rattle.vb_monitor.specs.declared.step.Phase.TheVariants.{Discards}
 use Rattle.vb_monitor.specs.declared.orders.Told.TheVariants.{Pages}
@@ -10,7 +10,7 @@ use Rattle.vb_c.specs.{Codes.kind_of_code, Notices.{tally_of, held_in, asked_bit
 use Rattle.vb_c.specs.{Served.telling_pages}
 use Rattle.vb_core.specs.Config.{keeps_reports}
 use Rattle.vb_monitor.specs.Giving.{is_kept, kept_pages}
-use Rattle.vb_c.proofs.requests.serve_many.Goals as goal
+use Rattle.vb_c.proofs.requests.serve_named.Goals as goal
 
 pub returns-in-Some-clause-hands : goal.returns-in-Some-clause-hands
 returns-in-Some-clause-hands c =
@@ -19,6 +19,7 @@ returns-in-Some-clause-hands c =
     let kind = c.args.kind in
     let named = c.args.named in
     let runs = c.args.runs.now in
+    let unheld : old.taken ≡ 0 = omega arith in
     let filled = c.fill_named-filled.result in
     let cuts = c.fill_named-filled.new.cuts in
     let left = c.in-Some.left in
@@ -47,7 +48,7 @@ returns-in-Some-clause-hands c =
           (at_once asked kind o cuts runs figures rest)) (sym orders)
           (told_left w (next_chain w t) c.args.balloon.now.device t c.args.head named runs
           filled.count cuts filled.left left rest c.fill_named-filled.ensures.parts some
-          (ap (λ (n : ℕ). held_in (n == 0) old.taken_head old.taken_pages) c.requires.unheld) h);
+          (ap (λ (n : ℕ). held_in (n == 0) old.taken_head old.taken_pages) unheld) h);
       room = subst (λ (o : Orders). HasRoom asked o) (sym orders) (record {
         runs = λ e. c.requires.few;
         figures = λ e. absurd cc;
