@@ -18,7 +18,7 @@ from vhost_client import (
 )
 
 # Milliseconds that a round may take.
-MOST = 5 if os.environ.get("QUIET") else 900
+MOST = 5 if os.environ.get("QUIET") else 2500
 
 # Where memory may end, at most.
 MOST_SET = 1 << 36
