@@ -41,7 +41,8 @@ sed -i 's/^# budget = 8G/budget = 64M/' /etc/bigvasta/host.conf
 install -d -o bigvasta -g bigvasta -m 0750 /run/bigvasta
 setpriv --reuid=bigvasta --regid=bigvasta --init-groups /usr/bin/vhost_user_host --config /etc/bigvasta/host.conf < /dev/null > /tmp/host.out 2>&1 &
 host=$!
-for i in 1 2 3 4 5 6 7 8 9 10; do bigvasta status > /tmp/status 2>&1 && break; sleep 0.5; done
+trap 'kill $host 2> /dev/null || true' EXIT
+for i in $(seq 40); do bigvasta status > /tmp/status 2>&1 && break; sleep 0.5; done
 cat /tmp/host.out /tmp/status
 bigvasta status | grep -q '^budget 64, held 0, lent 0, missing 0 MiB; 0 guests$'
 test "$(bigvasta add web-1)" = /run/bigvasta/web-1
@@ -49,7 +50,7 @@ test -S /run/bigvasta/web-1
 test "$(bigvasta status --names)" = web-1
 bigvasta guest web-1 --json | python3 -c 'import json, sys; assert json.load(sys.stdin)["guest"]["state"] == "absent"'
 sed -i 's/^budget = 64M/budget = 32M/' /etc/bigvasta/host.conf && kill -HUP $host
-for i in 1 2 3 4 5 6 7 8 9 10; do test "$(bigvasta budget)" = '32 MiB' && break; sleep 0.5; done
+for i in $(seq 40); do test "$(bigvasta budget)" = '32 MiB' && break; sleep 0.5; done
 test "$(bigvasta budget)" = '32 MiB'
 bigvasta metrics | grep -q '^bigvasta_budget_bytes 3.3554432e+07$'
 bigvasta remove web-1
@@ -92,6 +93,7 @@ START = """
 words=$(sed -n 's/^ExecStart=//p' /lib/systemd/system/{unit}.service)
 setpriv --reuid=bigvasta --regid=bigvasta --init-groups $words < /dev/null > /tmp/{unit}.out 2>&1 &
 {name}=$!
+trap 'kill $host $metrics 2> /dev/null || true' EXIT
 """
 
 # What a command of README's becomes in such a root, by how it begins; every other one is run as it is.

@@ -36,7 +36,7 @@ CHANGES = (
     ("crates/vb_chain/src/fault.rt", '"no such page"', '"no page"', [HEADER, BACKEND]),
     ("crates/vb_virtio/src/limits.rt", "MAX_QUEUE_SIZE: u32 = 256", "MAX_QUEUE_SIZE: u32 = 512", [HEADER, RUST]),
     ("crates/vb_virtio/src/layout.rt", "MAX_STATISTICS_LENGTH: u32 = 1020", "MAX_STATISTICS_LENGTH: u32 = 1030", [HEADER, RUST]),
-    ("crates/vb_core/src/format.rt", "SAVED_LENGTH: usize = 191", "SAVED_LENGTH: usize = 195", [HEADER, RUST]),
+    ("crates/vb_core/src/format.rt", "SAVED_LENGTH: usize = 200", "SAVED_LENGTH: usize = 204", [HEADER, RUST]),
     ("crates/vb_chain/src/descriptor.rt", "DESCRIPTOR_SIZE: usize = 16", "DESCRIPTOR_SIZE: usize = 32", [LAYOUT]),
     ("crates/vb_ring/src/format.rt", "USED_ELEMENT_SIZE: u64 = 8", "USED_ELEMENT_SIZE: u64 = 12", [LAYOUT]),
     ("crates/vb_ring/src/format.rt", "const RING_META_SIZE", "const RING_REST_SIZE", [LAYOUT]),

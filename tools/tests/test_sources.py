@@ -47,6 +47,8 @@ OF_ALL = (
     ("versions", VERSIONS, []),
     ("versions", {**VERSIONS, "monitor/rust/Cargo.toml": 'version = "1.2.4"\n'}, ["monitor/rust/Cargo.toml: 1.2.4 in place of 1.2.3"]),
     ("versions", {**VERSIONS, "crates/vb_c/vb.h": ""}, ["crates/vb_c/vb.h: no version in place of 1.2.3"]),
+    ("floors", {"crates.txt": "# vb_model\nvb_ram: vb_virtio\nvb_c staticlib: vb_ram\nvb_guest: vb_ram vb_model\n"}, []),
+    ("floors", {"crates.txt": "vb_ram: vb_model\nvb_core: vb_ram\nvb_c staticlib: vb_core\n"}, ["crates.txt: vb_ram ships, and needs vb_model"]),
 )
 
 

@@ -16,6 +16,17 @@ def program(tmp_path_factory):
     return linux_kit.build(str(tmp_path_factory.mktemp("programs")), linux_kit.core_of(), "vhost_user_host", flags=CHECKS)
 
 
+@pytest.fixture(autouse=True)
+def nothing_left():
+    """Ends the hosts that a test has left, as it failed."""
+    yield
+    for it in Host.started:
+        if it.poll() is None:
+            it.kill()
+            it.wait()
+    Host.started.clear()
+
+
 @pytest.fixture
 def folder(tmp_path_factory):
     """A folder whose name is short enough for a socket."""

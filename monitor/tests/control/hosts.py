@@ -49,6 +49,8 @@ def bigvasta(control, *words, **options):
 class Host:
     """A host's process, in a folder of its own."""
 
+    started = []
+
     def __init__(self, program, folder, *options, environment=None, files=()):
         self.folder, self.control = str(folder), f"{folder}/.control"
         self.log = open(f"{folder}/log", "ab+")
@@ -57,6 +59,7 @@ class Host:
             env={**os.environ, **(environment or {})},
         )
         self.lines = Lines(self.process.stdout, "the host")
+        self.started.append(self.process)
 
     def ask(self, request, **fields):
         """Asks it over a connection of its own."""

@@ -233,8 +233,10 @@ def test_followers_hear_each_event_once_and_in_order(host, arrive):
     numbers = [it["number"] for it in said[0]]
     assert numbers, "who follows is told of nothing"
     assert numbers == list(range(numbers[0], numbers[0] + len(numbers)))
-    names = [it["event"] for it in said[0] if it["event"] not in ("decision", "state")]
-    assert names == ["added", "arrived", "answers", "budget", "gone", "removed"], names
+    # On a loaded machine its statistics may come late, and then it is silent for a while.
+    names = [it["event"] for it in said[0] if it["event"] not in ("decision", "state", "answers", "silent")]
+    assert names == ["added", "arrived", "budget", "gone", "removed"], names
+    assert any(it["event"] == "answers" for it in said[0])
     assert any(it["event"] == "decision" and it["decision"]["budget"] == 100 * MIB for it in said[0])
     first.close(), second.close()
 
