@@ -254,8 +254,9 @@ void loan_leave(struct seat *seat);
 /* Lends to those that wait, as long as there is room for the first of them, and answers their processes. */
 void loans_grant(struct host *host);
 
-/* Whether somebody waits. */
+/* Whether somebody waits; and how many frames are left that nobody has, waits for, or was told to take out of its balloon. */
 bool loans_wait(const struct host *host);
+uint64_t loans_room(const struct host *host);
 
 /* ---- journal.c */
 

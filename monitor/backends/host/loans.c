@@ -194,3 +194,16 @@ bool loans_wait(const struct host *host)
             return true;
     return false;
 }
+
+uint64_t loans_room(const struct host *host)
+{
+    uint64_t gone = vb_loan_owed(host->loans, MOST_PLACES);
+    for (unsigned i = 0; i < MOST_PLACES; i++)
+        gone += host->loans[i].asked;
+    for (unsigned i = 0; i < host->count; i++) {
+        const struct seat *seat = host->seats[i];
+        uint32_t ballooned = loan_of(seat)->ballooned;
+        gone += seat->report.holds && loan_of(seat)->asked == 0 && ballooned > seat->told ? ballooned - seat->told : 0;
+    }
+    return gone < host->frames ? host->frames - gone : 0;
+}

@@ -36,7 +36,7 @@ class Later(threading.Thread):
             self.fault = fault
 
     def waits(self, seconds=0.5):
-        """Whether it isn't done yet, after so many seconds."""
+        """Whether it isn't done yet, after these seconds."""
         self.join(seconds)
         return self.is_alive()
 
@@ -52,7 +52,7 @@ def waits_of(lender, name):
 
 
 def used(guest, number, count):
-    """Waits until so many requests of a queue were given back."""
+    """Waits until this number of requests of a queue were given back."""
     eventually(lambda: guest.client.used(number)[0] >= count, lambda: f"{guest.client.used(number)[0]} of {count} are used")
 
 
@@ -132,7 +132,7 @@ def test_inflates_are_served_while_a_deflate_is_held(two):
     lender.become("a", waits="deflate")
     a.give(GIVEN[50:60])
     lender.become("a", waits="deflate", ballooned=60, lent=68)
-    a.take(GIVEN[10:20])  # the next one stands on the queue
+    a.take(GIVEN[10:20])  # the next one is on the queue
     lender.demand("budget 1")
     used(a, DEFLATE, 2)
     lender.become("a", waits="nothing", ballooned=40)
@@ -229,7 +229,7 @@ def test_the_next_lender_grants_what_waits(two, lend):
 
 
 class Driver(threading.Thread):
-    """A driver that wants more and less memory by chance: it waits for each deflate, as Linux does."""
+    """A driver that wants more and less memory, at random: it waits for each deflate, as Linux does."""
 
     def __init__(self, guest, seed, until):
         super().__init__(daemon=True)
