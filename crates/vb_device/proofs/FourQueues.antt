@@ -21,7 +21,7 @@ pub at_requests : (P : ℕ → Type 0) → P 0 → P 1 → P 4 → (q : ℕ) →
 at_requests P a b d q known = grind (arith, queue_cases q)
 
 -- what holds of four queues holds of a list of that length
-of_four : (P : List QueueState → Type 0) → ((a b c d : QueueState) → P (a ∷ b ∷ c ∷ d ∷ []))
+pub of_four : (P : List QueueState → Type 0) → ((a b c d : QueueState) → P (a ∷ b ∷ c ∷ d ∷ []))
     → (qs : List QueueState) → length qs ≡ 4 → P qs
 of_four P each [] e = absurd (omega (arith, e))
 of_four P each (a ∷ []) e = absurd (omega (arith, e))

@@ -14,6 +14,7 @@ pub mod Serves
 pub mod ServeCases
 pub mod OwnFrames
 pub mod OwnServes
+pub mod ServedChains
 mod CallFacts
 mod StepFacts
 mod TakeFacts

@@ -13,7 +13,7 @@ pub flagged-length : (pages : List ℕ) (flag : Bool) (flags : List Bool) →
 flagged-length pages flag flags =
     length-each_from 0 (λ page old. cond (is_in page pages) flag old) flags
 
-flagged-at : (pages : List ℕ) (flag : Bool) (flags : List Bool) (k : ℕ) → k < length flags →
+pub flagged-at : (pages : List ℕ) (flag : Bool) (flags : List Bool) (k : ℕ) → k < length flags →
     get_or (flagged pages flag flags) k false ≡ cond (is_in k pages) flag (get_or flags k false)
 flagged-at pages flag flags k lt = grind (arith, each_page-get)
 

@@ -63,7 +63,7 @@ one_taken [] r none = refl
 one_taken (t ∷ ts) r none =
     absurd (let few = ltb-false 0 (length (t ∷ ts)) none in omega (arith, few))
 
-none_before : (a b c d e : Bool)
+pub none_before : (a b c d e : Bool)
     → first_refusal ((a ⇒ NoQueue) ∷ (b ⇒ NotReady) ∷ (c ⇒ NeedsReset) ∷ (d ⇒ NoQueue) ∷ (e ⇒ Busy)
     ∷ []) ≡ None → (a ≡ false) × (b ≡ false) × (c ≡ false) × (e ≡ false)
 none_before a b c d e none = grind arith

@@ -15,3 +15,4 @@ pub mod Calls
 pub mod QueueState
 pub mod Base
 pub mod BaseCalls
+pub mod ServedChains

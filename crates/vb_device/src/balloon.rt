@@ -2,6 +2,7 @@
 
 mod chains;
 mod memory;
+mod served;
 mod status;
 
 ghost use Rattle.std.specs.Prelude.{◌≡◌, [], true, false};

@@ -34,7 +34,7 @@ fn put_loose(loose: &mut Vec<Frame>, frame: Option<Frame>)
 }
 
 /// Takes the frame of a page away, which is loose now; says whether there was one.
-pub(crate) fn discard_page(ram: &mut Ram, loose: &mut Vec<Frame>, page: u32) -> bool
+pub fn discard_page(ram: &mut Ram, loose: &mut Vec<Frame>, page: u32) -> bool
     requires room { length loose.old.items + count_by is_some ram.old ≤ vec_capacity loose.old }
     ensures had { result ≡ is_some (frame_at ram.old page) }
     ensures after { Discarded ram.old ram.new page }

@@ -10,6 +10,7 @@ mod flags;
 mod pace;
 mod queue;
 mod queues;
+mod serving;
 mod taken;
 mod taken_list;
 #[cfg(test)]
@@ -19,6 +20,8 @@ mod worked;
 pub use balloon::{BalloonDevice, ImmediateDevice, PacedDevice};
 pub use claimed::Claimed;
 pub use device::Device;
+pub use discarding::discard_page;
 pub use pace::{Immediate, Pace, Paced};
+pub use serving::{QueueRegisters, ServedChain, ServesChains};
 pub use vb_request::Statistics;
 pub use worked::Worked;

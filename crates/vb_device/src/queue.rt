@@ -1,7 +1,8 @@
 //! A queue: the device's end of its ring, and the chains that were taken.
 
 ghost use Rattle.std.specs.Prelude.{◌≡◌, ◌<◌, ◌≤◌, ◌+◌, [], ◌++◌, ◌∷◌, All, IfNone, IfOk, OnOk};
-ghost use Rattle.std.specs.Prelude.{OnErr, Some, IsTrue, true, false, nat_le, nat_lt, not, length};
+ghost use Rattle.std.specs.Prelude.{IfSome, OnErr, Some, IsTrue, true, false, nat_le, nat_lt, not};
+ghost use Rattle.std.specs.Prelude.{length};
 ghost use Rattle.std.specs.Prelude.{slice_get};
 ghost use Rattle.std.specs.Prelude.{remove, is_some, count_by, vec_capacity};
 ghost use Rattle.vb_virtio.specs.Queues.{Request};
@@ -19,6 +20,7 @@ ghost use Rattle.vb_ring.specs.Ends.{IsDeviceEnd};
 ghost use Rattle.vb_ring.specs.Calls.{AddsUsedBy};
 ghost use Rattle.vb_device.specs.QueueState.{new_queue, restarted, is_full, TakesNext};
 ghost use Rattle.vb_device.specs.QueueState.{taken_refusal, IsTaken};
+ghost use Rattle.vb_device.specs.ServedChains.{gone_on};
 
 use crate::Statistics;
 use crate::discarding::discard_request;
@@ -30,9 +32,7 @@ use vb_bits::BitSet;
 use vb_chain::Chain;
 use vb_ram::{Frame, GuestBytes, Ram, Shape};
 use vb_request::broken;
-#[cfg(test)]
-use vb_ring::Layout;
-use vb_ring::Queue;
+use vb_ring::{Layout, Queue};
 use vb_virtio::Refusal;
 use vb_virtio::layout::STATISTICS_QUEUE;
 
@@ -74,8 +74,7 @@ impl DeviceQueue {
         }
     }
 
-    /// Where its ring lies: for the tests.
-    #[cfg(test)]
+    /// Where its ring lies.
     pub(crate) fn layout(&self) -> Layout
         ensures { result ≡ self.now.ring.layout }
     {
@@ -222,6 +221,34 @@ impl DeviceQueue {
         note_finish(ballooned, queue, request);
         discard_request(ram, loose, queue, request);
         self.forget(index);
+    }
+
+    /// How many available entries were taken, modulo 65,536.
+    pub(crate) fn next_avail(&self) -> u16
+        ensures { result ≡ self.now.ring.next_avail }
+    {
+        self.queue.next_avail()
+    }
+
+    /// How many used elements were added, modulo 65,536.
+    pub(crate) fn next_used(&self) -> u16
+        ensures { result ≡ self.now.ring.next_used }
+    {
+        self.queue.next_used()
+    }
+
+    /// Goes on from these counts, as another hand served the queue, of which none was taken. A
+    /// chain that it holds is taken now, and names no page.
+    pub(crate) fn go_on(&mut self, next_avail: u16, next_used: u16, held: Option<u16>)
+        requires none { self.old.taken ≡ [] }
+        requires below { IfSome held (λ head. head < self.old.ring.size) }
+        ensures { self.new ≡ gone_on next_avail next_used held self.old }
+    {
+        if let Some(head) = held {
+            self.taken.hold(head);
+        }
+        let (layout, size) = (self.queue.layout(), self.queue.size());
+        self.queue = Queue::resume(layout, size, self.queue.is_ready(), next_avail, next_used);
     }
 
     /// Adds a chain to the used ring, with length 0.

@@ -1,7 +1,7 @@
 //! A chain that a device has taken.
 
 ghost use Rattle.std.specs.Prelude.{◌≡◌, ◌<◌, ◌≤◌, ◌+◌, ◌*◌, ◌^◌, true, Some, length, slice_get};
-ghost use Rattle.std.specs.Prelude.{All, IfErr, OnOk, OnErr, Ok, Err};
+ghost use Rattle.std.specs.Prelude.{All, IfErr, OnOk, OnErr, Ok, Err, []};
 ghost use Rattle.vb_virtio.specs.declared.limits.TheConstants.{MAX_QUEUE_SIZE};
 ghost use Rattle.vb_virtio.specs.Layout.{reserved_pages};
 ghost use Rattle.vb_virtio.specs.Limits.{page_size};
@@ -76,6 +76,15 @@ impl TakenRequest {
         self.head = head;
         self.visited = 0;
         read_chain_into(queue, shape, ram, pieces, last, &mut self.pages)
+    }
+
+    /// Becomes a chain from this head that names no page.
+    pub(crate) fn hold(&mut self, head: u16)
+        ensures { self.new ≡ record { head = head; pages = []; visited = 0 } }
+    {
+        self.head = head;
+        self.pages = NamedPages::none();
+        self.visited = 0;
     }
 
     /// The head of its chain.

@@ -103,6 +103,15 @@ impl TakenList {
         Ok(())
     }
 
+    /// Takes a chain from this head that names no page, after the others.
+    pub(crate) fn hold(&mut self, head: u16)
+        requires { length self.old < max_outstanding }
+        ensures { self.new ≡ self.old ++ (record { head = head; pages = []; visited = 0 } ∷ []) }
+    {
+        self.requests[self.len].hold(head);
+        self.len += 1;
+    }
+
     /// Counts the oldest page that isn't visited yet as visited; answers the page, or none where
     /// every page of every chain is visited.
     pub(crate) fn visit_next(&mut self) -> Option<u32>

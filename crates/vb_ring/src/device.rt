@@ -125,6 +125,20 @@ impl Queue {
         self.ready
     }
 
+    /// How many available entries it took, modulo 65,536.
+    pub fn next_avail(&self) -> u16
+        ensures { result ≡ self.now.next_avail }
+    {
+        self.next_avail
+    }
+
+    /// How many used elements it added, modulo 65,536.
+    pub fn next_used(&self) -> u16
+        ensures { result ≡ self.now.next_used }
+    {
+        self.next_used
+    }
+
     /// Gives the queue a size, and so a layout: true where it is a power of two from 2 to
     /// `MAX_QUEUE_SIZE`, else nothing is changed.
     pub fn set_size(&mut self, size: u16) -> bool

@@ -20,9 +20,7 @@ use crate::queues::{INFLATES, REPORTS, STATISTICS, index_of};
 use bitflags::Flags;
 use vb_status::Status;
 use vb_virtio::Refusal;
-#[cfg(test)]
-use vb_virtio::layout::REPORT_QUEUE;
-use vb_virtio::layout::{DEFLATE_QUEUE, STATISTICS_QUEUE};
+use vb_virtio::layout::{DEFLATE_QUEUE, REPORT_QUEUE, STATISTICS_QUEUE};
 
 /// Sets DEVICE_NEEDS_RESET where a take found a broken rule.
 pub(super) fn note_fault(status: &mut Status, taken: &Result<Option<u16>, Refusal>)
@@ -62,9 +60,8 @@ impl<P: Pace> BalloonDevice<P> {
         Ok(head)
     }
 
-    /// Whether the pages of a queue's ring have frames, as a finish wants it: for the tests.
-    #[cfg(test)]
-    pub(crate) fn has_ring(&self, queue: u32) -> bool
+    /// Whether the pages of a queue's ring have frames, as a serve and a finish want it.
+    pub fn has_ring(&self, queue: u32) -> bool
         ensures { result ≡ true → IsBacked self.now.mem (queue_layout queue self.now.part) }
     {
         if queue > STATISTICS_QUEUE && queue != REPORT_QUEUE {

@@ -1,0 +1,151 @@
+-- Places in the one region that is all of a memory.
+use Rattle.std.proofs.Common.{◌≡◌, ◌≢◌, ◌∙◌, ap, sym, refl, arith, ℕ, ◌+◌, ◌-◌, ◌*◌, ◌%◌, ◌<◌, ◌≤◌}
+use Rattle.std.proofs.Common.{suc, Bool, true, false, List, [], ◌∷◌, ◌++◌, Option, Some, None}
+use Rattle.std.specs.Prelude.{All, ◌&&◌, ◌==◌, if◌then◌else◌}
+use Rattle.std.proofs.lemmas.Bool.Decides.{nat_tests}
+use Rattle.vb_chain.specs.declared.pieces.Piece.{Piece}
+use Rattle.vb_ring.specs.Layout.{IsSize}
+use Rattle.vb_core.specs.declared.ring.Virtqueue.{Virtqueue}
+use Rattle.vb_core.specs.declared.settings.TheConstants.{MEMORY_LIMIT}
+use Rattle.vb_core.specs.Rings.{has_place, used_entry}
+use Rattle.vb_core.proofs.RingLemmas.{placed_size}
+use Rattle.vb_monitor.specs.declared.regions.{Region.Region, Spot.Spot}
+use Rattle.vb_monitor.specs.declared.parts.Part.{Part}
+use Rattle.vb_monitor.specs.Regions.{holds, spot}
+use Rattle.vb_monitor.specs.Giving.{used_spots, three_spots}
+use Rattle.vb_monitor.specs.Notices.{entry_offset}
+use Rattle.vb_monitor.specs.Pieces.{first_part, second_part, unless_empty, parts_of, all_parts}
+use Rattle.vb_monitor.specs.Still.{IsMapped, ArePartsMapped}
+use Rattle.vb_monitor.proofs.StillFound.{offset_so}
+use Rattle.vb_served.specs.One.{all_of}
+
+-- the next entry is one of the ring's
+offset_fits : (r : Virtqueue) → 2 ≤ r.size → entry_offset r + 2 ≤ 4 + 2 * r.size
+offset_fits r least =
+    let at : entry_offset r ≡ 4 + 2 * (r.next_avail % r.size) = offset_so r least in
+    let below : r.next_avail % r.size < r.size = grind arith in
+    omega (arith, at, below)
+
+abbrev offset_of : Option Spot → ℕ
+offset_of None = 0
+offset_of (Some at) = at.offset
+
+abbrev region : ℕ → Region
+region n = record { guest = 0; length = 4096 * n; in_file = 0 }
+
+holds_all : (n a len : ℕ) → 4096 * n ≤ MEMORY_LIMIT → a + len ≤ 4096 * n →
+    holds (region n) a len ≡ true
+holds_all n a len few fits = grind (arith, nat_tests)
+
+inside : (n a len : ℕ) → 4096 * n ≤ MEMORY_LIMIT → a + len ≤ 4096 * n →
+    spot (all_of n) a len ≡ Some (record { region = 0; offset = a - 0 })
+inside n a len few fits = ap (λ (b : Bool). if b then Some (record { region = 0; offset = a - 0 })
+    else None) (holds_all n a len few fits)
+
+some_so : (o : Option Spot) (x : Spot) → o ≡ Some x → o ≢ None
+some_so None x e = absurd cc
+some_so (Some y) x e = λ f. absurd cc
+
+pub there : (n a len : ℕ) → 4096 * n ≤ MEMORY_LIMIT → a + len ≤ 4096 * n →
+    spot (all_of n) a len ≢ None
+there n a len few fits = some_so _ _ (inside n a len few fits)
+
+at_offset : (a : ℕ) (at : Spot) (b : Bool) →
+    (if b then Some (record { region = 0; offset = a - 0 }) else None) ≡ Some at → at.offset ≡ a
+at_offset a at true e = let same : a - 0 ≡ a = omega arith in sym (ap offset_of e) ∙ same
+at_offset a at false e = absurd cc
+
+-- a place is an address
+pub plain_all : (n a len : ℕ) (at : Spot) → spot (all_of n) a len ≡ Some at → at.offset ≡ a
+plain_all n a len at e = at_offset a at (holds (region n) a len) e
+
+-- ---- a ring
+
+pub record Lies (end : ℕ) (r : Virtqueue) : Type 0 where
+  pub size : IsSize r.size
+  pub table : r.table + 16 * r.size ≤ end
+  pub avail : r.avail + (6 + 2 * r.size) ≤ end
+  pub used : r.used + (6 + 8 * r.size) ≤ end
+
+both : (a b : Bool) → (a && b) ≡ true → (a ≡ true) × (b ≡ true)
+both true b e = (refl, e)
+both false b e = absurd cc
+
+table_lies : (end : ℕ) (r : Virtqueue) → has_place end r ≡ true → r.table + 16 * r.size ≤ end
+table_lies end r e = grind (arith, both, nat_tests)
+
+avail_lies : (end : ℕ) (r : Virtqueue) → has_place end r ≡ true →
+    r.avail + (6 + 2 * r.size) ≤ end
+avail_lies end r e = grind (arith, both, nat_tests)
+
+used_lies : (end : ℕ) (r : Virtqueue) → has_place end r ≡ true → r.used + (6 + 8 * r.size) ≤ end
+used_lies end r e = grind (arith, both, nat_tests)
+
+pub lies : (end : ℕ) (r : Virtqueue) → has_place end r ≡ true → Lies end r
+lies end r e = record {
+  size = placed_size end r e;
+  table = table_lies end r e;
+  avail = avail_lies end r e;
+  used = used_lies end r e;
+}
+
+pub mapped : (n : ℕ) (r : Virtqueue) → 4096 * n ≤ MEMORY_LIMIT → Lies (4096 * n) r →
+    IsMapped (all_of n) r
+mapped n r few at = record {
+  index = there n (r.avail + 2) 2 few (omega (arith, at.avail, at.size.least));
+  entry = there n (r.avail + entry_offset r) 2 few
+      (omega (arith, at.avail, offset_fits r at.size.least));
+  descriptors = λ k lt. there n (r.table + 16 * k) 16 few (omega (arith, at.table, lt));
+}
+
+three : (a b c : Option Spot) (x y z : Spot) → a ≡ Some x → b ≡ Some y → c ≡ Some z →
+    three_spots a b c ≢ None
+three (Some a) (Some b) (Some c) x y z ea eb ec = λ f. absurd cc
+three None b c x y z ea eb ec = absurd cc
+three (Some a) None c x y z ea eb ec = absurd cc
+three (Some a) (Some b) None x y z ea eb ec = absurd cc
+
+place_below : (r : Virtqueue) → 2 ≤ r.size → r.next_used % r.size < r.size
+place_below r least = grind arith
+
+pub used_there : (n head : ℕ) (r : Virtqueue) → 4096 * n ≤ MEMORY_LIMIT → Lies (4096 * n) r →
+    used_spots (all_of n) (used_entry r head) ≢ None
+used_there n head r few at =
+    let e = used_entry r head in
+    let below : r.next_used % r.size < r.size = place_below r at.size.least in
+    three _ _ _ _ _ _
+    (inside n e.element_at 4 few (omega (arith, at.used, below)))
+    (inside n (e.element_at + 4) 4 few (omega (arith, at.used, below)))
+    (inside n e.index_at 2 few (omega (arith, at.used, below)))
+
+-- ---- pieces
+
+unless_there : (n : ℕ) (part : Part) (b : Bool) → 4096 * n ≤ MEMORY_LIMIT →
+    part.address + part.plus + part.length ≤ 4096 * n →
+    ArePartsMapped (all_of n) (if b then [] else part ∷ [])
+unless_there n part true few fits = tt
+unless_there n part false few fits =
+    (there n (part.address + part.plus) part.length few fits, tt)
+
+appended : (n : ℕ) (xs ys : List Part) → ArePartsMapped (all_of n) xs →
+    ArePartsMapped (all_of n) ys → ArePartsMapped (all_of n) (xs ++ ys)
+appended n [] ys h k = k
+appended n (x ∷ xs) ys h k = (h.0, appended n xs ys h.1 k)
+
+short : (p : Piece) → (first_part p).length ≤ p.len
+short p = grind (arith, nat_tests)
+
+piece_there : (n : ℕ) (p : Piece) → 4096 * n ≤ MEMORY_LIMIT → p.addr + p.len ≤ 4096 * n →
+    ArePartsMapped (all_of n) (parts_of p)
+piece_there n p few fits =
+    let le : (first_part p).length ≤ p.len = short p in
+    appended n (unless_empty (first_part p)) (unless_empty (second_part p))
+    (unless_there n (first_part p) ((first_part p).length == 0) few (omega (arith, fits, le)))
+    (unless_there n (second_part p) ((second_part p).length == 0) few (omega (arith, fits, le)))
+
+pub pieces_there : (n : ℕ) (ps : List Piece) → 4096 * n ≤ MEMORY_LIMIT →
+    All (λ p. p.addr + p.len ≤ 4096 * n) ps → ArePartsMapped (all_of n) (all_parts ps)
+pieces_there n [] few fits = tt
+pieces_there n (p ∷ ps) few fits =
+    appended n (parts_of p) (all_parts ps) (piece_there n p few (fits 0 p (omega arith)))
+    (pieces_there n ps few (λ k d lt. fits (suc k) d (omega (arith, lt))))
