@@ -1,7 +1,7 @@
 /* The lender of a host of many guests: it lends them more memory than it has, and their balloons give back what is missing.
  *
- *     vhost_user_host FOLDER --budget MIB [--floor MIB] [--period MS] [--step N] [--strict-pages] [--events] [--features HEX]
- *                     [--lines N] [--program PATH] [--no-sandbox] [--end-with-lender]
+ *     vhost_user_host FOLDER --budget MIB [--floor MIB] [--period MS] [--step N] [--strict] [--strict-pages] [--events]
+ *                     [--features HEX] [--lines N] [--program PATH] [--no-sandbox] [--end-with-lender]
  *                     [--config FILE] [--control PATH] [--control-mode OCTAL] [--control-group NAME] [--log-level WORD]
  *
  * It says `ready`, and starts a process for each client that comes, which serves its balloon: vhost_user_balloon, beside this program or
@@ -29,8 +29,8 @@
  * the guests; SIGHUP has it read anew. --log-level: error, warning, notice, info (as it is) or debug.
  *
  * --floor: what each guest keeps free (12 MiB). --step: a target grows by one part of so many of the guest in a second, while the host is
- * within its budget (8; 0: at once). --strict-pages: a page number past the end breaks a rule. --features, --events, --lines: as for
- * vhost_user_balloon. --no-sandbox: guests' processes may make any system call. --end-with-lender: the kernel ends them with the lender.
+ * within its budget (8; 0: at once). --strict: guests' deflates and resets wait for their grant, and so do newcomers. --strict-pages: a
+ * page number past the end breaks a rule. --features, --events, --lines: as for vhost_user_balloon. --no-sandbox: guests' processes may make any system call. --end-with-lender: the kernel ends them with the lender.
  * --leave: signals end the lender alone, as the line `leave` does: a service that starts anew goes on with its guests.
  */
 #include "host/host.h"
@@ -75,8 +75,8 @@ static bool read_flag(struct host *host, const char *word)
     const struct {
         const char *word;
         bool *flag;
-    } flags[] = {{"--strict-pages", &host->strict_pages}, {"--events", &host->events}, {"--no-sandbox", &host->no_sandbox},
-                 {"--end-with-lender", &host->end_with_lender}, {"--leave", &host->leaves}};
+    } flags[] = {{"--strict", &host->strict}, {"--strict-pages", &host->strict_pages}, {"--events", &host->events},
+                 {"--no-sandbox", &host->no_sandbox}, {"--end-with-lender", &host->end_with_lender}, {"--leave", &host->leaves}};
     for (unsigned i = 0; i < sizeof flags / sizeof flags[0]; i++)
         if (!strcmp(word, flags[i].word))
             return *flags[i].flag = true;
@@ -165,8 +165,8 @@ static void end_all(struct host *host)
 }
 
 static const char help[] =
-    "vhost_user_host FOLDER --budget MIB [--floor MIB] [--period MS] [--step N] [--strict-pages] [--events] [--features HEX] "
-    "[--lines N] [--program PATH] [--no-sandbox] [--end-with-lender] [--leave]\n"
+    "vhost_user_host FOLDER --budget MIB [--floor MIB] [--period MS] [--step N] [--strict] [--strict-pages] [--events] "
+    "[--features HEX] [--lines N] [--program PATH] [--no-sandbox] [--end-with-lender] [--leave]\n"
     "                [--config FILE] [--control PATH] [--control-mode OCTAL] [--control-group NAME] [--log-level WORD]";
 
 int main(int count, char **words)

@@ -40,7 +40,8 @@ bool backend_start(struct backend *backend, const struct options *options)
 {
     /* Where memory ends is known when the client hands it over. */
     VbSettings settings = {
-        .memory_end = 2 * BALLOON_PAGE, .offered = options->features, .skips_bad_pages = !options->strict};
+        .memory_end = 2 * BALLOON_PAGE, .offered = options->features, .skips_bad_pages = !options->strict,
+        .holds_deflates = options->holds, .needs_must_tell = options->holds};
     backend->options = options;
     backend->socket = backend->listener = backend->channel = -1;
     rings_clear(backend);
@@ -137,11 +138,26 @@ bool backend_finish(struct backend *backend, uint32_t kind, const struct balloon
     count_marks(backend, kind, (uint32_t)result->marked);
     if (result->error)
         remark(backend, "%llu pages can't be discarded: %s", (unsigned long long)result->kept, strerror(result->error));
+    if (result->held && backend->held)
+        backend->held(backend, result->held_pages);
     if (!interrupt(backend, result))
         return false;
     if (result->code == VB_BROKEN)
         return refuse("the guest's bytes break a rule: %s (rule %u)", rule_words(result->rule), result->rule);
     return result->code == VB_OK || result->code == VB_NOTHING || refuse("a request is answered %u", result->code);
+}
+
+bool backend_give(struct backend *backend)
+{
+    unsigned number = 0;
+    while (number < QUEUES && vb_kind(&backend->balloon.state.device, number) != VB_DEFLATE)
+        number++;
+    if (number == QUEUES)
+        return true;
+    audit_before(backend, number);
+    struct balloon_result result = balloon_give_deflate(&backend->balloon);
+    audit_after(backend, number);
+    return backend_finish(backend, VB_DEFLATE, &result) && backend_serve(backend, number);
 }
 
 bool backend_serve(struct backend *backend, unsigned number)

@@ -23,6 +23,7 @@ struct options {
     bool strict, keep;
     bool events;                /* in-band notifications aren't offered */
     bool is_lent;               /* a lender has started the process, for the guest of the name `client` */
+    bool holds;                 /* deflates and resets wait for a grant */
     bool ends_with_lender;      /* the kernel ends it as its lender ends */
     bool open;                  /* it isn't shut in a sandbox */
     bool lives_on;              /* the end of the control pipe isn't the end of the process */
@@ -48,6 +49,10 @@ struct backend {
     void (*idle)(struct backend *backend);
     /* Whether the host has room for the memory that was handed over, else says why not; or NULL: it always has. */
     bool (*admit)(struct backend *backend);
+    /* A deflate of so many pages is held: backend_give grants it. */
+    void (*held)(struct backend *backend, uint32_t pages);
+    /* The balloon is to be empty for a new driver: whether that may be, else the client can't be served; or NULL: it may. */
+    bool (*empties)(struct backend *backend);
     bool gone;                  /* the client doesn't take answers any longer */
     bool ended;                 /* a signal has told the process to end */
     bool rests;                 /* no file was left for a client that came: it isn't looked for until the next look */
@@ -72,6 +77,9 @@ int backend_run(struct backend *backend, int (*serve)(struct backend *backend));
 
 /* Whether its driver is ready. */
 bool backend_is_ready(const struct backend *backend);
+
+/* Grants the deflate that is held, and serves what stands after it. */
+bool backend_give(struct backend *backend);
 
 /* Serves the queue of this number. */
 bool backend_serve(struct backend *backend, unsigned number);

@@ -32,6 +32,12 @@ static bool admit(struct backend *backend)
     return true;
 }
 
+/* The hook for a driver that begins anew: what is in the balloon has to be lent before. */
+static bool empties(struct backend *backend)
+{
+    return lent_await((struct lent *)backend, WAIT_RESET, backend->ballooned);
+}
+
 /* Takes the client that waits; false where it has gone again. */
 static bool accept_client(struct lent *lent)
 {
@@ -131,6 +137,8 @@ static bool begin(struct lent *lent, const struct options *options)
     lent->look = lent_now() + LOOK_EVERY;
     lent->backend.tell = client_tell;
     lent->backend.admit = admit;
+    lent->backend.held = options->holds ? lent_holds : NULL;
+    lent->backend.empties = options->holds ? empties : NULL;
     lent_speaks(lent);
     process_is_shut = HAS_SANDBOX && !options->open;
     return lent->end >= 0 && (!process_is_shut || sandbox_enter());

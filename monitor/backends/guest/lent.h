@@ -20,11 +20,14 @@ struct lent {
     uint32_t pages;             /* of its memory that has room */
     uint32_t wanted;            /* pages for which it waits, and for what */
     uint32_t wait;              /* how many times it has waited */
+    uint32_t held_pages;        /* of the deflate that is held; 0: none is */
+    uint32_t held_wait;         /* how many were held */
     enum lending_wait waits;
     int answered;               /* 1: they may be had; -1: they may not; 0: it waits */
     uint64_t heard, taken;      /* its counters when they were last looked at */
     uint32_t ballooned_then;
     bool taken_since, ready_then;
+    uint32_t ballooned_before;  /* what was in the balloon at the last look */
     uint32_t ballooned_told;    /* what was in the balloon as it was last told of its target */
     struct kept_terms terms;
     bool has_terms;
@@ -50,6 +53,9 @@ void lent_take_lender(struct lent *lent);
 /* Waits until the lender has answered for pages that are wanted, and obeys it meanwhile; false where it refuses, or where the client
  * goes. */
 bool lent_await(struct lent *lent, enum lending_wait what, uint32_t pages);
+
+/* Notes a deflate that is held. */
+void lent_holds(struct backend *backend, uint32_t pages);
 
 /* Words go to the lender from now on. */
 void lent_speaks(struct lent *lent);

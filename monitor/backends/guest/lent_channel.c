@@ -47,6 +47,7 @@ void lent_report(struct lent *lent, uint64_t number, bool asked)
     struct lending_message message = {
         .kind = TELL_REPORT, .number = number, .serial = ++lent->serial, .held_kib = memory_held(&backend->memory),
         .end = device->settings.memory_end / BALLOON_PAGE, .lost = lent->lost, .pages = lent->pages, .wanted = lent->wanted, .wait = lent->wait,
+        .holds = backend->options->holds, .held_pages = lent->held_pages, .held_wait = lent->held_wait,
         .waits = lent->waits, .target = device->target, .actual = device->actual, .ballooned = backend->ballooned,
         .status = device->status, .ready = backend_is_ready(backend), .asked = asked, .ballooned_then = lent->ballooned_then,
         .taken_since = lent->taken_since, .has_terms = lent->has_terms, .terms = lent->terms, .counters = backend->counters,
@@ -69,6 +70,11 @@ void lent_note(struct lent *lent)
         lent->taken_since = false;
     if (taken)
         lent->taken_since = true;
+    uint32_t pages;
+    if (lent->held_pages > 0 && !balloon_held_deflate(&backend->balloon, &pages))
+        lent->held_pages = 0, lent->news = true;    /* its queue was stopped */
+    lent->news |= backend->options->holds && backend->ballooned != lent->ballooned_before;
+    lent->ballooned_before = backend->ballooned;
     lent->news |= heard || taken || ready != lent->ready_then;
     lent->heard = counters->statistics;
     lent->taken = counters->taken;
@@ -112,6 +118,26 @@ static void take_answer(struct lent *lent, const struct lending_message *order)
         lent->answered = order->kind == ORDER_REFUSE ? -1 : 1;
 }
 
+void lent_holds(struct backend *backend, uint32_t pages)
+{
+    struct lent *lent = (struct lent *)backend;
+    lent->held_pages = pages;
+    lent->held_wait++;
+    lent->news = true;
+    lent->report_at = 0;
+}
+
+/* The lender has granted the deflate that is held; false where the client can't be served any longer. */
+static bool give(struct lent *lent, const struct lending_message *order)
+{
+    if (lent->held_pages == 0 || order->wait != lent->held_wait)
+        return true;
+    lent->held_pages = 0;
+    lent->news = true;
+    lent->report_at = 0;
+    return backend_give(&lent->backend);
+}
+
 /* Obeys one order; false where the client can't be served any longer. */
 static bool obey(struct lent *lent, const struct lending_message *order)
 {
@@ -129,9 +155,10 @@ static bool obey(struct lent *lent, const struct lending_message *order)
         return true;
     case ORDER_ADMIT:
     case ORDER_REFUSE:
-    case ORDER_GRANT:
         take_answer(lent, order);
         return true;
+    case ORDER_GRANT:
+        return give(lent, order);
     case ORDER_KEEP:
         lent->terms = order->terms;
         lent->has_terms = true;

@@ -41,7 +41,7 @@ static bool read_flag(struct options *options, const char *word)
         const char *word;
         bool *flag;
     } flags[] = {{"--strict", &options->strict}, {"--keep", &options->keep}, {"--events", &options->events},
-                 {"--lent", &options->is_lent}, {"--end-with-lender", &options->ends_with_lender}, {"--no-sandbox", &options->open}};
+                 {"--lent", &options->is_lent}, {"--holds", &options->holds}, {"--end-with-lender", &options->ends_with_lender}, {"--no-sandbox", &options->open}};
     for (unsigned i = 0; i < sizeof flags / sizeof flags[0]; i++)
         if (!strcmp(word, flags[i].word))
             return *flags[i].flag = true;

@@ -19,11 +19,19 @@ static const VbQueue *queue_of(const struct backend *backend, uint32_t kind)
     return kind < VB_NO_KIND ? queues[kind] : NULL;
 }
 
+/* Whether the balloon may be empty from now on. */
+static bool may_empty(struct backend *backend)
+{
+    return backend->ballooned == 0 || !backend->balloon.ballooned || !backend->empties || backend->empties(backend);
+}
+
 /* Writes the status, while no queue is there but one of this kind; false where the device refuses it, or what the guest has posted
  * before. */
 static bool write_status(struct backend *backend, uint8_t status, uint32_t kind)
 {
     struct balloon_result result;
+    if (status == 0 && !may_empty(backend))
+        return false;
     uint32_t answer = balloon_write_status(&backend->balloon, status, &result);
     if (answer != 0)
         return refuse("status %u is answered %u", status, answer);
@@ -122,16 +130,19 @@ static bool find_start(struct backend *backend, unsigned number, VbQueueStart *a
 }
 
 /* The queue of inflates starts anew: at 0 a new life begins, with nothing in the balloon; else the last one goes on. */
-static void begin_life(struct backend *backend, uint16_t position)
+static bool begin_life(struct backend *backend, uint16_t position)
 {
     struct balloon *balloon = &backend->balloon;
     if (!backend->told.goes_on)
-        return;
+        return true;
+    if (position == 0 && !may_empty(backend))
+        return false;
     backend->told.goes_on = false;
     if (position > 0)
         configuration_write(&balloon->state.device, ACTUAL_AT, backend->told.actual);
     else if (balloon->ballooned)
         memset(balloon->ballooned, 0, balloon->ballooned_words * sizeof balloon->ballooned[0]), backend->ballooned = 0;
+    return true;
 }
 
 /* Starts a ring, and serves what is available. */
@@ -147,8 +158,8 @@ static bool start(struct backend *backend, unsigned number)
     if (code != VB_OK)
         return refuse("the place of queue %u is answered %u", number, code);
     ring->runs = true;
-    if (kind == VB_INFLATE)
-        begin_life(backend, at.next);
+    if (kind == VB_INFLATE && !begin_life(backend, at.next))
+        return false;
     if (at.next > 0 && !backend->tell(backend, (int)number)) /* who was served last may not have been told of it */
         return refuse("the client can't be told of a used buffer");
     /* The status looks at each queue once, which may leave more than a notice serves. */

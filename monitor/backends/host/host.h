@@ -15,6 +15,7 @@
 
 enum {
     MOST_GUESTS = 64,
+    MOST_PLACES = 2 * MOST_GUESTS,      /* of loans: also of guests that are leaving */
     MOST_NAME = 32,             /* bytes of a name, with its end */
     MOST_PATH = 108,            /* of a socket's */
     SILENT_AFTER = 3,           /* periods without statistics, and a guest counts as one that doesn't answer */
@@ -56,6 +57,11 @@ struct seat {
     int64_t waits_since;
     uint32_t wait_answered;     /* the last of its waits that was answered, and how */
     bool wait_admitted;
+    size_t place;               /* of its loan */
+    enum guest_wait asked_for;  /* what its loan asks for */
+    uint32_t held_granted, granted_pages;       /* the last of its deflates that was granted, and of how many pages */
+    bool adopted;               /* its loan is to follow the first report of a process of an earlier lender */
+    bool cooperates;            /* it hasn't taken pages that nobody granted */
 };
 
 /* What was decided, and why. */
@@ -77,6 +83,7 @@ struct host_counters {
     uint64_t looks, above, peak;                /* peak: KiB */
     uint64_t decisions, changed;                /* changed: targets */
     uint64_t shorts, admitted, refused, gone;   /* shorts: decisions that found the guests short */
+    uint64_t grants;                            /* of room, deflates and resets that waited */
 };
 
 /* The answers of standard output that nobody has read yet. */
@@ -105,6 +112,7 @@ struct question {
 struct host {
     const char *folder, *program;
     uint64_t features;
+    VbLoan loans[2 * MOST_GUESTS];      /* by the places of seats */
     bool strict, strict_pages, events, no_sandbox, end_with_lender;
     struct seat *seats[MOST_GUESTS];
     unsigned count;
@@ -209,6 +217,9 @@ void seat_leave(struct seat *seat);
 /* Answers its process, which waits for pages: whether they may be had. */
 void seat_answer(struct seat *seat, bool admitted);
 
+/* Grants the deflate that its process holds. */
+void seat_grant(struct seat *seat);
+
 /* ---- reports.c */
 
 /* Reads what its process has sent, at most `most` messages, and notes what came of it; returns how many it read. */
@@ -231,6 +242,21 @@ void policy_decide(struct host *host);
 
 /* What all guests hold, in KiB. */
 uint64_t host_held(const struct host *host);
+
+/* ---- loans.c */
+
+/* Follows what its last report says: lends less once pages have joined its balloon, and asks for what its process waits for. */
+void loan_follow(struct seat *seat);
+
+/* Nothing is lent to it any longer. */
+void loan_leave(struct seat *seat);
+
+/* Lends to those that wait, as long as there is room for the first of them, and answers their processes. */
+void loans_grant(struct host *host);
+
+/* Whether somebody waits; and how many frames are left that nobody has, waits for, or was told to take out of its balloon. */
+bool loans_wait(const struct host *host);
+uint64_t loans_room(const struct host *host);
 
 /* ---- journal.c */
 

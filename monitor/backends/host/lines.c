@@ -22,8 +22,9 @@ static void print_seat(const struct seat *seat)
             seat->target, seat->free, policy_spare(seat), seat_answers(seat));
     fprintf(to, " inflated %" PRIu64 " deflated %" PRIu64 " reported %" PRIu64 " taken %" PRIu64 " statistics %" PRIu64,
             counters->inflated, counters->deflated, counters->reported, counters->taken, counters->statistics);
-    fprintf(to, " available %" PRIu32 " asked %" PRIu32 " least %" PRIu32 " most %" PRIu32 " priority %" PRIu32 " reports %d process %d\n",
-            seat->available, seat->told, seat->terms.least, seat->terms.most, seat->terms.priority, seat_reports(seat), (int)seat->process);
+    fprintf(to, " available %" PRIu32 " asked %" PRIu32 " least %" PRIu32 " most %" PRIu32 " priority %" PRIu32 " reports %d process %d lent %" PRIu32 " waits %s\n",
+            seat->available, seat->told, seat->terms.least, seat->terms.most, seat->terms.priority, seat_reports(seat), (int)seat->process,
+            seat->host->loans[seat->place].lent, guest_wait_word(seat->waits_for));
 }
 
 static void print_guests(const struct host *host)
@@ -41,8 +42,8 @@ static void print_counters(const struct host *host)
             host->missing, host_held(host));
     fprintf(to, " looks %" PRIu64 " above %" PRIu64 " peak_kib %" PRIu64 " decisions %" PRIu64 " changed %" PRIu64, it->looks,
             it->above, it->peak, it->decisions, it->changed);
-    fprintf(to, " shorts %" PRIu64 " admitted %" PRIu64 " refused %" PRIu64 " gone %" PRIu64 " dropped %" PRIu64 "\n", it->shorts,
-            it->admitted, it->refused, it->gone, lines_dropped);
+    fprintf(to, " shorts %" PRIu64 " admitted %" PRIu64 " refused %" PRIu64 " gone %" PRIu64 " dropped %" PRIu64 " lent %" PRIu64 " grants %" PRIu64 "\n", it->shorts,
+            it->admitted, it->refused, it->gone, lines_dropped, vb_loan_owed(host->loans, MOST_PLACES), it->grants);
 }
 
 /* Reads a number of MiB as pages. */

@@ -43,6 +43,7 @@ static void look(struct host *host)
     measure_above(held > host->frames * UINT64_C(4) ? (double)host->period / 1000 : 0);
     counters->peak = held > counters->peak ? held : counters->peak;
     policy_decide(host);
+    loans_grant(host);
     for (unsigned i = 0; i < host->count; i++) {
         host->seats[i]->silent++;
         seat_look(host->seats[i], true);
@@ -223,6 +224,7 @@ static void decide(struct host *host, int64_t now)
     if (!host->news || (now < host->decides_at && !(host->anew && host->reason == BY_BUDGET)))
         return;
     policy_decide(host);
+    loans_grant(host);
     host->decides_at = now + DECIDE_EVERY;
 }
 

@@ -12,10 +12,10 @@ enum lending_kind {
     ORDER_LOOK = 1,             /* report; and, where `asks` is set, ask the guest for its statistics */
     ORDER_REMIND,               /* tell the guest its target again, where its balloon stays off it */
     ORDER_TARGET,               /* the host wants `target` pages in the balloon */
-    ORDER_ADMIT,                /* there is room for the `pages` that it waits for */
+    ORDER_ADMIT,                /* there is room for the pages that it waits for */
     ORDER_REFUSE,               /* there is none */
     ORDER_KEEP,                 /* keep the terms for the lender that comes after this one */
-    ORDER_GRANT,                /* the deflate or the reset that waits has its `pages` */
+    ORDER_GRANT,                /* the deflate that is held has its pages */
     ORDER_LEAVE,                /* end */
     /* Of a guest's process. */
     TELL_REPORT,                /* all that it is */
@@ -24,8 +24,8 @@ enum lending_kind {
     TELL_GONE,                  /* its client has gone; the process ends */
 };
 
-/* What a guest's process waits for. */
-enum lending_wait { WAIT_NOTHING, WAIT_ROOM, WAIT_DEFLATE, WAIT_RESET };
+/* For what a guest's process waits before it answers its client. */
+enum lending_wait { WAIT_NOTHING, WAIT_ROOM, WAIT_RESET };
 
 /* The terms that a process keeps for a lender that doesn't know them. */
 struct kept_terms {
@@ -41,6 +41,9 @@ struct lending_message {
     uint32_t pages;             /* of its memory that has room; of an order: what it is about */
     uint32_t wanted;            /* pages that it waits for */
     uint32_t wait;              /* how many times it has waited: the answer has the same number */
+    uint32_t holds;             /* its deflates and resets wait for their grant */
+    uint32_t held_pages;        /* pages of the deflate that is held; 0: none is */
+    uint32_t held_wait;         /* how many were held: the grant has the same number */
     uint32_t waits;             /* enum lending_wait */
     uint32_t target, actual, ballooned, status, ready;
     uint32_t asks, asked;       /* whether to ask for statistics; whether the guest could be asked */

@@ -32,11 +32,26 @@ static void tell_target(struct seat *seat)
     order(seat, &message);
 }
 
-/* What a guest may be asked for at once: all of its target, unless a step is smaller, and the host is within its budget. */
+/* What a guest may be asked for at once: all of its target, unless a step is smaller, the host is within its budget, and nobody waits for
+ * pages. */
 static bool goes_by_steps(const struct seat *seat)
 {
     const struct host *host = seat->host;
-    return host->step > 0 && seat->target > seat->told && host_held(host) <= host->frames * UINT64_C(4);
+    bool is_calm = host_held(host) <= host->frames * UINT64_C(4) && !loans_wait(host);
+    return host->step > 0 && seat->target > seat->told && is_calm;
+}
+
+/* How far a target that falls may fall now. One of a guest whose deflates wait falls only as far as there is room: else it would wait for
+ * pages that it doesn't need, and couldn't give any meanwhile. */
+static uint32_t lower_end(const struct seat *seat)
+{
+    if (!seat->report.holds)
+        return seat->target;
+    uint32_t ballooned = seat->host->loans[seat->place].ballooned, from = seat->told > ballooned ? ballooned : seat->told;
+    if (from <= seat->target)
+        return seat->target;
+    uint64_t room = loans_room(seat->host);
+    return room < from - seat->target ? from - (uint32_t)room : seat->target;
 }
 
 void seat_set_target(struct seat *seat, uint32_t pages)
@@ -44,7 +59,7 @@ void seat_set_target(struct seat *seat, uint32_t pages)
     seat->target = pages;
     if (goes_by_steps(seat))
         return;
-    seat->told = pages;
+    seat->told = seat->target < seat->told ? lower_end(seat) : pages;
     tell_target(seat);
 }
 
@@ -56,10 +71,13 @@ void seat_step(struct seat *seat, int64_t milliseconds)
         step = step > 0 ? step : 1;
         seat->told += step < left ? (uint32_t)step : left;
         tell_target(seat);
-    } else if (seat->told != seat->target || seat->report.target != seat->told) {
-        seat->told = seat->target;
-        tell_target(seat);
+        return;
     }
+    uint32_t told = seat->target < seat->told ? lower_end(seat) : seat->target;
+    if (told == seat->told && seat->report.target == told)
+        return;
+    seat->told = told;
+    tell_target(seat);
 }
 
 void seat_keep_terms(struct seat *seat)
@@ -72,6 +90,13 @@ void seat_keep_terms(struct seat *seat)
 void seat_leave(struct seat *seat)
 {
     struct lending_message message = {.kind = ORDER_LEAVE};
+    order(seat, &message);
+}
+
+void seat_grant(struct seat *seat)
+{
+    struct lending_message message = {.kind = ORDER_GRANT, .wait = seat->report.held_wait};
+    seat->held_granted = seat->report.held_wait;
     order(seat, &message);
 }
 

@@ -109,6 +109,23 @@ static void add(struct guests *guests, struct seat *seat, uint32_t pages, uint32
     guests->old[number] = seat->target;
 }
 
+/* A guest whose loan is waited for counts by it. One that waits can spare what stays in its balloon when it has what it asks for; one
+ * whose balloon doesn't count nothing. */
+static void add_loan(struct guests *guests, struct seat *seat, uint32_t spare, uint32_t low)
+{
+    const VbLoan *loan = &seat->host->loans[seat->place];
+    uint32_t stays = loan->pages - loan->lent - loan->asked;
+    if (loan->asked > 0 || loan->uncounted)
+        spare = low = loan->asked > 0 ? stays : 0;
+    add(guests, seat, loan->pages, least(spare, loan->pages), least(low, loan->pages));
+    unsigned number = guests->count - 1;
+    if (loan->asked == 0)
+        return;
+    guests->forced[number] = 0;
+    guests->loans[number] = *loan;
+    guests->most[number] = (VbNeed){loan->pages, stays};
+}
+
 static void collect(const struct host *host, const struct seat *except, struct guests *guests)
 {
     uint32_t low = host->floor - host->floor / SLACK_PART;
@@ -116,7 +133,9 @@ static void collect(const struct host *host, const struct seat *except, struct g
     for (unsigned i = 0; i < host->count; i++) {
         struct seat *seat = host->seats[i];
         uint32_t pages = charged(seat);
-        if (seat != except && pages > 0)
+        if (seat->report.holds && host->loans[seat->place].pages > 0 && seat != except)
+            add_loan(guests, seat, policy_spare(seat), spare_above(seat, low));
+        else if (seat != except && pages > 0)
             add(guests, seat, pages, least(policy_spare(seat), pages), least(spare_above(seat, low), pages));
     }
     for (unsigned i = 0; i < host->leaving_count; i++)
@@ -180,6 +199,8 @@ static void note(struct host *host, const struct guests *guests, uint64_t missin
         uint32_t forced = guests->forced[i];
         strcpy(share->name, guests->seats[i]->name);
         share->need = (VbNeed){guests->loans[i].pages + forced, guests->loans[i].spare + forced};
+        if (guests->loans[i].asked > 0)
+            share->need.spare = guests->most[i].spare;
         share->most = guests->most[i].spare + forced;
         share->old = guests->old[i];
         share->target = guests->targets[i];

@@ -2,8 +2,8 @@
 #include "host.h"
 #include "measures.h"
 
-/* A guest waits for room: whether there is, it is answered; and again, where it hasn't heard that. */
-static void answer_arrival(struct seat *seat)
+/* A guest waits: whether there is room, it is answered at once, unless it waits for its grant; and again, where it hasn't heard that. */
+static void answer_wait(struct seat *seat)
 {
     struct host *host = seat->host;
     uint32_t wanted = seat->report.wanted;
@@ -11,7 +11,9 @@ static void answer_arrival(struct seat *seat)
         seat_answer(seat, seat->wait_admitted);
         return;
     }
-    uint64_t missing = wanted > seat->pages ? policy_lacks(host, seat, wanted) : 0;
+    if (seat->report.holds && (seat->report.waits == WAIT_RESET || wanted <= host->frames))
+        return;
+    uint64_t missing = seat->report.holds ? wanted - host->frames : wanted > seat->pages ? policy_lacks(host, seat, wanted) : 0;
     if (missing > 0) {
         refuse("no room for %u pages: %llu are missing", wanted, (unsigned long long)missing);
         host->counters.refused++;
@@ -53,10 +55,10 @@ static void adopt(struct seat *seat)
 
 static void note_wait(struct seat *seat)
 {
-    static const enum guest_wait waits[] = {[WAIT_NOTHING] = WAITS_FOR_NOTHING, [WAIT_ROOM] = WAITS_FOR_ROOM,
-                                            [WAIT_DEFLATE] = WAITS_FOR_DEFLATE, [WAIT_RESET] = WAITS_FOR_RESET};
-    uint32_t its = seat->report.waits;
-    enum guest_wait now = its < sizeof waits / sizeof waits[0] ? waits[its] : WAITS_FOR_NOTHING;
+    const struct lending_message *report = &seat->report;
+    enum guest_wait now = report->held_pages > 0 ? WAITS_FOR_DEFLATE : WAITS_FOR_NOTHING;
+    if (report->waits == WAIT_ROOM || report->waits == WAIT_RESET)
+        now = report->waits == WAIT_ROOM ? WAITS_FOR_ROOM : WAITS_FOR_RESET;
     if (now != seat->waits_for)
         seat->waits_since = host_now();
     seat->waits_for = now;
@@ -79,8 +81,12 @@ static void take_report(struct seat *seat, const struct lending_message *message
         host_changed(seat->host, BY_GUESTS);
     }
     take_note(seat);
-    if (message->waits == WAIT_ROOM)
-        answer_arrival(seat);
+    if (message->waits != WAIT_NOTHING)
+        answer_wait(seat);
+    else if (message->held_pages > 0 && message->held_wait == seat->held_granted)
+        seat_grant(seat);
+    loan_follow(seat);
+    loans_grant(seat->host);
 }
 
 /* Its client has gone, and its memory with it. */
@@ -91,6 +97,7 @@ static void take_leave(struct seat *seat)
     seat->host->counters.gone++;
     measure_gone(seat->listener < 0 ? GONE_REMOVED : seat->refused ? GONE_REFUSED : GONE_LEFT);
     seat_clear(seat);
+    loan_leave(seat);
     seat->gone = true;
     if (had_pages)
         host_changed(seat->host, BY_GUESTS);

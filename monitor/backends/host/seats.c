@@ -43,7 +43,10 @@ void seat_clear(struct seat *seat)
     seat->heard = seat->taken = seat->number = seat->answered = seat->lost = 0;
     seat->heard_at = seat->paused_until = seat->asked_at = seat->waits_since = 0;
     seat->waits_for = WAITS_FOR_NOTHING;
-    seat->wait_answered = 0;
+    seat->wait_answered = seat->held_granted = seat->granted_pages = 0;
+    seat->wait_admitted = seat->adopted = false;
+    seat->asked_for = WAITS_FOR_NOTHING;
+    seat->cooperates = true;
 }
 
 /* Makes a seat's socket; false where it can't, with errno. */
@@ -81,6 +84,20 @@ static bool name_seat(struct seat *seat, const char *name)
         && snprintf(seat->later_path, sizeof seat->later_path, "%s/%c%s", folder, LATER_MARK, name) < MOST_PATH;
 }
 
+/* A place that no guest has, also none that is leaving: there are twice as many as seats. */
+static size_t free_place(const struct host *host)
+{
+    bool taken[MOST_PLACES] = {false};
+    size_t place = 0;
+    for (unsigned i = 0; i < host->count; i++)
+        taken[host->seats[i]->place] = true;
+    for (unsigned i = 0; i < host->leaving_count; i++)
+        taken[host->leaving[i]->place] = true;
+    while (taken[place])
+        place++;
+    return place;
+}
+
 const char *seat_add(struct host *host, const char *name, const struct guest_terms *terms)
 {
     if (!is_name(name) || seat_of(host, name))
@@ -101,6 +118,8 @@ const char *seat_add(struct host *host, const char *name, const struct guest_ter
         free(seat);
         return strerror(named ? why : ENAMETOOLONG);
     }
+    seat->place = free_place(host);
+    seat->cooperates = true;
     host->seats[host->count++] = seat;
     seat_take_over(seat);
     return NULL;

@@ -33,6 +33,8 @@ static unsigned make_words(const struct seat *seat, char features[24], char line
         words[count++] = "--strict";
     if (host->events)
         words[count++] = "--events";
+    if (seat->terms.strict)
+        words[count++] = "--holds";
     if (host->no_sandbox)
         words[count++] = "--no-sandbox";
     if (host->end_with_lender)
@@ -176,7 +178,7 @@ void seat_take_over(struct seat *seat)
     seat->channel = channel;
     seat->process = its.pid;
     seat->process_file = pidfd_open(its.pid, 0);
-    seat->here = seat->adopts = true;
+    seat->here = seat->adopts = seat->adopted = true;
     seat->heard_at = host_now();
     seat->clients++;
     seat_look(seat, false);
@@ -218,4 +220,5 @@ void seat_ended(struct seat *seat)
     seat->process = 0;
     seat->here = false;
     seat_clear(seat);
+    loan_leave(seat);
 }

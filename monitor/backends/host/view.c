@@ -43,7 +43,13 @@ static uint32_t excess_of(const struct seat *seat, uint32_t loan)
 /* Frames that are lent to a guest. */
 static uint32_t loan_of(const struct seat *seat)
 {
-    return seat->pages - (seat->report.ballooned < seat->pages ? seat->report.ballooned : seat->pages);
+    return seat->host->loans[seat->place].lent;
+}
+
+/* Whether it has taken no pages unasked since it came. */
+static bool cooperates(const struct seat *seat)
+{
+    return seat->cooperates && (seat->report.holds || seat->report.counters.taken == 0);
 }
 
 void host_see(const struct host *host, struct host_view *view)
@@ -59,7 +65,7 @@ void host_see(const struct host *host, struct host_view *view)
         view->lent += loan_of(seat);
         view->waiting += seat->waits_for != WAITS_FOR_NOTHING;
         view->silent += seat_is_ready(seat) && !seat_answers(seat);
-        view->uncooperative += seat->report.counters.taken > 0;
+        view->uncooperative += !cooperates(seat);
     }
 }
 
@@ -93,7 +99,7 @@ void host_see_guest(const struct host *host, unsigned number, struct guest_view 
         .pages = seat->pages, .held_kib = report->held_kib, .loan = loan, .excess = excess_of(seat, loan), .target = seat->target,
         .ballooned = report->ballooned, .actual = report->actual, .free = seat->free, .available = seat->available,
         .spare = policy_spare(seat), .answers = seat_answers(seat), .reports = seat_reports(seat),
-        .cooperates = report->counters.taken == 0, .waits_for = seat->waits_for, .clients = seat->clients,
+        .cooperates = cooperates(seat), .waits_for = seat->waits_for, .clients = seat->clients,
         .lost = seat->lost + report->lost};
     if (seat->waits_for != WAITS_FOR_NOTHING)
         view->waits = seconds_since(seat->waits_since);

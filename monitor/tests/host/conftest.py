@@ -1,13 +1,15 @@
 """What the tests of a lender have in common."""
 
+import os
+
 import pytest
 from tenants import Guest, Lender
 
 
 @pytest.fixture(scope="session")
 def plain(programs):
-    """The lender's program as it is installed, beside that of its guests."""
-    return programs("vhost_user_host", flags=())
+    """The lender's program as it is installed, beside that of its guests; or one that the environment names."""
+    return os.environ.get("HOST_PROGRAM") or programs("vhost_user_host", flags=())
 
 
 @pytest.fixture(scope="session")

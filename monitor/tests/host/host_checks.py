@@ -45,7 +45,8 @@ def check_decisions(town):
         demand(said["short"] == short, f"{said}: {shares}: short by {short}")
         # Old targets serve while each guest has its floor but for an eighth of it.
         slacks = [it["most"] - it["spare"] for it in shares.values() if it["spare"]]
-        demand(all(it in (0, said["floor"] // 8) for it in slacks), f"{said}: {shares}: guests may have less than their floor by {slacks}")
+        # (Less of one that took pages itself just now: it isn't asked for more than it has given.)
+        demand(all(0 <= it <= said["floor"] // 8 for it in slacks), f"{said}: {shares}: guests may have less than their floor by {slacks}")
         lack = max(0, sum(pages for pages, _ in needs) - said["frames"])
         serves = sum(old) >= lack and all(it["old"] <= it["most"] for it in shares.values())
         demand(said["why"] in ("guests", "budget") or not serves, f"{said}: {shares}: the old targets serve")

@@ -13,6 +13,7 @@ that aren't Linux. The runs:
     shift-N   four guests at work on a host with 560 MiB, who use together what there is less 60 MiB at most: three days,
               in the last of which guests and host notify each other by events, not by messages
     greedy    four guests who want more than there is: the host says by how much it is short, and holds no more than that
+    strict    a day that fits on a strict host: at no look do they hold more than the budget
     bare      the first of the days without balloons: it goes over the budget
     rest      what the targets are once nothing moves, and once a guest has gone
     lives     a guest that is killed while its balloon is filled, and comes back; one that doesn't answer
@@ -36,6 +37,7 @@ from host_checks import (
 from host_queues import queues_run
 from host_seats import seats_run, spares_run
 from host_small import lines_run, many_run, worked_run
+from host_strict import strict_run
 from host_tenants import files_run, marks_run, tells_run
 from host_trash import ENDED, end_one, hang_one
 from linux_guest import PAGES_PER_MIB
@@ -233,7 +235,7 @@ RUNS = {
     "marks": marks_run, "tells": tells_run, "files": files_run,
     "shift-1": functools.partial(shift_run, seed=1), "shift-2": functools.partial(shift_run, seed=2),
     "shift-3": functools.partial(shift_run, seed=3),
-    "greedy": greedy_run, "bare": bare_run, "rest": rest_run, "lives": lives_run, "full": full_run, "trash": trash_run,
+    "greedy": greedy_run, "strict": strict_run, "bare": bare_run, "rest": rest_run, "lives": lives_run, "full": full_run, "trash": trash_run,
 }
 
 

@@ -61,6 +61,7 @@ class Guest(threading.Thread):
     def __init__(self, lender, name, figures, obeys=True):
         super().__init__(daemon=True)
         self.figures, self.obeys, self.lender, self.name_of = dict(figures), obeys, lender, name
+        self.gone = False
         self.client = Client(f"{lender.folder}/{name}", lambda: "")
         self.ended, self.answers, self.lock = threading.Event(), True, threading.Lock()
         self.client.start()
@@ -102,10 +103,12 @@ class Guest(threading.Thread):
             os.posix_fallocate(file, 0, os.fstat(file).st_size)
 
     def leave(self):
-        """Goes."""
-        self.ended.set()
-        self.join()
-        self.client.leave()
+        """Goes, once."""
+        if not self.gone:
+            self.ended.set()
+            self.join()
+            self.client.leave()
+        self.gone = True
 
 
 def round_trips(client, seconds, limit=LIMIT):

@@ -28,7 +28,9 @@ PARTS = (
 VHOST_PARTS = tuple(
     f"guest/{it}" for it in ("features", "inbox", "messages", "ring_messages", "slots", "vhost_user")
 )
-HOST_PARTS = ("folder", "input", "journal", "lines", "loop", "measures", "message", "orders", "policy", "reports", "seats", "start", "view")
+HOST_PARTS = (
+    "folder", "input", "journal", "lines", "loans", "loop", "measures", "message", "orders", "policy", "reports", "seats", "start", "view",
+)
 LENT_PARTS = ("guest/lent", "guest/lent_channel", "guest/marks", "guest/sandbox", "host/message")
 CLIENT_PARTS = {
     "vhost_user_balloon": (*PARTS, "guest/conventions", "guest/loop", "guest/state", *LENT_PARTS, *VHOST_PARTS),

@@ -1,0 +1,209 @@
+/* What is lent to guests, and who waits for more. The library decides (vb_lending.h); what is written here into a loan by hand keeps
+ * lent + ballooned >= pages >= lent + asked, and lends nothing. */
+#include "host.h"
+
+#include <inttypes.h>
+
+static uint32_t smaller(uint32_t one, uint32_t other)
+{
+    return one < other ? one : other;
+}
+
+static VbLoan *loan_of(const struct seat *seat)
+{
+    return &seat->host->loans[seat->place];
+}
+
+/* The pages in its balloon, as the lender counts them: without those that it may take already. */
+static uint32_t counted_balloon(const struct seat *seat)
+{
+    const struct lending_message *report = &seat->report;
+    uint32_t granted = report->held_pages > 0 && report->held_wait == seat->held_granted ? seat->granted_pages : 0;
+    if (report->waits == WAIT_RESET && report->wait == seat->wait_answered)
+        return 0;
+    return report->ballooned - smaller(granted, report->ballooned);
+}
+
+/* A guest that doesn't wait: it has what isn't in its balloon. */
+static void follow_report(struct seat *seat)
+{
+    uint32_t pages = seat->pages, ballooned = smaller(seat->report.ballooned, pages);
+    *loan_of(seat) = (VbLoan){.pages = pages, .ballooned = ballooned, .lent = pages - ballooned};
+}
+
+/* What it has asked for isn't waited for any longer; nothing is lent beyond its pages that aren't in its balloon. */
+static void trim(VbLoan *loan)
+{
+    loan->asked = 0, loan->turn = 0, loan->line = 0;
+    if (loan->lent > loan->pages - loan->ballooned)
+        loan->lent = loan->pages - loan->ballooned;
+}
+
+/* Memory that was taken away, with what was in the balloon of it. */
+static void shrink(VbLoan *loan, uint32_t pages, uint32_t ballooned)
+{
+    ballooned = smaller(ballooned, pages);
+    *loan = (VbLoan){.pages = pages, .ballooned = ballooned, .lent = pages - ballooned, .spare = loan->spare};
+}
+
+/* It has pages that nobody granted: it is named, and counts with all that it has. */
+static void name_taker(struct seat *seat, uint32_t pages)
+{
+    complain("has taken %" PRIu32 " pages unasked: all its memory counts as lent from now on", pages);
+    vb_loan_uncount(seat->host->loans, MOST_PLACES, seat->place);
+    seat->cooperates = false;
+}
+
+/* What its last report says of its balloon. */
+static void follow_balloon(struct seat *seat)
+{
+    struct host *host = seat->host;
+    VbLoan *loan = loan_of(seat);
+    uint32_t now = counted_balloon(seat);
+    if (loan->uncounted)
+        return;
+    if (now > loan->ballooned)
+        vb_loan_give(host->loans, MOST_PLACES, seat->place, smaller(now - loan->ballooned, loan->pages - loan->ballooned));
+    else if (now < loan->ballooned && seat->waits_for != WAITS_FOR_ROOM)
+        name_taker(seat, loan->ballooned - now);
+}
+
+/* For what its process waits that wasn't granted: before it answers its client, or with a deflate in its hands. */
+static enum guest_wait waits_for(const struct seat *seat)
+{
+    const struct lending_message *report = &seat->report;
+    bool waits = report->waits != WAIT_NOTHING && report->wait != seat->wait_answered;
+    if (waits)
+        return report->waits == WAIT_RESET ? WAITS_FOR_RESET : WAITS_FOR_ROOM;
+    return report->held_pages > 0 && report->held_wait != seat->held_granted ? WAITS_FOR_DEFLATE : WAITS_FOR_NOTHING;
+}
+
+/* Whether what it has asked for is still waited for: a deflate is, while its process waits for room beside. */
+static bool is_wanted(const struct seat *seat)
+{
+    const struct lending_message *report = &seat->report;
+    if (seat->asked_for == WAITS_FOR_DEFLATE && report->waits != WAIT_RESET)
+        return report->held_pages > 0 && report->held_wait != seat->held_granted;
+    return seat->asked_for != WAITS_FOR_NOTHING && seat->asked_for == waits_for(seat);
+}
+
+/* The pages that this takes out of its balloon. */
+static uint32_t wanted_pages(const struct seat *seat, enum guest_wait what)
+{
+    const struct lending_message *report = &seat->report;
+    if (what == WAITS_FOR_DEFLATE)
+        return report->held_pages;
+    return what == WAITS_FOR_RESET ? loan_of(seat)->ballooned : report->wanted - seat->pages;
+}
+
+/* It has what it waits for: they leave its balloon, and its process is told. */
+static void grant(struct seat *seat, enum guest_wait what)
+{
+    struct host *host = seat->host;
+    VbLoan *loan = loan_of(seat);
+    uint32_t most = loan->lent + loan->ballooned - loan->pages, wanted = wanted_pages(seat, what);
+    uint32_t taken = smaller(wanted, smaller(most, loan->ballooned));
+    vb_loan_take(host->loans, MOST_PLACES, seat->place, taken);
+    seat->asked_for = WAITS_FOR_NOTHING;
+    host->counters.grants++;
+    if (what == WAITS_FOR_DEFLATE) {
+        seat->granted_pages = taken;
+        seat_grant(seat);
+        return;
+    }
+    host->counters.admitted += seat->pages == 0;
+    if (what == WAITS_FOR_ROOM)
+        seat->pages = seat->report.wanted;
+    seat_answer(seat, true);
+}
+
+/* Asks for what its process waits for. Where nothing has to be lent for it, it has it at once. */
+static void ask(struct seat *seat, enum guest_wait what)
+{
+    VbLoan *loans = seat->host->loans, *loan = loan_of(seat);
+    seat->asked_for = what;
+    if (what == WAITS_FOR_ROOM && loan->pages == 0) {
+        vb_loan_arrive(loans, MOST_PLACES, seat->place, seat->report.wanted, 1);
+        return;
+    }
+    if (what == WAITS_FOR_ROOM && seat->report.wanted > loan->pages) {
+        loan->ballooned += seat->report.wanted - loan->pages; /* new memory comes as if it were in the balloon */
+        loan->pages = seat->report.wanted;
+    }
+    uint32_t wanted = smaller(wanted_pages(seat, what), loan->pages - loan->lent);
+    if (wanted == 0)
+        grant(seat, what);
+    else if (what == WAITS_FOR_RESET)
+        vb_loan_reset(loans, MOST_PLACES, seat->place);
+    else
+        vb_loan_ask(loans, MOST_PLACES, seat->place, wanted);
+}
+
+void loan_follow(struct seat *seat)
+{
+    VbLoan *loan = loan_of(seat);
+    if (!seat->report.holds || seat->adopted) {
+        follow_report(seat);
+        seat->adopted = false;
+    }
+    if (!seat->report.holds)
+        return;
+    if (seat->pages < loan->pages && seat->waits_for != WAITS_FOR_ROOM)
+        shrink(loan, seat->pages, seat->report.ballooned);
+    if (seat->pages > 0)
+        follow_balloon(seat);
+    vb_loan_figure(seat->host->loans, MOST_PLACES, seat->place, policy_spare(seat));
+    if (is_wanted(seat) && loan->asked > 0)
+        return;
+    trim(loan);
+    if (waits_for(seat) == WAITS_FOR_NOTHING)
+        return;
+    ask(seat, waits_for(seat));
+    host_changed(seat->host, BY_GUESTS);
+}
+
+void loan_leave(struct seat *seat)
+{
+    vb_loan_leave(seat->host->loans, MOST_PLACES, seat->place);
+}
+
+/* The seat that has a place. */
+static struct seat *seat_at(const struct host *host, size_t place)
+{
+    for (unsigned i = 0; i < host->count; i++)
+        if (host->seats[i]->place == place)
+            return host->seats[i];
+    return NULL;
+}
+
+void loans_grant(struct host *host)
+{
+    for (VbGrant next; (next = vb_loan_grant(host->frames, host->loans, MOST_PLACES)).code == VB_OK;) {
+        struct seat *seat = seat_at(host, next.guest);
+        if (!seat)
+            continue;
+        grant(seat, seat->asked_for);
+        host_changed(host, BY_GUESTS);
+    }
+}
+
+bool loans_wait(const struct host *host)
+{
+    for (unsigned i = 0; i < MOST_PLACES; i++)
+        if (host->loans[i].asked > 0)
+            return true;
+    return false;
+}
+
+uint64_t loans_room(const struct host *host)
+{
+    uint64_t gone = vb_loan_owed(host->loans, MOST_PLACES);
+    for (unsigned i = 0; i < MOST_PLACES; i++)
+        gone += host->loans[i].asked;
+    for (unsigned i = 0; i < host->count; i++) {
+        const struct seat *seat = host->seats[i];
+        uint32_t ballooned = loan_of(seat)->ballooned;
+        gone += seat->report.holds && loan_of(seat)->asked == 0 && ballooned > seat->told ? ballooned - seat->told : 0;
+    }
+    return gone < host->frames ? host->frames - gone : 0;
+}

@@ -1,0 +1,283 @@
+"""A host that is strict: what guests want waits until it is lent, and what is lent never passes the budget. Guests have 128 pages."""
+
+import random
+import threading
+import time
+
+import pytest
+from tenants import FREE, PAGES, PAGES_OF_ALL, eventually, process_of
+from vhost_client import ADD_MEM_REG, DEFLATE, OFFERED, Client
+
+STRICT = ("--floor", "0", "--period", "100", "--step", "0", "--strict")
+
+# Pages that a driver may give: those after its rings, and the second region.
+GIVEN = [*range(PAGES_OF_ALL + 20, PAGES_OF_ALL + 64), *range(PAGES, PAGES + 64)]
+
+
+def lent(lender):
+    """Returns how many frames are lent to all, which are no more than the budget."""
+    counters = lender.counters()
+    assert counters["lent"] <= counters["frames"], counters
+    return counters["lent"]
+
+
+class Later(threading.Thread):
+    """Does something that may have to wait."""
+
+    def __init__(self, act):
+        super().__init__(daemon=True)
+        self.act, self.fault = act, None
+        self.start()
+
+    def run(self):
+        try:
+            self.act()
+        except Exception as fault:
+            self.fault = fault
+
+    def waits(self, seconds=0.5):
+        """Whether it isn't done yet, after these seconds."""
+        self.join(seconds)
+        return self.is_alive()
+
+    def ends(self):
+        """Waits until it is done."""
+        self.join(20)
+        assert not self.is_alive() and self.fault is None, self.fault
+
+
+def waits_of(lender, name):
+    """Returns for what a guest waits."""
+    return lender.guests()[name]["waits"]
+
+
+def used(guest, number, count):
+    """Waits until this number of requests of a queue were given back."""
+    eventually(lambda: guest.client.used(number)[0] >= count, lambda: f"{guest.client.used(number)[0]} of {count} are used")
+
+
+@pytest.fixture
+def two(lend, come):
+    """A host with 256 frames, which two guests have."""
+    lender = lend(1, *STRICT)
+    guests = [come(lender, it, {FREE: 100}) for it in "ab"]
+    assert lent(lender) == 256
+    return lender, guests
+
+
+def test_who_comes_waits_for_room(two, lend):
+    lender, (a, b) = two
+    client = Client(lender.add("c"), lambda: "")
+    client.negotiate()
+    comes = Later(client.hand_over_memory)
+    assert comes.waits()
+    assert (waits_of(lender, "c"), lent(lender)) == ("room", 256)
+    eventually(lambda: [lender.guests()[it]["target"] for it in "ab"] == [100, 28])
+    a.give(GIVEN[:100])
+    assert comes.waits()
+    assert lent(lender) == 156
+    b.give(GIVEN[:28])
+    comes.ends()
+    lender.become("c", pages=128, lent=128, waits="nothing")
+    assert lent(lender) == 256
+    client.leave()
+
+
+def test_a_deflate_waits_for_its_grant(two):
+    lender, (a, b) = two
+    a.give(GIVEN[:50])
+    lender.become("a", ballooned=50, lent=78)
+    lender.demand("budget 0")
+    a.take(GIVEN[:10])
+    lender.become("a", waits="deflate", ballooned=50, lent=78)
+    time.sleep(0.3)
+    assert a.client.used(DEFLATE)[0] == 0
+    # As there is room again, it is given back.
+    lender.demand("budget 1")
+    used(a, DEFLATE, 1)
+    lender.become("a", waits="nothing", ballooned=40, lent=88)
+    assert lender.counters()["grants"] == 3
+
+
+def test_a_deflate_waits_until_another_guest_gives(two):
+    lender, (a, b) = two
+    a.give(GIVEN[:50])
+    lender.become("a", ballooned=50)
+    client = Client(lender.add("c"), lambda: "")
+    client.negotiate()
+    comes = Later(client.hand_over_memory)
+    eventually(lambda: waits_of(lender, "c") == "room")
+    # A deflate is before the one who comes, whose 128 pages find 50.
+    a.take(GIVEN[:10])
+    used(a, DEFLATE, 1)
+    lender.become("a", waits="nothing", ballooned=40, lent=88)
+    assert comes.waits(0.2)
+    b.give(GIVEN[:88])
+    comes.ends()
+    assert lent(lender) == 256
+    a.take(GIVEN[10:15])
+    lender.become("a", waits="deflate", ballooned=40)
+    b.give(GIVEN[88:93])
+    used(a, DEFLATE, 2)
+    lender.become("a", waits="nothing", ballooned=35, lent=93)
+    client.leave()
+
+
+def test_inflates_are_served_while_a_deflate_is_held(two):
+    lender, (a, b) = two
+    a.give(GIVEN[:50])
+    lender.become("a", ballooned=50)
+    lender.demand("budget 0")
+    a.take(GIVEN[:10])
+    lender.become("a", waits="deflate")
+    a.give(GIVEN[50:60])
+    lender.become("a", waits="deflate", ballooned=60, lent=68)
+    a.take(GIVEN[10:20])  # the next one is on the queue
+    lender.demand("budget 1")
+    used(a, DEFLATE, 2)
+    lender.become("a", waits="nothing", ballooned=40)
+
+
+def test_who_goes_makes_room(two):
+    lender, (a, b) = two
+    client = Client(lender.add("c"), lambda: "")
+    client.negotiate()
+    comes = Later(client.hand_over_memory)
+    eventually(lambda: waits_of(lender, "c") == "room")
+    b.leave()
+    comes.ends()
+    lender.become("c", lent=128)
+    lender.become("b", here=0, lent=0)
+    assert lent(lender) == 256
+    client.leave()
+
+
+def test_who_waits_and_goes_is_forgotten(two):
+    lender, (a, b) = two
+    client = Client(lender.add("c"), lambda: "")
+    client.negotiate()
+    comes = Later(client.hand_over_memory)
+    eventually(lambda: waits_of(lender, "c") == "room")
+    client.socket.shutdown(2)
+    lender.become("c", here=0, lent=0)
+    comes.join(10)
+    eventually(lambda: [it["target"] for it in lender.guests().values()] == [0, 0, 0])
+    client.leave()
+
+
+def test_memory_that_never_fits_is_refused(lend):
+    lender = lend(1, *STRICT)
+    lender.demand("budget 0")
+    client = Client(lender.add("a"), lambda: "")
+    client.negotiate()
+    with pytest.raises(AssertionError):
+        client.hand_over_memory()
+    eventually(lambda: "refused a: no room for 128 pages: 128 are missing" in lender.said(), lender.said)
+    client.leave()
+
+
+def test_memory_that_grows_waits(two):
+    lender, (a, b) = two
+    client = Client(lender.add("c"), lambda: "")
+    client.negotiate(protocol=OFFERED)
+    a.give(GIVEN[:64])
+    client.accepted(ADD_MEM_REG, client.region_body(0), client.files[:1])
+    lender.become("c", pages=64, lent=64)
+    grows = Later(lambda: client.accepted(ADD_MEM_REG, client.region_body(1), client.files[1:]))
+    assert grows.waits()
+    lender.become("c", waits="room", lent=64)
+    b.give(GIVEN[:64])
+    grows.ends()
+    lender.become("c", pages=128, lent=128, waits="nothing")
+    client.leave()
+
+
+def test_a_new_life_waits_for_what_was_in_the_balloon(two):
+    lender, (a, b) = two
+    a.give(GIVEN[:50])
+    lender.become("a", ballooned=50, lent=78)
+    lender.demand("budget 0")
+    a.ended.set(), a.join()
+    client = a.client
+    for number in range(4):
+        assert client.enable(number, 0) == bytes(8)
+    for number in range(4):
+        client.place(number)
+    begins = Later(lambda: [client.enable(number) for number in range(4)])
+    assert begins.waits(), (begins.fault, lender.guests()["a"], lender.said())
+    lender.become("a", waits="reset", ballooned=50, lent=78)
+    lender.demand("budget 1")
+    begins.ends()
+    lender.become("a", waits="nothing", ballooned=0, lent=128)
+
+
+def test_the_next_lender_grants_what_waits(two, lend):
+    lender, (a, b) = two
+    a.give(GIVEN[:50])
+    lender.become("a", ballooned=50, lent=78)
+    lender.demand("budget 0")
+    a.take(GIVEN[:10])
+    lender.become("a", waits="deflate")
+    process = process_of(lender, "a")
+    lender.kill()
+    time.sleep(0.2)
+    assert a.client.used(DEFLATE)[0] == 0
+    second = lend(1, *STRICT, folder=lender.folder)
+    used(a, DEFLATE, 1)
+    second.become("a", waits="nothing", ballooned=40, lent=88)
+    assert process_of(second, "a") == process
+
+
+class Driver(threading.Thread):
+    """A driver that wants more and less memory, at random: it waits for each deflate, as Linux does."""
+
+    def __init__(self, guest, seed, until):
+        super().__init__(daemon=True)
+        self.guest, self.chance, self.until, self.fault, self.balloon = guest, random.Random(seed), until, None, []
+        self.start()
+
+    def run(self):
+        free, deflates = list(GIVEN), 0
+        try:
+            while time.monotonic() < self.until:
+                count = self.chance.randint(1, 30)
+                if self.chance.random() < 0.55 and free:
+                    pages, free = free[:count], free[count:]
+                    self.guest.give(pages)
+                    self.balloon += pages
+                elif self.balloon:
+                    pages, self.balloon = self.balloon[:count], self.balloon[count:]
+                    self.guest.take(pages)
+                    deflates += 1
+                    while self.guest.client.used(DEFLATE)[0] & 0xFFFF != deflates & 0xFFFF and time.monotonic() < self.until:
+                        time.sleep(0.001)
+                    free += pages
+                time.sleep(self.chance.random() * 0.01)
+        except Exception as fault:
+            self.fault = fault
+
+
+def test_what_is_lent_never_passes_the_budget(lend, come):
+    lender = lend(1, *STRICT)
+    until = time.monotonic() + 15
+    guests = [come(lender, it, {FREE: 100}) for it in "ab"]
+    drivers = [Driver(it, number, until) for number, it in enumerate(guests)]
+    clients, comings = [], []
+    looks, waited = 0, 0
+    while time.monotonic() < until:
+        seen = lender.guests().values()
+        waited += sum(it["waits"] != "nothing" for it in seen)
+        assert sum(it["pages"] - it["ballooned"] for it in seen) <= 256, lender.guests()
+        assert lent(lender) <= 256
+        looks += 1
+        if looks == 20:
+            clients.append(Client(lender.add("c"), lambda: ""))
+            clients[0].negotiate()
+            comings.append(Later(clients[0].hand_over_memory))
+        time.sleep(0.02)
+    for it in drivers:
+        it.join()
+        assert it.fault is None, it.fault
+    assert looks > 100 and waited > 0
+    for it in clients:
+        it.leave()
