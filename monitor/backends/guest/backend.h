@@ -49,7 +49,7 @@ struct backend {
     void (*idle)(struct backend *backend);
     /* Whether the host has room for the memory that was handed over, else says why not; or NULL: it always has. */
     bool (*admit)(struct backend *backend);
-    /* A deflate of so many pages is held: backend_give grants it. */
+    /* A deflate of `pages` pages is held: backend_give grants it. */
     void (*held)(struct backend *backend, uint32_t pages);
     /* The balloon is to be empty for a new driver: whether that may be, else the client can't be served; or NULL: it may. */
     bool (*empties)(struct backend *backend);
@@ -78,7 +78,7 @@ int backend_run(struct backend *backend, int (*serve)(struct backend *backend));
 /* Whether its driver is ready. */
 bool backend_is_ready(const struct backend *backend);
 
-/* Grants the deflate that is held, and serves what stands after it. */
+/* Grants the deflate that is held, and serves what is after it. */
 bool backend_give(struct backend *backend);
 
 /* Serves the queue of this number. */
