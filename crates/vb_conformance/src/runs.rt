@@ -2,6 +2,7 @@
 
 use crate::leased::Leasing;
 use crate::listing::Listing;
+use crate::noticed::Noticing;
 use crate::script::Script;
 use std::alloc::{AllocError, Global};
 use std::io;
@@ -45,6 +46,7 @@ where
         let is_written = match host {
             "leased" => is_written_on(alloc, script, &mut Leasing),
             "listed" => is_written_on(alloc, script, &mut Listing { refusals: &[] }),
+            "noticed" => is_written_on(alloc, script, &mut Noticing),
             "full" => is_written_on(
                 alloc,
                 script,

@@ -2,6 +2,7 @@
 //! `vb_monitor` go over the guest memory that the device owns.
 #![tactic(auto)]
 
+mod device;
 mod figures;
 mod loose_ram;
 mod marking;
@@ -11,6 +12,7 @@ mod server;
 #[cfg(test)]
 mod tests;
 
+pub use device::NoticedDevice;
 pub use loose_ram::LooseRam;
 pub use one::serve_one;
 pub use server::Notices;
