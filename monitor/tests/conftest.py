@@ -1,14 +1,23 @@
 """What all suites have in common: programs that are built once a run, and programs that are wrong on purpose."""
 
-import os
+import argparse
 
 import pytest
 from programs import built_once
 
 
+def count(word):
+    """Reads the number of --times."""
+    number = int(word)
+    if number < 1:
+        raise argparse.ArgumentTypeError("at least once")
+    return number
+
+
 def pytest_addoption(parser):
     """The options of all suites."""
     parser.addoption("--wrong", metavar="NAME", help="a program that is wrong on purpose, or all: what is for it has to refuse it")
+    parser.addoption("--times", type=count, default=1, metavar="K", help="each run of a Linux k times")
     parser.addoption("--client", default="uml", choices=("uml", "qemu"), help="the client: qemu is one under emulation")
 
 

@@ -77,8 +77,8 @@ COUNTS = (
     ("monitor/rust/README.md", r"`src/obey\.rs`\n?\s*\((\w+) lines\)", lines_of(OBEY)),
     ("docs/LINUX.md", r"`tools/test linux` \| (\w+) runs", entries("monitor/tests/linux/linux_runs.py", "RUNS")),
     ("docs/LINUX.md", r"`tools/test linux --wrong all` \| (\w+) devices", entries("monitor/tests/linux/linux_bench.py", "WRONG_DEVICES")),
-    ("docs/LINUX.md", r"`tools/test-host` \| (\w+) runs", lambda: len(tool("test-host").RUNS)),
-    ("docs/LINUX.md", r"`tools/test-host` \|[^|]* with (\w+) that are wrong", lambda: len(tool("test-host").WRONG_HOSTS)),
+    ("docs/LINUX.md", r"`tools/test host-runs` \| (\w+) runs", entries("monitor/tests/host/host_runs.py", "RUNS")),
+    ("docs/LINUX.md", r"`tools/test host-runs --wrong all` \| (\w+) hosts", entries("monitor/tests/host/host_runs.py", "WRONG_HOSTS")),
     ("docs/LINUX.md", r"`tools/test vhost-user --wrong all` \| (\w+) backends", entries("monitor/tests/vhost_user/test_mutants.py", "WRONG")),
 )
 

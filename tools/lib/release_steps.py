@@ -37,6 +37,7 @@ STEPS = (
 
 # A host that is run as its unit does, until it is told to end.
 RUN_HOST = """
+rm -rf /run/bigvasta
 sed -i 's/^# budget = 8G/budget = 64M/' /etc/bigvasta/host.conf
 install -d -o bigvasta -g bigvasta -m 0750 /run/bigvasta
 setpriv --reuid=bigvasta --regid=bigvasta --init-groups /usr/bin/vhost_user_host --config /etc/bigvasta/host.conf < /dev/null > /tmp/host.out 2>&1 &
@@ -100,13 +101,14 @@ trap 'kill $host $metrics 2> /dev/null || true' EXIT
 INSTEAD = (
     ("systemctl enable --now bigvasta-host bigvasta-metrics", """
 systemctl enable bigvasta-host bigvasta-metrics
+rm -rf /run/bigvasta
 install -d -o bigvasta -g bigvasta -m 0750 /run/bigvasta
 """ + START.format(unit="bigvasta-host", name="host") + """
 for i in $(seq 40); do bigvasta status > /dev/null 2>&1 && break; sleep 0.5; done
 """ + START.format(unit="bigvasta-metrics", name="metrics")),
     # No QEMU of Debian 12 or 13 has that device: what it would connect to is there.
     ("qemu-system-x86_64", "test -S $(echo '{command}' | sed -n 's/.*socket,id=balloon,path=\\([^ ,]*\\).*/\\1/p')"),
-    ("bigvasta watch", "sleep 2 && (sleep 2; printf q) | TERM=xterm timeout 20 script -qec 'bigvasta watch' /dev/null | grep -q 'budget 6144'"),
+    ("bigvasta watch", "sleep 2 && (sleep 2; printf q) | TERM=xterm timeout 20 script -qec 'bigvasta watch' /dev/null > /tmp/watch && grep -q 'budget 6144' /tmp/watch"),
 )
 
 # What has to be true after README's commands, and how they are undone.

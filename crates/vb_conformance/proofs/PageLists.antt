@@ -255,7 +255,8 @@ serve_by q m1 m2 p1 p2 result (Not_served why e answer part memory) =
 serve_by q m1 m2 p1 p2 result (Only_took part e takes same memory) =
     ap (λ (p : Part). length p.ballooned) same ∙ take_size q m1 m1 p1 part result takes.means
 serve_by q m1 m2 p1 p2 result (Took_and_used part h r e other answer takes at uses) =
-    used_size q 0 r m1 m2 part p2 _ uses ∙ take_size q m1 m1 p1 part _ takes.means
+    used_size q 0 r m1 m2 part p2 _ uses
+    ∙ take_size q m1 m1 p1 part (Ok (Some h)) takes.means
 
 pub serve_keeps : (q : ℕ) (m1 m2 : Pages) (p1 p2 : Part) (result : Result (Option ℕ) Refusal)
     → ServesBy q m1 m2 p1 p2 result → length p2.ballooned ≡ length p1.ballooned

@@ -18,31 +18,26 @@ const NO_COMMAND: &str = "-";
 static REFUSALS: [u32; 2] = [2, 1];
 
 /// The first run of a line of the list that doesn't write what the script's files say, if there is
-/// one: its command line, or its host. Fails where a file can't be read, where the line has no
-/// name, and where it has a word that is no host's.
+/// one: its command line, or its host. Fails where a file can't be read, and where the line has a
+/// word that is no host's.
 pub fn first_difference<R>(rt: &R, line: &str) -> io::Result<Option<String>>
 where
     R: Files + Threads + Wait + Sync + AllocGlobal,
 {
-    let mut words = line.split_whitespace();
-    let Some(name) = words.next() else {
-        return Err(io::Error::from(io::ErrorKind::InvalidData));
-    };
+    let (name, hosts) = line.split_once(' ').unwrap_or((line, ""));
     let script = Script::read(rt, name)?;
     for command in script.commands.lines() {
         if command != NO_COMMAND && !is_written_by(rt, &script, command) {
             return Ok(Some(String::from_str(rt.alloc(), command)?));
         }
     }
-    first_host(rt.alloc(), &script, words)
+    first_host(rt.alloc(), &script, hosts)
 }
 
-/// The first of these hosts on which a script doesn't write what its files say, if there is one.
-fn first_host<'a, I>(alloc: Global, script: &Script, hosts: I) -> io::Result<Option<String>>
-where
-    I: Iterator<Item = &'a str> + Drop,
-{
-    for host in hosts {
+/// The first of these hosts, a word each, on which a script doesn't write what its files say, if
+/// there is one.
+fn first_host(alloc: Global, script: &Script, hosts: &str) -> io::Result<Option<String>> {
+    for host in hosts.split_whitespace() {
         let is_written = match host {
             "leased" => is_written_on(alloc, script, &mut Leasing),
             "listed" => is_written_on(alloc, script, &mut Listing { refusals: &[] }),

@@ -9,7 +9,7 @@
 #include "say.h"
 #include "tags.h"
 
-/* A notice serves so many chains at most: then the other queues and the client have their turn. */
+/* The most chains of a notice: then the other queues and the client have their turn. */
 enum { MOST_TAGS = 16, MOST_REMARKS = 100, MOST_REMARK = 256, MOST_CHAINS = 64, MOST_PAGES = 1024 };
 
 /* Files that a client may have opened here: those of its memory and of a message, the events of its queues, its channel, itself;
@@ -36,7 +36,7 @@ struct backend {
     struct counters counters;
     VbStatistic figures[MOST_TAGS];
     uint32_t figure_count;
-    uint32_t pending;           /* bit 1 << number: more stands on this queue */
+    uint32_t pending;           /* bit 1 << number: more is available on this queue */
     uint32_t seen;              /* what `actual` was when it was last looked at */
     uint32_t ballooned;         /* the pages in the balloon's set */
     int socket, channel;        /* the client's, and the one on which it is told things; -1: none */
@@ -101,7 +101,7 @@ struct control_line {
     bool ended;                 /* the pipe has ended */
 };
 
-/* Reads what stands in the control pipe, and has its whole lines obeyed, as long as `obey` answers 1; returns what that
+/* Reads what is in the control pipe, and has its whole lines obeyed, as long as `obey` answers 1; returns what that
  * answered last, and 0 at the pipe's end. In place of a line that is too long, or that has a byte 0, an empty one is obeyed,
  * which is answered as a line that says nothing known. */
 int control_read(struct control_line *line, int (*obey)(void *context, const char *line), void *context);

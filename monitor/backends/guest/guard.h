@@ -1,4 +1,4 @@
-/* A client that cuts its memory's file off after it told of it: an access there ends in a signal. */
+/* Survives SIGBUS where a client truncates its memory file: an access there fails, and ends that client alone. */
 #ifndef GUARD_H
 #define GUARD_H
 

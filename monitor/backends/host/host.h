@@ -111,7 +111,7 @@ struct host {
     struct seat *leaving[MOST_GUESTS];  /* seats that were taken away, whose processes haven't ended yet */
     unsigned leaving_count;
     uint32_t frames, floor;     /* pages: the budget, and what each guest is to keep free */
-    uint32_t step;              /* a target grows by one part of so many of the guest in a second; 0: at once */
+    uint32_t step;              /* a target grows by 1/step of the guest in a second; 0: at once */
     int64_t period;             /* milliseconds */
     int64_t rests_until;        /* clients aren't taken before this, as there was no file left for one */
     int64_t refills_at;         /* when messages are read again of processes that have sent too many */
@@ -165,7 +165,7 @@ const char *seat_add(struct host *host, const char *name, const struct guest_ter
 /* Ends the service of its client, if there is one, and takes the seat away; NULL, or why it can't. */
 const char *seat_remove(struct host *host, struct seat *seat);
 
-/* Nobody is there, and nobody was. */
+/* Resets a seat to its unconnected state. */
 void seat_clear(struct seat *seat);
 
 /* Whether somebody is there, and whether its driver is ready; whether its statistics come, and its process answers. */
@@ -211,7 +211,7 @@ void seat_answer(struct seat *seat, bool admitted);
 
 /* ---- reports.c */
 
-/* Reads what its process has sent, at most so many messages, and notes what came of it; returns how many it read. */
+/* Reads what its process has sent, at most `most` messages, and notes what came of it; returns how many it read. */
 unsigned seat_read(struct seat *seat, unsigned most);
 
 /* ---- policy.c */
@@ -223,7 +223,7 @@ uint32_t policy_spare(const struct seat *seat);
 void policy_hears(struct seat *seat);
 void policy_sees_taken(struct seat *seat);
 
-/* By how many frames a guest of so many pages, which gives none at first, finds too few: 0, or so many pages. */
+/* By how many frames a guest of `pages` pages, which gives none at first, finds too few; 0 where there are enough. */
 uint64_t policy_lacks(struct host *host, const struct seat *newcomer, uint32_t pages);
 
 /* Sets targets where those that there are no longer serve. */

@@ -25,12 +25,12 @@ struct measures {
 const struct measures *measures_see(void);
 const char *gone_reason_word(enum gone_reason reason);
 
-/* Something ended that took so many seconds. */
+/* Something ended that took this many seconds. */
 void measure_wait(double seconds);
 void measure_decision(double seconds);
 void measure_turn(double seconds);
 
-/* The guests held more than the budget for so many seconds. */
+/* The guests held more than the budget for this many seconds. */
 void measure_above(double seconds);
 void measure_gone(enum gone_reason reason);
 

@@ -92,7 +92,7 @@ static uint32_t charged(const struct seat *seat)
     return least(held + least(seat->report.ballooned, seat->pages), seat->pages);
 }
 
-/* A guest counts by these pages, and can spare so many of them; fewer of what it has than its least stay with the host. */
+/* A guest counts by these pages, and can spare `spare` of them; fewer of what it has than its least stay with the host. */
 static void add(struct guests *guests, struct seat *seat, uint32_t pages, uint32_t spare, uint32_t low)
 {
     unsigned number = guests->count++;

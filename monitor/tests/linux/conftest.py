@@ -1,25 +1,14 @@
 """A Linux of Debian's own on a backend: the cases that the command line asks for, and what all of them share."""
 
-import argparse
-
 import linux_kit
 import pytest
 from linux_bench import FORMS, SIZES, WRONG_DEVICES, Bench
 from linux_runs import RUNS
 
 
-def count(word):
-    """Reads the number of --times."""
-    number = int(word)
-    if number < 1:
-        raise argparse.ArgumentTypeError("at least once")
-    return number
-
-
 def pytest_addoption(parser):
     """The options of this suite."""
     words = parser.getgroup("linux")
-    words.addoption("--times", type=count, default=1, metavar="K", help="each run so many times")
     words.addoption("--form", choices=FORMS, help="the one form in which guest and device notify each other")
     words.addoption("--suite", metavar="NAME", help="User Mode Linux of another Debian than the machine's: bookworm, trixie, sid")
 

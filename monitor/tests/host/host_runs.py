@@ -1,14 +1,5 @@
-#!/usr/bin/env python3
-"""Tests a host that lends several Linux guests more memory than it has, under User Mode Linux.
-
-    tools/test-host                      each run, and each wrong host; over the proved library
-    tools/test-host --times K            that so many times
-    tools/test-host --only RUN           one of the runs, which may be given more than once
-    tools/test-host --reference          over monitor/reference, which isn't proved
-    tools/test-host --wrong N            a host that is wrong on purpose, 1 to 8 but for 6 (monitor/tests/mutants/wrong_host.c): the run for it has to fail
-    tools/test-host --wrong all          each of these: the status is 0 where each failed
-
-The runs:
+"""The runs of a host that lends several Linux guests more memory than it has, under User Mode Linux, and of such a host with clients
+that aren't Linux. The runs:
 
     lines     command lines, and what the host answers to lines
     spares    what a guest can spare, by its statistics and its balloon, worked out by hand
@@ -27,22 +18,16 @@ The runs:
     lives     a guest that is killed while its balloon is filled, and comes back; one that doesn't answer
     full      a guest for whom there is no room; a budget that is too small for a while
     trash     clients that break rules, hang in mid-message, or cut their memory off, beside guests at work
-    wrong     each wrong host fails the run that is for it
 
-Behind each run: kept bytes have their sums, no process was killed, the guests' kernels find no fault, and each decision that
-the host has logged is what the rule says of its needs, worked out once more here. Every wait has a limit. The status is 0
-where all runs passed, 1 where one failed, 2 where something is missing, in one line that says which.
+After each run: kept bytes have their sums, no process was killed, the guests' kernels find no fault, and each decision that
+the host has logged is what the rule says of its needs, worked out once more here. Every wait has a limit.
 """
 
-import argparse
-import os
+import functools
 import random
 import signal
-import sys
-import tempfile
 import time
 
-sys.path.insert(0, os.path.join(os.path.dirname(os.path.realpath(__file__)), "../monitor/tests/kit"))
 import linux_host
 import linux_kit
 from host_checks import (
@@ -54,7 +39,7 @@ from host_small import lines_run, many_run, worked_run
 from host_tenants import files_run, marks_run, tells_run
 from host_trash import ENDED, end_one, hang_one
 from linux_guest import PAGES_PER_MIB
-from linux_kit import Fault, Missing, demand
+from linux_kit import Fault, demand
 from vhost_client import Client
 
 MEMORY = 256
@@ -62,7 +47,7 @@ MEMORY = 256
 # Seconds of a day of work.
 DAY = 40
 
-# Of so many looks one may be above the budget.
+# Of this many looks one may be above the budget.
 LOOKS_FOR_ONE = 200
 
 # Each wrong host, and the run that has to fail for it.
@@ -225,7 +210,7 @@ def full_run(bench):
 
 
 def trash_run(bench):
-    """Clients that aren't well, beside guests at work."""
+    """Malformed clients, beside guests at work."""
     chance = random.Random("trash")
     with bench.town(480, checked=True) as town:
         town.settle_in(names(2), MEMORY)
@@ -243,31 +228,23 @@ def trash_run(bench):
         return "20 clients ended, each alone; one hung"
 
 
-def wrong_run(bench):
-    """Each wrong host fails the run that is for it."""
-    passed = [it for it in WRONG_HOSTS if not run_wrong(bench, it)]
-    demand(not passed, f"wrong hosts pass: {' '.join(passed)}")
-    return f"{len(WRONG_HOSTS)} wrong hosts are found"
-
-
-RUNS = {"lines": lines_run, "spares": spares_run, "seats": seats_run, "queues": queues_run, "worked": worked_run, "many": many_run,
-        "marks": marks_run, "tells": tells_run, "files": files_run} | {
-    f"shift-{seed}": lambda bench, seed=seed: shift_run(bench, seed) for seed in (1, 2, 3)
-} | {
+RUNS = {
+    "lines": lines_run, "spares": spares_run, "seats": seats_run, "queues": queues_run, "worked": worked_run, "many": many_run,
+    "marks": marks_run, "tells": tells_run, "files": files_run,
+    "shift-1": functools.partial(shift_run, seed=1), "shift-2": functools.partial(shift_run, seed=2),
+    "shift-3": functools.partial(shift_run, seed=3),
     "greedy": greedy_run, "bare": bare_run, "rest": rest_run, "lives": lives_run, "full": full_run, "trash": trash_run,
-    "wrong": wrong_run,
 }
 
 
 class Bench:
     """What all runs share: a kernel, the programs under test, and a folder."""
 
-    def __init__(self, given, folder):
-        core = self.core = linux_kit.core_of(given.reference)
+    def __init__(self, folder):
         self.folder, self.count, self.wrong = folder, 0, None
+        linux_kit.enough_room(4 * MEMORY)
         self.kit = linux_kit.Uml(folder)
-        self.programs = linux_host.Programs(folder, core)
-        print(f"uml, over {os.path.basename(core)}", flush=True)
+        self.programs = linux_host.Programs(folder, linux_kit.core_of())
 
     def town(self, budget, options=(), checked=False):
         """Returns a host without guests."""
@@ -275,71 +252,3 @@ class Bench:
         program = self.programs["wrong" if self.wrong else "checked" if checked else "plain"]
         options = ("--step", "0", *options)
         return linux_host.Town(self.kit, program, f"{self.folder}/{self.count}", budget, options, {"HOST_WRONG": self.wrong or "0"})
-
-
-def run_all(bench, chosen, times):
-    """Runs all, and prints a line for each; returns how many failed."""
-    failed = 0
-    for _ in range(times):
-        for name in chosen:
-            begin = time.monotonic()
-            try:
-                said = RUNS[name](bench)
-            except Missing:
-                raise
-            except (Fault, AssertionError) as fault:
-                failed, said = failed + 1, f"FAILED: {fault}"
-            print(f"{name:8} {time.monotonic() - begin:6.1f} s  {said}", flush=True)
-    return failed
-
-
-def run_wrong(bench, wrong):
-    """Runs a host that is wrong; returns whether it was found."""
-    name, bench.wrong = WRONG_HOSTS[wrong], wrong
-    try:
-        print(f"wrong host {wrong} PASSED {name}: {RUNS[name](bench)}", flush=True)
-    except Missing:
-        raise
-    except Fault as fault:
-        print(f"         wrong host {wrong} fails {name}, as it has to: {fault}", flush=True)
-        return True
-    finally:
-        bench.wrong = None
-    return False
-
-
-def arguments():
-    """Reads the command line."""
-    words = argparse.ArgumentParser(description=__doc__, formatter_class=argparse.RawDescriptionHelpFormatter)
-    words.add_argument("--times", type=int, default=1, metavar="K")
-    words.add_argument("--only", action="append", choices=RUNS, metavar="RUN")
-    words.add_argument("--reference", action="store_true")
-    words.add_argument("--wrong", choices=(*WRONG_HOSTS, "all"), metavar="N")
-    return words.parse_args()
-
-
-def main():
-    """Tests as the command line says; returns the status."""
-    given = arguments()
-    # A test that is told to end ends its guests, too.
-    signal.signal(signal.SIGTERM, lambda *_: sys.exit(143))
-    try:
-        with tempfile.TemporaryDirectory(prefix="test-host-") as folder:
-            bench = Bench(given, folder)
-            linux_kit.enough_room(4 * MEMORY)
-            if given.wrong:
-                found = [run_wrong(bench, it) for it in (WRONG_HOSTS if given.wrong == "all" else (given.wrong,))]
-                return 0 if all(found) == (given.wrong == "all") else 1
-            failed = run_all(bench, given.only or list(RUNS), given.times)
-    except Missing as missing:
-        print(f"test-host: {missing}", file=sys.stderr)
-        return 2
-    except (Fault, OSError) as fault:
-        print(f"test-host: {fault}", file=sys.stderr)
-        return 1
-    print(f"{failed} failed" if failed else "passed")
-    return 1 if failed else 0
-
-
-if __name__ == "__main__":
-    sys.exit(main())

@@ -1,0 +1,78 @@
+"""Days that nobody recorded: guests of some sizes, whose working sets walk with heavy tails, with page cache, reboots, and idle
+ones. The same seed makes the same day."""
+
+import random
+
+from bigvasta.sizes import MIB, PAGE
+
+DAY = 86400
+
+# Sizes in MiB, and how frequent each is among ten guests.
+SIZES = {512: 2, 1024: 3, 2048: 3, 4096: 2}
+
+# The shares of the guests that idle, and that come or go amid the day.
+IDLE, PASSING = 0.3, 0.15
+
+# Of its memory: what a kernel takes at least, and the most that a working set takes.
+LEAST, MOST = 0.06, 0.9
+
+# A step of the walk is Pareto: this exponent, this part of the memory at least, and at most half of it.
+TAIL, STEP = 1.3, 0.01
+
+# Seconds between two changes of a working set: of a guest at work, and of an idle one. And reboots of a guest in a day.
+PACE, IDLE_PACE, REBOOTS = 300, 3600, 0.3
+
+# Seconds that a reboot takes; the part of the page cache that can't be let go at once.
+REBOOT, DIRTY = 20, 0.1
+
+
+class Made:
+    """A guest whose day is made."""
+
+    def __init__(self, random_numbers, number, length):
+        self.random, self.name = random_numbers, f"guest-{number}"
+        self.size = self.random.choices(list(SIZES), list(SIZES.values()))[0] * MIB
+        self.pace = IDLE_PACE if self.random.random() < IDLE else PACE
+        self.start, self.end = 0.0, float(length)
+        if self.random.random() < PASSING:
+            self.start, self.end = sorted(round(self.random.uniform(0, length), 1) for _ in range(2))
+        self.set, self.cache = self.random.uniform(LEAST, 0.5), 0.0
+
+    def walk(self):
+        """Takes a step: the working set grows or shrinks, and what it read stays in the page cache, as far as there is room."""
+        step = min(self.random.paretovariate(TAIL) * STEP, 0.5)
+        self.set += step if self.random.random() < 0.5 else -step
+        self.set = min(max(self.set, LEAST), MOST)
+        self.cache = min(self.cache + self.random.uniform(0, 2 * step), 1 - self.set)
+
+    def available(self):
+        """Returns the bytes that are free, or page cache that can be let go at once."""
+        share = 1 - self.set - DIRTY * self.cache
+        return int(max(share, 0) * self.size) // PAGE * PAGE
+
+    def reboots(self):
+        """Returns whether it reboots at this change."""
+        return self.random.random() < REBOOTS * self.pace / DAY
+
+    def rows(self):
+        """Yields its times, and what is available then."""
+        at = self.start
+        while at < self.end:
+            yield at, self.available()
+            at = round(at + self.random.expovariate(1 / self.pace) + 0.1, 1)
+            if self.reboots() and at + REBOOT < self.end:
+                yield at, self.size
+                at, self.set, self.cache = round(at + REBOOT, 1), LEAST, 0.0
+            self.walk()
+        yield self.end, self.available()
+
+
+def make(count, seed, hours):
+    """Yields the lines of a day of this number of guests, as a recording has them."""
+    numbers = random.Random(seed)
+    guests = [Made(numbers, it + 1, hours * 3600) for it in range(count)]
+    rows = [(at, guest.name, guest.size, available) for guest in guests if guest.start < guest.end for at, available in guest.rows()]
+    rows.sort(key=lambda it: it[0])
+    yield "guest,seconds,size,available"
+    for at, name, size, available in rows:
+        yield f"{name},{at:.1f},{size},{available}"

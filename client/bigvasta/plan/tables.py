@@ -1,0 +1,64 @@
+"""What a plan says, as lines for a terminal, and as an object."""
+
+from bigvasta.sizes import MIB, PAGE, mebibytes
+
+COLUMNS = ("budget", "promise", "waits", "a day", "median", "99%", "worst", "short", "for", "by", "moved")
+
+# What each column is; the times are seconds, the sizes MiB.
+LEGEND = """budget, by, moved: MiB; promise: what is promised, by the budget
+waits: part of the time in which guests wait; a day: seconds that a guest waits in a day; median, 99%, worst: seconds that an ask waits
+short: how often the guests couldn't spare what is missing; for: seconds in all; by: at worst"""
+
+
+def in_mib(pages):
+    """Returns pages as a column shows them."""
+    return mebibytes(pages * PAGE)
+
+
+def row(answer):
+    """Returns the columns of an answer."""
+    return (
+        in_mib(answer.budget), f"{answer.promised / answer.budget:.2f}", f"{100 * answer.share():.3f}%", f"{answer.wait_a_day():.1f}",
+        *(f"{answer.quantile(it):.1f}" for it in (0.5, 0.99, 1)), str(answer.shorts), f"{answer.short:.0f}",
+        in_mib(answer.lacked), in_mib(answer.moved),
+    )
+
+
+def table(rows):
+    """Returns lines of columns that end at the right."""
+    widths = [max(map(len, it)) for it in zip(*rows)]
+    return ["  ".join(cell.rjust(width) for cell, width in zip(it, widths)) for it in rows]
+
+
+def conclusion(plan, limit):
+    """Returns the line that says which budget to set."""
+    if plan.best is None:
+        return f"none of these budgets keeps the waits to {limit:g} s a guest and day"
+    best, budget = plan.best, -(-plan.best.budget * PAGE // MIB)
+    return f"budget {budget}M: {best.wait_a_day():.1f} s a guest and day are waited; {best.promised / best.budget:.2f} times as much is promised"
+
+
+def lines(plan, limit):
+    """Returns the table, and the line that says which budget to set."""
+    first = plan.answers[0]
+    head = f"{first.guests} guests, {in_mib(first.promised)} MiB promised at once, {first.present / 3600:.1f} hours of guests"
+    return [head, "", *table([COLUMNS, *map(row, plan.answers)]), "", *LEGEND.splitlines(), "", conclusion(plan, limit)]
+
+
+def plain(answer):
+    """Returns an answer as an object: sizes in bytes, times in seconds."""
+    return {
+        "budget": answer.budget * PAGE, "promised": answer.promised * PAGE, "guests": answer.guests, "present": answer.present,
+        "waited": answer.waited, "waited_share": answer.share(), "waited_a_day": answer.wait_a_day(),
+        "asks": len(answer.waits), "asks_that_waited": sum(it > 0 for it in answer.waits),
+        "median": answer.quantile(0.5), "p99": answer.quantile(0.99), "worst": answer.quantile(1), "worst_guest": answer.worst_guest,
+        "shorts": answer.shorts, "short_seconds": answer.short, "short_by": answer.lacked * PAGE,
+        "moved": answer.moved * PAGE, "decisions": answer.decisions,
+    }
+
+
+def document(plan, limit):
+    """Returns the plan as an object."""
+    return {
+        "wait_seconds": limit, "budget": None if plan.best is None else plan.best.budget * PAGE, "replays": [plain(it) for it in plan.answers],
+    }

@@ -1,0 +1,157 @@
+"""The command `bigvasta plan`: its answers, its refusals, and the smallest budget that it finds."""
+
+import json
+import os
+import subprocess
+
+import pytest
+from bigvasta.plan.search import smallest, spread
+from linux_kit import ROOT
+
+CLIENT = os.path.join(ROOT, "client")
+
+# The two guests of test_replay.py, whose pages are 4096 bytes: from 10 to 20 they need 170 pages at once.
+TWO = """guest,seconds,size,used
+a,0,409600,40960
+b,0,409600,368640
+a,10,409600,327680
+b,20,409600,81920
+a,30,409600,327680
+b,30,409600,81920
+"""
+
+
+@pytest.fixture
+def day(tmp_path):
+    """The recorded day of two guests."""
+    path = tmp_path / "day.csv"
+    path.write_text(TWO)
+    return str(path)
+
+
+def run(*words, status=0, path=CLIENT):
+    """Runs the command; returns what it printed, or the line that it says where it refuses."""
+    environment = {**os.environ, "PYTHONPATH": path}
+    words = ["/usr/bin/python3", "-B", "-m", "bigvasta", "plan", *words]
+    ran = subprocess.run(words, capture_output=True, text=True, timeout=120, env=environment)
+    assert ran.returncode == status, ran
+    assert (ran.stdout if status else ran.stderr) == ""
+    return ran.stderr if status else ran.stdout
+
+
+def plan(shared, day, *words):
+    """Returns the plan of a day as an object."""
+    return json.loads(run(day, "--library", shared, "--floor", "0", "--json", *words))
+
+
+# A range and its steps, the seconds that a guest may wait in a day, and the smallest budget in pages: of each of 150 to 200 pages,
+# 170 is the first at which nobody waits. In 2 steps 150, 175 and 200 are tried, and then 162; in 3 steps 150, 166, 183 and 200, and then 171
+# and 177. On 150 they wait 10 s of 60.
+SMALLEST = (
+    ("600K..800K", 50, 0, 170),
+    ("600K..800K", 5, 0, 170),
+    ("600K..800K", 2, 0, 175),
+    ("600K..800K", 3, 0, 171),
+    ("600K..676K", 19, 0, None),
+    ("600K..800K", 50, 14400, 150),
+    ("600K..800K", 50, 14399, 170),
+    ("680K", 1, 0, 170),
+)
+
+
+@pytest.mark.parametrize(("budgets", "steps", "limit", "pages"), SMALLEST)
+def test_smallest_budget(shared, day, budgets, steps, limit, pages):
+    found = plan(shared, day, "--budgets", budgets, "--steps", str(steps), "--wait-seconds", str(limit))
+    assert found["budget"] == (None if pages is None else pages * 4096)
+    assert found["wait_seconds"] == limit
+
+
+def test_the_smallest_has_none_above_it_that_fails():
+    class Waited:
+        def __init__(self, seconds):
+            self.seconds = seconds
+
+        def wait_a_day(self):
+            return self.seconds
+
+    for waits, number in (((9, 0, 9, 0, 0), 3), ((0, 0), 0), ((0, 9), None), ((5, 4), 0)):
+        assert smallest([Waited(it) for it in waits], 5) == number
+    assert (spread(10, 20, 2), spread(7, 7, 3), spread(1, 3, 9)) == ([10, 15, 20], [7], [1, 2, 3])
+
+
+def test_an_object(shared, day):
+    found = plan(shared, day, "--budgets", "600K")
+    assert found["replays"] == [{
+        "budget": 614400, "promised": 819200, "guests": 2, "present": 60.0, "waited": 10.0, "waited_share": 1 / 6, "waited_a_day": 14400.0,
+        "asks": 1, "asks_that_waited": 1, "median": 10.0, "p99": 10.0, "worst": 10.0, "worst_guest": "a",
+        "shorts": 1, "short_seconds": 10.0, "short_by": 81920, "moved": 614400, "decisions": 5,
+    }]
+
+
+def test_a_table(shared, day):
+    lines = run(day, "--library", shared, "--floor", "0", "--budgets", "600K").splitlines()
+    assert lines[0] == "2 guests, 0.8 MiB promised at once, 0.0 hours of guests"
+    assert lines[3].split() == ["0.6", "1.33", "16.667%", "14400.0", "10.0", "10.0", "10.0", "1", "10", "0.1", "0.6"]
+    assert lines[-1] == "none of these budgets keeps the waits to 60 s a guest and day"
+    lines = run(day, "--library", shared, "--floor", "0", "--budgets", "680K..800K", "--steps", "1").splitlines()
+    assert lines[-1] == "budget 1M: 0.0 s a guest and day are waited; 1.18 times as much is promised"
+
+
+def test_a_day_that_is_made_is_the_same_for_a_seed(tmp_path, shared):
+    made = run("--make", "5", "--seed", "3", "--hours", "2")
+    assert made == run("--make", "5", "--seed", "3", "--hours", "2") != run("--make", "5", "--seed", "4", "--hours", "2")
+    path = tmp_path / "made.csv"
+    path.write_text(made)
+    assert plan(shared, str(path), "--steps", "4")["replays"][-1]["waited"] == 0.0
+
+
+@pytest.mark.parametrize("kind", ("svg", "png"))
+def test_a_picture(tmp_path, shared, day, kind):
+    if subprocess.run(["/usr/bin/python3", "-c", "import matplotlib"], capture_output=True, timeout=60).returncode:
+        pytest.skip("matplotlib isn't there: apt-get install python3-matplotlib")
+    path = tmp_path / f"plan.{kind}"
+    run(day, "--library", shared, "--draw", str(path))
+    assert path.read_bytes()[:5] == {"svg": b"<?xml", "png": b"\x89PNG\r"}[kind]
+    said = run(day, "--library", shared, "--draw", f"{tmp_path}/none/plan.svg", status=2)
+    assert said == f"bigvasta: --draw: {tmp_path}/none/plan.svg: No such file or directory\n"
+
+
+def test_a_package_that_is_missing(tmp_path, day):
+    (tmp_path / "matplotlib.py").write_text("raise ImportError\n")
+    said = run(day, "--draw", "plan.svg", status=2, path=f"{tmp_path}:{CLIENT}")
+    assert said == "bigvasta: --draw wants matplotlib: apt-get install python3-matplotlib python3-numpy\n"
+
+
+# Words of a command line that is refused, and what it says.
+REFUSED = (
+    ((), "plan: what is wanted is a FILE, or --make GUESTS"),
+    (("DAY", "--make", "3"), "plan: what is wanted is a FILE, or --make GUESTS"),
+    (("--make", "0"), "--make: 0 isn't from 1 to 10000 guests"),
+    (("--make", "3", "--hours", "0"), "--hours: 0.0 isn't above 0 and up to 744"),
+    (("--make", "3", "--hours", "nan"), "--hours: nan isn't above 0 and up to 744"),
+    (("DAY", "--wait-seconds", "-1"), "--wait-seconds: -1.0 isn't from 0 on"),
+    (("DAY", "--wait-seconds", "nan"), "--wait-seconds: nan isn't from 0 on"),
+    (("DAY", "--steps", "0"), "--steps: 0 isn't from 1 to 1000"),
+    (("DAY", "--budgets", "2G..1G"), "--budgets: '2G..1G' ends before it begins"),
+    (("DAY", "--budgets", "0K..1G"), "--budgets: '0K' isn't from 4K on and below 16T"),
+    (("DAY", "--budgets", "1G..16T"), "--budgets: '16T' isn't from 4K on and below 16T"),
+    (("DAY", "--budgets", "many"), "--budgets: 'many' is no size: a number with K, M, G or T, in pages of 4K, such as 480M"),
+    (("DAY", "--floor", "3"), "--floor: '3' is no size: a number with K, M, G or T, in pages of 4K, such as 480M"),
+    (("none.csv",), "none.csv: No such file or directory"),
+)
+
+
+@pytest.mark.parametrize(("words", "said"), REFUSED)
+def test_refusals(day, words, said):
+    assert run(*(day if it == "DAY" else it for it in words), status=2) == f"bigvasta: {said}\n"
+
+
+def test_what_is_no_library(tmp_path, day, shared):
+    (tmp_path / "libvb.so").write_text("no library")
+    assert run(day, "--library", f"{tmp_path}/libvb.so", status=2).startswith(f"bigvasta: plan: {tmp_path}/libvb.so is no library of vb.h: ")
+    program = "import bigvasta.plan.library as it; it.VERSION += 256; it.load({!r})".format(shared)
+    ran = subprocess.run(["/usr/bin/python3", "-B", "-c", program], capture_output=True, text=True, timeout=60, env={**os.environ, "PYTHONPATH": CLIENT})
+    assert f"Usage: plan: {shared} has version 0x000100, and 0x000200 is wanted\n" in ran.stderr
+    program = "import bigvasta.plan.library as it; it.PLACES = (); it.load()"
+    ran = subprocess.run(["/usr/bin/python3", "-B", "-c", program], capture_output=True, text=True, timeout=60, env={**os.environ, "PYTHONPATH": CLIENT})
+    assert "Usage: plan: the library isn't there: make -C monitor shared makes it, --library FILE names another\n" in ran.stderr

@@ -1,0 +1,126 @@
+"""Replays of days that a pencil can follow: guests of 100 pages, whose waits, moves and lacks were worked out by hand."""
+
+import random
+
+import pytest
+from bigvasta.plan import replay as replaying
+from bigvasta.plan.days import Day, Recorded, Use
+from bigvasta.plan.lender import Lender, Terms
+from bigvasta.plan.replay import promised_by, replay
+
+
+def day_of(**guests):
+    """Returns a day: each guest's uses by the time, and its end; all have 100 pages."""
+    recorded = [Recorded(name, 100, tuple(Use(float(at), used) for at, used in uses), float(end)) for name, (*uses, end) in guests.items()]
+    return Day(tuple(recorded), min(it.uses[0].seconds for it in recorded), max(it.end for it in recorded))
+
+
+# Of 200 pages 50 are missing. At the start a can spare 90 and b 10, so a gives 50. At 10 a has 20 to spare: all that both can spare
+# is 30, 20 too few. b gives 10; a asks for 30, and 50 + 90 + 30 are more than 150. At 20 b can spare 80, and gives up to 50: a gets its
+# 30, and then the 20 of its last target. On 170 pages a gives 30, and at 10 its target is 20: b gives 10, which a gets at once.
+TWO = day_of(a=((0, 10), (10, 80), 30), b=((0, 90), (20, 20), 30))
+
+# Of 300 pages 100 are missing: a gives 60, b 40. At 10 a is reset, and asks for 60; b can spare 50, and c 20: 30 too few. b gives 10 and c 20:
+# 40 + 50 + 80 are lent. At 20 b can spare 30, and asks for 20, for which there would be room, after a in the line. At 30 c can spare
+# 80, and gives 60: a gets its 60, b its 20, and then 10 more, as 80 and 20 are what is missing.
+RESET = day_of(a=((0, 40), (10, 0), 40), b=((0, 50), (20, 70), 40), c=((0, 80), (30, 20), 40))
+
+# b comes at 10 and asks for its 100; a can spare 20. At 30 a can spare 60, and gives up to 50.
+NEWCOMER = day_of(a=((0, 80), (30, 40), 50), b=((10, 50), 50))
+
+# The same, but that a goes on as it was: b never starts.
+REFUSED = day_of(a=((0, 80), 50), b=((10, 50), 50))
+
+# a gives 50. At 10 c asks for its 100: a can spare 90 and b 40, 20 too few, and 10 + 60 are lent. At 20 a can spare 40, and asks for 50, which it
+# gets before c: 60 + 60 + 100 are more than 150.
+OVERTAKEN = day_of(a=((0, 10), (20, 60), 30), b=((0, 60), 30), c=((10, 50), 30))
+
+# a gives 50. At 10 it has 5 to spare, b 40: 5 too few; b gives 40, a asks for 45. At 20 b goes: a gets them, and then its last 5.
+LEAVING = day_of(a=((0, 10), (10, 95), 30), b=((0, 60), 20))
+
+# a gives all 50; b goes, and then nothing is missing: a gets them back.
+ALONE = day_of(a=((0, 10), 30), b=((0, 100), 20))
+
+# With a floor of 16 a can spare 64 and b 24: a gives 50. At 10 and 20 a can spare 50 and 48 above its floor, and 52 and 50 above 14 (the
+# floor but an eighth of it): its target stays. At 30 it can spare 49 above 14, and so 47: b gives the 3 that are missing, and a gets them at once.
+SLACK = day_of(a=((0, 20), (10, 34), (20, 36), (30, 37), 40), b=((0, 60), 40))
+
+# All is lent to a guest that is reset: nothing waits.
+FULL = day_of(a=((0, 50), (10, 0), 20))
+
+# What is expected: waits of each ask, seconds waited and present, how often short, for how long, by how much, pages moved.
+WORKED_OUT = {
+    "two guests": (TWO, Terms(150), (10.0,), 10.0, 60.0, 1, 10.0, 20, 150),
+    "two guests on all that they need at once": (TWO, Terms(170), (0.0,), 0.0, 60.0, 0, 0.0, 0, 50),
+    "a deflate waits for a reset": (RESET, Terms(200), (20.0, 10.0), 30.0, 120.0, 1, 20.0, 50, 280),
+    "a newcomer waits": (NEWCOMER, Terms(150), (20.0,), 20.0, 90.0, 1, 20.0, 30, 50),
+    "a deflate comes before a newcomer": (OVERTAKEN, Terms(150), (0.0, 20.0), 20.0, 80.0, 1, 20.0, 70, 180),
+    "a budget that is short": (REFUSED, Terms(150), (40.0,), 40.0, 90.0, 1, 40.0, 30, 20),
+    "room by a guest that goes": (LEAVING, Terms(150), (10.0,), 10.0, 50.0, 1, 10.0, 5, 140),
+    "nothing is missing once a guest has gone": (ALONE, Terms(150), (0.0,), 0.0, 50.0, 0, 0.0, 0, 100),
+    "a floor that lacks a little": (SLACK, Terms(150, 16), (0.0,), 0.0, 80.0, 0, 0.0, 0, 56),
+    "a reset that has all": (FULL, Terms(100), (), 0.0, 20.0, 0, 0.0, 0, 0),
+}
+
+
+@pytest.mark.parametrize("name", WORKED_OUT)
+def test_worked_out(library, name):
+    day, terms, *expected = WORKED_OUT[name]
+    it = replay(library, day, terms)
+    assert [it.waits, it.waited, it.present, it.shorts, it.short, it.lacked, it.moved] == expected
+
+
+def test_who_waits_longest_and_what_is_promised(library):
+    it = replay(library, RESET, Terms(200))
+    assert (it.worst_guest, it.promised, it.guests, it.share(), it.wait_a_day()) == ("a", 300, 3, 0.25, 21600.0)
+    assert promised_by(day_of(a=((0, 1), 10), b=((10, 1), 20), c=((15, 1), 20))) == 200
+
+
+def test_quantiles_by_nearest_rank(library):
+    it = replay(library, FULL, Terms(100))
+    assert [it.quantile(share) for share in (0.5, 1)] == [0.0, 0.0]
+    for waits, half, most, worst in (((4.0,), 4, 4, 4), ((1.0, 9.0), 1, 9, 9), (tuple(map(float, range(200, 0, -1))), 100, 198, 200)):
+        it = it._replace(waits=waits)
+        assert (it.quantile(0.5), it.quantile(0.99), it.quantile(1)) == (half, most, worst)
+
+
+def random_day(numbers):
+    """Returns a small day of up to six guests, some of whom come later, go earlier, or are reset."""
+    guests = []
+    for number in range(numbers.randint(1, 6)):
+        pages = numbers.randint(1, 100)
+        start, end = sorted(numbers.sample(range(61), 2)) if numbers.random() < 0.4 else (0, 60)
+        times = sorted({start, *(numbers.randint(start, end - 1) for _ in range(numbers.randint(0, 8)))})
+        uses = [Use(float(at), numbers.choice((0, numbers.randint(0, pages)))) for at in times]
+        guests.append(Recorded(f"g{number}", pages, tuple(uses), float(end)))
+    guests.sort(key=lambda it: it.uses[0].seconds)
+    return Day(tuple(guests), guests[0].uses[0].seconds, max(it.end for it in guests))
+
+
+class Watched(Lender):
+    """A lender whose loans are looked at after each moment."""
+
+    def settle(self):
+        """What is lent never passes the budget once it is within it; each loan stays sound."""
+        before = self.owed()
+        super().settle()
+        assert self.owed() <= max(self.terms.frames, before)
+        for it in self.loans:
+            assert it.lent + it.ballooned >= it.pages >= it.lent + it.asked
+        waits = [it.asked != 0 for it in self.loans]
+        assert waits == [it is not None for it in self.since]
+        # Who can be served is served: the guests that can spare give all that lacks.
+        assert self.missing > 0 or not any(waits)
+
+
+@pytest.mark.parametrize("seed", range(40))
+def test_event_by_event_as_moment_by_moment(library, monkeypatch, seed):
+    monkeypatch.setattr(replaying, "Lender", Watched)
+    numbers = random.Random(seed)
+    for _ in range(25):
+        day = random_day(numbers)
+        terms = Terms(numbers.randint(1, promised_by(day) + 1), numbers.choice((0, numbers.randint(0, 20))))
+        events = replay(library, day, terms)
+        moments = replay(library, day, terms, [it / 2 for it in range(121)])
+        assert events._replace(decisions=0) == moments._replace(decisions=0), (day, terms)
+        assert events.waited == sum(events.waits)
