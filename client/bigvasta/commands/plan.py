@@ -8,7 +8,7 @@ from bigvasta.plan import days, drawing, library, making, search, tables
 from bigvasta.sizes import PAGE, parse_size
 from bigvasta.statuses import Usage
 
-MOST_GUESTS, MOST_HOURS, MOST_STEPS = 10000, 24 * 31, 1000
+MOST_GUESTS, LEAST_HOURS, MOST_HOURS, MOST_STEPS = 10000, 0.01, 24 * 31, 1000
 
 EXAMPLE = """example: a day that is made, and the budget that its guests need
   bigvasta plan --make 30 --seed 1 > day.csv
@@ -43,7 +43,7 @@ def demand(good, words):
 def run_make(asked):
     """Prints a day."""
     demand(1 <= asked.make <= MOST_GUESTS, f"--make: {asked.make} isn't from 1 to {MOST_GUESTS} guests")
-    demand(0 < asked.hours <= MOST_HOURS, f"--hours: {asked.hours} isn't above 0 and up to {MOST_HOURS}")
+    demand(LEAST_HOURS <= asked.hours <= MOST_HOURS, f"--hours: {asked.hours} isn't from {LEAST_HOURS} to {MOST_HOURS}")
     for line in making.make(asked.make, asked.seed, asked.hours):
         print(line)
 

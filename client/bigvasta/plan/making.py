@@ -70,7 +70,7 @@ class Made:
 def make(count, seed, hours):
     """Yields the lines of a day of this number of guests, as a recording has them."""
     numbers = random.Random(seed)
-    guests = [Made(numbers, it + 1, hours * 3600) for it in range(count)]
+    guests = [Made(numbers, it + 1, round(hours * 3600, 1)) for it in range(count)]
     rows = [(at, guest.name, guest.size, available) for guest in guests if guest.start < guest.end for at, available in guest.rows()]
     rows.sort(key=lambda it: it[0])
     yield "guest,seconds,size,available"

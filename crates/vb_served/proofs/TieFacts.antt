@@ -55,10 +55,10 @@ ready = record no_part { status = 15 }
 
 -- of its queue the counts and the buffer that is held, and beside it what is kept; no other queue
 of_its_queue : (advanced 2 buffer kept ready).statistics ≡ record {
-      next_avail = 9;
-      next_used = 4;
-      taken = record { head = 3; pages = []; visited = 0 } ∷ [];
-    }
+  next_avail = 9;
+  next_used = 4;
+  taken = record { head = 3; pages = []; visited = 0 } ∷ [];
+}
 of_its_queue = refl
 
 of_others : (advanced 2 buffer kept ready).inflate ≡ no_queue

@@ -94,3 +94,11 @@ def test_a_day_that_is_made_can_be_read(tmp_path, seed):
     reset = [it for it in day.guests if any(use.pages == 0 for use in it.uses[1:])]
     late = [it for it in day.guests if it.uses[0].seconds > 0]
     assert len(reset) + len(late) > 0
+
+
+@pytest.mark.parametrize("hours", (0.01, 0.0345, 1.23456))
+def test_a_short_day_that_is_made_can_be_read(tmp_path, hours):
+    path = tmp_path / "day.csv"
+    for seed in range(20):
+        path.write_text("\n".join(making.make(30, seed, hours)))
+        assert read(str(path)).end == round(hours * 3600, 1)
