@@ -5,6 +5,7 @@
 mod leased;
 mod listed;
 mod listing;
+mod noticed;
 mod runs;
 mod script;
 

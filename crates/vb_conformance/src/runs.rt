@@ -2,6 +2,7 @@
 
 use crate::leased::Leasing;
 use crate::listing::Listing;
+use crate::noticed::Noticing;
 use crate::script::Script;
 use std::alloc::{AllocError, Global};
 use std::io;
@@ -40,6 +41,7 @@ fn first_host(alloc: Global, script: &Script, hosts: &str) -> io::Result<Option<
         let is_written = match host {
             "leased" => is_written_on(alloc, script, &mut Leasing),
             "listed" => is_written_on(alloc, script, &mut Listing { refusals: &[] }),
+            "noticed" => is_written_on(alloc, script, &mut Noticing),
             "full" => is_written_on(
                 alloc,
                 script,
