@@ -15,6 +15,7 @@ WRITER = "static void f(VbDevice *device)\n{\n    %s;\n}\n"
 VERSIONS = {
     "VERSION": "1.2.3\n", "monitor/rust/Cargo.toml": 'version = "1.2.3"\n', "crates/vb_c/vb.h": '#define VB_VERSION "1.2.3"\n',
     "crates/vb_c/src/saving.rt": "/// The version of the library: 1.2.3, as text\n",
+    "client/bigvasta/__init__.py": '__version__ = "1.2.3"\n',
 }
 
 # A topic of a crate, files of the crate, and what is found in them.
