@@ -11,7 +11,7 @@ import time
 
 from planner import CLIENT
 
-LIMIT = 120.0
+LIMIT = 200.0
 PORT = 8786
 
 # The addresses of the namespaces, as other machines have them.
@@ -92,12 +92,12 @@ class Machines:
         eventually(lambda: answers((host, port), inside))
         return f"tcp://{host}:{port}"
 
-    def worker(self, address, inside=(), client=CLIENT):
-        """Starts a worker of one thread, and waits until the scheduler has it."""
+    def work(self, address, insides, client=CLIENT):
+        """Starts workers of one thread each, and waits until the scheduler has them."""
         words = ("--nthreads", "1", "--no-nanny", "--no-dashboard", "--memory-limit", "0", "--local-directory", self.folder)
-        program, log = self.start(inside, "dask", "worker", address, *words, client=client)
-        self.workers.append(program)
-        eventually(lambda: "Registered to" in read(log))
+        started = [self.start(it, "dask", "worker", address, *words, client=client) for it in insides]
+        self.workers += [it for it, _ in started]
+        eventually(lambda: all("Registered to" in read(log) for _, log in started))
 
 
 def eventually(condition):

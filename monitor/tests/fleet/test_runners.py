@@ -17,7 +17,7 @@ from planner import CLIENT, run, words_of
 FLEET = ("--fleet", "6", "--budget", "24G", "--make", "180", "--hours", "6", "--promises", "1.5..1.8", "--steps", "1", "--json")
 
 # A fleet that takes some seconds.
-LARGE = ("--fleet", "30", "--budget", "24G", "--make", "900", "--promises", "1.7", "--json")
+LARGE = ("--fleet", "30", "--budget", "24G", "--make", "900", "--hours", "8", "--promises", "1.7", "--json")
 
 
 @pytest.fixture(scope="module")
@@ -47,12 +47,12 @@ distributed = pytest.mark.skipif(
 def test_a_scheduler_of_this_machine(shared, wanted, tmp_path):
     with Machines(tmp_path, "local") as machines:
         address = machines.scheduler("127.0.0.1", free_port())
-        for _ in range(2):
-            machines.worker(address)
+        machines.work(address, [(), ()])
         assert run(*FLEET, "--library", shared, "--scheduler", address) == wanted
 
 
 @distributed
+@pytest.mark.timeout(900)
 @pytest.mark.skipif(lacks() != "", reason=lacks())
 def test_a_worker_that_is_killed_amid(shared, tmp_path):
     """The scheduler and the client are in one namespace, three workers each in their own. One is killed as a tenth is done, with what it has
@@ -61,8 +61,7 @@ def test_a_worker_that_is_killed_amid(shared, tmp_path):
     with Machines(tmp_path, f"vb{os.getpid()}") as machines:
         machines.tie(4)
         address = machines.scheduler(machines.address(0), inside=machines.inside(0))
-        for number in range(1, 4):
-            machines.worker(address, machines.inside(number))
+        machines.work(address, [machines.inside(it) for it in range(1, 4)])
         command, environment = words_of(*LARGE, "--library", shared, "--scheduler", address)
         words = [*machines.inside(0), *command]
         with subprocess.Popen(words, stdout=subprocess.PIPE, stderr=subprocess.PIPE, text=True, env=environment) as plan:
@@ -98,7 +97,7 @@ def test_a_scheduler_without_workers(shared, tmp_path):
 def test_a_scheduler_that_goes_away(shared, tmp_path):
     with Machines(tmp_path, "local") as machines:
         address = machines.scheduler("127.0.0.1", free_port())
-        machines.worker(address)
+        machines.work(address, [()])
         command, environment = words_of(*LARGE, "--library", shared, "--scheduler", address)
         with subprocess.Popen(command, stdout=subprocess.PIPE, stderr=subprocess.PIPE, text=True, env=environment) as plan:
             plan.stderr.readline()
@@ -111,7 +110,7 @@ def test_a_scheduler_that_goes_away(shared, tmp_path):
 def test_a_worker_without_the_planner(shared, tmp_path):
     with Machines(tmp_path, "local") as machines:
         address = machines.scheduler("127.0.0.1", free_port())
-        machines.worker(address, client=str(tmp_path))
+        machines.work(address, [()], client=str(tmp_path))
         said = run(*SMALL, "--library", shared, "--scheduler", address, status=2)
         assert said == "bigvasta: --scheduler: a worker lacks the module bigvasta: it needs the packages that this machine has\n"
 
@@ -123,7 +122,7 @@ def test_a_worker_of_another_version(shared, tmp_path):
     (other / "bigvasta" / "__init__.py").write_text('__version__ = "0.0.1"\n')
     with Machines(tmp_path, "local") as machines:
         address = machines.scheduler("127.0.0.1", free_port())
-        machines.worker(address, client=str(other))
+        machines.work(address, [()], client=str(other))
         said = run(*SMALL, "--library", shared, "--scheduler", address, status=2)
         assert re.fullmatch(r"bigvasta: plan: a worker has bigvasta 0\.0\.1, and \d+\.\d+\.\d+ is wanted\n", said)
 
