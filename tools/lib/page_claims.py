@@ -148,24 +148,22 @@ def times():
     return found
 
 
-# A page, the language of its listings, and the file that they quote: whole, or in parts that `...` divides.
-WHOLE, PARTS = True, False
+# A page, the language of its listings, and the files of which they have parts, which `...` divides.
 LISTINGS = (
-    ("README.md", "c", "monitor/examples/example.c", PARTS),
-    ("README.md", "rust", "monitor/rust/examples/monitor.rs", PARTS),
-    ("docs/INTEGRATION.md", "c", "monitor/examples/example.c", WHOLE),
+    ("README.md", "c", ("monitor/examples/example.c",)),
+    ("README.md", "rust", ("monitor/rust/examples/monitor.rs",)),
+    ("docs/INTEGRATION.md", "rust", tuple(f"docs/examples/{it}/src/lib.rt" for it in ("serve", "noting", "hosting"))),
 )
 
 
 def listings():
     """Returns the pages whose listing of a file isn't what the file has."""
     found = []
-    for path, language, source, is_whole in LISTINGS:
-        shown = re.findall(rf"(?s)\n```{language}\n(.*?)```\n", read(path))
-        parts = [part for it in shown for part in it.split("...\n")]
-        text = read(source)
-        if text not in shown if is_whole else not parts or any(it not in text for it in parts):
-            found.append(f"{path}: a listing isn't in {source}")
+    for path, language, sources in LISTINGS:
+        parts = [part for it in re.findall(rf"(?s)\n```{language}\n(.*?)```\n", read(path)) for part in it.split("...\n")]
+        texts = [read(it) for it in sources]
+        if not parts or any(all(it not in text for text in texts) for it in parts):
+            found.append(f"{path}: a listing isn't in {' or '.join(sources)}")
     return found
 
 
