@@ -178,6 +178,14 @@ def order():
     return [f"docs/MAP.md: crate {it} is listed before {low}, which it needs" for it, low in late]
 
 
+def named_tools():
+    """Returns the tools that the map doesn't name, and those that it names and that aren't there."""
+    section = read("docs/MAP.md").partition("\n## The tools\n")[2]
+    named = {it.split()[0] for it in re.findall(r"`([a-z][\w-]*(?: [A-Z]+)?)`", section.partition("|---|---|")[2]) if "/" not in it} - {"debian", "packaging"}
+    there = {it for it in os.listdir(f"{ROOT}/tools") if os.path.isfile(f"{ROOT}/tools/{it}")}
+    return [f"docs/MAP.md: its tools aren't those of tools: {it}" for it in sorted(named ^ there)]
+
+
 def sanitized():
     """Returns where monitor/README.md names other tests as those without the address sanitizer than the Makefile has."""
     page, makefile = read("monitor/README.md"), read("monitor/Makefile")
@@ -190,4 +198,4 @@ def sanitized():
 
 def claims():
     """Returns all that pages claim falsely."""
-    return [*counts(), *packages(), *times(), *listings(), *order(), *sanitized()]
+    return [*counts(), *packages(), *times(), *listings(), *order(), *named_tools(), *sanitized()]
