@@ -121,10 +121,17 @@ def test_a_picture(tmp_path, shared, day, kind):
     assert said == f"bigvasta: --draw: {tmp_path}/none/plan.svg: No such file or directory\n"
 
 
-def test_a_package_that_is_missing(tmp_path, day):
-    (tmp_path / "matplotlib.py").write_text("raise ImportError\n")
-    said = run(day, "--draw", "plan.svg", status=2, path=f"{tmp_path}:{CLIENT}")
-    assert said == "bigvasta: --draw wants matplotlib: apt-get install python3-matplotlib python3-numpy\n"
+# Modules that may be missing, and which packages have them.
+MISSING = {
+    "matplotlib": "--draw wants matplotlib: apt-get install python3-matplotlib",
+    "pandas": "plan wants numpy and pandas: apt-get install python3-pandas",
+}
+
+
+@pytest.mark.parametrize("module", MISSING)
+def test_a_package_that_is_missing(tmp_path, day, module):
+    (tmp_path / f"{module}.py").write_text("raise ImportError\n")
+    assert run(day, "--draw", "plan.svg", status=2, path=f"{tmp_path}:{CLIENT}") == f"bigvasta: {MISSING[module]}\n"
 
 
 # Words of a command line that is refused, and what it says.
