@@ -16,10 +16,10 @@ def keep_alone(files):
 
 
 def do(act, files, writes):
-    """Does it with these files alone, and writes its numbers; returns the status of the process that does so."""
+    """Does it with these files alone, and writes that it begins, and its numbers; returns the status of the process that does so."""
     try:
         keep_alone({0, 1, 2, writes, *files})
-        os.write(writes, json.dumps(act()).encode())
+        os.write(writes, json.dumps(act(lambda: os.write(writes, b"\n"))).encode())
     except BaseException:
         traceback.print_exc()
         return 1
@@ -27,7 +27,7 @@ def do(act, files, writes):
 
 
 class Aside:
-    """What a process does that has these files of the test's; in the end it has numbers."""
+    """What a process does that has these files of the test's. It calls what it is given once all is ready for it, and returns numbers."""
 
     def __init__(self, act, files=()):
         self.reads, writes = os.pipe()
@@ -35,6 +35,7 @@ class Aside:
         if self.child == 0:
             os._exit(do(act, files, writes))
         os.close(writes)
+        os.read(self.reads, 1)
 
     def is_set(self):
         """Whether it has ended: so that who waits for an event may wait for that."""

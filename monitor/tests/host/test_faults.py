@@ -244,11 +244,12 @@ def test_words_and_answers_that_nobody_reads(unread):
     assert [it.split()[0] for it in found if not it.startswith(b"gone")][:62] == [b"ready"] + [b"listening"] * 60 + [b"guests"]
 
 
-def flood(path, seconds):
+def flood(path, seconds, begins):
     """Is a guest's process that somebody has taken over: each of its reports says that the memory has changed. Returns how many it sent until
     there was no room, how many in all, and the seconds that it took."""
     with socket.socket(socket.AF_UNIX, socket.SOCK_SEQPACKET) as listener:
         listener.bind(path), listener.listen()
+        begins()
         channel, _ = listener.accept()
     order = channel.recv(1 << 16)
     report, room, sent, begin = bytearray(order[:KIND_AT]) + bytes(len(order) - KIND_AT), 0, 0, time.monotonic()
@@ -268,9 +269,7 @@ def flood(path, seconds):
 def test_a_process_that_sends_more_than_it_may(lend):
     # The lender reads 40 messages of it in 50 ms.
     lender = lend(64, "--floor", "0")
-    path = f"{lender.folder}/+bad"
-    process = Aside(lambda: flood(path, 2))
-    eventually(lambda: os.path.exists(path))
+    process = Aside(lambda begins: flood(f"{lender.folder}/+bad", 2, begins))
     lender.demand("add bad")
     room, sent, seconds = process.numbers()
     assert room < sent <= room + 40 * (seconds / 0.05 + 2)

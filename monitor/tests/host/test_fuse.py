@@ -46,10 +46,11 @@ class Mounted:
         self.process.stdin.close()
 
     def close(self):
-        """Unmounts it."""
+        """Unmounts it, and ends it, though its file may be open."""
         self.release()
         subprocess.run(["umount", "--lazy", self.folder], check=True)
-        assert self.process.wait(LIMIT) == 0
+        self.process.terminate()
+        self.process.wait(LIMIT)
         self.process.stdout.close(), self.process.stderr.close()
 
 
