@@ -1,9 +1,14 @@
 """The runs of a Linux on a backend: what a guest is told to do, and what is demanded of its device and of the host's memory."""
 
 import time
+from collections.abc import Callable
+from typing import NamedTuple
 
 from linux_guest import PAGES_PER_MIB
 from linux_kit import Fault, demand
+
+# The guests' MiB. With less than 256, Linux reports nothing: it wants 128 MiB free in a zone before it does.
+SIZES = (256, 384)
 
 # Seconds in which a target is reached, in which a guest reports its free pages, and in which it moves some.
 TARGET_LIMIT, REPORT_LIMIT, MOVE_LIMIT = 60, 30, 10
@@ -74,16 +79,16 @@ def await_reports(machine, mib):
     audit(machine)
 
 
-def finish(machine, kept):
-    """Demands what holds at the end of each run."""
+def finish(machine, kept, unwanted=("skipped", "in_holes", "kept")):
+    """Demands what holds at the end of each run; nothing is unwanted but what a run says."""
     names = [it.split()[1] for it in kept]
     sums = machine.sums(*names)
     demand(sums == kept, f"kept bytes have changed: {' '.join(sums)} was {' '.join(kept)}")
     trouble = machine.guest.do("trouble")
     demand(not trouble, f"the guest's kernel says: {' / '.join(trouble[:2])}")
     counters = machine.backend.counters()
-    unwanted = {name: counters[name] for name in ("skipped", "in_holes", "kept") if counters[name]}
-    demand(not unwanted, f"pages that aren't there: {unwanted}")
+    found = {name: counters[name] for name in unwanted if counters[name]}
+    demand(not found, f"pages that aren't there: {found}")
     audit(machine)
 
 
@@ -204,10 +209,19 @@ def compact_run(machine, _):
     return f"{moved} pages moved"
 
 
-RUNS = {
-    "main": main_run, "churn": churn_run, "oom": oom_run, "unload": unload_run, "compact": compact_run, "zeroed": zeroed_run,
-}
+class Run(NamedTuple):
+    """What is done in a run, with guests of which MiB, and what guest and backend are given besides."""
 
-# More words for the kernel and for the backend, by the run.
-KERNEL_WORDS = {"zeroed": ("init_on_free=1",)}
-BACKEND_WORDS = {"zeroed": ("--features", "100000037")}
+    do: Callable
+    sizes: tuple = SIZES
+    guest: dict = {}
+    backend_words: tuple = ()
+
+
+# The features of a device that offers PAGE_POISON, too.
+WITH_POISON = ("--features", "100000037")
+
+RUNS = {
+    "main": Run(main_run), "churn": Run(churn_run), "oom": Run(oom_run), "unload": Run(unload_run), "compact": Run(compact_run),
+    "zeroed": Run(zeroed_run, guest={"kernel_words": ("init_on_free=1",)}, backend_words=WITH_POISON),
+}
