@@ -84,8 +84,8 @@ class Uml(OverSocket):
     def words(self, folder, shape, path):
         """Returns the guest's command."""
         self.demand_room(shape.memory)
-        consoles = ("con=null", "con0=fd:0,fd:1", f"uml_dir={folder}/uml")
-        return [*self.program, f"mem={shape.memory}M", f"initrd={self.initramfs}", *consoles, f"virtio_uml.device={path}:5",
+        own = ("quiet", "con=null", "con0=fd:0,fd:1", f"uml_dir={folder}/uml")
+        return [*self.program, f"mem={shape.memory}M", f"initrd={self.initramfs}", *own, f"virtio_uml.device={path}:5",
                 *KERNEL_WORDS, *shape.kernel_words]
 
     def environment(self):

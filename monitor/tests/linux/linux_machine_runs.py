@@ -5,7 +5,7 @@ import time
 from linux_guest import PAGES_PER_MIB
 from linux_kit import demand
 from linux_runs import (
-    LEFT_FREE, TARGET_LIMIT, WITH_POISON, Run, audit, await_reports, churn_run, fill_memory, finish, inflate_filled, keep, settle,
+    LEFT_FREE, TARGET_LIMIT, WITH_POISON, Run, audit, churn_run, fill_memory, finish, inflate_filled, keep, settle,
 )
 
 # Stops of the run `pause`; the longest rest before one, in seconds.

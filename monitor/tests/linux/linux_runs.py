@@ -66,9 +66,10 @@ def inflate_filled(machine, mib):
     audit(machine)
 
 
-def await_reports(machine, mib):
-    """After a hog of `mib` MiB that was freed: most of them are reported, and the host holds less."""
+def free_and_report(machine, mib):
+    """Frees the hog of `mib` MiB: most of them are reported, and the host holds less."""
     before, reported = machine.guest.held_mib(), machine.backend.counters()["reported"]
+    machine.guest.do("free")
     end = time.monotonic() + REPORT_LIMIT
     # A report has blocks of 4 MiB, so some of what is free stays.
     while before - machine.guest.held_mib() < mib / 2 and time.monotonic() < end:
@@ -96,8 +97,7 @@ def main_run(machine, _):
     """A hog, reports, an inflate beside kept bytes, a deflate, and the hog again."""
     kept = keep(machine, "keep", machine.memory // 6)
     filled = fill_memory(machine)
-    machine.guest.do("free")
-    await_reports(machine, filled)
+    free_and_report(machine, filled)
     inflate_filled(machine, filled // 2)
     machine.guest.do(f"hog {filled // 2 - LEFT_FREE}")
     machine.backend.ask("snapshot")
@@ -173,8 +173,7 @@ def zeroed_run(machine, _):
     """The kernel wants zeros in the pages that it frees: with PAGE_POISON it says so, and reports."""
     kept = keep(machine, "keep", machine.memory // 6)
     filled = fill_memory(machine)
-    machine.guest.do("free")
-    await_reports(machine, filled)
+    free_and_report(machine, filled)
     inflate_filled(machine, filled // 2)
     machine.set_target(0)
     settle(machine, "a deflate")
