@@ -42,6 +42,7 @@ from host_tenants import files_run, marks_run, tells_run
 from host_trash import ENDED, end_one, hang_one
 from linux_guest import PAGES_PER_MIB
 from linux_kit import Fault, demand
+from linux_vmms import vmm_of
 from vhost_client import Client
 
 MEMORY = 256
@@ -242,10 +243,10 @@ RUNS = {
 class Bench:
     """What all runs share: a kernel, the programs under test, and a folder."""
 
-    def __init__(self, folder):
+    def __init__(self, vmm, folder):
         self.folder, self.count, self.wrong = folder, 0, None
-        linux_kit.enough_room(4 * MEMORY)
-        self.kit = linux_kit.Uml(folder)
+        self.vmm = vmm_of(vmm, folder)
+        self.vmm.demand_room(4 * MEMORY)
         self.programs = linux_host.Programs(folder, linux_kit.core_of())
 
     def town(self, budget, options=(), checked=False):
@@ -253,4 +254,4 @@ class Bench:
         self.count += 1
         program = self.programs["wrong" if self.wrong else "checked" if checked else "plain"]
         options = ("--step", "0", *options)
-        return linux_host.Town(self.kit, program, f"{self.folder}/{self.count}", budget, options, {"HOST_WRONG": self.wrong or "0"})
+        return linux_host.Town(self.vmm, program, f"{self.folder}/{self.count}", budget, options, {"HOST_WRONG": self.wrong or "0"})
