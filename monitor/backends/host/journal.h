@@ -13,10 +13,14 @@ enum {
 
 enum reason { BY_GUESTS, BY_BUDGET, BY_SPARE, BY_MISSING };
 
+/* What a guest can spare goes by this. */
+enum bound { BY_STATISTICS, BY_SILENCE, BY_PAUSE, BY_LOAN };
+
 struct share {
     char name[MOST_NAME];
     VbNeed need;
-    uint32_t most, old, target;
+    enum bound bound;
+    uint32_t most, ballooned, old, target;
 };
 
 struct decision {
