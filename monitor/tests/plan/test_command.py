@@ -2,11 +2,17 @@
 
 import json
 import os
+import re
 import subprocess
 
 import pytest
 from bigvasta.plan.search import spread, tightest
+from linux_kit import HEADERS
 from planner import CLIENT, run
+
+# The version that a library of vb.h has.
+with open(os.path.join(HEADERS, "vb.h"), encoding="utf-8") as file:
+    VERSION = int(re.search(r"#define VB_VERSION_NUMBER (0x\w+)u", file.read())[1], 16)
 
 # The two guests of test_replay.py, whose pages are 4096 bytes: from 10 to 20 they need 170 pages at once.
 TWO = """guest,seconds,size,used
@@ -146,7 +152,7 @@ def test_what_is_no_library(tmp_path, day, shared):
     assert run(day, "--library", f"{tmp_path}/libvb.so", status=2).startswith(f"bigvasta: plan: {tmp_path}/libvb.so is no library of vb.h: ")
     program = "import bigvasta.plan.library as it; it.VERSION += 256; it.load({!r})".format(shared)
     ran = subprocess.run(["/usr/bin/python3", "-B", "-c", program], capture_output=True, text=True, timeout=60, env={**os.environ, "PYTHONPATH": CLIENT})
-    assert f"Usage: plan: {shared} has version 0x000100, and 0x000200 is wanted\n" in ran.stderr
+    assert f"Usage: plan: {shared} has version {VERSION:#08x}, and {VERSION + 256:#08x} is wanted\n" in ran.stderr
     program = "import bigvasta.plan.library as it; it.PLACES = (); it.load()"
     ran = subprocess.run(["/usr/bin/python3", "-B", "-c", program], capture_output=True, text=True, timeout=60, env={**os.environ, "PYTHONPATH": CLIENT})
     assert "Usage: plan: the library isn't there: make -C monitor shared makes it, --library FILE names another\n" in ran.stderr
