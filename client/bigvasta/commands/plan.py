@@ -5,8 +5,10 @@ import argparse
 from bigvasta.statuses import Usage
 
 EXAMPLE = """example: a day that is made, and the budget that its guests need
+  apt-get install python3-pandas python3-matplotlib
   bigvasta plan --make 30 --seed 1 > day.csv
   bigvasta plan day.csv --floor 12M --wait-seconds 60 --draw day.svg
+
 A recording is CSV, with a line of column names: guest, seconds, size, and used or available (bytes); or Prometheus' answer
 to query_range of bigvasta_guest_memory_bytes, bigvasta_guest_available_bytes and bigvasta_guest_ballooned_bytes.
 

@@ -13,11 +13,7 @@ CLIENT = os.path.join(linux_kit.ROOT, "client")
 @pytest.fixture(scope="session")
 def shared(tmp_path_factory):
     """The path of libvb.so, over the library or the plain implementation."""
-    core, path = linux_kit.core_of(), str(tmp_path_factory.mktemp("library") / "libvb.so")
-    flags = ["-O2", "-fPIC", "-I", linux_kit.HEADERS, "-I", os.path.join(linux_kit.MONITOR, "include")]
-    whole = [core] if core.endswith(".c") else ["-Wl,--whole-archive", core, "-Wl,--no-whole-archive"]
-    subprocess.run(["cc", "-shared", *flags, *whole, "-o", path], check=True, timeout=120)
-    return path
+    return linux_kit.build_shared(str(tmp_path_factory.mktemp("library")), linux_kit.core_of())
 
 
 @pytest.fixture(scope="session")
