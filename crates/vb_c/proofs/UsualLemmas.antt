@@ -20,7 +20,7 @@ use Rattle.vb_c.specs.Notices.{says_yes, tally_of, walk_of, place_of, part_of, d
 use Rattle.vb_c.specs.Notices.{cut_of_notice, phase_of, notice_by, notice_of, Says, answer_bits}
 use Rattle.vb_c.{specs.declared.notice.VbNotice.VbNotice, specs.declared.notice.VbRoom.VbRoom}
 use Rattle.vb_c.{specs.Codes.{kind_of_code, why_of}, specs.Notices.what_of}
-use Rattle.vb_c.specs.Serving.{held_by, HandsOver, Begins, GoesOnBy}
+use Rattle.vb_c.specs.Serving.{held_by, HandsOver, GoesOnBy}
 use Rattle.vb_chain.specs.declared.{descriptor.TheConstants.DESCRIPTOR_SIZE, pieces.Piece.Piece}
 use Rattle.vb_monitor.specs.{Ends.Whole, Machine.{Copies, row_bytes, row_in}, Pieces.AsksPart}
 use Rattle.vb_monitor.specs.Chains.{TableRow, row_of, AfterDescriptor, AsksRow}
@@ -129,23 +129,6 @@ goes_usual kind p q s t regions answer b r1 r2 c1 c2 k1 e1 f1 k2 e2 f2 says what
       hands =
           hands_nothing kind q t regions r2.copied r2.cuts b c2 k2 e2 f2 says what none late fits over;
     })
-
--- a notice that begins so
-pub begins_usual : (from : Device → Outcome → List Access → Type 0) (kind : Kind) (q : Phase)
-    (t : Tally) (regions : List Region) (b : Balloon) (r : VbRoom) (c : VbNotice)
-    → kind_of_code c.kind ≡ Some kind → phase_of c ≡ Some q → tally_of c ≡ t → Says c t q → c.what
-    ≡ answer_bits q → c.orders.cuts ≡ 0 → stage q ≡ 3 → Fits q → held_by (outcome_at q t) kind b
-    ≡ b.held → ((after : Device) (outcome : Outcome) (room : Room) (log : List Access) →
-    AheadAt q (whole regions kind after outcome) t b.device room log → from after outcome log)
-    → Begins from regions kind b b r r c
-begins_usual from kind q t regions b r c k e f says what none late fits over step = record {
-  first = record { kind = kind; step = record { tally = t; phase = q } };
-  device = b.device;
-  kind_is = refl;
-  step = step;
-  hands = hands_nothing kind q t regions r.copied r.cuts b c k e f says what none late fits over;
-  room = refl;
-}
 
 -- ---- the word that is read next
 

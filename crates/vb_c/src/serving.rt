@@ -11,7 +11,6 @@ ghost use Rattle.vb_c.specs.Serving.{HandsOver, Begins, BeginsFor, GivesHeldFor,
 use crate::answers::{BAD_ARGUMENT, NO_QUEUE, NOTHING, kind_of_code};
 use crate::notice::{VbNotice, VbRoom};
 use crate::requests::hand_step;
-use crate::usual::begin_usually;
 use vb_core::Kind;
 use vb_monitor::{
     Balloon, Budget, Cut, MAX_CUTS, Notice, Region, Room, after_descriptor, after_part,
@@ -49,32 +48,6 @@ fn refuse(shown: &mut VbNotice, code: u32) -> u32
     shown.what
 }
 
-/// A queue is served, however its notice begins.
-#[inline(never)]
-fn begin_anyhow(
-    notice: &mut VbNotice,
-    balloon: &mut Balloon,
-    regions: &[Region],
-    room: &mut VbRoom,
-    kind: Kind,
-    budget: Budget,
-) -> u32
-    ensures begins { Begins (λ after outcome log. Serves regions.now kind budget
-        balloon.old.device after outcome log) regions.now kind balloon.old balloon.new room.old
-        room.new notice.new }
-    ensures what { result ≡ notice.new.what }
-{
-    let mut begun = Notice::begin(&mut balloon.device, regions, kind, budget);
-    hand_over(
-        notice,
-        balloon,
-        regions,
-        &room.copied,
-        &mut room.cuts,
-        &mut begun,
-    )
-}
-
 /// The driver kicked the queue of this kind, or may have.
 #[unsafe(no_mangle)]
 pub extern "C" fn vb_begin(
@@ -103,10 +76,15 @@ pub extern "C" fn vb_begin(
                 pages,
                 keeps: keeps != 0,
             };
-            if begin_usually(notice, balloon, regions, room, kind, queue, budget) {
-                return notice.what;
-            }
-            begin_anyhow(notice, balloon, regions, room, queue, budget)
+            let mut begun = Notice::begin(&mut balloon.device, regions, queue, budget);
+            hand_over(
+                notice,
+                balloon,
+                regions,
+                &room.copied,
+                &mut room.cuts,
+                &mut begun,
+            )
         }
     }
 }

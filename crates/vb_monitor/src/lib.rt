@@ -58,7 +58,7 @@ pub use regions::{FILE_LIMIT, Region, Spot, find};
 pub use room::{MAX_BYTES, MAX_FIGURES, MAX_PIECES, MAX_RUNS, ROW_DESCRIPTORS, Room};
 pub use served::{fill_named, give_and_go, is_last, name_copied};
 pub use serving::serve;
-pub use single::{FirstPart, first_of_single, index_to_look};
+pub use single::{FirstPart, first_of_single};
 pub use step::{Discarding, Phase, Place, Step, Walk};
 pub use usual::{NextWord, descriptor_after, word_after};
 pub use walk::after_descriptor;

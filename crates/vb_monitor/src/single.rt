@@ -4,16 +4,15 @@
 ghost use Rattle.std.specs.Prelude.{◌≡◌, ◌+◌, ◌-◌, List, None, IfSome, take};
 ghost use Rattle.vb_chain.specs.declared.descriptor.TheConstants.{DESCRIPTOR_SIZE};
 ghost use Rattle.vb_core.specs.declared.device.Device.{Device};
-ghost use Rattle.vb_core.specs.Devices.{queue_denial, ring_of};
+ghost use Rattle.vb_core.specs.Devices.{ring_of};
 ghost use Rattle.vb_monitor.specs.declared.outcome.Tally.{Tally};
 ghost use Rattle.vb_monitor.specs.declared.outcome.Outcome.{Outcome};
-ghost use Rattle.vb_monitor.specs.declared.step.Phase.TheVariants.{AwaitsIndex, AwaitsPart};
+ghost use Rattle.vb_monitor.specs.declared.step.Phase.TheVariants.{AwaitsPart};
 ghost use Rattle.vb_monitor.specs.Accesses.{Access};
 ghost use Rattle.vb_monitor.specs.Chains.{AfterDescriptor, Follows, descriptors, descriptor_of};
 ghost use Rattle.vb_monitor.specs.Chains.{memory_end};
-ghost use Rattle.vb_monitor.specs.Notices.{Looks};
 ghost use Rattle.vb_core.specs.Pieces.{pieces_in};
-ghost use Rattle.vb_monitor.specs.Single.{index_place, is_single, single_place, single_of};
+ghost use Rattle.vb_monitor.specs.Single.{is_single, single_place, single_of};
 ghost use Rattle.vb_monitor.specs.declared.room.Room.{Room};
 ghost use Rattle.vb_monitor.specs.Machine.{Fits, AheadAt, whole, serves, row_in};
 ghost use Rattle.vb_monitor.specs.Machine.{row_bytes};
@@ -28,28 +27,6 @@ use crate::{Place, Region, Room, Spot, Walk};
 use vb_chain::{DESCRIPTOR_SIZE, Descriptor};
 use vb_core::{Device, Kind};
 use vb_request::is_request_length;
-use vb_ring::{RING_INDEX_AT, RING_WORD_SIZE};
-
-/// Where the index is read when a queue is looked at: the queue is served, and its index is guest
-/// memory.
-pub fn index_to_look(device: &Device, regions: &[Region], kind: Kind) -> Option<Spot>
-    ensures place { result ≡ index_place regions.now (queue_denial kind device.now)
-        (ring_of kind device.now) }
-    ensures goes { IfSome result (λ at. (tally : Tally) (after : Device) (outcome : Outcome)
-        (room : Room) (log : List Access) →
-        AheadAt (AwaitsIndex at) (whole regions.now kind after outcome) tally device.now room log →
-        Looks tally.chains (whole regions.now kind after outcome) device.now tally log) }
-{
-    match device.queue_denial(kind) {
-        Some(_) => None,
-        None => find_from(
-            regions,
-            device.ring(kind).avail,
-            RING_INDEX_AT,
-            RING_WORD_SIZE,
-        ),
-    }
-}
 
 /// Whether a descriptor is a whole request by itself.
 fn is_single(kind: Kind, descriptor: &Descriptor) -> bool
