@@ -17,8 +17,8 @@ use vb_script::Pace;
 use vb_shared::{Leased, SharedFrames};
 use vb_slot::LonePort;
 
-/// Runs a plan, each guest on a device of its pace in this list. A report with a frame that isn't
-/// the host's is a failed audit.
+/// Runs a plan, each guest on a device of its pace in this list, which is an immediate one where a
+/// VMM's notice would serve. A report with a frame that isn't the host's is a failed audit.
 pub fn run_plan<T: Threads + Wait + Sync>(
     rt: &T,
     alloc: Global,
@@ -44,7 +44,7 @@ pub fn run_plan<T: Threads + Wait + Sync>(
             return Err(ProgramFault::Memory);
         };
         match pace {
-            Pace::Immediate => {
+            Pace::Immediate | Pace::Monitor => {
                 let device = Leased::new(ImmediateDevice::new(alloc), pass);
                 let Ok(device) = Box::new(alloc, device) else {
                     return Err(ProgramFault::Memory);
