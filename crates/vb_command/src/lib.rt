@@ -22,7 +22,7 @@ pub use fault::{
     BAD_ARGUMENTS, BAD_SCRIPT, BROKEN_STREAM, FAILED_AUDIT, NO_MEMORY, ProgramFault, SUCCESS,
     report,
 };
-pub use host::{Host, play_events};
+pub use host::Host;
 pub use play::{Play, write_lines};
 pub use run::{run_script, run_script_on};
 pub use threads::threads_script;
