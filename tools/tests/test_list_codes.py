@@ -13,13 +13,13 @@ CRATES = ("vb_virtio", "vb_ram", "vb_chain", "vb_ring", "vb_request", "vb_core",
 READ = (
     *(f"crates/{it}/src" for it in CRATES),
     "crates.txt", "crates/vb_c/vb.h", "docs/RULES.md", "docs/INTEGRATION.md", "monitor/backends/guest/backend.c",
-    "monitor/reference/device.h", "monitor/include/ring_layout.h", "monitor/rust/src/raw/codes.rs", "tools/list-codes",
+    "monitor/reference/reference.h", "monitor/include/ring_layout.h", "monitor/rust/src/raw/codes.rs", "tools/list-codes",
 )
 
 # Seconds that a call of the tool has.
 LIMIT = 60
 
-HEADER, REFERENCE = "crates/vb_c/vb.h: numbers", "monitor/reference/device.h: rules"
+HEADER, REFERENCE = "crates/vb_c/vb.h: numbers", "monitor/reference/reference.h: rules"
 BACKEND, RUST = "monitor/backends/guest/backend.c: rules", "monitor/rust/src/raw/codes.rs"
 LAYOUT = "monitor/include/ring_layout.h"
 RULES, CODES = "docs/RULES.md", "docs/INTEGRATION.md"
@@ -44,7 +44,7 @@ CHANGES = (
     ("crates/vb_c/vb.h", "VB_NOT_READY = 3", "VB_NOT_READY = 4", [HEADER]),
     ("crates/vb_c/vb.h", "VB_MAX_FIGURES = 102", "VB_MAX_FIGURES = 101", [HEADER]),
     ("crates/vb_c/vb.h", "list-codes: numbers, to here", "", ["crates/vb_c/vb.h: no place for the table of numbers"]),
-    ("monitor/reference/device.h", "BAD_PAGE = 9", "BAD_PAGE = 8", [REFERENCE]),
+    ("monitor/reference/reference.h", "BAD_PAGE = 9", "BAD_PAGE = 8", [REFERENCE]),
     ("monitor/backends/guest/backend.c", '[9] = "no such page"', '[9] = "a reserved page"', [BACKEND]),
     ("monitor/rust/src/raw/codes.rs", "COPY: u32 = 128", "COPY: u32 = 64", [RUST]),
     (RULES, "7 IndexJump", "8 IndexJump", [f"{RULES}: IndexJump is 8"]),
@@ -105,12 +105,12 @@ def test_a_change_of_the_owner_is_written_to_all_tables(copy):
     assert copy.call("--write") == (1, [f"{RULES}: BadPage is 9"])
     assert "VB_COPY = 512, " in copy.text("crates/vb_c/vb.h")
     assert "10 a reserved page; 11 no such page. */" in " ".join(copy.text("crates/vb_c/vb.h").replace("\n *", "").split())
-    assert "RESERVED_PAGE = 10, BAD_PAGE = 11 };" in copy.text("monitor/reference/device.h")
+    assert "RESERVED_PAGE = 10, BAD_PAGE = 11 };" in copy.text("monitor/reference/reference.h")
     assert '[11] = "no such page",\n' in copy.text("monitor/backends/guest/backend.c")
     assert "pub const COPY: u32 = 512;\n" in copy.text("monitor/rust/src/raw/codes.rs")
 
 
 def test_what_is_written_stays(copy):
-    before = {it: copy.text(it) for it in ("crates/vb_c/vb.h", "monitor/reference/device.h", "monitor/backends/guest/backend.c")}
+    before = {it: copy.text(it) for it in ("crates/vb_c/vb.h", "monitor/reference/reference.h", "monitor/backends/guest/backend.c")}
     assert copy.call("--write") == (0, [])
     assert {it: copy.text(it) for it in before} == before
