@@ -152,7 +152,7 @@ def times():
 LISTINGS = (
     ("README.md", "c", ("monitor/examples/example.c",)),
     ("README.md", "rust", ("monitor/rust/examples/monitor.rs",)),
-    ("docs/INTEGRATION.md", "rust", tuple(f"docs/examples/{it}/src/lib.rt" for it in ("serve", "noting", "hosting"))),
+    ("docs/INTEGRATION.md", "rust", tuple(f"docs/examples/{it}/src/lib.rt.in" for it in ("serve", "noting", "hosting"))),
 )
 
 

@@ -17,7 +17,7 @@ CHANGES = (
     ("times", "README.md", r"\| 20 seconds \|", "| 30 seconds |", "takes"),
     ("times", "monitor/README.md", r"## Tests\n", "## Tests\n\nThey take two minutes.\n", "a time belongs into"),
     ("listings", "README.md", r"if \(result\.interrupts\)", "if (result.interrupt)", "README.md: a listing isn't in"),
-    ("listings", "docs/examples/noting/src/lib.rt", r"self\.broken\.saturating_add", "self.broken.wrapping_add", "docs/INTEGRATION.md: a listing isn't in"),
+    ("listings", "docs/examples/noting/src/lib.rt.in", r"self\.broken\.saturating_add", "self.broken.wrapping_add", "docs/INTEGRATION.md: a listing isn't in"),
     ("listings", "monitor/rust/examples/monitor.rs", r"balloon\.notify", "balloon.serve", "README.md: a listing isn't in"),
     ("order", "docs/MAP.md", r"(?m)^\| `vb_ram` \|.*\n", "", "its crates aren't those"),
     ("order", "docs/MAP.md", r"(?m)^(\| `vb_ram` \|.*\n)", r"\1\1", "one is there twice"),
