@@ -10,6 +10,8 @@ use memory::{Memory, BUFFER, QUEUE_SIZE};
 use std::fmt::{Debug, Display};
 use std::os::fd::AsRawFd;
 use std::sync::{Arc, Mutex};
+use std::thread::sleep;
+use std::time::Duration;
 use vhost::vhost_user::message::{
     VhostUserConfigFlags, VhostUserHeaderFlag, VhostUserInflight, VhostUserProtocolFeatures as Protocol,
 };
@@ -97,8 +99,9 @@ fn inflate(frontend: &mut Frontend, memory: &Memory, kick: &EventFd, call: &Even
     let before = memory.blocks();
     memory.post(0, &PAGES);
     kick.write(1).expect("kick");
-    while memory.used_index(0) == 0 {
-        call.read().expect("call");
+    // The backend has made the event one that doesn't block.
+    while call.read().is_err() {
+        sleep(Duration::from_millis(1));
     }
     println!("used {} {:?}", memory.used_index(0), memory.used_element(0));
     println!("pages given back {}", (before - memory.blocks()) / memory::BLOCKS_OF_PAGE);
