@@ -207,7 +207,8 @@ class Ledger:
 
 
 class Sample(NamedTuple):
-    """What the host holds at one time, in MiB, what it lends and asks for, and what each guest waits for, if it waits."""
+    """What the host holds at one time, in MiB, what it lends and asks for, what each guest waits for, if it waits, and the seconds for which
+    one of them hasn't told its statistics."""
 
     seconds: float
     held: tuple
@@ -216,6 +217,7 @@ class Sample(NamedTuple):
     short: float
     loans: tuple
     waits: tuple
+    silent: float
 
 
 class Town:
@@ -277,7 +279,8 @@ class Town:
         seen = {it["name"]: it for it in status["guests"]}
         targets, spare, loans = (tuple(seen[it.name][name] / MIB for it in self.members) for name in ("target", "spare", "loan"))
         waits = tuple(seen[it.name]["waits_for"].replace("nothing", "") for it in self.members)
-        return Sample(time.monotonic() - self.begin, held, targets, spare, status["host"]["missing"] / MIB, loans, waits)
+        silent = max((seen[it.name]["silent"] for it in self.members), default=0)
+        return Sample(time.monotonic() - self.begin, held, targets, spare, status["host"]["missing"] / MIB, loans, waits, silent)
 
     def watch(self, seconds, every=None):
         """Takes samples for `seconds` seconds; calls `every` with one each second."""
