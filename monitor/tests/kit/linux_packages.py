@@ -157,9 +157,9 @@ def fetch_qemu(suite):
     return fetch("qemu", lambda environment: wanted_by("qemu-system-x86", environment), suite)
 
 
-def vhost_crate():
-    """Returns a folder with the sources of rust-vmm's crate `vhost`, and of all that it is made of: the machine's, or Debian 13's."""
-    if glob.glob(f"/{CRATES}/vhost-[0-9]*"):
+def rust_vmm_crates():
+    """Returns a folder with the sources of rust-vmm's crates for vhost-user, and of all that they are made of: the machine's, or Debian 13's."""
+    if glob.glob(f"/{CRATES}/vhost-user-backend-[0-9]*"):
         return f"/{CRATES}"
-    crates = lambda environment: [it for it in wanted_by("librust-vhost-dev", environment) if it.startswith("librust-")]
-    return os.path.join(fetch("vhost", crates, "trixie"), CRATES)
+    crates = lambda environment: [it for it in wanted_by("librust-vhost-user-backend-dev", environment) if it.startswith("librust-")]
+    return os.path.join(fetch("rust-vmm", crates, "trixie"), CRATES)

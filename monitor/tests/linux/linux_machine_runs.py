@@ -80,6 +80,7 @@ def written_run(machine, chance):
             apart = abs(now["inflated"] - now["deflated"] - now["actual"])
             demand(apart <= REQUEST, f"`actual` is {apart} pages from what is in the balloon: {now}")
             samples += now["actual"] not in (before["actual"], before["target"])
+            time.sleep(0.005)
             before = now
     demand(samples > WRITTEN, f"only {samples} samples amid an inflate or a deflate")
     machine.set_target(0)
