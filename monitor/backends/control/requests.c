@@ -69,13 +69,20 @@ static struct guest_terms terms_of(const json_t *fields, struct guest_terms term
         terms.priority = (uint32_t)field_number(fields, "priority");
     if (field_is_there(fields, "strict"))
         terms.strict = field_number(fields, "strict");
+    if (field_is_there(fields, "overhead"))
+        terms.overhead = field_pages(fields, "overhead");
+    if (field_is_there(fields, "limit"))
+        terms.limit = field_kernel_limit(fields, "limit");
     return terms;
 }
 
 static bool changes_terms(const json_t *fields)
 {
-    return field_is_there(fields, "least") || field_is_there(fields, "most") || field_is_there(fields, "priority")
-        || field_is_there(fields, "strict");
+    static const char *const names[] = {"least", "most", "priority", "strict", "overhead", "limit"};
+    for (unsigned i = 0; i < sizeof names / sizeof names[0]; i++)
+        if (field_is_there(fields, names[i]))
+            return true;
+    return false;
 }
 
 /* Changes what a request asks for of a guest; NULL, or why not: then the terms are as they were. */
@@ -170,7 +177,8 @@ static json_t *follow(const struct asked *asked)
 
 #define TERMS                                                                                                                       \
     {"least", FIELD_BYTES, .needed = false}, {"most", FIELD_LIMIT, .needed = false}, {"strict", FIELD_BOOLEAN, .needed = false},     \
-        {"priority", FIELD_NUMBER, .least = 0, .most = UINT32_MAX}
+        {"priority", FIELD_NUMBER, .least = 0, .most = UINT32_MAX}, {"overhead", FIELD_BYTES, .needed = false},                        \
+        {"limit", FIELD_KERNEL_LIMIT, .needed = false}
 
 static const struct kind kinds[] = {
     {"status", status, {{0}}},

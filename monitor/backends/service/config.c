@@ -50,6 +50,8 @@ static const struct key guest_keys[] = {
     {"guest", "most", WORD_SIZE, offsetof(struct config_guest, terms.most)},
     {"guest", "priority", WORD_NUMBER, offsetof(struct config_guest, terms.priority)},
     {"guest", "strict", WORD_BOOLEAN, offsetof(struct config_guest, terms.strict)},
+    {"guest", "overhead", WORD_SIZE_OR_NONE, offsetof(struct config_guest, terms.overhead)},
+    {"guest", "limit", WORD_LIMIT, offsetof(struct config_guest, terms.limit)},
 };
 
 static bool fault(struct reader *reader, const char *key, const char *words)
@@ -71,7 +73,7 @@ static struct config_guest *guest_of(struct reader *reader, const char *section)
     if (config->count == MOST_CONFIG_GUESTS)
         return fault(reader, section, "there are as many guests as can be"), NULL;
     struct config_guest *guest = &config->guests[config->count++];
-    *guest = (struct config_guest){.terms = {.most = UINT32_MAX}};
+    *guest = (struct config_guest){.terms = {.most = UINT32_MAX, .overhead = USUAL_OVERHEAD}};
     strcpy(guest->name, name);
     return guest;
 }

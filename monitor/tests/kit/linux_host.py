@@ -122,11 +122,11 @@ class Host(Backend):
 
 
 class Member:
-    """A guest of a host: Linux with a balloon, and the bytes that it keeps."""
+    """A guest of a host: Linux with a balloon, and the bytes that it keeps; its memory may be in a folder of its own."""
 
-    def __init__(self, host, kit, name, memory):
-        self.host, self.kit, self.name, self.memory = host, kit, name, memory
-        self.socket = host.add(name)
+    def __init__(self, host, kit, name, memory, terms="", place=None):
+        self.host, self.kit, self.name, self.memory, self.place = host, kit, name, memory, place
+        self.socket = host.add(f"{name} {terms}".strip())
         self.guest, self.sums, self.checked = None, {}, 0
 
     def boot(self):
@@ -134,7 +134,7 @@ class Member:
         folder = os.path.join(self.host.folder, f"{self.name}.files")
         os.makedirs(folder, exist_ok=True)
         self.sums = {}
-        self.guest = Guest(self.kit.words(folder, self.memory, self.socket), self.kit.environment(), (), folder, self.memory)
+        self.guest = Guest(self.kit.words(folder, self.memory, self.socket), self.environment(), (), folder, self.memory)
         try:
             self.guest.boot()
             if not self.host.guests()[self.name]["ready"]:
@@ -142,6 +142,10 @@ class Member:
         except Fault as fault:
             raise Fault(f"{self.name}: {fault}; the host said: {self.host.why_of(self.name)}") from None
         self.fill("keep", KEPT)
+
+    def environment(self):
+        """Returns its process's environment, which says where its memory is."""
+        return self.kit.environment() | ({"TMPDIR": self.place} if self.place else {})
 
     def fill(self, name, mib):
         """Has it fill a file with random bytes, in its memory."""
