@@ -65,7 +65,7 @@ def rogue_run(bench):
     """Two guests at work beside one that reads all its memory."""
     with mounted(f"{bench.folder}/rogue", MEMORY) as folder, bench.town(BUDGET, ("--strict",)) as town:
         town.settle_in(names(2), MEMORY)
-        rogue = Member(town.host, town.kit, "rogue", MEMORY, f"overhead={OVERHEAD} limit=tmpfs:{folder}", folder)
+        rogue = Member(town.host, town.vmm, "rogue", MEMORY, f"overhead={OVERHEAD} limit=tmpfs:{folder}", folder)
         rogue.boot()
         town.members.append(rogue)
         squeeze(town, rogue)
