@@ -92,7 +92,7 @@ static struct guest_terms terms_of(const struct config_guest *guest, const struc
 }
 
 /* Adds the guests of the file that the host hasn't, and gives the others their terms. A guest that the file doesn't name stays. */
-static bool apply_guests(const struct config *config, struct host *host)
+static bool apply_guests(const char *file, const struct config *config, struct host *host)
 {
     bool good = true;
     for (unsigned i = 0; i < config->count; i++) {
@@ -101,7 +101,7 @@ static bool apply_guests(const struct config *config, struct host *host)
         const char *fault = host_find(host, guest->name) < 0 ? host_add(host, guest->name, &terms)
                                                              : host_set_terms(host, guest->name, &terms);
         if (fault)
-            say_fault("guest %s: %s", guest->name, fault);
+            say_fault("%s: guest %s: %s", file, guest->name, fault);
         good &= !fault;
     }
     return good;
@@ -124,7 +124,7 @@ static void reload(struct service *service, struct host *host)
             host_set_budget(host, config.budget);
         if (config.floor != UINT32_MAX)
             host_set_floor(host, config.floor);
-        apply_guests(&config, host);
+        apply_guests(service->file, &config, host);
         say_news("%s: read anew", service->file);
     }
     notify_ready();
@@ -182,7 +182,7 @@ bool service_begin(struct service *service, struct host *host, const char *folde
     options->listener = notify_socket("control");
     options->stays = getenv("NOTIFY_SOCKET") != NULL;
     service->hangup = service->file ? process_reload() : -1;
-    if ((service->file && service->hangup < 0) || !control_open(&service->control, options) || !apply_guests(&service->config, host))
+    if ((service->file && service->hangup < 0) || !control_open(&service->control, options) || !apply_guests(service->file, &service->config, host))
         return false;
     notify_keep("control", service->control.listener);
     int64_t wanted = notify_every();

@@ -8,6 +8,7 @@ from host_checks import eventually, finish, names
 from linux_guest import PAGES_PER_MIB
 from linux_host import LEFT, Member
 from linux_kit import Fault, Missing, demand
+from linux_vmms import Uml
 
 MEMORY, BUDGET, DAY = 256, 480, 10
 
@@ -63,6 +64,8 @@ def read_all(town, rogue):
 
 def rogue_run(bench):
     """Two guests at work beside one that reads all its memory."""
+    if not isinstance(bench.vmm, Uml):
+        raise Missing("the memory of a guest in a folder of its own is for User Mode Linux")
     with mounted(f"{bench.folder}/rogue", MEMORY) as folder, bench.town(BUDGET, ("--strict",)) as town:
         town.settle_in(names(2), MEMORY)
         rogue = Member(town.host, town.vmm, "rogue", MEMORY, f"overhead={OVERHEAD} limit=tmpfs:{folder}", folder)
