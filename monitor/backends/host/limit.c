@@ -135,12 +135,17 @@ const char *limit_fault(const struct guest_limit *limit)
 
 bool limits_meet(const struct guest_limit *one, const struct guest_limit *other)
 {
-    struct stat first, second;
     if (one->kind == LIMIT_NONE || one->kind != other->kind)
         return false;
-    if (one->kind == LIMIT_CGROUP && (is_in(one->path, other->path) || is_in(other->path, one->path)))
-        return true;
-    if (stat(one->path, &first) || stat(other->path, &second))
+    if (one->kind == LIMIT_TMPFS)
         return !strcmp(one->path, other->path);
+    return is_in(one->path, other->path) || is_in(other->path, one->path);
+}
+
+bool limits_are_one(const struct guest_limit *one, const struct guest_limit *other)
+{
+    struct stat first, second;
+    if (one->kind == LIMIT_NONE || one->kind != other->kind || stat(one->path, &first) || stat(other->path, &second))
+        return false;
     return first.st_dev == second.st_dev && (one->kind == LIMIT_TMPFS || first.st_ino == second.st_ino);
 }

@@ -24,8 +24,10 @@ const char *limit_words(const struct guest_limit *limit, char words[MOST_LIMIT_W
 /* Whether the kernel has such a limit at this path, by its table of mounts: NULL, or why not. A cgroup may still be to come. */
 const char *limit_fault(const struct guest_limit *limit);
 
-/* Whether two limits are of the same memory, or one is within the other. */
+/* Whether two limits are one by their paths, or one cgroup is within the other; and whether the kernel has one memory at both paths, which
+ * have to be what limit_fault looks for. */
 bool limits_meet(const struct guest_limit *one, const struct guest_limit *other);
+bool limits_are_one(const struct guest_limit *one, const struct guest_limit *other);
 
 /* What a writer is asked, and what it answers with the same number: 0 or an errno, and the kernel's words where it has some. */
 struct limit_request { uint64_t number, bytes; struct guest_limit limit; };

@@ -161,12 +161,15 @@ void limit_take(struct seat *seat)
 
 const char *limit_refusal(const struct host *host, const char *name, const struct guest_terms *terms)
 {
-    if (terms->limit.kind == LIMIT_NONE)
-        return NULL;
-    if (!terms->strict)
+    const struct guest_limit *limit = &terms->limit;
+    if (limit->kind != LIMIT_NONE && !terms->strict)
         return "a limit is for a strict guest, whose deflates wait until it is raised";
-    for (unsigned i = 0; i < host->count; i++)
-        if (strcmp(host->seats[i]->name, name) != 0 && limits_meet(&host->seats[i]->terms.limit, &terms->limit))
-            return "the limit is another guest's";
-    return limit_fault(&terms->limit);
+    const char *fault = limit_fault(limit);
+    for (unsigned i = 0; i < host->count && !fault; i++) {
+        const struct seat *seat = host->seats[i];
+        bool is_its = limits_meet(&seat->terms.limit, limit) || limits_are_one(&seat->terms.limit, limit);
+        if (is_its && strcmp(seat->name, name) != 0)
+            fault = "the limit is another guest's";
+    }
+    return fault;
 }

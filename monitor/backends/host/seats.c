@@ -103,8 +103,6 @@ const char *seat_add(struct host *host, const char *name, const struct guest_ter
 {
     if (!is_name(name) || seat_of(host, name))
         return "a name has 1 to 31 letters, digits, - and _, and no other guest has it";
-    if (terms->least > terms->most)
-        return "a guest's least is above its most";
     if (host->count == MOST_GUESTS)
         return "there are as many guests as can be";
     struct seat *seat = calloc(1, sizeof *seat);

@@ -129,9 +129,14 @@ const char *host_set_floor(struct host *host, uint32_t pages)
 
 static const char nobody[] = "no guest has that name";
 
+const char *host_refuses(const struct host *host, const char *name, const struct guest_terms *terms)
+{
+    return terms->least > terms->most ? "a guest's least is above its most" : limit_refusal(host, name, terms);
+}
+
 const char *host_add(struct host *host, const char *name, const struct guest_terms *terms)
 {
-    const char *fault = limit_refusal(host, name, terms);
+    const char *fault = host_refuses(host, name, terms);
     fault = fault ? fault : seat_add(host, name, terms);
     if (fault)
         return fault;
@@ -152,9 +157,7 @@ const char *host_set_terms(struct host *host, const char *name, const struct gue
     struct seat *seat = seat_of(host, name);
     if (!seat)
         return nobody;
-    if (terms->least > terms->most)
-        return "a guest's least is above its most";
-    const char *fault = limit_refusal(host, name, terms);
+    const char *fault = host_refuses(host, name, terms);
     fault = fault ? fault : folder_keep(host, name, terms);
     if (fault)
         return fault;

@@ -93,6 +93,8 @@ const char *host_set_floor(struct host *host, uint32_t pages);
 const char *host_add(struct host *host, const char *name, const struct guest_terms *terms);
 const char *host_remove(struct host *host, const char *name);
 const char *host_set_terms(struct host *host, const char *name, const struct guest_terms *terms);
+/* Why a guest of this name, which there may be, can't have these terms; NULL: it can. */
+const char *host_refuses(const struct host *host, const char *name, const struct guest_terms *terms);
 /* A target by hand: it stays while it serves. */
 const char *host_set_target(struct host *host, const char *name, uint32_t pages);
 

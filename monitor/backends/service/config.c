@@ -164,15 +164,26 @@ static char *next_line(char *bytes, int room, void *context)
     return length < 0 ? NULL : bytes;
 }
 
+/* Whether a guest before this one has its limit. */
+static bool shares_limit(const struct config *config, unsigned number)
+{
+    for (unsigned i = 0; i < number; i++)
+        if (limits_meet(&config->guests[i].terms.limit, &config->guests[number].terms.limit))
+            return true;
+    return false;
+}
+
 /* What no single key shows. */
 static void check_guests(struct reader *reader)
 {
     for (unsigned i = 0; i < reader->config->count; i++) {
         const struct config_guest *guest = &reader->config->guests[i];
-        if (guest->terms.least <= guest->terms.most)
+        bool above = guest->terms.least > guest->terms.most;
+        if (!above && !shares_limit(reader->config, i))
             continue;
         reader->faulty = true;
-        say_fault("%s: guest %s: its least is more than its most", reader->path, guest->name);
+        say_fault("%s: guest %s: %s", reader->path, guest->name,
+                  above ? "its least is more than its most" : "the limit is another guest's");
     }
 }
 

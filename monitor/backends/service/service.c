@@ -107,13 +107,27 @@ static bool apply_guests(const char *file, const struct config *config, struct h
     return good;
 }
 
+/* Whether the host takes the terms of all guests of a file; else says which it doesn't. */
+static bool guests_fit(const char *file, const struct config *config, const struct host *host)
+{
+    bool good = true;
+    for (unsigned i = 0; i < config->count; i++) {
+        struct guest_terms terms = terms_of(&config->guests[i], host);
+        const char *fault = host_refuses(host, config->guests[i].name, &terms);
+        if (fault)
+            say_fault("%s: guest %s: %s", file, config->guests[i].name, fault);
+        good &= !fault;
+    }
+    return good;
+}
+
 /* Reads the configuration anew; where it is wrong, the old one stays. */
 static void reload(struct service *service, struct host *host)
 {
     static struct config config;
     const char *key;
     notify_reloads();
-    if (!config_read(service->file, &config))
+    if (!config_read(service->file, &config) || !guests_fit(service->file, &config, host))
         say_fault("%s: the old configuration stays", service->file);
     else if (!config_stays(&service->config, &config, &key))
         say_fault("%s: %s can't change while the host runs: the old configuration stays", service->file, key);

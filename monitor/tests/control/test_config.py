@@ -61,6 +61,7 @@ WRONG = (
     ("[guest web-1]", "[guest web-1]\noverhead = 1", f"line 18: overhead: a size: {SIZE}"),
     ("[guest web-1]", "[guest web-1]\nlimit = tmpfs:/etc", "guest web-1: a limit is for a strict guest, whose deflates wait until it is raised"),
     ("[guest web-1]", "[guest web-1]\nstrict = yes\nlimit = tmpfs:/etc", "guest web-1: no mount of tmpfs"),
+    ("[guest web-1]", "[guest a]\nlimit = cgroup:/x\n[guest web-1]\nlimit = cgroup:/x/y", "guest web-1: the limit is another guest's"),
     ("[guest web-1]", "[guest web-1]\ncolour = red", "line 18: colour: this section has no such key"),
     ("[guest web-1]", "[guest web-1]\nleast = 9M\nmost = 8M", "guest web-1: its least is more than its most"),
     ("[guest web-1]", "[guest web.1]\nleast = 9M", "line 17: guest web.1: a guest's name has 1 to 31 letters, digits, - and _"),

@@ -281,6 +281,13 @@ def test_a_limit_is_one_guests(lend, limits):
     if isinstance(its, Cgroup):
         assert "the limit is another guest's" in lender.ask(f"terms b limit={its.term}/below")
         assert "the limit is another guest's" in lender.ask(f"terms b limit=cgroup:{CGROUPS}")
+    else:
+        os.makedirs(f"{its.path}-again")
+        run("mount", "--bind", its.path, f"{its.path}-again")
+        try:
+            assert "the limit is another guest's" in lender.ask(f"terms b limit={its.term}-again")
+        finally:
+            run("umount", f"{its.path}-again")
     lender.demand("terms a limit=none"), lender.demand(f"terms b limit={its.term}")
 
 
