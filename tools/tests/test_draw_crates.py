@@ -1,48 +1,43 @@
-"""In which part of its picture tools/draw-crates puts a crate, and that another picture is refused."""
+"""Tests the graph that tools/draw-crates draws, of crates made up here."""
 
 import pytest
 from page_claims import tool
 
-CRATES = """vb_low:
-vb_ring: vb_low
-vb_core: vb_low
-vb_c staticlib: vb_low vb_ring vb_core
-vb_served: vb_low vb_core
-vb_sim: vb_low vb_ring vb_served
-vb_tests: vb_sim
-"""
+DRAW = tool("draw-crates")
+
+# A trunk of one crate, the library, a part of it that the program reaches by the crate that ties both, the program, and one that neither
+# uses.
+CRATES = {
+    "low": [], "vb_core": ["low"], "vb_c": ["low", "vb_core"], "vb_served": ["vb_core"], "vb_sim": ["low", "vb_served"],
+    "apart": ["low", "vb_core"],
+}
+
+# A line of the graph, and whether it is there.
+LINES = (
+    ("vb_core -> low", True),
+    ("vb_c -> vb_core", True),
+    ("vb_c -> low", False),
+    ("vb_sim -> vb_served", True),
+    ("vb_sim -> low", False),
+    ('vb_served -> vb_core [color="#2266cc", penwidth=2]', True),
+    ('apart -> vb_core [color="#2266cc", penwidth=2]', True),
+    ('apart [style="rounded,filled,dashed"]', True),
+    ("vb_sim", True),
+)
 
 
-@pytest.fixture
-def drawer(tmp_path, monkeypatch):
-    """The tool over a small list of crates."""
-    its = tool("draw-crates")
-    (tmp_path / "crates.txt").write_text(CRATES, encoding="utf-8")
-    monkeypatch.setattr(its, "ROOT", str(tmp_path))
-    monkeypatch.setattr(its, "PICTURE", str(tmp_path / "crates.svg"))
-    its.folder = tmp_path
-    return its
+@pytest.mark.parametrize("line, is_there", LINES)
+def test_the_graph_has_the_lines_that_no_other_way_makes(line, is_there):
+    assert (line in [it.strip() for it in DRAW.graph(CRATES).splitlines()]) == is_there
 
 
-@pytest.mark.parametrize("crate, part", (
-    ("vb_low", "TRUNK"), ("vb_ring", "TRUNK"), ("vb_core", "LEFT"), ("vb_c", "LEFT"), ("vb_served", "RIGHT"), ("vb_sim", "RIGHT"),
-    ("vb_tests", "RIGHT"),
-))
-def test_part_of_a_crate(drawer, crate, part):
-    assert drawer.parts_of(drawer.crates())[crate] == getattr(drawer, part)
+def test_the_parts():
+    assert DRAW.parts_of(CRATES) == {
+        "low": DRAW.TRUNK, "vb_core": DRAW.LEFT, "vb_c": DRAW.LEFT, "vb_served": DRAW.RIGHT, "vb_sim": DRAW.RIGHT, "apart": DRAW.RIGHT,
+    }
 
 
-def test_the_line_between_the_columns_is_blue(drawer):
-    assert drawer.drawn(drawer.crates()).count('stroke="#26c"') == 1
-
-
-def test_only_a_crate_of_neither_is_dashed(drawer):
-    assert drawer.drawn(drawer.crates()).count("stroke-dasharray") == 1
-
-
-def test_another_picture_is_refused(drawer):
-    assert drawer.main(["--check"]) == 1
-    assert drawer.main([]) == 0
-    assert drawer.main(["--check"]) == 0
-    (drawer.folder / "crates.txt").write_text(CRATES.replace("vb_tests: vb_sim\n", ""), encoding="utf-8")
-    assert drawer.main(["--check"]) == 1
+def test_the_check_refuses_another_graph(monkeypatch, capsys):
+    monkeypatch.setattr(DRAW, "crates", lambda: CRATES)
+    assert DRAW.main(["--check"]) == 1
+    assert "isn't what crates.txt says" in capsys.readouterr().err
