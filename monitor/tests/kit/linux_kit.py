@@ -110,6 +110,16 @@ def linked(name):
     return ran.stdout.split()
 
 
+def build_shared(folder, core, flags=()):
+    """Makes the library of this core a file that Python loads, with more flags, and returns its path."""
+    path, whole = os.path.join(folder, "libvb.so"), [core] if core == REFERENCE else ["-Wl,--whole-archive", core, "-Wl,--no-whole-archive"]
+    words = [need("cc", "gcc libc6-dev"), "-shared", *flags, *whole, "-o", path]
+    ran = subprocess.run(words, capture_output=True, text=True)
+    if ran.returncode != 0:
+        raise Fault(f"{core} becomes no shared library:\n{ran.stderr.strip()}")
+    return path
+
+
 def build(folder, core, name="vhost_user_balloon", audited=False, wrong=False, flags=()):
     """Compiles a backend over this core into a folder, with more flags, and returns its path: one for tests that looks at the
     device, or one that is wrong on purpose, in its own way or in another program's (`wrong` is that one's name). A host's comes with
