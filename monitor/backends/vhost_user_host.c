@@ -24,7 +24,7 @@
  *     quit                end, and all guests' service; so do the signals SIGTERM and SIGINT, and without --config SIGHUP
  *
  * Each period (200 ms) it counts what the guests' files hold, and asks each for its statistics. Targets are decided anew where the old
- * ones don't serve any longer: by vb_loan_class_targets, vb_spare and vb_needs_targets of the library. A guest that breaks a
+ * ones don't serve any longer: by vb_guest_targets and vb_needs_guest_targets of the library. A guest that breaks a
  * rule or goes ends alone: a line on standard error says so. A guest whose memory has no room beside the others is refused.
  *
  * `bigvasta` speaks to it by its control socket, FOLDER/.control (--control), and by one that only shows the host, FOLDER/.status
