@@ -372,14 +372,7 @@ extern "C" {
     #[doc = " Gives a queue its place, after vb_negotiate: OK; NO_QUEUE for no kind; BAD_ARGUMENT once DRIVER_OK is set;"]
     #[doc = " NO_QUEUE where the negotiated features leave it out; MISPLACED where size is no power of two from 2 to 256, or a"]
     #[doc = " part isn't aligned (16, 2, 4) or doesn't end within memory."]
-    pub fn vb_place(
-        device: *mut Device,
-        kind: u32,
-        table: u64,
-        avail: u64,
-        used: u64,
-        size: u16,
-    ) -> u32;
+    pub fn vb_place(device: *mut Device, kind: u32, table: u64, avail: u64, used: u64, size: u16) -> u32;
 }
 extern "C" {
     #[doc = " Reads or writes bytes of the configuration space (VIRTIO 1.1, 5.5.4), little-endian: num_pages at 0, actual at 4, and"]
@@ -389,12 +382,7 @@ extern "C" {
     pub fn vb_read_config(device: *const Device, offset: u32, out: *mut u8, length: usize);
 }
 extern "C" {
-    pub fn vb_write_config(
-        device: *mut Device,
-        offset: u32,
-        bytes: *const u8,
-        length: usize,
-    ) -> u32;
+    pub fn vb_write_config(device: *mut Device, offset: u32, bytes: *const u8, length: usize) -> u32;
 }
 extern "C" {
     #[doc = " 1 where the pages of a report keep what is in them: the driver negotiated PAGE_POISON, and poison_val isn't 0. A notice"]
@@ -452,12 +440,7 @@ extern "C" {
 extern "C" {
     #[doc = " vb_new over these regions: where settings.memory_end is 0, memory ends with the last of them. The balloon holds no chain."]
     #[doc = " OK; or BAD_ARGUMENT where a region isn't as Region says, or vb_new refuses, and then nothing is changed."]
-    pub fn vb_new_over(
-        balloon: *mut Balloon,
-        settings: Settings,
-        regions: *const Region,
-        count: usize,
-    ) -> u32;
+    pub fn vb_new_over(balloon: *mut Balloon, settings: Settings, regions: *const Region, count: usize) -> u32;
 }
 extern "C" {
     #[doc = " These regions are guest memory from now on, and it ends where the last of them does. Refused as vb_new_over is."]
@@ -531,24 +514,13 @@ extern "C" {
     #[doc = " Makes `device` and `held` those that were saved as these bytes. OK, or, tested in this order, BAD_LENGTH where"]
     #[doc = " there are fewer than 16; NOT_A_STATE; OTHER_VERSION; BAD_LENGTH; BAD_SUM; IMPOSSIBLE. Then nothing is"]
     #[doc = " changed. What is restored is just what vb_save made of it; or the 191 bytes of version 2, whose devices hold no deflates."]
-    pub fn vb_restore(
-        device: *mut Device,
-        held: *mut Held,
-        bytes: *const u8,
-        length: usize,
-    ) -> u32;
+    pub fn vb_restore(device: *mut Device, held: *mut Held, bytes: *const u8, length: usize) -> u32;
 }
 extern "C" {
     #[doc = " Once pages are told (TELL_PAGES): puts the pages of the runs into the set (INFLATE), or takes them out (DEFLATE)."]
     #[doc = " `pages`: how many that changed; one that is named twice, or was so before, counts no more than once. OK; NO_QUEUE"]
     #[doc = " for another kind; BAD_ARGUMENT where a page of any run is past the last word's, and then nothing is changed."]
-    pub fn vb_mark(
-        kind: u32,
-        runs: *const Run,
-        count: usize,
-        set: *mut u64,
-        words: usize,
-    ) -> Marked;
+    pub fn vb_mark(kind: u32, runs: *const Run, count: usize, set: *mut u64, words: usize) -> Marked;
 }
 extern "C" {
     #[doc = " 1 where the page is in the set, else 0, as for each page past the last word's."]
@@ -578,27 +550,14 @@ extern "C" {
 extern "C" {
     #[doc = " How many pages a guest can spare: those in the balloon, and the free ones above the floor (none where free_known is"]
     #[doc = " 0: no statistics say so); at most its pages that aren't reserved."]
-    pub fn vb_spare(
-        pages: u32,
-        ballooned: u32,
-        free_pages: u32,
-        free_known: u32,
-        floor: u32,
-        reserved: u32,
-    ) -> u32;
+    pub fn vb_spare(pages: u32, ballooned: u32, free_pages: u32, free_known: u32, floor: u32, reserved: u32) -> u32;
 }
 extern "C" {
     #[doc = " Puts a target for each guest into `targets`, in the order of the needs, so that this many frames suffice: what is missing is"]
     #[doc = " given by the guests of most spare first, and of these by the first in order, by each at most its spare. However many guests"]
     #[doc = " there are, it looks at each need at most 37 times. OK; BAD_ARGUMENT where room isn't count; SHORT where all that they"]
     #[doc = " can spare together is too little by `missing` pages (2^64 - 1 where it is more); then no target is changed."]
-    pub fn vb_targets(
-        needs: *const Need,
-        count: usize,
-        frames: u32,
-        targets: *mut u32,
-        room: usize,
-    ) -> Targets;
+    pub fn vb_targets(needs: *const Need, count: usize, frames: u32, targets: *mut u32, room: usize) -> Targets;
 }
 extern "C" {
     #[doc = " 1 where targets that were set before no longer serve: there isn't one for each guest, or together they are less than"]
@@ -694,13 +653,7 @@ pub struct HostGuest {
 extern "C" {
     #[doc = " A guest of this many pages comes: none has a frame, as if all were in its balloon, and it asks for all, in the line of this number."]
     #[doc = " Doesn't fit: no pages, or a place that isn't vacant."]
-    pub fn vb_loan_arrive(
-        loans: *mut Loan,
-        count: usize,
-        guest: usize,
-        pages: u32,
-        line: u16,
-    ) -> u32;
+    pub fn vb_loan_arrive(loans: *mut Loan, count: usize, guest: usize, pages: u32, line: u16) -> u32;
 }
 extern "C" {
     #[doc = " A guest has gone, and its memory with it: nothing is lent to it, and its place is vacant."]
