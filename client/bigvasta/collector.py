@@ -30,11 +30,11 @@ HOST_TOTALS = (
     ("lines_dropped", "dropped", "Lines of the log that nobody read in time"),
 )
 CONTROL_TOTALS = (
-    ("control_clients_accepted", "accepted", "Clients of the control socket that came"),
-    ("control_clients_dropped", "dropped", "Clients of the control socket that were dropped as they left their answers unread"),
-    ("control_clients_turned_away", "turned_away", "Clients of the control socket that came as one too many"),
-    ("control_requests", "requests", "Requests of the control socket"),
-    ("control_requests_refused", "refused", "Requests of the control socket that were refused"),
+    ("control_clients_accepted", "accepted", "Clients of a control socket that came"),
+    ("control_clients_dropped", "dropped", "Clients of a control socket that were dropped as they left their answers unread"),
+    ("control_clients_turned_away", "turned_away", "Clients of a control socket that came as one too many"),
+    ("control_requests", "requests", "Requests of a control socket"),
+    ("control_requests_refused", "refused", "Requests of a control socket that were refused"),
 )
 
 # Of each guest.
@@ -43,6 +43,7 @@ GUEST_BYTES = (
     ("held", "held", "Memory that the guest's files hold"),
     ("loan", "loan", "Memory that is lent to the guest"),
     ("excess", "excess", "Memory that the guest holds above its loan"),
+    ("limit", "limit", "Memory that the guest's limit was set to last; 0 where it has none"),
     ("target", "target", "Memory that the host wants in the guest's balloon"),
     ("ballooned", "ballooned", "Memory in the guest's balloon"),
     ("free", "free", "Memory that the guest calls free"),
@@ -66,14 +67,15 @@ GUEST_TOTALS = (
     ("taken_bytes", "taken", "Memory that the guest took out of its balloon unasked"),
     ("clients", "clients", "Clients that came to the guest's socket"),
     ("messages_lost", "lost", "Messages between the host and the guest's process that weren't read in time"),
+    ("limit_failures", "limit_failures", "Times that the guest's limit couldn't be written"),
 )
 
 PREFIX = "bigvasta"
 
 
-def gauge(name, what, values):
+def gauge(name, what, values, label="guest"):
     """Returns a gauge; each value has the labels before it."""
-    labels = ["guest"] if values and values[0][0] else []
+    labels = [label] if values and values[0][0] else []
     family = GaugeMetricFamily(f"{PREFIX}_{name}", what, labels=labels)
     for key, value in values:
         family.add_metric(key, value)
@@ -89,6 +91,11 @@ def counter(name, what, values, label="guest"):
     return family
 
 
+def of_sockets(host, field):
+    """Returns what a host's control sockets count, with the word for each."""
+    return [([it], host[it][field]) for it in ("control", "status")]
+
+
 def host_metrics(host):
     """Yields the metrics of the host."""
     build = InfoMetricFamily(f"{PREFIX}_build", "Versions of the host and of the core that decides")
@@ -101,9 +108,9 @@ def host_metrics(host):
         yield gauge(name, what, [([], host[field])])
     for name, field, what in HOST_TOTALS:
         yield counter(name, what, [([], host["counters"][field])])
-    yield gauge("control_clients", "Clients of the control socket", [([], host["control"]["clients"])])
+    yield gauge("control_clients", "Clients of a control socket", of_sockets(host, "clients"), "socket")
     for name, field, what in CONTROL_TOTALS:
-        yield counter(name, what, [([], host["control"][field])])
+        yield counter(name, what, of_sockets(host, field), "socket")
 
 
 def guest_metrics(guests):

@@ -44,13 +44,28 @@ impl Ring {
     }
 }
 """,
+    "crates/low/src/shut/below.rt": """impl<P: Pace> Ring<P> {
+    pub fn take(&mut self)
+        requires { self.old.used ≡ [] }
+    {
+    }
+}
+""",
+    "crates/low/src/tests/rings.rt": """impl Ring {
+    pub fn fill(&mut self, n: u32)
+        requires { n ≤ 2 }
+    {
+    }
+}
+""",
     "page.md": "<!-- tools/list-conditions: from here -->\n<!-- tools/list-conditions: to here -->\n",
 }
 
 TABLE = """| Crate | Calls | Conditions |
 |---|---|---|
 | `low` | `first`, `shown` | `n ≤ 256` |
-| `low` | `Ring::add` | `n ≤ 7`<br>`n ≢ 3 &#124; 4` |"""
+| `low` | `Ring::add` | `n ≤ 7`<br>`n ≢ 3 &#124; 4` |
+| `low` | `Ring::take` | `self.old.used ≡ []` |"""
 
 
 @pytest.fixture
@@ -73,7 +88,7 @@ def lister(tmp_path, monkeypatch):
 
 def test_which_conditions_are_listed(lister):
     assert lister.call("--write") == 0
-    assert TABLE in (lister.folder / "page.md").read_text(encoding="utf-8")
+    assert (lister.folder / "page.md").read_text(encoding="utf-8") == f"{lister.BEGIN}\n\n{TABLE}\n\n{lister.END}\n"
     assert lister.call("--check") == 0
 
 

@@ -4,7 +4,7 @@ import json
 
 from bigvasta.connection import Connection
 from bigvasta.sizes import mebibytes, parse_size
-from bigvasta.terms import TERMS, parse_terms, said
+from bigvasta.terms import TERMS, TERMS_HELP, parse_terms, said
 
 
 def ask(asked, request, fields, words):
@@ -34,12 +34,12 @@ def add(commands, common):
     """Adds the subcommands."""
     words = commands.add_parser("add", parents=[common], help="a guest may come; prints its socket")
     words.add_argument("name", metavar="NAME")
-    words.add_argument("words", metavar="KEY=VALUE", nargs="*", help="least=SIZE most=SIZE|none priority=N strict=yes|no")
-    words.set_defaults(run=run_add)
+    words.add_argument("words", metavar="KEY=VALUE", nargs="*", help=TERMS_HELP)
+    words.set_defaults(run=run_add, changes=lambda asked: True)
     words = commands.add_parser("remove", parents=[common], help="ends the service of a guest")
     words.add_argument("name", metavar="NAME")
-    words.set_defaults(run=run_remove)
+    words.set_defaults(run=run_remove, changes=lambda asked: True)
     for request, what in (("budget", "what the host is to hold at most"), ("floor", "what each guest keeps free")):
         words = commands.add_parser(request, parents=[common], help=f"{what}; and sets it")
         words.add_argument("size", metavar="SIZE", nargs="?", help="such as 480M")
-        words.set_defaults(run=run_size, request=request)
+        words.set_defaults(run=run_size, request=request, changes=lambda asked: asked.size is not None)

@@ -2,6 +2,7 @@
 
 #include "fields.h"
 
+#include "../host/journal.h"
 #include "../host/measures.h"
 #include "../host/view.h"
 #include "vb.h"
@@ -29,23 +30,26 @@ static json_t *limit(uint32_t pages)
 
 static json_t *answer_terms(const struct guest_terms *terms)
 {
-    return json_pack("{s:o, s:o, s:o, s:b}", "least", bytes(terms->least), "most", limit(terms->most), "priority",
-                     count(terms->priority), "strict", terms->strict);
+    char words[MOST_LIMIT_WORDS];
+    const char *its = terms->limit.kind == LIMIT_NONE ? NULL : limit_words(&terms->limit, words);
+    return json_pack("{s:o, s:o, s:o, s:b, s:o, s:s?}", "least", bytes(terms->least), "most", limit(terms->most), "priority",
+                     count(terms->priority), "strict", terms->strict, "overhead", bytes(terms->overhead), "limit", its);
 }
 
 static json_t *answer_guest_counters(const struct guest_view *guest)
 {
-    return json_pack("{s:o, s:o, s:o, s:o, s:o, s:o, s:o, s:o, s:o, s:o, s:o, s:o}", "inflated", bytes(guest->inflated),
+    return json_pack("{s:o, s:o, s:o, s:o, s:o, s:o, s:o, s:o, s:o, s:o, s:o, s:o, s:o}", "inflated", bytes(guest->inflated),
                      "deflated", bytes(guest->deflated), "reported", bytes(guest->reported), "taken", bytes(guest->taken),
                      "discarded", bytes(guest->discarded), "skipped", bytes(guest->skipped), "statistics", count(guest->statistics),
                      "told", count(guest->told), "chains", count(guest->chains), "kicks", count(guest->kicks), "clients",
-                     count(guest->clients), "lost", count(guest->lost));
+                     count(guest->clients), "lost", count(guest->lost), "limit_failures", count(guest->limit_failures));
 }
 
 static json_t *answer_guest_memory(const struct guest_view *guest)
 {
-    return json_pack("{s:o, s:o, s:o, s:o, s:o, s:o, s:o, s:o, s:o, s:o}", "memory", bytes(guest->pages), "held",
-                     kibibytes(guest->held_kib), "loan", bytes(guest->loan), "excess", bytes(guest->excess), "target",
+    return json_pack("{s:o, s:o, s:o, s:o, s:o, s:o, s:o, s:o, s:o, s:o, s:o}", "memory", bytes(guest->pages), "held",
+                     kibibytes(guest->held_kib), "loan", bytes(guest->loan), "limit", bytes(guest->limit), "excess",
+                     bytes(guest->excess), "target",
                      bytes(guest->target), "ballooned", bytes(guest->ballooned), "actual", bytes(guest->actual), "free",
                      bytes(guest->free), "available", bytes(guest->available), "spare", bytes(guest->spare));
 }
@@ -116,20 +120,20 @@ json_t *answer_host(const struct control *control, const struct host *host)
 {
     struct host_view view;
     host_see(host, &view);
-    return json_pack("{s:s, s:s, s:i, s:o, s:o, s:i, s:o, s:o, s:o, s:i, s:i, s:i, s:b, s:f, s:o, s:o, s:o}", "version", VB_VERSION,
+    return json_pack("{s:s, s:s, s:i, s:o, s:o, s:i, s:o, s:o, s:o, s:i, s:i, s:i, s:b, s:f, s:o, s:o, s:o, s:o}", "version", VB_VERSION,
                      "folder", view.folder, "guests", (int)view.guests, "budget", bytes(view.budget), "floor", bytes(view.floor),
                      "step", (int)view.step, "held", kibibytes(view.held_kib), "lent", bytes(view.lent), "missing",
                      bytes(view.short_by), "waiting", (int)view.waiting, "silent", (int)view.silent, "uncooperative",
                      (int)view.uncooperative, "strict", view.strict, "period", (double)view.period / 1000, "counters",
-                     answer_host_counters(&view), "control", answer_control_counters(&control->counters), "measures",
-                     answer_measures());
+                     answer_host_counters(&view), "control", answer_control_counters(&control->sockets[MAY_CHANGE].counters), "status",
+                     answer_control_counters(&control->sockets[MAY_LOOK].counters), "measures", answer_measures());
 }
 
 json_t *answer_log(const struct host *host, uint64_t since, uint64_t limit)
 {
     struct host_view view;
     host_see(host, &view);
-    uint64_t kept = decisions_kept_from(host), next = since > kept ? since : kept, lost = since < kept ? kept - since : 0;
+    uint64_t kept = journal_begin(host), next = since > kept ? since : kept, lost = since < kept ? kept - since : 0;
     json_t *decisions = json_array();
     for (; next < view.decisions && json_array_size(decisions) < limit; next++)
         json_array_append_new(decisions, answer_decision(host, next));

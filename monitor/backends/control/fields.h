@@ -5,20 +5,30 @@
 #include <stdbool.h>
 #include <stdint.h>
 
-/* A name; bytes that are whole pages; the same or null, for no limit; a whole number; true or false. */
-enum field_kind { FIELD_NAME, FIELD_BYTES, FIELD_LIMIT, FIELD_NUMBER, FIELD_BOOLEAN };
+#include "../host/limit.h"
 
-enum { MOST_FIELDS = 6, PAGE_BYTES = 4096 };
+/* A name; bytes that are whole pages; the same or null, for no limit; a whole number; true or false; words of the kernel's limit, or
+ * null for none. */
+enum field_kind { FIELD_NAME, FIELD_BYTES, FIELD_LIMIT, FIELD_NUMBER, FIELD_BOOLEAN, FIELD_KERNEL_LIMIT };
+
+/* Whether a request, or a field of it, changes the host or shows it. */
+enum effect { SHOWS, CHANGES };
+
+enum { MOST_FIELDS = 8, PAGE_BYTES = 4096 };
 
 struct field {
     const char *name;           /* NULL: no field */
     enum field_kind kind;
     bool needed;
+    enum effect effect;
     uint64_t least, most;       /* of a number */
 };
 
 /* NULL where a request has the fields that it needs, no unknown ones, and in each what may be there; else the answer that refuses it. */
 json_t *fields_refusal(const json_t *request, const struct field fields[MOST_FIELDS]);
+
+/* The first of these fields that a request has and that changes the host; NULL: none. */
+const char *field_that_changes(const json_t *request, const struct field fields[MOST_FIELDS]);
 
 /* Whether a request has a field. */
 bool field_is_there(const json_t *request, const char *name);
@@ -27,5 +37,6 @@ bool field_is_there(const json_t *request, const char *name);
 const char *field_name(const json_t *request, const char *name);
 uint32_t field_pages(const json_t *request, const char *name);
 uint64_t field_number(const json_t *request, const char *name);
+struct guest_limit field_kernel_limit(const json_t *request, const char *name);
 
 #endif

@@ -30,14 +30,14 @@ pub fn is_library_of_this_version() -> bool {
 
 /// Whether a version is that of this crate, or differs in its third number alone.
 fn is_compatible(version: u32) -> bool {
-    version >> 8 == raw::VERSION >> 8
+    version >> 8 == raw::VERSION_NUMBER >> 8
 }
 
 #[cfg(test)]
 mod tests {
     #[test]
     fn versions_that_differ_in_the_third_number_are_compatible() {
-        let own = crate::raw::VERSION & !0xff;
+        let own = crate::raw::VERSION_NUMBER & !0xff;
         for (version, compatible) in [
             (own, true),
             (own + 1, true),

@@ -56,12 +56,20 @@ WRONG = (
     ("[guest web-1]", "[guest web-1]\nmost = 0M", f"line 18: most: a size of 1M or more: {SIZE}"),
     ("[guest web-1]", "[guest web-1]\npriority = high", "line 18: priority: a number up to 4294967294"),
     ("[guest web-1]", "[guest web-1]\nstrict = true", "line 18: strict: yes or no"),
+    ("[guest web-1]", "[guest web-1]\nlimit = /x", "line 18: limit: none, cgroup:PATH or tmpfs:MOUNT"),
+    ("[guest web-1]", "[guest web-1]\nlimit = cgroup:x", "line 18: limit: a path from / on, without ., .. or a slash too many"),
+    ("[guest web-1]", "[guest web-1]\noverhead = 1", f"line 18: overhead: a size: {SIZE}"),
+    ("[guest web-1]", "[guest web-1]\nlimit = tmpfs:/etc", "guest web-1: a limit is for a strict guest, whose deflates wait until it is raised"),
+    ("[guest web-1]", "[guest web-1]\nstrict = yes\nlimit = tmpfs:/etc", "guest web-1: no mount of tmpfs"),
+    ("[guest web-1]", "[guest a]\nlimit = cgroup:/x\n[guest web-1]\nlimit = cgroup:/x/y", "guest web-1: the limit is another guest's"),
     ("[guest web-1]", "[guest web-1]\ncolour = red", "line 18: colour: this section has no such key"),
     ("[guest web-1]", "[guest web-1]\nleast = 9M\nmost = 8M", "guest web-1: its least is more than its most"),
     ("[guest web-1]", "[guest web.1]\nleast = 9M", "line 17: guest web.1: a guest's name has 1 to 31 letters, digits, - and _"),
-    ("[host]", "[hosts]", "line 2: the sections are [host], [control], [log] and [guest NAME]"),
+    ("[log]", "[status]\nmode = 8\n[log]", "line 14: mode: an octal mode, as 0660"),
+    ("[log]", "[status]\nsocket = x\n[log]", "line 14: socket: a path from / on, of 127 bytes at most"),
+    ("[host]", "[hosts]", "line 2: the sections are [host], [control], [status], [log] and [guest NAME]"),
     ("[host]", "", "line 3: folder: a key comes after its section"),
-    ("[host]", "[host", "line 2: the sections are [host], [control], [log] and [guest NAME]"),
+    ("[host]", "[host", "line 2: the sections are [host], [control], [status], [log] and [guest NAME]"),
     ("period = 100", "perid = 100", "line 6: perid: this section has no such key"),
     ("period = 100", "mode = 0600", "line 6: mode: this section has no such key"),
     ("period = 100", "words without a key", "line 6: neither a section, nor a key with its value, nor a comment"),
@@ -69,12 +77,15 @@ WRONG = (
     ("period = 100", "period = 1\0", "line 6: a line has 189 bytes at most, and none of them is 0"),
 )
 
-# What can't change while the host runs, and the key that is named.
+# What can't change while the host runs, and the key that is named with its section.
 FIXED = (
-    ("folder = {folder}", "folder = /var/tmp", "folder"),
-    ("period = 100", "period = 200", "period"),
-    ("socket = {folder}/.control", "socket = {folder}/.other", "socket"),
-    ("mode = 0600", "mode = 0660", "mode"),
+    ("folder = {folder}", "folder = /var/tmp", "folder of [host]"),
+    ("period = 100", "period = 200", "period of [host]"),
+    ("socket = {folder}/.control", "socket = {folder}/.other", "socket of [control]"),
+    ("mode = 0600", "mode = 0660", "mode of [control]"),
+    ("[log]", "[status]\nsocket = {folder}/.other\n[log]", "socket of [status]"),
+    ("[log]", "[status]\nmode = 0600\n[log]", "mode of [status]"),
+    ("[log]", "[status]\ngroup = {group}\n[log]", "group of [status]"),
 )
 
 

@@ -1,5 +1,7 @@
 """Builds the daemons over the library, as they are installed or as tests want them."""
 
+import fcntl
+import glob
 import os
 import subprocess
 
@@ -7,7 +9,7 @@ from linux_packages import ROOT, Fault, Missing, last_line, need
 
 MONITOR = os.path.join(ROOT, "monitor")
 SHIM = os.path.join(MONITOR, "include")
-REFERENCE = os.path.join(MONITOR, "reference/reference.c")
+REFERENCE = os.path.join(MONITOR, "out", "reference.o")
 HEADERS = os.path.join(ROOT, "crates/vb_c")
 LIBRARY = os.path.join(ROOT, "crates", "vb_c", "out", "libvb_c.a")
 
@@ -21,7 +23,8 @@ VHOST_PARTS = tuple(
     f"guest/{it}" for it in ("features", "inbox", "messages", "ring_messages", "slots", "vhost_user")
 )
 HOST_PARTS = (
-    "folder", "input", "journal", "lines", "loans", "loop", "measures", "message", "orders", "policy", "reports", "seats", "start", "view",
+    "folder", "input", "journal", "limit", "limit_writer", "limits", "lines", "loans", "loop", "measures", "message", "orders", "policy",
+    "reports", "seats", "start", "view",
 )
 LENT_PARTS = ("guest/lent", "guest/lent_channel", "guest/marks", "guest/sandbox", "host/message")
 CLIENT_PARTS = {
@@ -59,8 +62,8 @@ WRONG_WRAPPED = {
     ),
     "vhost_user_host": (
         "vb_loan_class_targets", "vb_spare", "vb_needs_targets", "host_changed",
-        "fields_refusal", "request_answer", "client_line_is_too_long", "client_is_served", "decisions_kept_from", "events_look", "socket_listen",
-        "word_read", "config_read", "config_stays", "process_took_reload", "notify_ready", "notify_lives", "notify_keep",
+        "fields_refusal", "client_new", "request_answer", "client_line_is_too_long", "client_is_served", "journal_begin", "events_look",
+        "socket_listen", "word_read", "config_read", "config_stays", "process_took_reload", "notify_ready", "notify_lives", "notify_keep",
     ),
     "lent": ("counters_taken", "marks_follow"),
 }
@@ -72,10 +75,23 @@ def demand(condition, words):
         raise Fault(words)
 
 
-def core_of(reference=False):
+def reference():
+    """Returns the plain implementation as an object, which is built where it is older than what it is made of."""
+    sources = [*glob.glob(f"{MONITOR}/reference/*"), *glob.glob(f"{HEADERS}/*.h"), f"{SHIM}/ring_layout.h"]
+    os.makedirs(os.path.dirname(REFERENCE), exist_ok=True)
+    with open(f"{REFERENCE}.lock", "w", encoding="utf-8") as lock:
+        fcntl.flock(lock, fcntl.LOCK_EX)
+        if not os.path.exists(REFERENCE) or os.path.getmtime(REFERENCE) < max(map(os.path.getmtime, sources)):
+            words = [f"{MONITOR}/reference/build", REFERENCE, "-O2", "-fPIC", "-I", HEADERS]
+            ran = subprocess.run(words, env={**os.environ, "CC": need("cc", "gcc libc6-dev")}, capture_output=True, text=True)
+            demand(ran.returncode == 0, f"monitor/reference isn't built: {last_line(ran.stderr)}")
+    return REFERENCE
+
+
+def core_of(plain=False):
     """Returns the file that decides: the proved library, or the plain implementation."""
-    if reference or os.environ.get("REFERENCE"):
-        return REFERENCE
+    if plain or os.environ.get("REFERENCE"):
+        return reference()
     path = os.environ.get("VB_LIB", LIBRARY)
     if not os.path.exists(path):
         where = os.path.relpath(path, ROOT)

@@ -1,0 +1,220 @@
+/* What a notice serves once its chain is read, and the calls of a notice, in plain C. */
+#include "reference.h"
+
+/* As much at once as the order of the bits allows, as the library has it; one thing at a time where that explains what it says. */
+#ifdef ONE_AT_A_TIME
+enum { GROUPS = false, MOST_AT_ONCE = 1 };
+#else
+enum { GROUPS = true, MOST_AT_ONCE = VB_MAX_CUTS };
+#endif
+
+/* ---- what a chain comes to */
+
+static uint32_t give_back(const Call *call)
+{
+    VbNotice *notice = call->notice;
+    Used used = use(&call->balloon->device, notice->kind, call->queue, notice->head);
+    if (used.code != VB_OK)
+        return end(call, used.code);
+    if (!find_spot(call, used.element_at, USED_FIELD_SIZE, &notice->id_at)
+        || !find_spot(call, used.element_at + USED_LENGTH_AT, USED_FIELD_SIZE, &notice->length_at)
+        || !find_spot(call, used.index_at, RING_WORD_SIZE, &notice->index_at))
+        return fail(call, OUT_OF_RAM);
+    notice->id = notice->head;
+    notice->used_length = 0;
+    notice->used_index = used.index;
+    return wait_for(call, AT_GIVEN, VB_GIVE_BACK);
+}
+
+/* The part of a run's pages that lies in the region of this number, if one does. */
+static bool cut_of(const Call *call, size_t number, VbRun run, VbCut *cut)
+{
+    const VbRegion *region = &call->regions[number];
+    uint64_t first = region->guest / REGION_PAGE, last = (region->guest + region->length) / REGION_PAGE;
+    uint64_t past = (uint64_t)run.first + run.count;
+    if (!is_region(region))
+        return false;
+    first = first > run.first ? first : run.first;
+    last = last < past ? last : past;
+    if (first >= last)
+        return false;
+    uint64_t offset = first * REGION_PAGE - region->guest;
+    *cut = (VbCut){ number, offset, region->in_file + offset, (last - first) * REGION_PAGE };
+    return true;
+}
+
+/* The pages that its chains name are kept, though they were given up or are free. */
+static bool is_kept(const Call *call)
+{
+    switch (call->notice->kind) {
+    case VB_INFLATE: return call->notice->keeps;
+    case VB_REPORT: return call->notice->keeps || vb_keeps_reports(&call->balloon->device);
+    default: return false;
+    }
+}
+
+/* Asks for the next part of a run, from run `number` and region `from` on. */
+static uint32_t ask_cut(const Call *call)
+{
+    VbNotice *notice = call->notice;
+    if (notice->kind == VB_DEFLATE || is_kept(call))
+        return give_back(call);
+    uint32_t cuts = 0;
+    for (; notice->number < notice->runs && notice->number < VB_MAX_RUNS && cuts < MOST_AT_ONCE;
+         notice->number += notice->from == 0) {
+        for (; notice->from < call->count && cuts < MOST_AT_ONCE; notice->from++)
+            cuts += cut_of(call, notice->from, call->room->runs[notice->number], &call->room->cuts[cuts]);
+        notice->from = notice->from < call->count ? notice->from : 0;
+    }
+    if (cuts == 0)
+        return give_back(call);
+    notice->cuts = cuts;
+    return wait_for(call, AT_CUT, VB_DISCARD);
+}
+
+/* The chain is held until it is asked for. */
+static void hold(const Call *call, uint32_t pages)
+{
+    VbNotice *notice = call->notice;
+    notice->taken = 1;
+    notice->taken_pages = pages;
+    *held_of(&call->balloon->held, notice->kind) = 1 + (uint32_t)notice->head;
+    if (notice->kind == VB_DEFLATE)
+        call->balloon->held.pages = pages;
+}
+
+uint32_t tell_pages(const Call *call, const Named *named)
+{
+    VbNotice *notice = call->notice;
+    if (named->code != VB_OK) {
+        notice->rule = named->rule;
+        return end(call, named->code);
+    }
+    notice->runs = named->runs;
+    notice->pages = named->pages;
+    notice->skipped = named->skipped;
+    notice->kept = is_kept(call) ? named->pages : 0;
+    notice->pages_left = named->pages < notice->pages_left ? notice->pages_left - named->pages : 0;
+    if (holds_chains(&call->balloon->device, notice->kind))
+        hold(call, named->pages);
+    notice->number = 0, notice->from = 0;
+    return wait_for(call, AT_TOLD, VB_TELL_PAGES);
+}
+
+uint32_t serve_bytes(const Call *call)
+{
+    VbNotice *notice = call->notice;
+    VbDevice *device = &call->balloon->device;
+    size_t length = notice->from;
+    if (notice->kind != VB_STATISTICS) {
+        Named named = name(device, notice->kind, call->room->bytes, length, call->room->runs);
+        return tell_pages(call, &named);
+    }
+    uint32_t count = 0, code = tell_figures(device, call->room->bytes, length, call->room->figures, &count);
+    if (code != VB_OK)
+        return end(call, code);
+    notice->figures = count;
+    hold(call, 0);
+    return wait_for(call, AT_FIGURES, VB_TELL_FIGURES);
+}
+
+static uint32_t after_given(const Call *call)
+{
+    call->notice->given = 1;
+    if (!call->notice->taken)
+        return next_chain(call);
+    vb_forget_held(call->balloon, call->notice->kind);
+    return end(call, VB_NOTHING);
+}
+
+static uint32_t after_flags(const Call *call, uint16_t flags)
+{
+    call->notice->interrupt = !(flags & NO_INTERRUPT);
+    return stop(call, call->notice->code);
+}
+
+/* ---- the calls */
+
+/* What is to be done once that was done which was to be done. */
+static uint32_t step(const Call *call, uint16_t answer)
+{
+    VbNotice *notice = call->notice;
+    bool holds = notice->count <= VB_MAX_PIECES && notice->runs <= VB_MAX_RUNS && notice->length <= VB_MAX_BYTES
+        && notice->cuts <= VB_MAX_CUTS;
+    if (!call->queue || !holds || call->queue->size > VB_MAX_QUEUE_SIZE || (call->queue->size == 0 && notice->phase != NO_PHASE))
+        return stop(call, VB_BAD_ARGUMENT);
+    switch (notice->phase) {
+    case AT_INDEX: return after_index(call, answer);
+    case AT_ENTRY: return wait_for(call, AT_WORD, VB_READ);
+    case AT_WORD: return after_entry(call, answer);
+    case AT_DESCRIPTOR: return notice->from <= VB_MAX_BYTES / DESCRIPTOR_SIZE ? after_row(call) : stop(call, VB_BAD_ARGUMENT);
+    case AT_PART: return after_part(call);
+    case AT_TOLD: return notice->taken ? end(call, VB_NOTHING) : ask_cut(call);
+    case AT_CUT: return ask_cut(call);
+    case AT_FIGURES: return end(call, VB_NOTHING);
+    case AT_GIVEN: return after_given(call);
+    case AT_FLAGS: return wait_for(call, AT_FLAG_WORD, VB_READ);
+    case AT_FLAG_WORD: return after_flags(call, answer);
+    default: return notice->what ? stop(call, VB_BAD_ARGUMENT) : 0;
+    }
+}
+
+/* Adds what needs no answer of what is to be done now, as long as its bit comes after the others. */
+static uint32_t grouped(const Call *call)
+{
+    VbNotice *notice = call->notice, before;
+    while (GROUPS && notice->what && !(notice->what & (VB_READ | VB_COPY))) {
+        VbBalloon balloon = *call->balloon;
+        VbCut cuts[VB_MAX_CUTS];
+        size_t kept = notice->cuts <= VB_MAX_CUTS ? notice->cuts * sizeof cuts[0] : 0;
+        memcpy(cuts, call->room->cuts, kept);
+        before = *notice;
+        uint32_t next = step(call, 0);
+        if (next <= before.what) {
+            memcpy(call->room->cuts, cuts, kept);
+            *call->balloon = balloon;
+            *notice = before;
+            break;
+        }
+        notice->what = before.what | next;
+    }
+    return notice->what;
+}
+
+uint32_t vb_begin(VbNotice *notice, VbBalloon *balloon, const VbRegion *regions, size_t count, VbRoom *room, uint32_t kind,
+                  uint32_t chains, uint32_t pages, uint32_t keeps)
+{
+    const Call call = { notice, balloon, queue_of(&balloon->device, kind), regions, count, room };
+    memset(notice, 0, sizeof *notice);
+    notice->kind = kind;
+    notice->chains_left = chains;
+    notice->pages_left = pages;
+    notice->keeps = keeps != 0;
+    if (!call.queue)
+        return stop(&call, VB_NO_QUEUE);
+    is_held(balloon, kind) ? stop(&call, VB_NOTHING) : look(&call);
+    return grouped(&call);
+}
+
+uint32_t vb_give_held(VbNotice *notice, VbBalloon *balloon, const VbRegion *regions, size_t count, VbRoom *room, uint32_t kind)
+{
+    const Call call = { notice, balloon, queue_of(&balloon->device, kind), regions, count, room };
+    memset(notice, 0, sizeof *notice);
+    notice->kind = kind;
+    if (!call.queue)
+        return stop(&call, VB_NO_QUEUE);
+    if (vb_held(balloon, kind, &notice->taken_pages) != VB_OK)
+        return stop(&call, VB_NOTHING);
+    uint32_t head = *held_of(&balloon->held, kind) - 1;
+    notice->head = head > UINT16_MAX ? UINT16_MAX : (uint16_t)head;
+    notice->taken = 1;
+    give_back(&call);
+    return grouped(&call);
+}
+
+uint32_t vb_go_on(VbNotice *notice, VbBalloon *balloon, const VbRegion *regions, size_t count, VbRoom *room, uint16_t answer)
+{
+    const Call call = { notice, balloon, queue_of(&balloon->device, notice->kind), regions, count, room };
+    step(&call, answer);
+    return grouped(&call);
+}
