@@ -43,6 +43,7 @@ GUEST_BYTES = (
     ("held", "held", "Memory that the guest's files hold"),
     ("loan", "loan", "Memory that is lent to the guest"),
     ("excess", "excess", "Memory that the guest holds above its loan"),
+    ("limit", "limit", "Memory that the guest's limit was set to last; 0 where it has none"),
     ("target", "target", "Memory that the host wants in the guest's balloon"),
     ("ballooned", "ballooned", "Memory in the guest's balloon"),
     ("free", "free", "Memory that the guest calls free"),
@@ -66,6 +67,7 @@ GUEST_TOTALS = (
     ("taken_bytes", "taken", "Memory that the guest took out of its balloon unasked"),
     ("clients", "clients", "Clients that came to the guest's socket"),
     ("messages_lost", "lost", "Messages between the host and the guest's process that weren't read in time"),
+    ("limit_failures", "limit_failures", "Times that the guest's limit couldn't be written"),
 )
 
 PREFIX = "bigvasta"

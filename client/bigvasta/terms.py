@@ -25,7 +25,18 @@ def boolean(text, name):
     return text == "yes"
 
 
-TERMS = {"least": parse_size, "most": limit, "priority": priority, "strict": boolean}
+def kernel_limit(text, name):
+    """Returns the words of a limit that the kernel enforces, or that there is none."""
+    kind, _, path = text.partition(":")
+    if text != "none" and (kind not in ("cgroup", "tmpfs") or not path.startswith("/")):
+        raise Usage(f"{name}: {text!r} is none of cgroup:PATH, tmpfs:MOUNT and none")
+    return text
+
+
+TERMS = {
+    "least": parse_size, "most": limit, "priority": priority, "strict": boolean, "overhead": parse_size, "limit": kernel_limit,
+}
+TERMS_HELP = "least=SIZE most=SIZE|none priority=N strict=yes|no overhead=SIZE limit=cgroup:PATH|tmpfs:MOUNT|none"
 TARGET = {"target": parse_size}
 
 

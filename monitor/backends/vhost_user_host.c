@@ -10,7 +10,8 @@
  * that says how many follow:
  *
  *     add NAME [TERMS]    a guest may come to the socket FOLDER/NAME, and again once it has gone
- *     terms NAME TERMS    its terms are these from now on: least=MIB, most=MIB, priority=NUMBER
+ *     terms NAME TERMS    its terms are these from now on: least=MIB, most=MIB, priority=NUMBER, strict=0 or 1, overhead=MIB,
+ *                         limit=cgroup:PATH or limit=tmpfs:MOUNT
  *     remove NAME         its service ends
  *     budget MIB          the host is to hold no more than this
  *     floor MIB           what each guest keeps free
@@ -30,7 +31,7 @@
  * (--status): docs/CONTROL.md. --config: a file that says the same, and
  * the guests; SIGHUP has it read anew. --log-level: error, warning, notice, info (as it is) or debug.
  *
- * --floor: what each guest keeps free (12 MiB). --step: a target grows by one part of so many of the guest in a second, while the host is
+ * --floor: what each guest keeps free (12 MiB). --step: a target grows by one part in N of the guest in a second, while the host is
  * within its budget (8; 0: at once). --strict: guests' deflates and resets wait for their grant, and so do newcomers. --strict-pages: a
  * page number past the end breaks a rule. --features, --events, --lines: as for vhost_user_balloon. --no-sandbox: guests' processes may make any system call. --end-with-lender: the kernel ends them with the lender.
  * --leave: signals end the lender alone, as the line `leave` does: a service that starts anew goes on with its guests.
@@ -42,7 +43,7 @@
 #include <sys/pidfd.h>
 #include <unistd.h>
 
-enum { BALLOON_FEATURES = 0x27, PERIOD = 200, LEAST_PERIOD = 10, FLOOR_MIB = 12, STEP = 8, FILES_OF_LENDER = 32 };
+enum { BALLOON_FEATURES = 0x27, PERIOD = 200, LEAST_PERIOD = 10, FLOOR_MIB = 12, STEP = 8, FILES_OF_LENDER = 32, FILES_OF_SEAT = 4 };
 
 /* Milliseconds in which guests' processes end that are told to. */
 enum { LEAVES_IN = 1000 };
@@ -176,6 +177,8 @@ int main(int count, char **words)
 {
     static struct host host;
     static struct service service;
+    if (count == 3 && !strcmp(words[1], writer_word))
+        return limit_writer_run(STDIN_FILENO);
     process_begin();
     if (process_answers(count, words, "vhost_user_host", help))
         return 0;
@@ -183,7 +186,7 @@ int main(int count, char **words)
         fprintf(stderr, "%s\n", help);
         return 2;
     }
-    process_allow_files(FILES_OF_LENDER + MOST_GUESTS * 3 + CONTROL_SOCKETS * MOST_CONTROL_CLIENTS);
+    process_allow_files(FILES_OF_LENDER + MOST_GUESTS * FILES_OF_SEAT + CONTROL_SOCKETS * MOST_CONTROL_CLIENTS);
     if (!can_offer(host.features) || !find_program(&host) || !folder_lock(host.folder) || !answers_begin(&host.answers))
         return 2;
     folder_take_over(&host);

@@ -4,7 +4,7 @@ import json
 
 from bigvasta.connection import Connection
 from bigvasta.sizes import mebibytes, parse_size
-from bigvasta.terms import TERMS, parse_terms, said
+from bigvasta.terms import TERMS, TERMS_HELP, parse_terms, said
 
 
 def ask(asked, request, fields, words):
@@ -34,7 +34,7 @@ def add(commands, common):
     """Adds the subcommands."""
     words = commands.add_parser("add", parents=[common], help="a guest may come; prints its socket")
     words.add_argument("name", metavar="NAME")
-    words.add_argument("words", metavar="KEY=VALUE", nargs="*", help="least=SIZE most=SIZE|none priority=N strict=yes|no")
+    words.add_argument("words", metavar="KEY=VALUE", nargs="*", help=TERMS_HELP)
     words.set_defaults(run=run_add, changes=lambda asked: True)
     words = commands.add_parser("remove", parents=[common], help="ends the service of a guest")
     words.add_argument("name", metavar="NAME")

@@ -5,7 +5,7 @@ import json
 from bigvasta.connection import Connection
 from bigvasta.sizes import mebibytes
 from bigvasta.waits import wait_of
-from bigvasta.terms import TARGET, TERMS, parse_terms, said
+from bigvasta.terms import TARGET, TERMS, TERMS_HELP, parse_terms, said
 
 SIZES = ("memory", "held", "loan", "excess", "target", "ballooned", "free", "available", "spare")
 
@@ -21,6 +21,9 @@ def describe(guest):
     yield f"  {'most':<10} {most:>12}"
     yield f"  {'priority':<10} {terms['priority']:>8}"
     yield f"  {'strict':<10} {'yes' if terms['strict'] else 'no':>8}"
+    yield f"  {'overhead':<10} {mebibytes(terms['overhead']):>8} MiB"
+    if terms["limit"]:
+        yield f"  {'limit':<10} {mebibytes(guest['limit']):>8} MiB, by {terms['limit']}"
     if wait_of(guest):
         yield f"  waits for  {wait_of(guest)}"
 
@@ -40,5 +43,5 @@ def add(commands, common):
         description="Shows a guest. With words, changes what is agreed with it: all of them or, where the host refuses one, none.",
     )
     words.add_argument("name", metavar="NAME")
-    words.add_argument("words", metavar="KEY=VALUE", nargs="*", help="least=SIZE most=SIZE|none priority=N strict=yes|no target=SIZE")
+    words.add_argument("words", metavar="KEY=VALUE", nargs="*", help=f"{TERMS_HELP} target=SIZE")
     words.set_defaults(run=run, changes=lambda asked: bool(asked.words))

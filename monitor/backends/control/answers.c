@@ -30,23 +30,26 @@ static json_t *limit(uint32_t pages)
 
 static json_t *answer_terms(const struct guest_terms *terms)
 {
-    return json_pack("{s:o, s:o, s:o, s:b}", "least", bytes(terms->least), "most", limit(terms->most), "priority",
-                     count(terms->priority), "strict", terms->strict);
+    char words[MOST_LIMIT_WORDS];
+    const char *its = terms->limit.kind == LIMIT_NONE ? NULL : limit_words(&terms->limit, words);
+    return json_pack("{s:o, s:o, s:o, s:b, s:o, s:s?}", "least", bytes(terms->least), "most", limit(terms->most), "priority",
+                     count(terms->priority), "strict", terms->strict, "overhead", bytes(terms->overhead), "limit", its);
 }
 
 static json_t *answer_guest_counters(const struct guest_view *guest)
 {
-    return json_pack("{s:o, s:o, s:o, s:o, s:o, s:o, s:o, s:o, s:o, s:o, s:o, s:o}", "inflated", bytes(guest->inflated),
+    return json_pack("{s:o, s:o, s:o, s:o, s:o, s:o, s:o, s:o, s:o, s:o, s:o, s:o, s:o}", "inflated", bytes(guest->inflated),
                      "deflated", bytes(guest->deflated), "reported", bytes(guest->reported), "taken", bytes(guest->taken),
                      "discarded", bytes(guest->discarded), "skipped", bytes(guest->skipped), "statistics", count(guest->statistics),
                      "told", count(guest->told), "chains", count(guest->chains), "kicks", count(guest->kicks), "clients",
-                     count(guest->clients), "lost", count(guest->lost));
+                     count(guest->clients), "lost", count(guest->lost), "limit_failures", count(guest->limit_failures));
 }
 
 static json_t *answer_guest_memory(const struct guest_view *guest)
 {
-    return json_pack("{s:o, s:o, s:o, s:o, s:o, s:o, s:o, s:o, s:o, s:o}", "memory", bytes(guest->pages), "held",
-                     kibibytes(guest->held_kib), "loan", bytes(guest->loan), "excess", bytes(guest->excess), "target",
+    return json_pack("{s:o, s:o, s:o, s:o, s:o, s:o, s:o, s:o, s:o, s:o, s:o}", "memory", bytes(guest->pages), "held",
+                     kibibytes(guest->held_kib), "loan", bytes(guest->loan), "limit", bytes(guest->limit), "excess",
+                     bytes(guest->excess), "target",
                      bytes(guest->target), "ballooned", bytes(guest->ballooned), "actual", bytes(guest->actual), "free",
                      bytes(guest->free), "available", bytes(guest->available), "spare", bytes(guest->spare));
 }

@@ -41,10 +41,21 @@ static bool is_pages(const json_t *value)
     return json_is_integer(value) && bytes >= 0 && bytes % PAGE_BYTES == 0 && bytes / PAGE_BYTES < UINT32_MAX;
 }
 
+/* Why a value is no limit of the kernel's; NULL: it is one. */
+static const char *kernel_limit_fault(const json_t *value, struct guest_limit *limit)
+{
+    if (json_is_string(value) && strcmp(json_string_value(value), "none") != 0)
+        return limit_read(json_string_value(value), limit);
+    *limit = (struct guest_limit){LIMIT_NONE, ""};
+    return json_is_null(value) ? NULL : "cgroup:PATH, tmpfs:MOUNT, or null";
+}
+
 static json_t *wrong_field(const json_t *value, const struct field *field)
 {
     static const char pages[] = "a whole number of bytes in pages of 4096, up to 17592186036224";
     uint64_t number = json_integer_value(value) < 0 ? UINT64_MAX : (uint64_t)json_integer_value(value);
+    struct guest_limit limit;
+    const char *fault;
     switch (field->kind) {
     case FIELD_NAME:
         return json_is_string(value) ? NULL : request_refusal("bad-field", field->name, "a string");
@@ -54,6 +65,9 @@ static json_t *wrong_field(const json_t *value, const struct field *field)
         return is_pages(value) || json_is_null(value) ? NULL : request_refusal("bad-field", field->name, "%s, or null", pages);
     case FIELD_BOOLEAN:
         return json_is_boolean(value) ? NULL : request_refusal("bad-field", field->name, "true or false");
+    case FIELD_KERNEL_LIMIT:
+        fault = kernel_limit_fault(value, &limit);
+        return fault ? request_refusal("bad-field", field->name, "%s", fault) : NULL;
     default:
         if (json_is_integer(value) && number >= field->least && number <= field->most)
             return NULL;
@@ -103,4 +117,11 @@ uint64_t field_number(const json_t *request, const char *name)
 {
     const json_t *value = json_object_get(request, name);
     return json_is_boolean(value) ? json_is_true(value) : (uint64_t)json_integer_value(value);
+}
+
+struct guest_limit field_kernel_limit(const json_t *request, const char *name)
+{
+    struct guest_limit limit;
+    kernel_limit_fault(json_object_get(request, name), &limit);
+    return limit;
 }

@@ -5,13 +5,16 @@
 #include <stdbool.h>
 #include <stdint.h>
 
-/* A name; bytes that are whole pages; the same or null, for no limit; a whole number; true or false. */
-enum field_kind { FIELD_NAME, FIELD_BYTES, FIELD_LIMIT, FIELD_NUMBER, FIELD_BOOLEAN };
+#include "../host/limit.h"
+
+/* A name; bytes that are whole pages; the same or null, for no limit; a whole number; true or false; words of the kernel's limit, or
+ * null for none. */
+enum field_kind { FIELD_NAME, FIELD_BYTES, FIELD_LIMIT, FIELD_NUMBER, FIELD_BOOLEAN, FIELD_KERNEL_LIMIT };
 
 /* Whether a request, or a field of it, changes the host or shows it. */
 enum effect { SHOWS, CHANGES };
 
-enum { MOST_FIELDS = 6, PAGE_BYTES = 4096 };
+enum { MOST_FIELDS = 8, PAGE_BYTES = 4096 };
 
 struct field {
     const char *name;           /* NULL: no field */
@@ -34,5 +37,6 @@ bool field_is_there(const json_t *request, const char *name);
 const char *field_name(const json_t *request, const char *name);
 uint32_t field_pages(const json_t *request, const char *name);
 uint64_t field_number(const json_t *request, const char *name);
+struct guest_limit field_kernel_limit(const json_t *request, const char *name);
 
 #endif

@@ -70,13 +70,20 @@ static struct guest_terms terms_of(const json_t *fields, struct guest_terms term
         terms.priority = (uint32_t)field_number(fields, "priority");
     if (field_is_there(fields, "strict"))
         terms.strict = field_number(fields, "strict");
+    if (field_is_there(fields, "overhead"))
+        terms.overhead = field_pages(fields, "overhead");
+    if (field_is_there(fields, "limit"))
+        terms.limit = field_kernel_limit(fields, "limit");
     return terms;
 }
 
 static bool changes_terms(const json_t *fields)
 {
-    return field_is_there(fields, "least") || field_is_there(fields, "most") || field_is_there(fields, "priority")
-        || field_is_there(fields, "strict");
+    static const char *const names[] = {"least", "most", "priority", "strict", "overhead", "limit"};
+    for (unsigned i = 0; i < sizeof names / sizeof names[0]; i++)
+        if (field_is_there(fields, names[i]))
+            return true;
+    return false;
 }
 
 /* Changes what a request asks for of a guest; NULL, or why not: then the terms are as they were. */
@@ -171,7 +178,8 @@ static json_t *follow(const struct asked *asked)
 
 #define TERMS                                                                                                                       \
     {"least", FIELD_BYTES, .effect = CHANGES}, {"most", FIELD_LIMIT, .effect = CHANGES}, {"strict", FIELD_BOOLEAN, .effect = CHANGES}, \
-        {"priority", FIELD_NUMBER, .effect = CHANGES, .least = 0, .most = UINT32_MAX}
+        {"priority", FIELD_NUMBER, .effect = CHANGES, .least = 0, .most = UINT32_MAX},                                                 \
+        {"overhead", FIELD_BYTES, .effect = CHANGES}, {"limit", FIELD_KERNEL_LIMIT, .effect = CHANGES}
 
 static const struct kind kinds[] = {
     {"status", SHOWS, status, {{0}}},

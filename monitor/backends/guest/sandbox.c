@@ -5,10 +5,13 @@
 
 #include <errno.h>
 #include <fcntl.h>
+#include <linux/capability.h>
 #include <seccomp.h>
 #include <string.h>
 #include <sys/mman.h>
 #include <sys/prctl.h>
+#include <sys/syscall.h>
+#include <unistd.h>
 
 /* A call that may be made; with an argument that has to be as it is said, where there is a mask or a value to compare. */
 struct allowed {
@@ -44,10 +47,18 @@ static int allow(scmp_filter_ctx filter)
     return code;
 }
 
+/* Gives up all privileges, also those that the lender may have for the sake of limits, and new ones. */
+static bool give_up(void)
+{
+    struct __user_cap_header_struct head = {_LINUX_CAPABILITY_VERSION_3, 0};
+    struct __user_cap_data_struct none[_LINUX_CAPABILITY_U32S_3] = {{0, 0, 0}};
+    return !syscall(SYS_capset, &head, none) && !prctl(PR_SET_NO_NEW_PRIVS, 1, 0, 0, 0);
+}
+
 bool sandbox_enter(void)
 {
-    if (prctl(PR_SET_NO_NEW_PRIVS, 1, 0, 0, 0))
-        return complain("new privileges can't be given up: %s", strerror(errno)), false;
+    if (!give_up())
+        return complain("privileges can't be given up: %s", strerror(errno)), false;
     scmp_filter_ctx filter = seccomp_init(SCMP_ACT_KILL_PROCESS);
     if (!filter)
         return complain("there is no memory for a filter of system calls"), false;

@@ -10,7 +10,7 @@ enum { HAS_SANDBOX = 0 };
 enum { HAS_SANDBOX = 1 };
 #endif
 
-/* From now on the process gets no new privileges, and a system call that it has no use for ends it (seccomp). It opens no file, and
+/* From now on the process has no privileges and gets none, and a system call that it has no use for ends it (seccomp). It opens no file, and
  * sends none. False, which is said, where the machine doesn't allow that. */
 bool sandbox_enter(void);
 

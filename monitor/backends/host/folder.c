@@ -2,9 +2,12 @@
 #include "host.h"
 
 #include <dirent.h>
+#include <inttypes.h>
 #include <sys/file.h>
 #include <sys/stat.h>
 #include <unistd.h>
+
+enum { MOST_KEPT = MOST_PATH + MOST_LIMIT_WORDS };
 
 void remove_socket(const char *path)
 {
@@ -33,6 +36,48 @@ bool folder_lock(const char *folder)
     return false;
 }
 
+/* The name of what is kept of a guest: a link that leads nowhere, as links are made whole and renamed whole. */
+static void name_kept(const struct host *host, const char *name, const char *mark, char path[MOST_KEPT])
+{
+    snprintf(path, MOST_KEPT, "%s/%s%s", host->folder, mark, name);
+}
+
+const char *folder_keep(const struct host *host, const char *name, const struct guest_terms *terms)
+{
+    char path[MOST_KEPT], part[MOST_KEPT], words[MOST_LIMIT_WORDS], text[MOST_KEPT];
+    name_kept(host, name, "=", path);
+    name_kept(host, name, ".=", part);
+    snprintf(text, sizeof text, "%" PRIu32 " %s", terms->overhead, limit_words(&terms->limit, words));
+    unlink(part);
+    return symlink(text, part) || rename(part, path) ? strerror(errno) : NULL;
+}
+
+void folder_forget(const struct host *host, const char *name)
+{
+    char path[MOST_KEPT];
+    name_kept(host, name, "=", path);
+    unlink(path);
+}
+
+/* Reads what is kept of a guest into its terms, if something is. */
+static void recall(const struct host *host, const char *name, struct guest_terms *terms)
+{
+    char path[MOST_KEPT], text[MOST_KEPT];
+    uint64_t overhead;
+    struct guest_limit limit;
+    name_kept(host, name, "=", path);
+    ssize_t length = readlink(path, text, sizeof text - 1);
+    text[length > 0 ? length : 0] = 0;
+    char *words = strchr(text, ' ');
+    if (!words)
+        return;
+    *words++ = 0;
+    if (!read_number(text, 10, UINT32_MAX, &overhead) || limit_read(words, &limit))
+        return;
+    terms->overhead = (uint32_t)overhead;
+    terms->limit = limit;
+}
+
 /* Whether a file of this folder is a socket. */
 static bool is_socket(DIR *folder, const char *name)
 {
@@ -42,7 +87,6 @@ static bool is_socket(DIR *folder, const char *name)
 
 void folder_take_over(struct host *host)
 {
-    struct guest_terms terms = host_usual_terms(host);
     DIR *folder = opendir(host->folder);
     if (!folder)
         return;
@@ -50,6 +94,8 @@ void folder_take_over(struct host *host)
         const char *name = it->d_name + 1;
         if (it->d_name[0] != LATER_MARK || !is_name(name) || seat_of(host, name) || !is_socket(folder, it->d_name))
             continue;
+        struct guest_terms terms = host_usual_terms(host);
+        recall(host, name, &terms);
         const char *fault = seat_add(host, name, &terms);
         if (fault)
             complain("%s isn't taken over: %s", name, fault);

@@ -22,6 +22,17 @@ enum {
     LATER_MARK = '+',           /* before a guest's name: the socket where a later lender finds its process */
 };
 
+/* Who writes a guest's limit, and what is known of that. Frames. */
+struct limit_writer {
+    int channel;                /* -1: nobody does yet */
+    bool waits;                 /* for the outcome of the last request */
+    uint64_t number, asked;     /* of the last request, and what it is to be; 0: nothing */
+    uint64_t written;           /* what was written last; 0: it isn't known */
+    uint64_t allowed;           /* the kernel allows no fewer than these, whatever is being written; 0: it isn't known */
+    uint64_t failures;
+    int64_t again_at;           /* before this nothing is written, as something couldn't be */
+};
+
 /* A guest's place on the host, which it may leave and come back to. */
 struct seat {
     struct host *host;
@@ -29,6 +40,7 @@ struct seat {
     char name[MOST_NAME], path[MOST_PATH], later_path[MOST_PATH];
     int listener;               /* where its client comes */
     struct guest_terms terms;
+    struct limit_writer writer;
     /* Its process. */
     bool here;                  /* there is one */
     pid_t process;              /* its number, by the kernel's word */
@@ -137,6 +149,11 @@ int host_run(struct host *host);
 /* Whether the folder is this host's alone; says why not. It stays so until the process ends. */
 bool folder_lock(const char *folder);
 
+/* Keeps in the folder what a lender that comes later isn't to believe a guest's process: its limit and its overhead. NULL, or why it
+ * can't. And no longer. */
+const char *folder_keep(const struct host *host, const char *name, const struct guest_terms *terms);
+void folder_forget(const struct host *host, const char *name);
+
 /* Makes a seat for each guest that an earlier lender has left in the folder. */
 void folder_take_over(struct host *host);
 
@@ -198,11 +215,13 @@ void seat_keep_terms(struct seat *seat);
 /* Tells its process to end. */
 void seat_leave(struct seat *seat);
 
-/* Answers its process, which waits for pages: whether they may be had. */
+/* Answers its process, which waits for pages: whether they may be had. And grants the deflate that its process holds. What it may have is
+ * told it once its limit allows it. */
 void seat_answer(struct seat *seat, bool admitted);
-
-/* Grants the deflate that its process holds. */
 void seat_grant(struct seat *seat);
+
+/* Tells it again what was answered and granted, if it still waits for that; false where nothing was. */
+bool seat_repeat(struct seat *seat);
 
 /* ---- reports.c */
 
@@ -238,9 +257,37 @@ void loan_leave(struct seat *seat);
 /* Lends to those that wait, as long as there is room for the first of them, and answers their processes. */
 void loans_grant(struct host *host);
 
+/* Frames that it holds above its loan. */
+uint32_t loan_excess(const struct seat *seat);
+
+/* Names each guest that holds more than its loan and its overhead: its balloon doesn't count any longer. */
+void loans_audit(struct host *host);
+
 /* Whether somebody waits; and how many frames are left that nobody has, waits for, or was told to take out of its balloon. */
 bool loans_wait(const struct host *host);
 uint64_t loans_room(const struct host *host);
+
+/* ---- limits.c */
+
+/* The word with which the program of a lender is a writer of a limit. */
+extern const char writer_word[];
+
+/* Why a guest can't have the limit of these terms; NULL: it can, or they have none. */
+const char *limit_refusal(const struct host *host, const char *name, const struct guest_terms *terms);
+
+/* Whether the kernel allows it what is lent to it; and whether it has a limit that is known to be written. */
+bool limit_allows(const struct seat *seat);
+bool limit_holds(const struct seat *seat);
+
+/* Has each limit written that isn't as its guest's loan wants it. */
+void limits_follow(struct host *host);
+
+/* Takes what its writer has answered. */
+void limit_take(struct seat *seat);
+
+/* What was known of its limit isn't known any longer; nor has it a writer. */
+void limit_forget(struct seat *seat);
+void limit_end(struct seat *seat);
 
 /* ---- lines.c, input.c */
 

@@ -22,9 +22,11 @@ static void print_seat(const struct seat *seat)
             seat->target, seat->free, policy_spare(seat), seat_answers(seat));
     fprintf(to, " inflated %" PRIu64 " deflated %" PRIu64 " reported %" PRIu64 " taken %" PRIu64 " statistics %" PRIu64,
             counters->inflated, counters->deflated, counters->reported, counters->taken, counters->statistics);
-    fprintf(to, " available %" PRIu32 " asked %" PRIu32 " least %" PRIu32 " most %" PRIu32 " priority %" PRIu32 " reports %d process %d lent %" PRIu32 " waits %s\n",
+    fprintf(to, " available %" PRIu32 " asked %" PRIu32 " least %" PRIu32 " most %" PRIu32 " priority %" PRIu32 " reports %d process %d lent %" PRIu32 " waits %s",
             seat->available, seat->told, seat->terms.least, seat->terms.most, seat->terms.priority, seat_reports(seat), (int)seat->process,
             seat->host->loans[seat->place].lent, guest_wait_word(seat->waits_for));
+    fprintf(to, " overhead %" PRIu32 " limit %" PRIu64 " limit_failures %" PRIu64 " cooperates %d\n", seat->terms.overhead,
+            seat->writer.written, seat->writer.failures, seat->cooperates);
 }
 
 static void print_guests(const struct host *host)
@@ -63,38 +65,45 @@ static void set_pages(struct host *host, const char *word, const char *(*set)(st
     fprintf(out(host), fault ? "error: %s\n" : "ok\n", fault);
 }
 
-/* Reads one of the words of a guest's terms; false where it is none. */
-static bool read_term(struct guest_terms *terms, const char *word)
+static const char no_terms[] =
+    "a name, and of least=MIB, most=MIB, priority=NUMBER, strict=0 or 1, overhead=MIB, limit=cgroup:PATH or tmpfs:MOUNT what is wanted";
+
+/* Reads one of the words of a guest's terms; NULL, or why it is none. */
+static const char *read_term(struct guest_terms *terms, const char *word)
 {
+    const struct { const char *name; uint32_t *pages; } sizes[] = {
+        {"least=", &terms->least}, {"most=", &terms->most}, {"overhead=", &terms->overhead}};
     uint64_t number;
-    if (!strncmp(word, "least=", 6))
-        return read_mib(word + 6, &terms->least);
-    if (!strncmp(word, "most=", 5))
-        return read_mib(word + 5, &terms->most);
+    for (unsigned i = 0; i < sizeof sizes / sizeof sizes[0]; i++)
+        if (!strncmp(word, sizes[i].name, strlen(sizes[i].name)))
+            return read_mib(word + strlen(sizes[i].name), sizes[i].pages) ? NULL : no_terms;
+    if (!strncmp(word, "limit=", 6))
+        return limit_read(word + 6, &terms->limit);
     if (!strncmp(word, "priority=", 9) && read_number(word + 9, 10, UINT32_MAX, &number))
-        return terms->priority = (uint32_t)number, true;
+        return terms->priority = (uint32_t)number, NULL;
     if (!strncmp(word, "strict=", 7) && read_number(word + 7, 10, 1, &number))
-        return terms->strict = number != 0, true;
-    return false;
+        return terms->strict = number != 0, NULL;
+    return no_terms;
 }
 
-/* Takes the words of terms off the end of a line, which the name is left of; false where one is none. */
-static bool read_terms(char *line, struct guest_terms *terms)
+/* Takes the words of terms off the end of a line, which the name is left of; NULL, or why one is none. */
+static const char *read_terms(char *line, struct guest_terms *terms)
 {
-    for (char *word; (word = strrchr(line, ' ')); *word = 0)
-        if (!read_term(terms, word + 1))
-            return false;
-    return true;
+    for (char *word; (word = strrchr(line, ' ')); *word = 0) {
+        const char *fault = read_term(terms, word + 1);
+        if (fault)
+            return fault;
+    }
+    return NULL;
 }
-
-static const char no_terms[] = "a name, and of least=MIB, most=MIB, priority=NUMBER, strict=0 or 1 what is wanted";
 
 static void add(struct host *host, const char *words)
 {
     char line[256];
     struct guest_terms terms = host_usual_terms(host);
     strcpy(line, words);
-    const char *fault = read_terms(line, &terms) ? host_add(host, line, &terms) : no_terms;
+    const char *fault = read_terms(line, &terms);
+    fault = fault ? fault : host_add(host, line, &terms);
     if (fault)
         fprintf(out(host), "error: %s: %s\n", line, fault);
     else
@@ -111,7 +120,8 @@ static void set_terms(struct host *host, const char *words)
     const struct seat *seat = seat_of(host, line);
     struct guest_terms terms = seat ? seat->terms : host_usual_terms(host);
     memcpy(line, words, strlen(words) + 1);
-    const char *fault = read_terms(line, &terms) ? host_set_terms(host, line, &terms) : no_terms;
+    const char *fault = read_terms(line, &terms);
+    fault = fault ? fault : host_set_terms(host, line, &terms);
     fprintf(out(host), fault ? "error: %s\n" : "ok\n", fault);
 }
 

@@ -28,7 +28,9 @@ static uint32_t counted_balloon(const struct seat *seat)
 static void follow_report(struct seat *seat)
 {
     uint32_t pages = seat->pages, ballooned = smaller(seat->report.ballooned, pages);
-    *loan_of(seat) = (VbLoan){.pages = pages, .ballooned = ballooned, .lent = pages - ballooned};
+    if (!seat->cooperates)
+        ballooned = 0;
+    *loan_of(seat) = (VbLoan){.pages = pages, .ballooned = ballooned, .lent = pages - ballooned, .uncounted = !seat->cooperates};
 }
 
 /* What it has asked for isn't waited for any longer; nothing is lent beyond its pages that aren't in its balloon. */
@@ -46,12 +48,18 @@ static void shrink(VbLoan *loan, uint32_t pages, uint32_t ballooned)
     *loan = (VbLoan){.pages = pages, .ballooned = ballooned, .lent = pages - ballooned, .spare = loan->spare};
 }
 
-/* It has pages that nobody granted: it is named, and counts with all that it has. */
+/* It has pages that nobody granted: it is named, once. It counts with all that it has, unless the kernel has it within its loan. */
 static void name_taker(struct seat *seat, uint32_t pages)
 {
-    complain("has taken %" PRIu32 " pages unasked: all its memory counts as lent from now on", pages);
-    vb_loan_uncount(seat->host->loans, MOST_PLACES, seat->place);
+    bool counts = limit_holds(seat);
+    if (seat->cooperates)
+        complain("has taken %" PRIu32 " pages unasked: %s", pages,
+                 counts ? "its limit stays" : "all its memory counts as lent from now on");
     seat->cooperates = false;
+    if (counts)
+        return;
+    vb_loan_uncount(seat->host->loans, MOST_PLACES, seat->place);
+    host_changed(seat->host, BY_GUESTS);
 }
 
 /* What its last report says of its balloon. */
@@ -160,6 +168,30 @@ void loan_follow(struct seat *seat)
         return;
     ask(seat, waits_for(seat));
     host_changed(seat->host, BY_GUESTS);
+}
+
+uint32_t loan_excess(const struct seat *seat)
+{
+    uint64_t held = seat->report.held_kib / 4, lent = loan_of(seat)->lent;
+    return held > lent ? smaller((uint32_t)(held - lent), UINT32_MAX) : 0;
+}
+
+/* Whether a guest at work holds pages that it gave, whatever its driver says: more than is lent to it, and than is beside. */
+static bool holds_too_much(const struct seat *seat)
+{
+    return seat_is_ready(seat) && seat_reports(seat) && !loan_of(seat)->uncounted && loan_excess(seat) > seat->terms.overhead;
+}
+
+void loans_audit(struct host *host)
+{
+    for (unsigned i = 0; i < host->count; i++) {
+        struct seat *seat = host->seats[i];
+        if (!holds_too_much(seat))
+            continue;
+        speaker_begins(&seat->speaker);
+        name_taker(seat, loan_excess(seat) - seat->terms.overhead);
+        speaker_ends();
+    }
 }
 
 void loan_leave(struct seat *seat)

@@ -42,6 +42,7 @@ static void look(struct host *host)
     counters->above += held > host->frames * UINT64_C(4);
     measure_above(held > host->frames * UINT64_C(4) ? (double)host->period / 1000 : 0);
     counters->peak = held > counters->peak ? held : counters->peak;
+    loans_audit(host);
     policy_decide(host);
     loans_grant(host);
     for (unsigned i = 0; i < host->count; i++) {
@@ -59,10 +60,10 @@ static void remind(struct host *host)
     }
 }
 
-/* What is waited for: lines, room for answers, the signals that end it; of each seat its clients, its channel and its process, and of
- * each that was taken away the last two. */
+/* What is waited for: lines, room for answers, the signals that end it; of each seat its clients, its channel, its process and the
+ * writer of its limit, and of each that was taken away all but the first and the last. */
 enum { LINES, ROOM, END, SEATS };
-enum { CLIENT, CHANNEL, PROCESS, OF_SEAT };
+enum { CLIENT, CHANNEL, PROCESS, WRITER, OF_SEAT };
 enum { MOST_FILES_OF_ALL = SEATS + 2 * MOST_GUESTS * OF_SEAT + MOST_EXTRAS * MOST_EXTRA_FILES };
 _Static_assert((int)MOST_FILES_OF_ALL <= (int)MOST_POLLED, "files of a lender");
 
@@ -100,6 +101,7 @@ static void wait_for_seat(struct turn *turn, struct seat *seat, int64_t now)
     its[CLIENT] = (struct pollfd){waits && comes_at <= now ? seat->listener : -1, POLLIN, 0};
     its[CHANNEL] = (struct pollfd){seat->read < MESSAGES ? seat->channel : -1, POLLIN, 0};
     its[PROCESS] = (struct pollfd){seat->process_file, POLLIN, 0};
+    its[WRITER] = (struct pollfd){seat->writer.channel, POLLIN, 0};
     if (waits && comes_at > now)
         wait_until(turn, comes_at);
     if (seat->read >= MESSAGES)
@@ -153,6 +155,8 @@ static void serve(struct turn *turn)
     for (unsigned i = 0; i < turn->seat_count; i++) {
         struct seat *seat = turn->seats[i];
         const struct pollfd *its = turn->files + SEATS + i * OF_SEAT;
+        if (its[WRITER].revents)
+            limit_take(seat);
         if (its[CLIENT].revents)
             seat_start(seat);
         else if (its[PROCESS].revents)
@@ -237,6 +241,7 @@ int host_run(struct host *host)
         refill(host, host_now());
         if (begin > 0)
             measure_turn(measure_now() - begin);
+        limits_follow(host);
         wait_for(host, &turn, next);
         begin = measure_now();
         serve(&turn);

@@ -97,7 +97,8 @@ void seat_grant(struct seat *seat)
 {
     struct lending_message message = {.kind = ORDER_GRANT, .wait = seat->report.held_wait};
     seat->held_granted = seat->report.held_wait;
-    order(seat, &message);
+    if (limit_allows(seat))
+        order(seat, &message);
 }
 
 void seat_answer(struct seat *seat, bool admitted)
@@ -105,5 +106,21 @@ void seat_answer(struct seat *seat, bool admitted)
     struct lending_message message = {.kind = admitted ? ORDER_ADMIT : ORDER_REFUSE, .wait = seat->report.wait};
     seat->wait_answered = seat->report.wait;
     seat->wait_admitted = admitted;
-    order(seat, &message);
+    if (!admitted || limit_allows(seat))
+        order(seat, &message);
+}
+
+bool seat_repeat(struct seat *seat)
+{
+    const struct lending_message *report = &seat->report;
+    if (report->waits != WAIT_NOTHING) {
+        bool answered = report->wait == seat->wait_answered;
+        if (answered)
+            seat_answer(seat, seat->wait_admitted);
+        return answered;
+    }
+    bool granted = report->held_pages > 0 && report->held_wait == seat->held_granted;
+    if (granted)
+        seat_grant(seat);
+    return granted;
 }

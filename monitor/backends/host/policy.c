@@ -42,18 +42,18 @@ static bool is_paused(const struct seat *seat)
 static enum bound bound_of(const struct seat *seat)
 {
     const VbLoan *loan = &seat->host->loans[seat->place];
-    if (seat->report.holds && (loan->asked > 0 || loan->uncounted))
+    if (loan->uncounted || (seat->report.holds && loan->asked > 0))
         return BY_LOAN;
     return !is_heard(seat) ? BY_SILENCE : is_paused(seat) ? BY_PAUSE : BY_STATISTICS;
 }
 
-/* What a guest can spare so that this much stays free. One that doesn't answer spares nothing beyond what is ballooned. Of
- * another, the ballooned pages count as available ones that it doesn't use: so one that has less than its floor is asked for
- * less than it has given. */
+/* What a guest can spare so that this much stays free: nothing, where its balloon doesn't count. One that doesn't answer spares nothing
+ * beyond what is ballooned. Of another, the ballooned pages count as available ones that it doesn't use: so one that has less than its
+ * floor is asked for less than it has given. */
 static uint32_t spare_above(const struct seat *seat, uint32_t floor)
 {
     uint32_t ballooned = least(seat->report.ballooned, seat->pages);
-    if (!seat_is_ready(seat))
+    if (!seat_is_ready(seat) || seat->host->loans[seat->place].uncounted)
         return 0;
     if (!is_heard(seat))
         return vb_spare(seat->pages, ballooned, 0, 0, floor, 0);
@@ -147,7 +147,8 @@ static void collect(const struct host *host, const struct seat *except, struct g
     for (unsigned i = 0; i < host->count; i++) {
         struct seat *seat = host->seats[i];
         uint32_t pages = charged(seat);
-        if (seat->report.holds && host->loans[seat->place].pages > 0 && seat != except)
+        bool by_loan = seat->report.holds || host->loans[seat->place].uncounted;
+        if (by_loan && host->loans[seat->place].pages > 0 && seat != except)
             add_loan(guests, seat, policy_spare(seat), spare_above(seat, low));
         else if (seat != except && pages > 0)
             add(guests, seat, pages, least(policy_spare(seat), pages), least(spare_above(seat, low), pages));

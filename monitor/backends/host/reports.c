@@ -2,15 +2,11 @@
 #include "host.h"
 #include "measures.h"
 
-/* A guest waits: whether there is room, it is answered at once, unless it waits for its grant; and again, where it hasn't heard that. */
+/* A guest waits: whether there is room, it is answered at once, unless it waits for its grant. */
 static void answer_wait(struct seat *seat)
 {
     struct host *host = seat->host;
     uint32_t wanted = seat->report.wanted;
-    if (seat->report.wait == seat->wait_answered) {
-        seat_answer(seat, seat->wait_admitted);
-        return;
-    }
     if (seat->report.holds && (seat->report.waits == WAIT_RESET || wanted <= host->frames))
         return;
     uint64_t missing = seat->report.holds ? wanted - host->frames : wanted > seat->pages ? policy_lacks(host, seat, wanted) : 0;
@@ -50,7 +46,8 @@ static void adopt(struct seat *seat)
     seat->taken = report->counters.taken;
     if (report->has_terms)
         seat->terms = (struct guest_terms){.least = report->terms.least, .most = report->terms.most,
-                                           .priority = report->terms.priority, .strict = report->terms.strict != 0};
+                                           .priority = report->terms.priority, .strict = report->terms.strict != 0,
+                                           .overhead = seat->terms.overhead, .limit = seat->terms.limit};
 }
 
 static void note_wait(struct seat *seat)
@@ -81,10 +78,8 @@ static void take_report(struct seat *seat, const struct lending_message *message
         host_changed(seat->host, BY_GUESTS);
     }
     take_note(seat);
-    if (message->waits != WAIT_NOTHING)
+    if (!seat_repeat(seat) && message->waits != WAIT_NOTHING)
         answer_wait(seat);
-    else if (message->held_pages > 0 && message->held_wait == seat->held_granted)
-        seat_grant(seat);
     loan_follow(seat);
     loans_grant(seat->host);
 }

@@ -47,6 +47,7 @@ void seat_clear(struct seat *seat)
     seat->wait_admitted = seat->adopted = false;
     seat->asked_for = WAITS_FOR_NOTHING;
     seat->cooperates = true;
+    limit_forget(seat);
 }
 
 /* Makes a seat's socket; false where it can't, with errno. */
@@ -102,8 +103,6 @@ const char *seat_add(struct host *host, const char *name, const struct guest_ter
 {
     if (!is_name(name) || seat_of(host, name))
         return "a name has 1 to 31 letters, digits, - and _, and no other guest has it";
-    if (terms->least > terms->most)
-        return "a guest's least is above its most";
     if (host->count == MOST_GUESTS)
         return "there are as many guests as can be";
     struct seat *seat = calloc(1, sizeof *seat);
@@ -111,7 +110,7 @@ const char *seat_add(struct host *host, const char *name, const struct guest_ter
         return strerror(ENOMEM);
     seat->host = host;
     seat->terms = *terms;
-    seat->channel = seat->process_file = -1;
+    seat->channel = seat->process_file = seat->writer.channel = -1;
     bool named = name_seat(seat, name);
     if (!named || !listen_at(seat)) {
         int why = errno;
@@ -179,6 +178,8 @@ const char *seat_remove(struct host *host, struct seat *seat)
     memmove(host->seats + number, host->seats + number + 1, (host->count - number) * sizeof host->seats[0]);
     remove_socket(seat->path);
     remove_socket(seat->later_path);
+    folder_forget(host, seat->name);
+    limit_end(seat);
     close_listener(seat->listener);
     seat->listener = -1;
     if (!seat->here) {

@@ -4,7 +4,7 @@
 
 struct guest_terms host_usual_terms(const struct host *host)
 {
-    return (struct guest_terms){.most = UINT32_MAX, .strict = host->strict};
+    return (struct guest_terms){.most = UINT32_MAX, .strict = host->strict, .overhead = USUAL_OVERHEAD};
 }
 
 const char *guest_state_word(enum guest_state state)
@@ -32,12 +32,6 @@ static enum guest_state state_of(const struct seat *seat)
     if (seat->pages == 0)
         return GUEST_COMING;
     return seat_is_ready(seat) ? GUEST_READY : GUEST_STARTING;
-}
-
-static uint32_t excess_of(const struct seat *seat, uint32_t loan)
-{
-    uint64_t held = seat->report.held_kib / 4;
-    return held > loan ? (uint32_t)(held - loan) : 0;
 }
 
 /* Frames that are lent to a guest. */
@@ -96,7 +90,8 @@ void host_see_guest(const struct host *host, unsigned number, struct guest_view 
     uint32_t loan = loan_of(seat);
     *view = (struct guest_view){
         .name = seat->name, .path = seat->path, .process = seat->process, .state = state_of(seat), .terms = seat->terms,
-        .pages = seat->pages, .held_kib = report->held_kib, .loan = loan, .excess = excess_of(seat, loan), .target = seat->target,
+        .pages = seat->pages, .held_kib = report->held_kib, .loan = loan, .excess = loan_excess(seat), .limit = seat->writer.written,
+        .limit_failures = seat->writer.failures, .target = seat->target,
         .ballooned = report->ballooned, .actual = report->actual, .free = seat->free, .available = seat->available,
         .spare = policy_spare(seat), .answers = seat_answers(seat), .reports = seat_reports(seat),
         .cooperates = cooperates(seat), .waits_for = seat->waits_for, .clients = seat->clients,
@@ -134,9 +129,21 @@ const char *host_set_floor(struct host *host, uint32_t pages)
 
 static const char nobody[] = "no guest has that name";
 
+const char *host_refuses(const struct host *host, const char *name, const struct guest_terms *terms)
+{
+    return terms->least > terms->most ? "a guest's least is above its most" : limit_refusal(host, name, terms);
+}
+
 const char *host_add(struct host *host, const char *name, const struct guest_terms *terms)
 {
-    return seat_add(host, name, terms);
+    const char *fault = host_refuses(host, name, terms);
+    fault = fault ? fault : seat_add(host, name, terms);
+    if (fault)
+        return fault;
+    fault = folder_keep(host, name, terms);
+    if (fault)
+        seat_remove(host, seat_of(host, name));
+    return fault;
 }
 
 const char *host_remove(struct host *host, const char *name)
@@ -150,8 +157,12 @@ const char *host_set_terms(struct host *host, const char *name, const struct gue
     struct seat *seat = seat_of(host, name);
     if (!seat)
         return nobody;
-    if (terms->least > terms->most)
-        return "a guest's least is above its most";
+    const char *fault = host_refuses(host, name, terms);
+    fault = fault ? fault : folder_keep(host, name, terms);
+    if (fault)
+        return fault;
+    if (memcmp(&terms->limit, &seat->terms.limit, sizeof terms->limit) != 0)
+        limit_end(seat);
     seat->terms = *terms;
     seat_keep_terms(seat);
     host_changed(host, BY_BUDGET);

@@ -2,6 +2,8 @@
  * standard input alike. Nothing here waits, and nothing asks a guest's process: numbers are those of its last report. */
 #ifndef VIEW_H
 #define VIEW_H
+#include "limit.h"
+
 #include <stdbool.h>
 #include <stddef.h>
 #include <stdint.h>
@@ -28,7 +30,12 @@ struct guest_terms {
     uint32_t most;              /* frames that it may hold at most, whatever the budget leaves; UINT32_MAX: all it has */
     uint32_t priority;          /* those of a lower one give first */
     bool strict;                /* its deflates and resets wait for their grant, and it waits for room as it comes */
+    uint32_t overhead;          /* frames that it may hold beside its loan: the VMM's own, and memory that isn't handed over */
+    struct guest_limit limit;   /* the kernel has it hold no more than its loan and its overhead */
 };
+
+/* The overhead of a guest of whom nothing was said. */
+enum { USUAL_OVERHEAD = 64 * 256 };
 
 /* One guest. Pages are of 4096 bytes; seconds have fractions, and are 0 where there is nothing to count. */
 struct guest_view {
@@ -41,6 +48,8 @@ struct guest_view {
     uint64_t held_kib;          /* what its files have in blocks on the host */
     uint32_t loan;              /* frames that are lent to it */
     uint32_t excess;            /* frames that it holds above its loan */
+    uint64_t limit;             /* frames that its limit was written to last; 0: it wasn't yet */
+    uint64_t limit_failures;    /* how often its limit couldn't be written */
     uint32_t target, ballooned, actual;
     uint32_t free, available;   /* as it told them last; 0 where it didn't */
     uint32_t spare;             /* what it can spare by these numbers, what is ballooned included */
@@ -84,6 +93,8 @@ const char *host_set_floor(struct host *host, uint32_t pages);
 const char *host_add(struct host *host, const char *name, const struct guest_terms *terms);
 const char *host_remove(struct host *host, const char *name);
 const char *host_set_terms(struct host *host, const char *name, const struct guest_terms *terms);
+/* Why a guest of this name, which there may be, can't have these terms; NULL: it can. */
+const char *host_refuses(const struct host *host, const char *name, const struct guest_terms *terms);
 /* A target by hand: it stays while it serves. */
 const char *host_set_target(struct host *host, const char *name, uint32_t pages);
 

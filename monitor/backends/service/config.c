@@ -53,6 +53,8 @@ static const struct key guest_keys[] = {
     {"guest", "most", WORD_SIZE, offsetof(struct config_guest, terms.most)},
     {"guest", "priority", WORD_NUMBER, offsetof(struct config_guest, terms.priority)},
     {"guest", "strict", WORD_BOOLEAN, offsetof(struct config_guest, terms.strict)},
+    {"guest", "overhead", WORD_SIZE_OR_NONE, offsetof(struct config_guest, terms.overhead)},
+    {"guest", "limit", WORD_LIMIT, offsetof(struct config_guest, terms.limit)},
 };
 
 static bool fault(struct reader *reader, const char *key, const char *words)
@@ -74,7 +76,7 @@ static struct config_guest *guest_of(struct reader *reader, const char *section)
     if (config->count == MOST_CONFIG_GUESTS)
         return fault(reader, section, "there are as many guests as can be"), NULL;
     struct config_guest *guest = &config->guests[config->count++];
-    *guest = (struct config_guest){.terms = {.most = UINT32_MAX}};
+    *guest = (struct config_guest){.terms = {.most = UINT32_MAX, .overhead = USUAL_OVERHEAD}};
     strcpy(guest->name, name);
     return guest;
 }
@@ -165,15 +167,26 @@ static char *next_line(char *bytes, int room, void *context)
     return length < 0 ? NULL : bytes;
 }
 
+/* Whether a guest before this one has its limit. */
+static bool shares_limit(const struct config *config, unsigned number)
+{
+    for (unsigned i = 0; i < number; i++)
+        if (limits_meet(&config->guests[i].terms.limit, &config->guests[number].terms.limit))
+            return true;
+    return false;
+}
+
 /* What no single key shows. */
 static void check_guests(struct reader *reader)
 {
     for (unsigned i = 0; i < reader->config->count; i++) {
         const struct config_guest *guest = &reader->config->guests[i];
-        if (guest->terms.least <= guest->terms.most)
+        bool above = guest->terms.least > guest->terms.most;
+        if (!above && !shares_limit(reader->config, i))
             continue;
         reader->faulty = true;
-        say_fault("%s: guest %s: its least is more than its most", reader->path, guest->name);
+        say_fault("%s: guest %s: %s", reader->path, guest->name,
+                  above ? "its least is more than its most" : "the limit is another guest's");
     }
 }
 

@@ -99,6 +99,8 @@ const char *word_read(enum word_kind kind, const char *word, void *at)
         return read_mode(word, at) ? NULL : "an octal mode, as 0660";
     case WORD_LEVEL:
         return config_level(word, at) ? NULL : "error, warning, notice, info or debug";
+    case WORD_LIMIT:
+        return limit_read(word, at);
     default:
         return read_boolean(word, at) ? NULL : "yes or no";
     }

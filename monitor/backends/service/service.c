@@ -110,7 +110,7 @@ static struct guest_terms terms_of(const struct config_guest *guest, const struc
 }
 
 /* Adds the guests of the file that the host hasn't, and gives the others their terms. A guest that the file doesn't name stays. */
-static bool apply_guests(const struct config *config, struct host *host)
+static bool apply_guests(const char *file, const struct config *config, struct host *host)
 {
     bool good = true;
     for (unsigned i = 0; i < config->count; i++) {
@@ -119,7 +119,21 @@ static bool apply_guests(const struct config *config, struct host *host)
         const char *fault = host_find(host, guest->name) < 0 ? host_add(host, guest->name, &terms)
                                                              : host_set_terms(host, guest->name, &terms);
         if (fault)
-            say_fault("guest %s: %s", guest->name, fault);
+            say_fault("%s: guest %s: %s", file, guest->name, fault);
+        good &= !fault;
+    }
+    return good;
+}
+
+/* Whether the host takes the terms of all guests of a file; else says which it doesn't. */
+static bool guests_fit(const char *file, const struct config *config, const struct host *host)
+{
+    bool good = true;
+    for (unsigned i = 0; i < config->count; i++) {
+        struct guest_terms terms = terms_of(&config->guests[i], host);
+        const char *fault = host_refuses(host, config->guests[i].name, &terms);
+        if (fault)
+            say_fault("%s: guest %s: %s", file, config->guests[i].name, fault);
         good &= !fault;
     }
     return good;
@@ -131,7 +145,7 @@ static void reload(struct service *service, struct host *host)
     static struct config config;
     const char *section, *key;
     notify_reloads();
-    if (!config_read(service->file, &config))
+    if (!config_read(service->file, &config) || !guests_fit(service->file, &config, host))
         say_fault("%s: the old configuration stays", service->file);
     else if (!config_stays(&service->config, &config, &section, &key))
         say_fault("%s: %s of [%s] can't change while the host runs: the old configuration stays", service->file, key, section);
@@ -142,7 +156,7 @@ static void reload(struct service *service, struct host *host)
             host_set_budget(host, config.budget);
         if (config.floor != UINT32_MAX)
             host_set_floor(host, config.floor);
-        apply_guests(&config, host);
+        apply_guests(service->file, &config, host);
         say_news("%s: read anew", service->file);
     }
     notify_ready();
@@ -210,7 +224,8 @@ bool service_begin(struct service *service, struct host *host, const char *folde
         if (!find_socket(service, i, folder))
             return false;
     service->hangup = service->file ? process_reload() : -1;
-    if ((service->file && service->hangup < 0) || !control_open(&service->control, service->sockets) || !apply_guests(&service->config, host))
+    if ((service->file && service->hangup < 0) || !control_open(&service->control, service->sockets)
+        || !apply_guests(service->file, &service->config, host))
         return false;
     for (unsigned i = 0; i < CONTROL_SOCKETS; i++)
         notify_keep(control_socket_word(i), service->control.sockets[i].listener);

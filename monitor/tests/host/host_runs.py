@@ -236,7 +236,8 @@ RUNS = {
     "marks": marks_run, "tells": tells_run, "files": files_run,
     "shift-1": functools.partial(shift_run, seed=1), "shift-2": functools.partial(shift_run, seed=2),
     "shift-3": functools.partial(shift_run, seed=3),
-    "greedy": greedy_run, "strict": strict_run, "bare": bare_run, "rest": rest_run, "lives": lives_run, "full": full_run, "trash": trash_run,
+    "greedy": greedy_run, "strict": strict_run, "bare": bare_run,
+    "rest": rest_run, "lives": lives_run, "full": full_run, "trash": trash_run,
 }
 
 

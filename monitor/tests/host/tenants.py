@@ -58,11 +58,11 @@ class Lender(linux_host.Host):
 class Guest(threading.Thread):
     """A guest whose driver answers each question by these figures, and obeys its target, as Linux does."""
 
-    def __init__(self, lender, name, figures, obeys=True):
+    def __init__(self, lender, name, figures, obeys=True, folder=None):
         super().__init__(daemon=True)
         self.figures, self.obeys, self.lender, self.name_of = dict(figures), obeys, lender, name
         self.gone = False
-        self.client = Client(f"{lender.folder}/{name}", lambda: "")
+        self.client = Client(f"{lender.folder}/{name}", lambda: "", folder)
         self.ended, self.answers, self.lock = threading.Event(), True, threading.Lock()
         self.client.start()
         self.tell()

@@ -41,7 +41,7 @@ def test_a_guest_s_process_is_shut_in(lend, come):
     come(lender, "a", {FREE: 60})
     process = process_of(lender, "a")
     status = status_of(process)
-    assert (status["NoNewPrivs"], status["Seccomp"]) == ("1", "2")
+    assert (status["NoNewPrivs"], status["Seccomp"], int(status["CapPrm"], 16)) == ("1", "2", 0)
 
 
 def test_a_process_has_the_files_that_it_was_handed_and_no_other(lend, come):

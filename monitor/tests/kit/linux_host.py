@@ -123,11 +123,11 @@ class Host(Backend):
 
 
 class Member:
-    """A guest of a host: Linux with a balloon, and the bytes that it keeps."""
+    """A guest of a host: Linux with a balloon, and the bytes that it keeps; its memory may be in a folder of its own."""
 
-    def __init__(self, host, vmm, name, memory):
-        self.host, self.vmm, self.name, self.memory = host, vmm, name, memory
-        self.socket = host.add(name)
+    def __init__(self, host, vmm, name, memory, terms="", place=None):
+        self.host, self.vmm, self.name, self.memory, self.place = host, vmm, name, memory, place
+        self.socket = host.add(f"{name} {terms}".strip())
         self.guest, self.sums, self.checked = None, {}, 0
 
     def boot(self):
@@ -136,7 +136,7 @@ class Member:
         os.makedirs(folder, exist_ok=True)
         self.sums = {}
         words = self.vmm.words(folder, Shape(self.memory), self.socket)
-        self.guest = Guest(words, self.vmm.environment(), (), folder, self.memory)
+        self.guest = Guest(words, self.environment(), (), folder, self.memory)
         try:
             self.guest.boot()
             if not self.host.guests()[self.name]["ready"]:
@@ -144,6 +144,10 @@ class Member:
         except Fault as fault:
             raise Fault(f"{self.name}: {fault}; the host said: {self.host.why_of(self.name)}") from None
         self.fill("keep", KEPT)
+
+    def environment(self):
+        """Returns its process's environment, which says where its memory is."""
+        return self.vmm.environment() | ({"TMPDIR": self.place} if self.place else {})
 
     def fill(self, name, mib):
         """Has it fill a file with random bytes, in its memory."""

@@ -23,7 +23,8 @@ VHOST_PARTS = tuple(
     f"guest/{it}" for it in ("features", "inbox", "messages", "ring_messages", "slots", "vhost_user")
 )
 HOST_PARTS = (
-    "folder", "input", "journal", "lines", "loans", "loop", "measures", "message", "orders", "policy", "reports", "seats", "start", "view",
+    "folder", "input", "journal", "limit", "limit_writer", "limits", "lines", "loans", "loop", "measures", "message", "orders", "policy",
+    "reports", "seats", "start", "view",
 )
 LENT_PARTS = ("guest/lent", "guest/lent_channel", "guest/marks", "guest/sandbox", "host/message")
 CLIENT_PARTS = {

@@ -49,13 +49,18 @@ NO_NUMBERS = ("", "x", " 5", "+5", "-1", "5 ", "5x", "0x5", "-184467440737095516
 NO_LINES = (*("x" * it for it in (127, 128, 254, 255, 256, 257, 511, 512, 513)), "\0", "x\0")
 
 
-class Client:
-    """A vhost-user client with memory; `why` says what its backend said last."""
+def memory_file(folder, name):
+    """Makes a file for memory: a memfd, or one without a name in a folder."""
+    return os.open(folder, os.O_TMPFILE | os.O_RDWR) if folder else os.memfd_create(name)
 
-    def __init__(self, path, why=lambda: ""):
+
+class Client:
+    """A vhost-user client with memory, in a folder where one is named; `why` says what its backend said last."""
+
+    def __init__(self, path, why=lambda: "", folder=None):
         self.why, self.path, self.socket = why, path, None
         self.connect()
-        self.files = [os.memfd_create(f"region {it}") for it in range(len(REGIONS))]
+        self.files = [memory_file(folder, f"region {it}") for it in range(len(REGIONS))]
         for it in self.files:
             os.write(it, b"\xff" * PAGES_OF_REGION * PAGE)
         self.available = [0] * QUEUES

@@ -1,0 +1,316 @@
+"""Limits that the kernel enforces: the size of a tmpfs that has a guest's memory, and a cgroup of the first version, both real. A limit
+is raised before its guest has pages, and lowered after they came."""
+
+import contextlib
+import errno
+import os
+import socket
+import struct
+import subprocess
+import time
+
+import pytest
+from tenants import FREE, eventually, go_on, stop
+from test_strict import GIVEN, STRICT, used, waits_of
+from vhost_client import DEFLATE, PAGE, Client
+
+CGROUPS = "/sys/fs/cgroup/memory"
+
+# Pages of a guest.
+ALL = 128
+
+pytestmark = pytest.mark.skipif(os.geteuid() != 0, reason="mounts and cgroups are for root")
+
+
+def run(*words):
+    """Runs a program that has to succeed."""
+    subprocess.run(words, check=True, stdin=subprocess.DEVNULL, capture_output=True)
+
+
+class Mount:
+    """A tmpfs of its own."""
+
+    def __init__(self, path, mib=1):
+        self.path, self.term = path, f"tmpfs:{path}"
+        os.makedirs(path)
+        self.mount(mib)
+
+    def mount(self, mib=1):
+        """Mounts it."""
+        run("mount", "-t", "tmpfs", "-o", f"size={mib}m,mode=700,nosuid,noexec", "limits", self.path)
+
+    def pages(self):
+        """Returns how many pages it may have."""
+        its = os.statvfs(self.path)
+        return its.f_blocks * its.f_frsize // PAGE
+
+    def end(self):
+        """Unmounts it, if it is mounted."""
+        subprocess.run(["umount", "-l", self.path], stdin=subprocess.DEVNULL, capture_output=True)
+
+
+class Cgroup:
+    """A cgroup of its own, which nobody is in."""
+
+    def __init__(self, name):
+        self.path = f"{CGROUPS}/{name}"
+        self.term = f"cgroup:{self.path}"
+        os.mkdir(self.path)
+
+    def pages(self):
+        """Returns how many pages it may have."""
+        with open(f"{self.path}/memory.limit_in_bytes", encoding="ascii") as its:
+            return int(its.read()) // PAGE
+
+    def end(self):
+        """Removes it."""
+        with contextlib.suppress(FileNotFoundError):
+            os.rmdir(self.path)
+
+
+@pytest.fixture(params=["tmpfs", "cgroup"])
+def limits(request, tmp_path):
+    """Makes limits of one kind, which are gone at the end."""
+    made = []
+    if request.param == "cgroup" and not os.path.exists(f"{CGROUPS}/memory.limit_in_bytes"):
+        pytest.skip("this machine has no cgroups of memory of the first version")
+
+    def make(name):
+        made.append(Mount(f"{tmp_path}/{name}") if request.param == "tmpfs" else Cgroup(f"limits-{os.getpid()}-{name}"))
+        return made[-1]
+
+    yield make
+    for it in made:
+        it.end()
+
+
+@pytest.fixture
+def one(lend, come, limits):
+    """A host with 256 frames, a guest that has a limit, and one that has none."""
+    lender, its = lend(1, *STRICT), limits("a")
+    guest = come(lender, "a", {FREE: 100}, f"overhead=0 limit={its.term}")
+    other = come(lender, "b", {FREE: 100})
+    lender.become("a", limit=ALL)
+    return lender, guest, other, its
+
+
+def writer_of(lender, name):
+    """Returns the process that writes a guest's limit, by its words."""
+    wanted = f"vhost_user_host\0--write-limits\0{lender.folder}/{name}\0".encode()
+
+    def found():
+        for number in filter(str.isdigit, os.listdir("/proc")):
+            with contextlib.suppress(OSError), open(f"/proc/{number}/cmdline", "rb") as words:
+                if words.read() == wanted:
+                    return int(number)
+        return None
+
+    return eventually(found, f"nobody writes the limit of {name}")
+
+
+def test_a_limit_follows_its_loan(one):
+    lender, a, _, its = one
+    assert its.pages() == ALL
+    a.give(GIVEN[:50])
+    lender.become("a", lent=78, limit=78)
+    assert its.pages() == 78
+    a.take(GIVEN[:10])
+    used(a, DEFLATE, 1)
+    assert its.pages() == 88
+    lender.become("a", lent=88, limit=88, waits="nothing", limit_failures=0)
+
+
+def test_a_limit_is_lowered_after_pages_came(one):
+    """A target alone lowers nothing."""
+    lender, a, _, its = one
+    lender.demand("a target 50")
+    time.sleep(0.5)
+    assert (its.pages(), lender.guests()["a"]["target"]) == (ALL, 50)
+    a.give(GIVEN[:30])
+    lender.become("a", limit=ALL - 30)
+    assert its.pages() == ALL - 30
+
+
+def test_a_limit_is_raised_before_its_grant(one):
+    """Its writer is held up: the guest has nothing until that goes on, and nobody else waits."""
+    lender, a, b, its = one
+    a.give(GIVEN[:50])
+    lender.become("a", limit=78)
+    writer = writer_of(lender, "a")
+    stop(writer)
+    a.take(GIVEN[:10])
+    lender.become("a", lent=88, waits="deflate")
+    b.give(GIVEN[:20]), b.take(GIVEN[:5])
+    used(b, DEFLATE, 1)
+    time.sleep(0.5)
+    assert (a.client.used(DEFLATE)[0], its.pages()) == (0, 78)
+    assert waits_of(lender, "a") == "deflate"
+    go_on(writer)
+    used(a, DEFLATE, 1)
+    assert its.pages() == 88
+
+
+def test_who_comes_has_its_limit_first(lend, limits):
+    lender, its = lend(1, *STRICT), limits("a")
+    lender.demand(f"add a overhead=0 limit={its.term}")
+    client = Client(f"{lender.folder}/a")
+    client.negotiate()
+    client.hand_over_memory()
+    assert its.pages() == ALL
+    client.leave()
+    lender.become("a", here=0, limit=0)
+    assert its.pages() == ALL
+
+
+def test_overhead_is_beside_the_loan(lend, come, limits):
+    lender, its = lend(1, *STRICT), limits("a")
+    come(lender, "a", {FREE: 100}, f"overhead=1 limit={its.term}").give(GIVEN[:50])
+    lender.become("a", limit=78 + 256)
+    assert its.pages() == 78 + 256
+
+
+def test_a_limit_goes_on_with_the_next_lender(one, lend):
+    lender, a, _, its = one
+    a.give(GIVEN[:50])
+    lender.become("a", limit=78)
+    lender.kill()
+    second = lend(1, *STRICT, folder=lender.folder)
+    second.become("a", limit=78, overhead=0)
+    a.take(GIVEN[:10])
+    used(a, DEFLATE, 1)
+    assert its.pages() == 88
+    second.demand("remove a")
+    assert os.readlink(f"{lender.folder}/=b").endswith(" none") and not os.path.lexists(f"{lender.folder}/=a")
+
+
+def test_a_writer_that_ends_is_begun_anew(one):
+    lender, a, _, its = one
+    os.kill(writer_of(lender, "a"), 9)
+    a.give(GIVEN[:50])
+    lender.become("a", limit=78)
+    assert its.pages() == 78
+    assert "a: its limit" in "".join(lender.said())
+
+
+def test_a_limit_that_cannot_be_written_is_named(one):
+    """A guest has nothing before its limit is raised; the next try finds it."""
+    lender, a, _, its = one
+    a.give(GIVEN[:50])
+    lender.become("a", limit=78)
+    its.end()
+    a.take(GIVEN[:10])
+    eventually(lambda: lender.guests()["a"]["limit_failures"] >= 2)
+    assert a.client.used(DEFLATE)[0] == 0
+    said = [it for it in lender.said() if f"its limit {its.term} can't be set to {88 * 4} KiB: " in it]
+    assert said, lender.said()
+    os.mkdir(its.path) if isinstance(its, Cgroup) else its.mount()
+    used(a, DEFLATE, 1)
+    assert its.pages() == 88
+
+
+def test_a_guest_cannot_pass_its_limit(lend, come, tmp_path):
+    """Pages that it gave are out of its reach until they are lent to it again."""
+    lender, its = lend(1, *STRICT), Mount(f"{tmp_path}/a")
+    lender.demand(f"add a overhead=0 limit={its.term}")
+    try:
+        guest = come(lender, "a", {FREE: 100}, folder=its.path)
+        guest.fill()
+        lender.become("a", limit=ALL, held_kib=4 * ALL)
+        guest.give(GIVEN[:50])
+        lender.become("a", limit=78, held_kib=4 * 78)
+        address = GIVEN[0] * PAGE
+        with pytest.raises(OSError) as refused:
+            guest.client.write(address, b"x")
+        assert refused.value.errno == errno.ENOSPC
+        guest.take(GIVEN[:1])
+        used(guest, DEFLATE, 1)
+        guest.client.write(address, b"x")
+        assert guest.client.read(address, 1) == b"x"
+        guest.leave()
+    finally:
+        its.end()
+
+
+def test_who_takes_pages_unasked_is_named(lend, come):
+    """It has no limit: its balloon doesn't count any longer, and the others are asked for what is missing."""
+    lender = lend(1, "--floor", "0", "--period", "100", "--step", "0")
+    guests = [come(lender, it, {FREE: 100}, "overhead=0") for it in "abc"]
+    for it in guests:
+        it.fill()
+    lender.become("a", target=100), lender.become("b", target=28), lender.become("c", target=0)
+    guests[0].give(GIVEN[:100])
+    lender.become("a", ballooned=100, lent=28, held_kib=4 * 28, cooperates=1)
+    guests[0].fill()
+    lender.become("a", held_kib=4 * ALL, cooperates=0, lent=ALL, spare=0, target=0)
+    lender.become("b", target=100), lender.become("c", target=28)
+    assert "a: has taken 100 pages unasked: all its memory counts as lent from now on" in lender.said()
+    time.sleep(0.5)
+    assert sum("unasked" in it for it in lender.said()) == 1
+
+
+NO_LIMIT, NO_PATH = "none, cgroup:PATH or tmpfs:MOUNT", "a path from / on, without ., .. or a slash too many"
+REFUSED = (
+    ("limit=/x", NO_LIMIT),
+    ("limit=tmpfs:x", NO_PATH),
+    ("limit=tmpfs:/x/../y", NO_PATH),
+    ("limit=cgroup:/x/", NO_PATH),
+    ("limit=tmpfs:/" + "x" * 151, "a path of 151 bytes at most, each of them a letter, a digit or a sign of ASCII"),
+    ("limit=cgroup:/etc", "no cgroup of memory"),
+    ("limit=cgroup:/sys/fs/cgroup/cpu", "no cgroup of memory"),
+    ("limit=tmpfs:/etc", "no mount of tmpfs"),
+    ("limit=tmpfs:/dev/shm/x", "no mount of tmpfs"),
+    ("strict=0 limit=tmpfs:/dev/shm", "a limit is for a strict guest, whose deflates wait until it is raised"),
+)
+
+
+@pytest.mark.parametrize("terms, why", REFUSED)
+def test_what_is_no_limit_is_refused(lend, terms, why):
+    lender = lend(1, *STRICT)
+    assert lender.ask(f"add a {terms}").endswith(f": {why}")
+    lender.demand("add a")
+    assert lender.ask(f"terms a {terms}") == f"error: {why}"
+    assert lender.guests()["a"]["overhead"] == 64 * 256
+    assert os.readlink(f"{lender.folder}/=a") == "16384 none"
+
+
+def test_a_limit_is_one_guests(lend, limits):
+    lender, its = lend(1, *STRICT), limits("a")
+    lender.demand(f"add a limit={its.term}"), lender.demand(f"terms a limit={its.term}"), lender.demand("add b")
+    for line in (f"terms b limit={its.term}", f"add c limit={its.term}"):
+        assert "the limit is another guest's" in lender.ask(line)
+    if isinstance(its, Cgroup):
+        assert "the limit is another guest's" in lender.ask(f"terms b limit={its.term}/below")
+        assert "the limit is another guest's" in lender.ask(f"terms b limit=cgroup:{CGROUPS}")
+    else:
+        os.makedirs(f"{its.path}-again")
+        run("mount", "--bind", its.path, f"{its.path}-again")
+        try:
+            assert "the limit is another guest's" in lender.ask(f"terms b limit={its.term}-again")
+        finally:
+            run("umount", f"{its.path}-again")
+    lender.demand("terms a limit=none"), lender.demand(f"terms b limit={its.term}")
+
+
+def answer_of_a_writer(lender, kind, path, pages):
+    """Has the program of a lender write a limit, as a lender does; returns the errno."""
+    ours, its = socket.socketpair(socket.AF_UNIX, socket.SOCK_SEQPACKET)
+    writer = subprocess.Popen([lender.process.args[0], "--write-limits", "test"], stdin=its)
+    its.close()
+    ours.send(struct.pack("<QQI152s4x", 7, pages * PAGE, kind, path.encode()))
+    number, code = struct.unpack("<Qi", ours.recv(4096)[:12])
+    ours.close()
+    assert (number, writer.wait(20)) == (7, 0)
+    return code
+
+
+def test_a_cgroup_of_the_second_version(lend, tmp_path):
+    """By a folder that is made as one, since this machine may have none."""
+    lender = lend(1, *STRICT)
+    (tmp_path / "memory.max").write_text("max\n")
+    assert answer_of_a_writer(lender, 1, str(tmp_path), 78) == 0
+    assert (tmp_path / "memory.max").read_text() == f"{78 * PAGE}"
+    assert answer_of_a_writer(lender, 1, f"{tmp_path}/none", 78) == errno.ENOENT
+    (tmp_path / "link").mkdir()
+    (tmp_path / "link/memory.max").symlink_to(tmp_path / "memory.max")
+    assert answer_of_a_writer(lender, 1, f"{tmp_path}/link", 79) == errno.ELOOP
+    assert answer_of_a_writer(lender, 2, str(tmp_path), 78) == errno.EINVAL
