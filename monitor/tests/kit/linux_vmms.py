@@ -166,7 +166,8 @@ class Qemu(OverSocket, Emulator):
 
     forms, has_control = ("events",), True
     devices, debian = ("vhost-user-test-device-pci", "vhost-user-device-pci"), "sid"
-    kernel_words = ("console=ttyS0", "memhp_default_state=online")
+    # On a busy machine a timer comes too late for the kernel's check of it.
+    kernel_words = ("console=ttyS0", "no_timer_check", "memhp_default_state=online")
 
     # What the generic device is told of a balloon.
     OF_BALLOON = {"virtio-id": 5, "num_vqs": 4, "config_size": 16}
