@@ -1,9 +1,9 @@
 -- What the calls of a host that asks its guests answer in C, worked out.
-use Rattle.std.proofs.Common.{◌≡◌, ◌∙◌, ◌⊎◌, inl, inr, refl, ap, arith, ℕ, ◌+◌, ◌<◌, ◌≤◌, List, [], ◌∷◌}
+use Rattle.std.proofs.Common.{◌≡◌, ◌∙◌, ◌⊎◌, inl, inr, refl, ap, arith, ℕ, ◌≤◌, List, [], ◌∷◌}
 use Rattle.vb_virtio.specs.Targets.{Need}
 use Rattle.vb_lender.specs.declared.guest.HostGuest.{HostGuest}
 use Rattle.vb_lender.specs.declared.terms.Share.{Share}
-use Rattle.vb_lender.specs.Guests.{AsksGuests, TargetsServe}
+use Rattle.vb_lender.specs.Guests.{TargetsServe}
 use Rattle.vb_lender.specs.Loans.{vacant}
 use Rattle.vb_c.specs.declared.sharing.VbTargets.{VbTargets}
 use Rattle.vb_c.specs.{Sharing.targets_of, Hosting.{AsksHost, TellsGuests}}
@@ -60,8 +60,8 @@ too_little : (needs : List Need) (rests : List ℕ) (said : ℕ)
     → TellsGuests 80 12 4 (guest ∷ []) (10 ∷ []) (need ∷ []) needs (0 ∷ []) rests said → said ≡ 1
 too_little needs rests said h = by (h.tells refl refl) where
   by : ((said ≡ 1) × (¬ TargetsServe 12 4 80 (guest ∷ []) (10 ∷ []))) ⊎ ((said ≡ 0) × TargetsServe 12 4 80 (guest ∷ []) (10 ∷ [])) → said ≡ 1
-  by (inl no) = no.0
-  by (inr yes) = let l : 10 ≤ 0 = yes.1.serve.enough in absurd (omega (arith, l))
+  by (inl lacks) = lacks.0
+  by (inr serves) = let l : 10 ≤ 0 = serves.1.serve.enough in absurd (omega (arith, l))
 
 fewer_rests : (needs : List Need) (rests : List ℕ) (said : ℕ)
     → TellsGuests 80 12 4 (guest ∷ []) (20 ∷ []) (need ∷ []) needs [] rests said → (said ≡ 1) × (needs ≡ need ∷ []) × (rests ≡ [])
