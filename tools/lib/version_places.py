@@ -12,7 +12,6 @@ PLACES = (
     ("crates/vb_c/src/saving.rt", "const VERSION: u32 = ", RUST),
     ("monitor/rust/Cargo.toml", "version = ", STRING),
     ("monitor/rust/ctests/Cargo.toml", "version = ", STRING),
-    ("monitor/rust/src/raw.rs", "pub const VERSION: u32 = ", RUST),
     ("client/bigvasta/__init__.py", "__version__ = ", STRING),
 )
 

@@ -13,32 +13,32 @@ CRATES = ("vb_virtio", "vb_ram", "vb_chain", "vb_ring", "vb_request", "vb_core",
 READ = (
     *(f"crates/{it}/src" for it in CRATES),
     "crates.txt", "crates/vb_c/vb.h", "docs/RULES.md", "docs/INTEGRATION.md", "monitor/backends/guest/backend.c",
-    "monitor/reference/device.h", "monitor/include/ring_layout.h", "monitor/rust/src/raw/codes.rs", "tools/list-codes",
-    "tools/lib/version_places.py", "VERSION", "client/bigvasta/__init__.py", "monitor/rust/src/raw.rs",
+    "monitor/reference/reference.h", "monitor/include/ring_layout.h", "tools/list-codes",
+    "tools/lib/version_places.py", "VERSION", "client/bigvasta/__init__.py",
     "monitor/rust/Cargo.toml", "monitor/rust/ctests/Cargo.toml",
 )
 
 # Seconds that a call of the tool has.
 LIMIT = 60
 
-HEADER, REFERENCE = "crates/vb_c/vb.h: numbers", "monitor/reference/device.h: rules"
-BACKEND, RUST = "monitor/backends/guest/backend.c: rules", "monitor/rust/src/raw/codes.rs"
+HEADER, REFERENCE = "crates/vb_c/vb.h: numbers", "monitor/reference/reference.h: rules"
+BACKEND = "monitor/backends/guest/backend.c: rules"
 LAYOUT = "monitor/include/ring_layout.h"
 RULES, CODES = "docs/RULES.md", "docs/INTEGRATION.md"
 
 # A file, its text, what is there in place of it, and what the tool then says differs.
 CHANGES = (
-    ("crates/vb_c/src/answers.rt", "NOT_READY: u32 = 3", "NOT_READY: u32 = 14", [HEADER, RUST, f"{CODES}: VB_NOT_READY is 3"]),
+    ("crates/vb_c/src/answers.rt", "NOT_READY: u32 = 3", "NOT_READY: u32 = 14", [HEADER, f"{CODES}: VB_NOT_READY is 3"]),
     ("crates/vb_c/src/answers.rt", "NOT_READY: u32 = 3", "NOT_READY: u32 = 2",
-     ["answers: two codes of one number", HEADER, RUST, f"{CODES}: VB_NOT_READY is 3"]),
-    ("crates/vb_c/src/kinds.rt", "REPORT: u32 = 3", "REPORT: u32 = 5", [HEADER, RUST]),
-    ("crates/vb_c/src/bits.rt", "READ: u32 = 64", "READ: u32 = 256", [HEADER, RUST]),
-    ("crates/vb_c/src/places.rt", "EMPTY: u32 = 2", "EMPTY: u32 = 4", [HEADER, RUST]),
+     ["answers: two codes of one number", HEADER, f"{CODES}: VB_NOT_READY is 3"]),
+    ("crates/vb_c/src/kinds.rt", "REPORT: u32 = 3", "REPORT: u32 = 5", [HEADER]),
+    ("crates/vb_c/src/bits.rt", "READ: u32 = 64", "READ: u32 = 256", [HEADER]),
+    ("crates/vb_c/src/places.rt", "EMPTY: u32 = 2", "EMPTY: u32 = 4", [HEADER]),
     ("crates/vb_chain/src/fault.rt", "BadPage = 9", "BadPage = 11", [HEADER, REFERENCE, BACKEND, f"{RULES}: BadPage is 9"]),
     ("crates/vb_chain/src/fault.rt", '"no such page"', '"no page"', [HEADER, BACKEND]),
-    ("crates/vb_virtio/src/limits.rt", "MAX_QUEUE_SIZE: u32 = 256", "MAX_QUEUE_SIZE: u32 = 512", [HEADER, RUST]),
-    ("crates/vb_virtio/src/layout.rt", "MAX_STATISTICS_LENGTH: u32 = 1020", "MAX_STATISTICS_LENGTH: u32 = 1030", [HEADER, RUST]),
-    ("crates/vb_core/src/format.rt", "SAVED_LENGTH: usize = 200", "SAVED_LENGTH: usize = 204", [HEADER, RUST]),
+    ("crates/vb_virtio/src/limits.rt", "MAX_QUEUE_SIZE: u32 = 256", "MAX_QUEUE_SIZE: u32 = 512", [HEADER]),
+    ("crates/vb_virtio/src/layout.rt", "MAX_STATISTICS_LENGTH: u32 = 1020", "MAX_STATISTICS_LENGTH: u32 = 1030", [HEADER]),
+    ("crates/vb_core/src/format.rt", "SAVED_LENGTH: usize = 200", "SAVED_LENGTH: usize = 204", [HEADER]),
     ("crates/vb_chain/src/descriptor.rt", "DESCRIPTOR_SIZE: usize = 16", "DESCRIPTOR_SIZE: usize = 32", [LAYOUT]),
     ("crates/vb_ring/src/format.rt", "USED_ELEMENT_SIZE: u64 = 8", "USED_ELEMENT_SIZE: u64 = 12", [LAYOUT]),
     ("crates/vb_ring/src/format.rt", "const RING_META_SIZE", "const RING_REST_SIZE", [LAYOUT]),
@@ -49,9 +49,8 @@ CHANGES = (
     ("crates/vb_c/vb.h", "#define VB_VERSION_NUMBER 0x", "#define VB_VERSION_NUMBER 0x1", ["crates/vb_c/vb.h: #define VB_VERSION_NUMBER"]),
     ("crates/vb_c/src/saving.rt", "const VERSION: u32 = 0x0", "const VERSION: u32 = 0x1", ["crates/vb_c/src/saving.rt: const VERSION: u32 ="]),
     ("client/bigvasta/__init__.py", "__version__ =", "__version__: str =", ["client/bigvasta/__init__.py: no place for __version__ ="]),
-    ("monitor/reference/device.h", "BAD_PAGE = 9", "BAD_PAGE = 8", [REFERENCE]),
+    ("monitor/reference/reference.h", "BAD_PAGE = 9", "BAD_PAGE = 8", [REFERENCE]),
     ("monitor/backends/guest/backend.c", '[9] = "no such page"', '[9] = "a reserved page"', [BACKEND]),
-    ("monitor/rust/src/raw/codes.rs", "COPY: u32 = 128", "COPY: u32 = 64", [RUST]),
     (RULES, "7 IndexJump", "8 IndexJump", [f"{RULES}: IndexJump is 8"]),
     (RULES, "10 ReservedPage", "a reserved page", [f"{RULES}: no number for ReservedPage"]),
     (CODES, "| 12 | `VB_BAD_SUM`", "| 11 | `VB_BAD_SUM`", [f"{CODES}: VB_BAD_SUM is 11"]),
@@ -65,7 +64,6 @@ WITH_VERSION = (
     ("crates/vb_c/src/saving.rt", "const VERSION: u32 = 0x01_1203;\n"),
     ("monitor/rust/Cargo.toml", '\nversion = "1.18.3"\n'),
     ("monitor/rust/ctests/Cargo.toml", '\nversion = "1.18.3"\n'),
-    ("monitor/rust/src/raw.rs", "pub const VERSION: u32 = 0x01_1203;\n"),
     ("client/bigvasta/__init__.py", '__version__ = "1.18.3"\n'),
 )
 
@@ -121,9 +119,8 @@ def test_a_change_of_the_owner_is_written_to_all_tables(copy):
     assert copy.call("--write") == (1, [f"{RULES}: BadPage is 9"])
     assert "VB_COPY = 512, " in copy.text("crates/vb_c/vb.h")
     assert "10 a reserved page; 11 no such page. */" in " ".join(copy.text("crates/vb_c/vb.h").replace("\n *", "").split())
-    assert "RESERVED_PAGE = 10, BAD_PAGE = 11 };" in copy.text("monitor/reference/device.h")
+    assert "RESERVED_PAGE = 10, BAD_PAGE = 11 };" in copy.text("monitor/reference/reference.h")
     assert '[11] = "no such page",\n' in copy.text("monitor/backends/guest/backend.c")
-    assert "pub const COPY: u32 = 512;\n" in copy.text("monitor/rust/src/raw/codes.rs")
 
 
 def test_a_version_that_rises_is_written_wherever_it_is_repeated(copy):
@@ -135,6 +132,6 @@ def test_a_version_that_rises_is_written_wherever_it_is_repeated(copy):
 
 
 def test_what_is_written_stays(copy):
-    before = {it: copy.text(it) for it in ("crates/vb_c/vb.h", "monitor/reference/device.h", "monitor/backends/guest/backend.c")}
+    before = {it: copy.text(it) for it in ("crates/vb_c/vb.h", "monitor/reference/reference.h", "monitor/backends/guest/backend.c")}
     assert copy.call("--write") == (0, [])
     assert {it: copy.text(it) for it in before} == before

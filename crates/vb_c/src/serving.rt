@@ -11,10 +11,9 @@ ghost use Rattle.vb_c.specs.Serving.{HandsOver, Begins, BeginsFor, GivesHeldFor,
 use crate::answers::{BAD_ARGUMENT, NO_QUEUE, NOTHING, kind_of_code};
 use crate::notice::{VbNotice, VbRoom};
 use crate::requests::hand_step;
-use crate::usual::begin_usually;
-use vb_core::{Kind, Run};
+use vb_core::Kind;
 use vb_monitor::{
-    Balloon, Budget, Cut, MAX_CUTS, MAX_RUNS, Notice, Region, after_descriptor, after_part,
+    Balloon, Budget, Cut, MAX_CUTS, Notice, Region, Room, after_descriptor, after_part,
 };
 
 /// Hands a notice over, with all that is to be done before it waits; what it came to is noted, once
@@ -23,16 +22,16 @@ pub(crate) fn hand_over(
     shown: &mut VbNotice,
     balloon: &mut Balloon,
     regions: &[Region],
-    runs: &[Run; MAX_RUNS],
+    room: &Room,
     cuts: &mut [Cut; MAX_CUTS],
     notice: &mut Notice,
 ) -> u32
     requires { Fits notice.old.step.phase }
-    ensures hands { HandsOver notice.old regions.now runs.now balloon.old balloon.new cuts.new
+    ensures hands { HandsOver notice.old regions.now room.now balloon.old balloon.new cuts.new
         shown.new }
     ensures what { result ≡ shown.new.what }
 {
-    let asked = notice.at_once(&mut balloon.device, regions, runs, cuts, &mut shown.orders);
+    let asked = notice.at_once(&mut balloon.device, regions, room, cuts, &mut shown.orders);
     if let Some(outcome) = notice.outcome() {
         balloon.note(notice.kind, &outcome);
     }
@@ -47,32 +46,6 @@ fn refuse(shown: &mut VbNotice, code: u32) -> u32
 {
     shown.end_with(code);
     shown.what
-}
-
-/// A queue is served, however its notice begins.
-#[inline(never)]
-fn begin_anyhow(
-    notice: &mut VbNotice,
-    balloon: &mut Balloon,
-    regions: &[Region],
-    room: &mut VbRoom,
-    kind: Kind,
-    budget: Budget,
-) -> u32
-    ensures begins { Begins (λ after outcome log. Serves regions.now kind budget
-        balloon.old.device after outcome log) regions.now kind balloon.old balloon.new room.old
-        room.new notice.new }
-    ensures what { result ≡ notice.new.what }
-{
-    let mut begun = Notice::begin(&mut balloon.device, regions, kind, budget);
-    hand_over(
-        notice,
-        balloon,
-        regions,
-        &room.runs,
-        &mut room.cuts,
-        &mut begun,
-    )
 }
 
 /// The driver kicked the queue of this kind, or may have.
@@ -103,10 +76,15 @@ pub extern "C" fn vb_begin(
                 pages,
                 keeps: keeps != 0,
             };
-            if begin_usually(notice, balloon, regions, room, kind, queue, budget) {
-                return notice.what;
-            }
-            begin_anyhow(notice, balloon, regions, room, queue, budget)
+            let mut begun = Notice::begin(&mut balloon.device, regions, queue, budget);
+            hand_over(
+                notice,
+                balloon,
+                regions,
+                &room.copied,
+                &mut room.cuts,
+                &mut begun,
+            )
         }
     }
 }
@@ -134,7 +112,7 @@ pub extern "C" fn vb_give_held(
                     notice,
                     balloon,
                     regions,
-                    &room.runs,
+                    &room.copied,
                     &mut room.cuts,
                     &mut begun,
                 )
@@ -159,20 +137,12 @@ pub(crate) fn go_anyhow(
     match notice.read() {
         None => refuse(notice, BAD_ARGUMENT),
         Some(mut read) => {
-            read.go_on(
-                &mut balloon.device,
-                regions,
-                answer,
-                &mut room.pieces,
-                &room.bytes,
-                &mut room.runs,
-                &mut room.figures,
-            );
+            read.go_on(&mut balloon.device, regions, answer, &mut room.copied);
             hand_over(
                 notice,
                 balloon,
                 regions,
-                &room.runs,
+                &room.copied,
                 &mut room.cuts,
                 &mut read,
             )
@@ -201,17 +171,14 @@ pub(crate) fn go_chain(
         kind,
         notice.tally(),
         notice.walk(),
-        &mut room.pieces,
-        &room.bytes,
-        &mut room.runs,
-        &mut room.figures,
+        &mut room.copied,
     );
     let mut next = Notice { kind, step };
     hand_step(
         notice,
         balloon,
         regions,
-        &room.runs,
+        &room.copied,
         &mut room.cuts,
         &mut next,
     )
@@ -239,17 +206,14 @@ pub(crate) fn go_part(
         kind,
         notice.tally(),
         notice.place(),
-        &room.pieces,
-        &room.bytes,
-        &mut room.runs,
-        &mut room.figures,
+        &mut room.copied,
     );
     let mut next = Notice { kind, step };
     hand_step(
         notice,
         balloon,
         regions,
-        &room.runs,
+        &room.copied,
         &mut room.cuts,
         &mut next,
     )

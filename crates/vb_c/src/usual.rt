@@ -6,52 +6,11 @@ ghost use Rattle.vb_monitor.specs.declared.outcome.Outcome.{Outcome};
 ghost use Rattle.vb_monitor.specs.Balloons.{held_after};
 ghost use Rattle.vb_c.specs.Codes.{kind_of_code};
 ghost use Rattle.vb_c.specs.Notices.{notice_of};
-ghost use Rattle.vb_monitor.specs.Notices.{Serves};
-ghost use Rattle.vb_c.specs.Serving.{Begins, GoesOnBy};
+ghost use Rattle.vb_c.specs.Serving.{GoesOnBy};
 
-use crate::notice::{INDEX, READ_INDEX, VbNotice, VbRoom};
+use crate::notice::{VbNotice, VbRoom};
 use vb_core::Kind;
-use vb_monitor::{
-    Balloon, Budget, Region, Tally, Walk, descriptor_after, first_of_single, index_to_look,
-    word_after,
-};
-
-/// A queue that is served is looked at, and its index is guest memory; says whether it is so. Else
-/// nothing is changed.
-pub(crate) fn begin_usually(
-    notice: &mut VbNotice,
-    balloon: &Balloon,
-    regions: &[Region],
-    room: &VbRoom,
-    code: u32,
-    kind: Kind,
-    budget: Budget,
-) -> bool
-    requires { kind_of_code code ≡ Some kind }
-    ensures began { result ≡ true → Begins (λ after outcome log. Serves regions.now kind budget
-        balloon.now.device after outcome log) regions.now kind balloon.now balloon.now room.now
-        room.now notice.new }
-    ensures stays { result ≡ false → notice.new ≡ notice.old }
-{
-    match index_to_look(&balloon.device, regions, kind) {
-        None => false,
-        Some(at) => {
-            let tally = Tally {
-                chains: budget.chains,
-                pages: budget.pages,
-                keeps: budget.keeps,
-                given: false,
-                held: None,
-                published: 0,
-            };
-            notice.kind = code;
-            notice.orders.cuts = 0;
-            notice.show_tally(tally);
-            notice.show_read(READ_INDEX, INDEX, at);
-            true
-        }
-    }
-}
+use vb_monitor::{Balloon, Region, Tally, Walk, descriptor_after, first_of_single, word_after};
 
 /// A fast path of notices, from one of the things that they wait for.
 pub(crate) trait Usual {
@@ -159,8 +118,7 @@ impl Usual for Single {
             regions,
             kind,
             notice.walk(),
-            &mut room.pieces,
-            &room.bytes,
+            &mut room.copied,
         ) {
             None => false,
             Some(first) => {

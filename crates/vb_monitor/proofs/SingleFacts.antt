@@ -1,29 +1,11 @@
--- Where an index is read, and requests of one piece, worked out.
+-- Requests of one piece, worked out.
 use Rattle.std.proofs.Common.{◌≡◌, refl, ℕ, true, false, Option, Some, None}
 use Rattle.vb_chain.specs.declared.descriptor.Descriptor.{Descriptor}
 use Rattle.vb_core.specs.declared.kinds.Kind.TheVariants.{Inflate, Deflate, Statistics, Report}
 use Rattle.vb_core.specs.declared.{device.Denial.TheVariants.NotReady, kinds.Kind.Kind}
 use Rattle.vb_monitor.{specs.declared.single.FirstPart.FirstPart, specs.declared.step.Walk.Walk}
-use Rattle.vb_monitor.specs.Single.{index_place, is_single, single_place, single_of}
+use Rattle.vb_monitor.specs.Single.{is_single, single_place, single_of}
 use Rattle.vb_monitor.proofs.Samples.{two, at, ring}
-
--- ---- the index
-
-index_there : index_place two None ring ≡ Some (at 0x102)
-index_there = refl
-
-refused : index_place two (Some NotReady) ring ≡ None
-refused = refl
-
-index_in_the_hole : index_place two None (record ring { avail = 0x14ffe }) ≡ None
-index_in_the_hole = refl
-
--- the region's last two bytes, and half of them
-index_at_the_end : index_place two None (record ring { avail = 0x14ffc }) ≡ Some (at 0x14ffe)
-index_at_the_end = refl
-
-half_an_index : index_place two None (record ring { avail = 0x14ffd }) ≡ None
-half_an_index = refl
 
 -- ---- a request by itself
 

@@ -1,4 +1,4 @@
--- Where a queue's index is read, and requests of one piece.
+-- Requests of one piece.
 use Rattle.std.specs.Prelude.{ℕ, ◌+◌, Bool, false, ◌==◌, ◌&&◌, not, List, if◌then◌else◌, Option}
 use Rattle.std.specs.Prelude.{None, is_none, option_map}
 use Rattle.vb_chain.specs.declared.descriptor.Descriptor.{Descriptor}
@@ -15,10 +15,6 @@ use Rattle.vb_monitor.specs.declared.step.Walk.{Walk}
 use Rattle.vb_monitor.specs.Regions.{spot}
 use Rattle.vb_monitor.specs.Pieces.{first_part}
 use Rattle.vb_monitor.specs.Chains.{descriptors, table_fault}
-
--- Where a queue's index is, if nothing refuses the queue.
-abbrev pub index_place : List Region → Option Denial → Virtqueue → Option Spot
-index_place regions why r = if is_none why then spot regions (r.avail + 2) 2 else None
 
 -- A descriptor is a whole request of the queue of this kind by itself: none follows it, and its
 -- buffer is the device's to read, and as long as a request may be.

@@ -53,7 +53,7 @@ impl Balloon {
             state,
             regions: Vec::new(),
             notice: raw::Notice::default(),
-            room: Box::new(raw::Room::new()),
+            room: Box::default(),
             most_chains: raw::MAX_QUEUE_SIZE,
             most_pages: u32::MAX,
             keeps_pages: false,

@@ -4,56 +4,9 @@
 //! An event answers `false` where it doesn't fit, or there is no such guest: then nothing is changed. The order of effects is the
 //! host's part: the kernel's limit of a guest is lowered once its pages went, and raised to `lent` before they may come.
 
-use crate::raw::{layout, OK, SHORT};
+use crate::raw::*;
 
-/// What a guest has, may hold and waits for, in pages.
-#[repr(C)]
-#[derive(Clone, Copy, Debug, Default, PartialEq, Eq)]
-pub struct Loan {
-    /// Its memory; 0 where no guest is.
-    pub pages: u32,
-    /// In its balloon, with no frames.
-    pub ballooned: u32,
-    /// How many frames it may hold: its limit.
-    pub lent: u32,
-    /// How many it waits for; 0 where it doesn't wait.
-    pub asked: u32,
-    /// The turn of its ask; 0 where it doesn't wait.
-    pub turn: u64,
-    /// How many it can spare, by [`figure`].
-    pub spare: u32,
-    /// Unless 0, its balloon doesn't count.
-    pub uncounted: u16,
-    /// 0: it waits in the first line; else in the second.
-    pub line: u16,
-}
-
-/// What a guest has, and can spare.
-#[repr(C)]
-#[derive(Clone, Copy, Debug, Default, PartialEq, Eq)]
-pub struct Need {
-    pub pages: u32,
-    pub spare: u32,
-}
-
-/// What the host has agreed with a guest.
-#[repr(C)]
-#[derive(Clone, Copy, Debug, Default, PartialEq, Eq)]
-pub struct Terms {
-    /// How many pages always stay to it, as far as it has them.
-    pub least: u32,
-    /// Guests of a lower priority give first.
-    pub priority: u32,
-}
-
-/// Room that [`targets_by_terms`] needs for a guest.
-#[repr(C)]
-#[derive(Clone, Copy, Debug, Default, PartialEq, Eq)]
-pub struct Share {
-    pub pages: u32,
-    pub spare: u32,
-    pub priority: u32,
-}
+pub use crate::raw::{Loan, Need, Share, Terms};
 
 /// In which line a newcomer waits: those of the first come before all of the second.
 #[derive(Clone, Copy, Debug, PartialEq, Eq)]
@@ -69,61 +22,6 @@ pub enum NoTargets {
     OtherLength,
     /// All that guests can give is too little by this many pages; each is asked for all that it can give.
     Short(u64),
-}
-
-#[repr(C)]
-struct Grant {
-    code: u32,
-    guest: usize,
-}
-
-#[repr(C)]
-struct Targets {
-    code: u32,
-    missing: u64,
-}
-
-layout!(Loan, 32, pages at 0, ballooned at 4, lent at 8, asked at 12, turn at 16, spare at 24, uncounted at 28, line at 30);
-layout!(Need, 8, pages at 0, spare at 4);
-layout!(Terms, 8, least at 0, priority at 4);
-layout!(Share, 12, pages at 0, spare at 4, priority at 8);
-layout!(Grant, 16, code at 0, guest at 8);
-layout!(Targets, 16, code at 0, missing at 8);
-
-extern "C" {
-    fn vb_loan_arrive(loans: *mut Loan, count: usize, guest: usize, pages: u32, line: u16) -> u32;
-    fn vb_loan_leave(loans: *mut Loan, count: usize, guest: usize) -> u32;
-    fn vb_loan_give(loans: *mut Loan, count: usize, guest: usize, pages: u32) -> u32;
-    fn vb_loan_ask(loans: *mut Loan, count: usize, guest: usize, pages: u32) -> u32;
-    fn vb_loan_reset(loans: *mut Loan, count: usize, guest: usize) -> u32;
-    fn vb_loan_take(loans: *mut Loan, count: usize, guest: usize, pages: u32) -> u32;
-    fn vb_loan_uncount(loans: *mut Loan, count: usize, guest: usize) -> u32;
-    fn vb_loan_recount(loans: *mut Loan, count: usize, guest: usize) -> u32;
-    fn vb_loan_figure(loans: *mut Loan, count: usize, guest: usize, pages: u32) -> u32;
-    fn vb_loan_grant(frames: u32, loans: *mut Loan, count: usize) -> Grant;
-    fn vb_loan_owed(loans: *const Loan, count: usize) -> u64;
-    fn vb_loan_targets(
-        frames: u32,
-        loans: *const Loan,
-        count: usize,
-        needs: *mut Need,
-        needs_room: usize,
-        targets: *mut u32,
-        targets_room: usize,
-    ) -> Targets;
-    fn vb_loan_class_targets(
-        frames: u32,
-        loans: *const Loan,
-        count: usize,
-        terms: *const Terms,
-        terms_count: usize,
-        shares: *mut Share,
-        shares_room: usize,
-        needs: *mut Need,
-        needs_room: usize,
-        targets: *mut u32,
-        targets_room: usize,
-    ) -> Targets;
 }
 
 /// A guest of this many pages comes to a vacant place, and asks for all of them in a line.

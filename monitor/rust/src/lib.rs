@@ -30,7 +30,7 @@ pub fn is_library_of_this_version() -> bool {
 
 /// Whether a version is that of this crate, or differs in its third number alone.
 fn is_compatible(version: u32) -> bool {
-    version >> 8 == raw::VERSION >> 8
+    version >> 8 == raw::VERSION_NUMBER >> 8
 }
 
 #[cfg(test)]

@@ -1,98 +1,11 @@
-//! vb.h: its numbers and calls. Each call requires what vb.h says of pointers with lengths, and nothing else; the safe ones
-//! here take slices, which have that.
+//! vb.h and vb_lending.h as bindgen has them (`rust/bind`), and safe calls over slices. Each call requires what the headers say of
+//! pointers with lengths, and nothing else.
 
-// All of the header's numbers, whether this crate needs them or not.
-#[allow(dead_code)]
-mod codes;
-mod structs;
+// All that the headers have, whether this crate needs it or not, and by C's names of types.
+#[allow(dead_code, non_camel_case_types)]
+mod bindings;
 
-pub use codes::*;
-pub use structs::*;
-
-/// The version of vb.h that this is written for, as `VB_VERSION_NUMBER`.
-pub const VERSION: u32 = 0x00_0200;
-
-extern "C" {
-    pub fn vb_version() -> u32;
-    pub fn vb_save(device: *const Device, held: Held, out: *mut u8, room: usize) -> u32;
-    pub fn vb_restore(device: *mut Device, held: *mut Held, bytes: *const u8, length: usize) -> u32;
-    pub fn vb_set_target(device: *mut Device, pages: u32);
-    pub fn vb_negotiate(device: *mut Device, features: u64) -> u32;
-    pub fn vb_kind(device: *const Device, number: u32) -> u32;
-    fn vb_kind_of(features: u64, number: u32) -> u32;
-    pub fn vb_read_config(device: *const Device, offset: u32, out: *mut u8, length: usize);
-    pub fn vb_write_config(device: *mut Device, offset: u32, bytes: *const u8, length: usize) -> u32;
-    fn vb_large_pages(
-        device: *const Device,
-        region: *const Region,
-        page_size: u64,
-        part: *const Cut,
-        set: *const u64,
-        words: usize,
-    ) -> Large;
-    fn vb_keeps_reports(device: *const Device) -> u32;
-    pub fn vb_is_ballooned(set: *const u64, words: usize, page: u32) -> u32;
-    pub fn vb_count_ballooned(set: *const u64, words: usize) -> u64;
-    pub fn vb_new_over(balloon: *mut Balloon, settings: Settings, regions: *const Region, count: usize) -> u32;
-    pub fn vb_set_regions(balloon: *mut Balloon, regions: *const Region, count: usize) -> u32;
-    pub fn vb_set_status(balloon: *mut Balloon, status: u8, then: *mut u32) -> u32;
-    pub fn vb_may_tell(device: *const Device) -> u32;
-    pub fn vb_place_over(
-        balloon: *mut Balloon,
-        regions: *const Region,
-        count: usize,
-        kind: u32,
-        table: u64,
-        avail: u64,
-        used: u64,
-        size: u16,
-    ) -> u32;
-    pub fn vb_start_queue(
-        balloon: *mut Balloon,
-        regions: *const Region,
-        count: usize,
-        kind: u32,
-        at: QueueStart,
-    ) -> u32;
-    pub fn vb_stop_queue(balloon: *mut Balloon, kind: u32, next: *mut u16) -> u32;
-    pub fn vb_forget_held(balloon: *mut Balloon, kind: u32) -> u32;
-    pub fn vb_held(balloon: *const Balloon, kind: u32, pages: *mut u32) -> u32;
-    pub fn vb_restore_over(
-        balloon: *mut Balloon,
-        regions: *const Region,
-        count: usize,
-        bytes: *const u8,
-        length: usize,
-    ) -> u32;
-    fn vb_mark(kind: u32, runs: *const Run, count: usize, set: *mut u64, words: usize) -> Marked;
-    fn vb_begin(
-        notice: *mut Notice,
-        balloon: *mut Balloon,
-        regions: *const Region,
-        count: usize,
-        room: *mut Room,
-        kind: u32,
-        chains: u32,
-        pages: u32,
-        keeps: u32,
-    ) -> u32;
-    fn vb_give_held(
-        notice: *mut Notice,
-        balloon: *mut Balloon,
-        regions: *const Region,
-        count: usize,
-        room: *mut Room,
-        kind: u32,
-    ) -> u32;
-    fn vb_go_on(
-        notice: *mut Notice,
-        balloon: *mut Balloon,
-        regions: *const Region,
-        count: usize,
-        room: *mut Room,
-        answer: u16,
-    ) -> u32;
-}
+pub use bindings::*;
 
 impl Balloon {
     /// Whether the pages of a report keep what is in them.

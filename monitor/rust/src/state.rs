@@ -9,7 +9,7 @@ use crate::raw;
 pub struct State(pub(crate) raw::Balloon);
 
 /// Bytes of a saved state.
-pub const STATE_BYTES: usize = raw::STATE_BYTES;
+pub const STATE_BYTES: usize = raw::STATE_BYTES as usize;
 
 /// Why a state isn't restored, or saved.
 #[derive(Clone, Copy, Debug, PartialEq, Eq)]

@@ -168,6 +168,32 @@ def told(town):
     return int(words[words.index("told") + 1])
 
 
+def room_for_more(town):
+    """Guests come, and their memory grows, while a guest of 128 pages is there on 256 frames; returns them."""
+    third = Client(town.host.add("b"), town.host.why)
+    third.negotiate(protocol=OFFERED)
+    for number in (0, 1):
+        region(third, number, ADD_MEM_REG)
+    becomes(town, {"pages": 128}, "b")
+    # There is no room for more: of 256 frames, each has 128.
+    fourth = Client(town.host.add("c"), town.host.why)
+    fourth.negotiate(protocol=OFFERED)
+    fourth.send(ADD_MEM_REG, fourth.region_body(0), fourth.files[:1], flags=1)
+    eventually(lambda: town.host.counters()["refused"] == 1, "a guest without room isn't refused", 5)
+    demand(town.host.why_of("c") == "refused c: no room for 64 pages: 63 are missing", town.host.why_of("c"))
+    # Who gives a region back makes room, and finds none when it wants it again.
+    region(third, 1, REM_MEM_REG)
+    becomes(town, {"pages": 64}, "b")
+    fifth = Client(f"{town.host.folder}/c", town.host.why)
+    fifth.negotiate(protocol=OFFERED)
+    region(fifth, 0, ADD_MEM_REG)
+    becomes(town, {"pages": 64}, "c")
+    third.send(ADD_MEM_REG, third.region_body(1), third.files[1:], flags=1)
+    eventually(lambda: town.host.counters()["refused"] == 2, "a guest without room grows", 5)
+    demand(town.host.why_of("b") == "refused b: no room for 128 pages: 63 are missing", town.host.why_of("b"))
+    return third, fourth, fifth
+
+
 def seats_run(bench):
     """What a seat keeps of a guest while its rings stop, and forgets once it has gone."""
     with bench.town(1, ("--floor", "0"), checked=True) as town:
@@ -190,30 +216,10 @@ def seats_run(bench):
         for file in second.files:
             os.posix_fallocate(file, 0, os.fstat(file).st_size)
         becomes(town, {"held_kib": 4 * 128})
-        third = Client(town.host.add("b"), town.host.why)
-        third.negotiate(protocol=OFFERED)
-        for number in (0, 1):
-            region(third, number, ADD_MEM_REG)
-        becomes(town, {"pages": 128}, "b")
-        # There is no room for more: of 256 frames, each has 128.
-        fourth = Client(town.host.add("c"), town.host.why)
-        fourth.negotiate(protocol=OFFERED)
-        fourth.send(ADD_MEM_REG, fourth.region_body(0), fourth.files[:1], flags=1)
-        eventually(lambda: town.host.counters()["refused"] == 1, "a guest without room isn't refused", 5)
-        demand(town.host.why_of("c") == "refused c: no room for 64 pages: 63 are missing", town.host.why_of("c"))
-        # Who gives a region back makes room, and finds none when it wants it again.
-        region(third, 1, REM_MEM_REG)
-        becomes(town, {"pages": 64}, "b")
-        fifth = Client(f"{town.host.folder}/c", town.host.why)
-        fifth.negotiate(protocol=OFFERED)
-        region(fifth, 0, ADD_MEM_REG)
-        becomes(town, {"pages": 64}, "c")
-        third.send(ADD_MEM_REG, third.region_body(1), third.files[1:], flags=1)
-        eventually(lambda: town.host.counters()["refused"] == 2, "a guest without room grows", 5)
-        demand(town.host.why_of("b") == "refused b: no room for 128 pages: 63 are missing", town.host.why_of("b"))
+        others = room_for_more(town)
         counters = town.host.counters()
         demand([counters[it] for it in ("admitted", "refused", "gone")] == [5, 2, 3], f"4 came in, one twice, 2 of 5 were refused: {counters}")
         demand(check_decisions(town) > 0, "nothing was decided")
-        for it in (second, third, fourth, fifth):
+        for it in (second, *others):
             it.leave()
     return "lives at two seats"

@@ -1,5 +1,7 @@
 """Builds the daemons over the library, as they are installed or as tests want them."""
 
+import fcntl
+import glob
 import os
 import subprocess
 
@@ -7,7 +9,7 @@ from linux_packages import ROOT, Fault, Missing, last_line, need
 
 MONITOR = os.path.join(ROOT, "monitor")
 SHIM = os.path.join(MONITOR, "include")
-REFERENCE = os.path.join(MONITOR, "reference/reference.c")
+REFERENCE = os.path.join(MONITOR, "out", "reference.o")
 HEADERS = os.path.join(ROOT, "crates/vb_c")
 LIBRARY = os.path.join(ROOT, "crates", "vb_c", "out", "libvb_c.a")
 
@@ -73,10 +75,23 @@ def demand(condition, words):
         raise Fault(words)
 
 
-def core_of(reference=False):
+def reference():
+    """Returns the plain implementation as an object, which is built where it is older than what it is made of."""
+    sources = [*glob.glob(f"{MONITOR}/reference/*"), *glob.glob(f"{HEADERS}/*.h"), f"{SHIM}/ring_layout.h"]
+    os.makedirs(os.path.dirname(REFERENCE), exist_ok=True)
+    with open(f"{REFERENCE}.lock", "w", encoding="utf-8") as lock:
+        fcntl.flock(lock, fcntl.LOCK_EX)
+        if not os.path.exists(REFERENCE) or os.path.getmtime(REFERENCE) < max(map(os.path.getmtime, sources)):
+            words = [f"{MONITOR}/reference/build", REFERENCE, "-O2", "-fPIC", "-I", HEADERS]
+            ran = subprocess.run(words, env={**os.environ, "CC": need("cc", "gcc libc6-dev")}, capture_output=True, text=True)
+            demand(ran.returncode == 0, f"monitor/reference isn't built: {last_line(ran.stderr)}")
+    return REFERENCE
+
+
+def core_of(plain=False):
     """Returns the file that decides: the proved library, or the plain implementation."""
-    if reference or os.environ.get("REFERENCE"):
-        return REFERENCE
+    if plain or os.environ.get("REFERENCE"):
+        return reference()
     path = os.environ.get("VB_LIB", LIBRARY)
     if not os.path.exists(path):
         where = os.path.relpath(path, ROOT)

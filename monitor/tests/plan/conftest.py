@@ -12,9 +12,8 @@ from bigvasta.plan import library as loading
 def shared(tmp_path_factory):
     """The path of libvb.so, over the library or the plain implementation."""
     core, path = linux_kit.core_of(), str(tmp_path_factory.mktemp("library") / "libvb.so")
-    flags = ["-O2", "-fPIC", "-I", linux_kit.HEADERS, "-I", os.path.join(linux_kit.MONITOR, "include")]
-    whole = [core] if core.endswith(".c") else ["-Wl,--whole-archive", core, "-Wl,--no-whole-archive"]
-    subprocess.run(["cc", "-shared", *flags, *whole, "-o", path], check=True, timeout=120)
+    whole = [core] if core == linux_kit.REFERENCE else ["-Wl,--whole-archive", core, "-Wl,--no-whole-archive"]
+    subprocess.run(["cc", "-shared", *whole, "-o", path], check=True, timeout=120)
     return path
 
 

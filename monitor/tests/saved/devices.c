@@ -5,25 +5,25 @@ struct guest guest;
 
 const VbSettings SETTINGS = { .offered = 1ull << 32 | 0x37, .reserved_pages = 16, .skips_bad_pages = 7, .holds_deflates = 1 };
 
-/* The states that a driver's steps lead through, by number; false past the last one. */
-bool reach(unsigned state)
+enum { BEFORE_FEATURES = 3, BEFORE_CONFIGURATION = 4 };
+
+/* The states before a driver's features are set. */
+static bool reach_unset(struct balloon *balloon, unsigned state)
 {
     struct balloon_result result;
-    struct balloon *balloon = &guest.balloon;
-    EXPECT(balloon_init(balloon, guest.regions, 2, SETTINGS) == VB_OK);
-    guest.size = 64;
-    memset(guest.published, 0, sizeof guest.published);
     if (state == 0)
         return true;
     if (state == 1)
         return balloon_write_status(balloon, 128, &result) == 0;
     if (state == 2)
         return balloon_place(balloon, VB_INFLATE, table_of(0), avail_of(0), used_of(0), 64) == VB_OK;
-    if (state == 3)
-        return balloon_write_status(balloon, 1, &result) == 0 && balloon_write_status(balloon, 129, &result) == 0;
-    start_features(&guest, LINUX_FEATURES, 64);     /* placed, and status 11 */
-    if (state == 4)
-        return balloon_write_status(balloon, 139, &result) == 0;
+    return balloon_write_status(balloon, 1, &result) == 0 && balloon_write_status(balloon, 129, &result) == 0;
+}
+
+/* The states from a driver's configuration on; false past the last one. */
+static bool reach_running(struct balloon *balloon, unsigned state)
+{
+    struct balloon_result result;
     balloon_set_target(balloon, 0x01020304);
     EXPECT(balloon_write_config(balloon, 4, (const uint8_t[]){ 9, 8, 7, 6 }, 4) == VB_OK);
     EXPECT(balloon_write_config(balloon, 12, (const uint8_t[]){ 0xaa, 0xbb, 0, 1 }, 4) == VB_OK);
@@ -52,6 +52,22 @@ bool reach(unsigned state)
         return true;
     EXPECT(balloon_write_status(balloon, 207, &result) == 0);
     return state == 10;
+}
+
+/* The states that a driver's steps lead through, by number; false past the last one. */
+bool reach(unsigned state)
+{
+    struct balloon_result result;
+    struct balloon *balloon = &guest.balloon;
+    EXPECT(balloon_init(balloon, guest.regions, 2, SETTINGS) == VB_OK);
+    guest.size = 64;
+    memset(guest.published, 0, sizeof guest.published);
+    if (state <= BEFORE_FEATURES)
+        return reach_unset(balloon, state);
+    start_features(&guest, LINUX_FEATURES, 64);     /* placed, and status 11 */
+    if (state == BEFORE_CONFIGURATION)
+        return balloon_write_status(balloon, 139, &result) == 0;
+    return reach_running(balloon, state);
 }
 
 bool are_same(const VbDevice *one, VbHeld held, const VbDevice *other, VbHeld other_held)

@@ -102,6 +102,18 @@ static int never_discard(void *context, const struct balloon_region *region, uin
 
 /* A notice that keeps all pages tells them and marks them, and counts those that were given up or are free: nothing is
  * discarded, and no list of parts is made. The next notice may keep none. */
+/* Starts a guest whose balloon keeps all pages, and says which it names. */
+static void start_that_keeps(struct guest *guest, struct seen *seen, uint64_t *words, size_t count)
+{
+    start(guest, 0, REFUSES, LINUX_FEATURES, 8);
+    guest->balloon.context = seen;
+    guest->balloon.on_pages = see_pages;
+    guest->balloon.discard = never_discard;
+    guest->balloon.ballooned = words;
+    guest->balloon.ballooned_words = count;
+    guest->balloon.keeps_pages = true;
+}
+
 static void a_notice_may_keep_all_pages(void)
 {
     static struct guest guest;
@@ -109,13 +121,7 @@ static void a_notice_may_keep_all_pages(void)
     static uint64_t words[1024 / 64];        /* 1024 pages */
     static VbCut untouched[VB_MAX_CUTS];
     const uint32_t pages[] = { 700, 701, 800 };
-    start(&guest, 0, REFUSES, LINUX_FEATURES, 8);
-    guest.balloon.context = &seen;
-    guest.balloon.on_pages = see_pages;
-    guest.balloon.discard = never_discard;
-    guest.balloon.ballooned = words;
-    guest.balloon.ballooned_words = sizeof words / sizeof words[0];
-    guest.balloon.keeps_pages = true;
+    start_that_keeps(&guest, &seen, words, sizeof words / sizeof words[0]);
     memset(untouched, 0xa5, sizeof untouched);
     memcpy(guest.balloon.room.cuts, untouched, sizeof untouched);
     memset(at(&guest, 700 * 4096), 1, 202 * 4096);

@@ -86,11 +86,25 @@ static void an_error_of_one_queue_is_told_with_the_others(void)
 }
 
 /* A driver may fill all its queues before DRIVER_OK: what each comes to is told together. The status again is no kick. */
+/* Makes chains of each queue available, before DRIVER_OK: an inflate, two deflates, statistics and a report. */
+static void fill_all_queues(struct guest *guest, const uint32_t *pages)
+{
+    const uint32_t more[] = { 600, 700 };
+    name_pages(guest, VB_INFLATE, pages, 3);
+    for (int i = 0; i < 2; i++)
+        name_pages(guest, VB_DEFLATE, more, 2);
+    describe(guest, VB_STATISTICS, 0, buffer_of(VB_STATISTICS), 10, 0, 0);
+    publish(guest, VB_STATISTICS, 0);
+    describe(guest, VB_REPORT, 0, 700 * 4096, 4096, WRITE | NEXT, 1);
+    describe(guest, VB_REPORT, 1, 2047 * 4096, 8192, WRITE, 0);
+    publish(guest, VB_REPORT, 0);
+}
+
 static void all_queues_are_looked_at(void)
 {
     static struct guest guest;
     static uint64_t words[12];          /* 768 pages */
-    const uint32_t pages[] = { 600, 3000, 9999 }, more[] = { 600, 700 };
+    const uint32_t pages[] = { 600, 3000, 9999 };
     struct balloon_result result;
     make_memory(&guest, 0);
     EXPECT(balloon_init(&guest.balloon, guest.regions, 2, SKIPS) == VB_OK);
@@ -98,14 +112,7 @@ static void all_queues_are_looked_at(void)
     guest.balloon.ballooned = words;
     guest.balloon.ballooned_words = 12;
     start_features(&guest, LINUX_FEATURES, 8);
-    name_pages(&guest, VB_INFLATE, pages, 3);
-    for (int i = 0; i < 2; i++)
-        name_pages(&guest, VB_DEFLATE, more, 2);
-    describe(&guest, VB_STATISTICS, 0, buffer_of(VB_STATISTICS), 10, 0, 0);
-    publish(&guest, VB_STATISTICS, 0);
-    describe(&guest, VB_REPORT, 0, 700 * 4096, 4096, WRITE | NEXT, 1);
-    describe(&guest, VB_REPORT, 1, 2047 * 4096, 8192, WRITE, 0);
-    publish(&guest, VB_REPORT, 0);
+    fill_all_queues(&guest, pages);
     EXPECT(balloon_write_status(&guest.balloon, 15, &result) == 0);
     EXPECT(result.code == VB_OK && result.chains == 5 && !result.configuration && !result.more);
     EXPECT(result.interrupts == (1 << VB_INFLATE | 1 << VB_DEFLATE | 1 << VB_REPORT));

@@ -1,4 +1,5 @@
-/* The version and saved states in plain C, a part of reference.c. */
+/* The version and saved states in plain C. */
+#include "reference.h"
 
 uint32_t vb_version(void) { return VB_VERSION_NUMBER; }
 

@@ -1,4 +1,5 @@
-/* Where queues are, and what calls are refused for by status, features and place, in plain C, a part of reference.c. */
+/* Where queues are, and what calls are refused for by status, features and place, in plain C. */
+#include "reference.h"
 
 uint32_t vb_kind_of(uint64_t features, uint32_t number)
 {
@@ -12,13 +13,13 @@ uint32_t vb_kind_of(uint64_t features, uint32_t number)
 
 uint32_t vb_kind(const VbDevice *device, uint32_t number) { return vb_kind_of(device->features, number); }
 
-static VbQueue *queue_of(VbDevice *device, uint32_t kind)
+VbQueue *queue_of(VbDevice *device, uint32_t kind)
 {
     VbQueue *queues[] = { &device->inflate, &device->deflate, &device->statistics, &device->report };
     return kind < VB_NO_KIND ? queues[kind] : NULL;
 }
 
-static bool lacks_feature(const VbDevice *device, uint32_t kind)
+bool lacks_feature(const VbDevice *device, uint32_t kind)
 {
     return (kind == VB_STATISTICS && !(device->features & STATS_VQ))
         || (kind == VB_REPORT && !(device->features & REPORTING));
@@ -58,7 +59,7 @@ uint32_t vb_place(VbDevice *device, uint32_t kind, uint64_t table, uint64_t avai
 }
 
 /* What a call is refused for by the status, in which a bit has to be set, the features and the queue's place. */
-static uint32_t refusal_at(const VbDevice *device, uint8_t bit, uint32_t kind, const VbQueue *queue)
+uint32_t refusal_at(const VbDevice *device, uint8_t bit, uint32_t kind, const VbQueue *queue)
 {
     if (are_impossible(&device->settings))
         return VB_BAD_ARGUMENT;
@@ -71,7 +72,7 @@ static uint32_t refusal_at(const VbDevice *device, uint8_t bit, uint32_t kind, c
     return has_no_place(device, queue) ? VB_MISPLACED : VB_OK;
 }
 
-static uint32_t refusal(const VbDevice *device, uint32_t kind, const VbQueue *queue)
+uint32_t refusal(const VbDevice *device, uint32_t kind, const VbQueue *queue)
 {
     return refusal_at(device, DRIVER_OK, kind, queue);
 }

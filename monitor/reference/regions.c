@@ -1,16 +1,16 @@
-/* Regions of guest memory, and a balloon over them, in plain C, a part of reference.c. */
+/* Regions of guest memory, and a balloon over them, in plain C. */
+#include "reference.h"
 
-enum { REGION_PAGE = 4096 };
 static const uint64_t MOST_IN_FILE = 1ull << 62;
 
-static bool is_region(const VbRegion *region)
+bool is_region(const VbRegion *region)
 {
     return region->guest % REGION_PAGE == 0 && region->length % REGION_PAGE == 0 && region->guest <= MOST_MEMORY
         && region->length <= MOST_MEMORY - region->guest && region->in_file <= MOST_IN_FILE;
 }
 
 /* The region in which all of these bytes lie, and where. */
-static bool find_within(const VbRegion *regions, size_t count, uint64_t address, uint64_t length, VbSpot *spot)
+bool find_within(const VbRegion *regions, size_t count, uint64_t address, uint64_t length, VbSpot *spot)
 {
     for (size_t i = 0; i < count; i++) {
         const VbRegion *it = &regions[i];

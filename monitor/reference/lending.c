@@ -1,5 +1,5 @@
-/* A host that lends, in plain C, a part of reference.c: the rules as vb_lending.h says them, one guest at a time. */
-#include "vb_lending.h"
+/* A host that lends, in plain C: the rules as vb_lending.h says them, one guest at a time. */
+#include "reference.h"
 
 /* Turns end one before the last number. None is given out twice, as long as somebody waits. */
 static uint64_t turn_after_all(const VbLoan *loans, size_t count)

@@ -1,8 +1,7 @@
-/* Chains of descriptors in plain C, a part of reference.c. */
+/* Chains of descriptors in plain C. */
+#include "reference.h"
 
-typedef struct { uint64_t address; uint32_t length; uint16_t flags, next; } Descriptor;
-
-static Descriptor descriptor_at(const uint8_t *table, uint32_t number)
+Descriptor descriptor_at(const uint8_t *table, uint32_t number)
 {
     const uint8_t *at = table + DESCRIPTOR_SIZE * (size_t)number;
     return (Descriptor){ little(at, 8), (uint32_t)little(at + 8, 4), (uint16_t)little(at + 12, 2),
@@ -10,21 +9,21 @@ static Descriptor descriptor_at(const uint8_t *table, uint32_t number)
 }
 
 /* The rule that a descriptor breaks after `before` others of its chain; 0: none (VIRTIO 1.1, 2.6.5). */
-static uint32_t broken_rule(const VbDevice *device, uint16_t size, const Descriptor *it, uint32_t before, bool writing)
+uint32_t broken_rule(const VbDevice *device, uint16_t size, const Descriptor *it, uint32_t before, bool writing)
 {
     uint64_t end = page_count(device) * PAGE;
-    if (it->flags & 4)
+    if (it->flags & INDIRECT_TABLE)
         return INDIRECT;
     if (it->address > end || it->length > end - it->address)
         return OUT_OF_RAM;
-    if (writing && !(it->flags & 2))
+    if (writing && !(it->flags & WRITE))
         return WRONG_DIRECTION;
-    if ((it->flags & 1) && it->next >= size)
+    if ((it->flags & NEXT) && it->next >= size)
         return BAD_NEXT;
-    return (it->flags & 1) && before + 1 >= size ? TOO_LONG : 0;
+    return (it->flags & NEXT) && before + 1 >= size ? TOO_LONG : 0;
 }
 
-static bool any_of_direction(const VbPiece *pieces, uint32_t count, uint8_t writable)
+bool any_of_direction(const VbPiece *pieces, uint32_t count, uint8_t writable)
 {
     for (uint32_t i = 0; i < count; i++)
         if (pieces[i].writable == writable)
@@ -33,11 +32,11 @@ static bool any_of_direction(const VbPiece *pieces, uint32_t count, uint8_t writ
 }
 
 /* The rule that the pieces of an inflate, a deflate or a statistics buffer break (VIRTIO 1.1, 5.5.6). */
-static uint32_t buffer_rule(uint32_t kind, const VbPiece *pieces, uint32_t count, uint64_t total)
+uint32_t buffer_rule(uint32_t kind, const VbPiece *pieces, uint32_t count, uint64_t total)
 {
     if (any_of_direction(pieces, count, 1))
         return WRONG_DIRECTION;
     if (kind == VB_STATISTICS)
-        return total > STATISTICS_BYTES || total % 10 ? BAD_LENGTH : 0;
+        return total > STATISTICS_BYTES || total % FIGURE_BYTES ? BAD_LENGTH : 0;
     return total == 0 || total > VB_MAX_BYTES || total % 4 ? BAD_LENGTH : 0;
 }

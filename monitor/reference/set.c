@@ -1,4 +1,5 @@
-/* The set of the pages in the balloon, and large pages that go by it, in plain C, a part of reference.c. */
+/* The set of the pages in the balloon, and large pages that go by it, in plain C. */
+#include "reference.h"
 
 VbMarked vb_mark(uint32_t kind, const VbRun *runs, size_t count, uint64_t *set, size_t words)
 {
@@ -29,9 +30,9 @@ uint64_t vb_count_ballooned(const uint64_t *set, size_t words)
 }
 
 /* Whether each page of a large page is one of the part's, or in the set. */
-static bool is_all_given(uint64_t page, uint64_t behind, uint64_t first, uint64_t end, const uint64_t *set, size_t words)
+static bool is_all_given(uint64_t page, uint64_t past, uint64_t first, uint64_t end, const uint64_t *set, size_t words)
 {
-    for (; page < behind; page++)
+    for (; page < past; page++)
         if ((page < first || page >= end) && (page / 64 >= words || !(set[page / 64] >> page % 64 & 1)))
             return false;
     return true;

@@ -1,4 +1,12 @@
-/* What a notice serves once its chain is read, and the calls of a notice, in plain C, a part of reference.c. */
+/* What a notice serves once its chain is read, and the calls of a notice, in plain C. */
+#include "reference.h"
+
+/* As much at once as the order of the bits allows, as the library has it; one thing at a time where that explains what it says. */
+#ifdef ONE_AT_A_TIME
+enum { GROUPS = false, MOST_AT_ONCE = 1 };
+#else
+enum { GROUPS = true, MOST_AT_ONCE = VB_MAX_CUTS };
+#endif
 
 /* ---- what a chain comes to */
 
@@ -23,11 +31,11 @@ static bool cut_of(const Call *call, size_t number, VbRun run, VbCut *cut)
 {
     const VbRegion *region = &call->regions[number];
     uint64_t first = region->guest / REGION_PAGE, last = (region->guest + region->length) / REGION_PAGE;
-    uint64_t behind = (uint64_t)run.first + run.count;
+    uint64_t past = (uint64_t)run.first + run.count;
     if (!is_region(region))
         return false;
     first = first > run.first ? first : run.first;
-    last = last < behind ? last : behind;
+    last = last < past ? last : past;
     if (first >= last)
         return false;
     uint64_t offset = first * REGION_PAGE - region->guest;
@@ -75,7 +83,7 @@ static void hold(const Call *call, uint32_t pages)
         call->balloon->held.pages = pages;
 }
 
-static uint32_t tell_pages(const Call *call, const Named *named)
+uint32_t tell_pages(const Call *call, const Named *named)
 {
     VbNotice *notice = call->notice;
     if (named->code != VB_OK) {
@@ -93,7 +101,7 @@ static uint32_t tell_pages(const Call *call, const Named *named)
     return wait_for(call, AT_TOLD, VB_TELL_PAGES);
 }
 
-static uint32_t serve_bytes(const Call *call)
+uint32_t serve_bytes(const Call *call)
 {
     VbNotice *notice = call->notice;
     VbDevice *device = &call->balloon->device;
@@ -121,7 +129,7 @@ static uint32_t after_given(const Call *call)
 
 static uint32_t after_flags(const Call *call, uint16_t flags)
 {
-    call->notice->interrupt = !(flags & 1);
+    call->notice->interrupt = !(flags & NO_INTERRUPT);
     return stop(call, call->notice->code);
 }
 

@@ -1,33 +1,14 @@
-/* Notices of vb.h in plain C, a part of reference.c: a look at a queue, and a chain. As much at once as the order of the bits
- * allows, as the library has it; and one thing at a time where it explains what the library says (REFERENCE_NAMES). */
+/* Notices of vb.h in plain C: a look at a queue, and a chain. */
+#include "reference.h"
 
 enum { MOST_IN_ROW = 32 };
-#ifdef REFERENCE_NAMES
-enum { GROUPS = false, MOST_AT_ONCE = 1 };
-#else
-enum { GROUPS = true, MOST_AT_ONCE = VB_MAX_CUTS };
-#endif
 
-/* What a notice waits for, in its field `phase`. */
-enum phase { NO_PHASE, AT_INDEX, AT_ENTRY, AT_WORD, AT_DESCRIPTOR, AT_PART, AT_TOLD, AT_FIGURES, AT_CUT, AT_GIVEN, AT_FLAGS,
-             AT_FLAG_WORD };
-
-/* All that a call works on. */
-typedef struct {
-    VbNotice *notice;
-    VbBalloon *balloon;
-    VbQueue *queue;
-    const VbRegion *regions;
-    size_t count;
-    VbRoom *room;
-} Call;
-
-static bool find_spot(const Call *call, uint64_t address, uint64_t length, VbSpot *spot)
+bool find_spot(const Call *call, uint64_t address, uint64_t length, VbSpot *spot)
 {
     return find_within(call->regions, call->count, address, length, spot);
 }
 
-static uint32_t wait_for(const Call *call, enum phase phase, uint32_t what)
+uint32_t wait_for(const Call *call, enum phase phase, uint32_t what)
 {
     call->notice->phase = (uint8_t)phase;
     return call->notice->what = what;
@@ -35,7 +16,7 @@ static uint32_t wait_for(const Call *call, enum phase phase, uint32_t what)
 
 /* ---- how a notice ends */
 
-static uint32_t stop(const Call *call, uint32_t code)
+uint32_t stop(const Call *call, uint32_t code)
 {
     VbNotice *notice = call->notice;
     bool served = notice->given || notice->taken;
@@ -45,7 +26,7 @@ static uint32_t stop(const Call *call, uint32_t code)
 }
 
 /* Where a chain was given back, the driver is asked whether it wants an interrupt. `code` is kept for the end. */
-static uint32_t end(const Call *call, uint32_t code)
+uint32_t end(const Call *call, uint32_t code)
 {
     call->notice->code = code;
     if (!call->notice->given || !find_spot(call, call->queue->avail, RING_WORD_SIZE, &call->notice->at))
@@ -53,7 +34,7 @@ static uint32_t end(const Call *call, uint32_t code)
     return wait_for(call, AT_FLAGS, VB_FULL_FENCE);
 }
 
-static uint32_t fail(const Call *call, uint32_t rule)
+uint32_t fail(const Call *call, uint32_t rule)
 {
     call->balloon->device.status |= NEEDS_RESET;
     call->notice->rule = rule;
@@ -62,7 +43,7 @@ static uint32_t fail(const Call *call, uint32_t rule)
 
 /* ---- a look at a queue */
 
-static uint32_t look(const Call *call)
+uint32_t look(const Call *call)
 {
     uint32_t code = refusal(&call->balloon->device, call->notice->kind, call->queue);
     if (code != VB_OK)
@@ -73,7 +54,7 @@ static uint32_t look(const Call *call)
 }
 
 /* The chain that is next by the index that was read, or the end. */
-static uint32_t next_chain(const Call *call)
+uint32_t next_chain(const Call *call)
 {
     VbNotice *notice = call->notice;
     uint16_t ahead = (uint16_t)(notice->published - call->queue->next_avail);
@@ -93,7 +74,7 @@ static uint32_t next_chain(const Call *call)
     return wait_for(call, AT_ENTRY, VB_ACQUIRE);
 }
 
-static uint32_t after_index(const Call *call, uint16_t index)
+uint32_t after_index(const Call *call, uint16_t index)
 {
     call->notice->published = index;
     return next_chain(call);
@@ -120,7 +101,7 @@ static uint32_t ask_row(const Call *call, uint16_t number)
     return wait_for(call, AT_DESCRIPTOR, VB_COPY);
 }
 
-static uint32_t after_entry(const Call *call, uint16_t head)
+uint32_t after_entry(const Call *call, uint16_t head)
 {
     if (head >= call->queue->size)
         return fail(call, BAD_HEAD);
@@ -130,8 +111,6 @@ static uint32_t after_entry(const Call *call, uint16_t head)
     return ask_row(call, head);
 }
 
-static uint32_t serve_bytes(const Call *call);
-static uint32_t tell_pages(const Call *call, const Named *named);
 
 /* Asks for the next part of the pieces, each within a page; `number` is the piece, `flag` says that its first part is
  * copied, `from` how many bytes are. */
@@ -156,7 +135,7 @@ static uint32_t ask_part(const Call *call)
     return serve_bytes(call);
 }
 
-static uint32_t after_part(const Call *call)
+uint32_t after_part(const Call *call)
 {
     VbNotice *notice = call->notice;
     notice->from += notice->length;
@@ -198,7 +177,7 @@ static uint32_t serve_chain(const Call *call)
 }
 
 /* The walk goes on in the copy for as long as it has the next descriptor. */
-static uint32_t after_row(const Call *call)
+uint32_t after_row(const Call *call)
 {
     VbNotice *notice = call->notice;
     for (size_t place = 0;;) {
@@ -207,9 +186,9 @@ static uint32_t after_row(const Call *call)
             : broken_rule(&call->balloon->device, call->queue->size, &it, notice->count, notice->flag);
         if (rule)
             return fail(call, rule);
-        notice->flag = (it.flags & 2) != 0;
+        notice->flag = (it.flags & WRITE) != 0;
         call->room->pieces[notice->count++] = (VbPiece){ it.address, it.length, notice->flag };
-        if (!(it.flags & 1))
+        if (!(it.flags & NEXT))
             return serve_chain(call);
         if (notice->count >= call->queue->size)
             return fail(call, TOO_LONG);

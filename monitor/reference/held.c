@@ -1,18 +1,19 @@
-/* The chains that a balloon holds, in plain C, a part of reference.c. */
+/* The chains that a balloon holds, in plain C. */
+#include "reference.h"
 
 /* Whether its chains are held once they were taken. */
-static bool holds_chains(const VbDevice *device, uint32_t kind)
+bool holds_chains(const VbDevice *device, uint32_t kind)
 {
     return kind == VB_STATISTICS || (kind == VB_DEFLATE && device->settings.holds_deflates);
 }
 
 /* 1 more than the head of the chain that is held; NULL where none ever is. */
-static uint32_t *held_of(VbHeld *held, uint32_t kind)
+uint32_t *held_of(VbHeld *held, uint32_t kind)
 {
     return kind == VB_STATISTICS ? &held->statistics : kind == VB_DEFLATE ? &held->deflate : NULL;
 }
 
-static bool is_held(const VbBalloon *balloon, uint32_t kind)
+bool is_held(const VbBalloon *balloon, uint32_t kind)
 {
     VbHeld held = balloon->held;
     const uint32_t *it = held_of(&held, kind);

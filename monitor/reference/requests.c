@@ -1,7 +1,5 @@
-/* What chains ask for, and how they are given back, in plain C, a part of reference.c. */
-
-/* What a request or a report names: its pages as runs, or why it is refused. */
-typedef struct { uint32_t code, rule, runs, pages, skipped; } Named;
+/* What chains ask for, and how they are given back, in plain C. */
+#include "reference.h"
 
 /* Puts a page after the others: it joins the last run where it is at one of its ends. */
 static void add_page(Named *named, VbRun *runs, uint32_t page)
@@ -29,7 +27,7 @@ static Named broken(VbDevice *device, uint32_t rule)
     return (Named){ .code = VB_BROKEN, .rule = rule };
 }
 
-static Named name(VbDevice *device, uint32_t kind, const uint8_t *bytes, size_t length, VbRun *runs)
+Named name(VbDevice *device, uint32_t kind, const uint8_t *bytes, size_t length, VbRun *runs)
 {
     VbQueue *queue = queue_of(device, kind);
     Named named = { .code = VB_NO_QUEUE };
@@ -53,7 +51,7 @@ static Named name(VbDevice *device, uint32_t kind, const uint8_t *bytes, size_t 
 }
 
 /* The rule that the pieces of a report break. */
-static uint32_t report_rule(const VbDevice *device, const VbPiece *pieces, uint32_t count)
+uint32_t report_rule(const VbDevice *device, const VbPiece *pieces, uint32_t count)
 {
     if (any_of_direction(pieces, count, 0))
         return WRONG_DIRECTION;
@@ -71,22 +69,19 @@ static uint32_t report_rule(const VbDevice *device, const VbPiece *pieces, uint3
 }
 
 /* Takes a statistics buffer: `count` gets how many figures it has. */
-static uint32_t tell_figures(VbDevice *device, const uint8_t *bytes, size_t length, VbStatistic *figures, uint32_t *count)
+uint32_t tell_figures(VbDevice *device, const uint8_t *bytes, size_t length, VbStatistic *figures, uint32_t *count)
 {
-    bool fits = length <= STATISTICS_BYTES && length % 10 == 0;
+    bool fits = length <= STATISTICS_BYTES && length % FIGURE_BYTES == 0;
     uint32_t code = !fits ? VB_BAD_ARGUMENT : refusal(device, VB_STATISTICS, &device->statistics);
     if (code != VB_OK)
         return code;
-    for (size_t i = 0; i + 10 <= length; i += 10)
+    for (size_t i = 0; i + FIGURE_BYTES <= length; i += FIGURE_BYTES)
         figures[(*count)++] = (VbStatistic){ (uint16_t)little(bytes + i, 2), little(bytes + i + 2, 8) };
     device->statistics.next_avail++;
     return VB_OK;
 }
 
-/* What is written for a chain that is used, and where. */
-typedef struct { uint32_t code; uint64_t element_at, index_at; uint16_t index; } Used;
-
-static Used use(VbDevice *device, uint32_t kind, VbQueue *queue, uint32_t head)
+Used use(VbDevice *device, uint32_t kind, VbQueue *queue, uint32_t head)
 {
     Used used = { .code = head >= queue->size ? VB_BAD_ARGUMENT : refusal(device, kind, queue) };
     if (used.code != VB_OK)

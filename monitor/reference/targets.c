@@ -1,7 +1,5 @@
-/* What guests are to give, in plain C, a part of reference.c. */
-
-/* Sums of any number of pages. */
-typedef unsigned __int128 Sum;
+/* What guests are to give, in plain C. */
+#include "reference.h"
 
 uint32_t vb_spare(uint32_t pages, uint32_t ballooned, uint32_t free_pages, uint32_t free_known, uint32_t floor,
                   uint32_t reserved)
@@ -11,7 +9,7 @@ uint32_t vb_spare(uint32_t pages, uint32_t ballooned, uint32_t free_pages, uint3
     return (uint32_t)(ballooned + above < most ? ballooned + above : most);
 }
 
-static Sum missing_pages(const VbNeed *needs, size_t count, uint32_t frames)
+Sum missing_pages(const VbNeed *needs, size_t count, uint32_t frames)
 {
     Sum pages = 0;
     for (size_t i = 0; i < count; i++)
@@ -20,13 +18,13 @@ static Sum missing_pages(const VbNeed *needs, size_t count, uint32_t frames)
 }
 
 /* Whether a guest gives before another one: most spare first, then the first in order. */
-static bool gives_before(const VbNeed *needs, size_t guest, size_t other)
+bool gives_before(const VbNeed *needs, size_t guest, size_t other)
 {
     return needs[guest].spare > needs[other].spare || (needs[guest].spare == needs[other].spare && guest < other);
 }
 
 /* What the guests that give before this one can spare together; of all guests, where it is past the last one. */
-static Sum spared_before(const VbNeed *needs, size_t count, size_t guest)
+Sum spared_before(const VbNeed *needs, size_t count, size_t guest)
 {
     Sum pages = 0;
     for (size_t i = 0; i < count; i++)

@@ -1,16 +1,7 @@
-/* Settings, status, features and configuration of vb.h in plain C, a part of reference.c. */
+/* Settings, status, features and configuration of vb.h in plain C. */
+#include "reference.h"
 
-enum { ACKNOWLEDGE = 1, DRIVER = 2, DRIVER_OK = 4, FEATURES_OK = 8, NEEDS_RESET = 64, FAILED = 128 };
-enum { MUST_TELL_HOST = 1, STATS_VQ = 2, REPORTING = 32, PAGE = 4096, REPORT_PIECES = 32, STATISTICS_BYTES = 1020 };
-/* tools/list-codes: rules, from here */
-enum { BAD_HEAD = 1, BAD_NEXT = 2, TOO_LONG = 3, INDIRECT = 4, WRONG_DIRECTION = 5, OUT_OF_RAM = 6, INDEX_JUMP = 7,
-       BAD_LENGTH = 8, BAD_PAGE = 9, RESERVED_PAGE = 10 };
-/* tools/list-codes: rules, to here */
-static const uint64_t VERSION_1 = 1ull << 32;
-static const uint64_t KNOWN = 1ull << 32 | 0x37;
-static const uint64_t MOST_MEMORY = 1ull << 44;
-
-static uint64_t little(const uint8_t *bytes, int count)
+uint64_t little(const uint8_t *bytes, int count)
 {
     uint64_t value = 0;
     memcpy(&value, bytes, (size_t)count);
@@ -20,9 +11,9 @@ static uint64_t little(const uint8_t *bytes, int count)
     return value;
 }
 
-static uint64_t page_count(const VbDevice *device) { return device->settings.memory_end / PAGE; }
+uint64_t page_count(const VbDevice *device) { return device->settings.memory_end / PAGE; }
 
-static bool are_impossible(const VbSettings *settings)
+bool are_impossible(const VbSettings *settings)
 {
     return settings->memory_end >= MOST_MEMORY || (settings->offered & ~KNOWN) || !(settings->offered & VERSION_1);
 }
