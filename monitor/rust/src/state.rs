@@ -1,6 +1,6 @@
 //! A device's state, and the bytes that it is saved as.
 
-use crate::raw;
+use crate::{raw, Kind};
 
 /// All that a device is. Copy it within a process, and hand it to [`Balloon::restore`](crate::Balloon::restore);
 /// [`State::to_bytes`] makes what lasts.
@@ -40,6 +40,15 @@ pub(crate) fn state_error(code: u32) -> StateError {
 }
 
 impl State {
+    /// The index at which a queue goes on, as [`Balloon::stop_queue`](crate::Balloon::stop_queue) answers it; none where it has no
+    /// place.
+    pub fn next_index(&self, kind: Kind) -> Option<u16> {
+        let (mut stopped, mut next) = (self.0, 0);
+        // SAFETY: the pointers are of two `&mut`.
+        let code = unsafe { raw::vb_stop_queue(&mut stopped, kind as u32, &mut next) };
+        (code == raw::OK).then_some(next)
+    }
+
     /// The state as bytes with a format (docs/INTEGRATION.md), for [`State::from_bytes`] of this version or a later one,
     /// on any machine.
     ///

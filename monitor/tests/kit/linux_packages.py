@@ -13,6 +13,9 @@ CACHE = os.path.join(ROOT, ".cache", "linux")
 MIRROR = "http://deb.debian.org/debian"
 ANSWERS_IN = 4
 
+# Where a Debian has crates.
+CRATES = "usr/share/cargo/registry"
+
 
 class Fault(Exception):
     """Why a run came to nothing, in one line."""
@@ -139,16 +142,24 @@ def fetch_kernel(suite=None):
     return fetch("kernel", kernel_packages, suite)
 
 
-def qemu_packages(environment):
-    """Returns the packages with QEMU, and all that it wants besides, its C library included."""
-    words = ["apt-get", "install", "-s", "--no-install-recommends", "qemu-system-x86"]
+def wanted_by(package, environment):
+    """Returns a package and all that it wants besides, as apt-get knows them where nothing is installed."""
+    words = ["apt-get", "install", "-s", "--no-install-recommends", package]
     ran = subprocess.run(words, capture_output=True, text=True, env=environment)
     packages = [it.split()[1] for it in ran.stdout.splitlines() if it.startswith("Inst ")]
     if not packages:
-        raise Missing(f"apt-get finds no qemu-system-x86 to fetch: {last_line(ran.stderr) or 'on Debian for amd64'}")
+        raise Missing(f"apt-get finds no {package} to fetch: {last_line(ran.stderr) or 'on Debian for amd64'}")
     return packages
 
 
 def fetch_qemu(suite):
     """Returns a folder with QEMU of this Debian, and all libraries that it is linked to."""
-    return fetch("qemu", qemu_packages, suite)
+    return fetch("qemu", lambda environment: wanted_by("qemu-system-x86", environment), suite)
+
+
+def rust_vmm_crates():
+    """Returns a folder with the sources of rust-vmm's crates for vhost-user, and of all that they are made of: the machine's, or Debian 13's."""
+    if glob.glob(f"/{CRATES}/vhost-user-backend-[0-9]*"):
+        return f"/{CRATES}"
+    crates = lambda environment: [it for it in wanted_by("librust-vhost-user-backend-dev", environment) if it.startswith("librust-")]
+    return os.path.join(fetch("rust-vmm", crates, "trixie"), CRATES)

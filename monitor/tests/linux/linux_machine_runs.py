@@ -5,7 +5,7 @@ import time
 from linux_guest import PAGES_PER_MIB
 from linux_kit import demand
 from linux_runs import (
-    LEFT_FREE, TARGET_LIMIT, WITH_POISON, Run, audit, churn_run, fill_memory, finish, inflate_filled, keep, settle,
+    LEFT_FREE, TARGET_LIMIT, Run, audit, churn_run, fill_memory, finish, inflate_filled, keep, settle,
 )
 
 # Stops of the run `pause`; the longest rest before one, in seconds.
@@ -80,28 +80,13 @@ def written_run(machine, chance):
             apart = abs(now["inflated"] - now["deflated"] - now["actual"])
             demand(apart <= REQUEST, f"`actual` is {apart} pages from what is in the balloon: {now}")
             samples += now["actual"] not in (before["actual"], before["target"])
+            time.sleep(0.005)
             before = now
     demand(samples > WRITTEN, f"only {samples} samples amid an inflate or a deflate")
     machine.set_target(0)
     settle(machine, "the last target")
     finish(machine, kept)
     return f"{samples} samples"
-
-
-def pattern_run(machine, _):
-    """The kernel fills pages that it frees with a pattern, and looks for it: what it reports is kept, what it inflates isn't."""
-    kept = keep(machine, "keep", machine.memory // 6)
-    filled = fill_memory(machine)
-    machine.guest.do("free")
-    reported = lambda now: now["reported"] > filled * PAGES_PER_MIB // 2
-    become(machine, "free pages aren't reported", reported)
-    counters = machine.backend.counters()
-    demand(counters["kept"] == counters["reported"], f"reported pages that had a pattern aren't kept: {counters}")
-    inflate_filled(machine, filled // 2)
-    machine.set_target(0)
-    settle(machine, "a deflate")
-    fill_memory(machine)
-    finish(machine, kept, unwanted=("skipped", "in_holes"))
 
 
 def plug_run(machine, _):
@@ -185,7 +170,6 @@ def large_run(machine, _):
 
 
 MACHINE_RUNS = {
-    "pattern": Run(pattern_run, guest={"kernel_words": ("page_poison=1",)}, backend_words=WITH_POISON),
     "written": Run(written_run), "pause": Run(pause_run), "plug": Run(plug_run), "dimm": Run(dimm_run, guest={"pluggable": DIMM}),
     "reset": Run(reset_run), "reboot": Run(reboot_run), "pair": Run(churn_run, guest={"processors": 2}),
     "large": Run(large_run, sizes=(LARGE,)),

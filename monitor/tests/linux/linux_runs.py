@@ -80,16 +80,16 @@ def free_and_report(machine, mib):
     audit(machine)
 
 
-def finish(machine, kept, unwanted=("skipped", "in_holes", "kept")):
-    """Demands what holds at the end of each run; nothing is unwanted but what a run says."""
+def finish(machine, kept):
+    """Demands what holds at the end of each run."""
     names = [it.split()[1] for it in kept]
     sums = machine.sums(*names)
     demand(sums == kept, f"kept bytes have changed: {' '.join(sums)} was {' '.join(kept)}")
     trouble = machine.guest.do("trouble")
     demand(not trouble, f"the guest's kernel says: {' / '.join(trouble[:2])}")
     counters = machine.backend.counters()
-    found = {name: counters[name] for name in unwanted if counters[name]}
-    demand(not found, f"pages that aren't there: {found}")
+    unwanted = {name: counters[name] for name in ("skipped", "in_holes", "kept") if counters[name]}
+    demand(not unwanted, f"pages that aren't there: {unwanted}")
     audit(machine)
 
 
@@ -217,10 +217,8 @@ class Run(NamedTuple):
     backend_words: tuple = ()
 
 
-# The features of a device that offers PAGE_POISON, too.
-WITH_POISON = ("--features", "100000037")
-
 RUNS = {
     "main": Run(main_run), "churn": Run(churn_run), "oom": Run(oom_run), "unload": Run(unload_run), "compact": Run(compact_run),
-    "zeroed": Run(zeroed_run, guest={"kernel_words": ("init_on_free=1",)}, backend_words=WITH_POISON),
+    # The device offers PAGE_POISON, too.
+    "zeroed": Run(zeroed_run, guest={"kernel_words": ("init_on_free=1",)}, backend_words=("--features", "100000037")),
 }

@@ -9,7 +9,6 @@
 
 Under QEMU also:
 
-    pattern   a kernel that fills free pages with a pattern (page_poison=1), and looks for it: what it reports is kept
     written   at each sample `actual` is what is in the balloon, but for the one request that the driver has posted
     pause     the machine is stopped and goes on, amid inflates and deflates
     plug      the device is unplugged with pages in the balloon, and plugged again over the same connection

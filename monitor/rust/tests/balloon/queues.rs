@@ -1,7 +1,7 @@
 //! Queues that start at an index and stop.
 
 use crate::guest::{buffer, settings, table, Guest};
-use vb_balloon::{features, Kind, QueueStart, Refusal};
+use vb_balloon::{features, Kind, QueueStart, Refusal, State};
 
 fn there(kind: Kind, next: u16) -> QueueStart {
     let at = table(kind);
@@ -14,7 +14,9 @@ fn a_queue_stops_and_goes_on() {
     let mut balloon = guest.ready(settings());
     guest.name(Kind::Inflate, &[700]);
     assert_eq!(balloon.notify(&guest.memory, Kind::Inflate, &mut ()).chains, 1);
+    let (running, next) = (balloon.state(), |state: State| state.next_index(Kind::Inflate));
     assert_eq!(balloon.stop_queue(Kind::Inflate), Ok(1));
+    assert_eq!((next(running), next(balloon.state())), (Some(1), None));
     assert_eq!(balloon.notify(&guest.memory, Kind::Inflate, &mut ()).stopped, Some(Refusal::Misplaced));
     assert_eq!(balloon.stop_queue(Kind::Inflate), Err(Refusal::Misplaced));
     guest.name(Kind::Inflate, &[701]);

@@ -1,7 +1,8 @@
 //! A driver of a balloon by the frontend of rust-vmm's crate `vhost`: makes each of the calls that a backend of its kind answers,
 //! and prints a line for each, with what came back. The test beside it says what each line has to be.
 //!
-//!     frontend SOCKET           all calls that are answered; waits for a change of configuration once it has printed "waits"
+//!     frontend SOCKET           all calls that are answered; waits for a change of configuration, if the backend tells of any, once it
+//!                               has printed "waits"
 //!     frontend SOCKET CALL      one that isn't: log_base or log_fd
 
 mod memory;
@@ -10,10 +11,14 @@ use memory::{Memory, BUFFER, QUEUE_SIZE};
 use std::fmt::{Debug, Display};
 use std::os::fd::AsRawFd;
 use std::sync::{Arc, Mutex};
+use std::thread::sleep;
+use std::time::Duration;
 use vhost::vhost_user::message::{
     VhostUserConfigFlags, VhostUserHeaderFlag, VhostUserInflight, VhostUserProtocolFeatures as Protocol,
 };
-use vhost::vhost_user::{Frontend, FrontendReqHandler, HandlerResult, VhostUserFrontend, VhostUserFrontendReqHandlerMut};
+use vhost::vhost_user::{
+    Frontend, FrontendReqHandler, HandlerResult, VhostUserFrontend, VhostUserFrontendReqHandlerMut,
+};
 use vhost::{VhostBackend, VringConfigData};
 use vmm_sys_util::eventfd::EventFd;
 
@@ -55,16 +60,20 @@ impl VhostUserFrontendReqHandlerMut for Changes {
 
 type Channel = FrontendReqHandler<Mutex<Changes>>;
 
-fn negotiate(frontend: &mut Frontend, channel: &Channel) {
+/// Returns what both speak.
+fn negotiate(frontend: &mut Frontend, channel: &Channel) -> Protocol {
     say("get_features", frontend.get_features());
     say("set_owner", frontend.set_owner());
-    say("get_protocol_features", frontend.get_protocol_features().map(|them| them.bits()));
-    say("set_protocol_features", frontend.set_protocol_features(Protocol::from_bits_truncate(SPOKEN)));
+    let offered = frontend.get_protocol_features();
+    let spoken = Protocol::from_bits_truncate(SPOKEN) & *offered.as_ref().unwrap_or(&Protocol::empty());
+    say("get_protocol_features", offered.map(|them| them.bits()));
+    say("set_protocol_features", frontend.set_protocol_features(spoken));
     frontend.set_hdr_flags(VhostUserHeaderFlag::NEED_REPLY);
     say("get_queue_num", frontend.get_queue_num());
     say("set_backend_request_fd", frontend.set_backend_request_fd(&channel.get_tx_raw_fd()));
     say("get_max_mem_slots", frontend.get_max_mem_slots());
     say("set_features", frontend.set_features(FEATURES));
+    spoken
 }
 
 fn map(frontend: &mut Frontend, memory: &Memory) {
@@ -97,8 +106,9 @@ fn inflate(frontend: &mut Frontend, memory: &Memory, kick: &EventFd, call: &Even
     let before = memory.blocks();
     memory.post(0, &PAGES);
     kick.write(1).expect("kick");
-    while memory.used_index(0) == 0 {
-        call.read().expect("call");
+    // The backend has made the event one that doesn't block.
+    while call.read().is_err() {
+        sleep(Duration::from_millis(1));
     }
     println!("used {} {:?}", memory.used_index(0), memory.used_element(0));
     println!("pages given back {}", (before - memory.blocks()) / memory::BLOCKS_OF_PAGE);
@@ -113,7 +123,8 @@ fn print_config(frontend: &mut Frontend) {
 
 /// The calls for which a backend has to speak something that this one doesn't: the crate itself refuses them.
 fn try_inflight(frontend: &mut Frontend, memory: &Memory) {
-    let table = VhostUserInflight { mmap_size: 4096, num_queues: 5, queue_size: QUEUE_SIZE, ..VhostUserInflight::default() };
+    let table =
+        VhostUserInflight { mmap_size: 4096, num_queues: 5, queue_size: QUEUE_SIZE, ..VhostUserInflight::default() };
     say("get_inflight_fd", frontend.get_inflight_fd(&table).map(|_| ()));
     say("set_inflight_fd", frontend.set_inflight_fd(&table, memory.file.as_raw_fd()));
 }
@@ -122,17 +133,21 @@ fn make_all_calls(frontend: &mut Frontend) {
     let changes = Arc::new(Mutex::new(Changes::default()));
     let mut channel = FrontendReqHandler::new(changes.clone()).expect("channel");
     let memory = Memory::new();
-    negotiate(frontend, &channel);
+    let spoken = negotiate(frontend, &channel);
     map(frontend, &memory);
-    let events: Vec<_> = (0..QUEUES).map(|_| (EventFd::new(0).expect("kick"), EventFd::new(0).expect("call"))).collect();
+    let queues = frontend.get_queue_num().map_or(0, |number| number as usize);
+    let events: Vec<_> =
+        (0..queues).map(|_| (EventFd::new(0).expect("kick"), EventFd::new(0).expect("call"))).collect();
     for (number, (kick, call)) in events.iter().enumerate() {
         start_queue(frontend, &memory, number, kick, call);
     }
     print_config(frontend);
     inflate(frontend, &memory, &events[0].0, &events[0].1);
-    println!("waits");
-    say("handle_request", channel.handle_request());
-    println!("changes {}", changes.lock().expect("changes").0);
+    if spoken.contains(Protocol::BACKEND_REQ) {
+        println!("waits");
+        say("handle_request", channel.handle_request());
+        println!("changes {}", changes.lock().expect("changes").0);
+    }
     print_config(frontend);
     try_inflight(frontend, &memory);
     say("set_vring_enable", frontend.set_vring_enable(0, false));

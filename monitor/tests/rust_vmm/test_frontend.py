@@ -1,0 +1,141 @@
+"""The backend of one guest, by the frontend of rust-vmm's crate `vhost`, which a Rust VMM has; and the example that is a daemon on its crate
+`vhost-user-backend` (monitor/examples/vhost_user_daemon). The program frontend/ prints what each call came to; what it has to be is by
+vhost-user's document, by VIRTIO 1.1, and by what each backend offers (docs/LINUX.md, the crate's own sources)."""
+
+import os
+import subprocess
+import time
+from typing import NamedTuple
+
+import linux_kit
+import pytest
+from linux_guest import Backend
+from linux_packages import rust_vmm_crates
+
+HERE = os.path.dirname(__file__)
+LIMIT = 120
+
+# MUST_TELL_HOST, STATS_VQ, DEFLATE_ON_OOM and reports (VIRTIO 1.1, 5.5.3), VERSION_1, and bit 30 for protocol features.
+FEATURES = 1 << 32 | 1 << 30 | 0x27
+
+TARGET = 300
+QUEUE = ("set_vring_num", "set_vring_addr", "set_vring_base", "set_vring_call", "set_vring_err", "set_vring_kick", "set_vring_enable")
+
+
+class Offer(NamedTuple):
+    """What a backend offers: protocol features by their bits, queues, memory slots; and its target at first."""
+
+    protocol: tuple
+    queues: int
+    slots: int
+    target: int
+
+
+# MQ, REPLY_ACK, CONFIG, RESET_DEVICE and CONFIGURE_MEM_SLOTS; those of `vhost_user_balloon` besides are BACKEND_REQ, INBAND_NOTIFICATIONS
+# and STATUS. The crate has 509 slots.
+SAME = (0, 3, 9, 13, 15)
+OF_BALLOON, OF_EXAMPLE = Offer((*SAME, 5, 14, 16), 5, 32, 0), Offer(SAME, 4, 509, TARGET)
+
+
+def config(target, actual):
+    """Returns what the configuration space is, as it is printed: `num_pages` and `actual` (VIRTIO 1.1, 5.5.4)."""
+    return f"get_config {[*target.to_bytes(4, 'little'), *actual.to_bytes(4, 'little')]}"
+
+
+def lines_of(offer):
+    """Returns what the program has to print of a backend."""
+    channel = ("set_backend_request_fd ()",) if 5 in offer.protocol else ("set_backend_request_fd fails",)
+    change = ("waits", "handle_request 0", "changes 1") if 5 in offer.protocol else ()
+    return [
+        f"get_features {FEATURES}", "set_owner ()", f"get_protocol_features {sum(1 << it for it in offer.protocol)}",
+        "set_protocol_features ()", f"get_queue_num {offer.queues}", *channel, f"get_max_mem_slots {offer.slots}", "set_features ()",
+        "set_mem_table ()", "add_mem_region ()", "remove_mem_region ()", *(f"{it} ()" for it in offer.queues * QUEUE), config(offer.target, 0),
+        # The one chain is descriptor 0; the device writes nothing into it. Its four pages leave the file.
+        "used 1 (0, 0)", "pages given back 4", "set_config ()", *change, config(TARGET, 4),
+        # The crate itself refuses what the backend doesn't offer.
+        "get_inflight_fd fails", "set_inflight_fd fails",
+        "set_vring_enable ()", "get_vring_base 1", "reset_device ()", config(TARGET, 0), "reset_owner ()",
+    ]
+
+
+def built(folder, source, name, environment=None):
+    """Builds a program offline, and returns its path."""
+    registry = ('source.crates-io.replace-with="debian"', f'source.debian.directory="{rust_vmm_crates()}"')
+    words = ["build", "--offline", "--quiet", "--target-dir", folder, *(word for it in registry for word in ("--config", it))]
+    ran = subprocess.run(
+        [linux_kit.need("cargo", "cargo"), *words], cwd=source, capture_output=True, text=True, env={**os.environ, **(environment or {})},
+    )
+    assert ran.returncode == 0, ran.stderr
+    return f"{folder}/debug/{name}"
+
+
+def library(folder):
+    """Returns the library that decides as a file to link."""
+    core = linux_kit.core_of()
+    if core != linux_kit.REFERENCE:
+        return core
+    words = [linux_kit.need("cc", "gcc libc6-dev"), *linux_kit.FLAGS, "-I", linux_kit.SHIM, "-I", linux_kit.HEADERS]
+    subprocess.run([*words, "-c", core, "-o", f"{folder}/reference.o"], check=True)
+    subprocess.run(["ar", "rcs", f"{folder}/libreference.a", f"{folder}/reference.o"], check=True)
+    return f"{folder}/libreference.a"
+
+
+@pytest.fixture(scope="session")
+def frontend(tmp_path_factory):
+    """The program that is a front end."""
+    return built(str(tmp_path_factory.mktemp("frontend")), f"{HERE}/frontend", "frontend")
+
+
+@pytest.fixture(scope="session")
+def example(tmp_path_factory):
+    """The example that is a daemon on rust-vmm's crate."""
+    folder = str(tmp_path_factory.mktemp("example"))
+    source = os.path.join(linux_kit.MONITOR, "examples/vhost_user_daemon")
+    return built(folder, source, "vhost_user_daemon", {"VB_LIB": library(folder)})
+
+
+@pytest.fixture
+def backend(programs, tmp_path):
+    """A backend that waits for the program."""
+    it = Backend(programs("vhost_user_balloon"), str(tmp_path), [str(tmp_path / "socket"), "--strict"])
+    yield it
+    it.close()
+
+
+def talk(frontend, socket, waits, *words):
+    """Returns the lines that the program prints, of a failure that it failed; calls what it waits for."""
+    with subprocess.Popen([frontend, str(socket), *words], stdout=subprocess.PIPE, text=True) as process:
+        lines = []
+        for line in process.stdout:
+            lines.append(line.split(":")[0].strip())
+            if lines[-1] == "waits":
+                waits()
+        assert process.wait(LIMIT) == 0, lines
+        return lines
+
+
+@pytest.mark.timeout(900)
+def test_each_call_is_answered(frontend, backend, tmp_path):
+    lines = talk(frontend, tmp_path / "socket", lambda: backend.ask(f"target {TARGET}"))
+    assert lines == lines_of(OF_BALLOON)
+    assert (backend.close(), backend.why()) == (0, "")
+
+
+@pytest.mark.parametrize("name, why", (("log_base", "refused: message 6 is unknown"), ("log_fd", "refused: message 7 is unknown")))
+def test_a_call_that_is_none_of_the_backend_s(frontend, backend, tmp_path, name, why):
+    lines = talk(frontend, tmp_path / "socket", None, name)
+    assert lines[0] == "set_owner ()" and lines[-1] == "get_features fails"
+    assert (backend.close(), backend.why()) == (1, why)
+
+
+@pytest.mark.timeout(900)
+def test_the_example_on_their_crate(frontend, example, tmp_path):
+    socket = tmp_path / "socket"
+    with subprocess.Popen([example, str(socket), str(TARGET)]) as daemon:
+        try:
+            while not socket.exists():
+                assert daemon.poll() is None
+                time.sleep(0.01)
+            assert talk(frontend, socket, None) == lines_of(OF_EXAMPLE)
+        finally:
+            daemon.kill()
