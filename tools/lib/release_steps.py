@@ -1,4 +1,4 @@
-"""What tools/test-release does in a fresh Debian: the packages that it wants, and shell words, each of which ends with status 0."""
+"""What tools/test-release does in a fresh Debian that is booted: the packages that it wants, and shell words, each of which ends with status 0."""
 
 import re
 
@@ -8,7 +8,7 @@ from release_tree import read
 # What a monitor is built with, and what a host's package wants besides.
 WANTED = (
     "gcc clang g++ pkg-config libc6-dev xz-utils rustc cargo librust-vm-memory-dev python3 lintian"
-    " libjansson4 libinih1 libsystemd0 systemd python3-prometheus-client man-db bash-completion"
+    " libjansson4 libinih1 libsystemd0 libseccomp2 systemd systemd-sysv dbus python3-prometheus-client man-db bash-completion"
 )
 
 WARNINGS = "-Wall -Wextra -Werror"
@@ -35,30 +35,29 @@ STEPS = (
     ("the man pages", "test -s /usr/share/man/man1/vb_sim.1.gz && test -s /usr/share/man/man3/vb.3.gz"),
 )
 
-# A host that is run as its unit does, until it is told to end.
+# A host as a service. Who is in bigvasta-status sees it and changes nothing; a VMM, which is in bigvasta, can't open the control socket.
 RUN_HOST = """
-rm -rf /run/bigvasta
-sed -i 's/^# budget = 8G/budget = 64M/' /etc/bigvasta/host.conf
-install -d -o bigvasta -g bigvasta -m 0750 /run/bigvasta
-setpriv --reuid=bigvasta --regid=bigvasta --init-groups /usr/bin/vhost_user_host --config /etc/bigvasta/host.conf < /dev/null > /tmp/host.out 2>&1 &
-host=$!
-trap 'kill $host 2> /dev/null || true' EXIT
-for i in $(seq 40); do bigvasta status > /tmp/status 2>&1 && break; sleep 0.5; done
-cat /tmp/host.out /tmp/status
+sed -i 's/^# budget = 8G/budget = 64M/; s/^mode = 0600/&\\ngroup = bigvasta/' /etc/bigvasta/host.conf
+systemctl start bigvasta-host
 bigvasta status | grep -q '^budget 64, held 0, lent 0, missing 0 MiB; 0 guests$'
 test "$(bigvasta add web-1)" = /run/bigvasta/web-1
 test -S /run/bigvasta/web-1
 test "$(bigvasta status --names)" = web-1
 bigvasta guest web-1 --json | python3 -c 'import json, sys; assert json.load(sys.stdin)["guest"]["state"] == "absent"'
-sed -i 's/^budget = 64M/budget = 32M/' /etc/bigvasta/host.conf && kill -HUP $host
+as() { local groups=$1; shift; setpriv --reuid=nobody --regid=nogroup --groups=$groups "$@"; }
+ends() { local wanted=$1 status=0; shift; "$@" || status=$?; test $status = $wanted; }
+test "$(as bigvasta-status bigvasta status --names)" = web-1
+ends 1 as bigvasta-status bigvasta remove web-1 --control /run/bigvasta-status/socket
+ends 3 as bigvasta-status bigvasta remove web-1
+ends 3 as bigvasta bigvasta remove web-1
+ends 3 as bigvasta bigvasta status
+test "$(bigvasta status --names)" = web-1
+sed -i 's/^budget = 64M/budget = 32M/' /etc/bigvasta/host.conf && systemctl reload bigvasta-host
 for i in $(seq 40); do test "$(bigvasta budget)" = '32 MiB' && break; sleep 0.5; done
 test "$(bigvasta budget)" = '32 MiB'
 bigvasta metrics | grep -q '^bigvasta_budget_bytes 3.3554432e+07$'
 bigvasta remove web-1
-kill $host
-wait $host
-test ! -e /run/bigvasta/.control
-rmdir /run/bigvasta
+systemctl stop bigvasta-host
 """
 
 # Of the daemons and the client program.
@@ -77,39 +76,33 @@ HOST_STEPS = (
     ("the host's man pages", "for each in bigvasta.1 vhost_user_host.1 vhost_user_balloon.1 bigvasta-host.conf.5; do man -w ${each%.*} && test -s /usr/share/man/man${each##*.}/$each.gz; done"),
 )
 
-# A package as 0.1.0 had it: the daemons are in it.
-OLD = """
-rm -rf /tmp/old && mkdir -p /tmp/old/DEBIAN /tmp/old/usr/bin /tmp/old/usr/share/man/man1
-for each in vb_sim vhost_user_balloon vhost_user_host; do
-    printf '#!/bin/sh\\necho old\\n' > /tmp/old/usr/bin/$each && chmod 755 /tmp/old/usr/bin/$each
-    printf old | gzip -n > /tmp/old/usr/share/man/man1/$each.1.gz
-done
-printf 'Package: bigvasta\\nVersion: 0.1.0~~old\\nArchitecture: amd64\\nMaintainer: x <x@y.invalid>\\nDescription: x\\n' > /tmp/old/DEBIAN/control
-dpkg-deb --root-owner-group -b /tmp/old /tmp/old.deb && dpkg -i /tmp/old.deb && rm -rf /tmp/old /tmp/old.deb
-test "$(vhost_user_host)" = old
-"""
-
-# What the unit of a service does, in a root where no service manager runs: by its user, with the words of its ExecStart.
-START = """
-words=$(sed -n 's/^ExecStart=//p' /lib/systemd/system/{unit}.service)
-setpriv --reuid=bigvasta --regid=bigvasta --init-groups $words < /dev/null > /tmp/{unit}.out 2>&1 &
-{name}=$!
-trap 'kill $host $metrics 2> /dev/null || true' EXIT
-"""
-
-# What a command of README's becomes in such a root, by how it begins; every other one is run as it is.
+# What stays of README's commands where the one at a keyboard isn't there, or QEMU is too old: by how a command begins, what is done in its place.
+QEMU = "qemu-system-x86_64"
 INSTEAD = (
-    ("systemctl enable --now bigvasta-host bigvasta-metrics", """
-systemctl enable bigvasta-host bigvasta-metrics
-rm -rf /run/bigvasta
-install -d -o bigvasta -g bigvasta -m 0750 /run/bigvasta
-""" + START.format(unit="bigvasta-host", name="host") + """
-for i in $(seq 40); do bigvasta status > /dev/null 2>&1 && break; sleep 0.5; done
-""" + START.format(unit="bigvasta-metrics", name="metrics")),
-    # No QEMU of Debian 12 or 13 has that device: what it would connect to is there.
-    ("qemu-system-x86_64", "test -S $(echo '{command}' | sed -n 's/.*socket,id=balloon,path=\\([^ ,]*\\).*/\\1/p')"),
-    ("bigvasta watch", "sleep 2 && (sleep 2; printf q) | TERM=xterm timeout 20 script -qec 'bigvasta watch' /dev/null > /tmp/watch && grep -q 'budget 6144' /tmp/watch"),
+    ("bigvasta watch", "sleep 2 && (sleep 3; printf q) | timeout 20 script -qec 'bigvasta watch' /dev/null > /tmp/watch && grep -q 'budget 6144' /tmp/watch"),
+    (QEMU, """
+if {has_device}; then
+    ({command} -display none -serial none -monitor none & echo $! > /tmp/qemu.pid)
+    for i in $(seq 60); do bigvasta guest web-1 --json | grep -q '"state": "absent"' || break; sleep 0.5; done
+    bigvasta guest web-1 --json | grep -vq '"process": 0,'
+    kill $(cat /tmp/qemu.pid)
+    for i in $(seq 60); do bigvasta guest web-1 --json | grep -q '"state": "absent"' && break; sleep 0.5; done
+    bigvasta guest web-1 --json | grep -q '"state": "absent"'
+else
+    test -S $(echo '{command}' | sed -n 's/.*socket,id=balloon,path=\\([^ ,]*\\).*/\\1/p')
+fi
+"""),
 )
+
+# Whether a QEMU is there that has the device.
+HAS_DEVICE = f"{QEMU} -device help 2> /dev/null | grep -q vhost-user-test-device-pci"
+
+# Root is who types README's commands here, and agrees to what is installed.
+SUDO = """
+sudo() { case $1 in apt-get) shift; apt-get -q -y "$@" ;; *) "$@" ;; esac; }
+cd /srv/released
+dpkg --purge bigvasta-host
+"""
 
 # What has to be true after README's commands, and how they are undone.
 AFTER = """
@@ -119,9 +112,7 @@ text = urllib.request.urlopen("http://localhost:9750/metrics").read().decode()
 assert "bigvasta_up 1.0" in text and "bigvasta_budget_bytes 6.442450944e+09" in text' 2> /tmp/metrics.err && break; sleep 0.5; done
 cat /tmp/metrics.err
 test ! -s /tmp/metrics.err
-kill $metrics $host && wait $host
-rm -rf /run/bigvasta
-systemctl disable bigvasta-host bigvasta-metrics
+systemctl disable --now bigvasta-host bigvasta-metrics
 """
 
 
@@ -130,9 +121,9 @@ def readme_step():
     found = re.search(r"(?s)\n## Run a host\n.*?```sh\n(.*?)```", read("README.md"))
     if not found:
         raise Fault("README.md has no commands under 'Run a host'")
-    script = ["dpkg --purge bigvasta-host", "cd /tmp"]
+    script = [SUDO]
     for command in found[1].replace("\\\n", " ").splitlines():
-        command = command.removeprefix("sudo ")
-        instead = [text for begin, text in INSTEAD if command.startswith(begin)]
-        script.append(instead[0].replace("{command}", command) if instead else command.replace("apt-get install", "apt-get install -q -y"))
+        bare = command.removeprefix("sudo ").removesuffix(" ..")
+        instead = [text for begin, text in INSTEAD if bare.startswith(begin)]
+        script.append(instead[0].replace("{command}", bare).replace("{has_device}", HAS_DEVICE) if instead else command)
     return "README's commands for a host", "\n".join([*script, AFTER])

@@ -2,7 +2,7 @@
 use Rattle.std.proofs.Common.{◌≡◌, refl, ℕ, true, false, Option, Some, None}
 use Rattle.vb_chain.specs.declared.descriptor.Descriptor.{Descriptor}
 use Rattle.vb_core.specs.declared.kinds.Kind.TheVariants.{Inflate, Deflate, Statistics, Report}
-use Rattle.vb_core.specs.declared.{device.Denial.TheVariants.NotReady, kinds.Kind.Kind}
+use Rattle.vb_core.specs.declared.{kinds.Kind.Kind}
 use Rattle.vb_monitor.{specs.declared.single.FirstPart.FirstPart, specs.declared.step.Walk.Walk}
 use Rattle.vb_monitor.specs.Single.{is_single, single_place, single_of}
 use Rattle.vb_monitor.proofs.Samples.{two, at, ring}

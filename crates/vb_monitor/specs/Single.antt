@@ -1,10 +1,9 @@
 -- Requests of one piece.
-use Rattle.std.specs.Prelude.{ℕ, ◌+◌, Bool, false, ◌==◌, ◌&&◌, not, List, if◌then◌else◌, Option}
+use Rattle.std.specs.Prelude.{ℕ, Bool, false, ◌==◌, ◌&&◌, not, List, if◌then◌else◌, Option}
 use Rattle.std.specs.Prelude.{None, is_none, option_map}
 use Rattle.vb_chain.specs.declared.descriptor.Descriptor.{Descriptor}
 use Rattle.vb_chain.specs.Rules.{has_next, is_writable, piece_of}
 use Rattle.vb_request.specs.Request.{is_request_length}
-use Rattle.vb_core.specs.declared.device.Denial.{Denial}
 use Rattle.vb_core.specs.declared.kinds.Kind.{Kind}
 use Rattle.vb_core.specs.declared.ring.Virtqueue.{Virtqueue}
 use Rattle.vb_core.specs.Name.{is_request}

@@ -37,7 +37,7 @@ fn is_compatible(version: u32) -> bool {
 mod tests {
     #[test]
     fn versions_that_differ_in_the_third_number_are_compatible() {
-        let own = crate::raw::VERSION & !0xff;
+        let own = crate::raw::VERSION_NUMBER & !0xff;
         for (version, compatible) in [
             (own, true),
             (own + 1, true),

@@ -1,0 +1,91 @@
+"""A Debian that is booted in a container (systemd-nspawn), with its own service manager, in which commands are run."""
+
+import os
+import shutil
+import signal
+import subprocess
+import time
+
+from linux_kit import ROOT, Fault
+
+# Seconds of a command, and of a boot.
+LIMIT, BOOT_LIMIT = 900, 180
+
+# Where the container sees the repository and what is released; other folders of its own are its root's.
+SOURCE, RELEASED = "/srv/source", "/srv/released"
+ENVIRONMENT = {"PATH": "/usr/sbin:/usr/bin:/sbin:/bin", "HOME": "/root", "LC_ALL": "C.UTF-8", "DEBIAN_FRONTEND": "noninteractive", "TERM": "xterm"}
+
+
+def ran(words, what, **options):
+    """Runs a command within the time limit, and returns what it printed."""
+    try:
+        done = subprocess.run(words, capture_output=True, text=True, timeout=LIMIT, **options)
+    except subprocess.TimeoutExpired as slow:
+        raise Fault(f"{what}: it hangs, after {LIMIT} s") from slow
+    except FileNotFoundError as missing:
+        raise Fault(f"{what}: {words[0]} isn't there") from missing
+    if done.returncode != 0:
+        lines = [it for it in (done.stderr + done.stdout).splitlines() if it.strip()]
+        raise Fault(f"{what}: status {done.returncode}: {' | '.join(lines[-4:])[:600]}")
+    return done.stdout
+
+
+class Booted:
+    """A Debian that runs, from its root."""
+
+    def __init__(self, root, released):
+        if not shutil.which("systemd-nspawn"):
+            raise Fault("systemd-nspawn isn't there: apt-get install systemd-container")
+        self.root, self.leader = root, None
+        folders = [f"--bind-ro={ROOT}:{SOURCE}", f"--bind-ro={released}:{RELEASED}"]
+        words = ["systemd-nspawn", "--quiet", "--register=no", "--keep-unit", "--resolv-conf=copy-host", *folders, "-D", root, "--boot", "--console=pipe"]
+        environment = {**os.environ, "SYSTEMD_NSPAWN_UNIFIED_HIERARCHY": "1"}
+        self.container = subprocess.Popen(words, stdin=subprocess.DEVNULL, stdout=subprocess.DEVNULL, stderr=subprocess.DEVNULL, env=environment)
+
+    def __enter__(self):
+        end = time.monotonic() + BOOT_LIMIT
+        while not self.is_ready():
+            if self.container.poll() is not None or time.monotonic() > end:
+                self.__exit__()
+                raise Fault(f"{self.root} doesn't boot: systemd-nspawn -D {self.root} --boot says why")
+            time.sleep(0.5)
+        return self
+
+    def __exit__(self, *_):
+        self.container.send_signal(signal.SIGTERM)
+        try:
+            self.container.wait(60)
+        except subprocess.TimeoutExpired:
+            self.container.kill()
+            self.container.wait()
+
+    def is_ready(self):
+        """Whether all that the boot starts has started."""
+        self.leader = self.leader or self.first_process()
+        if not self.leader:
+            return False
+        said = subprocess.run([*self.entered(), "systemctl", "is-system-running"], capture_output=True, text=True, env=ENVIRONMENT, timeout=60)
+        return said.stdout.strip() in ("running", "degraded")
+
+    def first_process(self):
+        """Returns the container's process 1 by its number here, once it is there."""
+        todo = [self.container.pid]
+        for number in todo:
+            try:
+                with open(f"/proc/{number}/status", encoding="ascii") as file:
+                    numbers = next(it for it in file if it.startswith("NSpid:")).split()
+                if numbers[-1] == "1" and len(numbers) > 2:
+                    return number
+                with open(f"/proc/{number}/task/{number}/children", encoding="ascii") as file:
+                    todo += map(int, file.read().split())
+            except OSError:
+                continue
+        return None
+
+    def entered(self):
+        """Returns the words that run a command there."""
+        return ["nsenter", "--target", str(self.leader), "--mount", "--uts", "--ipc", "--pid", "--root", "--wd"]
+
+    def run(self, words, what):
+        """Runs shell words there, and returns what they printed."""
+        return ran([*self.entered(), "/bin/bash", "-ec", words], what, env=ENVIRONMENT)
