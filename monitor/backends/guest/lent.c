@@ -120,6 +120,16 @@ static int move_up(int file)
     return moved;
 }
 
+static void set_hooks(struct lent *lent)
+{
+    struct backend *backend = &lent->backend;
+    backend->tell = client_tell;
+    backend->admit = admit;
+    backend->held = backend->options->holds ? lent_holds : NULL;
+    backend->empties = backend->options->holds ? empties : NULL;
+    lent_speaks(lent);
+}
+
 static bool begin(struct lent *lent, const struct options *options)
 {
     pid_t lender = getppid();
@@ -135,11 +145,7 @@ static bool begin(struct lent *lent, const struct options *options)
         return false;
     lent->end = process_end();
     lent->look = lent_now() + LOOK_EVERY;
-    lent->backend.tell = client_tell;
-    lent->backend.admit = admit;
-    lent->backend.held = options->holds ? lent_holds : NULL;
-    lent->backend.empties = options->holds ? empties : NULL;
-    lent_speaks(lent);
+    set_hooks(lent);
     process_is_shut = HAS_SANDBOX && !options->open;
     return lent->end >= 0 && (!process_is_shut || sandbox_enter());
 }

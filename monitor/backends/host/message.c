@@ -12,7 +12,7 @@ int lending_read(int channel, struct lending_message *message)
 {
     ssize_t got = recv(channel, message, sizeof *message, MSG_DONTWAIT | MSG_TRUNC);
     if (got < 0)
-        return errno == EAGAIN || errno == EWOULDBLOCK || errno == EINTR ? 0 : -1;
+        return errno == EAGAIN || errno == EINTR ? 0 : -1;
     if (got != (ssize_t)sizeof *message || message->version != LENDING_VERSION)
         return -1;
     message->words[MOST_WORDS - 1] = 0;

@@ -1,0 +1,183 @@
+/* A guest's process of a host that lends, fuzzed: any messages, bytes and files of its client, any rings and memory, and any orders of its
+ * lender, in any order. After each step its count of pages in the balloon is that of its set, and in the end no file is left open. */
+#define _GNU_SOURCE
+#include "../../backends/guest/lent.c"
+#include "client.h"
+#include "script.h"
+
+#include <stdlib.h>
+#include <sys/un.h>
+
+struct script script;
+
+static struct lent fuzzed;
+static int lender, later;       /* the lender's end of the channel; where a later one comes */
+static struct timespec now;
+
+int __real_poll_some(struct pollfd *files, nfds_t count, int limit);
+int __wrap_poll_some(struct pollfd *files, nfds_t count, int limit);
+int __wrap_clock_gettime(clockid_t clock, struct timespec *time);
+int LLVMFuzzerTestOneInput(const uint8_t *data, size_t size);
+
+/* Each look at the clock is ten milliseconds after the one before. */
+int __wrap_clock_gettime(clockid_t clock, struct timespec *time)
+{
+    (void)clock;
+    now.tv_nsec += 10000000;
+    now.tv_sec += now.tv_nsec >= 1000000000;
+    now.tv_nsec %= 1000000000;
+    *time = now;
+    return 0;
+}
+
+/* An order: as the process waits for it, or any. */
+static void lender_orders(void)
+{
+    struct lending_message order = {.kind = next_below(10), .number = next_byte(), .asks = 1};
+    order.wait = next_byte() < 200 ? (order.kind == ORDER_GRANT ? fuzzed.held_wait : fuzzed.wait) : next_byte();
+    order.target = order.kind == ORDER_TARGET ? next_u32() % 100 : 0;
+    if (next_byte() == 255)
+        send(lender, &order, next_byte(), MSG_DONTWAIT | MSG_NOSIGNAL);
+    else
+        lending_send(lender, &order);
+}
+
+/* The lender goes, or a later one comes. */
+static void lender_changes(bool comes)
+{
+    struct sockaddr_un address;
+    socklen_t size = sizeof address;
+    close(lender);
+    lender = -1;
+    if (!comes)
+        return;
+    lender = socket(AF_UNIX, SOCK_SEQPACKET | SOCK_CLOEXEC | SOCK_NONBLOCK, 0);
+    demand(lender >= 0 && !getsockname(later, (struct sockaddr *)&address, &size));
+    demand(!connect(lender, (struct sockaddr *)&address, size));
+}
+
+static void lender_hears(void)
+{
+    struct lending_message report;
+    while (lender >= 0 && lending_read(lender, &report) > 0)
+        demand(report.kind >= TELL_REPORT);
+}
+
+static void client_ends(void)
+{
+    shutdown(client.socket, SHUT_RDWR);
+}
+
+/* What comes while the process waits for its lender; the client goes at the end of the script. */
+static void act_while_it_waits(void)
+{
+    unsigned what = next_below(4);
+    if (!script_goes_on())
+        client_ends();
+    else if (what < 3)
+        lender_orders();
+    else
+        lender_changes(next_byte() % 2);
+}
+
+int __wrap_poll_some(struct pollfd *files, nfds_t count, int limit)
+{
+    (void)limit;
+    if (fuzzed.waits != WAIT_NOTHING)
+        act_while_it_waits();
+    return __real_poll_some(files, count, 0);
+}
+
+static void act(void)
+{
+    static void (*const acts[])(void) = {client_sends, client_sends, client_posts, client_posts, client_scribbles, lender_orders,
+                                         client_kicks, client_babbles};
+    unsigned what = next_byte();
+    if (what >= 250)
+        lender_changes(what % 2);
+    else
+        acts[what % (sizeof acts / sizeof acts[0])]();
+    lender_hears();
+}
+
+/* The set has as many pages as are counted. */
+static void check_balloon(void)
+{
+    const struct balloon *balloon = &fuzzed.backend.balloon;
+    if (balloon->ballooned)
+        demand(vb_count_ballooned(balloon->ballooned, balloon->ballooned_words) == fuzzed.backend.ballooned);
+}
+
+static void comes(struct options *options)
+{
+    int ends[2];
+    now = (struct timespec){1, 0};
+    unsigned kind = next_byte();
+    *options = (struct options){.client = "fuzzed", .features = UINT64_C(1) << 32 | 0x27, .is_lent = true, .holds = kind & 1,
+                                .strict = kind & 2, .events = kind & 4};
+    fuzzed = (struct lent){0};
+    rings_clear(&fuzzed.backend);
+    demand(backend_start(&fuzzed.backend, options));
+    demand(!socketpair(AF_UNIX, SOCK_SEQPACKET | SOCK_CLOEXEC | SOCK_NONBLOCK, 0, ends));
+    fuzzed.backend.socket = client_comes();
+    lender = ends[0];
+    fuzzed.channel = ends[1];
+    fuzzed.later = later;
+    fuzzed.end = -1;
+    set_hooks(&fuzzed);
+}
+
+static void goes(void)
+{
+    backend_leave(&fuzzed.backend);
+    files_close(&fuzzed.inbox.message.files);
+    free(fuzzed.marks.set);
+    file_close(fuzzed.backend.socket);
+    if (fuzzed.channel >= 0)
+        file_close(fuzzed.channel);
+    if (lender >= 0)
+        close(lender);
+    client_goes();
+}
+
+/* The lowest number that a new file has. */
+static int next_file(void)
+{
+    int file = dup(STDIN_FILENO);
+    close(file);
+    return file;
+}
+
+static void listen_once(void)
+{
+    if (later > 0)
+        return;
+    struct sockaddr_un address = {.sun_family = AF_UNIX};
+    later = socket(AF_UNIX, SOCK_SEQPACKET | SOCK_CLOEXEC | SOCK_NONBLOCK, 0);
+    demand(!bind(later, (struct sockaddr *)&address, sizeof address.sun_family) && !listen(later, 8));
+    process_is_shut = true;
+    signal(SIGPIPE, SIG_IGN);
+}
+
+int LLVMFuzzerTestOneInput(const uint8_t *data, size_t size)
+{
+    struct options options;
+    listen_once();
+    int before = next_file(), served = 1;
+    script.at = data, script.end = data + size;
+    comes(&options);
+    while (served > 0 && script_goes_on()) {
+        act();
+        served = guard(once, &fuzzed);
+        check_balloon();
+    }
+    if (served > 0) {
+        client_ends();
+        demand(guard(once, &fuzzed) <= 0);
+    }
+    goes();
+    while ((served = accept(later, NULL, NULL)) >= 0)
+        close(served);
+    demand(next_file() == before);
+    return 0;
+}

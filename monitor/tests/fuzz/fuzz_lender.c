@@ -1,0 +1,239 @@
+/* A lender, fuzzed: any messages of three guests' processes, which may obey it, or lie, or go; and budgets, floors and terms that change. After
+ * each step every loan is one that the library may be given, and in the end no file is left open. */
+#define _GNU_SOURCE
+#include "../../backends/host/host.h"
+#include "script.h"
+
+#include <stddef.h>
+#include <stdlib.h>
+#include <sys/socket.h>
+#include <unistd.h>
+
+enum { SEATS = 3, FRAMES = 512, PERIOD = 200, MOST_READ = 8, STEP_MS = 50 };
+
+struct script script;
+
+static struct host host;
+static int processes[SEATS];    /* their ends of the channels; -1: none */
+static struct lending_message reports[SEATS];
+static struct timespec now;
+
+int __wrap_clock_gettime(clockid_t clock, struct timespec *time);
+int LLVMFuzzerTestOneInput(const uint8_t *data, size_t size);
+
+/* Each look at the clock is a millisecond after the one before. */
+int __wrap_clock_gettime(clockid_t clock, struct timespec *time)
+{
+    (void)clock;
+    now.tv_nsec += 1000000;
+    now.tv_sec += now.tv_nsec >= 1000000000;
+    now.tv_nsec %= 1000000000;
+    *time = now;
+    return 0;
+}
+
+static void hush(enum saying saying, const char *words)
+{
+    demand(saying <= SAY_NEWS && strlen(words) < 4096);
+}
+
+/* A process begins, as a new one or as an earlier lender's. */
+static void process_begins(unsigned number, bool adopted)
+{
+    struct seat *seat = host.seats[number];
+    int ends[2];
+    if (seat->here)
+        return;
+    demand(!socketpair(AF_UNIX, SOCK_SEQPACKET | SOCK_CLOEXEC | SOCK_NONBLOCK, 0, ends));
+    seat_clear(seat);
+    seat->channel = ends[0];
+    processes[number] = ends[1];
+    seat->here = true;
+    seat->adopts = seat->adopted = adopted;
+    reports[number] = (struct lending_message){.kind = TELL_REPORT, .holds = seat->terms.strict};
+}
+
+static void process_goes(unsigned number)
+{
+    if (processes[number] >= 0)
+        close(processes[number]);
+    processes[number] = -1;
+}
+
+/* One more of what a report says is as the script has it. */
+static void change_report(struct lending_message *report)
+{
+    uint32_t *const numbers[] = {&report->pages, &report->wanted, &report->ballooned, &report->held_pages, &report->target, &report->actual};
+    uint32_t *const words[] = {&report->ready, &report->waits, &report->taken_since, &report->has_terms, &report->holds, &report->status};
+    unsigned what = next_below(16), value = next_byte();
+    if (what < 6)
+        *numbers[what] = value < 250 ? value : next_u32();
+    else if (what < 12)
+        *words[what - 6] = value % 3;
+    else if (what == 12)
+        report->wait++, report->held_wait++;
+    else if (what == 13)
+        report->terms = (struct kept_terms){value % 64, value, value % 3, value % 2};
+    else if (what == 14)
+        report->counters.statistics++, report->figures[0] = (VbStatistic){.tag = 4 + value % 3, .value = value * UINT64_C(4096)};
+    else
+        report->counters.taken += value, report->held_kib = value * 4;
+    report->figure_count = what == 14 ? value % 40 : report->figure_count;
+}
+
+/* A process reports what it is, after some changes; or says something else. */
+static void process_tells(unsigned number)
+{
+    struct lending_message *report = &reports[number], other;
+    for (unsigned changes = next_below(4); changes > 0; changes--)
+        change_report(report);
+    unsigned kind = next_byte();
+    report->number = kind % 2 ? host.seats[number]->number : 0;
+    other = *report;
+    if (kind < 200) {
+        lending_send(processes[number], report);
+        return;
+    }
+    other.kind = kind % 16;
+    next_bytes(other.words, 16);
+    other.version = LENDING_VERSION + (kind == 254);
+    send(processes[number], &other, kind == 255 ? next_byte() : sizeof other, MSG_DONTWAIT | MSG_NOSIGNAL);
+}
+
+/* A process obeys its orders, as far as the script says. */
+static void process_obeys(unsigned number)
+{
+    struct lending_message order, *report = &reports[number];
+    while (processes[number] >= 0 && lending_read(processes[number], &order) > 0) {
+        demand(order.kind >= ORDER_LOOK && order.kind <= ORDER_LEAVE);
+        if (order.kind == ORDER_TARGET)
+            report->target = order.target;
+        if (order.kind == ORDER_ADMIT && report->waits == WAIT_ROOM && order.wait == report->wait)
+            report->pages = report->wanted;
+        if (order.kind == ORDER_ADMIT || order.kind == ORDER_REFUSE)
+            report->waits = WAIT_NOTHING;
+        if (order.kind == ORDER_GRANT && order.wait == report->held_wait) {
+            report->ballooned -= report->held_pages < report->ballooned ? report->held_pages : report->ballooned;
+            report->held_pages = 0;
+        }
+    }
+}
+
+/* A line of the operator's. */
+static void operator_says(void)
+{
+    static const char *const lines[] = {"budget %u", "floor %u", "terms a least=%u", "terms b most=%u", "terms c priority=%u",
+                                        "terms b strict=%u", "guests", "counters", "log", "a target %u"};
+    char line[64];
+    const char *format = lines[next_below(sizeof lines / sizeof lines[0])];
+    unsigned value = next_byte();
+    snprintf(line, sizeof line, format, strstr(format, "strict") ? value % 2 : value % 8);
+    if (!*host.question.line)
+        demand(host_line(&host, line));
+    rewind(host.answers.out);
+}
+
+static void look(unsigned number)
+{
+    seat_look(host.seats[number], true);
+    host.seats[number]->silent += next_byte() % 2;
+    seat_step(host.seats[number], STEP_MS);
+    seat_remind(host.seats[number]);
+}
+
+/* What a turn of the lender's does. */
+static void serve(void)
+{
+    for (unsigned i = 0; i < SEATS; i++) {
+        struct seat *seat = host.seats[i];
+        seat_read(seat, MOST_READ);
+        if (seat->here && seat->channel < 0)
+            seat_ended(seat);
+    }
+    question_answer(&host);
+    if (host.news)
+        policy_decide(&host);
+    loans_grant(&host);
+}
+
+/* What the library is given of each loan. */
+static void check_loans(void)
+{
+    for (unsigned i = 0; i < MOST_PLACES; i++) {
+        const VbLoan *loan = &host.loans[i];
+        demand((uint64_t)loan->lent + loan->ballooned >= loan->pages && loan->pages >= (uint64_t)loan->lent + loan->asked);
+    }
+}
+
+static void act(void)
+{
+    unsigned what = next_byte(), number = what / 16 % SEATS;
+    what %= 16;
+    if (what < 8)
+        process_tells(number);
+    else if (what < 11)
+        process_obeys(number);
+    else if (what == 11)
+        process_goes(number);
+    else if (what == 12)
+        process_begins(number, next_byte() % 4 == 0);
+    else if (what == 13)
+        operator_says();
+    else
+        look(number);
+}
+
+static void begin_once(void)
+{
+    static char folder[] = "/tmp/fuzz-lender-XXXXXX";
+    static const char *const names[SEATS] = {"a", "b", "c"};
+    if (host.folder)
+        return;
+    demand(mkdtemp(folder) && answers_begin(&host.answers));
+    host.folder = folder;
+    host.program = "/bin/false";
+    say_through = hush;
+    for (unsigned i = 0; i < SEATS; i++) {
+        struct guest_terms terms = {.most = UINT32_MAX};
+        demand(!seat_add(&host, names[i], &terms));
+    }
+}
+
+/* A host as it begins; the first byte says which guests are strict, and whether targets grow by steps. */
+static void begin(void)
+{
+    unsigned kind = next_byte();
+    memset(host.loans, 0, sizeof host.loans);
+    now = (struct timespec){1, 0};
+    host.frames = FRAMES;
+    host.floor = kind / 16;
+    host.period = PERIOD;
+    host.step = kind & 8 ? 8 : 0;
+    host.question.line[0] = 0;
+    host.news = host.anew = false;
+    for (unsigned i = 0; i < SEATS; i++) {
+        host.seats[i]->terms = (struct guest_terms){.most = UINT32_MAX, .strict = kind >> i & 1};
+        process_begins(i, false);
+    }
+}
+
+int LLVMFuzzerTestOneInput(const uint8_t *data, size_t size)
+{
+    begin_once();
+    int before = dup(STDIN_FILENO);
+    close(before);
+    script.at = data, script.end = data + size;
+    begin();
+    while (script_goes_on()) {
+        act();
+        serve();
+        check_loans();
+    }
+    for (unsigned i = 0; i < SEATS; i++)
+        process_goes(i);
+    serve();
+    int after = dup(STDIN_FILENO);
+    close(after);
+    demand(after == before);
+    return 0;
+}

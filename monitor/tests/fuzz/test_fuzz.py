@@ -1,0 +1,112 @@
+"""Coverage-guided fuzzing of a guest's process (fuzz_guest.c) and of a lender (fuzz_lender.c), by clang's libFuzzer with the checks of addresses and
+of undefined behaviour. Each begins with the inputs of its corpus. In the end a table says which part of the branches of each file all inputs
+have taken together; of those with a star they have to take 90 in 100."""
+
+import base64
+import json
+import os
+import subprocess
+
+import linux_kit
+import pytest
+
+HERE = os.path.dirname(__file__)
+BACKENDS = os.path.join(linux_kit.MONITOR, "backends")
+
+# Per cent of the branches that have to be taken, and bytes of an input.
+LEAST, MOST_INPUT = 90, 400
+
+# What each fuzzer is made of: its own files, the backends' files, the functions that it has in their place, libraries; and the files whose
+# branches count.
+FUZZERS = {
+    "guest": (
+        ("fuzz_guest.c", "client.c"), [it for it in linux_kit.CLIENT_PARTS["vhost_user_balloon"] if it != "guest/lent"],
+        ("poll_some", "clock_gettime"), ("vhost_user_balloon",),
+        ("guest/messages", "guest/slots", "guest/rings", "guest/ring_messages", "guest/inbox", "guest/marks", "guest/lent_channel"),
+    ),
+    "lender": (
+        ("fuzz_lender.c",), (*linux_kit.COMMON_PARTS, *(f"host/{it}" for it in linux_kit.HOST_PARTS)), ("clock_gettime",), (),
+        ("host/reports", "host/message"),
+    ),
+}
+
+
+def corpus_of(name):
+    """Returns the file of a fuzzer's corpus: an input a line."""
+    return os.path.join(HERE, f"{name}.corpus")
+
+
+def run(*words, **how):
+    """Runs a program; returns what it said. A status that isn't 0 is a fault."""
+    ran = subprocess.run(words, stdin=subprocess.DEVNULL, stdout=subprocess.PIPE, stderr=subprocess.STDOUT, text=True, errors="replace", **how)
+    assert ran.returncode == 0, f"{words[0]} ends with status {ran.returncode}:\n{ran.stdout[-4000:]}"
+    return ran.stdout
+
+
+def build(name, folder, *flags):
+    """Compiles a fuzzer."""
+    own, parts, wrapped, programs, _ = FUZZERS[name]
+    program = os.path.join(folder, f"{name}{len(flags)}")
+    sources = [*(os.path.join(HERE, it) for it in own), *(os.path.join(BACKENDS, f"{it}.c") for it in parts), linux_kit.core_of()]
+    words = [linux_kit.need("clang", "clang libclang-rt-14-dev llvm"), "-std=c11", "-O0", "-g", "-Wall", "-Wextra", "-Werror", *flags,
+             "-I", linux_kit.SHIM, "-I", linux_kit.HEADERS, "-o", program, *sources, *(f"-Wl,--wrap={it}" for it in wrapped)]
+    run(*words, *(word for it in programs for word in linux_kit.linked(it)))
+    return program
+
+
+def unpack(name, folder):
+    """Makes a folder of a corpus, a file for each input."""
+    os.makedirs(folder)
+    with open(corpus_of(name), "rb") as lines:
+        for number, line in enumerate(lines):
+            with open(os.path.join(folder, str(number)), "wb") as file:
+                file.write(base64.b64decode(line))
+
+
+def keep(name, folder):
+    """Writes a folder's inputs into the corpus."""
+    inputs = []
+    for it in os.listdir(folder):
+        with open(os.path.join(folder, it), "rb") as file:
+            inputs.append(file.read())
+    with open(corpus_of(name), "wb") as lines:
+        lines.writelines(base64.b64encode(it) + b"\n" for it in sorted(inputs))
+
+
+def branches(program, folder, corpus):
+    """Returns for each file of the backends how many branches it has, and how many the inputs of a corpus take."""
+    profile = os.path.join(folder, "profile")
+    run(program, "-runs=0", "-handle_bus=0", corpus, env={**os.environ, "LLVM_PROFILE_FILE": f"{profile}.raw"})
+    run(linux_kit.need("llvm-profdata", "llvm"), "merge", "-o", profile, f"{profile}.raw")
+    said = json.loads(run(linux_kit.need("llvm-cov", "llvm"), "export", "-summary-only", f"-instr-profile={profile}", program))
+    found = {os.path.relpath(it["filename"], BACKENDS)[:-2]: it["summary"]["branches"] for it in said["data"][0]["files"]}
+    return {name: (its["count"], its["covered"]) for name, its in found.items() if its["count"] > 0 and not name.startswith("..")}
+
+
+def check_branches(name, taken):
+    """Prints which part of the branches was taken, and demands most of them of the files that count."""
+    counts, missing = FUZZERS[name][-1], []
+    for it, (count, covered) in sorted(taken.items()):
+        share = 100 * covered / count
+        print(f"{it:<24}{count:>6} branches {share:>6.1f}%{' *' if it in counts else ''}")
+        if it in counts and share < LEAST:
+            missing.append(it)
+    assert not missing, f"of these files fewer than {LEAST}% of the branches are taken: {missing}"
+
+
+@pytest.mark.timeout(3600)
+@pytest.mark.parametrize("name", FUZZERS)
+def test_fuzz(name, tmp_path, request):
+    corpus, least = str(tmp_path / "corpus"), str(tmp_path / "least")
+    program = build(name, str(tmp_path), "-fsanitize=fuzzer,address,undefined")
+    unpack(name, corpus)
+    seconds = request.config.getoption("--seconds") // len(FUZZERS)
+    limits = (f"-max_total_time={seconds}", f"-max_len={MOST_INPUT}", "-handle_bus=0", f"-artifact_prefix={tmp_path}/")
+    said = run(program, *limits, "-print_final_stats=1", corpus)
+    print(*(it for it in said.splitlines() if it.startswith(("Done", "stat::new"))), sep="\n")
+    os.makedirs(least)
+    run(program, "-set_cover_merge=1", "-handle_bus=0", least, corpus)
+    covering = build(name, str(tmp_path), "-fsanitize=fuzzer", "-fprofile-instr-generate", "-fcoverage-mapping")
+    check_branches(name, branches(covering, str(tmp_path), least))
+    if request.config.getoption("--keep"):
+        keep(name, least)
