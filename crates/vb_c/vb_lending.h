@@ -40,11 +40,38 @@ typedef struct { uint32_t code; size_t guest; } VbGrant;
 typedef struct { uint32_t least, priority; } VbTerms;
 typedef struct { uint32_t pages, spare, priority; } VbShare;      /* room that vb_loan_class_targets needs for a guest */
 
+/* Whether a guest's word on its memory is at hand. Any other number is VB_GUEST_STARTS. */
+enum {
+    VB_GUEST_STARTS = 0,        /* its driver isn't ready: it counts for all its pages, and gives none */
+    VB_GUEST_SILENT = 1,        /* its statistics are too old: it counts for what it holds and has given, and gives what it has given */
+    VB_GUEST_HEARD = 2,         /* its statistics are recent */
+    VB_GUEST_AWAY = 3,          /* it has gone, and its memory isn't freed yet: it counts for what it holds */
+};
+
+/* What a host knows of a guest, in pages. */
+typedef struct {
+    VbLoan loan;                /* what is lent to it; zeros where the host keeps no loan for it */
+    uint32_t pages;             /* its memory */
+    uint32_t held;              /* the frames that it holds, by the host's own count */
+    uint32_t ballooned;         /* in its balloon now */
+    uint32_t ballooned_then;    /* in its balloon when its last statistics were made */
+    uint32_t available;         /* by these statistics; of a guest that doesn't tell that, what is free */
+    uint16_t contact;           /* VB_GUEST_STARTS .. */
+    uint16_t rests;             /* unless 0: it isn't asked for more than it has given, since it has just taken pages by itself */
+    uint32_t least;             /* how many pages always stay to it, as far as it has them */
+    uint32_t most;              /* what it has above these is asked of it, whatever the host lacks */
+    uint32_t priority;          /* those of a lower one give first */
+} VbHostGuest;
+
 VB_ASSERT(sizeof(VbLoan) == 32 && offsetof(VbLoan, ballooned) == 4 && offsetof(VbLoan, lent) == 8 && offsetof(VbLoan, asked) == 12
           && offsetof(VbLoan, turn) == 16 && offsetof(VbLoan, spare) == 24 && offsetof(VbLoan, uncounted) == 28
           && offsetof(VbLoan, line) == 30);
 VB_ASSERT(sizeof(VbGrant) == 16 && offsetof(VbGrant, guest) == 8);
 VB_ASSERT(sizeof(VbTerms) == 8 && offsetof(VbTerms, priority) == 4);
+VB_ASSERT(sizeof(VbHostGuest) == 72 && offsetof(VbHostGuest, pages) == 32 && offsetof(VbHostGuest, held) == 36
+          && offsetof(VbHostGuest, ballooned) == 40 && offsetof(VbHostGuest, ballooned_then) == 44
+          && offsetof(VbHostGuest, available) == 48 && offsetof(VbHostGuest, contact) == 52 && offsetof(VbHostGuest, rests) == 54
+          && offsetof(VbHostGuest, least) == 56 && offsetof(VbHostGuest, most) == 60 && offsetof(VbHostGuest, priority) == 64);
 VB_ASSERT(sizeof(VbShare) == 12 && offsetof(VbShare, spare) == 4 && offsetof(VbShare, priority) == 8);
 
 /* What happens to a guest: VB_OK where it has its effect; VB_BAD_ARGUMENT where guest isn't below count, or it doesn't fit, as is
@@ -93,6 +120,25 @@ VbTargets vb_loan_targets(uint32_t frames, const VbLoan *loans, size_t count, Vb
 VbTargets vb_loan_class_targets(uint32_t frames, const VbLoan *loans, size_t count, const VbTerms *terms, size_t terms_count,
                                 VbShare *shares, size_t shares_room, VbNeed *needs, size_t needs_room,
                                 uint32_t *targets, size_t targets_room);
+
+/* By what a host knows of its guests. A guest with a loan counts for the loan's pages; what it can spare is, while it waits, what stays in
+ * its balloon when it has what it asks for, nothing where its balloon doesn't count, and else what it tells. A guest whose statistics are
+ * recent tells that it can spare all but `floor` of the pages that it doesn't use (available now, or ballooned then); so one that has
+ * fewer free than the floor gives less than it has given. Its least pages stay to each guest. */
+
+/* The pages for which a guest counts, and how many of them it can give (`spare`). */
+VbNeed vb_guest_need(const VbHostGuest *guest, uint32_t floor);
+/* Puts a target for each guest into `targets`: what it has above its most, as far as it can give it and doesn't wait; and what is still
+ * missing, by priority as vb_loan_class_targets does. VB_OK, and then what the guests count for without their targets is no more than
+ * the frames; VB_SHORT and VB_BAD_ARGUMENT as of vb_loan_class_targets. */
+VbTargets vb_guest_targets(uint32_t frames, uint32_t floor, const VbHostGuest *guests, size_t count, VbShare *shares, size_t shares_room,
+                           VbNeed *needs, size_t needs_room, uint32_t *targets, size_t targets_room);
+/* 0 where old targets still serve, else 1: there is one for each guest, none is below what is forced by the guest's most, or above what
+ * the guest could give with `slack` pages fewer free than the floor, and together they are enough. It is 1 where a room isn't count. Of
+ * `needs` and `rests` nothing is kept. */
+uint32_t vb_needs_guest_targets(uint32_t frames, uint32_t floor, uint32_t slack, const VbHostGuest *guests, size_t count,
+                                const uint32_t *old, size_t old_count, VbNeed *needs, size_t needs_room,
+                                uint32_t *rests, size_t rests_room);
 
 #undef VB_ASSERT
 #ifdef __cplusplus

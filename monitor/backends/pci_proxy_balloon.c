@@ -8,6 +8,7 @@
  * QEMU hands interrupts of such a device over to KVM alone. Without KVM the guest has to look by itself: Linux does,
  * with `irqpoll` on its command line.
  */
+#include "guest/options.h"
 #include "guest/virtio_pci.h"
 #include "guest/stream.h"
 
@@ -156,12 +157,15 @@ static const char help[] = "pci_proxy_balloon FD [--features HEX] [--strict] [--
 int main(int count, char **words)
 {
     static struct backend backend;
-    static struct options options;
+    static struct options options = {.features = USUAL_FEATURES};
+    const struct option_row rows[] = {
+        BACKEND_OPTIONS(&options), {"help", .answer = help}, {"version", .answer = "pci_proxy_balloon " VB_VERSION}, {0}};
     uint64_t socket;
     process_begin();
-    if (process_answers(count, words, "pci_proxy_balloon", help))
+    enum command_line said = options_read(count, words, rows, &options.client);
+    if (said == LINE_ANSWERED)
         return 0;
-    if (!backend_options(&options, count, words) || !read_number(options.client, 10, INT_MAX, &socket)) {
+    if (said == LINE_WRONG || !options.client || !read_number(options.client, 10, INT_MAX, &socket)) {
         fprintf(stderr, "%s\n", help);
         return 2;
     }

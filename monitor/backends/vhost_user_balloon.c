@@ -25,6 +25,7 @@
 #include "guest/conventions.h"
 #include "guest/inbox.h"
 #include "guest/lent.h"
+#include "guest/options.h"
 #include "guest/state.h"
 
 #include <errno.h>
@@ -103,11 +104,29 @@ static const char help[] =
     "                   [--state FILE] [--lines N]\n"
     "vhost_user_balloon --print-capabilities | --help | --version";
 
-/* Takes the client's socket, or the one where it comes: by its number, or by making it. False where it can't. */
-static bool take_socket(struct backend *backend, const struct convention *convention)
+/* What the command line says of the client: one of its socket, the socket's path, and the socket's file. */
+struct where {
+    const char *socket, *path;
+    int file;                   /* -1: none */
+};
+
+static enum command_line read_words(int count, char **words, struct options *options, struct where *where)
 {
-    bool listens = convention->file < 0 || socket_listens(convention->file);
-    int file = convention->file < 0 ? listener_of(backend->options->client) : convention->file;
+    const struct option_row rows[] = {
+        BACKEND_OPTIONS(options), {"socket-path", .read = read_word, .at = &where->path}, {"fd", .read = read_socket, .at = &where->file},
+        {"print-capabilities", .answer = CAPABILITIES}, {"help", .answer = help}, {"version", .answer = "vhost_user_balloon " VB_VERSION}, {0}};
+    enum command_line line = options_read(count, words, rows, &where->socket);
+    int said = (where->socket != NULL) + (where->path != NULL) + (where->file >= 0);
+    options->client = where->path ? where->path : where->socket;
+    options->lives_on = !where->socket;
+    return line == LINE_READ && said != 1 ? LINE_WRONG : line;
+}
+
+/* Takes the client's socket, or the one where it comes: by its number, or by making it. False where it can't. */
+static bool take_socket(struct backend *backend, int given)
+{
+    bool listens = given < 0 || socket_listens(given);
+    int file = given < 0 ? listener_of(backend->options->client) : given;
     *(listens ? &backend->listener : &backend->socket) = file;
     return file >= 0;
 }
@@ -115,25 +134,21 @@ static bool take_socket(struct backend *backend, const struct convention *conven
 int main(int count, char **words)
 {
     static struct backend backend;
-    static struct options options;
-    struct convention convention;
+    static struct options options = {.features = USUAL_FEATURES};
+    struct where where = {.file = -1};
     process_begin();
-    if (process_answers(count, words, "vhost_user_balloon", help) || conventions_answer(count, words))
-        return 0;
-    if (!conventions_take(&convention, &count, words) || !backend_options(&options, count, words)) {
+    enum command_line line = read_words(count, words, &options, &where);
+    if (line == LINE_WRONG)
         fprintf(stderr, "%s\n", help);
-        return 2;
-    }
+    if (line != LINE_READ)
+        return line == LINE_WRONG ? 2 : 0;
     if (options.is_lent)
         return lent_run(&options);
-    options.lives_on = convention.is_one;
-    if (convention.file >= 0)
-        options.client = NULL;
     process_allow_files(FILES_OF_PROCESS + FILES_OF_CLIENT);
     if (!backend_start(&backend, &options) || !state_load(&backend))
         return 2;
     backend.tell = client_tell;
-    if (take_socket(&backend, &convention)) {
+    if (take_socket(&backend, where.file)) {
         puts("listening");
         int status = backend_run(&backend, serve);
         backend_leave(&backend);

@@ -24,7 +24,7 @@
  *     quit                end, and all guests' service; so do the signals SIGTERM and SIGINT, and without --config SIGHUP
  *
  * Each period (200 ms) it counts what the guests' files hold, and asks each for its statistics. Targets are decided anew where the old
- * ones don't serve any longer: by vb_loan_class_targets, vb_spare and vb_needs_targets of the library. A guest that breaks a
+ * ones don't serve any longer: by vb_guest_targets and vb_needs_guest_targets of the library. A guest that breaks a
  * rule or goes ends alone: a line on standard error says so. A guest whose memory has no room beside the others is refused.
  *
  * `bigvasta` speaks to it by its control socket, FOLDER/.control (--control), and by one that only shows the host, FOLDER/.status
@@ -36,6 +36,7 @@
  * page number past the end breaks a rule. --features, --events, --lines: as for vhost_user_balloon. --no-sandbox: guests' processes may make any system call. --end-with-lender: the kernel ends them with the lender.
  * --leave: signals end the lender alone, as the line `leave` does: a service that starts anew goes on with its guests.
  */
+#include "guest/options.h"
 #include "host/host.h"
 #include "service/service.h"
 
@@ -43,54 +44,34 @@
 #include <sys/pidfd.h>
 #include <unistd.h>
 
-enum { BALLOON_FEATURES = 0x27, PERIOD = 200, LEAST_PERIOD = 10, FLOOR_MIB = 12, STEP = 8, FILES_OF_LENDER = 32, FILES_OF_SEAT = 4 };
+enum { PERIOD = 200, LEAST_PERIOD = 10, MOST_PERIOD = UINT32_MAX / PAGES_PER_MIB, FLOOR_MIB = 12, STEP = 8, FILES_OF_LENDER = 32, FILES_OF_SEAT = 4 };
 
 /* Milliseconds in which guests' processes end that are told to. */
 enum { LEAVES_IN = 1000 };
 
-/* Reads one of the options that have a number. */
-static bool read_option(struct host *host, const char *name, const char *word)
+/* A number of mebibytes, as pages. */
+static bool read_mebibytes(const char *word, void *at)
 {
     uint64_t number;
-    bool pages = !strcmp(name, "--budget") || !strcmp(name, "--floor");
-    if (!strcmp(name, "--features"))
-        return read_number(word, 16, UINT64_MAX, &host->features);
-    if (!strcmp(name, "--lines"))
-        return read_lines(word);
-    if (!strcmp(name, "--program"))
-        return host->program = word, true;
-    if (!read_number(word, 10, UINT32_MAX / PAGES_PER_MIB, &number))
-        return false;
-    if (pages)
-        *(!strcmp(name, "--budget") ? &host->frames : &host->floor) = (uint32_t)number * PAGES_PER_MIB;
-    else if (!strcmp(name, "--step"))
-        host->step = (uint32_t)number;
-    else if (!strcmp(name, "--period") && number >= LEAST_PERIOD)
-        host->period = (int64_t)number;
-    else
-        return false;
-    return true;
+    bool read = read_number(word, 10, UINT32_MAX / PAGES_PER_MIB, &number);
+    *(uint32_t *)at = read ? (uint32_t)number * PAGES_PER_MIB : *(uint32_t *)at;
+    return read;
 }
 
-/* Takes a word that is all of an option; false where it is another. */
-static bool read_flag(struct host *host, const char *word)
+static bool read_step(const char *word, void *at)
 {
-    const struct {
-        const char *word;
-        bool *flag;
-    } flags[] = {{"--strict", &host->strict}, {"--strict-pages", &host->strict_pages}, {"--events", &host->events},
-                 {"--no-sandbox", &host->no_sandbox}, {"--end-with-lender", &host->end_with_lender}, {"--leave", &host->leaves}};
-    for (unsigned i = 0; i < sizeof flags / sizeof flags[0]; i++)
-        if (!strcmp(word, flags[i].word))
-            return *flags[i].flag = true;
-    return false;
+    uint64_t number;
+    bool read = read_number(word, 10, UINT32_MAX, &number);
+    *(uint32_t *)at = read ? (uint32_t)number : *(uint32_t *)at;
+    return read;
 }
 
-/* Reads an option with its word. */
-static bool read_word(struct host *host, struct service *service, const char *name, const char *word)
+static bool read_period(const char *word, void *at)
 {
-    int known = service_option(service, name, word);
-    return known < 0 ? read_option(host, name, word) : known;
+    uint64_t number;
+    bool read = read_number(word, 10, MOST_PERIOD, &number) && number >= LEAST_PERIOD;
+    *(int64_t *)at = read ? (int64_t)number : *(int64_t *)at;
+    return read;
 }
 
 /* What the file says, where the command line doesn't say it. */
@@ -106,24 +87,28 @@ static void take_config(struct host *host, const struct config *config)
         host->period = config->fixed.period > 0 ? config->fixed.period : PERIOD;
 }
 
-static bool read_options(struct host *host, struct service *service, int count, char **words)
+static const char help[] =
+    "vhost_user_host FOLDER --budget MIB [--floor MIB] [--period MS] [--step N] [--strict] [--strict-pages] [--events] "
+    "[--features HEX] [--lines N] [--program PATH] [--no-sandbox] [--end-with-lender] [--leave]\n"
+    "                [--config FILE] [--control PATH] [--control-mode OCTAL] [--control-group NAME] [--status PATH] [--status-mode OCTAL] "
+    "[--status-group NAME] [--log-level WORD]";
+
+static enum command_line read_words(struct host *host, struct service *service, int count, char **words)
 {
-    host->features = UINT64_C(1) << 32 | BALLOON_FEATURES;
+    const struct option_row rows[] = {
+        {"budget", .read = read_mebibytes, .at = &host->frames}, {"floor", .read = read_mebibytes, .at = &host->floor},
+        {"step", .read = read_step, .at = &host->step}, {"period", .read = read_period, .at = &host->period},
+        {"features", .read = read_features, .at = &host->features}, {"lines", .read = read_lines, .at = &most_lines},
+        {"program", .read = read_word, .at = &host->program}, {"strict", .flag = &host->strict}, {"strict-pages", .flag = &host->strict_pages},
+        {"events", .flag = &host->events}, {"no-sandbox", .flag = &host->no_sandbox}, {"end-with-lender", .flag = &host->end_with_lender},
+        {"leave", .flag = &host->leaves}, SERVICE_OPTIONS(service), {"help", .answer = help}, {"version", .answer = "vhost_user_host " VB_VERSION}, {0}};
+    host->features = USUAL_FEATURES;
     host->step = STEP;
     host->floor = UINT32_MAX;
     service_defaults(service);
-    for (int i = 1; i < count; i++) {
-        if (read_flag(host, words[i]))
-            continue;
-        if (words[i][0] != '-' && !host->folder)
-            host->folder = words[i];
-        else if (i + 1 >= count || !read_word(host, service, words[i], words[i + 1]))
-            return false;
-        else
-            i++;
-    }
+    enum command_line line = options_read(count, words, rows, &host->folder);
     take_config(host, &service->config);
-    return host->folder && host->frames > 0;
+    return line == LINE_READ && !(host->folder && host->frames > 0) ? LINE_WRONG : line;
 }
 
 /* The program of guests' processes: beside this one, where none is named. False where it isn't there, which is said. */
@@ -167,12 +152,6 @@ static void end_all(struct host *host)
     }
 }
 
-static const char help[] =
-    "vhost_user_host FOLDER --budget MIB [--floor MIB] [--period MS] [--step N] [--strict] [--strict-pages] [--events] "
-    "[--features HEX] [--lines N] [--program PATH] [--no-sandbox] [--end-with-lender] [--leave]\n"
-    "                [--config FILE] [--control PATH] [--control-mode OCTAL] [--control-group NAME] [--status PATH] [--status-mode OCTAL] "
-    "[--status-group NAME] [--log-level WORD]";
-
 int main(int count, char **words)
 {
     static struct host host;
@@ -180,12 +159,11 @@ int main(int count, char **words)
     if (count == 3 && !strcmp(words[1], writer_word))
         return limit_writer_run(STDIN_FILENO);
     process_begin();
-    if (process_answers(count, words, "vhost_user_host", help))
-        return 0;
-    if (!read_options(&host, &service, count, words)) {
+    enum command_line line = read_words(&host, &service, count, words);
+    if (line == LINE_WRONG)
         fprintf(stderr, "%s\n", help);
-        return 2;
-    }
+    if (line != LINE_READ)
+        return line == LINE_WRONG ? 2 : 0;
     process_allow_files(FILES_OF_LENDER + MOST_GUESTS * FILES_OF_SEAT + CONTROL_SOCKETS * MOST_CONTROL_CLIENTS);
     if (!can_offer(host.features) || !find_program(&host) || !folder_lock(host.folder) || !answers_begin(&host.answers))
         return 2;

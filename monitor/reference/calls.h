@@ -42,4 +42,7 @@ REFERENCE(loan_grant);
 REFERENCE(loan_owed);
 REFERENCE(loan_targets);
 REFERENCE(loan_class_targets);
+REFERENCE(guest_need);
+REFERENCE(guest_targets);
+REFERENCE(needs_guest_targets);
 #endif

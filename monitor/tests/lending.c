@@ -33,6 +33,7 @@ int main(int count, char **words)
         for (int event = 0; event < EVENTS; event++)
             play(&day);
         check_targets(&day);
+        check_host(&day);
     }
     printf("lending: %llu days of %d events, with an effect and without:", days, EVENTS);
     for (int kind = 0; kind < KINDS; kind++)

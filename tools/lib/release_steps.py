@@ -8,7 +8,7 @@ from release_tree import read
 # What a monitor is built with, and what a host's package wants besides.
 WANTED = (
     "gcc clang g++ pkg-config libc6-dev xz-utils rustc cargo librust-vm-memory-dev python3 lintian"
-    " libjansson4 libinih1 libsystemd0 libseccomp2 systemd systemd-sysv dbus python3-prometheus-client man-db bash-completion"
+    " libjansson4 libinih1 libsystemd0 libseccomp2 systemd systemd-sysv dbus python3-prometheus-client python3-pandas python3-matplotlib man-db bash-completion"
 )
 
 WARNINGS = "-Wall -Wextra -Werror"
@@ -60,8 +60,22 @@ bigvasta remove web-1
 systemctl stop bigvasta-host
 """
 
+# The first example of the planner's help, as it is printed, in a Debian with the packages that it names.
+PLAN = """
+rm -rf /tmp/plan && mkdir /tmp/plan && cd /tmp/plan
+bigvasta plan --help > help
+dpkg -s $(sed -n 's/^  apt-get install //p' help) > /dev/null
+sed -n '/^example/,/^$/s/^  bigvasta/bigvasta/p' help > example
+test "$(wc -l < example)" = 2
+sh -ex example > table
+grep -q '^budget [0-9]*M: ' table
+grep -q '<svg' day.svg
+cd / && rm -rf /tmp/plan
+"""
+
 # Of the daemons and the client program.
 HOST_STEPS = (
+    ("the planner's example", PLAN),
     ("the programs say how they are called", "vhost_user_balloon 2>&1 | grep -q SOCKET; vhost_user_host 2>&1 | grep -q FOLDER; bigvasta --help | grep -q watch"),
     ("the user and the group", "getent passwd bigvasta && getent group bigvasta"),
     (

@@ -5,13 +5,18 @@ import argparse
 from bigvasta.statuses import Usage
 
 EXAMPLE = """example: a day that is made, and the budget that its guests need
+  apt-get install python3-pandas python3-matplotlib
   bigvasta plan --make 30 --seed 1 > day.csv
   bigvasta plan day.csv --floor 12M --wait-seconds 60 --draw day.svg
-A recording is CSV, with a line of column names: guest, seconds, size, and used or available (bytes); or Prometheus' answer
-to query_range of bigvasta_guest_memory_bytes, bigvasta_guest_available_bytes and bigvasta_guest_ballooned_bytes."""
 
-# How many steps a range has that is tried.
-STEPS = 12
+A recording is CSV, with a line of column names: guest, seconds, size, and used or available (bytes); or Prometheus' answer
+to query_range of bigvasta_guest_memory_bytes, bigvasta_guest_available_bytes and bigvasta_guest_ballooned_bytes.
+
+a fleet: how often 100 hosts of 24G may promise that to 3000 guests
+  bigvasta plan --fleet 100 --budget 24G --make 3000 --promises 1.5..2 --steps 5"""
+
+# How many steps a range has that is tried; which promises of a fleet are; and how many guests a host of it has at most, as vhost_user_host.
+STEPS, PROMISES, PLACES = 12, "1.00..2.00", 64
 
 
 def run(asked):
@@ -40,7 +45,14 @@ def add(commands, _):
     words.add_argument("--json", action="store_true", help="print the plan as an object: bytes and seconds")
     words.add_argument("--draw", metavar="FILE", help="draw it, too, into a file such as day.svg")
     words.add_argument("--library", metavar="FILE", help="the library, libvb.so")
-    words.add_argument("--make", type=int, metavar="GUESTS", help="print a day of this number of guests, in place of all this")
+    words.add_argument("--make", type=int, metavar="GUESTS", help="print a day of this number of guests; of a fleet: its guests, in place of FILE")
     words.add_argument("--seed", type=int, default=1, metavar="N", help="which day is made (1)")
     words.add_argument("--hours", type=float, default=24.0, metavar="H", help="how long the day is that is made (24)")
+    fleet = words.add_argument_group("a fleet, whose guests come to the first host that may still promise them their memory")
+    fleet.add_argument("--fleet", type=int, metavar="HOSTS", help="how many hosts there are")
+    fleet.add_argument("--budget", metavar="SIZE", help="the budget of each host")
+    fleet.add_argument("--promises", default=PROMISES, metavar="A..B", help=f"how many times a host may promise its budget, to try ({PROMISES})")
+    fleet.add_argument("--places", type=int, default=PLACES, metavar="N", help=f"how many guests a host has at most ({PLACES})")
+    fleet.add_argument("--processes", type=int, metavar="N", help="replay on this number of processors; by default on all")
+    fleet.add_argument("--scheduler", metavar="tcp://HOST:PORT", help="replay on the workers of a Dask scheduler; wants python3-distributed")
     words.set_defaults(run=run)

@@ -2,12 +2,17 @@
 
 import json
 import math
+import os
+import re
+import sys
 
-from bigvasta.plan import days, drawing, library, making, reading, search, tables
+from bigvasta.plan import days, drawing, fleet, fleet_tables, library, making, reading, runners, search, tables
+from bigvasta.plan.lender import Terms
 from bigvasta.sizes import PAGE, parse_size
 from bigvasta.statuses import Usage
 
-MOST_GUESTS, LEAST_HOURS, MOST_HOURS, MOST_STEPS = 10000, 0.01, 24 * 31, 1000
+MOST_GUESTS, LEAST_HOURS, MOST_HOURS, MOST_STEPS = 1000000, 0.01, 24 * 31, 1000
+MOST_HOSTS, MOST_PLACES, MOST_PROMISE, MOST_PROCESSES = 100000, 1000, 100, 1024
 
 
 def pages_of(text, name):
@@ -18,13 +23,20 @@ def pages_of(text, name):
     return pages
 
 
-def range_of(text):
-    """Returns the ends of a range such as 2G..8G, in pages; one size is a range, too."""
+def hundredths_of(text, name):
+    """Returns a promise, such as 1.85, in hundredths of a budget."""
+    found = re.fullmatch(r"(\d{1,3})(?:\.(\d{1,2}))?", text, re.ASCII)
+    value = int(found[1]) * fleet.WHOLE + int((found[2] or "").ljust(2, "0")) if found else 0
+    demand(0 < value <= MOST_PROMISE * fleet.WHOLE, f"{name}: {text!r} isn't from 0.01 to {MOST_PROMISE}, with two digits after the point")
+    return value
+
+
+def range_of(text, name, read):
+    """Returns the ends of a range such as 2G..8G; a single value is a range, too."""
     first, found, last = text.partition("..")
-    least = pages_of(first, "--budgets")
-    most = pages_of(last, "--budgets") if found else least
-    if most < least:
-        raise Usage(f"--budgets: {text!r} ends before it begins")
+    least = read(first, name)
+    most = read(last, name) if found else least
+    demand(least <= most, f"{name}: {text!r} ends before it begins")
     return least, most
 
 
@@ -34,30 +46,85 @@ def demand(good, words):
         raise Usage(words)
 
 
+def demand_number(value, least, most, name, unit=""):
+    """Refuses a number that isn't in a range."""
+    demand(least <= value <= most, f"--{name}: {value} isn't from {least} to {most}{unit}")
+
+
+def demand_make(asked):
+    """Refuses days that can't be made."""
+    demand_number(asked.make, 1, MOST_GUESTS, "make", " guests")
+    demand_number(asked.hours, LEAST_HOURS, MOST_HOURS, "hours")
+
+
 def run_make(asked):
     """Prints a day."""
-    demand(1 <= asked.make <= MOST_GUESTS, f"--make: {asked.make} isn't from 1 to {MOST_GUESTS} guests")
-    demand(LEAST_HOURS <= asked.hours <= MOST_HOURS, f"--hours: {asked.hours} isn't from {LEAST_HOURS} to {MOST_HOURS}")
+    demand_make(asked)
     for line in making.make(asked.make, asked.seed, asked.hours):
         print(line)
+
+
+def floor_of(asked):
+    """Returns what each guest keeps free, in pages."""
+    return 0 if asked.floor == "0" else pages_of(asked.floor, "--floor")
+
+
+def plan_host(asked):
+    """Returns the plan of a host."""
+    demand(not (asked.budget or asked.scheduler or asked.processes), "plan: --budget, --processes and --scheduler are for a --fleet")
+    floor, budgets = floor_of(asked), asked.budgets and range_of(asked.budgets, "--budgets", pages_of)
+    day = reading.read(asked.file)
+    return search.plan(library.load(asked.library), day, floor, asked.wait_seconds, budgets, asked.steps)
+
+
+def runner_of(asked):
+    """Returns what runs the tasks of a fleet."""
+    demand(not (asked.scheduler and asked.processes), "plan: --processes are of this machine, and --scheduler has workers of its own")
+    if asked.scheduler:
+        return runners.Scheduler(asked.scheduler, sys.stderr)
+    count = len(os.sched_getaffinity(0)) if asked.processes is None else asked.processes
+    demand_number(count, 1, MOST_PROCESSES, "processes")
+    return runners.Processes(count, sys.stderr)
+
+
+def fleet_of(asked):
+    """Returns the hosts of a fleet, and the promises to try."""
+    demand(asked.budget is not None and asked.budgets is None, "plan: a fleet has a --budget, which each of its hosts has, and no --budgets")
+    demand_number(asked.fleet, 1, MOST_HOSTS, "fleet", " hosts")
+    demand_number(asked.places, 1, MOST_PLACES, "places")
+    frames, ends = pages_of(asked.budget, "--budget"), range_of(asked.promises, "--promises", hundredths_of)
+    demand(frames * ends[1] // fleet.WHOLE <= days.MOST_PAGES, f"--promises: {asked.promises} times {asked.budget} isn't below 16T")
+    path = library.path_of(asked.library)
+    library.load(path)
+    return fleet.Fleet(asked.fleet, asked.places, path, Terms(frames, floor_of(asked))), ends
+
+
+def plan_fleet(asked):
+    """Returns the plan of a fleet."""
+    hosts, ends = fleet_of(asked)
+    runner = runner_of(asked)
+    if asked.make is None:
+        source = fleet.Read(reading.read(asked.file).guests)
+    else:
+        demand_make(asked)
+        source = fleet.Made(asked.seed, asked.hours, tuple(range(1, asked.make + 1)))
+    return fleet.plan(hosts, source, runner, asked.wait_seconds, ends, asked.steps)
 
 
 def run(asked):
     """Prints the plan of a recorded day, or a day that is made."""
     demand((asked.file is None) != (asked.make is None), "plan: what is wanted is a FILE, or --make GUESTS")
-    if asked.make is not None:
+    if asked.make is not None and asked.fleet is None:
         return run_make(asked)
     demand(math.isfinite(asked.wait_seconds) and asked.wait_seconds >= 0, f"--wait-seconds: {asked.wait_seconds} isn't from 0 on")
-    demand(1 <= asked.steps <= MOST_STEPS, f"--steps: {asked.steps} isn't from 1 to {MOST_STEPS}")
-    floor = 0 if asked.floor == "0" else pages_of(asked.floor, "--floor")
-    budgets = asked.budgets and range_of(asked.budgets)
+    demand_number(asked.steps, 1, MOST_STEPS, "steps")
     if asked.draw:
         drawing.load()
-    day = reading.read(asked.file)
-    found = search.plan(library.load(asked.library), day, floor, asked.wait_seconds, budgets, asked.steps)
+    found = plan_host(asked) if asked.fleet is None else plan_fleet(asked)
     if asked.draw:
         drawing.draw(found, asked.wait_seconds, asked.draw)
+    said = tables if asked.fleet is None else fleet_tables
     if asked.json:
-        print(json.dumps(tables.document(found, asked.wait_seconds)))
+        print(json.dumps(said.document(found, asked.wait_seconds)))
     else:
-        print("\n".join(tables.lines(found, asked.wait_seconds)))
+        print("\n".join(said.lines(found, asked.wait_seconds)))

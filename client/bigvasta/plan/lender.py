@@ -4,6 +4,8 @@ gives. The library's calls decide who is granted, and which targets are set."""
 import ctypes
 from typing import NamedTuple
 
+import numpy
+
 from bigvasta.plan.library import NOTHING, OK, SHORT, Loan, Need
 from bigvasta.statuses import Unclear
 
@@ -24,16 +26,19 @@ class Terms(NamedTuple):
 
 
 class Lender:
-    """The loans of a host. `waits` has how long each ask waited that has ended, in seconds."""
+    """The loans of a host. `waits` has how long each ask waited that has ended, in seconds, `waited` the same of each guest together."""
 
     def __init__(self, library, sizes, terms):
         count = len(sizes)
         self.library, self.sizes, self.terms, self.count, self.now = library, sizes, terms, count, 0.0
         self.loans, self.needs, self.room = (Loan * count)(), (Need * count)(), (Need * count)()
         self.targets = (ctypes.c_uint32 * count)()
+        # The same memory as columns.
+        table = numpy.ctypeslib.as_array(self.loans)
+        self.asked, self.ballooned, self.wanted = table["asked"], table["ballooned"], numpy.ctypeslib.as_array(self.targets)
         self.low = terms.floor - terms.floor // SLACK_PART
-        self.used, self.runs, self.since = [0] * count, [False] * count, [None] * count
-        self.waits, self.moved, self.decisions, self.missing, self.anew = [], 0, 0, 0, True
+        self.used, self.runs, self.since = [0] * count, numpy.zeros(count, bool), [None] * count
+        self.waits, self.waited, self.moved, self.decisions, self.missing, self.anew = [], [0.0] * count, 0, 0, 0, True
 
     # ---- the library's calls
 
@@ -76,7 +81,7 @@ class Lender:
             self.arrive(guest, used)
         self.grant(MOST_FRAMES)
         self.waits.clear()
-        self.moved = 0
+        self.moved, self.waited = 0, [0.0] * self.count
 
     def leave(self, guest):
         """A guest goes, and its memory with it; what it waited for has ended."""
@@ -105,6 +110,7 @@ class Lender:
         """A guest asks for nothing more."""
         if self.since[guest] is not None:
             self.waits.append(self.now - self.since[guest])
+            self.waited[guest] += self.waits[-1]
         self.since[guest] = None
 
     # ---- a moment
@@ -113,8 +119,10 @@ class Lender:
         """Does what follows of what has happened, until nothing follows any longer."""
         for _ in range(MOST_ROUNDS):
             self.decide()
-            obeyed = [self.obey(it) for it in range(self.count)]
-            if not self.grant(self.terms.frames) and not any(obeyed):
+            movers = self.movers()
+            for guest in movers:
+                self.obey(guest)
+            if not self.grant(self.terms.frames) and not movers:
                 return
         raise Unclear("plan: the guests of a moment don't come to rest")
 
@@ -129,19 +137,20 @@ class Lender:
         self.decisions += 1
         self.anew = False
 
+    def movers(self):
+        """Returns the guests that run, wait for nothing, and don't have what the host wants in their balloons."""
+        return (self.runs & (self.asked == 0) & (self.ballooned != self.wanted)).nonzero()[0].tolist()
+
     def obey(self, guest):
-        """A guest that runs, and doesn't wait, gives pages up to its target, or asks for those above it; returns whether it does."""
-        loan, target = self.loans[guest], self.targets[guest]
-        if not self.runs[guest] or loan.asked != 0 or loan.ballooned == target:
-            return False
-        if loan.ballooned < target:
-            self.moved += target - loan.ballooned
-            self.do(self.library.vb_loan_give, guest, target - loan.ballooned)
+        """A guest gives pages up to its target, or asks for those above it."""
+        missing = self.targets[guest] - self.loans[guest].ballooned
+        if missing > 0:
+            self.moved += missing
+            self.do(self.library.vb_loan_give, guest, missing)
         else:
-            self.do(self.library.vb_loan_ask, guest, loan.ballooned - target)
+            self.do(self.library.vb_loan_ask, guest, -missing)
             self.begin_wait(guest)
         self.figure(guest)
-        return True
 
     def grant(self, frames):
         """Grants in the order of the line, while there is room; returns whether it does."""
@@ -161,5 +170,7 @@ class Lender:
         self.moved += pages if self.runs[guest] else 0
         self.runs[guest] = True
         self.figure(guest)
-        if loan.ballooned <= self.targets[guest] or not self.obey(guest):
+        if loan.ballooned > self.targets[guest]:
+            self.obey(guest)
+        else:
             self.end_wait(guest)

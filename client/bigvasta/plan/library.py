@@ -66,19 +66,25 @@ CALLS = {
 }
 
 
-def load(path=None):
-    """Returns the library of this file, or of the first place that has one."""
+def path_of(path=None):
+    """Returns the file of the library: this one, or the first place that has one."""
     paths = [path] if path else [it for it in PLACES if os.path.exists(it)]
     if not paths:
         raise Usage("plan: the library isn't there: make -C monitor shared makes it, --library FILE names another")
+    return os.path.abspath(paths[0])
+
+
+def load(path=None):
+    """Returns the library of this file, or of the first place that has one."""
+    path = path_of(path)
     try:
-        library = ctypes.CDLL(os.path.abspath(paths[0]))
+        library = ctypes.CDLL(path)
         for name, (answer, *taken) in CALLS.items():
             call = getattr(library, name)
             call.restype, call.argtypes = answer, taken
     except (OSError, AttributeError) as fault:
-        raise Usage(f"plan: {paths[0]} is no library of vb.h: {fault}") from None
+        raise Usage(f"plan: {path} is no library of vb.h: {fault}") from None
     version = library.vb_version()
     if version >> 8 != VERSION >> 8:
-        raise Usage(f"plan: {paths[0]} has version {version:#08x}, and {VERSION:#08x} is wanted")
+        raise Usage(f"plan: {path} has version {version:#08x}, and {VERSION:#08x} is wanted")
     return library

@@ -3,9 +3,13 @@ ones. The same seed makes the same day."""
 
 import random
 
+from bigvasta.plan.days import Recorded, add_use
 from bigvasta.sizes import MIB, PAGE
 
 DAY = 86400
+
+# A host looks at its guests five times a second: what happens is seen then.
+LOOKS = 5
 
 # Sizes in MiB, and how frequent each is among ten guests.
 SIZES = {512: 2, 1024: 3, 2048: 3, 4096: 2}
@@ -26,16 +30,21 @@ PACE, IDLE_PACE, REBOOTS = 300, 3600, 0.3
 REBOOT, DIRTY = 20, 0.1
 
 
-class Made:
-    """A guest whose day is made."""
+def look(seconds):
+    """Returns the look that is next to a time."""
+    return round(seconds * LOOKS) / LOOKS
 
-    def __init__(self, random_numbers, number, length):
-        self.random, self.name = random_numbers, f"guest-{number}"
+
+class Made:
+    """A guest whose day is made: the same by its number and the seed, beside any others."""
+
+    def __init__(self, seed, number, hours):
+        self.random, self.name = random.Random(f"{seed} {number}"), f"guest-{number}"
         self.size = self.random.choices(list(SIZES), list(SIZES.values()))[0] * MIB
         self.pace = IDLE_PACE if self.random.random() < IDLE else PACE
-        self.start, self.end = 0.0, float(length)
+        self.start, self.end = 0.0, look(hours * 3600)
         if self.random.random() < PASSING:
-            self.start, self.end = sorted(round(self.random.uniform(0, length), 1) for _ in range(2))
+            self.start, self.end = sorted(look(self.random.uniform(0, self.end)) for _ in range(2))
         self.set, self.cache = self.random.uniform(LEAST, 0.5), 0.0
 
     def walk(self):
@@ -59,19 +68,32 @@ class Made:
         at = self.start
         while at < self.end:
             yield at, self.available()
-            at = round(at + self.random.expovariate(1 / self.pace) + 0.1, 1)
+            at = look(at + self.random.expovariate(1 / self.pace) + 1 / LOOKS)
             if self.reboots() and at + REBOOT < self.end:
                 yield at, self.size
-                at, self.set, self.cache = round(at + REBOOT, 1), LEAST, 0.0
+                at, self.set, self.cache = look(at + REBOOT), LEAST, 0.0
             self.walk()
         yield self.end, self.available()
+
+    def recorded(self):
+        """Returns its day, as one reads it of the lines."""
+        uses = []
+        for at, available in self.rows():
+            add_use(uses, at, (self.size - available) // PAGE)
+        return Recorded(self.name, self.size // PAGE, tuple(uses), self.end)
+
+
+def guests(count, seed, hours):
+    """Yields guests by their numbers: those of this number whose day isn't empty."""
+    for number in range(1, count + 1):
+        guest = Made(seed, number, hours)
+        if guest.start < guest.end:
+            yield number, guest
 
 
 def make(count, seed, hours):
     """Yields the lines of a day of this number of guests, as a recording has them."""
-    numbers = random.Random(seed)
-    guests = [Made(numbers, it + 1, round(hours * 3600, 1)) for it in range(count)]
-    rows = [(at, guest.name, guest.size, available) for guest in guests if guest.start < guest.end for at, available in guest.rows()]
+    rows = [(at, guest.name, guest.size, available) for _, guest in guests(count, seed, hours) for at, available in guest.rows()]
     rows.sort(key=lambda it: it[0])
     yield "guest,seconds,size,available"
     for at, name, size, available in rows:

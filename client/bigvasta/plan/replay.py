@@ -3,7 +3,10 @@
 import math
 from typing import NamedTuple
 
+import numpy
+
 from bigvasta.plan.lender import Lender
+from bigvasta.sizes import MIB, PAGE
 
 DAY = 86400
 
@@ -17,7 +20,8 @@ class Answer(NamedTuple):
     present: float          # how long guests were there, of all guests together
     waited: float           # how long asks waited of that
     waits: tuple            # of each ask, how long it waited: 0 where it was granted at once
-    worst_guest: str        # who waited longest in all
+    worst_guest: str        # who waited longest in all, and how long
+    worst_waited: float
     shorts: int             # how often the host became short
     short: float            # how long it was short
     lacked: int             # by how much it was short at worst
@@ -32,31 +36,34 @@ class Answer(NamedTuple):
         """Returns the seconds that a guest waited in a day, of all guests together."""
         return self.share() * DAY
 
+    def promise(self):
+        """Returns how many times the budget is promised."""
+        return self.promised / self.budget
+
+    def label(self):
+        """Returns how a picture names it."""
+        return f"budget {-(-self.budget * PAGE // MIB)} MiB"
+
     def quantile(self, share):
         """Returns how long this share of the asks waited at most (nearest rank)."""
-        ranked = sorted(self.waits)
-        return ranked[max(math.ceil(share * len(ranked)), 1) - 1] if ranked else 0.0
+        return float(numpy.quantile(self.waits, share, method="inverted_cdf")) if self.waits else 0.0
 
 
-class Tally:
-    """What is counted while the lender doesn't change."""
+class Shortness:
+    """How often, how long and by how much guests can't spare what is missing."""
 
-    def __init__(self, day):
-        self.waited, self.present = [0.0] * len(day.guests), 0.0
-        self.shorts, self.short, self.lacked, self.was_short = 0, 0.0, 0, False
+    def __init__(self):
+        self.times, self.seconds, self.worst, self.is_now = 0, 0.0, 0, False
 
     def see(self, lender):
         """Notes how the host is at a moment that has come to rest."""
         is_short = lender.missing > 0
-        self.shorts += is_short and not self.was_short
-        self.was_short, self.lacked = is_short, max(self.lacked, lender.missing)
+        self.times += is_short and not self.is_now
+        self.is_now, self.worst = is_short, max(self.worst, lender.missing)
 
-    def pass_time(self, lender, seconds):
+    def pass_time(self, seconds):
         """Counts the time until the next moment."""
-        for guest, loan in enumerate(lender.loans):
-            self.present += seconds if loan.pages else 0
-            self.waited[guest] += seconds if loan.asked else 0
-        self.short += seconds if self.was_short else 0
+        self.seconds += seconds if self.is_now else 0
 
 
 def events_of(day):
@@ -66,7 +73,7 @@ def events_of(day):
         first, *others = guest.uses
         come = (1, number, first.pages)
         uses = [(it.seconds, (2, number, it.pages)) for it in others if it.seconds < guest.end]
-        for at, event in ((first.seconds, come), *uses, (guest.end, (0, number, 0))):
+        for at, event in ((guest.start, come), *uses, (guest.end, (0, number, 0))):
             events.setdefault(at, []).append(event)
     return {at: sorted(events[at]) for at in sorted(events)}
 
@@ -84,7 +91,7 @@ def happen(lender, events):
 
 def promised_by(day):
     """Returns the most pages that guests have together which are there at once."""
-    steps = sorted((at, sign * it.pages) for it in day.guests for at, sign in ((it.uses[0].seconds, 1), (it.end, -1)))
+    steps = sorted((at, sign * it.pages) for it in day.guests for at, sign in ((it.start, 1), (it.end, -1)))
     now = most = 0
     for _, pages in steps:
         now += pages
@@ -94,18 +101,18 @@ def promised_by(day):
 
 def replay(library, day, terms, looks=()):
     """Returns what a day says under these terms. At `looks` nothing happens: a host that looks there decides the same."""
-    lender, tally, events = Lender(library, [it.pages for it in day.guests], terms), Tally(day), events_of(day)
+    lender, short, events = Lender(library, [it.pages for it in day.guests], terms), Shortness(), events_of(day)
     lender.now = day.start
     lender.begin([(guest, pages) for kind, guest, pages in events.get(day.start, ()) if kind == 1])
     for at in sorted({*events, *(it for it in looks if day.start <= it <= day.end)}):
-        tally.pass_time(lender, at - lender.now)
+        short.pass_time(at - lender.now)
         lender.now = at
         if at > day.start:
             happen(lender, events.get(at, ()))
         lender.settle()
-        tally.see(lender)
-    worst = max(range(len(day.guests)), key=tally.waited.__getitem__)
+        short.see(lender)
+    worst = max(range(len(day.guests)), key=lender.waited.__getitem__)
     return Answer(
-        terms.frames, promised_by(day), len(day.guests), tally.present, sum(tally.waited), tuple(lender.waits), day.guests[worst].name,
-        tally.shorts, tally.short, tally.lacked, lender.moved, lender.decisions,
+        terms.frames, promised_by(day), len(day.guests), math.fsum(it.end - it.start for it in day.guests), math.fsum(lender.waits),
+        tuple(lender.waits), day.guests[worst].name, lender.waited[worst], short.times, short.seconds, short.worst, lender.moved, lender.decisions,
     )

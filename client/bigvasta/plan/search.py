@@ -1,30 +1,27 @@
-"""Which budgets a replay tries, and which of them is the least that serves."""
+"""What is tried, from the tightest to the loosest, and the tightest that serves: of a host its budgets, of a fleet its promises."""
 
 from typing import NamedTuple
 
 from bigvasta.plan.lender import Terms
 from bigvasta.plan.replay import promised_by, replay
 
-# Budgets are tried in this many steps; then once more between the last that doesn't serve and the first that does.
-STEPS = 12
-
 # Without a range: from this part of what is promised on.
 LEAST_PART = 4
 
 
 class Plan(NamedTuple):
-    """What was tried, from the smallest budget to the largest; and the answer of the smallest that serves, or None."""
+    """What was tried, from the tightest to the loosest; and the answer of the tightest that serves, or None."""
 
     answers: tuple
     best: object
 
 
-def spread(least, most, steps):
-    """Returns budgets at equal distances, the ends among them."""
-    return sorted({least + (most - least) * it // steps for it in range(steps + 1)})
+def spread(first, last, steps):
+    """Returns whole numbers at equal distances, the ends among them."""
+    return sorted({first + (last - first) * it // steps for it in range(steps + 1)}, reverse=last < first)
 
 
-def smallest(answers, limit):
+def tightest(answers, limit):
     """Returns the number of the answer from which on no guest waits longer than the limit in a day; None where the last one fails."""
     found = None
     for number in range(len(answers) - 1, -1, -1):
@@ -34,20 +31,21 @@ def smallest(answers, limit):
     return found
 
 
-def try_all(library, day, budgets, floor):
-    """Returns what the day says under each of these budgets."""
-    return [replay(library, day, Terms(it, floor)) for it in budgets]
-
-
-def plan(library, day, floor, limit, budgets=None, steps=STEPS):
-    """Tries budgets from the least to the most of a range; by default those that may serve."""
-    promised = promised_by(day)
-    least, most = budgets or (max(promised // LEAST_PART, 1), promised)
-    answers = try_all(library, day, spread(least, most, steps), floor)
-    found = smallest(answers, limit)
+def search(try_all, ends, steps, limit):
+    """Tries what lies between the ends, the tighter of which comes first: in steps, and then once more between the last that doesn't serve and
+    the first that does."""
+    tried = spread(*ends, steps)
+    answers = list(try_all(tried))
+    found = tightest(answers, limit)
     if found:
-        low, high = answers[found - 1].budget, answers[found].budget
-        between = [it for it in spread(low, high, steps) if low < it < high]
-        answers = sorted({*answers, *try_all(library, day, between, floor)}, key=lambda it: it.budget)
-        found = smallest(answers, limit)
+        between = spread(tried[found - 1], tried[found], steps)[1:-1]
+        answers[found:found] = try_all(between)
+        found = tightest(answers, limit)
     return Plan(tuple(answers), None if found is None else answers[found])
+
+
+def plan(library, day, floor, limit, budgets, steps):
+    """Tries the budgets of a range; without one those that may serve."""
+    promised = promised_by(day)
+    ends = budgets or (max(promised // LEAST_PART, 1), promised)
+    return search(lambda frames: [replay(library, day, Terms(it, floor)) for it in frames], ends, steps, limit)

@@ -2,7 +2,8 @@
 
 from bigvasta.sizes import MIB, PAGE, mebibytes
 
-COLUMNS = ("budget", "promise", "waits", "a day", "median", "99%", "worst", "short", "for", "by", "moved")
+FIGURES = ("waits", "a day", "median", "99%", "worst", "short", "for", "by", "moved")
+COLUMNS = ("budget", "promise", *FIGURES)
 
 # What each column is; the times are seconds, the sizes MiB.
 LEGEND = """budget, by, moved: MiB; promise: what is promised, by the budget
@@ -15,13 +16,17 @@ def in_mib(pages):
     return mebibytes(pages * PAGE)
 
 
+def figures(answer):
+    """Returns the columns of what was waited, lacked and moved."""
+    return (
+        f"{100 * answer.share():.3f}%", f"{answer.wait_a_day():.1f}", *(f"{answer.quantile(it):.1f}" for it in (0.5, 0.99, 1)),
+        str(answer.shorts), f"{answer.short:.0f}", in_mib(answer.lacked), in_mib(answer.moved),
+    )
+
+
 def row(answer):
     """Returns the columns of an answer."""
-    return (
-        in_mib(answer.budget), f"{answer.promised / answer.budget:.2f}", f"{100 * answer.share():.3f}%", f"{answer.wait_a_day():.1f}",
-        *(f"{answer.quantile(it):.1f}" for it in (0.5, 0.99, 1)), str(answer.shorts), f"{answer.short:.0f}",
-        in_mib(answer.lacked), in_mib(answer.moved),
-    )
+    return in_mib(answer.budget), f"{answer.promise():.2f}", *figures(answer)
 
 
 def table(rows):
@@ -35,7 +40,7 @@ def conclusion(plan, limit):
     if plan.best is None:
         return f"none of these budgets keeps the waits to {limit:g} s a guest and day"
     best, budget = plan.best, -(-plan.best.budget * PAGE // MIB)
-    return f"budget {budget}M: {best.wait_a_day():.1f} s a guest and day are waited; {best.promised / best.budget:.2f} times as much is promised"
+    return f"budget {budget}M: {best.wait_a_day():.1f} s a guest and day are waited; {best.promise():.2f} times as much is promised"
 
 
 def lines(plan, limit):
@@ -51,7 +56,8 @@ def plain(answer):
         "budget": answer.budget * PAGE, "promised": answer.promised * PAGE, "guests": answer.guests, "present": answer.present,
         "waited": answer.waited, "waited_share": answer.share(), "waited_a_day": answer.wait_a_day(),
         "asks": len(answer.waits), "asks_that_waited": sum(it > 0 for it in answer.waits),
-        "median": answer.quantile(0.5), "p99": answer.quantile(0.99), "worst": answer.quantile(1), "worst_guest": answer.worst_guest,
+        "median": answer.quantile(0.5), "p99": answer.quantile(0.99), "worst": answer.quantile(1),
+        "worst_guest": answer.worst_guest, "worst_guest_waited": answer.worst_waited,
         "shorts": answer.shorts, "short_seconds": answer.short, "short_by": answer.lacked * PAGE,
         "moved": answer.moved * PAGE, "decisions": answer.decisions,
     }

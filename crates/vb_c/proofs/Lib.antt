@@ -14,6 +14,7 @@ mod RegisterFacts
 mod LeftFacts
 mod QueueFacts
 mod LendingFacts
+mod HostingFacts
 mod HandingFacts
 mod BeginFacts
 mod ServingFacts

@@ -9,3 +9,4 @@ pub mod Places
 pub mod Queues
 pub mod Lending
 pub mod Served
+pub mod Hosting

@@ -5,6 +5,7 @@
 
 mod answers;
 mod bits;
+mod hosting;
 mod kinds;
 mod lending;
 mod marks;

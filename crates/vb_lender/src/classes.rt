@@ -172,6 +172,32 @@ fn set_by_class(frames: u32, shares: &[Share], needs: &mut [GuestNeed], targets:
     give_all_below(shares, priority, targets);
 }
 
+/// Puts a target for each guest with these shares into `targets`, by class. `Short` where all that
+/// they can give is too little: then each is asked for all that it can give.
+pub(crate) fn ask_shares(
+    frames: u32,
+    shares: &[Share],
+    needs: &mut [GuestNeed],
+    targets: &mut [u32],
+) -> Result<(), NoTargets>
+    requires needs { length needs.old ≡ length shares.now }
+    requires targets { length targets.old ≡ length shares.now }
+    requires within { AllByRecursion (λ s. s.spare ≤ s.pages) shares.now }
+    ensures { AsksByClass frames shares.now targets.new result }
+{
+    wholes_into(shares, needs);
+    match targets_into(needs, frames, targets) {
+        Ok(()) => {
+            set_by_class(frames, shares, needs, targets);
+            Ok(())
+        }
+        Err(why) => {
+            spares_into(shares, targets);
+            Err(why)
+        }
+    }
+}
+
 /// Puts a target for each guest into `targets`, by the guests' terms, so that there is room for all
 /// that guests wait for once the others have their targets in their balloons: no guest is asked for
 /// so much that fewer than its least pages stay to it, and guests of a lower priority are asked for
@@ -193,17 +219,7 @@ pub fn ask_by_class(
     ensures { AsksByClass frames (shares_of loans.now terms.now) targets.new result }
 {
     shares_into(loans, terms, shares);
-    wholes_into(shares, needs);
-    match targets_into(needs, frames, targets) {
-        Ok(()) => {
-            set_by_class(frames, shares, needs, targets);
-            Ok(())
-        }
-        Err(why) => {
-            spares_into(shares, targets);
-            Err(why)
-        }
-    }
+    ask_shares(frames, shares, needs, targets)
 }
 
 /// With one class, targets by class are those of `vb_balance`, and with no least pages they are

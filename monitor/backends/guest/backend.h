@@ -62,8 +62,12 @@ struct backend {
 /* Says something of a client that goes on being served; but not for ever. */
 void remark(struct backend *backend, const char *format, ...) __attribute__((format(printf, 2, 3)));
 
-/* Reads the words that follow a program's name; false where it doesn't know one. */
-bool backend_options(struct options *options, int count, char **words);
+/* The options of such a process, as rows of a table (options.h). */
+#define BACKEND_OPTIONS(its)                                                                                                        \
+    {"features", .read = read_features, .at = &(its)->features}, {"lines", .read = read_lines, .at = &most_lines},                 \
+        {"state", .read = read_word, .at = &(its)->state}, {"strict", .flag = &(its)->strict}, {"keep", .flag = &(its)->keep},     \
+        {"events", .flag = &(its)->events}, {"lent", .flag = &(its)->is_lent}, {"holds", .flag = &(its)->holds},                   \
+        {"end-with-lender", .flag = &(its)->ends_with_lender}, {"no-sandbox", .flag = &(its)->open}
 
 /* Makes the device for a client that hasn't said anything; false where it can't, which is said. The options stay. */
 bool backend_start(struct backend *backend, const struct options *options);

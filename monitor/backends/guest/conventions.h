@@ -3,18 +3,12 @@
 #define CONVENTIONS_H
 #include <stdbool.h>
 
-/* Answers --print-capabilities, whatever else the command line has; false where it hasn't that. */
-bool conventions_answer(int count, char **words);
+/* What --print-capabilities is answered, whatever else the command line has. */
+#define CAPABILITIES "{\n  \"type\": \"balloon\"\n}"
 
-/* How it was started. */
-struct convention {
-    bool is_one;                /* by one of the two options below */
-    int file;                   /* --fd FD: the client's socket, or one that listens for it; -1: none */
-};
-
-/* Puts the PATH of --socket-path PATH, or the FD of --fd FD, in place of the option, as a word of its own; an option and its word may
- * be joined by `=`. False where a word is missing, or where FD is no socket. Returns how many words there are in `*count`. */
-bool conventions_take(struct convention *convention, int *count, char **words);
+/* The word of --fd FD, into an int that is -1: a socket of the client's, or one that listens for it, which neither blocks from now on nor is
+ * kept by another program. False where FD is no socket, or is said twice. */
+bool read_socket(const char *word, void *at);
 
 /* Whether a socket listens. */
 bool socket_listens(int file);

@@ -6,7 +6,7 @@
 #include <time.h>
 #include <unistd.h>
 
-enum { BALLOON_FEATURES = 0x27, LOOK_EVERY = 1000, IDLE_EVERY = 50, POLL_EVERY = 10 };
+enum { LOOK_EVERY = 1000, IDLE_EVERY = 50, POLL_EVERY = 10 };
 
 /* What is waited for, in this order: the client, the control pipe, the signals that end it, the queues' kicks. */
 enum { CLIENT, PIPE, END, KICKS, FILES = KICKS + QUEUES };
@@ -20,49 +20,6 @@ struct loop {
     int pipe;                   /* the control pipe; -1: it has ended */
     struct control_line line;
 };
-
-/* Reads an option that has a word; false where it is none. */
-static bool read_option(struct options *options, const char *name, const char *word)
-{
-    if (!strcmp(name, "--features"))
-        return read_number(word, 16, UINT64_MAX, &options->features);
-    if (!strcmp(name, "--lines"))
-        return read_lines(word);
-    if (strcmp(name, "--state"))
-        return false;
-    options->state = word;
-    return true;
-}
-
-/* Takes a word that is all of an option; false where it is another. */
-static bool read_flag(struct options *options, const char *word)
-{
-    const struct {
-        const char *word;
-        bool *flag;
-    } flags[] = {{"--strict", &options->strict}, {"--keep", &options->keep}, {"--events", &options->events},
-                 {"--lent", &options->is_lent}, {"--holds", &options->holds}, {"--end-with-lender", &options->ends_with_lender}, {"--no-sandbox", &options->open}};
-    for (unsigned i = 0; i < sizeof flags / sizeof flags[0]; i++)
-        if (!strcmp(word, flags[i].word))
-            return *flags[i].flag = true;
-    return false;
-}
-
-bool backend_options(struct options *options, int count, char **words)
-{
-    options->features = UINT64_C(1) << 32 | BALLOON_FEATURES;
-    for (int i = 1; i < count; i++) {
-        if (read_flag(options, words[i]))
-            continue;
-        if (words[i][0] != '-' && !options->client)
-            options->client = words[i];
-        else if (i + 1 >= count || !read_option(options, words[i], words[i + 1]))
-            return false;
-        else
-            i++;
-    }
-    return options->client != NULL;
-}
 
 static int64_t now(void)
 {

@@ -1,4 +1,3 @@
-/* Words of digits. */
 #include "numbers.h"
 
 #include "say.h"
@@ -16,10 +15,21 @@ bool read_number(const char *word, int base, uint64_t most, uint64_t *number)
     return isxdigit((unsigned char)word[0]) && !*end && errno == 0 && *number <= most;
 }
 
-bool read_lines(const char *word)
+bool read_features(const char *word, void *at)
+{
+    return read_number(word, 16, UINT64_MAX, at);
+}
+
+bool read_lines(const char *word, void *at)
 {
     uint64_t lines;
     bool read = read_number(word, 10, UINT32_MAX / 2, &lines);
-    most_lines = read ? (unsigned)lines : most_lines;
+    *(unsigned *)at = read ? (unsigned)lines : *(unsigned *)at;
     return read;
+}
+
+bool read_word(const char *word, void *at)
+{
+    *(const char **)at = word;
+    return true;
 }

@@ -77,17 +77,6 @@ void process_begin(void)
     sigprocmask(SIG_BLOCK, &signals, NULL);
 }
 
-bool process_answers(int count, char **words, const char *name, const char *help)
-{
-    for (int i = 1; i < count; i++) {
-        if (!strcmp(words[i], "--help"))
-            return puts(help), true;
-        if (!strcmp(words[i], "--version"))
-            return printf("%s %s\n", name, VB_VERSION), true;
-    }
-    return false;
-}
-
 void process_allow_files(unsigned wanted)
 {
     struct rlimit limit;

@@ -18,9 +18,6 @@ ssize_t file_put(int standard, const void *bytes, size_t length);
 /* The file to poll for room on standard output. */
 int file_of_output(void);
 
-/* Answers --help, by these words, and --version; false where the command line has neither. */
-bool process_answers(int count, char **words, const char *name, const char *help);
-
 /* Lets the process open this many files, and says where the machine doesn't (RLIMIT_NOFILE). */
 void process_allow_files(unsigned wanted);
 

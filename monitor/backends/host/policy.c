@@ -1,5 +1,5 @@
-/* What the library is asked, and what is done with its answers: who can spare what, whether targets still serve, and
- * which ones do. */
+/* What the library is asked, and what is done with its answers: what each guest is known by, whether old targets still serve, and which
+ * ones do. */
 #include "host.h"
 #include "measures.h"
 
@@ -8,18 +8,16 @@ enum {
     AVAILABLE_MEMORY = 6,
     SLACK_PART = 8,             /* old targets serve while each guest has its floor but for this part of it */
     PAUSE = 2000,               /* milliseconds in which a guest that took pages itself is asked for no more */
-    MOST_NEEDS = 2 * MOST_GUESTS,
+    MOST_KNOWN = 2 * MOST_GUESTS,
+    PAGE_KIB = BALLOON_PAGE / 1024,
 };
 
-/* The guests that have memory, in the order of their seats, and those that are leaving after them. What a guest's `most` wants of it,
- * whatever there is, is `forced`: what is decided is about the rest of it. */
+/* The guests that have memory, in the order of their seats, and those that are leaving after them. */
 struct guests {
     unsigned count;
-    struct seat *seats[MOST_NEEDS];
-    VbLoan loans[MOST_NEEDS];
-    VbTerms terms[MOST_NEEDS];
-    VbNeed most[MOST_NEEDS];        /* what each can spare where it may have a little less than its floor */
-    uint32_t forced[MOST_NEEDS], old[MOST_NEEDS], targets[MOST_NEEDS];
+    struct seat *seats[MOST_KNOWN];
+    VbHostGuest known[MOST_KNOWN];
+    uint32_t old[MOST_KNOWN], targets[MOST_KNOWN];
 };
 
 static uint32_t least(uint64_t one, uint64_t other)
@@ -38,34 +36,46 @@ static bool is_paused(const struct seat *seat)
     return host_now() < seat->paused_until;
 }
 
+static uint16_t contact_of(const struct seat *seat)
+{
+    if (!seat_is_taken(seat))
+        return VB_GUEST_AWAY;
+    if (!seat_is_ready(seat))
+        return VB_GUEST_STARTS;
+    return is_heard(seat) ? VB_GUEST_HEARD : VB_GUEST_SILENT;
+}
+
+/* Whether a guest counts by its loan: its process holds deflates, or its balloon doesn't count. */
+static bool has_loan(const struct seat *seat)
+{
+    return seat->report.holds || seat->host->loans[seat->place].uncounted;
+}
+
+/* What is known of a guest. */
+static VbHostGuest known_of(const struct seat *seat)
+{
+    return (VbHostGuest){
+        .loan = has_loan(seat) ? seat->host->loans[seat->place] : (VbLoan){0},
+        .pages = seat->pages, .held = least(seat->report.held_kib / PAGE_KIB, UINT32_MAX),
+        .ballooned = seat->report.ballooned, .ballooned_then = seat->ballooned_then,
+        .available = seat->tells_available ? seat->available : seat->free,
+        .contact = contact_of(seat), .rests = is_paused(seat),
+        .least = seat->terms.least, .most = seat->terms.most, .priority = seat->terms.priority};
+}
+
 /* By what is known of it, what a guest can spare is found. */
 static enum bound bound_of(const struct seat *seat)
 {
     const VbLoan *loan = &seat->host->loans[seat->place];
-    if (loan->uncounted || (seat->report.holds && loan->asked > 0))
+    if (has_loan(seat) && (loan->asked > 0 || loan->uncounted))
         return BY_LOAN;
     return !is_heard(seat) ? BY_SILENCE : is_paused(seat) ? BY_PAUSE : BY_STATISTICS;
 }
 
-/* What a guest can spare so that this much stays free: nothing, where its balloon doesn't count. One that doesn't answer spares nothing
- * beyond what is ballooned. Of another, the ballooned pages count as available ones that it doesn't use: so one that has less than its
- * floor is asked for less than it has given. */
-static uint32_t spare_above(const struct seat *seat, uint32_t floor)
-{
-    uint32_t ballooned = least(seat->report.ballooned, seat->pages);
-    if (!seat_is_ready(seat) || seat->host->loans[seat->place].uncounted)
-        return 0;
-    if (!is_heard(seat))
-        return vb_spare(seat->pages, ballooned, 0, 0, floor, 0);
-    uint32_t available = seat->tells_available ? seat->available : seat->free;
-    uint32_t unused = least((uint64_t)seat->ballooned_then + available, seat->pages);
-    uint32_t spare = vb_spare(seat->pages, 0, unused, 1, floor, 0);
-    return is_paused(seat) ? least(spare, ballooned) : spare;
-}
-
 uint32_t policy_spare(const struct seat *seat)
 {
-    return spare_above(seat, seat->host->floor);
+    VbHostGuest known = known_of(seat);
+    return vb_guest_need(&known, seat->host->floor).spare;
 }
 
 void policy_hears(struct seat *seat)
@@ -94,80 +104,43 @@ void policy_sees_taken(struct seat *seat)
     seat->host->news = true;
 }
 
-/* The pages for which a guest counts: all that it has; of one whose driver is ready and that doesn't answer, what it holds, and what is
- * in its balloon. */
-static uint32_t charged(const struct seat *seat)
+static void add(struct guests *guests, struct seat *seat, VbHostGuest known)
 {
-    uint64_t held = seat->report.held_kib / 4;
-    if (!seat_is_taken(seat))
-        return least(held, UINT32_MAX);
-    if (!seat_is_ready(seat) || is_heard(seat))
-        return seat->pages;
-    return least(held + least(seat->report.ballooned, seat->pages), seat->pages);
-}
-
-/* A guest counts by these pages, and can spare `spare` of them; fewer of what it has than its least stay with the host. */
-static void add(struct guests *guests, struct seat *seat, uint32_t pages, uint32_t spare, uint32_t low)
-{
+    if (vb_guest_need(&known, 0).pages == 0)
+        return;
     unsigned number = guests->count++;
-    const struct guest_terms *terms = &seat->terms;
-    uint32_t kept = terms->least < pages ? pages - terms->least : 0;
-    uint32_t forced = terms->most < pages ? least(least(pages - terms->most, spare), kept) : 0;
-    uint32_t ballooned = least(seat->report.ballooned, pages);
     guests->seats[number] = seat;
-    guests->forced[number] = forced;
-    guests->loans[number] = (VbLoan){.pages = pages - forced, .ballooned = least(ballooned, pages - forced),
-                                     .lent = pages - forced - least(ballooned, pages - forced), .spare = spare - forced};
-    guests->terms[number] = (VbTerms){terms->least, terms->priority};
-    guests->most[number] = (VbNeed){pages - forced, least(low, kept) - least(forced, least(low, kept))};
+    guests->known[number] = known;
     guests->old[number] = seat->target;
 }
 
-/* A guest whose loan is waited for counts by it. One that waits can spare what stays in its balloon when it has what it asks for; one
- * whose balloon doesn't count nothing. */
-static void add_loan(struct guests *guests, struct seat *seat, uint32_t spare, uint32_t low)
+/* Nothing is asked of a guest that leaves. */
+static VbHostGuest leaving(const struct seat *seat)
 {
-    const VbLoan *loan = &seat->host->loans[seat->place];
-    uint32_t stays = loan->pages - loan->lent - loan->asked;
-    if (loan->asked > 0 || loan->uncounted)
-        spare = low = loan->asked > 0 ? stays : 0;
-    add(guests, seat, loan->pages, least(spare, loan->pages), least(low, loan->pages));
-    unsigned number = guests->count - 1;
-    if (loan->asked == 0)
-        return;
-    guests->forced[number] = 0;
-    guests->loans[number] = *loan;
-    guests->most[number] = (VbNeed){loan->pages, stays};
+    VbHostGuest known = known_of(seat);
+    known.loan = (VbLoan){0};
+    known.least = UINT32_MAX;
+    return known;
 }
 
 static void collect(const struct host *host, const struct seat *except, struct guests *guests)
 {
-    uint32_t low = host->floor - host->floor / SLACK_PART;
     guests->count = 0;
-    for (unsigned i = 0; i < host->count; i++) {
-        struct seat *seat = host->seats[i];
-        uint32_t pages = charged(seat);
-        bool by_loan = seat->report.holds || host->loans[seat->place].uncounted;
-        if (by_loan && host->loans[seat->place].pages > 0 && seat != except)
-            add_loan(guests, seat, policy_spare(seat), spare_above(seat, low));
-        else if (seat != except && pages > 0)
-            add(guests, seat, pages, least(policy_spare(seat), pages), least(spare_above(seat, low), pages));
-    }
+    for (unsigned i = 0; i < host->count; i++)
+        if (host->seats[i] != except)
+            add(guests, host->seats[i], known_of(host->seats[i]));
     for (unsigned i = 0; i < host->leaving_count; i++)
-        if (charged(host->leaving[i]) > 0)
-            add(guests, host->leaving[i], charged(host->leaving[i]), 0, 0);
+        add(guests, host->leaving[i], leaving(host->leaving[i]));
 }
 
-/* Targets for what isn't forced of these guests; by how much they are short: then each is asked for all that it can spare. */
-static uint64_t share_out(struct guests *guests, uint32_t frames)
+/* Targets of these guests; by how much they are short: then each is asked for all that it can give. */
+static uint64_t share_out(struct guests *guests, const struct host *host)
 {
-    static VbShare shares[MOST_NEEDS];
-    static VbNeed needs[MOST_NEEDS];
+    static VbShare shares[MOST_KNOWN];
+    static VbNeed needs[MOST_KNOWN];
     unsigned count = guests->count;
-    VbTargets answer = vb_loan_class_targets(frames, guests->loans, count, guests->terms, count, shares, count, needs, count,
-                                             guests->targets, count);
-    for (unsigned i = 0; i < count; i++)
-        guests->targets[i] += guests->forced[i];
+    VbTargets answer = vb_guest_targets(host->frames, host->floor, guests->known, count, shares, count, needs, count,
+                                        guests->targets, count);
     return answer.code == VB_SHORT ? answer.missing : 0;
 }
 
@@ -175,20 +148,29 @@ uint64_t policy_lacks(struct host *host, const struct seat *newcomer, uint32_t p
 {
     static struct guests guests;
     collect(host, newcomer, &guests);
-    add(&guests, (struct seat *)newcomer, pages, 0, 0);
-    return share_out(&guests, host->frames);
+    add(&guests, (struct seat *)newcomer, (VbHostGuest){.pages = pages, .contact = VB_GUEST_STARTS, .most = UINT32_MAX});
+    return share_out(&guests, host);
 }
 
-/* Whether what the guests are asked for now is enough, and each can spare it. */
-static bool old_serve(const struct guests *guests, uint32_t frames)
+static uint32_t slack_of(const struct host *host)
 {
-    static uint32_t old[MOST_NEEDS];
-    for (unsigned i = 0; i < guests->count; i++) {
-        if (guests->old[i] < guests->forced[i])
-            return false;
-        old[i] = guests->old[i] - guests->forced[i];
-    }
-    return !vb_needs_targets(old, guests->count, guests->most, guests->count, frames);
+    return host->floor / SLACK_PART;
+}
+
+/* Whether what the guests are asked for now is enough, and each can give it. */
+static bool old_serve(const struct guests *guests, const struct host *host)
+{
+    static VbNeed needs[MOST_KNOWN];
+    static uint32_t rests[MOST_KNOWN];
+    unsigned count = guests->count;
+    return !vb_needs_guest_targets(host->frames, host->floor, slack_of(host), guests->known, count, guests->old, count, needs, count,
+                                   rests, count);
+}
+
+/* What a guest could give with a little less than its floor. */
+static uint32_t most_of(const struct guests *guests, unsigned number, const struct host *host)
+{
+    return vb_guest_need(&guests->known[number], host->floor - slack_of(host)).spare;
 }
 
 /* Why the old targets don't serve, where nothing but what guests can spare has changed. */
@@ -196,7 +178,7 @@ static void explain(const struct host *host, const struct guests *guests, struct
 {
     decision->reason = host->anew ? host->reason : BY_MISSING;
     for (unsigned i = 0; i < guests->count && !host->anew; i++)
-        if (guests->old[i] > guests->most[i].spare + guests->forced[i]) {
+        if (guests->old[i] > most_of(guests, i, host)) {
             decision->reason = BY_SPARE;
             strcpy(decision->who, guests->seats[i]->name);
             return;
@@ -210,15 +192,13 @@ static void note(struct host *host, const struct guests *guests, uint64_t missin
                                  .missing = missing, .count = guests->count};
     explain(host, guests, &decision);
     for (unsigned i = 0; i < guests->count; i++) {
+        const struct seat *seat = guests->seats[i];
         struct share *share = &decision.shares[i];
-        uint32_t forced = guests->forced[i];
-        strcpy(share->name, guests->seats[i]->name);
-        share->need = (VbNeed){guests->loans[i].pages + forced, guests->loans[i].spare + forced};
-        if (guests->loans[i].asked > 0)
-            share->need.spare = guests->most[i].spare;
-        share->bound = bound_of(guests->seats[i]);
-        share->ballooned = guests->seats[i]->report.ballooned;
-        share->most = guests->most[i].spare + forced;
+        strcpy(share->name, seat->name);
+        share->need = vb_guest_need(&guests->known[i], host->floor);
+        share->bound = bound_of(seat);
+        share->ballooned = seat->report.ballooned;
+        share->most = most_of(guests, i, host);
         share->old = guests->old[i];
         share->target = guests->targets[i];
     }
@@ -243,11 +223,11 @@ static void decide(struct host *host)
     static struct guests guests;
     host->news = false;
     collect(host, NULL, &guests);
-    if (!host->anew && old_serve(&guests, host->frames)) {
+    if (!host->anew && old_serve(&guests, host)) {
         host->missing = 0;
         return;
     }
-    uint64_t missing = share_out(&guests, host->frames);
+    uint64_t missing = share_out(&guests, host);
     if (host->anew || missing != host->missing || memcmp(guests.old, guests.targets, guests.count * sizeof guests.old[0]))
         note(host, &guests, missing);
     host->counters.shorts += missing > 0;

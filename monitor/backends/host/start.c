@@ -26,7 +26,7 @@ static unsigned make_words(const struct seat *seat, char features[24], char line
     unsigned count = 0;
     snprintf(features, 24, "%llx", (unsigned long long)host->features);
     snprintf(lines, 16, "%u", most_lines);
-    const char *const always[] = {host->program, seat->name, "--lent", "--features", features, "--lines", lines};
+    const char *const always[] = {host->program, "--lent", "--features", features, "--lines", lines};
     for (; count < sizeof always / sizeof always[0]; count++)
         words[count] = always[count];
     if (host->strict_pages)
@@ -39,6 +39,8 @@ static unsigned make_words(const struct seat *seat, char features[24], char line
         words[count++] = "--no-sandbox";
     if (host->end_with_lender)
         words[count++] = "--end-with-lender";
+    words[count++] = "--";
+    words[count++] = seat->name;
     words[count] = NULL;
     return count;
 }

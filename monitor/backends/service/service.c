@@ -61,40 +61,36 @@ static void take_config(struct service *service)
         say_level((int)config->level);
 }
 
-/* An option of a control socket: after the socket's word nothing, `-mode` or `-group`. As service_option() answers. */
-static int socket_option(struct service *service, enum control_rights rights, const char *option, const char *word)
+bool read_config(const char *word, void *at)
 {
-    struct control_options *options = &service->sockets[rights];
-    uint32_t mode;
-    if (!*option)
-        return !word_read(WORD_PATH, word, service->paths[rights]);
-    if (!strcmp(option, "-group"))
-        return group_of(word, &options->group);
-    if (strcmp(option, "-mode"))
-        return -1;
-    bool read = !word_read(WORD_MODE, word, &mode);
-    options->mode = read ? mode : options->mode;
-    return read;
+    struct service *service = at;
+    service->file = word;
+    bool good = config_read(word, &service->config);
+    if (good)
+        take_config(service);
+    return good;
 }
 
-int service_option(struct service *service, const char *name, const char *word)
+bool read_socket_path(const char *word, void *at)
+{
+    return !word_read(WORD_PATH, word, at);
+}
+
+bool read_socket_mode(const char *word, void *at)
+{
+    return !word_read(WORD_MODE, word, at);
+}
+
+bool read_socket_group(const char *word, void *at)
+{
+    return group_of(word, at);
+}
+
+bool read_log_level(const char *word, void *at)
 {
     uint32_t level;
-    if (!strcmp(name, "--config")) {
-        service->file = word;
-        if (!config_read(word, &service->config))
-            return 0;
-        take_config(service);
-        return 1;
-    }
-    for (unsigned i = 0; i < CONTROL_SOCKETS; i++) {
-        size_t length = strlen(control_socket_word(i));
-        if (!strncmp(name, "--", 2) && !strncmp(name + 2, control_socket_word(i), length))
-            return socket_option(service, i, name + 2 + length, word);
-    }
-    if (strcmp(name, "--log-level"))
-        return -1;
     bool read = config_level(word, &level);
+    (void)at;
     if (read)
         say_level((int)level);
     return read;

@@ -16,10 +16,20 @@ struct service {
     int64_t every;              /* milliseconds between two words for the service manager; 0: it wants none */
 };
 
-/* The options --config FILE, --control PATH, --control-mode OCTAL, --control-group NAME, the same of --status, and --log-level WORD: 1 where
- * this is one of them and its word is right, 0 where the word is wrong, -1 where it is another option. A configuration is read at once, and its faults are said.
- * Options that come after --config are before what the file says. */
-int service_option(struct service *service, const char *name, const char *word);
+/* The options of a service, as rows of a table (options.h). A configuration is read at once, and its faults are said. Options that come after
+ * --config are before what the file says. */
+#define SOCKET_OPTIONS(its, rights, word)                                                                                           \
+    {word, .read = read_socket_path, .at = (its)->paths[rights]}, {word "-mode", .read = read_socket_mode, .at = &(its)->sockets[rights].mode}, \
+        {word "-group", .read = read_socket_group, .at = &(its)->sockets[rights].group}
+#define SERVICE_OPTIONS(its)                                                                                                        \
+    {"config", .read = read_config, .at = its}, SOCKET_OPTIONS(its, MAY_CHANGE, "control"), SOCKET_OPTIONS(its, MAY_LOOK, "status"), \
+        {"log-level", .read = read_log_level}
+
+bool read_config(const char *word, void *at);
+bool read_socket_path(const char *word, void *at);
+bool read_socket_mode(const char *word, void *at);
+bool read_socket_group(const char *word, void *at);
+bool read_log_level(const char *word, void *at);
 
 /* As no option was read yet. */
 void service_defaults(struct service *service);

@@ -6,13 +6,26 @@
 
 use crate::raw::*;
 
-pub use crate::raw::{Loan, Need, Share, Terms};
+pub use crate::raw::{HostGuest, Loan, Need, Share, Terms};
 
 /// In which line a newcomer waits: those of the first come before all of the second.
 #[derive(Clone, Copy, Debug, PartialEq, Eq)]
 pub enum Line {
     First = 0,
     Second = 1,
+}
+
+/// Whether a guest's word on its memory is at hand, as `contact` of a [`HostGuest`] has it.
+#[derive(Clone, Copy, Debug, PartialEq, Eq)]
+pub enum Contact {
+    /// Its driver isn't ready: it counts for all its pages, and gives none.
+    Starting = GUEST_STARTS as isize,
+    /// Its statistics are too old: it counts for what it holds and has given, and gives what it has given.
+    Silent = GUEST_SILENT as isize,
+    /// Its statistics are recent.
+    Heard = GUEST_HEARD as isize,
+    /// It has gone, and its memory isn't freed yet: it counts for what it holds.
+    Away = GUEST_AWAY as isize,
 }
 
 /// Why targets don't serve.
@@ -139,6 +152,71 @@ pub fn targets_by_terms(
             targets.len(),
         )
     })
+}
+
+/// The pages for which a guest counts, and how many of them it can give while `floor` pages stay free.
+pub fn need_of(guest: &HostGuest, floor: u32) -> Need {
+    // SAFETY: the pointer is of a guest.
+    unsafe { vb_guest_need(guest, floor) }
+}
+
+/// Sets targets by what a host knows of its guests: what each has above its most, and by priority what is still missing.
+///
+/// # Errors
+/// As of [`targets`].
+pub fn targets_of_guests(
+    frames: u32,
+    floor: u32,
+    guests: &[HostGuest],
+    shares: &mut [Share],
+    needs: &mut [Need],
+    targets: &mut [u32],
+) -> Result<(), NoTargets> {
+    // SAFETY: the pointers are of slices with their lengths.
+    answer(unsafe {
+        vb_guest_targets(
+            frames,
+            floor,
+            guests.as_ptr(),
+            guests.len(),
+            shares.as_mut_ptr(),
+            shares.len(),
+            needs.as_mut_ptr(),
+            needs.len(),
+            targets.as_mut_ptr(),
+            targets.len(),
+        )
+    })
+}
+
+/// Whether old targets still serve, where each guest may keep `slack` pages fewer free than the floor; `false` where a list has not as
+/// many places as there are guests.
+pub fn targets_serve(
+    frames: u32,
+    floor: u32,
+    slack: u32,
+    guests: &[HostGuest],
+    old: &[u32],
+    needs: &mut [Need],
+    rests: &mut [u32],
+) -> bool {
+    // SAFETY: the pointers are of slices with their lengths.
+    let needed = unsafe {
+        vb_needs_guest_targets(
+            frames,
+            floor,
+            slack,
+            guests.as_ptr(),
+            guests.len(),
+            old.as_ptr(),
+            old.len(),
+            needs.as_mut_ptr(),
+            needs.len(),
+            rests.as_mut_ptr(),
+            rests.len(),
+        )
+    };
+    needed == 0
 }
 
 fn answer(said: Targets) -> Result<(), NoTargets> {

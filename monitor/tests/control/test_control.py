@@ -145,6 +145,12 @@ def test_a_guest_comes_is_changed_and_goes(host, arrive):
         host.guest("web-1")
 
 
+@pytest.mark.parametrize("name", ("--help", "-a"))
+def test_a_guest_whose_name_looks_like_an_option(host, arrive, name):
+    arrive(name)
+    eventually(lambda: host.guest(name)["answers"])
+
+
 def test_decisions_by_their_numbers(host, arrive):
     arrive("a"), arrive("b")
     eventually(lambda: all(host.guest(it)["answers"] for it in "ab"))

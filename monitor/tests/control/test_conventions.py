@@ -108,4 +108,19 @@ def test_command_lines_that_are_none(backend, words):
             [backend, *(it.format(number) for it in words)], capture_output=True, text=True, timeout=LIMIT, stdin=subprocess.DEVNULL, pass_fds=[number]
         )
     assert (ran.returncode, ran.stdout) == (2, "")
-    assert ran.stderr.startswith("vhost_user_balloon SOCKET | --socket-path SOCKET | --fd FD")
+    assert "vhost_user_balloon SOCKET | --socket-path SOCKET | --fd FD" in ran.stderr
+
+
+# A command line, and what is said of it before the help.
+NAMED = (
+    (["--nonsense"], "unrecognized option '--nonsense'"), (["--fd"], "option '--fd' requires an argument"), (["--strict=1"], "option '--strict' doesn't allow an argument"),
+    (["--s"], "option '--s' is ambiguous; possibilities: '--state' '--strict' '--socket-path'"), (["--fd", "x"], "--fd: x can't be taken"),
+    (["--lines", "-1"], "--lines: -1 can't be taken"), (["--features", "g"], "--features: g can't be taken"), (["a", "b"], ""), ([], ""),
+)
+
+
+@pytest.mark.parametrize("words, said", NAMED)
+def test_what_is_wrong_is_named(backend, words, said):
+    ran = subprocess.run([backend, *words], capture_output=True, text=True, timeout=LIMIT, stdin=subprocess.DEVNULL, env={"LC_ALL": "C"})
+    first, _, rest = ran.stderr.partition("vhost_user_balloon SOCKET |")
+    assert (ran.returncode, first.removeprefix(f"{backend}: ").rstrip("\n")) == (2, said) and rest

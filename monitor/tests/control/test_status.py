@@ -22,6 +22,8 @@ CHANGES = (
     ("guest", {"name": "a", "most": None}, "most", "most"),
     ("guest", {"name": "a", "priority": 5}, "priority", "priority"),
     ("guest", {"name": "a", "strict": True}, "strict", "strict"),
+    ("guest", {"name": "a", "overhead": 0}, "overhead", "overhead"),
+    ("guest", {"name": "a", "limit": None}, "limit", "limit"),
     ("guest", {"name": "a", "target": 0}, "target", "target"),
     ("guest", {"name": "none", "target": "x", "colour": "red"}, "target", "target"),
     ("budget", {"bytes": 100 * MIB}, "bytes", "bytes"),

@@ -260,10 +260,14 @@ class Machine:
         if answer != "ok":
             raise Fault(f"the backend answers a target of {mib} MiB: {answer}")
 
+    def end_of(self, limit):
+        """Returns when a wait of this limit ends, by the monotonic clock: under emulation it is longer."""
+        return time.monotonic() + limit * self.vmm.patience
+
     def settle(self, limit):
         """Waits until `actual` is the target; returns the seconds, or None where the limit came first."""
-        begin = time.monotonic()
-        while time.monotonic() - begin < limit:
+        begin, end = time.monotonic(), self.end_of(limit)
+        while time.monotonic() < end:
             counters = self.backend.counters()
             if counters["actual"] == counters["target"]:
                 return time.monotonic() - begin

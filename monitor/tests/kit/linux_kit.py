@@ -14,7 +14,7 @@ HEADERS = os.path.join(ROOT, "crates/vb_c")
 LIBRARY = os.path.join(ROOT, "crates", "vb_c", "out", "libvb_c.a")
 
 # The backends' files, from monitor/backends: of all, of one guest's, of each, and what a build for tests has besides.
-COMMON_PARTS = tuple(f"guest/{it}" for it in ("levels", "numbers", "process", "say", "tags"))
+COMMON_PARTS = tuple(f"guest/{it}" for it in ("levels", "numbers", "options", "process", "say", "tags"))
 PARTS = (
     *(f"guest/{it}" for it in ("backend", "control", "counters", "events", "guard", "guest_memory", "kicks", "rings", "statistics", "stream")),
     *COMMON_PARTS,
@@ -61,7 +61,7 @@ WRONG_WRAPPED = {
         "event_take_kick", "backend_start", "stream_fill", "file_number", "fsync",
     ),
     "vhost_user_host": (
-        "vb_loan_class_targets", "vb_spare", "vb_needs_targets", "host_changed",
+        "vb_guest_targets", "vb_guest_need", "vb_needs_guest_targets", "host_changed",
         "fields_refusal", "client_new", "request_answer", "client_line_is_too_long", "client_is_served", "journal_begin", "events_look",
         "socket_listen", "word_read", "config_read", "config_stays", "process_took_reload", "notify_ready", "notify_lives", "notify_keep",
     ),
@@ -108,6 +108,16 @@ def linked(name):
     if ran.returncode != 0:
         raise Missing(f"{name} is linked to libraries that aren't there: apt-get install {' '.join(wanted.values())}")
     return ran.stdout.split()
+
+
+def build_shared(folder, core, flags=()):
+    """Makes the library of this core a file that Python loads, with more flags, and returns its path."""
+    path, whole = os.path.join(folder, "libvb.so"), [core] if core == REFERENCE else ["-Wl,--whole-archive", core, "-Wl,--no-whole-archive"]
+    words = [need("cc", "gcc libc6-dev"), "-shared", *flags, *whole, "-o", path]
+    ran = subprocess.run(words, capture_output=True, text=True)
+    if ran.returncode != 0:
+        raise Fault(f"{core} becomes no shared library:\n{ran.stderr.strip()}")
+    return path
 
 
 def build(folder, core, name="vhost_user_balloon", audited=False, wrong=False, flags=()):

@@ -23,6 +23,9 @@ FORMS = {"messages": (), "events": ("--events",)}
 # KVM answers this request by this version (linux/kvm.h).
 KVM_GET_API_VERSION, KVM_API_VERSION = 0xAE00, 12
 
+# How many times as long as under User Mode Linux a wait may take under emulation, on a machine that has other work.
+EMULATED = 5
+
 # The last QEMU whose PCI proxy works.
 LAST_PROXY = 10
 
@@ -68,7 +71,7 @@ class OverSocket:
 class Uml(OverSocket):
     """User Mode Linux: a kernel that is a process."""
 
-    forms, has_control = ("messages", "events"), False
+    forms, has_control, patience = ("messages", "events"), False, 1
 
     def __init__(self, folder, suite=None):
         self.root, with_libc = fetch_uml(suite), os.path.join(os.path.dirname(__file__), "linux_with_libc.py")
@@ -100,6 +103,8 @@ class Uml(OverSocket):
 class Emulator:
     """QEMU, and a machine whose device isn't said. A class of it says which devices do (`devices`), whose QEMU is fetched where the
     one that is installed has none of them (`debian`), and what its kernel is told besides (`kernel_words`)."""
+
+    patience = EMULATED
 
     def __init__(self, folder, suite=None):
         self.program, self.device = self.find()
@@ -148,11 +153,12 @@ class Emulator:
 
 
 def fetched_qemu(debian):
-    """Returns the words that begin a command of a fetched QEMU: its own loader, its libraries and its machine's files."""
+    """Returns the words that begin a command of a fetched QEMU: its own loader, libraries, modules and files of its machine."""
     root = fetch_qemu(debian)
-    folders = ":".join(os.path.join(root, it, "x86_64-linux-gnu") for it in ("usr/lib", "lib"))
+    libraries = [os.path.join(root, it, "x86_64-linux-gnu") for it in ("usr/lib", "lib")]
     files = [it for name in ("qemu", "seabios") for it in ("-L", os.path.join(root, "usr/share", name))]
-    return [libc_of(root)[0], "--library-path", folders, os.path.join(root, "usr/bin/qemu-system-x86_64"), *files]
+    loader = [libc_of(root)[0], "--library-path", ":".join(libraries)]
+    return ["env", f"QEMU_MODULE_DIR={libraries[0]}/qemu", *loader, os.path.join(root, "usr/bin/qemu-system-x86_64"), *files]
 
 
 class Qemu(OverSocket, Emulator):
@@ -160,7 +166,8 @@ class Qemu(OverSocket, Emulator):
 
     forms, has_control = ("events",), True
     devices, debian = ("vhost-user-test-device-pci", "vhost-user-device-pci"), "sid"
-    kernel_words = ("console=ttyS0", "memhp_default_state=online")
+    # On a busy machine a timer comes too late for the kernel's check of it.
+    kernel_words = ("console=ttyS0", "no_timer_check", "memhp_default_state=online")
 
     # What the generic device is told of a balloon.
     OF_BALLOON = {"virtio-id": 5, "num_vqs": 4, "config_size": 16}

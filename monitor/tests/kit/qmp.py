@@ -6,7 +6,7 @@ import socket
 from linux_packages import Fault
 
 # Seconds that an answer or an event may take.
-LIMIT = 60
+LIMIT = 300
 
 
 class Qmp:

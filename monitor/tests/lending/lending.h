@@ -46,6 +46,7 @@ void fail(const struct day *day, const char *what);
 /* One event by the library and by the plain implementation, which have to agree, and the laws of what is left. */
 void play(struct day *day);
 void check_targets(const struct day *day);
+void check_host(const struct day *day);
 
 /* How often events had an effect, and how often not. */
 extern unsigned long long effects[KINDS][2];

@@ -17,13 +17,13 @@ WRITTEN, REQUEST = 8, 256
 # MiB of memory that is plugged in: a block of Linux.
 DIMM = 128
 
-# MiB of a guest whose memory goes on above 4 GiB, those of its balloon, and seconds in which they are there.
-LARGE, MOST, LARGE_LIMIT = 4096, 3584, 300
+# MiB of a guest whose memory goes on above 4 GiB, and those of its balloon.
+LARGE, MOST = 4096, 3584
 
 
-def become(machine, what, condition, limit=TARGET_LIMIT):
-    """Demands that the counters become so within the limit."""
-    end = time.monotonic() + limit
+def become(machine, what, condition):
+    """Demands that the counters become so in time."""
+    end = machine.end_of(TARGET_LIMIT)
     while not condition(counters := machine.backend.counters()):
         demand(time.monotonic() < end, f"{what}: {counters}")
         time.sleep(0.02)
@@ -74,7 +74,7 @@ def written_run(machine, chance):
     most, samples, before = int(machine.guest.memory_mib()[1]) - LEFT_FREE, 0, machine.backend.counters()
     for number in range(WRITTEN):
         machine.set_target(chance.randint(0, most))
-        end = time.monotonic() + TARGET_LIMIT
+        end = machine.end_of(TARGET_LIMIT)
         while (now := machine.backend.counters())["actual"] != now["target"]:
             demand(time.monotonic() < end, f"target {number + 1}: {now}")
             apart = abs(now["inflated"] - now["deflated"] - now["actual"])
@@ -117,7 +117,7 @@ def dimm_run(machine, _):
     settle(machine, "a balloon of what is free at first")
     machine.control.do("object-add", **{"qom-type": "memory-backend-memfd", "id": "more", "size": DIMM << 20, "share": True})
     machine.control.do("device_add", driver="pc-dimm", id="dimm", memdev="more")
-    until = time.monotonic() + TARGET_LIMIT
+    until = machine.end_of(TARGET_LIMIT)
     while machine.guest.memory_mib()[0] < total + DIMM // 2:
         demand(time.monotonic() < until, "the guest doesn't have the memory that was plugged in")
     demand(machine.backend.counters()["end"] > end, "the backend doesn't have the memory that was plugged in")
@@ -162,10 +162,10 @@ def large_run(machine, _):
     """Memory above 4 GiB goes into the balloon, and comes back."""
     kept = keep(machine, "keep", machine.memory // 16)
     machine.set_target(MOST)
-    demand(machine.settle(LARGE_LIMIT) is not None, f"{MOST} MiB: {machine.backend.counters()}")
+    settle(machine, "a balloon of most of the memory")
     demand(machine.backend.counters()["end"] > 1 << 20, "no memory is above 4 GiB")
     machine.set_target(0)
-    demand(machine.settle(LARGE_LIMIT) is not None, f"a deflate: {machine.backend.counters()}")
+    settle(machine, "a deflate")
     finish(machine, kept)
 
 

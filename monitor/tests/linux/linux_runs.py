@@ -36,7 +36,7 @@ def audit(machine):
 
 def settle(machine, what):
     """Demands that the target is reached."""
-    demand(machine.settle(TARGET_LIMIT) is not None, f"{what}: not reached in {TARGET_LIMIT} s: {machine.backend.counters()}")
+    demand(machine.settle(TARGET_LIMIT) is not None, f"{what}: not reached: {machine.backend.counters()}")
 
 
 def keep(machine, name, mib):
@@ -70,7 +70,7 @@ def free_and_report(machine, mib):
     """Frees the hog of `mib` MiB: most of them are reported, and the host holds less."""
     before, reported = machine.guest.held_mib(), machine.backend.counters()["reported"]
     machine.guest.do("free")
-    end = time.monotonic() + REPORT_LIMIT
+    end = machine.end_of(REPORT_LIMIT)
     # A report has blocks of 4 MiB, so some of what is free stays.
     while before - machine.guest.held_mib() < mib / 2 and time.monotonic() < end:
         time.sleep(0.1)
@@ -196,7 +196,7 @@ def compact_run(machine, _):
     settle(machine, "a balloon between pieces")
     machine.guest.do("clear")
     before, moved = migrated(machine), 0
-    end = time.monotonic() + MOVE_LIMIT
+    end = machine.end_of(MOVE_LIMIT)
     while moved == 0 and time.monotonic() < end:
         machine.guest.do("compact")
         moved = migrated(machine) - before

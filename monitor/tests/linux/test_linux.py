@@ -29,8 +29,8 @@ import pytest
 from linux_kit import Fault, Missing
 from linux_runs import RUNS, SIZES
 
-# Seconds of a run; a wrong device is given each run.
-LIMIT = 900
+# Seconds of a run, under emulation on a machine that has other work; a wrong device is given each run.
+LIMIT = 3600
 
 
 @pytest.mark.timeout(LIMIT)

@@ -15,16 +15,16 @@
 
 enum { EVENLY = 1, NEIGHBOURS, NO_FLOOR, COUNTS_DEAD, OLD_FLOOR = 7 };
 
-VbTargets __real_vb_loan_class_targets(uint32_t, const VbLoan *, size_t, const VbTerms *, size_t, VbShare *, size_t, VbNeed *, size_t,
-                                       uint32_t *, size_t);
-VbTargets __wrap_vb_loan_class_targets(uint32_t, const VbLoan *, size_t, const VbTerms *, size_t, VbShare *, size_t, VbNeed *, size_t,
-                                       uint32_t *, size_t);
-uint32_t __real_vb_needs_targets(const uint32_t *, size_t, const VbNeed *, size_t, uint32_t);
-uint32_t __wrap_vb_needs_targets(const uint32_t *, size_t, const VbNeed *, size_t, uint32_t);
+VbTargets __real_vb_guest_targets(uint32_t, uint32_t, const VbHostGuest *, size_t, VbShare *, size_t, VbNeed *, size_t, uint32_t *, size_t);
+VbTargets __wrap_vb_guest_targets(uint32_t, uint32_t, const VbHostGuest *, size_t, VbShare *, size_t, VbNeed *, size_t, uint32_t *, size_t);
+uint32_t __real_vb_needs_guest_targets(uint32_t, uint32_t, uint32_t, const VbHostGuest *, size_t, const uint32_t *, size_t, VbNeed *,
+                                       size_t, uint32_t *, size_t);
+uint32_t __wrap_vb_needs_guest_targets(uint32_t, uint32_t, uint32_t, const VbHostGuest *, size_t, const uint32_t *, size_t, VbNeed *,
+                                       size_t, uint32_t *, size_t);
+VbNeed __real_vb_guest_need(const VbHostGuest *, uint32_t);
+VbNeed __wrap_vb_guest_need(const VbHostGuest *, uint32_t);
 void __real_host_changed(struct host *, enum reason);
 void __wrap_host_changed(struct host *, enum reason);
-uint32_t __real_vb_spare(uint32_t, uint32_t, uint32_t, uint32_t, uint32_t, uint32_t);
-uint32_t __wrap_vb_spare(uint32_t, uint32_t, uint32_t, uint32_t, uint32_t, uint32_t);
 
 static int wrong(void)
 {
@@ -40,14 +40,30 @@ static uint32_t left_by_dead(uint64_t pages, uint32_t frames)
     return wrong() != COUNTS_DEAD ? frames : most - pages < frames ? frames - (uint32_t)(most - pages) : 0;
 }
 
-VbTargets __wrap_vb_loan_class_targets(uint32_t frames, const VbLoan *loans, size_t count, const VbTerms *terms, size_t terms_count,
-                                       VbShare *shares, size_t shares_room, VbNeed *needs, size_t needs_room, uint32_t *targets, size_t room)
+static uint32_t floor_of(uint32_t floor)
 {
-    uint64_t pages = 0, sum = 0;
+    return wrong() == NO_FLOOR ? 0 : floor;
+}
+
+VbNeed __wrap_vb_guest_need(const VbHostGuest *guest, uint32_t floor)
+{
+    return __real_vb_guest_need(guest, floor_of(floor));
+}
+
+static uint64_t all_pages(const VbHostGuest *guests, size_t count)
+{
+    uint64_t pages = 0;
     for (size_t i = 0; i < count; i++)
-        pages += loans[i].pages;
-    VbTargets answer = __real_vb_loan_class_targets(left_by_dead(pages, frames), loans, count, terms, terms_count, shares, shares_room,
-                                                    needs, needs_room, targets, room);
+        pages += __real_vb_guest_need(&guests[i], 0).pages;
+    return pages;
+}
+
+VbTargets __wrap_vb_guest_targets(uint32_t frames, uint32_t floor, const VbHostGuest *guests, size_t count, VbShare *shares,
+                                  size_t shares_room, VbNeed *needs, size_t needs_room, uint32_t *targets, size_t room)
+{
+    uint64_t sum = 0;
+    VbTargets answer = __real_vb_guest_targets(left_by_dead(all_pages(guests, count), frames), floor_of(floor), guests, count, shares,
+                                               shares_room, needs, needs_room, targets, room);
     if (answer.code != VB_OK || count == 0)
         return answer;
     for (size_t i = 0; i < count; i++)
@@ -62,17 +78,12 @@ VbTargets __wrap_vb_loan_class_targets(uint32_t frames, const VbLoan *loans, siz
     return answer;
 }
 
-uint32_t __wrap_vb_needs_targets(const uint32_t *old, size_t old_count, const VbNeed *needs, size_t count, uint32_t frames)
+uint32_t __wrap_vb_needs_guest_targets(uint32_t frames, uint32_t floor, uint32_t slack, const VbHostGuest *guests, size_t count,
+                                       const uint32_t *old, size_t old_count, VbNeed *needs, size_t needs_room, uint32_t *rests,
+                                       size_t rests_room)
 {
-    uint64_t pages = 0;
-    for (size_t i = 0; i < count; i++)
-        pages += needs[i].pages;
-    return __real_vb_needs_targets(old, old_count, needs, count, left_by_dead(pages, frames));
-}
-
-uint32_t __wrap_vb_spare(uint32_t pages, uint32_t ballooned, uint32_t free, uint32_t known, uint32_t floor, uint32_t reserved)
-{
-    return __real_vb_spare(pages, ballooned, free, known, wrong() == NO_FLOOR ? 0 : floor, reserved);
+    return __real_vb_needs_guest_targets(left_by_dead(all_pages(guests, count), frames), floor_of(floor), slack, guests, count, old,
+                                         old_count, needs, needs_room, rests, rests_room);
 }
 
 void __wrap_host_changed(struct host *host, enum reason reason)

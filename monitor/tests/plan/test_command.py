@@ -6,10 +6,9 @@ import re
 import subprocess
 
 import pytest
-from bigvasta.plan.search import smallest, spread
-from linux_kit import HEADERS, ROOT
-
-CLIENT = os.path.join(ROOT, "client")
+from bigvasta.plan.search import spread, tightest
+from linux_kit import HEADERS
+from planner import CLIENT, run
 
 # The version that a library of vb.h has.
 with open(os.path.join(HEADERS, "vb.h"), encoding="utf-8") as file:
@@ -32,16 +31,6 @@ def day(tmp_path):
     path = tmp_path / "day.csv"
     path.write_text(TWO)
     return str(path)
-
-
-def run(*words, status=0, path=CLIENT):
-    """Runs the command; returns what it printed, or the line that it says where it refuses."""
-    environment = {**os.environ, "PYTHONPATH": path}
-    words = ["/usr/bin/python3", "-B", "-m", "bigvasta", "plan", *words]
-    ran = subprocess.run(words, capture_output=True, text=True, timeout=120, env=environment)
-    assert ran.returncode == status, ran
-    assert (ran.stdout if status else ran.stderr) == ""
-    return ran.stderr if status else ran.stdout
 
 
 def plan(shared, day, *words):
@@ -80,7 +69,7 @@ def test_the_smallest_has_none_above_it_that_fails():
             return self.seconds
 
     for waits, number in (((9, 0, 9, 0, 0), 3), ((0, 0), 0), ((0, 9), None), ((5, 4), 0)):
-        assert smallest([Waited(it) for it in waits], 5) == number
+        assert tightest([Waited(it) for it in waits], 5) == number
     assert (spread(10, 20, 2), spread(7, 7, 3), spread(1, 3, 9)) == ([10, 15, 20], [7], [1, 2, 3])
 
 
@@ -88,7 +77,7 @@ def test_an_object(shared, day):
     found = plan(shared, day, "--budgets", "600K")
     assert found["replays"] == [{
         "budget": 614400, "promised": 819200, "guests": 2, "present": 60.0, "waited": 10.0, "waited_share": 1 / 6, "waited_a_day": 14400.0,
-        "asks": 1, "asks_that_waited": 1, "median": 10.0, "p99": 10.0, "worst": 10.0, "worst_guest": "a",
+        "asks": 1, "asks_that_waited": 1, "median": 10.0, "p99": 10.0, "worst": 10.0, "worst_guest": "a", "worst_guest_waited": 10.0,
         "shorts": 1, "short_seconds": 10.0, "short_by": 81920, "moved": 614400, "decisions": 5,
     }]
 
@@ -138,7 +127,7 @@ def test_a_package_that_is_missing(tmp_path, day, module):
 REFUSED = (
     ((), "plan: what is wanted is a FILE, or --make GUESTS"),
     (("DAY", "--make", "3"), "plan: what is wanted is a FILE, or --make GUESTS"),
-    (("--make", "0"), "--make: 0 isn't from 1 to 10000 guests"),
+    (("--make", "0"), "--make: 0 isn't from 1 to 1000000 guests"),
     (("--make", "3", "--hours", "0"), "--hours: 0.0 isn't from 0.01 to 744"),
     (("--make", "3", "--hours", "nan"), "--hours: nan isn't from 0.01 to 744"),
     (("DAY", "--wait-seconds", "-1"), "--wait-seconds: -1.0 isn't from 0 on"),

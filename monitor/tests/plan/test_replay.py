@@ -1,12 +1,11 @@
 """Replays of days that a pencil can follow: guests of 100 pages, whose waits, moves and lacks were worked out by hand."""
 
-import random
-
 import pytest
 from bigvasta.plan import replay as replaying
 from bigvasta.plan.days import Day, Recorded, Use
 from bigvasta.plan.lender import Lender, Terms
 from bigvasta.plan.replay import promised_by, replay
+from hypothesis import HealthCheck, given, settings, strategies
 
 
 def day_of(**guests):
@@ -113,14 +112,13 @@ class Watched(Lender):
         assert self.missing > 0 or not any(waits)
 
 
-@pytest.mark.parametrize("seed", range(40))
-def test_event_by_event_as_moment_by_moment(library, monkeypatch, seed):
+@settings(max_examples=1000, deadline=None, derandomize=True, database=None, suppress_health_check=[HealthCheck.too_slow, HealthCheck.function_scoped_fixture])
+@given(numbers=strategies.randoms(use_true_random=False))
+def test_event_by_event_as_moment_by_moment(library, monkeypatch, numbers):
     monkeypatch.setattr(replaying, "Lender", Watched)
-    numbers = random.Random(seed)
-    for _ in range(25):
-        day = random_day(numbers)
-        terms = Terms(numbers.randint(1, promised_by(day) + 1), numbers.choice((0, numbers.randint(0, 20))))
-        events = replay(library, day, terms)
-        moments = replay(library, day, terms, [it / 2 for it in range(121)])
-        assert events._replace(decisions=0) == moments._replace(decisions=0), (day, terms)
-        assert events.waited == sum(events.waits)
+    day = random_day(numbers)
+    terms = Terms(numbers.randint(1, promised_by(day) + 1), numbers.choice((0, numbers.randint(0, 20))))
+    events = replay(library, day, terms)
+    moments = replay(library, day, terms, [it / 2 for it in range(121)])
+    assert events._replace(decisions=0) == moments._replace(decisions=0), (day, terms)
+    assert events.waited == sum(events.waits)

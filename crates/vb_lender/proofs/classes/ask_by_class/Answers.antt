@@ -4,6 +4,6 @@ use Rattle.vb_lender.specs.declared.terms.Share.{Share}
 use Rattle.vb_lender.proofs.ByClass.{within_terms}
 use Rattle.vb_lender.proofs.classes.ask_by_class.Goals as goal
 
-pub set_by_class-requires-clause-within : goal.set_by_class-requires-clause-within
-set_by_class-requires-clause-within c = subst (λ (shares : List Share). AllByRecursion (λ s. s.spare ≤ s.pages) shares)
+pub ask_shares-requires-clause-within : goal.ask_shares-requires-clause-within
+ask_shares-requires-clause-within c = subst (λ (shares : List Share). AllByRecursion (λ s. s.spare ≤ s.pages) shares)
     (sym c.shares_into.ensures) (within_terms c.args.loans.now c.args.terms.now)
