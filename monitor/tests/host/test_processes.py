@@ -97,17 +97,6 @@ def test_quit_waits_for_no_process_of_its_own(lend):
     assert status == 0 and waits < 20, f"the lender waits {waits} times as it ends"
 
 
-def test_a_process_is_small(lend, come):
-    lender = lend(64)
-    for number in range(16):
-        come(lender, f"guest-{number}", {FREE: 60})
-    for number in range(16):
-        with open(f"/proc/{process_of(lender, f'guest-{number}')}/smaps_rollup", encoding="ascii") as numbers:
-            its = {it.split()[0]: int(it.split()[1]) for it in numbers if it.endswith("kB\n")}
-        private = its["Private_Clean:"] + its["Private_Dirty:"]
-        assert private <= 1536, f"a guest's process has {private} KiB for itself"
-
-
 def test_a_program_that_is_not_there(plain, tmp_path):
     ran = subprocess.run([plain, str(tmp_path), "--budget", "5", "--program", "/nowhere"], stdin=subprocess.DEVNULL, capture_output=True,
                          text=True, timeout=LIMIT)

@@ -1,0 +1,57 @@
+"""What a host of 64 idle guests takes: their processes' memory, and the processors' time of all together. `-rP` prints the figures."""
+
+import select
+import time
+
+import pytest
+from host_small import Talker
+from tenants import process_of
+
+# KiB that a guest's process may have for itself, and a part of one processor for all.
+MOST_KIB, MOST_SHARE = 1536, 0.02
+
+# Guests, each asked five times a second; and the part of the answers without which the machine is too busy to say what they take.
+GUESTS, ASKED, SECONDS, MOST_ANSWERS = 64, 5, 10, 0.9
+
+
+def private_kib(process):
+    """Returns the KiB that a process has for itself."""
+    with open(f"/proc/{process}/smaps_rollup", encoding="ascii") as numbers:
+        its = {it.split()[0]: int(it.split()[1]) for it in numbers if it.endswith("kB\n")}
+    return its["Private_Clean:"] + its["Private_Dirty:"]
+
+
+def seconds_of(process):
+    """Returns the seconds for which a process has had a processor."""
+    with open(f"/proc/{process}/schedstat", encoding="ascii") as its:
+        return int(its.read().split()[0]) / 1e9
+
+
+def answer_all(guests, seconds):
+    """Has all guests answer each question for so long; returns how many they answered."""
+    of_socket, answered, end = {it.own: it for it in guests}, 0, time.monotonic() + seconds
+    while time.monotonic() < end:
+        for it in select.select(list(of_socket), [], [], 0.1)[0]:
+            of_socket[it].answer()
+            answered += 1
+    return answered
+
+
+def test_sixty_four_idle_guests(lend):
+    lender = lend(64)
+    guests = [Talker(lender.add(f"guest-{it}"), lambda: "", 60) for it in range(GUESTS)]
+    processes = [process_of(lender, it.name) for it in guests]
+    answer_all(guests, 1)
+    before, begin = [seconds_of(it) for it in (lender.process.pid, *processes)], time.monotonic()
+    answered = answer_all(guests, SECONDS)
+    took = time.monotonic() - begin
+    shares = [(seconds_of(it) - then) / took for it, then in zip((lender.process.pid, *processes), before)]
+    most = max(map(private_kib, processes))
+    print(f"{GUESTS} guests, {answered / took:.0f} answers a second: at most {most} KiB each, the lender {private_kib(lender.process.pid)}")
+    print(f"of a processor: {100 * sum(shares):.2f}% in all, the lender {100 * shares[0]:.2f}%")
+    for it in guests:
+        it.leave()
+    assert most <= MOST_KIB
+    if answered < MOST_ANSWERS * GUESTS * ASKED * took:
+        pytest.skip(f"{answered / took:.0f} of {GUESTS * ASKED} answers a second: the machine is too busy for what they take")
+    assert sum(shares) <= MOST_SHARE
