@@ -216,8 +216,12 @@ def test_followers_hear_each_event_once_and_in_order(host, arrive):
     # On a loaded machine its statistics may come late, and then it is silent for a while: so it answers, is silent, answers, ..
     manners = [it for it in names if it in ("answers", "silent")]
     assert manners == ["answers", "silent"] * (len(manners) // 2) + ["answers"] * (len(manners) % 2), manners
-    assert [it for it in names if it not in ("decision", "state", *manners)] == ["added", "arrived", "budget", "gone", "removed"], names
-    assert [it["state"] for it in first.heard if it["event"] == "state"][-1] == "ready"
+    others = [it for it in names if it not in ("decision", "state", *manners)]
+    # A look may find it while it waits for the room that it is granted at once, and while it leaves.
+    waits = ["waits", "granted"] if "waits" in others else []
+    assert others == ["added", "arrived", *waits, "budget", "gone", "removed"], names
+    states = [it["state"] for it in first.heard if it["event"] == "state"]
+    assert [it for it in states if it not in ("coming", "waiting", "starting")] in (["ready"], ["ready", "leaving"]), states
     assert any(it["event"] == "decision" and it["decision"]["budget"] == 100 * MIB for it in first.heard)
     for it in first, second:
         it.connection.close()
