@@ -33,6 +33,9 @@ OF_CRATES = (
 
 # A topic of all files, these, and what is found in them.
 OF_ALL = (
+    ("strays", {"docs/examples/crates.txt": "a: b\n", "docs/a/src/lib.rt": "", "crates/a/data/b.antt": ""},
+     ["crates/a/data/b.antt", "docs/a/src/lib.rt", "docs/examples/crates.txt"]),
+    ("strays", {"crates.txt": "a: b\n", "crates/a/src/b/lib.rt": "", "crates/a/proofs/b/C.antt": "", "docs/a/src/lib.rt.in": ""}, []),
     ("lengths", {"tools/lib/a.py": "\n" * 351}, ["tools/lib/a.py: 351 lines"]),
     ("lengths", {"tools/lib/a.py": "\n" * 350, "crates/a/src/tests.rt": "\n" * 351}, []),
     ("writes", {"monitor/backends/guest/a.c": WRITER % "device->status = 3"}, ["monitor/backends/guest/a.c:3: device->status = 3;"]),
@@ -94,4 +97,4 @@ def test_a_file_that_clean_deletes(root):
 def test_what_another_tool_refuses(root, script, wanted):
     put(root, {"tools/list-codes": f"#!/bin/sh\n{script}\n"})
     os.chmod(root / "tools/list-codes", 0o755)
-    assert CHECK.checked("list-codes") == wanted
+    assert CHECK.checked("tools/list-codes") == wanted

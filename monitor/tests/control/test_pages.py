@@ -110,7 +110,7 @@ COMPLETIONS = (
     (["bigvasta", "add", "web-3", "t"], set()),
     (["bigvasta", "add", "web-3", "m"], {"most="}),
     (["bigvasta", "log", "--s"], {"--since"}),
-    (["bigvasta", "plan", "--s"], {"--steps", "--seed"}),
+    (["bigvasta", "plan", "--s"], {"--scheduler", "--seed", "--steps"}),
     (["bigvasta", "status", "--"], {"--control", "--json", "--help", "--names"}),
 )
 

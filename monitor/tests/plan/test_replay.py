@@ -112,6 +112,7 @@ class Watched(Lender):
         assert self.missing > 0 or not any(waits)
 
 
+@pytest.mark.timeout(1200)  # a busy machine takes long for all
 @settings(max_examples=1000, deadline=None, derandomize=True, database=None, suppress_health_check=[HealthCheck.too_slow, HealthCheck.function_scoped_fixture])
 @given(numbers=strategies.randoms(use_true_random=False))
 def test_event_by_event_as_moment_by_moment(library, monkeypatch, numbers):

@@ -74,9 +74,7 @@ def library(folder):
     core = linux_kit.core_of()
     if core != linux_kit.REFERENCE:
         return core
-    words = [linux_kit.need("cc", "gcc libc6-dev"), *linux_kit.FLAGS, "-I", linux_kit.SHIM, "-I", linux_kit.HEADERS]
-    subprocess.run([*words, "-c", core, "-o", f"{folder}/reference.o"], check=True)
-    subprocess.run(["ar", "rcs", f"{folder}/libreference.a", f"{folder}/reference.o"], check=True)
+    subprocess.run([linux_kit.need("ar", "binutils"), "rcs", f"{folder}/libreference.a", core], check=True)
     return f"{folder}/libreference.a"
 
 
