@@ -116,6 +116,10 @@ def host_metrics(host):
 def guest_metrics(guests):
     """Yields the metrics of the guests."""
     here = [it for it in guests if it["state"] != "absent"]
+    versions = InfoMetricFamily(f"{PREFIX}_guest_process", "Version of the guest's process", labels=["guest"])
+    for it in here:
+        versions.add_metric([it["name"]], {"version": it["version"]})
+    yield versions
     for name, field, what in GUEST_BYTES:
         yield gauge(f"guest_{name}_bytes", what, [([it["name"]], it[field]) for it in here])
     for name, field, what in GUEST_SECONDS:

@@ -30,7 +30,15 @@ def summary(host):
     """Returns the line about the host."""
     parts = [f"{it} {mebibytes(host[it])}" for it in ("budget", "held", "lent", "missing")]
     counts = [f"{host['guests']} guests"] + [f"{host[it]} {it}" for it in ("waiting", "silent", "uncooperative") if host[it]]
-    return f"{', '.join(parts)} MiB; {', '.join(counts)}"
+    return f"{', '.join(parts)} MiB; {', '.join(counts)}; version {host['version']}"
+
+
+def others(host, guests):
+    """Yields the line about processes that are of another version than the host: they serve on since before an upgrade."""
+    found = [it for it in guests if it["process"] and it["version"] != host["version"]]
+    if found:
+        words = [f"{it['name']} {it['version'] or 'unknown'}" for it in found]
+        yield f"processes of another version: {', '.join(words)}"
 
 
 def run(asked):
@@ -43,7 +51,7 @@ def run(asked):
         print("\n".join(it["name"] for it in answer["guests"]))
     else:
         print(summary(answer["host"]))
-        print("\n".join(table([COLUMNS, *map(row, answer["guests"])])))
+        print("\n".join([*table([COLUMNS, *map(row, answer["guests"])]), *others(answer["host"], answer["guests"])]))
 
 
 def add(commands, common):

@@ -102,7 +102,8 @@ class Lender:
     # ---- waits
 
     def begin_wait(self, guest):
-        """A guest has asked: the wait goes on until it asks for nothing more."""
+        """A guest has asked, by which targets are decided anew: the wait goes on until it asks for nothing more."""
+        self.anew = True
         if self.since[guest] is None:
             self.since[guest] = self.now
 
@@ -167,6 +168,7 @@ class Lender:
         loan = self.loans[guest]
         pages = loan.lent + loan.ballooned - loan.pages
         self.do(self.library.vb_loan_take, guest, pages)
+        self.anew = True
         self.moved += pages if self.runs[guest] else 0
         self.runs[guest] = True
         self.figure(guest)

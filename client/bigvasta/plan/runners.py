@@ -1,7 +1,9 @@
 """Runs tasks at once: on the processors of this machine, or on the workers of a Dask scheduler. Answers come in the order of their tasks."""
 
 import concurrent.futures
+import ctypes
 import re
+import signal
 import socket
 
 from bigvasta.plan.progress import Progress
@@ -11,6 +13,9 @@ from bigvasta.statuses import Away, Unclear, Usage
 LIMIT, DASK_LIMIT = 5, 60
 
 MOST_PORT = 65535
+
+# Of prctl(2).
+PR_SET_PDEATHSIG = 1
 
 
 def gather(numbers, ended, out):
@@ -22,6 +27,11 @@ def gather(numbers, ended, out):
     return results
 
 
+def end_with_parent():
+    """Has the kernel end this process with the one that started it, however that ends."""
+    ctypes.CDLL(None).prctl(PR_SET_PDEATHSIG, signal.SIGKILL)
+
+
 class Processes:
     """As many processes as are asked for."""
 
@@ -30,7 +40,7 @@ class Processes:
 
     def run_all(self, run, tasks):
         """Returns the answers of all tasks."""
-        pool = concurrent.futures.ProcessPoolExecutor(self.count)
+        pool = concurrent.futures.ProcessPoolExecutor(self.count, initializer=end_with_parent)
         try:
             return gather({pool.submit(run, it): number for number, it in enumerate(tasks)}, concurrent.futures.as_completed, self.out)
         except concurrent.futures.BrokenExecutor:

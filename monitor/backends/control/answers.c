@@ -58,8 +58,8 @@ json_t *answer_guest(const struct host *host, unsigned number)
 {
     struct guest_view guest;
     host_see_guest(host, number, &guest);
-    json_t *answer = json_pack("{s:s, s:s, s:i, s:s, s:s, s:f, s:b, s:b, s:b, s:f, s:f, s:o, s:o}", "name", guest.name, "socket",
-                               guest.path, "process", (int)guest.process, "state", guest_state_word(guest.state), "waits_for",
+    json_t *answer = json_pack("{s:s, s:s, s:i, s:s, s:s, s:s, s:f, s:b, s:b, s:b, s:f, s:f, s:o, s:o}", "name", guest.name, "socket",
+                               guest.path, "process", (int)guest.process, "version", guest.version, "state", guest_state_word(guest.state), "waits_for",
                                guest_wait_word(guest.waits_for), "waits", guest.waits, "answers", guest.answers, "reports",
                                guest.reports, "cooperates", guest.cooperates, "silent", guest.silent, "process_silent",
                                guest.process_silent, "terms", answer_terms(&guest.terms), "counters", answer_guest_counters(&guest));

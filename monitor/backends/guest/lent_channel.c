@@ -53,6 +53,7 @@ void lent_report(struct lent *lent, uint64_t number, bool asked)
         .taken_since = lent->taken_since, .has_terms = lent->has_terms, .terms = lent->terms, .counters = backend->counters,
         .figure_count = backend->figure_count};
     memcpy(message.figures, backend->figures, sizeof message.figures);
+    strcpy(message.words, VB_VERSION);
     send_to_lender(lent, &message);
     lent->news = false;
     lent->report_at = lent_now() + NEWS_EVERY;

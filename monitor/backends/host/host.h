@@ -54,7 +54,7 @@ struct seat {
     uint64_t number, answered;  /* of the last order to look; of the last one that is answered */
     unsigned read;              /* messages of it that were read since the last refill */
     uint64_t clients, lost;
-    struct lending_message report;      /* the last one; zeros without one */
+    struct lending_message report;      /* the last one, whose words are the version of its process; zeros without one */
     /* What was made of it. */
     uint32_t pages;             /* of its memory that has room */
     uint32_t free, available, ballooned_then;

@@ -54,7 +54,7 @@ struct lending_message {
     struct kept_terms terms;
     struct counters counters;
     VbStatistic figures[MOST_TAGS];
-    char words[MOST_WORDS];
+    char words[MOST_WORDS];     /* of a report: the version of the process */
 };
 
 /* The files with which a guest's process begins: where its client comes, its end of the channel, and where a later lender comes. */

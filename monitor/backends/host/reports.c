@@ -2,6 +2,8 @@
 #include "host.h"
 #include "measures.h"
 
+enum { MOST_VERSION = 32 };
+
 /* A guest waits: whether there is room, it is answered at once, unless it waits for its grant. */
 static void answer_wait(struct seat *seat)
 {
@@ -61,10 +63,20 @@ static void note_wait(struct seat *seat)
     seat->waits_for = now;
 }
 
+/* The version that a process says that it has; empty where it isn't one. */
+static void check_version(char words[MOST_WORDS])
+{
+    static const char signs[] = "abcdefghijklmnopqrstuvwxyzABCDEFGHIJKLMNOPQRSTUVWXYZ0123456789.+~-";
+    size_t length = strlen(words);
+    if (length >= MOST_VERSION || strspn(words, signs) != length)
+        words[0] = 0;
+}
+
 static void take_report(struct seat *seat, const struct lending_message *message)
 {
     struct question *question = &seat->host->question;
     seat->report = *message;
+    check_version(seat->report.words);
     if (message->number == seat->number)
         seat->asked_at = 0;
     seat->answered = message->number > seat->answered ? message->number : seat->answered;

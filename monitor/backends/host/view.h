@@ -42,6 +42,7 @@ struct guest_view {
     const char *name;           /* until the next call that adds or removes a guest */
     const char *path;           /* of the socket where its client comes */
     pid_t process;              /* 0: none */
+    const char *version;        /* of its process, as that one says: letters, digits, dots and signs; empty where it says none */
     enum guest_state state;
     struct guest_terms terms;
     uint32_t pages;             /* of its memory */

@@ -36,7 +36,7 @@ def test_version(host):
 
 # Words, the status, and how what is said begins: on standard output, and on standard error.
 COMMANDS = (
-    ("status", 0, "budget 480, held 0, lent 0, missing 0 MiB; 0 guests\nguest  state  memory  held  loan", ""),
+    ("status", 0, "budget 480, held 0, lent 0, missing 0 MiB; 0 guests; version ", ""),
     ("add web-1", 0, "{folder}/web-1\n", ""),
     ("add web-1", 1, "", "bigvasta: name: a guest is named web-1 already\n"),
     ("add web.1", 1, "", "bigvasta: a name has 1 to 31 letters"),

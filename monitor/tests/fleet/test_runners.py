@@ -10,7 +10,7 @@ import time
 
 import pytest
 from bigvasta.plan.progress import Progress
-from dask_hosts import Machines, end, free_port, lacks
+from dask_hosts import Machines, end, eventually, free_port, lacks
 from planner import CLIENT, run, words_of
 
 # Guests on hosts that some find no room on: two promises, and six hosts at most for each.
@@ -168,11 +168,25 @@ def test_a_process_that_is_killed(shared):
     command, environment = words_of(*LARGE, "--library", shared, "--processes", "2")
     with subprocess.Popen(command, stdout=subprocess.PIPE, stderr=subprocess.PIPE, text=True, env=environment) as plan:
         assert plan.stderr.readline().startswith("replayed 3 of ")
-        children = subprocess.run(["ps", "--ppid", str(plan.pid), "-o", "pid="], capture_output=True, text=True, timeout=60).stdout.split()
-        os.kill(int(children[0]), 9)
+        os.kill(int(children_of(plan.pid)[0]), 9)
         answer, rest = plan.communicate(timeout=120)
     assert (answer, plan.returncode) == ("", 4)
     assert rest.splitlines()[-1] == "bigvasta: plan: one of its processes was ended, as by a lack of memory"
+
+
+def children_of(process):
+    """Returns the processes that a process has started."""
+    return subprocess.run(["ps", "--ppid", str(process), "-o", "pid="], capture_output=True, text=True, timeout=60).stdout.split()
+
+
+def test_a_plan_that_is_killed_leaves_no_process(shared):
+    command, environment = words_of(*LARGE, "--library", shared, "--processes", "2")
+    with subprocess.Popen(command, stdout=subprocess.DEVNULL, stderr=subprocess.PIPE, text=True, env=environment) as plan:
+        plan.stderr.readline()
+        children = children_of(plan.pid)
+        plan.kill()
+    assert len(children) == 2
+    eventually(lambda: not any(os.path.exists(f"/proc/{it}") for it in children))
 
 
 # Words of a command line that is refused, and what it says.

@@ -78,7 +78,7 @@ def test_an_object(shared, day):
     assert found["replays"] == [{
         "budget": 614400, "promised": 819200, "guests": 2, "present": 60.0, "waited": 10.0, "waited_share": 1 / 6, "waited_a_day": 14400.0,
         "asks": 1, "asks_that_waited": 1, "median": 10.0, "p99": 10.0, "worst": 10.0, "worst_guest": "a", "worst_guest_waited": 10.0,
-        "shorts": 1, "short_seconds": 10.0, "short_by": 81920, "moved": 614400, "decisions": 5,
+        "shorts": 1, "short_seconds": 10.0, "short_by": 81920, "moved": 614400, "decisions": 6,
     }]
 
 
