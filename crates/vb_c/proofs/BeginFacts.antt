@@ -1,36 +1,37 @@
 -- Which notices begin, which go on, and which don't, worked out.
+use Rattle.vb_monitor.specs.declared.room.Room.{Room}
 use Rattle.std.proofs.Common.{◌≡◌, ◌∙◌, refl, ap, subst, sym, arith, ℕ, ◌++◌, true, false, List, []}
 use Rattle.std.{proofs.Common.{◌∷◌, length, Option, Some, None}, specs.Option.unwrap_or}
 use Rattle.vb_core.{specs.declared.kinds.Kind.Kind, specs.declared.device.Device.Device}
 use Rattle.vb_core.specs.declared.kinds.Kind.TheVariants.{Inflate, Deflate, Statistics}
 use Rattle.vb_monitor.specs.declared.{outcome.{Outcome.Outcome, Budget.Budget}, notice.Notice.Notice}
 use Rattle.vb_monitor.specs.{declared.step.Phase.TheVariants.{AwaitsFlags, Ended}, Accesses.Access}
-use Rattle.vb_monitor.specs.{Accesses.{ReadWord, Full}, Ends.wants_interrupt, Machine.{Room, Ahead}}
+use Rattle.vb_monitor.specs.{Accesses.{ReadWord, Full}, Ends.wants_interrupt, Machine.Ahead}
 use Rattle.vb_monitor.specs.{Machine.whole, Orders.at_once, declared.balloon.Balloon.Balloon}
 use Rattle.vb_c.specs.declared.notice.{VbNotice.VbNotice, VbRoom.VbRoom}
 use Rattle.vb_c.{specs.Codes.code_of_kind, specs.Notices.{tally_of, notice_of}}
-use Rattle.vb_c.specs.Serving.{room_in, HandsOver, with_device, Begins, BeginsIf, GoesOn, held_then}
+use Rattle.vb_c.specs.Serving.{HandsOver, with_device, Begins, BeginsIf, GoesOn, held_then}
 use Rattle.vb_c.proofs.HandingFacts.{spot, shown, nothing, at_index, handed}
-use Rattle.vb_c.proofs.Samples.{Same, two, begun, ready, balloon}
+use Rattle.vb_c.proofs.Samples.{Same, two, begun, ready, balloon, nothing_copied}
 use Rattle.vb_c.proofs.Samples.{a_buffer}
 use Rattle.vb_core.specs.declared.held.Held.{Held}
 
 abbrev room : VbRoom
-room = record { pieces = []; bytes = []; runs = []; figures = []; cuts = [] }
+room = record { copied = nothing_copied; cuts = [] }
 
 abbrev kind_code : Notice → ℕ
 kind_code n = code_of_kind (Some (n.kind))
 
 -- which notice was handed over
 handed_is : (m n : Notice) (b1 b2 : Balloon) (c : VbNotice) → notice_of c ≡ Some m →
-    (h : HandsOver n two [] b1 b2 [] c) → m ≡ h.notice
+    (h : HandsOver n two nothing_copied b1 b2 [] c) → m ≡ h.notice
 handed_is m n b1 b2 c e h = ap (λ (o : Option Notice). unwrap_or o m) (sym e ∙ h.is.read)
 
 -- ---- a notice that begins: what may come where the index is read may come
 
 abbrev Reads : Device → Outcome → List Access → Type 0
 Reads after outcome log =
-    Ahead (whole two Inflate after outcome) at_index.step begun (room_in room) log
+    Ahead (whole two Inflate after outcome) at_index.step begun room.copied log
 
 begins : Begins Reads two Inflate balloon balloon room room shown
 begins = record {
@@ -51,7 +52,7 @@ of_another_kind h =
     let e : Same (kind_code h.first) 1 = ap (λ (k : Kind). code_of_kind (Some k)) h.kind_is in
     omega (arith, read, first, e)
 
-bytes_changed : Begins Reads two Inflate balloon balloon room (record room { bytes = 1 ∷ [] }) shown → ⊥
+bytes_changed : Begins Reads two Inflate balloon balloon room (record room { copied = record nothing_copied { bytes = 1 ∷ [] } }) shown → ⊥
 bytes_changed h = let e : Same 1 0 = ap (λ (r : Room). length r.bytes) h.room in omega arith
 
 buffer_lost : Begins Reads two Inflate balloon (record balloon { held = a_buffer 0 }) room room shown → ⊥
@@ -70,7 +71,7 @@ nothing_came = record { tally = tally_of shown; why = None; interrupt = false; m
 abbrev read_index : List Access
 read_index = ReadWord spot 0 ∷ []
 
-reads_it : Ahead (whole two Inflate begun nothing_came) at_index.step begun (room_in room) read_index
+reads_it : Ahead (whole two Inflate begun nothing_came) at_index.step begun room.copied read_index
 reads_it = record {
   index = 0;
   rest = [];
@@ -84,14 +85,14 @@ of_nothing h =
     let first = h.first in
     let is : at_index ≡ h.hands.notice =
     handed_is at_index first (with_device h.device balloon) balloon shown refl h.hands in
-    let read : Ahead (whole two first.kind begun nothing_came) h.hands.notice.step begun (room_in room) read_index =
-    subst (λ (n : Notice). Ahead (whole two first.kind begun nothing_came) n.step begun (room_in room) read_index) is
-    (subst (λ (k : Kind). Ahead (whole two k begun nothing_came) at_index.step begun (room_in room) read_index)
+    let read : Ahead (whole two first.kind begun nothing_came) h.hands.notice.step begun room.copied read_index =
+    subst (λ (n : Notice). Ahead (whole two first.kind begun nothing_came) n.step begun room.copied read_index) is
+    (subst (λ (k : Kind). Ahead (whole two k begun nothing_came) at_index.step begun room.copied read_index)
     (sym h.kind_is) reads_it) in
-    h.step begun nothing_came (room_in room) _
-    (subst (λ (k : Kind). Ahead (whole two k begun nothing_came) first.step h.device (room_in room)
+    h.step begun nothing_came room.copied _
+    (subst (λ (k : Kind). Ahead (whole two k begun nothing_came) first.step h.device room.copied
     (at_once h.hands.asked k shown.orders [] [] [] read_index)) h.kind_is
-    (h.hands.step begun nothing_came [] [] [] read_index read))
+    (h.hands.step begun nothing_came read_index read))
 
 -- ---- of a queue that may be looked at, all that its notice may do may come
 
@@ -104,14 +105,14 @@ driven = record { device = ready; held = a_buffer 0 }
 abbrev BeginsOf : Kind → VbRoom → Type 0
 BeginsOf kind then = BeginsIf true two kind eight driven driven room then shown
 
-handed_of_none : HandsOver at_index two [] driven driven [] shown
+handed_of_none : HandsOver at_index two nothing_copied driven driven [] shown
 handed_of_none = record {
   asked = nothing;
   notice = at_index;
   is = record { read = refl; says = tt; what = refl };
   kind_is = refl;
-  step = λ after outcome pieces bytes figures rest h. h;
-  room = record { runs = λ e. cc; figures = λ e. cc; cuts = omega arith };
+  step = λ after outcome rest h. h;
+  has_room = record { runs = λ e. cc; figures = λ e. cc; cuts = omega arith };
   kept = λ e. absurd cc;
   waits_now = refl;
   fills = record { full = λ e. absurd (grind arith) };
@@ -139,7 +140,7 @@ of_another_queue h =
     let e : Same (kind_code h.first) 1 = ap (λ (k : Kind). code_of_kind (Some k)) h.kind_is in
     omega (arith, read, first, e)
 
-room_changed : BeginsOf Inflate (record room { bytes = 1 ∷ [] }) → ⊥
+room_changed : BeginsOf Inflate (record room { copied = record nothing_copied { bytes = 1 ∷ [] } }) → ⊥
 room_changed h = let e : Same 1 0 = ap (λ (r : Room). length r.bytes) h.room in omega arith
 
 -- one that may not be looked at does nothing, with code 1
@@ -166,8 +167,8 @@ with_another_code : BeginsIf false two Statistics eight balloon balloon room roo
 with_another_code h = let e : Same 4 1 = h.ended.code_is in omega arith
 
 room_changed_then : (c : VbNotice) →
-    BeginsIf false two Statistics eight balloon balloon room (record room { bytes = 1 ∷ [] }) c → ⊥
-room_changed_then c h = let e : Same 1 0 = ap (λ (r : VbRoom). length r.bytes) h.room in omega arith
+    BeginsIf false two Statistics eight balloon balloon room (record room { copied = record nothing_copied { bytes = 1 ∷ [] } }) c → ⊥
+room_changed_then c h = let e : Same 1 0 = ap (λ (r : VbRoom). length r.copied.bytes) h.room in omega arith
 
 -- ---- a notice that goes on: the flags were read, and it ends
 
@@ -180,7 +181,7 @@ ended = record shown { what = 0; phase = 0; code = 1; interrupt = 1 }
 abbrev at_end : Notice
 at_end = record at_index { step = record { tally = tally_of shown; phase = Ended None true false } }
 
-handed_over : HandsOver at_end two [] balloon balloon [] ended
+handed_over : HandsOver at_end two nothing_copied balloon balloon [] ended
 handed_over = record {
   asked = nothing;
   notice = at_end;
@@ -190,8 +191,8 @@ handed_over = record {
     what = refl;
   };
   kind_is = refl;
-  step = λ after outcome pieces bytes figures rest h. h;
-  room = record { runs = λ e. cc; figures = λ e. cc; cuts = omega arith };
+  step = λ after outcome rest h. h;
+  has_room = record { runs = λ e. cc; figures = λ e. cc; cuts = omega arith };
   kept = λ e. absurd cc;
   waits_now = refl;
   fills = record { full = λ e. absurd (grind arith) };
@@ -244,13 +245,13 @@ unwanted h =
     let next = h.next in
     let is : at_end ≡ h.hands.notice =
     handed_is at_end next (with_device h.device balloon) balloon ended refl h.hands in
-    let stops : Ahead (whole two next.kind begun interrupts) h.hands.notice.step begun (room_in room) [] =
-    subst (λ (n : Notice). Ahead (whole two next.kind begun interrupts) n.step begun (room_in room) []) is
+    let stops : Ahead (whole two next.kind begun interrupts) h.hands.notice.step begun room.copied [] =
+    subst (λ (n : Notice). Ahead (whole two next.kind begun interrupts) n.step begun room.copied []) is
     (record { nothing = refl; device = refl; outcome = refl }) in
-    let handed : Ahead (whole two Inflate begun interrupts) next.step h.device (room_in room)
+    let handed : Ahead (whole two Inflate begun interrupts) next.step h.device room.copied
     (at_once h.hands.asked Inflate ended.orders [] [] [] []) =
-    subst (λ (k : Kind). Ahead (whole two k begun interrupts) next.step h.device (room_in room)
-    (at_once h.hands.asked k ended.orders [] [] [] [])) h.kind_is (h.hands.step begun interrupts [] [] [] [] stops) in
+    subst (λ (k : Kind). Ahead (whole two k begun interrupts) next.step h.device room.copied
+    (at_once h.hands.asked k ended.orders [] [] [] [])) h.kind_is (h.hands.step begun interrupts [] stops) in
     let came = h.step begun interrupts [] (Full ∷ ReadWord spot 1 ∷ []) _ refl handed in
     let read : Same 1 came.flags = ap flags_in came.asks in
     let says : true ≡ wants_interrupt came.flags = ap (λ (o : Outcome). o.interrupt) came.then_stops.outcome in

@@ -12,7 +12,7 @@ use Rattle.vb_monitor.specs.{declared.balloon.Balloon.Balloon, Machine.{Fits, ro
 use Rattle.vb_c.specs.declared.notice.{VbNotice.VbNotice, VbRoom.VbRoom}
 use Rattle.vb_virtio.specs.Tests.{one_if}
 use Rattle.vb_c.specs.{Notices.{tally_of, told_bits, asked_bits, answer_bits, what_of}, Serving.{held_then, Refuses}, Served.telling_pages}
-use Rattle.vb_c.{specs.Serving.HandsOver, proofs.Samples.{Same, two, begun, balloon}}
+use Rattle.vb_c.{specs.Serving.HandsOver, proofs.Samples.{Same, two, begun, balloon, nothing_copied}}
 use Rattle.vb_c.proofs.Samples.{a_buffer, chain_of}
 use Rattle.vb_core.specs.declared.held.Held.{Held}
 
@@ -66,14 +66,14 @@ nothing = record { told = Nothing; gives = false }
 abbrev pub at_index : Notice
 at_index = record { kind = Inflate; step = record { tally = tally_of shown; phase = AwaitsIndex spot } }
 
-pub handed : HandsOver at_index two [] balloon balloon [] shown
+pub handed : HandsOver at_index two nothing_copied balloon balloon [] shown
 handed = record {
   asked = nothing;
   notice = at_index;
   is = record { read = refl; says = tt; what = refl };
   kind_is = refl;
-  step = λ after outcome pieces bytes figures rest h. h;
-  room = record { runs = λ e. cc; figures = λ e. cc; cuts = omega arith };
+  step = λ after outcome rest h. h;
+  has_room = record { runs = λ e. cc; figures = λ e. cc; cuts = omega arith };
   kept = λ e. absurd cc;
   waits_now = refl;
   fills = record { full = λ e. absurd (grind arith) };
@@ -89,7 +89,7 @@ stage_in (Some n) = stage n.step.phase
 abbrev left : VbNotice
 left = record shown { what = 0; phase = 6 }
 
-left_with_room : (n : Notice) (b1 b2 : Balloon) → HandsOver n two [] b1 b2 [] left → ⊥
+left_with_room : (n : Notice) (b1 b2 : Balloon) → HandsOver n two nothing_copied b1 b2 [] left → ⊥
 left_with_room n b1 b2 h =
     let at : Same 1 (stage h.notice.step.phase) = ap stage_in h.is.read in
     let e : Same 0 256 = h.fills.full (sym at) in
@@ -97,11 +97,11 @@ left_with_room n b1 b2 h =
 
 -- one part more than the list has
 too_many_parts : (n : Notice) (b1 b2 : Balloon) →
-    HandsOver n two [] b1 b2 [] (record shown { what = 68; orders = record none_asked { cuts = 257 } }) → ⊥
-too_many_parts n b1 b2 h = let e = h.room.cuts in omega (arith, e)
+    HandsOver n two nothing_copied b1 b2 [] (record shown { what = 68; orders = record none_asked { cuts = 257 } }) → ⊥
+too_many_parts n b1 b2 h = let e = h.has_room.cuts in omega (arith, e)
 
 -- what is of no kind is no notice
-of_no_kind : (n : Notice) (b1 b2 : Balloon) → HandsOver n two [] b1 b2 [] (record shown { kind = 4 }) → ⊥
+of_no_kind : (n : Notice) (b1 b2 : Balloon) → HandsOver n two nothing_copied b1 b2 [] (record shown { kind = 4 }) → ⊥
 of_no_kind n b1 b2 h = let e = h.is.read in absurd cc
 
 -- bytes that are to be copied have room: 1,024 of them, and no more
@@ -125,11 +125,11 @@ at_most (GivesBack spots entry) fits = omega arith
 at_most (AwaitsFlags at why more) fits = omega arith
 at_most (Ended why interrupt more) fits = omega arith
 
-has_room : (n : Notice) (b1 b2 : Balloon) (c : VbNotice) → (h : HandsOver n two [] b1 b2 [] c) →
+has_room : (n : Notice) (b1 b2 : Balloon) (c : VbNotice) → (h : HandsOver n two nothing_copied b1 b2 [] c) →
     ends_in h.notice.step.phase ≤ 1024
 has_room n b1 b2 c h = at_most h.notice.step.phase h.fits
 
-past_the_room : (n : Notice) (b1 b2 : Balloon) → HandsOver n two [] b1 b2 [] (copying 1021) → ⊥
+past_the_room : (n : Notice) (b1 b2 : Balloon) → HandsOver n two nothing_copied b1 b2 [] (copying 1021) → ⊥
 past_the_room n b1 b2 h = let e = h.is.read in absurd cc
 
 abbrev held_in : Option Notice → Balloon → ℕ
@@ -137,7 +137,7 @@ held_in None b = 0
 held_in (Some n) b = (held_then n b).statistics
 
 -- the buffer that is held isn't lost while the notice goes on
-buffer_lost : (n : Notice) → HandsOver n two [] balloon (record balloon { held = a_buffer 0 }) [] shown → ⊥
+buffer_lost : (n : Notice) → HandsOver n two nothing_copied balloon (record balloon { held = a_buffer 0 }) [] shown → ⊥
 buffer_lost n h =
     let noted : Same 4 (held_then h.notice balloon).statistics =
     ap (λ (o : Option Notice). held_in o balloon) h.is.read in
@@ -174,22 +174,22 @@ tells_pages Figures true bits b e = absurd (omega (arith, b, e))
 tells_pages Figures false bits b e = absurd (omega (arith, b, e))
 
 is_told : (n : Notice) (kept : ℕ) (b1 b2 : Balloon) →
-    (h : HandsOver n two [] b1 b2 [] (told kept)) → h.asked.told ≡ Pages
+    (h : HandsOver n two nothing_copied b1 b2 [] (told kept)) → h.asked.told ≡ Pages
 is_told n kept b1 b2 h =
     tells_pages h.asked.told h.asked.gives _ (ap bits_in h.is.read) h.is.what
 
 -- those that are kept are counted, and no others are
-uncounted : (b1 b2 : Balloon) → HandsOver (telling Inflate true) two [] b1 b2 [] (told 0) → ⊥
+uncounted : (b1 b2 : Balloon) → HandsOver (telling Inflate true) two nothing_copied b1 b2 [] (told 0) → ⊥
 uncounted b1 b2 h =
     let e : Same 0 2 = h.kept (is_told (telling Inflate true) 0 b1 b2 h) in omega arith
 
 discarded_and_counted : (b1 b2 : Balloon) →
-    HandsOver (telling Inflate false) two [] b1 b2 [] (told 1) → ⊥
+    HandsOver (telling Inflate false) two nothing_copied b1 b2 [] (told 1) → ⊥
 discarded_and_counted b1 b2 h =
     let e : Same 1 0 = h.kept (is_told (telling Inflate false) 1 b1 b2 h) in omega arith
 
 asked_back_and_counted : (b1 b2 : Balloon) →
-    HandsOver (telling Deflate true) two [] b1 b2 [] (told 1) → ⊥
+    HandsOver (telling Deflate true) two nothing_copied b1 b2 [] (told 1) → ⊥
 asked_back_and_counted b1 b2 h =
     let e : Same 1 0 = h.kept (is_told (telling Deflate true) 1 b1 b2 h) in omega arith
 
@@ -197,7 +197,7 @@ asked_back_and_counted b1 b2 h =
 abbrev keeping : Balloon
 keeping = record balloon { device = record begun { features = 0x100000037; poison = 1 } }
 
-uncounted_of_a_report : (b2 : Balloon) → HandsOver (telling Report false) two [] keeping b2 [] (told 0) → ⊥
+uncounted_of_a_report : (b2 : Balloon) → HandsOver (telling Report false) two nothing_copied keeping b2 [] (told 0) → ⊥
 unfolding lib.Count.ones
 uncounted_of_a_report b2 h =
     let e : Same 0 2 = h.kept (is_told (telling Report false) 0 keeping b2 h) in omega arith
@@ -253,6 +253,6 @@ ended_by (GivesBack spots entry) a cuts w f e = absurd cc
 
 -- so a caller that obeys while there is something to do obeys to its end
 nothing_to_do : (n : Notice) (b1 b2 : Balloon) (c : VbNotice) →
-    (h : HandsOver n two [] b1 b2 [] c) → c.what ≡ 0 → is_ended h.notice.step.phase ≡ true
+    (h : HandsOver n two nothing_copied b1 b2 [] c) → c.what ≡ 0 → is_ended h.notice.step.phase ≡ true
 nothing_to_do n b1 b2 c h e =
     ended_by h.notice.step.phase h.asked c.orders.cuts h.waits_now h.fills.full (sym h.is.what ∙ e)

@@ -4,11 +4,11 @@ use Rattle.vb_core.specs.declared.kinds.Kind.TheVariants.{Deflate, Statistics}
 use Rattle.vb_monitor.specs.declared.balloon.Balloon.{Balloon}
 use Rattle.vb_monitor.specs.declared.outcome.Budget.{Budget}
 use Rattle.vb_c.{specs.declared.notice.VbNotice.VbNotice, specs.declared.notice.VbRoom.VbRoom}
-use Rattle.vb_c.{specs.Serving.{BeginsFor, GivesHeldFor, GoesOnBy}, proofs.Samples.{Same, two, balloon}}
+use Rattle.vb_c.{specs.Serving.{BeginsFor, GivesHeldFor, GoesOnBy}, proofs.Samples.{Same, two, balloon, nothing_copied}}
 use Rattle.vb_c.proofs.Samples.{a_buffer}
 
 abbrev room : VbRoom
-room = record { pieces = []; bytes = []; runs = []; figures = []; cuts = [] }
+room = record { copied = nothing_copied; cuts = [] }
 
 abbrev held_of : Balloon → ℕ
 held_of b = b.held.statistics

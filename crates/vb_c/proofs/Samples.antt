@@ -1,4 +1,5 @@
 -- Settings, regions and balloons that the facts share.
+use Rattle.vb_monitor.specs.declared.room.Room.{Room}
 use Rattle.std.proofs.Common.{◌≡◌, ℕ, [], ◌∷◌, List, Option, Some}
 use Rattle.vb_core.{specs.declared.settings.Settings.Settings, specs.declared.device.Device.Device}
 use Rattle.vb_core.specs.{Devices.{new_device, placed}, declared.held.Held.Held}
@@ -52,3 +53,6 @@ chain_of head pages = Some (record { head = head; pages = pages })
 
 abbrev pub balloon : Balloon
 balloon = record { device = begun; held = a_buffer 4 }
+
+abbrev pub nothing_copied : Room
+nothing_copied = record { pieces = []; bytes = []; runs = []; figures = [] }

@@ -1,11 +1,12 @@
 -- Fast paths of notices.
+use Rattle.vb_monitor.specs.declared.room.Room.{Room}
 use Rattle.std.proofs.Common.{◌≡◌, ◌∙◌, ap, sym, subst, refl, arith, ℕ, ◌+◌, ◌≤◌, Bool, true, false}
 use Rattle.std.proofs.Common.{List, ◌++◌, map, take, Option, Some, None}
 use Rattle.std.{specs.Prelude.{◌==◌, nat_le, if◌then◌else◌, IfSome}, proofs.lemmas.Bool.Decides.nat_tests}
 use Rattle.vb_monitor.specs.declared.step.Phase.TheVariants.{AwaitsIndex, AwaitsEntry}
 use Rattle.vb_monitor.specs.declared.step.Phase.TheVariants.{AwaitsDescriptor, AwaitsPart, Discards}
 use Rattle.vb_monitor.specs.{declared.step.Phase.TheVariants.{AwaitsFlags, Ended}, Machine.Fits}
-use Rattle.vb_monitor.specs.Machine.{stage, waits, AheadAt, Awaited, whole, room_of, outcome_at, Room}
+use Rattle.vb_monitor.specs.Machine.{stage, waits, AheadAt, Awaited, whole, outcome_at}
 use Rattle.vb_monitor.specs.declared.usual.NextWord.{NextWord, TheVariants.{Entry, Flags}}
 use Rattle.vb_monitor.specs.Usual.{phase_at}
 use Rattle.vb_monitor.specs.declared.orders.{Told.TheVariants.Nothing, TheConstants.MAX_CUTS}
@@ -14,12 +15,12 @@ use Rattle.vb_monitor.specs.{Accesses.{Access, Discard}, declared.balloon.Balloo
 use Rattle.vb_monitor.specs.declared.{regions.Region.Region, outcome.Outcome.Outcome}
 use Rattle.vb_monitor.specs.declared.{notice.Notice.Notice, outcome.Tally.Tally, orders.Asked.Asked}
 use Rattle.vb_monitor.{specs.declared.cuts.Cut.Cut, proofs.OrderLemmas.stage_waits}
-use Rattle.vb_core.specs.declared.{kinds.Kind.Kind, device.Device.Device, runs.Run.Run}
+use Rattle.vb_core.specs.declared.{kinds.Kind.Kind, device.Device.Device}
 use Rattle.vb_c.specs.Notices.{says_yes, tally_of, walk_of, place_of, part_of, discarding_of}
 use Rattle.vb_c.specs.Notices.{cut_of_notice, phase_of, notice_by, notice_of, Says, answer_bits}
 use Rattle.vb_c.{specs.declared.notice.VbNotice.VbNotice, specs.declared.notice.VbRoom.VbRoom}
 use Rattle.vb_c.{specs.Codes.{kind_of_code, why_of}, specs.Notices.what_of}
-use Rattle.vb_c.specs.Serving.{held_by, room_in, HandsOver, Begins, GoesOnBy}
+use Rattle.vb_c.specs.Serving.{held_by, HandsOver, Begins, GoesOnBy}
 use Rattle.vb_chain.specs.declared.{descriptor.TheConstants.DESCRIPTOR_SIZE, pieces.Piece.Piece}
 use Rattle.vb_monitor.specs.{Ends.Whole, Machine.{Copies, row_bytes, row_in}, Pieces.AsksPart}
 use Rattle.vb_monitor.specs.Chains.{TableRow, row_of, AfterDescriptor, AsksRow}
@@ -78,12 +79,12 @@ pub no_part_left : (q : Phase) → stage q ≡ 3 → stage q ≡ 1 → ⊥
 no_part_left q e f = let x : 3 ≡ 1 = sym e ∙ f in omega (arith, x)
 
 -- what hands a notice over that does nothing before it waits
-hands_nothing : (kind : Kind) (q : Phase) (t : Tally) (regions : List Region) (runs : List Run)
+hands_nothing : (kind : Kind) (q : Phase) (t : Tally) (regions : List Region) (room : Room)
     (cuts : List Cut) (b : Balloon) (c : VbNotice) → kind_of_code c.kind ≡ Some kind
     → phase_of c ≡ Some q → tally_of c ≡ t → Says c t q → c.what ≡ answer_bits q → c.orders.cuts ≡ 0
     → stage q ≡ 3 → Fits q → held_by (outcome_at q t) kind b ≡ b.held → HandsOver
-    (record { kind = kind; step = record { tally = t; phase = q } }) regions runs b b cuts c
-hands_nothing kind q t regions runs cuts b c k e f says what none late fits over = record {
+    (record { kind = kind; step = record { tally = t; phase = q } }) regions room b b cuts c
+hands_nothing kind q t regions room cuts b c k e f says what none late fits over = record {
   asked = nothing;
   notice = record { kind = kind; step = record { tally = t; phase = q } };
   is = record {
@@ -92,10 +93,10 @@ hands_nothing kind q t regions runs cuts b c k e f says what none late fits over
     what = what ∙ (no_bits (answer_bits q) ∙ sym (ap (λ (n : ℕ). what_of nothing n q) none));
   };
   kind_is = refl;
-  step = λ after outcome pieces bytes figures rest h.
+  step = λ after outcome rest h.
       subst (λ (n : ℕ). AheadAt q (whole regions kind after outcome) t b.device
-      (room_of pieces bytes runs figures) (map Discard (take n cuts) ++ rest)) (sym none) h;
-  room = record { runs = λ x. cc; figures = λ x. cc; cuts = no_cuts c.orders.cuts none };
+      room (map Discard (take n cuts) ++ rest)) (sym none) h;
+  has_room = record { runs = λ x. cc; figures = λ x. cc; cuts = no_cuts c.orders.cuts none };
   kept = λ x. absurd cc;
   waits_now = stage_waits q late;
   fills = record { full = λ x. absurd (no_part_left q late x) };
@@ -110,10 +111,10 @@ pub goes_usual : (kind : Kind) (p q : Phase) (s t : Tally) (regions : List Regio
     → phase_of c2 ≡ Some q → tally_of c2 ≡ t → Says c2 t q → c2.what ≡ answer_bits q
     → c2.orders.cuts ≡ 0 → stage q ≡ 3 → Fits q → held_by (outcome_at q t) kind b ≡ b.held
     → ((after : Device) (outcome : Outcome) (before : List ℕ) (done rest : List Access) →
-    Awaited p kind answer before (room_in r1) done →
-    AheadAt q (whole regions kind after outcome) t b.device (room_in r2) rest →
+    Awaited p kind answer before r1.copied done →
+    AheadAt q (whole regions kind after outcome) t b.device r2.copied rest →
     AheadAt p (whole regions kind after outcome) s b.device
-    (room_of r1.pieces before r1.runs r1.figures) (done ++ rest))
+    (record r1.copied { bytes = before }) (done ++ rest))
     → GoesOnBy (notice_of c1) regions answer b b r1 r2 c2
 goes_usual kind p q s t regions answer b r1 r2 c1 c2 k1 e1 f1 k2 e2 f2 says what none late fits
     over step =
@@ -126,7 +127,7 @@ goes_usual kind p q s t regions answer b r1 r2 c1 c2 k1 e1 f1 k2 e2 f2 says what
       kind_is = refl;
       step = step;
       hands =
-          hands_nothing kind q t regions r2.runs r2.cuts b c2 k2 e2 f2 says what none late fits over;
+          hands_nothing kind q t regions r2.copied r2.cuts b c2 k2 e2 f2 says what none late fits over;
     })
 
 -- a notice that begins so
@@ -142,7 +143,7 @@ begins_usual from kind q t regions b r c k e f says what none late fits over ste
   device = b.device;
   kind_is = refl;
   step = step;
-  hands = hands_nothing kind q t regions r.runs r.cuts b c k e f says what none late fits over;
+  hands = hands_nothing kind q t regions r.copied r.cuts b c k e f says what none late fits over;
   room = refl;
 }
 

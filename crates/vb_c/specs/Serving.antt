@@ -5,11 +5,8 @@ use Rattle.vb_core.specs.declared.kinds.Kind.{Kind}
 use Rattle.vb_core.specs.declared.held.Held.{Held}
 use Rattle.vb_core.specs.declared.device.Device.{Device}
 use Rattle.vb_core.specs.declared.device.Denial.TheVariants.{BadArgument, NoQueue}
-use Rattle.vb_core.specs.declared.pieces.ChainPiece.{ChainPiece}
-use Rattle.vb_core.specs.declared.runs.Run.{Run}
-use Rattle.vb_core.specs.declared.statistics.Statistic.{Statistic}
 use Rattle.vb_monitor.specs.declared.regions.Region.{Region}
-use Rattle.vb_monitor.specs.declared.cuts.Cut.{Cut}
+use Rattle.vb_monitor.specs.declared.{cuts.Cut.Cut, room.Room.Room}
 use Rattle.vb_monitor.specs.declared.orders.Asked.{Asked}
 use Rattle.vb_monitor.specs.declared.orders.Told.TheVariants.{Pages}
 use Rattle.vb_monitor.specs.declared.balloon.Balloon.{Balloon}
@@ -22,7 +19,7 @@ use Rattle.vb_monitor.specs.Giving.{is_kept, kept_pages}
 use Rattle.vb_monitor.specs.declared.outcome.HeldChain.{HeldChain}
 use Rattle.vb_monitor.specs.Balloons.{may_look, held_chain, held_after}
 use Rattle.vb_monitor.specs.Notices.{Serves, GivesHeldBack}
-use Rattle.vb_monitor.specs.Machine.{Fits, waits, Room, Ahead, Awaited, whole, room_of}
+use Rattle.vb_monitor.specs.Machine.{Fits, waits, Ahead, Awaited, whole}
 use Rattle.vb_monitor.specs.Machine.{outcome_at}
 use Rattle.vb_monitor.specs.Orders.{at_once, HasRoom, FillsList}
 use Rattle.vb_c.specs.declared.notice.VbNotice.{VbNotice}
@@ -38,9 +35,6 @@ held_by None kind b = b.held
 abbrev pub held_then : Notice → Balloon → Held
 held_then n b = held_by (outcome_at n.step.phase n.step.tally) n.kind b
 
-abbrev pub room_in : VbRoom → Room
-room_in r = room_of r.pieces r.bytes r.runs r.figures
-
 -- Nothing is done, with this code.
 pub record Refuses (code : ℕ) (b1 b2 : Balloon) (r1 r2 : VbRoom) (c : VbNotice) : Type 0 where
   pub ended : HasEnded c code
@@ -50,20 +44,17 @@ pub record Refuses (code : ℕ) (b1 b2 : Balloon) (r1 r2 : VbRoom) (c : VbNotice
 -- A notice is handed over, with all that is done before it waits: after that, whatever may still
 -- come then, all that could come may come. Parts are left to discard only where the list of those
 -- that are discarded now is full. With the pages that are told it says how many of them are kept.
-pub record HandsOver (n : Notice) (regions : List Region) (runs : List Run) (b1 b2 : Balloon)
+pub record HandsOver (n : Notice) (regions : List Region) (room : Room) (b1 b2 : Balloon)
     (cuts : List Cut) (c : VbNotice) : Type 0 where
   pub asked : Asked
   pub notice : Notice
   pub is : IsNotice c asked notice
   pub kind_is : notice.kind ≡ n.kind
-  pub step : (after : Device) (outcome : Outcome) (pieces : List ChainPiece) (bytes : List ℕ)
-      (figures : List Statistic) (rest : List Access) →
-      Ahead (whole regions n.kind after outcome) notice.step b2.device
-      (room_of pieces bytes runs figures) rest →
-      Ahead (whole regions n.kind after outcome) n.step b1.device
-      (room_of pieces bytes runs figures)
-      (at_once asked n.kind c.orders cuts runs figures rest)
-  pub room : HasRoom asked c.orders
+  pub step : (after : Device) (outcome : Outcome) (rest : List Access) →
+      Ahead (whole regions n.kind after outcome) notice.step b2.device room rest →
+      Ahead (whole regions n.kind after outcome) n.step b1.device room
+      (at_once asked n.kind c.orders cuts room.runs room.figures rest)
+  pub has_room : HasRoom asked c.orders
   pub kept : asked.told ≡ Pages → c.orders.kept ≡
       kept_pages (is_kept n.kind n.step.tally.keeps (keeps_reports b1.device)) c.orders.named.pages
   pub waits_now : waits notice.step.phase ≡ true
@@ -83,8 +74,8 @@ pub record Begins (from : Device → Outcome → List Access → Type 0) (region
   pub step : (after : Device) (outcome : Outcome) (room : Room) (log : List Access) →
       Ahead (whole regions kind after outcome) first.step device room log →
       from after outcome log
-  pub hands : HandsOver first regions r2.runs (with_device device b1) b2 r2.cuts c
-  pub room : room_in r2 ≡ room_in r1
+  pub hands : HandsOver first regions r2.copied (with_device device b1) b2 r2.cuts c
+  pub room : r2.copied ≡ r1.copied
 
 abbrev pub BeginsIf : Bool → List Region → Kind → Budget → Balloon → Balloon → VbRoom → VbRoom →
     VbNotice → Type 0
@@ -123,11 +114,11 @@ pub record GoesOn (n : Notice) (regions : List Region) (answer : ℕ) (b1 b2 : B
   pub device : Device
   pub kind_is : next.kind ≡ n.kind
   pub step : (after : Device) (outcome : Outcome) (before : List ℕ) (done rest : List Access) →
-      Awaited n.step.phase n.kind answer before (room_in r1) done →
-      Ahead (whole regions n.kind after outcome) next.step device (room_in r2) rest →
+      Awaited n.step.phase n.kind answer before r1.copied done →
+      Ahead (whole regions n.kind after outcome) next.step device r2.copied rest →
       Ahead (whole regions n.kind after outcome) n.step b1.device
-      (room_of r1.pieces before r1.runs r1.figures) (done ++ rest)
-  pub hands : HandsOver next regions r2.runs (with_device device b1) b2 r2.cuts c
+      (record r1.copied { bytes = before }) (done ++ rest)
+  pub hands : HandsOver next regions r2.copied (with_device device b1) b2 r2.cuts c
 
 -- What is no notice goes on by nothing.
 abbrev pub GoesOnBy : Option Notice → List Region → ℕ → Balloon → Balloon → VbRoom → VbRoom →

@@ -15,10 +15,10 @@ use crate::rules::{
     TOO_LONG, WRONG_DIRECTION,
 };
 use vb_chain::{ChainFault, DESCRIPTOR_SIZE};
-use vb_core::{ChainPiece, Denial, Run, Statistic};
+use vb_core::Denial;
 use vb_monitor::{
-    Cut, Discarding, HeldChain, MAX_BYTES, MAX_CUTS, MAX_FIGURES, MAX_PIECES, MAX_RUNS, Notice,
-    Orders, Phase, Place, Spot, Step, Tally, Walk,
+    Cut, Discarding, HeldChain, MAX_BYTES, MAX_CUTS, Notice, Orders, Phase, Place, Room, Spot,
+    Step, Tally, Walk,
 };
 
 /// The available index is read.
@@ -95,10 +95,9 @@ pub struct VbNotice {
 /// The room that a notice needs.
 #[repr(C)]
 pub struct VbRoom {
-    pub pieces: [ChainPiece; MAX_PIECES],
-    pub bytes: [u8; MAX_BYTES],
-    pub runs: [Run; MAX_RUNS],
-    pub figures: [Statistic; MAX_FIGURES],
+    /// For what is copied of a chain, and made of it.
+    pub copied: Room,
+    /// For the parts that are discarded at once.
     pub cuts: [Cut; MAX_CUTS],
 }
 

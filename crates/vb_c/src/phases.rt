@@ -35,7 +35,7 @@ fn go_copied(
         return go_part(notice, balloon, regions, room, kind, answer);
     }
     let place = notice.place();
-    if is_last(&place, &room.pieces) {
+    if is_last(&place, &room.copied.pieces) {
         return go_request(notice, balloon, regions, room, kind, answer);
     }
     go_part(notice, balloon, regions, room, kind, answer)

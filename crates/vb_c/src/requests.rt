@@ -18,10 +18,10 @@ ghost use Rattle.vb_c.specs.Serving.{HandsOver, GoesOnBy};
 use crate::notice::{VbNotice, VbRoom};
 use crate::serving::hand_over;
 use crate::showing::asked_bits;
-use vb_core::{Denial, Kind, Named, Run};
+use vb_core::{Denial, Kind, Named};
 use vb_monitor::{
-    Asked, Balloon, Cut, Discarding, MAX_CUTS, MAX_RUNS, Notice, Phase, Region, Step, Tally, Told,
-    end, fill_named, give_and_go, kept_pages, name_copied,
+    Asked, Balloon, Cut, Discarding, MAX_CUTS, Notice, Phase, Region, Room, Step, Tally, Told, end,
+    fill_named, first_runs, give_and_go, kept_pages, name_copied,
 };
 
 /// Hands over a chain whose pages were named, however it is served.
@@ -30,7 +30,7 @@ fn hand_named(
     shown: &mut VbNotice,
     balloon: &mut Balloon,
     regions: &[Region],
-    runs: &[Run; MAX_RUNS],
+    room: &Room,
     cuts: &mut [Cut; MAX_CUTS],
     kind: Kind,
     head: u16,
@@ -38,7 +38,7 @@ fn hand_named(
 ) -> u32
     requires { named.runs ≤ MAX_RUNS }
     ensures hands { HandsOver (telling_pages kind (tally_of shown.old) head named) regions.now
-        runs.now balloon.old balloon.new cuts.new shown.new }
+        room.now balloon.old balloon.new cuts.new shown.new }
     ensures what { result ≡ shown.new.what }
 {
     let mut notice = Notice {
@@ -48,7 +48,7 @@ fn hand_named(
             phase: Phase::TellsPages { head, named },
         },
     };
-    hand_over(shown, balloon, regions, runs, cuts, &mut notice)
+    hand_over(shown, balloon, regions, room, cuts, &mut notice)
 }
 
 /// Hands over a chain whose pages were named, of a queue that is served, once all parts of its runs
@@ -58,7 +58,7 @@ fn give_named(
     shown: &mut VbNotice,
     balloon: &mut Balloon,
     regions: &[Region],
-    runs: &[Run; MAX_RUNS],
+    room: &Room,
     cuts: &mut [Cut; MAX_CUTS],
     kind: Kind,
     head: u16,
@@ -70,11 +70,11 @@ fn give_named(
     requires ready { queue_denial kind balloon.old.device ≡ None }
     requires room { count ≤ MAX_CUTS }
     requires parts { cuts_for kind (is_kept kind (tally_of shown.old).keeps
-        (keeps_reports balloon.old.device)) regions.now (take named.runs runs.now) ≡
+        (keeps_reports balloon.old.device)) regions.now (take named.runs room.now.runs) ≡
         take count cuts.old }
     requires unheld { shown.old.taken ≡ 0 }
     ensures hands { HandsOver (telling_pages kind (tally_of shown.old) head named) regions.now
-        runs.now balloon.old balloon.new cuts.new shown.new }
+        room.now balloon.old balloon.new cuts.new shown.new }
     ensures what { result ≡ shown.new.what }
 {
     let kept = kept_pages(&balloon.device, kind, shown.keeps != 0, named.pages);
@@ -90,7 +90,7 @@ fn give_named(
         head,
         &mut shown.orders.used,
     ) {
-        None => hand_named(shown, balloon, regions, runs, cuts, kind, head, named),
+        None => hand_named(shown, balloon, regions, room, cuts, kind, head, named),
         Some(word) => {
             let asked = Asked {
                 told: Told::Pages,
@@ -111,7 +111,7 @@ fn serve_named(
     shown: &mut VbNotice,
     balloon: &mut Balloon,
     regions: &[Region],
-    runs: &[Run; MAX_RUNS],
+    room: &Room,
     cuts: &mut [Cut; MAX_CUTS],
     kind: Kind,
     head: u16,
@@ -121,11 +121,11 @@ fn serve_named(
     requires few { named.runs ≤ MAX_RUNS }
     requires ready { queue_denial kind balloon.old.device ≡ None }
     ensures hands { HandsOver (telling_pages kind (tally_of shown.old) head named) regions.now
-        runs.now balloon.old balloon.new cuts.new shown.new }
+        room.now balloon.old balloon.new cuts.new shown.new }
     ensures what { result ≡ shown.new.what }
 {
     if shown.taken != 0 {
-        return hand_named(shown, balloon, regions, runs, cuts, kind, head, named);
+        return hand_named(shown, balloon, regions, room, cuts, kind, head, named);
     }
     let keeps = shown.keeps != 0;
     let filled = fill_named(
@@ -133,8 +133,7 @@ fn serve_named(
         regions,
         kind,
         keeps,
-        runs,
-        named.runs,
+        first_runs(&room.runs, named.runs as usize),
         cuts,
     );
     match filled.left {
@@ -142,7 +141,7 @@ fn serve_named(
             shown,
             balloon,
             regions,
-            runs,
+            room,
             cuts,
             kind,
             head,
@@ -176,7 +175,7 @@ fn hand_pages(
     shown: &mut VbNotice,
     balloon: &mut Balloon,
     regions: &[Region],
-    runs: &[Run; MAX_RUNS],
+    room: &Room,
     cuts: &mut [Cut; MAX_CUTS],
     kind: Kind,
     tally: Tally,
@@ -185,14 +184,14 @@ fn hand_pages(
 ) -> u32
     requires kind { kind_of_code shown.old.kind ≡ Some kind }
     requires few { named.runs ≤ MAX_RUNS }
-    ensures hands { HandsOver (telling_pages kind tally head named) regions.now runs.now
+    ensures hands { HandsOver (telling_pages kind tally head named) regions.now room.now
         balloon.old balloon.new cuts.new shown.new }
     ensures what { result ≡ shown.new.what }
 {
     shown.show_tally(tally);
     match balloon.device.queue_denial(kind) {
-        Some(_) => hand_named(shown, balloon, regions, runs, cuts, kind, head, named),
-        None => serve_named(shown, balloon, regions, runs, cuts, kind, head, named),
+        Some(_) => hand_named(shown, balloon, regions, room, cuts, kind, head, named),
+        None => serve_named(shown, balloon, regions, room, cuts, kind, head, named),
     }
 }
 
@@ -201,20 +200,20 @@ pub(crate) fn hand_step(
     shown: &mut VbNotice,
     balloon: &mut Balloon,
     regions: &[Region],
-    runs: &[Run; MAX_RUNS],
+    room: &Room,
     cuts: &mut [Cut; MAX_CUTS],
     notice: &mut Notice,
 ) -> u32
     requires fits { Fits notice.old.step.phase }
     requires kind { kind_of_code shown.old.kind ≡ Some notice.old.kind }
-    ensures hands { HandsOver notice.old regions.now runs.now balloon.old balloon.new cuts.new
+    ensures hands { HandsOver notice.old regions.now room.now balloon.old balloon.new cuts.new
         shown.new }
     ensures what { result ≡ shown.new.what }
 {
     let Notice { kind, step } = *notice;
     match step.phase {
         Phase::TellsPages { head, named } => hand_pages(
-            shown, balloon, regions, runs, cuts, kind, step.tally, head, named,
+            shown, balloon, regions, room, cuts, kind, step.tally, head, named,
         ),
         Phase::TellsFigures { .. }
         | Phase::Discards { .. }
@@ -224,7 +223,7 @@ pub(crate) fn hand_step(
         | Phase::AwaitsDescriptor { .. }
         | Phase::AwaitsPart { .. }
         | Phase::AwaitsFlags { .. }
-        | Phase::Ended { .. } => hand_over(shown, balloon, regions, runs, cuts, notice),
+        | Phase::Ended { .. } => hand_over(shown, balloon, regions, room, cuts, notice),
     }
 }
 
@@ -234,19 +233,19 @@ fn hand_denied(
     shown: &mut VbNotice,
     balloon: &mut Balloon,
     regions: &[Region],
-    runs: &[Run; MAX_RUNS],
+    room: &Room,
     cuts: &mut [Cut; MAX_CUTS],
     kind: Kind,
     why: Denial,
 ) -> u32
-    ensures denies { Denies why kind (tally_of shown.old) regions.now runs.now balloon.old
+    ensures denies { Denies why kind (tally_of shown.old) regions.now room.now balloon.old
         balloon.new cuts.new shown.new }
     ensures what { result ≡ shown.new.what }
 {
     let tally = shown.tally();
     let step = end(&balloon.device, regions, kind, tally, Some(why), false);
     let mut next = Notice { kind, step };
-    hand_over(shown, balloon, regions, runs, cuts, &mut next)
+    hand_over(shown, balloon, regions, room, cuts, &mut next)
 }
 
 /// All bytes of a request were copied: its pages are named and served, or it breaks a rule.
@@ -262,7 +261,7 @@ pub(crate) fn go_request(
     requires phase { notice.old.phase ≡ 4 }
     requires fits { notice.old.into + notice.old.length ≤ MAX_BYTES }
     requires request { is_request kind ≡ true }
-    requires last { is_last (place_of notice.old) room.old.pieces ≡ true }
+    requires last { is_last (place_of notice.old) room.old.copied.pieces ≡ true }
     ensures goes { GoesOnBy (notice_of notice.old) regions.now answer balloon.old balloon.new
         room.old room.new notice.new }
     ensures what { result ≡ notice.new.what }
@@ -272,15 +271,15 @@ pub(crate) fn go_request(
     match name_copied(
         &mut balloon.device,
         kind,
-        &room.bytes,
+        &room.copied.bytes,
         count,
-        &mut room.runs,
+        &mut room.copied.runs,
     ) {
         Err(why) => hand_denied(
             notice,
             balloon,
             regions,
-            &room.runs,
+            &room.copied,
             &mut room.cuts,
             kind,
             why,
@@ -291,7 +290,7 @@ pub(crate) fn go_request(
                 notice,
                 balloon,
                 regions,
-                &room.runs,
+                &room.copied,
                 &mut room.cuts,
                 kind,
                 head,

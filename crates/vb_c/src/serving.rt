@@ -12,9 +12,9 @@ use crate::answers::{BAD_ARGUMENT, NO_QUEUE, NOTHING, kind_of_code};
 use crate::notice::{VbNotice, VbRoom};
 use crate::requests::hand_step;
 use crate::usual::begin_usually;
-use vb_core::{Kind, Run};
+use vb_core::Kind;
 use vb_monitor::{
-    Balloon, Budget, Cut, MAX_CUTS, MAX_RUNS, Notice, Region, after_descriptor, after_part,
+    Balloon, Budget, Cut, MAX_CUTS, Notice, Region, Room, after_descriptor, after_part,
 };
 
 /// Hands a notice over, with all that is to be done before it waits; what it came to is noted, once
@@ -23,16 +23,16 @@ pub(crate) fn hand_over(
     shown: &mut VbNotice,
     balloon: &mut Balloon,
     regions: &[Region],
-    runs: &[Run; MAX_RUNS],
+    room: &Room,
     cuts: &mut [Cut; MAX_CUTS],
     notice: &mut Notice,
 ) -> u32
     requires { Fits notice.old.step.phase }
-    ensures hands { HandsOver notice.old regions.now runs.now balloon.old balloon.new cuts.new
+    ensures hands { HandsOver notice.old regions.now room.now balloon.old balloon.new cuts.new
         shown.new }
     ensures what { result ≡ shown.new.what }
 {
-    let asked = notice.at_once(&mut balloon.device, regions, runs, cuts, &mut shown.orders);
+    let asked = notice.at_once(&mut balloon.device, regions, room, cuts, &mut shown.orders);
     if let Some(outcome) = notice.outcome() {
         balloon.note(notice.kind, &outcome);
     }
@@ -69,7 +69,7 @@ fn begin_anyhow(
         notice,
         balloon,
         regions,
-        &room.runs,
+        &room.copied,
         &mut room.cuts,
         &mut begun,
     )
@@ -134,7 +134,7 @@ pub extern "C" fn vb_give_held(
                     notice,
                     balloon,
                     regions,
-                    &room.runs,
+                    &room.copied,
                     &mut room.cuts,
                     &mut begun,
                 )
@@ -159,20 +159,12 @@ pub(crate) fn go_anyhow(
     match notice.read() {
         None => refuse(notice, BAD_ARGUMENT),
         Some(mut read) => {
-            read.go_on(
-                &mut balloon.device,
-                regions,
-                answer,
-                &mut room.pieces,
-                &room.bytes,
-                &mut room.runs,
-                &mut room.figures,
-            );
+            read.go_on(&mut balloon.device, regions, answer, &mut room.copied);
             hand_over(
                 notice,
                 balloon,
                 regions,
-                &room.runs,
+                &room.copied,
                 &mut room.cuts,
                 &mut read,
             )
@@ -201,17 +193,14 @@ pub(crate) fn go_chain(
         kind,
         notice.tally(),
         notice.walk(),
-        &mut room.pieces,
-        &room.bytes,
-        &mut room.runs,
-        &mut room.figures,
+        &mut room.copied,
     );
     let mut next = Notice { kind, step };
     hand_step(
         notice,
         balloon,
         regions,
-        &room.runs,
+        &room.copied,
         &mut room.cuts,
         &mut next,
     )
@@ -239,17 +228,14 @@ pub(crate) fn go_part(
         kind,
         notice.tally(),
         notice.place(),
-        &room.pieces,
-        &room.bytes,
-        &mut room.runs,
-        &mut room.figures,
+        &mut room.copied,
     );
     let mut next = Notice { kind, step };
     hand_step(
         notice,
         balloon,
         regions,
-        &room.runs,
+        &room.copied,
         &mut room.cuts,
         &mut next,
     )

@@ -159,8 +159,7 @@ impl Usual for Single {
             regions,
             kind,
             notice.walk(),
-            &mut room.pieces,
-            &room.bytes,
+            &mut room.copied,
         ) {
             None => false,
             Some(first) => {

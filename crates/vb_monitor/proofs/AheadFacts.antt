@@ -1,4 +1,6 @@
 -- What may still come where a notice waits for an answer of memory, worked out.
+use Rattle.vb_monitor.proofs.Samples.{room_of}
+use Rattle.vb_monitor.specs.declared.room.Room.{Room}
 use Rattle.std.proofs.Common.{refl, ap, arith, ℕ, Bool, true, false, List, [], ◌∷◌, ◌++◌, length, Option, Some, None}
 use Rattle.vb_chain.specs.declared.fault.ChainFault.{ChainFault}
 use Rattle.vb_chain.specs.declared.fault.ChainFault.TheVariants.{BadHead, OutOfRam, TooLong, WrongDirection}
@@ -12,7 +14,7 @@ use Rattle.vb_monitor.specs.declared.outcome.{Tally.Tally, Outcome.Outcome}
 use Rattle.vb_monitor.specs.declared.step.{Walk.Walk, Place.Place}
 use Rattle.vb_monitor.specs.declared.step.Phase.TheVariants.{AwaitsIndex, AwaitsEntry, AwaitsDescriptor, AwaitsPart}
 use Rattle.vb_monitor.specs.Accesses.{Access, ReadWord, CopyBytes, Acquire, Full}
-use Rattle.vb_monitor.specs.{Ends.Whole, Machine.{Room, room_of, whole, AheadAt}}
+use Rattle.vb_monitor.specs.{Ends.Whole, Machine.{whole, AheadAt}}
 use Rattle.vb_monitor.proofs.Samples.{Same, two, at, ready, tally}
 use Rattle.vb_monitor.proofs.Samples.{naming, last_descriptor}
 

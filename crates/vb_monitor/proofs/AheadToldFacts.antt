@@ -1,5 +1,7 @@
 -- What may still come where something is told, discarded or given back, and where a notice ends,
 -- worked out.
+use Rattle.vb_monitor.proofs.Samples.{room_of}
+use Rattle.vb_monitor.specs.declared.room.Room.{Room}
 use Rattle.std.proofs.Common.{refl, ap, arith, ℕ, Bool, true, false, List, [], ◌∷◌, length, Some, None}
 use Rattle.vb_chain.specs.declared.fault.ChainFault.TheVariants.{BadHead}
 use Rattle.vb_core.specs.declared.kinds.Kind.TheVariants.{Inflate, Deflate, Statistics}
@@ -11,7 +13,7 @@ use Rattle.vb_monitor.specs.declared.step.{Discarding.Discarding, Phase.Phase}
 use Rattle.vb_monitor.specs.declared.step.Phase.TheVariants.{AwaitsIndex, TellsPages, TellsFigures, Discards, GivesBack, AwaitsFlags, Ended}
 use Rattle.vb_monitor.specs.declared.giving.UsedSpots.{UsedSpots}
 use Rattle.vb_monitor.specs.Accesses.{Access, ReadWord, Acquire, Release, Full, TellPages, TellFigures, Discard}
-use Rattle.vb_monitor.specs.{Ends.Whole, Giving.{after_use, with_given}, Machine.{Room, room_of, AheadAt, Ahead, AwaitedBy, Awaited}}
+use Rattle.vb_monitor.specs.{Ends.Whole, Giving.{after_use, with_given}, Machine.{AheadAt, Ahead, AwaitedBy, Awaited}}
 use Rattle.vb_monitor.proofs.Samples.{Same, at, ring, ready, tally, page_5, over_the_hole, cut_5, cut_20, cut_22, one_page, two}
 use Rattle.vb_monitor.proofs.Samples.{flags_are_read, chain_of, index, discard, id, used_length, used_index, flags, given}
 use Rattle.vb_monitor.proofs.AheadFacts.{over, ends, empty, publishing, word_at}

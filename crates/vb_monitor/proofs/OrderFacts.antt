@@ -1,4 +1,5 @@
 -- What is done at once, worked out, and what isn't.
+use Rattle.vb_monitor.specs.declared.room.Room.{Room}
 use Rattle.std.proofs.Common.{◌≡◌, ◌≤◌, refl, arith, ℕ, true, false, List, [], ◌∷◌}
 use Rattle.vb_core.specs.declared.kinds.Kind.TheVariants.{Inflate, Statistics}
 use Rattle.vb_core.{specs.declared.runs.Run.Run, specs.declared.statistics.Statistic.Statistic}
@@ -6,7 +7,7 @@ use Rattle.vb_monitor.specs.Accesses.{Access, ReadWord, Acquire, TellPages, Tell
 use Rattle.vb_monitor.specs.{Accesses.{WriteNumber, WriteWord, Release}, declared.regions.Spot.Spot}
 use Rattle.vb_monitor.specs.declared.{cuts.Cut.Cut, orders.Told.TheVariants.{Nothing, Pages}}
 use Rattle.vb_monitor.specs.declared.orders.{Told.TheVariants.Figures, Asked.Asked, Orders.Orders}
-use Rattle.vb_monitor.specs.{declared.step.Phase.Phase, Machine.{Awaited, Room, waits}}
+use Rattle.vb_monitor.specs.{declared.step.Phase.Phase, Machine.{Awaited, waits}}
 use Rattle.vb_monitor.specs.declared.step.Phase.TheVariants.{AwaitsIndex, Discards}
 use Rattle.vb_monitor.specs.Orders.{at_once, HasRoom, FillsList}
 

@@ -6,7 +6,9 @@ use Rattle.vb_core.{specs.declared.kinds.Kind.{Kind, TheVariants.Inflate}, specs
 use Rattle.vb_core.{specs.declared.ring.Virtqueue.Virtqueue, specs.declared.name.Named.Named}
 use Rattle.vb_core.{specs.declared.settings.Settings.Settings}
 use Rattle.vb_core.{specs.declared.device.Device.Device, specs.Devices.{new_device, placed, with_ring}}
-use Rattle.vb_core.specs.declared.held.Held.{Held}
+use Rattle.vb_core.specs.declared.{held.Held.Held, pieces.ChainPiece.ChainPiece}
+use Rattle.vb_core.specs.declared.statistics.Statistic.{Statistic}
+use Rattle.vb_monitor.specs.declared.room.Room.{Room}
 use Rattle.vb_monitor.specs.declared.outcome.HeldChain.{HeldChain}
 use Rattle.vb_monitor.specs.Accesses.{Access, ReadWord, CopyBytes, TellPages, TellFigures, Discard}
 use Rattle.vb_monitor.specs.Accesses.{Full, Release}
@@ -18,6 +20,12 @@ use Rattle.vb_monitor.specs.Ends.{Whole, AsksFlags}
 
 abbrev pub Same : ℕ → ℕ → Type 0
 Same a b = a ≡ b
+
+-- ---- the room for what is copied
+
+abbrev pub room_of : List ChainPiece → List ℕ → List Run → List Statistic → Room
+room_of pieces bytes runs figures =
+    record { pieces = pieces; bytes = bytes; runs = runs; figures = figures }
 
 -- ---- memory
 

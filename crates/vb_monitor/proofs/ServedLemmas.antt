@@ -1,4 +1,5 @@
 -- What is done at once of a chain whose pages were named.
+use Rattle.vb_monitor.specs.declared.room.Room.{Room}
 use Rattle.std.proofs.Common.{◌≡◌, ◌∙◌, ap, sym, subst, refl, ℕ, ◌+◌, ◌<◌, Bool, true, false, List}
 use Rattle.std.proofs.Common.{arith, [], ◌∷◌, ◌++◌, length, Option, Some, None, Result, Ok, Err}
 use Rattle.std.specs.Prelude.{is_some, nat_lt, nat_le, ◌&&◌, ◌/◌, ◌-◌, if◌then◌else◌, drop, get_or}
@@ -20,7 +21,7 @@ use Rattle.vb_monitor.specs.{Accesses.Access, Regions.spot, Ends.Whole, Pieces.C
 use Rattle.vb_monitor.specs.Giving.{Then, used_spots, used_accesses, UsedAt, GivesBack, GivesBackBy}
 use Rattle.vb_monitor.specs.{Giving.{with_given, after_use, AfterName, three_spots, TellsThen, held_if, spent}, Orders.giving}
 use Rattle.vb_monitor.specs.{Chains.{NamesBytes, AfterBytes}, Machine.{next_chain, served}}
-use Rattle.vb_monitor.specs.{Machine.{AheadAt, Room}, Notices.{stands, ServesPublished, AfterGivenBy}}
+use Rattle.vb_monitor.specs.{Machine.AheadAt, Notices.{stands, ServesPublished, AfterGivenBy}}
 use Rattle.vb_monitor.specs.{Served.none_left, declared.usual.NextWord.NextWord}
 use Rattle.vb_monitor.specs.declared.outcome.HeldChain.{HeldChain}
 use Rattle.vb_monitor.specs.Usual.{word_by, word_place, phase_at, tally_at}

@@ -1,4 +1,5 @@
 -- Accesses that follow accesses.
+use Rattle.vb_monitor.specs.declared.room.Room.{Room}
 use Rattle.std.proofs.Common.{◌≡◌, sym, subst, refl, arith, ℕ, List, [], ◌∷◌, ◌++◌, Some}
 use Rattle.std.proofs.lemmas.List.{append_assoc, append-nil}
 use Rattle.vb_core.{specs.declared.kinds.Kind.Kind, specs.declared.device.Device.Device}
@@ -9,7 +10,7 @@ use Rattle.vb_monitor.{specs.declared.outcome.Outcome.Outcome, specs.declared.ou
 use Rattle.vb_monitor.{specs.Accesses.{Access, Steps, Makes}, specs.declared.regions.Region.Region}
 use Rattle.vb_monitor.{specs.declared.step.Step.Step, specs.declared.step.Phase.Phase}
 use Rattle.vb_monitor.specs.declared.step.Phase.TheVariants.{GivesBack, AwaitsFlags, Ended}
-use Rattle.vb_monitor.specs.Machine.{GoesOn, Room, Ahead, AheadAt, Does, whole, outcome_at}
+use Rattle.vb_monitor.specs.Machine.{GoesOn, Ahead, AheadAt, Does, whole, outcome_at}
 
 pub steps_append : {S : Type 0} (goes : S → Access → S → Type 0) (a b c : S)
     (xs ys : List Access) → Steps goes a xs b → Steps goes b ys c → Steps goes a (xs ++ ys) c

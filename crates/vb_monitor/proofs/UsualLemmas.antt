@@ -1,4 +1,5 @@
 -- A chain's first descriptor, and the word that is read next.
+use Rattle.vb_monitor.specs.declared.room.Room.{Room}
 use Rattle.vb_core.{proofs.PieceLemmas.none_in, specs.Pieces.pieces_in, specs.Devices.ring_of}
 use Rattle.vb_core.specs.declared.device.Device.{Device}
 use Rattle.std.proofs.Common.{◌≡◌, sym, subst, ℕ, ◌+◌, ◌-◌, ◌<◌, ◌*◌, Bool, true, false}
@@ -7,7 +8,7 @@ use Rattle.std.specs.Prelude.{◌==◌, ◌||◌, if◌then◌else◌, option_ma
 use Rattle.vb_monitor.{specs.declared.regions.Spot.Spot, specs.Machine.{next_chain, serves}}
 use Rattle.vb_monitor.{specs.declared.outcome.Tally.Tally, specs.Notices.AfterEntry}
 use Rattle.vb_monitor.{specs.Accesses.Access, specs.Regions.spot}
-use Rattle.vb_monitor.specs.{Ends.{Whole, EndsWhere, FlagsAt}, Machine.{AheadAt, Room}}
+use Rattle.vb_monitor.specs.{Ends.{Whole, EndsWhere, FlagsAt}, Machine.AheadAt}
 use Rattle.vb_monitor.specs.Notices.{EntryAt, entry_offset, stands, AfterIndex, TakesNext}
 use Rattle.vb_monitor.specs.{Notices.{with_chains, ServesPublished}, declared.usual.NextWord.NextWord}
 use Rattle.vb_monitor.specs.declared.usual.NextWord.TheVariants.{Entry, Flags}

@@ -6,11 +6,10 @@ use Rattle.vb_chain.specs.declared.descriptor.TheConstants.{DESCRIPTOR_SIZE}
 use Rattle.vb_chain.specs.declared.pieces.Piece.{Piece}
 use Rattle.vb_core.specs.declared.kinds.Kind.{Kind}
 use Rattle.vb_core.specs.declared.runs.Run.{Run}
-use Rattle.vb_core.specs.declared.pieces.ChainPiece.{ChainPiece}
-use Rattle.vb_core.specs.declared.statistics.Statistic.{Statistic}
 use Rattle.vb_core.specs.declared.device.Device.{Device}
 use Rattle.vb_core.specs.Devices.{ring_of}
 use Rattle.vb_monitor.specs.declared.room.TheConstants.{MAX_BYTES, MAX_RUNS, MAX_FIGURES}
+use Rattle.vb_monitor.specs.declared.room.Room.{Room}
 use Rattle.vb_monitor.specs.declared.regions.Region.{Region}
 use Rattle.vb_monitor.specs.declared.cuts.Cut.{Cut}
 use Rattle.vb_monitor.specs.declared.parts.Part.{Part}
@@ -38,20 +37,9 @@ use Rattle.vb_monitor.specs.Chains.{descriptors, TableRow, row_of, AsksRow, Foll
 use Rattle.vb_monitor.specs.Chains.{AfterBytes, TellsThenEnds}
 use Rattle.vb_monitor.specs.Notices.{AsksIndex, AsksEntry, ServesPublished, AfterGiven}
 
--- What is in the room that a notice has.
-pub record Room : Type 0 where
-  pub pieces : List ChainPiece
-  pub bytes : List ℕ
-  pub runs : List Run
-  pub figures : List Statistic
-
 abbrev pub whole : List Region → Kind → Device → Outcome → Whole
 whole regions kind after outcome =
     record { regions = regions; kind = kind; device = after; outcome = outcome }
-
-abbrev pub room_of : List ChainPiece → List ℕ → List Run → List Statistic → Room
-room_of pieces bytes runs figures =
-    record { pieces = pieces; bytes = bytes; runs = runs; figures = figures }
 
 -- How many bytes are copied of the row that a walk waits for, 16 for each descriptor.
 abbrev pub row_bytes : Walk → ℕ

@@ -23,7 +23,7 @@ abbrev pub none_left : List Part → Bool
 none_left [] = true
 none_left (part ∷ parts) = false
 
--- No byte of a chain's pieces is left to be copied behind this part of them.
+-- No byte of a chain's pieces is left to be copied after this part of them.
 abbrev pub is_last : Place → List ChainPiece → Bool
 is_last place pieces =
     none_left (behind_part place.is_second place.piece (pieces_in (take place.count pieces)))

@@ -1,15 +1,14 @@
 //! The copies of a chain's pieces, part by part.
 
 ghost use Rattle.std.specs.Prelude.{◌≡◌, ◌+◌, ◌<◌, ◌≤◌, ℕ, false, List, length, take, drop};
-ghost use Rattle.vb_core.specs.declared.runs.Run.{Run};
-ghost use Rattle.vb_core.specs.declared.statistics.Statistic.{Statistic};
 ghost use Rattle.vb_core.specs.declared.device.Device.{Device};
 ghost use Rattle.vb_monitor.specs.declared.outcome.Outcome.{Outcome};
+ghost use Rattle.vb_monitor.specs.declared.room.Room.{Room};
 ghost use Rattle.vb_monitor.specs.Accesses.{Access};
 ghost use Rattle.vb_monitor.specs.declared.room.TheConstants.{MAX_BYTES};
 ghost use Rattle.vb_monitor.specs.Pieces.{PartBy, fits_behind, CopiesParts, all_parts};
 ghost use Rattle.vb_core.specs.Pieces.{pieces_in};
-ghost use Rattle.vb_monitor.specs.Machine.{Fits, Room, Ahead, whole, room_of, served, behind_part};
+ghost use Rattle.vb_monitor.specs.Machine.{Fits, Ahead, whole, served, behind_part};
 ghost use Rattle.vb_monitor.specs.Left.{left, of_chains, once_named};
 ghost use Rattle.vb_virtio.specs.declared.limits.TheConstants.{MAX_QUEUE_SIZE};
 ghost use Rattle.vb_virtio.specs.Tests.{one_if};
@@ -20,10 +19,10 @@ use crate::naming::serve_bytes;
 use crate::parts::{NextPart, next_part, second_part};
 use crate::pieces::first_pieces;
 use crate::regions::find_from;
-use crate::room::{MAX_BYTES, MAX_FIGURES, MAX_PIECES, MAX_RUNS};
-use crate::{Part, Phase, Place, Region, Step, Tally};
+use crate::room::MAX_BYTES;
+use crate::{Part, Phase, Place, Region, Room, Step, Tally};
 use vb_chain::ChainFault;
-use vb_core::{ChainPiece, Device, Kind, Run, Statistic};
+use vb_core::{Device, Kind};
 
 /// Asks for a part of a piece.
 #[inline(always)]
@@ -91,30 +90,21 @@ pub(crate) fn copy_on(
     kind: Kind,
     tally: Tally,
     place: Place,
-    pieces: &[ChainPiece; MAX_PIECES],
-    bytes: &[u8; MAX_BYTES],
-    runs: &mut [Run; MAX_RUNS],
-    figures: &mut [Statistic; MAX_FIGURES],
+    room: &mut Room,
 ) -> Step
     ensures step { (after : Device) (outcome : Outcome) (log : List Access) →
-        Ahead (whole regions.now kind after outcome) result device.new
-        (room_of pieces.now bytes.now runs.new figures.new) log →
+        Ahead (whole regions.now kind after outcome) result device.new room.new log →
         CopiesParts (whole regions.now kind after outcome)
         (served (whole regions.now kind after outcome) tally device.old place.head) device.old tally
-        (all_parts (drop place.piece (pieces_in (take place.count pieces.now))))
-        (take place.into bytes.now) log }
+        (all_parts (drop place.piece (pieces_in (take place.count room.old.pieces))))
+        (take place.into room.old.bytes) log }
     ensures fits { Fits result.phase }
     ensures left { left regions.now result ≤
         of_chains regions.now tally.chains
         + (once_named regions.now + 1 + (2 * MAX_QUEUE_SIZE - 2 * place.piece)) }
 {
-    match next_part(first_pieces(pieces, place.count), place.piece) {
-        None => {
-            let copied = first_bytes(bytes, place.into);
-            serve_bytes(
-                device, regions, kind, tally, place.head, copied, runs, figures,
-            )
-        }
+    match next_part(first_pieces(&room.pieces, place.count), place.piece) {
+        None => serve_bytes(device, regions, kind, tally, place, room),
         Some(found) => {
             let place = Place {
                 piece: found.piece,
@@ -134,25 +124,21 @@ fn copy_second(
     kind: Kind,
     tally: Tally,
     place: Place,
-    pieces: &[ChainPiece; MAX_PIECES],
-    bytes: &[u8; MAX_BYTES],
-    runs: &mut [Run; MAX_RUNS],
-    figures: &mut [Statistic; MAX_FIGURES],
+    room: &mut Room,
 ) -> Step
-    requires { place.piece < length (take place.count pieces.now) }
+    requires { place.piece < length (take place.count room.old.pieces) }
     ensures step { (after : Device) (outcome : Outcome) (log : List Access) →
-        Ahead (whole regions.now kind after outcome) result device.new
-        (room_of pieces.now bytes.now runs.new figures.new) log →
+        Ahead (whole regions.now kind after outcome) result device.new room.new log →
         CopiesParts (whole regions.now kind after outcome)
         (served (whole regions.now kind after outcome) tally device.old place.head) device.old tally
-        (behind_part false place.piece (pieces_in (take place.count pieces.now)))
-        (take place.into bytes.now) log }
+        (behind_part false place.piece (pieces_in (take place.count room.old.pieces)))
+        (take place.into room.old.bytes) log }
     ensures fits { Fits result.phase }
     ensures left { left regions.now result ≤
         of_chains regions.now tally.chains
         + (once_named regions.now + (2 * MAX_QUEUE_SIZE - 2 * place.piece)) }
 {
-    let part = second_part(&first_pieces(pieces, place.count)[place.piece]);
+    let part = second_part(&first_pieces(&room.pieces, place.count)[place.piece]);
     if part.length > 0 {
         let next = Place {
             is_second: true,
@@ -164,9 +150,7 @@ fn copy_second(
         piece: place.piece + 1,
         ..place
     };
-    copy_on(
-        device, regions, kind, tally, next, pieces, bytes, runs, figures,
-    )
+    copy_on(device, regions, kind, tally, next, room)
 }
 
 /// A part was copied after the others.
@@ -177,44 +161,34 @@ pub fn after_part(
     kind: Kind,
     tally: Tally,
     place: Place,
-    pieces: &[ChainPiece; MAX_PIECES],
-    bytes: &[u8; MAX_BYTES],
-    runs: &mut [Run; MAX_RUNS],
-    figures: &mut [Statistic; MAX_FIGURES],
+    room: &mut Room,
 ) -> Step
     requires { place.into + place.length ≤ MAX_BYTES }
     ensures step { (after : Device) (outcome : Outcome) (log : List Access) →
-        Ahead (whole regions.now kind after outcome) result device.new
-        (room_of pieces.now bytes.now runs.new figures.new) log →
+        Ahead (whole regions.now kind after outcome) result device.new room.new log →
         CopiesParts (whole regions.now kind after outcome)
         (served (whole regions.now kind after outcome) tally device.old place.head) device.old tally
-        (behind_part place.is_second place.piece (pieces_in (take place.count pieces.now)))
-        (take (place.into + place.length) bytes.now) log }
+        (behind_part place.is_second place.piece (pieces_in (take place.count room.old.pieces)))
+        (take (place.into + place.length) room.old.bytes) log }
     ensures fits { Fits result.phase }
     ensures left { left regions.now result ≤
         of_chains regions.now tally.chains
         + (once_named regions.now + (2 * MAX_QUEUE_SIZE - (2 * place.piece + one_if
         place.is_second))) }
 {
-    let into = place.into + place.length as usize;
-    if place.piece >= first_pieces(pieces, place.count).len() {
-        let copied = first_bytes(bytes, into);
-        return serve_bytes(
-            device, regions, kind, tally, place.head, copied, runs, figures,
-        );
+    let place = Place {
+        into: place.into + place.length as usize,
+        ..place
+    };
+    if place.piece >= first_pieces(&room.pieces, place.count).len() {
+        return serve_bytes(device, regions, kind, tally, place, room);
     }
     if place.is_second {
         let next = Place {
             piece: place.piece + 1,
-            into,
             ..place
         };
-        return copy_on(
-            device, regions, kind, tally, next, pieces, bytes, runs, figures,
-        );
+        return copy_on(device, regions, kind, tally, next, room);
     }
-    let next = Place { into, ..place };
-    copy_second(
-        device, regions, kind, tally, next, pieces, bytes, runs, figures,
-    )
+    copy_second(device, regions, kind, tally, place, room)
 }

@@ -1,29 +1,28 @@
 //! The discards of a chain's runs, part by part.
 
-ghost use Rattle.std.specs.Prelude.{◌≡◌, ◌≤◌, ℕ, true, false, List, [], take, drop};
-ghost use Rattle.vb_core.specs.declared.pieces.ChainPiece.{ChainPiece};
+ghost use Rattle.std.specs.Prelude.{◌≡◌, ◌≤◌, true, false, List, [], take, drop};
 ghost use Rattle.vb_core.specs.declared.runs.Run.{Run};
-ghost use Rattle.vb_core.specs.declared.statistics.Statistic.{Statistic};
 ghost use Rattle.vb_core.specs.declared.device.Device.{Device};
 ghost use Rattle.vb_monitor.specs.declared.outcome.Outcome.{Outcome};
+ghost use Rattle.vb_monitor.specs.declared.step.Phase.TheVariants.{Discards};
 ghost use Rattle.vb_monitor.specs.Accesses.{Access};
 ghost use Rattle.vb_monitor.specs.Regions.{cuts_of};
 ghost use Rattle.vb_core.specs.Config.{keeps_reports};
 ghost use Rattle.vb_monitor.specs.declared.regions.Region.{Region};
 ghost use Rattle.vb_monitor.specs.Giving.{cuts_for, is_kept, kept_pages, DiscardsThen, OnceTold};
 ghost use Rattle.vb_monitor.specs.Served.{is_discarded};
-ghost use Rattle.vb_monitor.specs.Machine.{Fits, stage, Ahead, whole, room_of, next_chain};
+ghost use Rattle.vb_monitor.specs.Machine.{Fits, stage, Ahead, whole, next_chain};
 ghost use Rattle.vb_monitor.specs.Machine.{cuts_behind};
 ghost use Rattle.vb_monitor.specs.Left.{left, of_chains, parts_left};
 ghost use Rattle.vb_monitor.specs.declared.room.TheConstants.{MAX_RUNS};
 ghost use Rattle.std.specs.Prelude.{◌-◌, ◌*◌, ◌+◌, length};
 
-use crate::cuts::{cut_behind, first_cut};
+use crate::cuts::{NextCut, cut_behind, first_cut};
 use crate::ends::end;
 use crate::giving::give_back;
 use crate::room::MAX_RUNS;
 use crate::step::Discarding;
-use crate::{Phase, Region, Step, Tally};
+use crate::{Phase, Region, Room, Step, Tally};
 use vb_core::{Device, Kind, Run};
 
 /// The first `count` runs.
@@ -74,82 +73,84 @@ pub(crate) fn discards(device: &Device, kind: Kind, keeps: bool) -> bool
     }
 }
 
-/// Discards the first `count` runs, from number `from` on.
+/// This part is discarded next.
+#[inline(always)]
+pub(crate) fn discard_next(tally: Tally, discarding: Discarding, next: &NextCut) -> Step
+    ensures { result ≡ record {
+      tally = tally;
+      phase = Discards next.now.cut
+          (record discarding { run = next.now.run; from = next.now.from });
+    } }
+{
+    Step {
+        tally,
+        phase: Phase::Discards {
+            cut: next.cut,
+            discarding: Discarding {
+                run: next.run,
+                from: next.from,
+                ..discarding
+            },
+        },
+    }
+}
+
+/// Discards the runs from the one on where this begins.
 #[inline(always)]
 fn discard_on(
     device: &mut Device,
     regions: &[Region],
     kind: Kind,
     tally: Tally,
-    head: u16,
-    count: u32,
-    from: usize,
-    runs: &[Run; MAX_RUNS],
+    discarding: Discarding,
+    room: &Room,
 ) -> Step
-    ensures step { (after : Device) (outcome : Outcome) (pieces : List ChainPiece) (bytes : List ℕ)
-        (figures : List Statistic) (log : List Access) →
-        Ahead (whole regions.now kind after outcome) result device.new
-        (room_of pieces bytes runs.now figures) log →
+    ensures step { (after : Device) (outcome : Outcome) (log : List Access) →
+        Ahead (whole regions.now kind after outcome) result device.new room.now log →
         DiscardsThen (whole regions.now kind after outcome)
-        (next_chain (whole regions.now kind after outcome) tally) device.old tally head
-        (cuts_of regions.now (drop from (take count runs.now))) log }
+        (next_chain (whole regions.now kind after outcome) tally) device.old tally discarding.head
+        (cuts_of regions.now (drop discarding.run (take discarding.runs room.now.runs))) log }
     ensures fits { Fits result.phase }
     ensures stage { 1 ≤ stage result.phase }
     ensures left { left regions.now result ≤
-        of_chains regions.now tally.chains + (2 + (MAX_RUNS - from) * length regions.now) }
+        of_chains regions.now tally.chains + (2 + (MAX_RUNS - discarding.run) * length regions.now) }
 {
-    match first_cut(regions, first_runs(runs, count as usize), from) {
-        None => give_back(device, regions, kind, tally, head),
-        Some(found) => {
-            let discarding = Discarding {
-                head,
-                runs: count,
-                run: found.run,
-                from: found.from,
-            };
-            Step {
-                tally,
-                phase: Phase::Discards {
-                    cut: found.cut,
-                    discarding,
-                },
-            }
-        }
+    let named = first_runs(&room.runs, discarding.runs as usize);
+    match first_cut(regions, named, discarding.run) {
+        None => give_back(device, regions, kind, tally, discarding.head),
+        Some(found) => discard_next(tally, discarding, &found),
     }
 }
 
-/// The pages of the first `count` runs were told, and are discarded unless they are kept; or the
-/// notice ends, since their chain is held.
+/// The pages of the runs were told, and are discarded unless they are kept; or the notice ends,
+/// since their chain is held.
 #[inline(always)]
 pub(crate) fn after_told(
     device: &mut Device,
     regions: &[Region],
     kind: Kind,
     tally: Tally,
-    head: u16,
-    count: u32,
-    runs: &[Run; MAX_RUNS],
+    discarding: Discarding,
+    room: &Room,
 ) -> Step
-    ensures step { (after : Device) (outcome : Outcome) (pieces : List ChainPiece) (bytes : List ℕ)
-        (figures : List Statistic) (log : List Access) →
-        Ahead (whole regions.now kind after outcome) result device.new
-        (room_of pieces bytes runs.now figures) log →
+    ensures step { (after : Device) (outcome : Outcome) (log : List Access) →
+        Ahead (whole regions.now kind after outcome) result device.new room.now log →
         OnceTold tally.held (whole regions.now kind after outcome)
-        (next_chain (whole regions.now kind after outcome) tally) device.old tally head
+        (next_chain (whole regions.now kind after outcome) tally) device.old tally discarding.head
         (cuts_for kind (is_kept kind tally.keeps (keeps_reports device.old)) regions.now
-        (take count runs.now)) log }
+        (drop discarding.run (take discarding.runs room.now.runs))) log }
     ensures fits { Fits result.phase }
     ensures stage { 1 ≤ stage result.phase }
     ensures left { left regions.now result ≤
-        of_chains regions.now tally.chains + (2 + MAX_RUNS * length regions.now) }
+        of_chains regions.now tally.chains + (2 + (MAX_RUNS - discarding.run) * length regions.now) }
 {
     if tally.held.is_some() {
         return end(device, regions, kind, tally, None, false);
     }
     if !discards(device, kind, tally.keeps) {
-        return give_back(device, regions, kind, tally, head);
+        return give_back(device, regions, kind, tally, discarding.head);
     }
-    discard_on(device, regions, kind, tally, head, count, 0, runs)
+    discard_on(device, regions, kind, tally, discarding, room)
 }
 
 /// A part of a run was discarded.
@@ -159,40 +160,22 @@ pub(crate) fn after_discard(
     kind: Kind,
     tally: Tally,
     discarding: Discarding,
-    runs: &[Run; MAX_RUNS],
+    room: &Room,
 ) -> Step
-    ensures step { (after : Device) (outcome : Outcome) (pieces : List ChainPiece) (bytes : List ℕ)
-        (figures : List Statistic) (log : List Access) →
-        Ahead (whole regions.now kind after outcome) result device.new
-        (room_of pieces bytes runs.now figures) log →
+    ensures step { (after : Device) (outcome : Outcome) (log : List Access) →
+        Ahead (whole regions.now kind after outcome) result device.new room.now log →
         DiscardsThen (whole regions.now kind after outcome)
         (next_chain (whole regions.now kind after outcome) tally) device.old tally discarding.head
         (cuts_behind discarding.from discarding.run regions.now
-        (take discarding.runs runs.now)) log }
+        (take discarding.runs room.now.runs)) log }
     ensures fits { Fits result.phase }
     ensures left { left regions.now result ≤
         of_chains regions.now tally.chains
         + (2 + parts_left (length regions.now) discarding.run discarding.from) }
 {
-    let Discarding {
-        head,
-        runs: count,
-        run,
-        from,
-    } = discarding;
-    match cut_behind(regions, first_runs(runs, count as usize), run, from) {
-        None => give_back(device, regions, kind, tally, head),
-        Some(found) => Step {
-            tally,
-            phase: Phase::Discards {
-                cut: found.cut,
-                discarding: Discarding {
-                    head,
-                    runs: count,
-                    run: found.run,
-                    from: found.from,
-                },
-            },
-        },
+    let named = first_runs(&room.runs, discarding.runs as usize);
+    match cut_behind(regions, named, discarding.run, discarding.from) {
+        None => give_back(device, regions, kind, tally, discarding.head),
+        Some(found) => discard_next(tally, discarding, &found),
     }
 }

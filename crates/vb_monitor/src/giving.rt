@@ -6,7 +6,8 @@ ghost use Rattle.vb_monitor.specs.declared.outcome.Outcome.{Outcome};
 ghost use Rattle.vb_monitor.specs.Accesses.{Access};
 ghost use Rattle.vb_monitor.specs.Served.{first_has};
 ghost use Rattle.vb_monitor.specs.Giving.{GivesBack, used_spots};
-ghost use Rattle.vb_monitor.specs.Machine.{Fits, stage, Room, Ahead, whole, next_chain};
+ghost use Rattle.vb_monitor.specs.declared.room.Room.{Room};
+ghost use Rattle.vb_monitor.specs.Machine.{Fits, stage, Ahead, whole, next_chain};
 ghost use Rattle.vb_monitor.specs.Left.{left, of_chains};
 
 use crate::ends::{end, fail};

@@ -55,7 +55,7 @@ pub use outcome::{Budget, HeldChain, Outcome, Tally};
 pub use parts::Part;
 pub use placing::{RestoreDenial, are_memory, memory_end_of};
 pub use regions::{FILE_LIMIT, Region, Spot, find};
-pub use room::{MAX_BYTES, MAX_FIGURES, MAX_PIECES, MAX_RUNS, ROW_DESCRIPTORS};
+pub use room::{MAX_BYTES, MAX_FIGURES, MAX_PIECES, MAX_RUNS, ROW_DESCRIPTORS, Room};
 pub use served::{fill_named, give_and_go, is_last, name_copied};
 pub use serving::serve;
 pub use single::{FirstPart, first_of_single, index_to_look};

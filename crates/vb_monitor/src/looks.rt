@@ -6,7 +6,8 @@ ghost use Rattle.vb_monitor.specs.declared.outcome.Outcome.{Outcome};
 ghost use Rattle.vb_monitor.specs.Accesses.{Access};
 ghost use Rattle.vb_monitor.specs.Notices.{entry_offset, stands, AfterEntry, Looks, TakesChain};
 ghost use Rattle.vb_monitor.specs.Notices.{TakesNext, ServesPublished, AfterGiven, with_published};
-ghost use Rattle.vb_monitor.specs.Machine.{Fits, stage, Room, Ahead, whole, next_chain};
+ghost use Rattle.vb_monitor.specs.declared.room.Room.{Room};
+ghost use Rattle.vb_monitor.specs.Machine.{Fits, stage, Ahead, whole, next_chain};
 ghost use Rattle.vb_monitor.specs.Left.{left, of_chains, of_chain, once_copied};
 ghost use Rattle.std.specs.Prelude.{◌≤◌};
 

@@ -1,14 +1,13 @@
 //! A notice as plain data, for a caller that makes the accesses itself.
 
 ghost use Rattle.std.specs.Prelude.{◌≡◌, ◌++◌, ℕ, List};
-ghost use Rattle.vb_core.specs.declared.runs.Run.{Run};
-ghost use Rattle.vb_core.specs.declared.statistics.Statistic.{Statistic};
 ghost use Rattle.vb_core.specs.declared.device.Device.{Device};
 ghost use Rattle.vb_monitor.specs.declared.outcome.Outcome.{Outcome};
+ghost use Rattle.vb_monitor.specs.declared.room.Room.{Room};
 ghost use Rattle.vb_monitor.specs.Accesses.{Access};
 ghost use Rattle.vb_monitor.specs.Notices.{Serves, GivesHeldBack};
-ghost use Rattle.vb_monitor.specs.Machine.{Fits, is_ended, Room, Ahead, Does, whole};
-ghost use Rattle.vb_monitor.specs.Machine.{room_of, outcome_at, is_discarding, Awaited};
+ghost use Rattle.vb_monitor.specs.Machine.{Fits, is_ended, Ahead, Does, whole};
+ghost use Rattle.vb_monitor.specs.Machine.{outcome_at, is_discarding, Awaited};
 ghost use Rattle.vb_monitor.specs.Left.{left};
 ghost use Rattle.std.specs.Prelude.{◌<◌, false};
 
@@ -17,10 +16,9 @@ use crate::discards::{after_discard, after_told};
 use crate::ends::{after_flags, end};
 use crate::giving::give_back;
 use crate::looks::{after_entry, after_given, after_index, look};
-use crate::room::{MAX_BYTES, MAX_FIGURES, MAX_PIECES, MAX_RUNS};
 use crate::walk::after_descriptor;
-use crate::{Budget, HeldChain, Outcome, Phase, Region, Step, Tally};
-use vb_core::{ChainPiece, Device, Kind, Run, Statistic};
+use crate::{Budget, Discarding, HeldChain, Outcome, Phase, Region, Room, Step, Tally};
+use vb_core::{Device, Kind};
 
 /// A notice: whose queue it is of, and what is to be done next.
 #[derive(Clone, Copy, Debug)]
@@ -37,20 +35,17 @@ fn advance(
     regions: &[Region],
     kind: Kind,
     answer: u16,
-    pieces: &mut [ChainPiece; MAX_PIECES],
-    bytes: &[u8; MAX_BYTES],
-    runs: &mut [Run; MAX_RUNS],
-    figures: &mut [Statistic; MAX_FIGURES],
+    room: &mut Room,
 ) -> Step
     requires { Fits step.now.phase }
     ensures step { (after : Device) (outcome : Outcome) (before : List ℕ)
         (done rest : List Access) →
         Does step.now.phase kind answer before
-        (room_of pieces.old bytes.now runs.old figures.old) done →
+        room.old done →
         Ahead (whole regions.now kind after outcome) result device.new
-        (room_of pieces.new bytes.now runs.new figures.new) rest →
+        room.new rest →
         Ahead (whole regions.now kind after outcome) step.now device.old
-        (room_of pieces.old before runs.old figures.old) (done ++ rest) }
+        (record room.old { bytes = before }) (done ++ rest) }
     ensures fits { Fits result.phase }
     ensures left { is_ended step.now.phase ≡ false →
         left regions.now result < left regions.now step.now }
@@ -60,17 +55,16 @@ fn advance(
         Phase::AwaitsIndex { .. } => after_index(device, regions, kind, tally, answer),
         Phase::AwaitsEntry { .. } => after_entry(device, regions, kind, tally, answer),
         Phase::AwaitsDescriptor { walk, .. } => after_descriptor(
-            device, regions, kind, tally, walk, pieces, bytes, runs, figures,
+            device, regions, kind, tally, walk, room,
         ),
-        Phase::AwaitsPart { place, .. } => after_part(
-            device, regions, kind, tally, place, pieces, bytes, runs, figures,
-        ),
+        Phase::AwaitsPart { place, .. } => after_part(device, regions, kind, tally, place, room),
         Phase::TellsPages { head, named } => {
-            after_told(device, regions, kind, tally, head, named.runs, runs)
+            let discarding = Discarding::first(head, named.runs);
+            after_told(device, regions, kind, tally, discarding, room)
         }
         Phase::TellsFigures { .. } => end(device, regions, kind, tally, None, false),
         Phase::Discards { discarding, .. } => {
-            after_discard(device, regions, kind, tally, discarding, runs)
+            after_discard(device, regions, kind, tally, discarding, room)
         }
         Phase::GivesBack { .. } => {
             let tally = Tally {
@@ -129,34 +123,23 @@ impl Notice {
 
     /// Goes on, once what was to be done was done, with this answer. The room is as the call before
     /// left it, but for the bytes that were copied.
-    pub fn next(
-        &mut self,
-        device: &mut Device,
-        regions: &[Region],
-        answer: u16,
-        pieces: &mut [ChainPiece; MAX_PIECES],
-        bytes: &[u8; MAX_BYTES],
-        runs: &mut [Run; MAX_RUNS],
-        figures: &mut [Statistic; MAX_FIGURES],
-    )
+    pub fn next(&mut self, device: &mut Device, regions: &[Region], answer: u16, room: &mut Room)
         requires { Fits self.old.step.phase }
         ensures kind { self.new.kind ≡ self.old.kind }
         ensures step { (after : Device) (outcome : Outcome) (before : List ℕ)
             (done rest : List Access) →
             Does self.old.step.phase self.old.kind answer before
-            (room_of pieces.old bytes.now runs.old figures.old) done →
+            room.old done →
             Ahead (whole regions.now self.old.kind after outcome) self.new.step device.new
-            (room_of pieces.new bytes.now runs.new figures.new) rest →
+            room.new rest →
             Ahead (whole regions.now self.old.kind after outcome) self.old.step device.old
-            (room_of pieces.old before runs.old figures.old) (done ++ rest) }
+            (record room.old { bytes = before }) (done ++ rest) }
         ensures fits { Fits self.new.step.phase }
         ensures left { is_ended self.old.step.phase ≡ false →
             left regions.now self.new.step < left regions.now self.old.step }
     {
         let kind = self.kind;
-        self.step = advance(
-            &self.step, device, regions, kind, answer, pieces, bytes, runs, figures,
-        );
+        self.step = advance(&self.step, device, regions, kind, answer, room);
     }
 
     /// Whether a part is to be discarded next.
@@ -168,30 +151,21 @@ impl Notice {
 
     /// Goes on as by `next`, where all that needs no answer was done by `at_once`: what is to be
     /// discarded next waits for no answer, and is done then.
-    pub fn go_on(
-        &mut self,
-        device: &mut Device,
-        regions: &[Region],
-        answer: u16,
-        pieces: &mut [ChainPiece; MAX_PIECES],
-        bytes: &[u8; MAX_BYTES],
-        runs: &mut [Run; MAX_RUNS],
-        figures: &mut [Statistic; MAX_FIGURES],
-    )
+    pub fn go_on(&mut self, device: &mut Device, regions: &[Region], answer: u16, room: &mut Room)
         requires { Fits self.old.step.phase }
         ensures kind { self.new.kind ≡ self.old.kind }
         ensures step { (after : Device) (outcome : Outcome) (before : List ℕ)
             (done rest : List Access) →
             Awaited self.old.step.phase self.old.kind answer before
-            (room_of pieces.old bytes.now runs.old figures.old) done →
+            room.old done →
             Ahead (whole regions.now self.old.kind after outcome) self.new.step device.new
-            (room_of pieces.new bytes.now runs.new figures.new) rest →
+            room.new rest →
             Ahead (whole regions.now self.old.kind after outcome) self.old.step device.old
-            (room_of pieces.old before runs.old figures.old) (done ++ rest) }
+            (record room.old { bytes = before }) (done ++ rest) }
         ensures fits { Fits self.new.step.phase }
     {
         if !self.is_discarding() {
-            self.next(device, regions, answer, pieces, bytes, runs, figures);
+            self.next(device, regions, answer, room);
         }
     }
 

@@ -1,30 +1,28 @@
 //! What is to be done at once, since none of it needs an answer.
 
-ghost use Rattle.std.specs.Prelude.{◌≡◌, ◌≤◌, ◌++◌, ◌∷◌, ℕ, true, List, take, map, Some};
+ghost use Rattle.std.specs.Prelude.{◌≡◌, ◌≤◌, ◌++◌, ◌∷◌, true, List, take, map, Some};
 ghost use Rattle.vb_monitor.specs.declared.cuts.NextCut.{NextCut};
-ghost use Rattle.vb_core.specs.declared.pieces.ChainPiece.{ChainPiece};
-ghost use Rattle.vb_core.specs.declared.statistics.Statistic.{Statistic};
 ghost use Rattle.vb_core.specs.declared.device.Device.{Device};
 ghost use Rattle.vb_core.specs.Config.{keeps_reports};
 ghost use Rattle.vb_monitor.specs.Giving.{is_kept, kept_pages};
 ghost use Rattle.vb_monitor.specs.declared.orders.TheConstants.{MAX_CUTS};
 ghost use Rattle.vb_monitor.specs.declared.outcome.Outcome.{Outcome};
+ghost use Rattle.vb_monitor.specs.declared.room.Room.{Room};
 ghost use Rattle.vb_monitor.specs.Accesses.{Access, Discard};
-ghost use Rattle.vb_monitor.specs.Machine.{Fits, stage, waits, Room, Ahead, whole, room_of};
+ghost use Rattle.vb_monitor.specs.Machine.{Fits, stage, waits, Ahead, whole};
 ghost use Rattle.vb_monitor.specs.Machine.{cuts_behind};
 ghost use Rattle.vb_monitor.specs.declared.orders.Told.TheVariants.{Pages, Figures};
 ghost use Rattle.vb_monitor.specs.declared.room.TheConstants.{MAX_RUNS, MAX_FIGURES};
 ghost use Rattle.vb_monitor.specs.Orders.{cuts_left, telling, giving, at_once, HasRoom, FillsList};
 
 use crate::cuts::NextCut;
-use crate::discards::{after_told, first_runs, kept_pages};
+use crate::discards::{after_told, discard_next, first_runs, kept_pages};
 use crate::ends::end;
 use crate::filling::fill;
 use crate::giving::give_back;
 use crate::looks::after_given;
-use crate::room::MAX_RUNS;
-use crate::{Cut, Discarding, Notice, Phase, Region, Step, Tally, UsedSpots};
-use vb_core::{Device, Kind, Named, Run};
+use crate::{Cut, Discarding, Notice, Phase, Region, Room, Step, Tally, UsedSpots};
+use vb_core::{Device, Kind, Named};
 
 /// Parts of runs that are discarded at once, at most.
 pub const MAX_CUTS: usize = 256;
@@ -83,17 +81,15 @@ fn tell(
     device: &mut Device,
     regions: &[Region],
     kind: Kind,
-    runs: &[Run; MAX_RUNS],
+    room: &Room,
     orders: &mut Orders,
 ) -> Told
     requires { Fits step.old.phase }
-    ensures step { (after : Device) (outcome : Outcome) (pieces : List ChainPiece) (bytes : List ℕ)
-        (figures : List Statistic) (rest : List Access) →
-        Ahead (whole regions.now kind after outcome) step.new device.new
-        (room_of pieces bytes runs.now figures) rest →
-        Ahead (whole regions.now kind after outcome) step.old device.old
-        (room_of pieces bytes runs.now figures)
-        (telling result kind orders.new.named orders.new.figures runs.now figures ++ rest) }
+    ensures step { (after : Device) (outcome : Outcome) (rest : List Access) →
+        Ahead (whole regions.now kind after outcome) step.new device.new room.now rest →
+        Ahead (whole regions.now kind after outcome) step.old device.old room.now
+        (telling result kind orders.new.named orders.new.figures room.now.runs room.now.figures
+        ++ rest) }
     ensures fits { Fits step.new.phase }
     ensures stage { 1 ≤ stage step.new.phase }
     ensures runs { result ≡ Pages → orders.new.named.runs ≤ MAX_RUNS }
@@ -107,7 +103,8 @@ fn tell(
         Phase::TellsPages { head, named } => {
             orders.named = named;
             orders.kept = kept_pages(device, kind, tally.keeps, named.pages);
-            *step = after_told(device, regions, kind, tally, head, named.runs, runs);
+            let discarding = Discarding::first(head, named.runs);
+            *step = after_told(device, regions, kind, tally, discarding, room);
             Told::Pages
         }
         Phase::TellsFigures { count, .. } => {
@@ -134,17 +131,14 @@ fn discard(
     device: &mut Device,
     regions: &[Region],
     kind: Kind,
-    runs: &[Run; MAX_RUNS],
+    room: &Room,
     cuts: &mut [Cut; MAX_CUTS],
 ) -> u32
     requires fits { Fits step.old.phase }
     requires stage { 1 ≤ stage step.old.phase }
-    ensures step { (after : Device) (outcome : Outcome) (pieces : List ChainPiece) (bytes : List ℕ)
-        (figures : List Statistic) (rest : List Access) →
-        Ahead (whole regions.now kind after outcome) step.new device.new
-        (room_of pieces bytes runs.now figures) rest →
-        Ahead (whole regions.now kind after outcome) step.old device.old
-        (room_of pieces bytes runs.now figures)
+    ensures step { (after : Device) (outcome : Outcome) (rest : List Access) →
+        Ahead (whole regions.now kind after outcome) step.new device.new room.now rest →
+        Ahead (whole regions.now kind after outcome) step.old device.old room.now
         (map Discard (take result cuts.new) ++ rest) }
     ensures fits { Fits step.new.phase }
     ensures few { result ≤ MAX_CUTS }
@@ -154,32 +148,17 @@ fn discard(
     let Step { tally, phase } = *step;
     match phase {
         Phase::Discards { cut, discarding } => {
-            let Discarding {
-                head,
-                runs: count,
-                run,
-                from,
-            } = discarding;
-            let named = first_runs(runs, count as usize);
-            let first = NextCut { run, cut, from };
+            let named = first_runs(&room.runs, discarding.runs as usize);
+            let first = NextCut {
+                run: discarding.run,
+                cut,
+                from: discarding.from,
+            };
             let filled = fill(regions, named, &first, cuts);
-            match filled.left {
-                None => *step = give_back(device, regions, kind, tally, head),
-                Some(found) => {
-                    *step = Step {
-                        tally,
-                        phase: Phase::Discards {
-                            cut: found.cut,
-                            discarding: Discarding {
-                                head,
-                                runs: count,
-                                run: found.run,
-                                from: found.from,
-                            },
-                        },
-                    }
-                }
-            }
+            *step = match filled.left {
+                None => give_back(device, regions, kind, tally, discarding.head),
+                Some(found) => discard_next(tally, discarding, &found),
+            };
             filled.count
         }
         Phase::TellsPages { .. }
@@ -267,19 +246,18 @@ impl Notice {
         &mut self,
         device: &mut Device,
         regions: &[Region],
-        runs: &[Run; MAX_RUNS],
+        room: &Room,
         cuts: &mut [Cut; MAX_CUTS],
         orders: &mut Orders,
     ) -> Asked
         requires { Fits self.old.step.phase }
         ensures kind { self.new.kind ≡ self.old.kind }
-        ensures step { (after : Device) (outcome : Outcome) (pieces : List ChainPiece)
-            (bytes : List ℕ) (figures : List Statistic) (rest : List Access) →
-            Ahead (whole regions.now self.old.kind after outcome) self.new.step device.new
-            (room_of pieces bytes runs.now figures) rest →
-            Ahead (whole regions.now self.old.kind after outcome) self.old.step device.old
-            (room_of pieces bytes runs.now figures)
-            (at_once result self.old.kind orders.new cuts.new runs.now figures rest) }
+        ensures step { (after : Device) (outcome : Outcome) (rest : List Access) →
+            Ahead (whole regions.now self.old.kind after outcome) self.new.step device.new room.now
+            rest →
+            Ahead (whole regions.now self.old.kind after outcome) self.old.step device.old room.now
+            (at_once result self.old.kind orders.new cuts.new room.now.runs room.now.figures
+            rest) }
         ensures fits { Fits self.new.step.phase }
         ensures room { HasRoom result orders.new }
         ensures kept { result.told ≡ Pages → orders.new.kept ≡ kept_pages
@@ -297,8 +275,8 @@ impl Notice {
         }
         let kind = self.kind;
         let step = &mut self.step;
-        let told = tell(step, device, regions, kind, runs, orders);
-        orders.cuts = discard(step, device, regions, kind, runs, cuts);
+        let told = tell(step, device, regions, kind, room, orders);
+        orders.cuts = discard(step, device, regions, kind, room, cuts);
         let gives = give(step, device, regions, kind, &mut orders.used);
         Asked { told, gives }
     }

@@ -16,7 +16,8 @@ ghost use Rattle.vb_monitor.specs.declared.orders.TheConstants.{MAX_CUTS};
 ghost use Rattle.vb_monitor.specs.declared.outcome.Outcome.{Outcome};
 ghost use Rattle.vb_monitor.specs.Accesses.{Access};
 ghost use Rattle.vb_monitor.specs.Giving.{GivesBack, cuts_for, is_kept, with_given};
-ghost use Rattle.vb_monitor.specs.Machine.{Room, AheadAt, whole, next_chain};
+ghost use Rattle.vb_monitor.specs.declared.room.Room.{Room};
+ghost use Rattle.vb_monitor.specs.Machine.{AheadAt, whole, next_chain};
 ghost use Rattle.vb_monitor.specs.Orders.{cuts_left, giving};
 ghost use Rattle.vb_monitor.specs.Pieces.{all_parts};
 ghost use Rattle.vb_core.specs.Pieces.{pieces_in};
@@ -26,7 +27,7 @@ ghost use Rattle.vb_monitor.specs.Usual.{phase_at, tally_at};
 
 use crate::copying::first_bytes;
 use crate::cuts::first_cut;
-use crate::discards::{discards, first_runs};
+use crate::discards::discards;
 use crate::filling::{Filled, fill};
 use crate::giving::put_spots;
 use crate::orders::MAX_CUTS;
@@ -47,7 +48,7 @@ fn none_from(pieces: &[ChainPiece], from: usize) -> bool
     }
 }
 
-/// Whether no byte of these pieces is left to be copied behind one of the two parts of a piece.
+/// Whether no byte of these pieces is left to be copied after one of the two parts of a piece.
 fn none_behind(pieces: &[ChainPiece], piece: usize, is_second: bool) -> bool
     requires { piece < length pieces.now }
     ensures { result ≡ none_left (behind_part is_second piece (pieces_in pieces.now)) }
@@ -61,7 +62,7 @@ fn none_behind(pieces: &[ChainPiece], piece: usize, is_second: bool) -> bool
     none_from(pieces, piece + 1)
 }
 
-/// Whether no byte of a chain's pieces is left to be copied behind this part of them.
+/// Whether no byte of a chain's pieces is left to be copied after this part of them.
 pub fn is_last(place: &Place, pieces: &[ChainPiece; MAX_PIECES]) -> bool
     ensures { result ≡ is_last place.now pieces.now }
 {
@@ -72,7 +73,7 @@ pub fn is_last(place: &Place, pieces: &[ChainPiece; MAX_PIECES]) -> bool
     none_behind(chain, place.piece, place.is_second)
 }
 
-/// Names the pages of a request, whose bytes are the first ones, so many.
+/// Names the pages of a request, whose bytes are the first `count`.
 #[tactic(auto, using(crate::proofs::ServedLemmas::named_steps))]
 pub fn name_copied(
     device: &mut Device,
@@ -89,25 +90,23 @@ pub fn name_copied(
     device.name(kind, first_bytes(bytes, count), runs)
 }
 
-/// Puts the parts of the first runs, so many, into the list, as many as have room, where they are
-/// to be discarded, by a notice that keeps all pages or doesn't.
+/// Puts the parts of the runs that a chain names into the list, as many as have room, where they
+/// are to be discarded, by a notice that keeps all pages or doesn't.
 #[inline(always)]
 pub fn fill_named(
     device: &Device,
     regions: &[Region],
     kind: Kind,
     keeps: bool,
-    runs: &[Run; MAX_RUNS],
-    count: u32,
+    named: &[Run],
     cuts: &mut [Cut; MAX_CUTS],
 ) -> Filled
     ensures few { result.count ≤ MAX_CUTS }
     ensures full { (x : NextCut) → result.left ≡ Some x → result.count ≡ MAX_CUTS }
     ensures parts { cuts_for kind (is_kept kind keeps (keeps_reports device.now)) regions.now
-        (take count runs.now) ≡ take result.count cuts.new ++ cuts_left regions.now
-        (take count runs.now) result.left }
+        named.now ≡ take result.count cuts.new ++ cuts_left regions.now
+        named.now result.left }
 {
-    let named = first_runs(runs, count as usize);
     if !discards(device, kind, keeps) {
         return Filled {
             count: 0,

@@ -1,21 +1,19 @@
 //! A notice over a running guest's memory.
 
-ghost use Rattle.std.specs.Prelude.{◌≡◌, ◌+◌, ◌≤◌, List};
-ghost use Rattle.vb_core.specs.declared.pieces.ChainPiece.{ChainPiece};
+ghost use Rattle.std.specs.Prelude.{◌≡◌, ◌+◌, ◌≤◌};
 ghost use Rattle.vb_monitor.specs.declared.room.TheConstants.{MAX_BYTES};
 ghost use Rattle.vb_monitor.specs.Accesses.{Steps, Makes};
 ghost use Rattle.vb_monitor.specs.Notices.{Serves};
 ghost use Rattle.vb_monitor.specs.Giving.{used_accesses};
 ghost use Rattle.vb_monitor.specs.Machine.{Fits, is_ended, Ahead, Does, GoesOn, Copies, whole};
-ghost use Rattle.vb_monitor.specs.Machine.{room_of};
 ghost use Rattle.vb_monitor.specs.Left.{left};
 ghost use Rattle.std.specs.Prelude.{◌<◌, false};
 
 use crate::discards::first_runs;
-use crate::room::{MAX_BYTES, MAX_FIGURES, MAX_PIECES, MAX_RUNS};
+use crate::room::{MAX_BYTES, MAX_FIGURES};
 use crate::rows::row_bytes;
-use crate::{Budget, LiveMemory, Notice, Outcome, Phase, Region, Spot, UsedSpots};
-use vb_core::{ChainPiece, Device, Kind, Run, Statistic, UsedEntry};
+use crate::{Budget, LiveMemory, Notice, Outcome, Phase, Region, Room, Spot, UsedSpots};
+use vb_core::{Device, Kind, UsedEntry};
 
 /// Copies `length` bytes after the first `from` ones.
 fn copy_bytes<M: LiveMemory>(
@@ -47,13 +45,12 @@ pub(crate) fn perform<M: LiveMemory>(
     memory: &mut M,
     kind: Kind,
     phase: Phase,
-    bytes: &mut [u8; MAX_BYTES],
-    runs: &[Run; MAX_RUNS],
-    figures: &[Statistic; MAX_FIGURES],
+    room: &mut Room,
 ) -> u16
     requires { Fits phase }
-    ensures { (pieces : List ChainPiece) → Makes M.goes memory.old memory.new
-        (Does phase kind result bytes.old (room_of pieces bytes.new runs.now figures.now)) }
+    ensures does { Makes M.goes memory.old memory.new
+        (Does phase kind result room.old.bytes room.new) }
+    ensures stays { room.new ≡ record room.old { bytes = room.new.bytes } }
 {
     match phase {
         Phase::AwaitsIndex { at } => memory.word(at),
@@ -62,19 +59,25 @@ pub(crate) fn perform<M: LiveMemory>(
             memory.word(at)
         }
         Phase::AwaitsDescriptor { at, walk } => {
-            copy_bytes(memory, at, 0, row_bytes(&walk), bytes);
+            copy_bytes(memory, at, 0, row_bytes(&walk), &mut room.bytes);
             0
         }
         Phase::AwaitsPart { at, place } => {
-            copy_bytes(memory, at, place.into, place.length as usize, bytes);
+            copy_bytes(
+                memory,
+                at,
+                place.into,
+                place.length as usize,
+                &mut room.bytes,
+            );
             0
         }
         Phase::TellsPages { named, .. } => {
-            memory.tell_pages(kind, first_runs(runs, named.runs as usize), named);
+            memory.tell_pages(kind, first_runs(&room.runs, named.runs as usize), named);
             0
         }
         Phase::TellsFigures { count, .. } => {
-            memory.tell_figures(&figures[..(count as usize).min(MAX_FIGURES)]);
+            memory.tell_figures(&room.figures[..(count as usize).min(MAX_FIGURES)]);
             0
         }
         Phase::Discards { cut, .. } => {
@@ -100,25 +103,22 @@ impl Notice {
         memory: &mut M,
         device: &mut Device,
         regions: &[Region],
-        pieces: &mut [ChainPiece; MAX_PIECES],
-        bytes: &mut [u8; MAX_BYTES],
-        runs: &mut [Run; MAX_RUNS],
-        figures: &mut [Statistic; MAX_FIGURES],
+        room: &mut Room,
     )
         requires { Fits self.old.step.phase }
         ensures kind { self.new.kind ≡ self.old.kind }
         ensures step { GoesOn M.goes memory.old memory.new
             (λ after outcome log. Ahead (whole regions.now self.old.kind after outcome)
-            self.old.step device.old (room_of pieces.old bytes.old runs.old figures.old) log)
+            self.old.step device.old room.old log)
             (λ after outcome log. Ahead (whole regions.now self.old.kind after outcome)
-            self.new.step device.new (room_of pieces.new bytes.new runs.new figures.new) log) }
+            self.new.step device.new room.new log) }
         ensures fits { Fits self.new.step.phase }
         ensures left { is_ended self.old.step.phase ≡ false →
             left regions.now self.new.step < left regions.now self.old.step }
     {
         let Notice { kind, step } = *self;
-        let answer = perform(memory, kind, step.phase, bytes, runs, figures);
-        self.next(device, regions, answer, pieces, bytes, runs, figures);
+        let answer = perform(memory, kind, step.phase, room);
+        self.next(device, regions, answer, room);
     }
 
     /// Makes steps until the notice has ended, at most `times`; says whether it has.
@@ -128,26 +128,23 @@ impl Notice {
         memory: &mut M,
         device: &mut Device,
         regions: &[Region],
-        pieces: &mut [ChainPiece; MAX_PIECES],
-        bytes: &mut [u8; MAX_BYTES],
-        runs: &mut [Run; MAX_RUNS],
-        figures: &mut [Statistic; MAX_FIGURES],
+        room: &mut Room,
         times: u64,
     ) -> bool
         requires { Fits self.old.step.phase }
         ensures kind { self.new.kind ≡ self.old.kind }
         ensures step { GoesOn M.goes memory.old memory.new
             (λ after outcome log. Ahead (whole regions.now self.old.kind after outcome)
-            self.old.step device.old (room_of pieces.old bytes.old runs.old figures.old) log)
+            self.old.step device.old room.old log)
             (λ after outcome log. Ahead (whole regions.now self.old.kind after outcome)
-            self.new.step device.new (room_of pieces.new bytes.new runs.new figures.new) log) }
+            self.new.step device.new room.new log) }
         ensures ended { result ≡ is_ended self.new.step.phase }
     {
         for _ in 0..times {
             if self.is_ended() {
                 return true;
             }
-            self.serve_step(memory, device, regions, pieces, bytes, runs, figures);
+            self.serve_step(memory, device, regions, room);
         }
         self.is_ended()
     }
@@ -158,21 +155,18 @@ impl Notice {
         memory: &mut M,
         device: &mut Device,
         regions: &[Region],
-        pieces: &mut [ChainPiece; MAX_PIECES],
-        bytes: &mut [u8; MAX_BYTES],
-        runs: &mut [Run; MAX_RUNS],
-        figures: &mut [Statistic; MAX_FIGURES],
+        room: &mut Room,
     ) -> Outcome
         requires { Fits self.old.step.phase }
         ensures { Makes M.goes memory.old memory.new (λ log.
             Ahead (whole regions.now self.old.kind device.new result) self.old.step device.old
-            (room_of pieces.old bytes.old runs.old figures.old) log) }
+            room.old log) }
     {
         loop {
             if let Some(outcome) = self.outcome() {
                 return outcome;
             }
-            self.serve_step(memory, device, regions, pieces, bytes, runs, figures);
+            self.serve_step(memory, device, regions, room);
         }
     }
 }
@@ -184,14 +178,11 @@ pub fn serve<M: LiveMemory>(
     regions: &[Region],
     kind: Kind,
     budget: Budget,
-    pieces: &mut [ChainPiece; MAX_PIECES],
-    bytes: &mut [u8; MAX_BYTES],
-    runs: &mut [Run; MAX_RUNS],
-    figures: &mut [Statistic; MAX_FIGURES],
+    room: &mut Room,
 ) -> Outcome
     ensures { Makes M.goes memory.old memory.new
         (Serves regions.now kind budget device.old device.new result) }
 {
     let mut notice = Notice::begin(device, regions, kind, budget);
-    notice.serve_all(memory, device, regions, pieces, bytes, runs, figures)
+    notice.serve_all(memory, device, regions, room)
 }

@@ -4,8 +4,6 @@
 ghost use Rattle.std.specs.Prelude.{◌≡◌, ◌+◌, ◌-◌, List, None, IfSome, take};
 ghost use Rattle.vb_chain.specs.declared.descriptor.TheConstants.{DESCRIPTOR_SIZE};
 ghost use Rattle.vb_core.specs.declared.device.Device.{Device};
-ghost use Rattle.vb_core.specs.declared.runs.Run.{Run};
-ghost use Rattle.vb_core.specs.declared.statistics.Statistic.{Statistic};
 ghost use Rattle.vb_core.specs.Devices.{queue_denial, ring_of};
 ghost use Rattle.vb_monitor.specs.declared.outcome.Tally.{Tally};
 ghost use Rattle.vb_monitor.specs.declared.outcome.Outcome.{Outcome};
@@ -16,19 +14,19 @@ ghost use Rattle.vb_monitor.specs.Chains.{memory_end};
 ghost use Rattle.vb_monitor.specs.Notices.{Looks};
 ghost use Rattle.vb_core.specs.Pieces.{pieces_in};
 ghost use Rattle.vb_monitor.specs.Single.{index_place, is_single, single_place, single_of};
-ghost use Rattle.vb_monitor.specs.Machine.{Room, Fits, AheadAt, whole, room_of, serves, row_in};
+ghost use Rattle.vb_monitor.specs.declared.room.Room.{Room};
+ghost use Rattle.vb_monitor.specs.Machine.{Fits, AheadAt, whole, serves, row_in};
 ghost use Rattle.vb_monitor.specs.Machine.{row_bytes};
 
 use crate::copying::first_bytes;
 use crate::parts::first_part;
 use crate::pieces::{buffer_of, first_pieces, push_piece};
 use crate::regions::find_from;
-use crate::room::{MAX_BYTES, MAX_PIECES};
 use crate::rows::descriptor_of;
 use crate::walk::table_fault;
-use crate::{Place, Region, Spot, Walk};
+use crate::{Place, Region, Room, Spot, Walk};
 use vb_chain::{DESCRIPTOR_SIZE, Descriptor};
-use vb_core::{ChainPiece, Device, Kind};
+use vb_core::{Device, Kind};
 use vb_request::is_request_length;
 use vb_ring::{RING_INDEX_AT, RING_WORD_SIZE};
 
@@ -78,33 +76,32 @@ pub fn first_of_single(
     regions: &[Region],
     kind: Kind,
     walk: Walk,
-    pieces: &mut [ChainPiece; MAX_PIECES],
-    bytes: &[u8; MAX_BYTES],
+    room: &mut Room,
 ) -> Option<FirstPart>
-    ensures place { result ≡ single_of walk (descriptor_of (take DESCRIPTOR_SIZE bytes.now))
-        (single_place regions.now kind walk (descriptor_of (take DESCRIPTOR_SIZE bytes.now))
+    ensures place { result ≡ single_of walk (descriptor_of (take DESCRIPTOR_SIZE room.old.bytes))
+        (single_place regions.now kind walk (descriptor_of (take DESCRIPTOR_SIZE room.old.bytes))
         (memory_end device.now) (ring_of kind device.now)) }
     ensures goes { IfSome result (λ x. (tally : Tally) (after : Device) (outcome : Outcome)
-        (runs : List Run) (figures : List Statistic) (log : List Access) →
+        (log : List Access) →
         AheadAt (AwaitsPart x.at x.place) (whole regions.now kind after outcome) tally
-        device.now (room_of pieces.new bytes.now runs figures) log →
+        device.now room.new log →
         AfterDescriptor (whole regions.now kind after outcome) device.now tally
         (Follows (descriptors (ring_of kind device.now) - (walk.count + 1))
         (whole regions.now kind after outcome) device.now tally
         (serves (whole regions.now kind after outcome) tally device.now walk.head)
-        (row_in walk bytes.now))
+        (row_in walk room.old.bytes))
         (serves (whole regions.now kind after outcome) tally device.now walk.head) walk.writing
-        (pieces_in (take walk.count pieces.old))
-        (take DESCRIPTOR_SIZE (take (row_bytes walk) bytes.now)) log) }
+        (pieces_in (take walk.count room.old.pieces))
+        (take DESCRIPTOR_SIZE (take (row_bytes walk) room.old.bytes)) log) }
     ensures fits { IfSome result (λ x. Fits (AwaitsPart x.at x.place)) }
-    ensures stays { result ≡ None → pieces.new ≡ pieces.old }
+    ensures stays { result ≡ None → room.new ≡ room.old }
 {
-    let descriptor = descriptor_of(first_bytes(bytes, DESCRIPTOR_SIZE));
+    let descriptor = descriptor_of(first_bytes(&room.bytes, DESCRIPTOR_SIZE));
     let count = walk.count;
     if count != 0 || !is_single(kind, &descriptor) {
         return None;
     }
-    let visited = first_pieces(pieces, count).len() as u16;
+    let visited = first_pieces(&room.pieces, count).len() as u16;
     if let Some(_) = table_fault(device, kind, walk.writing, visited, &descriptor) {
         return None;
     }
@@ -113,7 +110,7 @@ pub fn first_of_single(
     match find_from(regions, part.address, plus, u64::from(part.length)) {
         None => None,
         Some(at) => {
-            push_piece(pieces, count, &descriptor);
+            push_piece(&mut room.pieces, count, &descriptor);
             let place = Place {
                 head: walk.head,
                 count: count + 1,

@@ -1,5 +1,7 @@
 //! What is to be done next, and what a notice remembers until it was done.
 
+ghost use Rattle.std.specs.Prelude.{◌≡◌};
+
 use crate::{Cut, Spot, Tally, UsedSpots};
 use vb_core::{Denial, Named, UsedEntry};
 
@@ -46,6 +48,20 @@ pub struct Discarding {
     pub run: usize,
     /// The number of the region after the one in which it is.
     pub from: usize,
+}
+
+impl Discarding {
+    /// The first `runs` runs of a chain are to be discarded, all of them.
+    pub fn first(head: u16, runs: u32) -> Discarding
+        ensures { result ≡ record { head = head; runs = runs; run = 0; from = 0 } }
+    {
+        Discarding {
+            head,
+            runs,
+            run: 0,
+            from: 0,
+        }
+    }
 }
 
 /// What is to be done next. Each is given an answer, which is the word that was read, or anything.

@@ -10,7 +10,8 @@ ghost use Rattle.vb_monitor.specs.Accesses.{Access};
 ghost use Rattle.vb_monitor.specs.Notices.{AfterEntry, ServesPublished};
 ghost use Rattle.vb_monitor.specs.Usual.{word_place, phase_at, tally_at, descriptor_place};
 ghost use Rattle.vb_monitor.specs.Usual.{first_walk};
-ghost use Rattle.vb_monitor.specs.Machine.{Room, AheadAt, whole, next_chain};
+ghost use Rattle.vb_monitor.specs.declared.room.Room.{Room};
+ghost use Rattle.vb_monitor.specs.Machine.{AheadAt, whole, next_chain};
 
 use crate::looks::{entry_offset, stands};
 use crate::regions::{find, find_first, find_from};

@@ -12,7 +12,8 @@ ghost use Rattle.vb_monitor.specs.Notices.{AfterEntry};
 ghost use Rattle.vb_monitor.specs.declared.room.TheConstants.{ROW_DESCRIPTORS};
 ghost use Rattle.vb_core.specs.Pieces.{pieces_in};
 ghost use Rattle.vb_monitor.specs.Regions.{spot};
-ghost use Rattle.vb_monitor.specs.Machine.{Fits, Room, Ahead, whole, room_of, serves, next_chain};
+ghost use Rattle.vb_monitor.specs.declared.room.Room.{Room};
+ghost use Rattle.vb_monitor.specs.Machine.{Fits, Ahead, whole, serves, next_chain};
 ghost use Rattle.vb_monitor.specs.Machine.{row_in, row_bytes};
 ghost use Rattle.vb_monitor.specs.Left.{left, of_chains, once_copied};
 
@@ -20,11 +21,11 @@ use crate::copying::first_bytes;
 use crate::ends::fail;
 use crate::naming::serve_pieces;
 use crate::regions::{PAGE_BYTES, find_from};
-use crate::room::{MAX_BYTES, MAX_FIGURES, MAX_PIECES, MAX_RUNS, ROW_DESCRIPTORS};
+use crate::room::ROW_DESCRIPTORS;
 use crate::rows::{RowEnd, RowWalk, ring_fault, row_bytes, walk_row};
-use crate::{Phase, Region, Step, Tally, Walk};
+use crate::{Phase, Region, Room, Step, Tally, Walk};
 use vb_chain::{ChainFault, DESCRIPTOR_SIZE, Descriptor};
-use vb_core::{ChainPiece, Device, Kind, Run, Statistic, Virtqueue};
+use vb_core::{Device, Kind, Virtqueue};
 use vb_virtio::limits::MAX_QUEUE_SIZE;
 
 /// How many descriptors a ring has: never more than a queue may have.
@@ -175,47 +176,39 @@ pub fn after_descriptor(
     kind: Kind,
     tally: Tally,
     walk: Walk,
-    pieces: &mut [ChainPiece; MAX_PIECES],
-    bytes: &[u8; MAX_BYTES],
-    runs: &mut [Run; MAX_RUNS],
-    figures: &mut [Statistic; MAX_FIGURES],
+    room: &mut Room,
 ) -> Step
     ensures step { (after : Device) (outcome : Outcome) (log : List Access) →
-        Ahead (whole regions.now kind after outcome) result device.new
-        (room_of pieces.new bytes.now runs.new figures.new) log →
+        Ahead (whole regions.now kind after outcome) result device.new room.new log →
         AfterDescriptor (whole regions.now kind after outcome) device.old tally
         (Follows (descriptors (ring_of kind device.old) - (walk.count + 1))
         (whole regions.now kind after outcome) device.old tally
         (serves (whole regions.now kind after outcome) tally device.old walk.head)
-        (row_in walk bytes.now))
+        (row_in walk room.old.bytes))
         (serves (whole regions.now kind after outcome) tally device.old walk.head) walk.writing
-        (pieces_in (take walk.count pieces.old))
-        (take DESCRIPTOR_SIZE (take (row_bytes walk) bytes.now)) log }
+        (pieces_in (take walk.count room.old.pieces))
+        (take DESCRIPTOR_SIZE (take (row_bytes walk) room.old.bytes)) log }
     ensures fits { Fits result.phase }
     ensures left { left regions.now result ≤
         of_chains regions.now tally.chains + once_copied regions.now walk.count }
 {
     let size = descriptors(&device.ring(kind));
     let end = memory_end(device);
-    let row = first_bytes(bytes, row_bytes(&walk));
-    let walked = walk_row(size, end, walk, row, pieces);
+    let row = first_bytes(&room.bytes, row_bytes(&walk));
+    let walked = walk_row(size, end, walk, row, &mut room.pieces);
     let RowWalk {
         count,
         writing,
         end,
     } = walked;
+    let walk = Walk {
+        count,
+        writing,
+        ..walk
+    };
     match end {
         RowEnd::Broken(fault) => fail(device, regions, kind, tally, fault),
-        RowEnd::Last => serve_pieces(
-            device, regions, kind, tally, walk.head, count, pieces, bytes, runs, figures,
-        ),
-        RowEnd::Leaves(number) => {
-            let walk = Walk {
-                count,
-                writing,
-                ..walk
-            };
-            ask_next(device, regions, kind, tally, walk, number)
-        }
+        RowEnd::Last => serve_pieces(device, regions, kind, tally, walk, room),
+        RowEnd::Leaves(number) => ask_next(device, regions, kind, tally, walk, number),
     }
 }

@@ -7,8 +7,8 @@ ghost use Rattle.vb_served.specs.One.{ServesNext, all_of};
 
 use crate::LooseRam;
 use crate::reading::PAGE_BYTES;
-use vb_core::{ChainPiece, Device, Kind, Run, Statistic};
-use vb_monitor::{Budget, MAX_BYTES, MAX_FIGURES, MAX_PIECES, MAX_RUNS, Outcome, Region, serve};
+use vb_core::{Device, Kind};
+use vb_monitor::{Budget, Outcome, Region, Room, serve};
 
 /// What serves one chain.
 const ONE_CHAIN: Budget = Budget {
@@ -38,15 +38,7 @@ fn taken_so_far(device: &Device, kind: Kind) -> u16
 
 /// Serves one chain of a queue, if one is there, over the memory that the device is of; a buffer of
 /// statistics is taken and held.
-pub fn serve_one(
-    memory: &mut LooseRam,
-    device: &mut Device,
-    kind: Kind,
-    pieces: &mut [ChainPiece; MAX_PIECES],
-    bytes: &mut [u8; MAX_BYTES],
-    runs: &mut [Run; MAX_RUNS],
-    figures: &mut [Statistic; MAX_FIGURES],
-) -> Outcome
+pub fn serve_one(memory: &mut LooseRam, device: &mut Device, kind: Kind, room: &mut Room) -> Outcome
     requires end { device.old.settings.memory_end ≡ page_size * length memory.old.mem }
     requires holds { device.old.settings.holds_deflates ≡ 0 }
     ensures { ServesNext kind device.old device.new result memory.old memory.new }
@@ -54,7 +46,5 @@ pub fn serve_one(
     // Asked for the proof: that a count has 16 bits is a clause of this call alone.
     let _taken = taken_so_far(device, kind);
     let regions = whole_memory(memory.pages());
-    serve(
-        memory, device, &regions, kind, ONE_CHAIN, pieces, bytes, runs, figures,
-    )
+    serve(memory, device, &regions, kind, ONE_CHAIN, room)
 }

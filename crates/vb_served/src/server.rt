@@ -23,9 +23,9 @@ use bitflags::Flags;
 use std::alloc::Global;
 use std::mem;
 use vb_bits::BitSet;
-use vb_core::{ChainPiece, Denial, Device, Kind, Run, Settings, Statistic, Virtqueue};
+use vb_core::{Denial, Device, Kind, Settings, Virtqueue};
 use vb_device::{QueueRegisters, ServedChain, ServesChains};
-use vb_monitor::{MAX_BYTES, MAX_FIGURES, MAX_PIECES, MAX_RUNS, Outcome};
+use vb_monitor::{Outcome, Room};
 use vb_ram::{Frame, GuestBytes, Ram, Shape};
 use vb_request::{Statistics, broken};
 use vb_ring::{AVAIL_ENTRY_SIZE, Layout, RING_HEADER_SIZE, RingArea};
@@ -150,24 +150,8 @@ fn serve_in_room(memory: &mut LooseRam, device: &mut Device, kind: Kind) -> Outc
     requires holds { device.old.settings.holds_deflates ≡ 0 }
     ensures { ServesNext kind device.old device.new result memory.old memory.new }
 {
-    let piece = ChainPiece {
-        address: 0,
-        length: 0,
-        writable: 0,
-    };
-    let mut pieces = [piece; MAX_PIECES];
-    let mut bytes = [0; MAX_BYTES];
-    let mut runs = [Run { first: 0, count: 0 }; MAX_RUNS];
-    let mut figures = [Statistic { tag: 0, value: 0 }; MAX_FIGURES];
-    serve_one(
-        memory,
-        device,
-        kind,
-        &mut pieces,
-        &mut bytes,
-        &mut runs,
-        &mut figures,
-    )
+    let mut room = Room::EMPTY;
+    serve_one(memory, device, kind, &mut room)
 }
 
 /// A number of 16 bits.

@@ -5,10 +5,8 @@ mod scribbled;
 use scribbled::{Entry, MEMORY, Row, Scribbled};
 use std::alloc::Global;
 use std::process::Abort;
-use vb_core::{ChainPiece, Device, Kind, Run, Settings, Statistic, Virtqueue};
-use vb_monitor::{
-    Budget, Cut, MAX_BYTES, MAX_FIGURES, MAX_PIECES, MAX_RUNS, Outcome, Region, Spot, serve,
-};
+use vb_core::{Device, Kind, Settings, Virtqueue};
+use vb_monitor::{Budget, Cut, Outcome, Region, Room, Spot, serve};
 
 /// A guest of 32 pages.
 const SETTINGS: Settings = Settings {
@@ -43,14 +41,6 @@ const RING: Virtqueue = Virtqueue {
     next_avail: 0,
     next_used: 0,
 };
-
-const NO_PIECE: ChainPiece = ChainPiece {
-    address: 0,
-    length: 0,
-    writable: 0,
-};
-
-const NO_FIGURE: Statistic = Statistic { tag: 0, value: 0 };
 
 /// Places in the first region: the ring's words, the table and its descriptor 3, the request's two
 /// pieces, and the used element.
@@ -254,6 +244,7 @@ fn serve_request<R: Abort>(memory: &mut Scribbled<R>, case: &Case) -> Outcome {
     device.inflate = RING;
     device.deflate = RING;
     put_request(&mut memory.bytes);
+    let mut room = Room::EMPTY;
     serve(
         memory,
         &mut device,
@@ -264,10 +255,7 @@ fn serve_request<R: Abort>(memory: &mut Scribbled<R>, case: &Case) -> Outcome {
             pages: 256,
             keeps: case.keeps,
         },
-        &mut [NO_PIECE; MAX_PIECES],
-        &mut [0; MAX_BYTES],
-        &mut [Run::NONE; MAX_RUNS],
-        &mut [NO_FIGURE; MAX_FIGURES],
+        &mut room,
     )
 }
 

@@ -1,3 +1,4 @@
+use Rattle.vb_monitor.specs.declared.room.Room.{Room}
 use Rattle.std.proofs.Common.{rules, ◌≡◌, ◌∙◌, ap, sym, subst, refl, ℕ, ◌+◌, ◌==◌, ◌++◌, take, List}
 use Rattle.std.proofs.Common.{None, true}
 use Rattle.std.proofs.lemmas.List.{append-nil}
@@ -5,8 +6,8 @@ use Rattle.vb_monitor.specs.Usual.{phase_at, tally_at}
 use Rattle.vb_monitor.specs.declared.orders.Told.TheVariants.{Pages}
 use Rattle.vb_monitor.specs.declared.{orders.{Orders.Orders, Asked.Asked}}
 use Rattle.vb_core.specs.{declared.device.Device.Device}
-use Rattle.vb_monitor.{specs.Giving.{with_given, GivesBack}, specs.Machine.{Ahead, whole, room_of}}
-use Rattle.vb_monitor.specs.{Machine.{AheadAt, Room}, Accesses.Access}
+use Rattle.vb_monitor.{specs.Giving.{with_given, GivesBack}, specs.Machine.{Ahead, whole}}
+use Rattle.vb_monitor.specs.{Machine.AheadAt, Accesses.Access}
 use Rattle.vb_monitor.specs.declared.outcome.{Tally.Tally, Outcome.Outcome}
 use Rattle.vb_monitor.specs.{Machine.next_chain, Orders.{at_once, giving, HasRoom}}
 use Rattle.vb_c.proofs.{ServedLemmas.told_given, UsualLemmas.{says_notice, word_shown, no_part_left}}
@@ -22,7 +23,7 @@ returns-in-Some-clause-hands c =
     let t = tally_of old in
     let kind = c.args.kind in
     let named = c.args.named in
-    let runs = c.args.runs.now in
+    let room = c.args.room.now in
     let count = c.args.count in
     let cuts = c.args.cuts.now in
     let used = c.give_and_go.new.used in
@@ -52,16 +53,16 @@ returns-in-Some-clause-hands c =
             ∙ sym (ap (λ (o : Orders). asked_bits asked o.cuts + answer_bits phase) orders));
       };
       kind_is = refl;
-      step = λ after outcome pieces bytes figures rest h.
+      step = λ after outcome rest h.
           let w = whole c.args.regions.now kind after outcome in
           subst (λ (o : Orders). Ahead w (telling_pages kind t c.args.head named).step
-          c.args.balloon.now.device (room_of pieces bytes runs figures)
-          (at_once asked kind o cuts runs figures rest)) (sym orders)
-          (told_given w (next_chain w t) c.args.balloon.now.device t c.args.head named runs
+          c.args.balloon.now.device room
+          (at_once asked kind o cuts room.runs room.figures rest)) (sym orders)
+          (told_given w (next_chain w t) c.args.balloon.now.device t c.args.head named room.runs
           count cuts None (giving true used ++ rest) (c.requires.parts ∙ sym (append-nil (take count cuts))) refl
           (ap (λ (n : ℕ). held_in (n == 0) old.taken_head old.taken_pages) c.requires.unheld)
-          (goes after outcome (room_of pieces bytes runs figures) rest h));
-      room = subst (λ (o : Orders). HasRoom asked o) (sym orders) (record {
+          (goes after outcome room rest h));
+      has_room = subst (λ (o : Orders). HasRoom asked o) (sym orders) (record {
         runs = λ e. c.requires.few;
         figures = λ e. absurd cc;
         cuts = c.requires.room;
@@ -80,6 +81,6 @@ returns-in-None-clause-hands c =
     let same : c.give_and_go.new.device ≡ c.args.balloon.now.device = search rules in
     subst (λ (d : Device). HandsOver
     (telling_pages c.args.kind (tally_of c.args.shown.now) c.args.head c.args.named)
-    c.args.regions.now c.args.runs.now (record c.args.balloon.now { device = d })
+    c.args.regions.now c.args.room.now (record c.args.balloon.now { device = d })
     c.hand_named.new.balloon c.hand_named.new.cuts c.hand_named.new.shown) same
     c.hand_named.ensures.hands

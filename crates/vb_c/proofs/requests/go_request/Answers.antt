@@ -3,7 +3,7 @@ use Rattle.vb_monitor.{specs.declared.step.Phase.TheVariants.AwaitsPart, specs.M
 use Rattle.vb_monitor.{specs.declared.notice.Notice.Notice, specs.declared.outcome.Tally.Tally}
 use Rattle.vb_core.specs.Settings.{holds_chains}
 use Rattle.vb_monitor.{specs.Giving.with_named, proofs.ServedLemmas.{request_goes, named_next}}
-use Rattle.vb_c.{specs.declared.notice.VbRoom.VbRoom, specs.Serving.{room_in, GoesOnBy, HandsOver}}
+use Rattle.vb_c.{specs.declared.notice.VbRoom.VbRoom, specs.Serving.{GoesOnBy, HandsOver}}
 use Rattle.vb_c.{specs.Notices.{tally_of, place_of}, specs.Served.telling_pages}
 use Rattle.vb_c.proofs.UsualLemmas.{awaits_part, says_notice, copied_part}
 use Rattle.vb_c.proofs.requests.go_request.Goals as goal
@@ -21,10 +21,7 @@ returns-in-Ok-clause-goes c =
     let named = c.in-Ok.named in
     let r1 = c.args.room.now in
     let r2 : VbRoom = record {
-      pieces = r1.pieces;
-      bytes = r1.bytes;
-      runs = c.name_copied.new.runs;
-      figures = r1.figures;
+      copied = record r1.copied { runs = c.name_copied.new.runs };
       cuts = c.serve_named.new.cuts;
     } in
     let t2 = with_named kind d2.settings x.head named.pages s in
@@ -39,11 +36,11 @@ returns-in-Ok-clause-goes c =
       kind_is = refl;
       step = λ after outcome before done rest does h. copied_part _ old.at x.into x.length before _ done
           rest does (request_goes (whole regions kind after outcome) d d2 s x.head _
-          (take (x.into + x.length) r1.bytes) r2.runs (Ok named) rest c.requires.request
+          (take (x.into + x.length) r1.copied.bytes) r2.copied.runs (Ok named) rest c.requires.request
           c.requires.last c.in-Ok.ensures.names
-          (named_next (whole regions kind after outcome) d2 s x.head (take named.runs r2.runs) named
+          (named_next (whole regions kind after outcome) d2 s x.head (take named.runs r2.copied.runs) named
           (holds_chains kind d2.settings) rest h));
-      hands = subst (λ (t : Tally). HandsOver (telling_pages kind t x.head named) regions r2.runs
+      hands = subst (λ (t : Tally). HandsOver (telling_pages kind t x.head named) regions r2.copied
           (record b { device = d2 }) c.serve_named.new.balloon r2.cuts c.serve_named.new.shown)
           c.show_named.ensures.tally
           c.serve_named.ensures.hands;
@@ -63,10 +60,7 @@ returns-in-Err-clause-goes c =
     let why = c.in-Err.why in
     let r1 = c.args.room.now in
     let r2 : VbRoom = record {
-      pieces = r1.pieces;
-      bytes = r1.bytes;
-      runs = c.name_copied.new.runs;
-      figures = r1.figures;
+      copied = record r1.copied { runs = c.name_copied.new.runs };
       cuts = c.hand_denied.new.cuts;
     } in
     subst (λ (o : Option Notice). GoesOnBy o regions c.args.answer b c.hand_denied.new.balloon r1 r2
@@ -79,7 +73,7 @@ returns-in-Err-clause-goes c =
       kind_is = denies.kind_is;
       step = λ after outcome before done rest does h. copied_part _ old.at x.into x.length before _ done
           rest does (request_goes (whole regions kind after outcome) d d2 s x.head _
-          (take (x.into + x.length) r1.bytes) r2.runs (Err why) rest c.requires.request
-          c.requires.last c.in-Err.ensures.names (denies.step after outcome (room_in r2) rest h));
+          (take (x.into + x.length) r1.copied.bytes) r2.copied.runs (Err why) rest c.requires.request
+          c.requires.last c.in-Err.ensures.names (denies.step after outcome r2.copied rest h));
       hands = denies.hands;
     })

@@ -8,6 +8,6 @@ returns-in-TellsPages-clause-hands c =
     let n = c.args.notice.now in
     subst (λ (p : Phase). HandsOver
     (record { kind = n.kind; step = record { tally = n.step.tally; phase = p } })
-    c.args.regions.now c.args.runs.now c.args.balloon.now c.hand_pages.new.balloon
+    c.args.regions.now c.args.room.now c.args.balloon.now c.hand_pages.new.balloon
     c.hand_pages.new.cuts c.hand_pages.new.shown) (sym c.in-TellsPages.is)
     c.hand_pages.ensures.hands

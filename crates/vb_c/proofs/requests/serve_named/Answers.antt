@@ -3,7 +3,7 @@ use Rattle.std.proofs.Common.{Some}
 use Rattle.vb_monitor.specs.declared.step.Phase.TheVariants.{Discards}
 use Rattle.vb_monitor.specs.declared.orders.Told.TheVariants.{Pages}
 use Rattle.vb_monitor.specs.declared.{orders.{Orders.Orders, Asked.Asked}, step.Discarding.Discarding}
-use Rattle.vb_monitor.{specs.Machine.{Ahead, whole, room_of, next_chain}}
+use Rattle.vb_monitor.{specs.Machine.{Ahead, whole, next_chain}}
 use Rattle.vb_monitor.specs.Orders.{at_once, HasRoom, FillsList}
 use Rattle.vb_c.proofs.{ServedLemmas.{told_left}, UsualLemmas.says_notice}
 use Rattle.vb_c.specs.{Codes.kind_of_code, Notices.{tally_of, held_in, asked_bits, answer_bits}}
@@ -18,7 +18,7 @@ returns-in-Some-clause-hands c =
     let t = tally_of old in
     let kind = c.args.kind in
     let named = c.args.named in
-    let runs = c.args.runs.now in
+    let room = c.args.room.now in
     let unheld : old.taken ≡ 0 = omega arith in
     let filled = c.fill_named-filled.result in
     let cuts = c.fill_named-filled.new.cuts in
@@ -41,15 +41,15 @@ returns-in-Some-clause-hands c =
             ∙ sym (ap (λ (o : Orders). asked_bits asked o.cuts + answer_bits phase) orders));
       };
       kind_is = refl;
-      step = λ after outcome pieces bytes figures rest h.
+      step = λ after outcome rest h.
           let w = whole c.args.regions.now kind after outcome in
           subst (λ (o : Orders). Ahead w (telling_pages kind t c.args.head named).step
-          c.args.balloon.now.device (room_of pieces bytes runs figures)
-          (at_once asked kind o cuts runs figures rest)) (sym orders)
-          (told_left w (next_chain w t) c.args.balloon.now.device t c.args.head named runs
+          c.args.balloon.now.device room
+          (at_once asked kind o cuts room.runs room.figures rest)) (sym orders)
+          (told_left w (next_chain w t) c.args.balloon.now.device t c.args.head named room.runs
           filled.count cuts filled.left left rest c.fill_named-filled.ensures.parts some
           (ap (λ (n : ℕ). held_in (n == 0) old.taken_head old.taken_pages) unheld) h);
-      room = subst (λ (o : Orders). HasRoom asked o) (sym orders) (record {
+      has_room = subst (λ (o : Orders). HasRoom asked o) (sym orders) (record {
         runs = λ e. c.requires.few;
         figures = λ e. absurd cc;
         cuts = c.fill_named-filled.ensures.few;

@@ -12,13 +12,7 @@ returns-clause-goes c =
     let x = c.place.result in
     let d = c.args.balloon.now.device in
     let r1 = c.args.room.now in
-    let r2 : VbRoom = record {
-      pieces = r1.pieces;
-      bytes = r1.bytes;
-      runs = c.after_part-step.new.runs;
-      figures = c.after_part-step.new.figures;
-      cuts = c.hand_step.new.cuts;
-    } in
+    let r2 : VbRoom = record { copied = c.after_part-step.new.room; cuts = c.hand_step.new.cuts } in
     subst (λ (o : Option Notice). GoesOnBy o c.args.regions.now c.args.answer c.args.balloon.now
     c.hand_step.new.balloon r1 r2 c.hand_step.new.shown)
     (sym (says_notice c.args.kind (AwaitsPart old.at x) s old c.requires.kind

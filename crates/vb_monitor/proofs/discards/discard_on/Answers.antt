@@ -7,9 +7,9 @@ pub returns-in-Some-clause-left : goal.returns-in-Some-clause-left
 returns-in-Some-clause-left c =
     let (on, below, some, to) = c.in-Some.ensures.within in
     let few : c.in-Some.found.run < MAX_RUNS =
-    let most = few_taken c.args.count c.args.runs.now c.first_runs.result.now c.first_runs.ensures
+    let most = few_taken c.args.discarding.runs c.args.room.now.runs c.first_runs.result.now c.first_runs.ensures
     c.told-runs in
     omega (arith, below, most) in
-    let less = parts_within (length c.args.regions.now) c.args.from c.in-Some.found.run
+    let less = parts_within (length c.args.regions.now) c.args.discarding.run c.in-Some.found.run
     c.in-Some.found.from on few some to in
     omega (arith, less)

@@ -1,12 +1,12 @@
 use Rattle.std.proofs.Common.{subst}
 use Rattle.vb_core.specs.declared.kinds.Kind.{Kind}
-use Rattle.vb_monitor.specs.Machine.{Ahead, whole, room_of}
+use Rattle.vb_monitor.specs.Machine.{Ahead, whole}
 use Rattle.vb_monitor.proofs.serving.serve.Goals as goal
 
 pub returns : goal.returns
 returns g c =
     let done = c.serve_all.ensures in
-    let room = room_of c.args.pieces.now c.args.bytes.now c.args.runs.now c.args.figures.now in
+    let room = c.args.room.now in
     record {
       log = done.log;
       steps = done.steps;

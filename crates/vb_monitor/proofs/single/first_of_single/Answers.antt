@@ -20,12 +20,12 @@ none_taken : (bs : List ChainPiece) (n : ℕ) → n ≡ 0 → pieces_in (take n 
 none_taken bs n e = ap (λ (k : ℕ). pieces_in (take k bs)) e ∙ none_in
 
 pub returns-in-Some-find_from-clause-goes : goal.returns-in-Some-find_from-clause-goes
-returns-in-Some-find_from-clause-goes c tally after outcome runs figures log h =
+returns-in-Some-find_from-clause-goes c tally after outcome log h =
     let count = c.args.walk.count in
     let zero : count ≡ 0 = search rules in
     let d = c.args.device.now in
     let x = c.descriptor_of-descriptor.result in
-    let ps = pieces_in (take count c.args.pieces.now) in
+    let ps = pieces_in (take count c.args.room.now.pieces) in
     let part = c.first_part-part.result in
     let part_is : c.first_part-part.result ≡ first_part (piece_of x) =
     c.first_part-part.ensures ∙ ap (λ (p : Piece). first_part p) c.buffer_of.ensures in
@@ -33,11 +33,11 @@ returns-in-Some-find_from-clause-goes c tally after outcome runs figures log h =
     Some c.in-Some-find_from.at = search rules in
     single_goes (whole c.args.regions.now c.args.kind after outcome) d tally _ c.args.walk.head
     c.args.walk.writing ps (pieces_in (take (count + 1) c.push_piece.new.pieces))
-    (take DESCRIPTOR_SIZE (take (row_bytes c.args.walk) c.args.bytes.now)) x part
-    c.in-Some-find_from.at log part_is (none_taken c.args.pieces.now count zero) c.push_piece.ensures
+    (take DESCRIPTOR_SIZE (take (row_bytes c.args.walk) c.args.room.now.bytes)) x part
+    c.in-Some-find_from.at log part_is (none_taken c.args.room.now.pieces count zero) c.push_piece.ensures
     (sym (c.descriptor_of-descriptor.ensures
     ∙ ap (λ (bs : List ℕ). descriptor_of bs)
-    (c.first_bytes.ensures ∙ sym (front_of_row c.args.walk c.args.bytes.now))))
+    (c.first_bytes.ensures ∙ sym (front_of_row c.args.walk c.args.room.now.bytes))))
     (grind (arith, length_in, c.table_fault.ensures.fault, c.in_default.not-Some))
     (sym c.is_single.ensures ∙ search rules) place h
 
@@ -47,9 +47,9 @@ placed : (c : After-table_fault) (fault : Option ChainFault) (place : Option Spo
     spot c.args.regions.now c.descriptor_of-descriptor.result.addr
     (first_part (piece_of c.descriptor_of-descriptor.result)).length ≡ place →
     single_of c.args.walk c.descriptor_of-descriptor.result (if is_none fault then place else None)
-    ≡ single_of c.args.walk (descriptor_of (take DESCRIPTOR_SIZE c.args.bytes.now))
+    ≡ single_of c.args.walk (descriptor_of (take DESCRIPTOR_SIZE c.args.room.now.bytes))
     (single_place c.args.regions.now c.args.kind c.args.walk
-    (descriptor_of (take DESCRIPTOR_SIZE c.args.bytes.now)) (memory_end c.args.device.now)
+    (descriptor_of (take DESCRIPTOR_SIZE c.args.room.now.bytes)) (memory_end c.args.device.now)
     (ring_of c.args.kind c.args.device.now))
 placed c =
     let x = c.descriptor_of-descriptor.result in
@@ -57,12 +57,12 @@ placed c =
     let end = memory_end c.args.device.now in
     let zero : c.args.walk.count ≡ 0 = search rules in
     let none : length c.first_pieces.result.now ≡ 0 = ap length c.first_pieces.ensures
-    ∙ ap (λ (k : ℕ). length (take k c.args.pieces.now)) zero in
+    ∙ ap (λ (k : ℕ). length (take k c.args.room.now.pieces)) zero in
     let seen : table_fault (descriptors r) end c.args.walk.writing 0 x ≡ c.table_fault.result =
     ap (λ (n : ℕ). table_fault (descriptors r) end c.args.walk.writing n x) (sym none)
     ∙ sym c.table_fault.ensures.fault in
     λ fault place broken there. sym (single_by c.args.regions.now c.args.kind c.args.walk
-    (take DESCRIPTOR_SIZE c.args.bytes.now) x end r fault place zero
+    (take DESCRIPTOR_SIZE c.args.room.now.bytes) x end r fault place zero
     (sym c.is_single.ensures ∙ search rules) (sym (c.descriptor_of-descriptor.ensures
     ∙ ap (λ (bs : List ℕ). descriptor_of bs) c.first_bytes.ensures)) (seen ∙ broken) there)
 

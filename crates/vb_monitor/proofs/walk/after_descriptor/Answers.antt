@@ -3,7 +3,7 @@ use Rattle.vb_core.specs.declared.{device.Device.Device, ring.Virtqueue.Virtqueu
 use Rattle.vb_core.specs.{Devices.ring_of, Pieces.pieces_in}
 use Rattle.vb_monitor.specs.declared.{outcome.Outcome.Outcome, rows.RowEnd.RowEnd}
 use Rattle.vb_monitor.specs.{Accesses.Access, Rows.EndsRow}
-use Rattle.vb_monitor.specs.Machine.{whole, serves, room_of, row_in, row_bytes}
+use Rattle.vb_monitor.specs.Machine.{whole, serves, row_in, row_bytes}
 use Rattle.vb_monitor.specs.Chains.{descriptors, row_of, Follows}
 use Rattle.vb_monitor.proofs.TableRowLemmas.{At}
 use Rattle.vb_monitor.proofs.walk.after_descriptor.Goals.{After-walk_row-walked}
@@ -22,30 +22,30 @@ goes : (c : After-walk_row-walked) (after : Device) (outcome : Outcome) (log : L
     (pieces_in (take c.walk_row-walked.result.count c.walk_row-walked.new.pieces)) log →
     At (whole c.args.regions.now c.args.kind after outcome) c.args.device.now c.args.tally
     c.args.walk.head (descriptors (ring_of c.args.kind c.args.device.now))
-    (row_in c.args.walk c.args.bytes.now) c.args.walk.count c.args.walk.writing
-    (pieces_in (take c.args.walk.count c.args.pieces.now))
-    (take 16 (take (row_bytes c.args.walk) c.args.bytes.now)) log
+    (row_in c.args.walk c.args.room.now.bytes) c.args.walk.count c.args.walk.writing
+    (pieces_in (take c.args.walk.count c.args.room.now.pieces))
+    (take 16 (take (row_bytes c.args.walk) c.args.room.now.bytes)) log
 goes c after outcome log end is =
     let w = whole c.args.regions.now c.args.kind after outcome in
     let d = c.args.device.now in
     let t = c.args.tally in
     let walk = c.args.walk in
     let walked = c.walk_row-walked.result in
-    let ps = pieces_in (take walk.count c.args.pieces.now) in
+    let ps = pieces_in (take walk.count c.args.room.now.pieces) in
     let qs = pieces_in (take walked.count c.walk_row-walked.new.pieces) in
     let size : c.descriptors-size.result ≡ descriptors (ring_of c.args.kind d) =
     c.descriptors-size.ensures ∙ ap (λ (r : Virtqueue). descriptors r) c.ring.ensures in
-    let copied : c.first_bytes-row.result.now ≡ take (row_bytes walk) c.args.bytes.now =
-    c.first_bytes-row.ensures ∙ ap (λ (n : ℕ). take n c.args.bytes.now) c.row_bytes.ensures in
+    let copied : c.first_bytes-row.result.now ≡ take (row_bytes walk) c.args.room.now.bytes =
+    c.first_bytes-row.ensures ∙ ap (λ (n : ℕ). take n c.args.room.now.bytes) c.row_bytes.ensures in
     subst (λ (end : RowEnd). EndsRow end w d t (Follows (descriptors (ring_of c.args.kind d)
     - (walked.count + 1)) w d t (serves w t d walk.head)) (serves w t d walk.head) walked.writing
     qs log → At w d t walk.head (descriptors (ring_of c.args.kind d))
-    (row_in walk c.args.bytes.now) walk.count walk.writing ps
-    (take 16 (take (row_bytes walk) c.args.bytes.now)) log) is
+    (row_in walk c.args.room.now.bytes) walk.count walk.writing ps
+    (take 16 (take (row_bytes walk) c.args.room.now.bytes)) log) is
     (subst (λ (n : ℕ). EndsRow walked.end w d t (Follows (n - (walked.count + 1)) w d t
     (serves w t d walk.head)) (serves w t d walk.head) walked.writing qs log →
-    At w d t walk.head n (row_in walk c.args.bytes.now) walk.count walk.writing ps
-    (take 16 (take (row_bytes walk) c.args.bytes.now)) log) size
+    At w d t walk.head n (row_in walk c.args.room.now.bytes) walk.count walk.writing ps
+    (take 16 (take (row_bytes walk) c.args.room.now.bytes)) log) size
     (subst (λ (row : List ℕ). EndsRow walked.end w d t
     (Follows (c.descriptors-size.result - (walked.count + 1)) w d t (serves w t d walk.head))
     (serves w t d walk.head) walked.writing qs log →
@@ -57,7 +57,7 @@ pub returns-in-Broken-clause-step : goal.returns-in-Broken-clause-step
 returns-in-Broken-clause-step c after outcome log h =
     goes (goal.at.returns-in-Broken-clause-step c).After-walk_row-walked after outcome log _ c.in-Broken.is
     (c.fail.ensures.step after outcome
-    (room_of c.walk_row-walked.new.pieces c.args.bytes.now c.args.runs.now c.args.figures.now) log h)
+    (record c.args.room.now { pieces = c.walk_row-walked.new.pieces }) log h)
 
 pub returns-in-Last-clause-step : goal.returns-in-Last-clause-step
 returns-in-Last-clause-step c after outcome log h =
@@ -68,5 +68,5 @@ pub returns-in-Leaves-clause-step : goal.returns-in-Leaves-clause-step
 returns-in-Leaves-clause-step c after outcome log h =
     goes (goal.at.returns-in-Leaves-clause-step c).After-walk_row-walked after outcome log _ c.in-Leaves.is
     (λ some. c.ask_next.ensures.step after outcome
-    (room_of c.walk_row-walked.new.pieces c.args.bytes.now c.args.runs.now c.args.figures.now) log
+    (record c.args.room.now { pieces = c.walk_row-walked.new.pieces }) log
     some h)

@@ -2,7 +2,7 @@ use Rattle.std.proofs.Common.{◌∙◌, ap, refl, arith, ℕ, List, ◌++◌}
 use Rattle.vb_monitor.specs.Usual.{first_walk}
 use Rattle.vb_monitor.{specs.declared.orders.Orders.Orders, specs.Accesses.Access}
 use Rattle.vb_monitor.specs.declared.step.Phase.TheVariants.{AwaitsEntry, AwaitsDescriptor}
-use Rattle.vb_c.{specs.Codes.kind_of_code, specs.Notices.tally_of, specs.Serving.room_in}
+use Rattle.vb_c.{specs.Codes.kind_of_code, specs.Notices.tally_of}
 use Rattle.vb_c.proofs.UsualLemmas.{awaits_entry, goes_usual}
 use Rattle.vb_c.proofs.usual.EntryUsual.go.Goals as goal
 
@@ -22,5 +22,5 @@ returns-in-Some-clause-went c e =
       head = c.args.head;
       rest = rest;
       asks = ap (λ (l : List Access). l ++ rest) does;
-      goes_on = c.in-Some.ensures.goes s after outcome (room_in c.args._room.now) rest h;
+      goes_on = c.in-Some.ensures.goes s after outcome c.args._room.now.copied rest h;
     })

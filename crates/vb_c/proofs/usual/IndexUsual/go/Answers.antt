@@ -3,7 +3,7 @@ use Rattle.vb_monitor.{specs.declared.orders.Orders.Orders, specs.declared.outco
 use Rattle.vb_monitor.specs.declared.step.Phase.TheVariants.{AwaitsIndex}
 use Rattle.vb_monitor.{specs.Accesses.Access, specs.Notices.with_published}
 use Rattle.vb_monitor.specs.Usual.{phase_at, tally_at}
-use Rattle.vb_c.{specs.Codes.kind_of_code, specs.Serving.room_in, specs.Notices.answer_bits}
+use Rattle.vb_c.{specs.Codes.kind_of_code, specs.Notices.answer_bits}
 use Rattle.vb_c.proofs.UsualLemmas.{awaits_index, no_bits, word_shown, goes_usual}
 use Rattle.vb_c.proofs.usual.IndexUsual.go.Goals as goal
 
@@ -26,5 +26,5 @@ returns-in-Some-clause-went c e =
       index = c.args.index;
       rest = rest;
       asks = ap (λ (l : List Access). l ++ rest) does;
-      goes_on = c.in-Some.ensures.goes after outcome (room_in c.args._room.now) rest h;
+      goes_on = c.in-Some.ensures.goes after outcome c.args._room.now.copied rest h;
     })

@@ -14,7 +14,7 @@ returns-in-Some-clause-went c e =
     let x = c.walk.result in
     let first = c.in-Some.first in
     let r1 = c.args.room.now in
-    let r2 : VbRoom = record r1 { pieces = c.first_of_single.new.pieces } in
+    let r2 : VbRoom = record r1 { copied = c.first_of_single.new.room } in
     let shown = c.show_part.ensures in
     let (tally, kind, orders) = shown.kept in
     goes_usual c.args.kind (AwaitsDescriptor old.at x) (AwaitsPart first.at first.place) s s
@@ -25,4 +25,4 @@ returns-in-Some-clause-went c e =
     shown.what (ap (λ (o : Orders). o.cuts) orders) refl c.in-Some.ensures.fits refl
     (λ after outcome before done rest does h. copied_row
     (whole c.args.regions.now c.args.kind after outcome) d s _ _ x _ old.at before _ done rest
-    does (c.in-Some.ensures.goes s after outcome r1.runs r1.figures rest h))
+    does (c.in-Some.ensures.goes s after outcome rest h))

@@ -1,5 +1,5 @@
 use Rattle.std.proofs.Common.{rules, sym, ◌∙◌}
-use Rattle.vb_monitor.specs.Machine.{Ahead, whole, room_of}
+use Rattle.vb_monitor.specs.Machine.{Ahead, whole}
 use Rattle.vb_monitor.proofs.{StepLemmas.{ended_so, goes_further}, LeftLemmas.not_over}
 use Rattle.vb_monitor.proofs.notice.Notice.serve_all.Goals as goal
 
@@ -13,8 +13,7 @@ returns-in-Some g c =
     ended_so g.M.LiveMemory.goes c.args.memory.now c.loop-outcome.memory c.in-Some.outcome
     c.args.regions.now c.args.self.now.kind
     (λ after outcome. Ahead (whole c.args.regions.now c.args.self.now.kind after outcome)
-    c.args.self.now.step c.args.device.now (room_of c.args.pieces.now c.args.bytes.now
-    c.args.runs.now c.args.figures.now)) c.loop-outcome.self.step c.loop-outcome.device _
+    c.args.self.now.step c.args.device.now c.args.room.now) c.loop-outcome.self.step c.loop-outcome.device _
     (sym c.in-Some.is ∙ c.outcome.ensures) c.loop-outcome.invariant.goes
 
 pub loop-outcome-preserved : goal.loop-outcome-preserved
@@ -27,7 +26,7 @@ loop-outcome-preserved g c =
       goes = goes_further g.M.LiveMemory.goes c.args.memory.now l.memory n.memory c.args.regions.now
           c.args.self.now.kind l.self.kind c.args.self.now.step l.self.step n.self.step
           c.args.device.now l.device n.device
-          (room_of c.args.pieces.now c.args.bytes.now c.args.runs.now c.args.figures.now)
-          (room_of l.pieces l.bytes l.runs l.figures) (room_of n.pieces n.bytes n.runs n.figures)
+          c.args.room.now
+          l.room n.room
           l.invariant.kind l.invariant.goes c.serve_step.ensures.step;
     }

@@ -1,5 +1,5 @@
 use Rattle.std.proofs.Common.{◌≡◌}
-use Rattle.vb_monitor.{specs.Machine.{Fits, GoesOn, Ahead, whole, room_of}, specs.Left.left}
+use Rattle.vb_monitor.{specs.Machine.{Fits, GoesOn, Ahead, whole}, specs.Left.left}
 use Rattle.vb_monitor.proofs.notice.Notice.serve_all.Given as goal
 
 abbrev pub invariant-loop-outcome : goal.invariant-loop-outcome
@@ -8,9 +8,9 @@ invariant-loop-outcome g l = record {
   fits : Fits l.self.step.phase;
   goes : GoesOn g.M.LiveMemory.goes l.fn.memory l.memory
       (λ after outcome. Ahead (whole l.regions l.fn.self.kind after outcome) l.fn.self.step
-      l.fn.device (room_of l.fn.pieces l.fn.bytes l.fn.runs l.fn.figures))
+      l.fn.device l.fn.room)
       (λ after outcome. Ahead (whole l.regions l.fn.self.kind after outcome) l.self.step
-      l.device (room_of l.pieces l.bytes l.runs l.figures));
+      l.device l.room);
 }
 
 abbrev pub decreases-loop-outcome : goal.decreases-loop-outcome

@@ -1,5 +1,4 @@
 use Rattle.std.proofs.Common.{◌∙◌}
-use Rattle.vb_monitor.specs.Machine.{room_of}
 use Rattle.vb_monitor.proofs.{StepLemmas.goes_further}
 use Rattle.vb_monitor.proofs.notice.Notice.serve_steps.Goals as goal
 
@@ -13,7 +12,7 @@ loop-preserved g c =
       goes = goes_further g.M.LiveMemory.goes c.args.memory.now l.memory n.memory c.args.regions.now
           c.args.self.now.kind l.self.kind c.args.self.now.step l.self.step n.self.step
           c.args.device.now l.device n.device
-          (room_of c.args.pieces.now c.args.bytes.now c.args.runs.now c.args.figures.now)
-          (room_of l.pieces l.bytes l.runs l.figures) (room_of n.pieces n.bytes n.runs n.figures)
+          c.args.room.now
+          l.room n.room
           l.invariant.kind l.invariant.goes c.serve_step.ensures.step;
     }

@@ -1,5 +1,5 @@
 use Rattle.std.proofs.Common.{◌≡◌}
-use Rattle.vb_monitor.specs.Machine.{Fits, GoesOn, Ahead, whole, room_of}
+use Rattle.vb_monitor.specs.Machine.{Fits, GoesOn, Ahead, whole}
 use Rattle.vb_monitor.proofs.notice.Notice.serve_steps.Given as goal
 
 abbrev pub invariant-loop : goal.invariant-loop
@@ -8,7 +8,7 @@ invariant-loop g l = record {
   fits : Fits l.self.step.phase;
   goes : GoesOn g.M.LiveMemory.goes l.fn.memory l.memory
       (λ after outcome. Ahead (whole l.regions l.fn.self.kind after outcome) l.fn.self.step
-      l.fn.device (room_of l.fn.pieces l.fn.bytes l.fn.runs l.fn.figures))
+      l.fn.device l.fn.room)
       (λ after outcome. Ahead (whole l.regions l.fn.self.kind after outcome) l.self.step
-      l.device (room_of l.pieces l.bytes l.runs l.figures));
+      l.device l.room);
 }
