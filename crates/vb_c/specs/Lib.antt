@@ -8,4 +8,3 @@ pub mod Serving
 pub mod Places
 pub mod Queues
 pub mod Lending
-pub mod Served

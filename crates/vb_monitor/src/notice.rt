@@ -28,7 +28,7 @@ pub struct Notice {
 }
 
 /// What is to be done once a phase was, with this answer.
-#[inline(never)]
+#[inline(always)]
 fn advance(
     step: &Step,
     device: &mut Device,
