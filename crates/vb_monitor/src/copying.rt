@@ -155,7 +155,7 @@ fn copy_second(
 
 /// A part was copied after the others.
 #[tactic(auto, using(crate::proofs::NextLemmas::end_steps))]
-pub fn after_part(
+pub(crate) fn after_part(
     device: &mut Device,
     regions: &[Region],
     kind: Kind,

@@ -10,7 +10,7 @@ ghost use Rattle.vb_monitor.specs.Regions.{cuts_of};
 ghost use Rattle.vb_core.specs.Config.{keeps_reports};
 ghost use Rattle.vb_monitor.specs.declared.regions.Region.{Region};
 ghost use Rattle.vb_monitor.specs.Giving.{cuts_for, is_kept, kept_pages, DiscardsThen, OnceTold};
-ghost use Rattle.vb_monitor.specs.Served.{is_discarded};
+ghost use Rattle.vb_monitor.specs.Giving.{is_discarded};
 ghost use Rattle.vb_monitor.specs.Machine.{Fits, stage, Ahead, whole, next_chain};
 ghost use Rattle.vb_monitor.specs.Machine.{cuts_behind};
 ghost use Rattle.vb_monitor.specs.Left.{left, of_chains, parts_left};
@@ -26,7 +26,7 @@ use crate::{Phase, Region, Room, Step, Tally};
 use vb_core::{Device, Kind, Run};
 
 /// The first `count` runs.
-pub fn first_runs(runs: &[Run; MAX_RUNS], count: usize) -> &[Run]
+pub(crate) fn first_runs(runs: &[Run; MAX_RUNS], count: usize) -> &[Run]
     ensures { result.now ≡ take count runs.now }
 {
     &runs[..count.min(MAX_RUNS)]
@@ -47,7 +47,7 @@ fn is_kept(device: &Device, kind: Kind, keeps: bool) -> bool
 
 /// How many of `pages` pages that a kind's chains name are kept, by such a notice.
 #[inline(always)]
-pub fn kept_pages(device: &Device, kind: Kind, keeps: bool, pages: u32) -> u32
+pub(crate) fn kept_pages(device: &Device, kind: Kind, keeps: bool, pages: u32) -> u32
     ensures { result ≡ kept_pages (is_kept kind keeps (keeps_reports device.now)) pages }
 {
     if is_kept(device, kind, keeps) {
@@ -59,7 +59,7 @@ pub fn kept_pages(device: &Device, kind: Kind, keeps: bool, pages: u32) -> u32
 
 /// Whether what a kind's chains name is discarded, by such a notice.
 #[inline(always)]
-pub(crate) fn discards(device: &Device, kind: Kind, keeps: bool) -> bool
+fn discards(device: &Device, kind: Kind, keeps: bool) -> bool
     ensures value { result ≡ is_discarded kind (is_kept kind keeps (keeps_reports device.now)) }
     ensures yes { result ≡ true → (regions : List Region) (runs : List Run) →
         cuts_for kind (is_kept kind keeps (keeps_reports device.now)) regions runs ≡

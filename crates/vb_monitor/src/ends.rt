@@ -42,7 +42,7 @@ pub(crate) fn stop(tally: Tally, why: Option<Denial>, interrupt: bool, more: boo
 /// The notice ends: where a chain was given back, the driver is asked whether it wants an
 /// interrupt.
 #[inline(never)]
-pub fn end(
+pub(crate) fn end(
     device: &Device,
     regions: &[Region],
     kind: Kind,

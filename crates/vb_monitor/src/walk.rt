@@ -170,7 +170,7 @@ fn ask_next(
 
 /// The bytes of a row of descriptors were copied to the front of these.
 #[tactic(auto, using(crate::proofs::BufferLemmas::length_in))]
-pub fn after_descriptor(
+pub(crate) fn after_descriptor(
     device: &mut Device,
     regions: &[Region],
     kind: Kind,
