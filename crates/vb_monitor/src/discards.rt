@@ -113,7 +113,8 @@ fn discard_on(
     ensures fits { Fits result.phase }
     ensures stage { 1 ≤ stage result.phase }
     ensures left { left regions.now result ≤
-        of_chains regions.now tally.chains + (2 + (MAX_RUNS - discarding.run) * length regions.now) }
+        of_chains regions.now tally.chains
+        + (2 + (MAX_RUNS - discarding.run) * length regions.now) }
 {
     let named = first_runs(&room.runs, discarding.runs as usize);
     match first_cut(regions, named, discarding.run) {
@@ -142,7 +143,8 @@ pub(crate) fn after_told(
     ensures fits { Fits result.phase }
     ensures stage { 1 ≤ stage result.phase }
     ensures left { left regions.now result ≤
-        of_chains regions.now tally.chains + (2 + (MAX_RUNS - discarding.run) * length regions.now) }
+        of_chains regions.now tally.chains
+        + (2 + (MAX_RUNS - discarding.run) * length regions.now) }
 {
     if tally.held.is_some() {
         return end(device, regions, kind, tally, None, false);

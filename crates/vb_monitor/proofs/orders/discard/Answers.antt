@@ -1,7 +1,8 @@
 use Rattle.std.proofs.Common.{◌≡◌, ◌∷◌, ◌++◌, List, map, sym, subst, take}
 use Rattle.vb_core.specs.declared.runs.Run.{Run}
 use Rattle.vb_monitor.{specs.declared.step.Phase.Phase, specs.Accesses.Discard}
-use Rattle.vb_monitor.{specs.Machine.{AheadAt, whole, cuts_behind}, specs.Orders.cuts_left}
+use Rattle.vb_monitor.specs.declared.step.Step.{Step}
+use Rattle.vb_monitor.{specs.Machine.{Ahead, AheadAt, whole, cuts_behind}, specs.Orders.cuts_left}
 use Rattle.vb_monitor.proofs.OrderLemmas.{discards_some}
 use Rattle.vb_monitor.proofs.orders.discard.Goals as goal
 
@@ -18,4 +19,6 @@ returns-in-Some-clause-step c after outcome rest h =
     _ _ _ _ _ _
     (subst (λ (rs : List Run). c.in-Discards.cut ∷ cuts_behind x.from x.run c.args.regions.now rs ≡
     first ++ cuts_left c.args.regions.now rs filled.left)
-    c.first_runs-named.ensures c.fill-filled.ensures.parts) c.in-Some.is h)
+    c.first_runs-named.ensures c.fill-filled.ensures.parts) c.in-Some.is
+    (subst (λ (s : Step). Ahead w s c.args.device.now c.args.room.now rest)
+    c.discard_next.ensures h))

@@ -1,3 +1,5 @@
+use Rattle.std.proofs.Common.{subst, ◌++◌}
+use Rattle.vb_monitor.specs.{Machine.{Ahead, whole}, declared.room.Room.Room}
 use Rattle.vb_monitor.proofs.notice.Notice.serve_step.Goals as goal
 
 pub returns-clause-step : goal.returns-clause-step
@@ -5,5 +7,8 @@ returns-clause-step g c = let done = c.perform-answer.ensures.does in record {
   log = done.log;
   steps = done.steps;
   is = λ after outcome rest h.
-      c.next.ensures.step after outcome c.args.room.now.bytes done.log rest done.is h;
+      subst (λ (r : Room). Ahead (whole c.args.regions.now c.args.self.now.kind after outcome)
+      c.args.self.now.step c.args.device.now (record r { bytes = c.args.room.now.bytes })
+      (done.log ++ rest)) c.perform-answer.ensures.stays
+      (c.next.ensures.step after outcome c.args.room.now.bytes done.log rest done.is h);
 }
