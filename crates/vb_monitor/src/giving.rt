@@ -11,7 +11,7 @@ ghost use Rattle.vb_monitor.specs.Left.{left, of_chains};
 
 use crate::ends::{end, fail};
 use crate::regions::find_from;
-use crate::{Phase, Region, Spot, Step, Tally};
+use crate::{Phase, Region, Spot, Step};
 use vb_chain::ChainFault;
 use vb_core::{Device, Kind, UsedEntry};
 use vb_ring::{RING_WORD_SIZE, USED_FIELD_SIZE, USED_LENGTH_AT};
@@ -48,28 +48,25 @@ fn used_spots(regions: &[Region], entry: &UsedEntry) -> Option<UsedSpots>
 /// Gives the chain of this head back.
 #[inline(never)]
 pub(crate) fn give_back(
+    step: &mut Step,
     device: &mut Device,
     regions: &[Region],
     kind: Kind,
-    tally: Tally,
     head: u16,
-) -> Step
+)
     ensures step { (after : Device) (outcome : Outcome) (room : Room) (log : List Access) →
-        Ahead (whole regions.now kind after outcome) result device.new room log →
+        Ahead (whole regions.now kind after outcome) step.new device.new room log →
         GivesBack (whole regions.now kind after outcome)
-        (next_chain (whole regions.now kind after outcome) tally) device.old tally head log }
-    ensures fits { Fits result.phase }
-    ensures stage { 2 ≤ stage result.phase }
-    ensures left { left regions.now result ≤ of_chains regions.now tally.chains + 2 }
+        (next_chain (whole regions.now kind after outcome) step.old.tally) device.old step.old.tally head log }
+    ensures fits { Fits step.new.phase }
+    ensures stage { 2 ≤ stage step.new.phase }
+    ensures left { left regions.now step.new ≤ of_chains regions.now step.old.tally.chains + 2 }
 {
     match device.use_chain(kind, u32::from(head)) {
-        Err(why) => end(device, regions, kind, tally, Some(why), false),
+        Err(why) => end(step, device, regions, kind, Some(why), false),
         Ok(entry) => match used_spots(regions, &entry) {
-            None => fail(device, regions, kind, tally, ChainFault::OutOfRam),
-            Some(spots) => Step {
-                tally,
-                phase: Phase::GivesBack { spots, entry },
-            },
+            None => fail(step, device, regions, kind, ChainFault::OutOfRam),
+            Some(spots) => step.phase = Phase::GivesBack { spots, entry },
         },
     }
 }
