@@ -22,8 +22,8 @@ extern "C" {
 
 /* The version of this header. Until 1.0.0 the second number changes with each change that a caller may have to follow, else the
  * third one. vb_version says the library's: it has to be VB_VERSION_NUMBER, or to differ in the third number alone. */
-#define VB_VERSION "0.1.0"
-#define VB_VERSION_NUMBER 0x000100u     /* 65536 times the first number, 256 times the second, and the third */
+#define VB_VERSION "0.2.0"
+#define VB_VERSION_NUMBER 0x000200u     /* 65536 times the first number, 256 times the second, and the third */
 
 /* tools/list-codes: numbers, from here */
 enum {                          /* answers: `code` */

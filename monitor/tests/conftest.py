@@ -3,6 +3,7 @@
 import argparse
 
 import pytest
+from linux_vmms import VMMS
 from programs import built_once
 
 
@@ -18,7 +19,7 @@ def pytest_addoption(parser):
     """The options of all suites."""
     parser.addoption("--wrong", metavar="NAME", help="a program that is wrong on purpose, or all: what is for it has to refuse it")
     parser.addoption("--times", type=count, default=1, metavar="K", help="each run of a Linux k times")
-    parser.addoption("--client", default="uml", choices=("uml", "qemu"), help="the client: qemu is one under emulation")
+    parser.addoption("--vmm", default="uml", choices=VMMS, help="what runs a Linux")
 
 
 def is_chosen(item, wrong):
@@ -28,14 +29,10 @@ def is_chosen(item, wrong):
 
 
 def pytest_collection_modifyitems(config, items):
-    """Leaves out programs that are wrong, and clients under emulation, where they aren't asked for; else all others."""
+    """Leaves out programs that are wrong where they aren't asked for; else all others."""
     wrong = config.getoption("--wrong")
-    chosen = [it for it in items if is_chosen(it, wrong)]
-    emulated = [it for it in chosen if it.get_closest_marker("qemu")]
-    if not emulated or config.getoption("--client") != "qemu":
-        emulated = [it for it in chosen if it not in emulated]
-    config.hook.pytest_deselected(items=[it for it in items if it not in emulated])
-    items[:] = emulated
+    config.hook.pytest_deselected(items=[it for it in items if not is_chosen(it, wrong)])
+    items[:] = [it for it in items if is_chosen(it, wrong)]
     if wrong and not items:
         raise pytest.UsageError(f"--wrong {wrong}: there is none")
 

@@ -148,24 +148,22 @@ def times():
     return found
 
 
-# A page, the language of its listings, and the file that they quote: whole, or in parts that `...` divides.
-WHOLE, PARTS = True, False
+# A page, the language of its listings, and the files of which they have parts, which `...` divides.
 LISTINGS = (
-    ("README.md", "c", "monitor/examples/example.c", PARTS),
-    ("README.md", "rust", "monitor/rust/examples/monitor.rs", PARTS),
-    ("docs/INTEGRATION.md", "c", "monitor/examples/example.c", WHOLE),
+    ("README.md", "c", ("monitor/examples/example.c",)),
+    ("README.md", "rust", ("monitor/rust/examples/monitor.rs",)),
+    ("docs/INTEGRATION.md", "rust", tuple(f"docs/examples/{it}/src/lib.rt.in" for it in ("serve", "noting", "hosting"))),
 )
 
 
 def listings():
     """Returns the pages whose listing of a file isn't what the file has."""
     found = []
-    for path, language, source, is_whole in LISTINGS:
-        shown = re.findall(rf"(?s)\n```{language}\n(.*?)```\n", read(path))
-        parts = [part for it in shown for part in it.split("...\n")]
-        text = read(source)
-        if text not in shown if is_whole else not parts or any(it not in text for it in parts):
-            found.append(f"{path}: a listing isn't in {source}")
+    for path, language, sources in LISTINGS:
+        parts = [part for it in re.findall(rf"(?s)\n```{language}\n(.*?)```\n", read(path)) for part in it.split("...\n")]
+        texts = [read(it) for it in sources]
+        if not parts or any(all(it not in text for text in texts) for it in parts):
+            found.append(f"{path}: a listing isn't in {' or '.join(sources)}")
     return found
 
 
@@ -180,6 +178,14 @@ def order():
     return [f"docs/MAP.md: crate {it} is listed before {low}, which it needs" for it, low in late]
 
 
+def named_tools():
+    """Returns the tools that the map doesn't name, and those that it names and that aren't there."""
+    section = read("docs/MAP.md").partition("\n## The tools\n")[2]
+    named = {it.split()[0] for it in re.findall(r"`([a-z][\w-]*(?: [A-Z]+)?)`", section.partition("|---|---|")[2]) if "/" not in it} - {"debian", "packaging"}
+    there = {it for it in os.listdir(f"{ROOT}/tools") if os.path.isfile(f"{ROOT}/tools/{it}")}
+    return [f"docs/MAP.md: its tools aren't those of tools: {it}" for it in sorted(named ^ there)]
+
+
 def sanitized():
     """Returns where monitor/README.md names other tests as those without the address sanitizer than the Makefile has."""
     page, makefile = read("monitor/README.md"), read("monitor/Makefile")
@@ -192,4 +198,4 @@ def sanitized():
 
 def claims():
     """Returns all that pages claim falsely."""
-    return [*counts(), *packages(), *times(), *listings(), *order(), *sanitized()]
+    return [*counts(), *packages(), *times(), *listings(), *order(), *named_tools(), *sanitized()]

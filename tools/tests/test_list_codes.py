@@ -14,6 +14,8 @@ READ = (
     *(f"crates/{it}/src" for it in CRATES),
     "crates.txt", "crates/vb_c/vb.h", "docs/RULES.md", "docs/INTEGRATION.md", "monitor/backends/guest/backend.c",
     "monitor/reference/device.h", "monitor/include/ring_layout.h", "monitor/rust/src/raw/codes.rs", "tools/list-codes",
+    "tools/lib/version_places.py", "VERSION", "client/bigvasta/__init__.py", "monitor/rust/src/raw.rs",
+    "monitor/rust/Cargo.toml", "monitor/rust/ctests/Cargo.toml",
 )
 
 # Seconds that a call of the tool has.
@@ -43,7 +45,10 @@ CHANGES = (
     (LAYOUT, "RING_INDEX_AT = 2", "RING_INDEX_AT = 0", [LAYOUT]),
     ("crates/vb_c/vb.h", "VB_NOT_READY = 3", "VB_NOT_READY = 4", [HEADER]),
     ("crates/vb_c/vb.h", "VB_MAX_FIGURES = 102", "VB_MAX_FIGURES = 101", [HEADER]),
-    ("crates/vb_c/vb.h", "list-codes: numbers, to here", "", ["crates/vb_c/vb.h: no place for the table of numbers"]),
+    ("crates/vb_c/vb.h", "list-codes: numbers, to here", "", ["crates/vb_c/vb.h: no place for numbers"]),
+    ("crates/vb_c/vb.h", "#define VB_VERSION_NUMBER 0x", "#define VB_VERSION_NUMBER 0x1", ["crates/vb_c/vb.h: #define VB_VERSION_NUMBER"]),
+    ("crates/vb_c/src/saving.rt", "const VERSION: u32 = 0x0", "const VERSION: u32 = 0x1", ["crates/vb_c/src/saving.rt: const VERSION: u32 ="]),
+    ("client/bigvasta/__init__.py", "__version__ =", "__version__: str =", ["client/bigvasta/__init__.py: no place for __version__ ="]),
     ("monitor/reference/device.h", "BAD_PAGE = 9", "BAD_PAGE = 8", [REFERENCE]),
     ("monitor/backends/guest/backend.c", '[9] = "no such page"', '[9] = "a reserved page"', [BACKEND]),
     ("monitor/rust/src/raw/codes.rs", "COPY: u32 = 128", "COPY: u32 = 64", [RUST]),
@@ -51,6 +56,17 @@ CHANGES = (
     (RULES, "10 ReservedPage", "a reserved page", [f"{RULES}: no number for ReservedPage"]),
     (CODES, "| 12 | `VB_BAD_SUM`", "| 11 | `VB_BAD_SUM`", [f"{CODES}: VB_BAD_SUM is 11"]),
     (CODES, "| 13 | `VB_IMPOSSIBLE`", "| 13 | `VB_NEVER`", [f"{CODES}: VB_NEVER is 13", f"{CODES}: no number for VB_IMPOSSIBLE"]),
+)
+
+# A file that repeats the version 1.18.3, and how.
+WITH_VERSION = (
+    ("crates/vb_c/vb.h", '#define VB_VERSION "1.18.3"\n'),
+    ("crates/vb_c/vb.h", "#define VB_VERSION_NUMBER 0x011203u "),
+    ("crates/vb_c/src/saving.rt", "const VERSION: u32 = 0x01_1203;\n"),
+    ("monitor/rust/Cargo.toml", '\nversion = "1.18.3"\n'),
+    ("monitor/rust/ctests/Cargo.toml", '\nversion = "1.18.3"\n'),
+    ("monitor/rust/src/raw.rs", "pub const VERSION: u32 = 0x01_1203;\n"),
+    ("client/bigvasta/__init__.py", '__version__ = "1.18.3"\n'),
 )
 
 
@@ -108,6 +124,14 @@ def test_a_change_of_the_owner_is_written_to_all_tables(copy):
     assert "RESERVED_PAGE = 10, BAD_PAGE = 11 };" in copy.text("monitor/reference/device.h")
     assert '[11] = "no such page",\n' in copy.text("monitor/backends/guest/backend.c")
     assert "pub const COPY: u32 = 512;\n" in copy.text("monitor/rust/src/raw/codes.rs")
+
+
+def test_a_version_that_rises_is_written_wherever_it_is_repeated(copy):
+    version = copy.text("VERSION")
+    copy.change("VERSION", version, "1.18.3\n")
+    assert len(copy.call("--check")[1]) == len(WITH_VERSION)
+    assert copy.call("--write") == (0, [])
+    assert [path for path, text in WITH_VERSION if text not in copy.text(path)] == []
 
 
 def test_what_is_written_stays(copy):

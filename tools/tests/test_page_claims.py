@@ -17,11 +17,13 @@ CHANGES = (
     ("times", "README.md", r"\| 20 seconds \|", "| 30 seconds |", "takes"),
     ("times", "monitor/README.md", r"## Tests\n", "## Tests\n\nThey take two minutes.\n", "a time belongs into"),
     ("listings", "README.md", r"if \(result\.interrupts\)", "if (result.interrupt)", "README.md: a listing isn't in"),
-    ("listings", "docs/INTEGRATION.md", r"#include <stdio\.h>\n", "", "docs/INTEGRATION.md: a listing isn't in"),
+    ("listings", "docs/examples/noting/src/lib.rt.in", r"self\.broken\.saturating_add", "self.broken.wrapping_add", "docs/INTEGRATION.md: a listing isn't in"),
     ("listings", "monitor/rust/examples/monitor.rs", r"balloon\.notify", "balloon.serve", "README.md: a listing isn't in"),
     ("order", "docs/MAP.md", r"(?m)^\| `vb_ram` \|.*\n", "", "its crates aren't those"),
     ("order", "docs/MAP.md", r"(?m)^(\| `vb_ram` \|.*\n)", r"\1\1", "one is there twice"),
     ("order", "docs/MAP.md", r"(?ms)^(\| `vb_ram` \|[^\n]*\n)(.*?)(^\| `vb_chain` \|[^\n]*\n)", r"\3\2\1", "is listed before"),
+    ("named_tools", "docs/MAP.md", r"`conform`, ", "", "its tools aren't those of tools: conform"),
+    ("named_tools", "docs/MAP.md", r"`conform`, ", "`conform`, `conforms`, ", "its tools aren't those of tools: conforms"),
     ("sanitized", "monitor/README.md", r"`order\.c`, `fences\.c`", "`fences.c`", "order.c isn't rightly said"),
 )
 

@@ -12,12 +12,6 @@ EDIT = "file: src/a.rt\nold:     true\nnew:     false\n"
 CRATE = {"crates/a/src/a.rt": "fn f() -> bool {\n    true\n}\n"}
 RULE = "rule " + "T" + "4"
 WRITER = "static void f(VbDevice *device)\n{\n    %s;\n}\n"
-VERSIONS = {
-    "VERSION": "1.2.3\n", "monitor/rust/Cargo.toml": 'version = "1.2.3"\n', "crates/vb_c/vb.h": '#define VB_VERSION "1.2.3"\n',
-    "crates/vb_c/src/saving.rt": "/// The version of the library: 1.2.3, as text\n",
-    "client/bigvasta/__init__.py": '__version__ = "1.2.3"\n',
-}
-
 # A topic of a crate, files of the crate, and what is found in them.
 OF_CRATES = (
     ("leaks", {"crates/a/src/a.rt": "    mem::forget(frame);\n"}, ["crates/a/src/a.rt:1: mem::forget(frame);"]),
@@ -45,9 +39,6 @@ OF_ALL = (
     ("writes", {"monitor/backends/guest/a.c": WRITER % "*device = other"}, ["monitor/backends/guest/a.c:3: *device = other;"]),
     ("writes", {"monitor/backends/guest/a.c": WRITER % "memset(device, 0, 5)"}, ["monitor/backends/guest/a.c:3: memset(device, 0, 5);"]),
     ("writes", {"monitor/backends/guest/a.c": WRITER % "return device->status == 3", "monitor/reference/a.h": WRITER % "device->status = 3"}, []),
-    ("versions", VERSIONS, []),
-    ("versions", {**VERSIONS, "monitor/rust/Cargo.toml": 'version = "1.2.4"\n'}, ["monitor/rust/Cargo.toml: 1.2.4 in place of 1.2.3"]),
-    ("versions", {**VERSIONS, "crates/vb_c/vb.h": ""}, ["crates/vb_c/vb.h: no version in place of 1.2.3"]),
     ("floors", {"crates.txt": "# vb_model\nvb_ram: vb_virtio\nvb_c staticlib: vb_ram\nvb_guest: vb_ram vb_model\n"}, []),
     ("floors", {"crates.txt": "vb_ram: vb_model\nvb_core: vb_ram\nvb_c staticlib: vb_core\n"}, ["crates.txt: vb_ram ships, and needs vb_model"]),
 )

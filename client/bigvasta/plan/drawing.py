@@ -16,7 +16,7 @@ def load():
         matplotlib.rcParams["svg.hashsalt"] = "bigvasta"
         from matplotlib import pyplot
     except ImportError:
-        raise Usage("--draw wants matplotlib: apt-get install python3-matplotlib python3-numpy") from None
+        raise Usage("--draw wants matplotlib: apt-get install python3-matplotlib") from None
     return pyplot
 
 

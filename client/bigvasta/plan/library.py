@@ -3,11 +3,12 @@
 import ctypes
 import os
 
+from bigvasta import __version__
 from bigvasta.statuses import Usage
 
 # Of vb.h: the answers, and the version, whose last number may differ.
 OK, NOTHING, SHORT = 0, 1, 8
-VERSION = 0x000100
+VERSION = int.from_bytes(bytes(map(int, __version__.split("."))), "big")
 
 HERE = os.path.dirname(os.path.realpath(__file__))
 

@@ -6,9 +6,9 @@ ghost use Rattle.vb_c.specs.Saving.{code_of_state, Saves, Restores};
 use crate::answers::{BAD_LENGTH, BAD_SUM, IMPOSSIBLE, NOT_A_STATE, OK, OTHER_VERSION};
 use vb_core::{Device, Held, Saved, StateDenial};
 
-/// The version of the library: 0.1.0, as 65,536 times the first number, 256 times the second, and
-/// the third.
-const VERSION: u32 = 0x00_0100;
+/// The version of the library: 65,536 times the first number, 256 times the second, and the third.
+/// `tools/list-codes --write` has it of the file VERSION.
+const VERSION: u32 = 0x00_0200;
 
 /// The code of a denial.
 pub(crate) fn code_of_state(denial: StateDenial) -> u32

@@ -66,7 +66,8 @@ struct seat {
 
 /* What was decided, and why. */
 enum reason { BY_GUESTS, BY_BUDGET, BY_SPARE, BY_MISSING };
-struct share { char name[MOST_NAME]; VbNeed need; uint32_t most, old, target; };
+enum bound { BY_STATISTICS, BY_SILENCE, BY_PAUSE, BY_LOAN };     /* what a guest can spare goes by this */
+struct share { char name[MOST_NAME]; VbNeed need; enum bound bound; uint32_t most, ballooned, old, target; };
 struct decision {
     int64_t at;                 /* by the monotonic clock, in milliseconds */
     uint32_t frames, floor;

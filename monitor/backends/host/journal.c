@@ -15,6 +15,13 @@ static void print_reason(FILE *to, const struct decision *decision)
     fprintf(to, " why %s %s", words[decision->reason], decision->reason == BY_SPARE ? decision->who : "-");
 }
 
+static const char *bound_word(enum bound bound)
+{
+    static const char *const words[] = {
+        [BY_STATISTICS] = "statistics", [BY_SILENCE] = "silence", [BY_PAUSE] = "pause", [BY_LOAN] = "loan"};
+    return words[bound];
+}
+
 static void print_decision(FILE *to, const struct decision *decision)
 {
     fprintf(to, "ms %" PRId64 " frames %" PRIu32 " floor %" PRIu32 " short %" PRIu64, decision->at, decision->frames,
@@ -22,8 +29,9 @@ static void print_decision(FILE *to, const struct decision *decision)
     print_reason(to, decision);
     for (unsigned i = 0; i < decision->count; i++) {
         const struct share *share = &decision->shares[i];
-        fprintf(to, " | %s pages %" PRIu32 " spare %" PRIu32 " most %" PRIu32 " old %" PRIu32 " target %" PRIu32, share->name,
-               share->need.pages, share->need.spare, share->most, share->old, share->target);
+        fprintf(to, " | %s pages %" PRIu32 " spare %" PRIu32 " most %" PRIu32 " old %" PRIu32 " target %" PRIu32 " ballooned %" PRIu32 " by %s",
+                share->name, share->need.pages, share->need.spare, share->most, share->old, share->target, share->ballooned,
+                bound_word(share->bound));
     }
     fputc('\n', to);
 }

@@ -33,6 +33,20 @@ static bool is_heard(const struct seat *seat)
     return seat_reports(seat) && seat_answers(seat);
 }
 
+static bool is_paused(const struct seat *seat)
+{
+    return host_now() < seat->paused_until;
+}
+
+/* By what is known of it, what a guest can spare is found. */
+static enum bound bound_of(const struct seat *seat)
+{
+    const VbLoan *loan = &seat->host->loans[seat->place];
+    if (seat->report.holds && (loan->asked > 0 || loan->uncounted))
+        return BY_LOAN;
+    return !is_heard(seat) ? BY_SILENCE : is_paused(seat) ? BY_PAUSE : BY_STATISTICS;
+}
+
 /* What a guest can spare so that this much stays free. One that doesn't answer spares nothing beyond what is ballooned. Of
  * another, the ballooned pages count as available ones that it doesn't use: so one that has less than its floor is asked for
  * less than it has given. */
@@ -46,7 +60,7 @@ static uint32_t spare_above(const struct seat *seat, uint32_t floor)
     uint32_t available = seat->tells_available ? seat->available : seat->free;
     uint32_t unused = least((uint64_t)seat->ballooned_then + available, seat->pages);
     uint32_t spare = vb_spare(seat->pages, 0, unused, 1, floor, 0);
-    return host_now() < seat->paused_until ? least(spare, ballooned) : spare;
+    return is_paused(seat) ? least(spare, ballooned) : spare;
 }
 
 uint32_t policy_spare(const struct seat *seat)
@@ -201,6 +215,8 @@ static void note(struct host *host, const struct guests *guests, uint64_t missin
         share->need = (VbNeed){guests->loans[i].pages + forced, guests->loans[i].spare + forced};
         if (guests->loans[i].asked > 0)
             share->need.spare = guests->most[i].spare;
+        share->bound = bound_of(guests->seats[i]);
+        share->ballooned = guests->seats[i]->report.ballooned;
         share->most = guests->most[i].spare + forced;
         share->old = guests->old[i];
         share->target = guests->targets[i];

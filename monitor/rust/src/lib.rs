@@ -37,15 +37,16 @@ fn is_compatible(version: u32) -> bool {
 mod tests {
     #[test]
     fn versions_that_differ_in_the_third_number_are_compatible() {
+        let own = crate::raw::VERSION & !0xff;
         for (version, compatible) in [
-            (0x00_0100, true),
-            (0x00_0101, true),
-            (0x00_01ff, true),
-            (0x00_0000, false),
-            (0x00_0200, false),
-            (0x00_1100, false),
-            (0x01_0100, false),
-            (0x0100_0100, false),
+            (own, true),
+            (own + 1, true),
+            (own + 0xff, true),
+            (own - 0x100, false),
+            (own + 0x100, false),
+            (own + 0x1000, false),
+            (own + 0x1_0000, false),
+            (own + 0x100_0000, false),
         ] {
             assert_eq!(super::is_compatible(version), compatible, "{version:x}");
         }

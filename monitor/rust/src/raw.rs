@@ -10,7 +10,7 @@ pub use codes::*;
 pub use structs::*;
 
 /// The version of vb.h that this is written for, as `VB_VERSION_NUMBER`.
-pub const VERSION: u32 = 0x00_0100;
+pub const VERSION: u32 = 0x00_0200;
 
 extern "C" {
     pub fn vb_version() -> u32;

@@ -2,13 +2,16 @@
 
 import json
 import os
+import re
 import shutil
 import socket
 import subprocess
 import time
+import urllib.parse
 import urllib.request
 
 import pytest
+from bigvasta.plan import reading
 from hosts import CLIENT, ROOT, bigvasta, eventually
 
 RULES = os.path.join(ROOT, "packaging", "prometheus")
@@ -167,3 +170,30 @@ def test_a_real_prometheus_scrapes_and_its_alerts_fire(host, arrive, prometheus)
     # The host goes.
     assert host.end() == 0
     eventually(lambda: ("BigvastaAway", "") in alerts(prometheus), lambda: alerts(prometheus))
+
+
+def query_of_the_page():
+    """Returns the query that docs/PLANNING.md has for a day."""
+    with open(os.path.join(ROOT, "docs", "PLANNING.md"), encoding="utf-8") as page:
+        return re.search(r"'query=(.*?)'", page.read())[1]
+
+
+def test_a_day_that_the_planner_reads(host, arrive, prometheus, tmp_path):
+    """A guest, and a client that has handed over no memory yet, whose size is 0."""
+    arrive("web-1")
+    eventually(lambda: host.guest("web-1")["answers"])
+    coming = socket.socket(socket.AF_UNIX)
+    coming.connect(host.ask("add", name="web-2")["guest"]["socket"])
+    eventually(lambda: get(prometheus, "/api/v1/query?query=bigvasta_guest_memory_bytes==0").count("web-2"))
+    begin = time.time()
+
+    def answer():
+        words = urllib.parse.urlencode({"query": query_of_the_page(), "step": 1, "start": begin, "end": time.time()})
+        text = get(prometheus, f"/api/v1/query_range?{words}")
+        return text if len(json.loads(text)["data"]["result"][0]["values"]) > 1 else None
+
+    (tmp_path / "day.json").write_text(eventually(answer))
+    unused = host.guest("web-1")["available"] + host.guest("web-1")["ballooned"]
+    found = [(it.name, it.pages, it.uses[-1].pages) for it in reading.read(str(tmp_path / "day.json")).guests]
+    assert found == [("web-1", 128, 128 - unused // PAGE)]
+    coming.close()

@@ -3,7 +3,9 @@
 import os
 
 import pytest
-from tenants import Guest, Lender
+from delays import delay_beside
+from tenants import Guest, Lender, process_of
+from vhost_client import Client
 
 
 @pytest.fixture(scope="session")
@@ -50,3 +52,13 @@ def come():
     yield begin
     for it in guests:
         it.leave()
+
+
+@pytest.fixture
+def beside(lend):
+    """A lender, a client at work, and what tells by how much the host delays it while something is done."""
+    lender = lend(64, "--floor", "0")
+    client = Client(lender.add("worker"), lambda: "")
+    client.start()
+    yield lender, lambda act: delay_beside(act, client, process_of(lender, "worker"))
+    client.leave()

@@ -34,22 +34,34 @@ def rule(needs, frames):
     return targets, short
 
 
+def most_of(share, floor):
+    """Returns what a guest may be asked for while its old target serves: what it can spare, and an eighth of the floor. Of one that is silent,
+    or took pages itself just now, it is no more than what is in its balloon; of one that waits for pages what it can spare."""
+    ballooned = min(share["ballooned"], share["pages"])
+    limits = {"statistics": share["pages"], "silence": ballooned, "pause": ballooned, "loan": share["spare"]}
+    return min(share["spare"] + floor // 8, limits[share["by"]])
+
+
+def check_decision(said, shares):
+    """Demands that a decision is what the rule says of the needs that it goes by."""
+    needs = [(it["pages"], it["spare"]) for it in shares.values()]
+    targets, short = rule(needs, said["frames"])
+    demand([it["target"] for it in shares.values()] == targets, f"{said}: {shares}: the targets should be {targets}")
+    demand(said["short"] == short, f"{said}: {shares}: short by {short}")
+    for name, it in shares.items():
+        most = most_of(it, said["floor"])
+        # Of a guest that has less than its floor a part of the eighth is left.
+        demand(it["spare"] <= it["most"] <= most if it["spare"] == 0 else it["most"] == most, f"{said}: {name} may be asked for {most} pages: {it}")
+    lack = max(0, sum(pages for pages, _ in needs) - said["frames"])
+    serves = sum(it["old"] for it in shares.values()) >= lack and all(it["old"] <= it["most"] for it in shares.values())
+    demand(said["why"] in ("guests", "budget") or not serves, f"{said}: {shares}: the old targets serve")
+
+
 def check_decisions(town):
     """Demands that each decision since the last time is what the rule says; returns how many there were."""
     decisions = town.host.decisions()
     for said, shares in decisions:
-        needs = [(it["pages"], it["spare"]) for it in shares.values()]
-        old = [it["old"] for it in shares.values()]
-        targets, short = rule(needs, said["frames"])
-        demand([it["target"] for it in shares.values()] == targets, f"{said}: {shares}: the targets should be {targets}")
-        demand(said["short"] == short, f"{said}: {shares}: short by {short}")
-        # Old targets serve while each guest has its floor but for an eighth of it.
-        slacks = [it["most"] - it["spare"] for it in shares.values() if it["spare"]]
-        # (Less of one that took pages itself just now: it isn't asked for more than it has given.)
-        demand(all(0 <= it <= said["floor"] // 8 for it in slacks), f"{said}: {shares}: guests may have less than their floor by {slacks}")
-        lack = max(0, sum(pages for pages, _ in needs) - said["frames"])
-        serves = sum(old) >= lack and all(it["old"] <= it["most"] for it in shares.values())
-        demand(said["why"] in ("guests", "budget") or not serves, f"{said}: {shares}: the old targets serve")
+        check_decision(said, shares)
     return len(decisions)
 
 
@@ -60,17 +72,20 @@ def finish(town):
     check_decisions(town)
 
 
+def window(sample):
+    """Returns the seconds in which what guests took isn't known to the host yet: a period, and as long as a guest didn't tell."""
+    return PERIOD + sample.silent
+
+
 def growth(samples, of=sum):
-    """Returns by how many MiB at most what the host holds grew within a period, or one guest's part of it."""
-    most, first = 0.0, 0
+    """Returns by how many MiB at most what the host holds grew before it knew of it, or one guest's part of it."""
+    most = 0.0
     for number, it in enumerate(samples):
-        while it.seconds - samples[first].seconds > PERIOD:
-            first += 1
+        before = [other.held for other in samples[:number] if it.seconds - other.seconds <= window(it)]
         if of is sum:
-            least = min(sum(other.held) for other in samples[first : number + 1])
-            most = max(most, sum(it.held) - least)
+            most = max(most, sum(it.held) - min(map(sum, before), default=sum(it.held)))
         else:
-            most = max(most, *(mib - min(other.held[k] for other in samples[first : number + 1]) for k, mib in enumerate(it.held)))
+            most = max(most, *(mib - min((other[k] for other in before), default=mib) for k, mib in enumerate(it.held)))
     return most
 
 

@@ -32,7 +32,7 @@ import time
 import linux_host
 import linux_kit
 from host_checks import (
-    PERIOD, REST_LIMIT, WRONG_LIMIT, await_rest, check_spares, eventually, finish, growth, names, pages_moved,
+    REST_LIMIT, WRONG_LIMIT, await_rest, check_spares, eventually, finish, growth, names, pages_moved, window,
 )
 from host_queues import queues_run
 from host_seats import seats_run, spares_run
@@ -42,12 +42,13 @@ from host_tenants import files_run, marks_run, tells_run
 from host_trash import ENDED, end_one, hang_one
 from linux_guest import PAGES_PER_MIB
 from linux_kit import Fault, demand
+from linux_vmms import vmm_of
 from vhost_client import Client
 
 MEMORY = 256
 
-# Seconds of a day of work.
-DAY = 40
+# Seconds of a day of work, and of one that ends as soon as there is enough to see.
+DAY, LONGEST_DAY = 40, 160
 
 # Of this many looks one may be above the budget.
 LOOKS_FOR_ONE = 200
@@ -78,7 +79,7 @@ def greedy_run(bench):
         town.live(DAY, "greedy")
         most, excess = growth(town.samples), 0.0
         for number, it in enumerate(town.samples):
-            before = [other.short for other in town.samples[max(0, number - 20) : number + 1] if it.seconds - other.seconds <= 2 * PERIOD]
+            before = [other.short for other in town.samples[: number + 1] if it.seconds - other.seconds <= 2 * window(it)]
             over = sum(it.held) - 560
             excess = max(excess, over)
             demand(over <= max(before) + most, f"{over:.1f} MiB above the budget, short by {max(before):.1f}, growth {most:.1f}")
@@ -96,8 +97,8 @@ def bare_run(bench):
     """The first day of `shift`, without balloons: no target, no report."""
     with bench.town(4 * MEMORY, ("--features", "100000000")) as town:
         town.settle_in(names(4), MEMORY)
-        # It ends where there is enough to see.
-        town.live(DAY, 1, 560 - linux_host.LEFT * 4, lambda it: sum(it.held) > 600 and town.ended.set())
+        # It ends where there is enough to see; a machine that is busy takes longer.
+        town.live(LONGEST_DAY, 1, 560 - linux_host.LEFT * 4, lambda it: sum(it.held) > 600 and town.ended.set())
         finish(town)
         peak = max(sum(it.held) for it in town.samples)
         demand(peak > 560, f"without balloons the host holds {peak:.0f} MiB: so the test shows nothing")
@@ -242,10 +243,10 @@ RUNS = {
 class Bench:
     """What all runs share: a kernel, the programs under test, and a folder."""
 
-    def __init__(self, folder):
+    def __init__(self, vmm, folder):
         self.folder, self.count, self.wrong = folder, 0, None
-        linux_kit.enough_room(4 * MEMORY)
-        self.kit = linux_kit.Uml(folder)
+        self.vmm = vmm_of(vmm, folder)
+        self.vmm.demand_room(4 * MEMORY)
         self.programs = linux_host.Programs(folder, linux_kit.core_of())
 
     def town(self, budget, options=(), checked=False):
@@ -253,4 +254,4 @@ class Bench:
         self.count += 1
         program = self.programs["wrong" if self.wrong else "checked" if checked else "plain"]
         options = ("--step", "0", *options)
-        return linux_host.Town(self.kit, program, f"{self.folder}/{self.count}", budget, options, {"HOST_WRONG": self.wrong or "0"})
+        return linux_host.Town(self.vmm, program, f"{self.folder}/{self.count}", budget, options, {"HOST_WRONG": self.wrong or "0"})

@@ -111,18 +111,6 @@ class Guest(threading.Thread):
         self.gone = True
 
 
-def round_trips(client, seconds, limit=LIMIT):
-    """Has a client's requests served one after the other for so long; returns how many seconds the longest took."""
-    longest, end = 0.0, time.monotonic() + seconds
-    while time.monotonic() < end:
-        begin = time.monotonic()
-        client.post_pages(INFLATE, [PAGES])
-        while client.told(limit) != INFLATE:
-            pass
-        longest = max(longest, time.monotonic() - begin)
-    return longest
-
-
 def process_of(lender, name):
     """Returns the number of a guest's process."""
     return eventually(lambda: lender.guests()[name]["process"])

@@ -1,6 +1,5 @@
-"""What one client did to all others while one process served them: each is tried beside a guest at work, whose rounds go on meanwhile. On a
-machine that is quiet, QUIET=1 in the environment demands that no round takes above 5 ms; else a round may take as long as a machine that is
-busy makes it, and the faults that stopped everybody for seconds are seen."""
+"""What one client did to all others while one process served them: each is tried beside a guest at work, whose rounds go on meanwhile. The
+host delays none of them by more than 5 ms, however busy the machine is (delays.py)."""
 
 import array
 import os
@@ -8,40 +7,22 @@ import select
 import socket
 import struct
 import subprocess
-import threading
 import time
 
 import pytest
-from tenants import LIMIT, eventually, round_trips
+from aside import Aside
+from bigvasta.connection import Connection
+from delays import MOST_DELAY, delay_beside
+from tenants import LIMIT, eventually, process_of
 from vhost_client import (
     ADD_MEM_REG, BUFFERS, GET_FEATURES, INFLATE, OFFERED, PAGE, REGIONS, REM_MEM_REG, SET_MEM_TABLE, SET_VRING_KICK, Client,
 )
 
-# Milliseconds that a round may take.
-MOST = 5 if os.environ.get("QUIET") else 2500
+# What a process sends to the lender (message.h): the number of a report, and where a message has its kind and the guest's pages.
+TELL_REPORT, KIND_AT, PAGES_AT = 9, 4, 48
 
 # Where memory may end, at most.
 MOST_SET = 1 << 36
-
-
-@pytest.fixture
-def beside(lend):
-    """A lender, a client at work, and what takes the time of its rounds while something is done."""
-    lender = lend(64, "--floor", "0")
-    client = Client(lender.add("worker"), lambda: "")
-    client.start()
-
-    def rounds(act, seconds=3):
-        ended = threading.Event()
-        thread = threading.Thread(target=lambda: act(ended), daemon=True)
-        thread.start()
-        longest = round_trips(client, seconds) * 1000
-        ended.set()
-        thread.join(LIMIT)
-        return longest
-
-    yield lender, rounds
-    client.leave()
 
 
 def lingering():
@@ -74,7 +55,7 @@ def test_a_socket_that_lingers_beside_a_message(beside):
         time.sleep(2)
         other.close()
 
-    assert rounds(act) < MOST
+    assert rounds(act) < MOST_DELAY
     assert lender.demand("budget 63") == "ok"
 
 
@@ -96,7 +77,7 @@ def test_sockets_that_linger_on_a_connection_that_nobody_takes(beside):
         taken.append(time.monotonic() - begin)
 
     taken = []
-    assert rounds(act) < MOST
+    assert rounds(act) < MOST_DELAY
     assert taken[0] < 2, f"a seat that is taken away stops the lender for {taken[0]} s"
     first.leave(), other.close()
 
@@ -115,7 +96,7 @@ def test_a_pipe_for_a_kick(beside):
             pass
         os.close(reads), os.close(writes)
 
-    assert rounds(act, 1) < MOST
+    assert rounds(act) < MOST_DELAY
     lender.become("bad", here=0)
     client.leave()
 
@@ -136,14 +117,13 @@ def test_a_large_guest_that_goes(lend):
     client.negotiate()
     client.accepted(SET_MEM_TABLE, table(size), [file])
     os.close(file)  # its pages go with the process
-    longest = []
-    thread = threading.Thread(target=lambda: longest.append(round_trips(worker, 3) * 1000))
-    thread.start()
-    time.sleep(0.3)
-    client.leave()
-    thread.join()
+
+    def act(_):
+        time.sleep(0.3)
+        client.leave()
+
+    assert delay_beside(act, worker, process_of(lender, "worker")) < MOST_DELAY
     lender.become("large", here=0, held_kib=0)
-    assert longest[0] < MOST
     worker.leave()
 
 
@@ -159,7 +139,7 @@ def test_memory_that_comes_and_goes_in_a_loop(beside):
 
     before = lender.counters()["decisions"]
     begin = time.monotonic()
-    assert rounds(act) < MOST
+    assert rounds(act) < MOST_DELAY
     decisions = lender.counters()["decisions"] - before
     assert decisions <= 110 * (time.monotonic() - begin), f"{decisions} decisions"
     client.leave()
@@ -173,17 +153,19 @@ def test_a_queue_of_the_longest_requests(beside):
         client.describe(INFLATE, head, BUFFERS, 4 * 256)
     client.write(BUFFERS, struct.pack("<256I", *[REGIONS[1][0] // PAGE + it % 64 for it in range(256)]))
 
+    available, used = (client.table(INFLATE) + it * PAGE for it in (1, 2))
+    client.write(available + 4, struct.pack("<64H", *range(64)))
+
     def act(ended):
-        at, index = client.table(INFLATE) + PAGE, 0
-        client.write(at + 4, struct.pack("<64H", *range(64)))
+        index = 0
         while not ended.is_set():
-            index += 64
-            client.write(at + 2, struct.pack("<H", index & 0xFFFF))
+            index = (index + 64) & 0xFFFF
+            client.write(available + 2, struct.pack("<H", index))
             client.kick(INFLATE)
-            while select.select([client.own], [], [], 0)[0]:
+            while client.read(used + 2, 2) != struct.pack("<H", index) or select.select([client.own], [], [], 0)[0]:
                 client.told(LIMIT)
 
-    assert rounds(act) < MOST
+    assert rounds(act) < MOST_DELAY
     client.leave()
 
 
@@ -196,7 +178,7 @@ def test_a_table_with_one_page_at_the_end_of_what_may_be(beside):
         while not ended.is_set():
             client.accepted(SET_MEM_TABLE, table(PAGE, MOST_SET - PAGE), client.files[:1])
 
-    assert rounds(act) < MOST
+    assert rounds(act) < MOST_DELAY
     client.leave()
 
 
@@ -217,7 +199,7 @@ def test_a_client_that_comes_again_and_again(beside):
                 pass
             client.close()
 
-    assert rounds(act) < MOST
+    assert rounds(act) < MOST_DELAY
     # 21 lines in a second at most.
     assert os.path.getsize(lender.log) - size < 4 * 21 * 60
 
@@ -249,7 +231,9 @@ def test_words_and_answers_that_nobody_reads(unread):
         client.leave()
     worker = Client(f"{folder}/g50", lambda: "")
     worker.start()
-    assert round_trips(worker, 1) * 1000 < MOST
+    with Connection(f"{folder}/.control") as control:
+        process = next(it["process"] for it in control.ask("status")["guests"] if it["name"] == "g50")
+    assert delay_beside(lambda _: None, worker, process, 1) < MOST_DELAY
     worker.leave()
     # All answers come as they are read, whole and in order.
     got = b""
@@ -260,17 +244,34 @@ def test_words_and_answers_that_nobody_reads(unread):
     assert [it.split()[0] for it in found if not it.startswith(b"gone")][:62] == [b"ready"] + [b"listening"] * 60 + [b"guests"]
 
 
-def test_a_process_that_sends_more_than_it_may(beside):
-    # Its client has words said of it as fast as it can: the lender reads 40 messages of its process in 50 ms.
-    lender, rounds = beside
-    client = Client(lender.add("bad"), lambda: "")
-    client.start()
-    client.own.close()
+def flood(path, seconds, begins):
+    """Is a guest's process that somebody has taken over: each of its reports says that the memory has changed. Returns how many it sent until
+    there was no room, how many in all, and the seconds that it took."""
+    with socket.socket(socket.AF_UNIX, socket.SOCK_SEQPACKET) as listener:
+        listener.bind(path), listener.listen()
+        begins()
+        channel, _ = listener.accept()
+    order = channel.recv(1 << 16)
+    report, room, sent, begin = bytearray(order[:KIND_AT]) + bytes(len(order) - KIND_AT), 0, 0, time.monotonic()
+    report[KIND_AT] = TELL_REPORT
+    channel.setblocking(False)
+    while time.monotonic() < begin + seconds:
+        report[PAGES_AT] = sent % 256
+        try:
+            channel.send(report)
+            sent += 1
+        except BlockingIOError:
+            room = room or sent
+            time.sleep(0.001)
+    return room, sent, time.monotonic() - begin
 
-    def act(ended):
-        while not ended.is_set():
-            lender.demand("bad target 5")
 
-    assert rounds(act) < MOST
-    assert lender.guests()["bad"]["here"] == 1
-    client.socket.close()
+def test_a_process_that_sends_more_than_it_may(lend):
+    # The lender reads 40 messages of it in 50 ms.
+    lender = lend(64, "--floor", "0")
+    process = Aside(lambda begins: flood(f"{lender.folder}/+bad", 2, begins))
+    lender.demand("add bad")
+    room, sent, seconds = process.numbers()
+    assert room < sent <= room + 40 * (seconds / 0.05 + 2)
+    assert lender.counters()["decisions"] <= 110 * (seconds + 1)
+    lender.become("bad", here=0)

@@ -15,9 +15,9 @@ def pytest_generate_tests(metafunc):
 
 
 @pytest.fixture(scope="session")
-def bench(tmp_path_factory):
+def bench(tmp_path_factory, request):
     """A kernel, the programs under test, and a folder."""
-    return Bench(str(tmp_path_factory.mktemp("runs")))
+    return Bench(request.config.getoption("--vmm"), str(tmp_path_factory.mktemp("runs")))
 
 
 @pytest.mark.timeout(LIMIT)

@@ -13,7 +13,7 @@ from linux_kit import Fault, last_line
 PAGES_PER_MIB = 256
 
 # Seconds that a boot, an answer of the backend, and a line of the guest may take. The machine may have other work.
-BOOT_LIMIT, ANSWER_LIMIT, LINE_LIMIT = 120, 30, 120
+BOOT_LIMIT, ANSWER_LIMIT, LINE_LIMIT = 300, 30, 300
 
 
 class Lines:
@@ -121,11 +121,18 @@ class Guest:
 
     def __init__(self, words, environment, files, folder, memory):
         self.memory, self.held = memory, None
-        self.process = subprocess.Popen(
-            words, stdin=subprocess.PIPE, stdout=subprocess.PIPE, stderr=subprocess.STDOUT, cwd=folder, pass_fds=files,
-            env=environment, start_new_session=True,
-        )
+        self.log = os.path.join(folder, "guest.log")
+        with open(self.log, "wb") as log:
+            self.process = subprocess.Popen(
+                words, stdin=subprocess.PIPE, stdout=subprocess.PIPE, stderr=log, cwd=folder, pass_fds=files,
+                env=environment, start_new_session=True,
+            )
         self.lines = Lines(self.process.stdout, "the guest")
+
+    def why(self):
+        """Returns the last thing that its VMM said of itself."""
+        with open(self.log, encoding="latin-1") as log:
+            return last_line(log.read())
 
     def boot(self):
         """Waits until its driver is loaded, and drives its device."""
@@ -134,10 +141,11 @@ class Guest:
             try:
                 said.append(self.lines.next(end))
             except Fault as fault:
-                raise Fault(f"{fault} at its boot: {' / '.join(said[-3:])}") from None
+                raise Fault(f"{fault} at its boot: {' / '.join([*said[-3:], *filter(None, [self.why()])])}") from None
         if said[-1] != "READY":
             raise Unbound(f"the guest boots, but its driver has no device: {said[-1].partition(' ')[2]}")
-        self.held = self.memory_file()
+        if self.held is None:
+            self.held = self.memory_file()
 
     def memory_file(self):
         """Opens the file that is the guest's memory: it has no name, but the guest's process has it open."""
@@ -213,25 +221,26 @@ class Guest:
 
 
 class Machine:
-    """A guest and its device."""
+    """A guest of a VMM, and its device."""
 
-    def __init__(self, kit, program, folder, memory, options=(), environment=None):
+    def __init__(self, vmm, program, folder, shape, options=(), environment=None):
         os.makedirs(folder, exist_ok=True)
-        self.memory, self.guest = memory, None
-        (word, files), (guest_word, guest_files) = kit.connect(folder)
+        self.vmm, self.memory, self.guest, self.control = vmm, shape.memory, None, None
+        (word, files), (guest_word, guest_files) = vmm.connect(folder)
         try:
-            words = kit.words(folder, memory, guest_word)
+            words = vmm.words(folder, shape, guest_word)
             self.backend = Backend(program, folder, [word, *options], [it.fileno() for it in files], environment)
-            self.boot(kit, words, [it.fileno() for it in guest_files], folder)
+            self.boot(words, [it.fileno() for it in guest_files], folder)
         finally:
             for it in (*files, *guest_files):
                 it.close()
 
-    def boot(self, kit, words, files, folder):
+    def boot(self, words, files, folder):
         """Starts the guest, and waits for its driver."""
         try:
-            self.guest = Guest(words, kit.environment(), files, folder, self.memory)
+            self.guest = Guest(words, self.vmm.environment(), files, folder, self.memory)
             self.guest.boot()
+            self.control = self.vmm.control(folder)
         except BaseException as fault:
             self.__exit__(None, fault, None)
             raise
@@ -280,6 +289,8 @@ class Machine:
 
     def close(self):
         """Ends both; returns what the backend said last on standard error."""
+        if self.control:
+            self.control.close()
         if self.guest:
             self.guest.close()
         self.backend.close()

@@ -12,6 +12,7 @@ from typing import NamedTuple
 import linux_kit
 from linux_guest import ANSWER_LIMIT, PAGES_PER_MIB, Backend, Guest
 from linux_kit import Fault
+from linux_vmms import Shape
 from programs import CHECKS
 
 sys.path.append(os.path.join(linux_kit.ROOT, "client"))
@@ -124,8 +125,8 @@ class Host(Backend):
 class Member:
     """A guest of a host: Linux with a balloon, and the bytes that it keeps."""
 
-    def __init__(self, host, kit, name, memory):
-        self.host, self.kit, self.name, self.memory = host, kit, name, memory
+    def __init__(self, host, vmm, name, memory):
+        self.host, self.vmm, self.name, self.memory = host, vmm, name, memory
         self.socket = host.add(name)
         self.guest, self.sums, self.checked = None, {}, 0
 
@@ -134,7 +135,8 @@ class Member:
         folder = os.path.join(self.host.folder, f"{self.name}.files")
         os.makedirs(folder, exist_ok=True)
         self.sums = {}
-        self.guest = Guest(self.kit.words(folder, self.memory, self.socket), self.kit.environment(), (), folder, self.memory)
+        words = self.vmm.words(folder, Shape(self.memory), self.socket)
+        self.guest = Guest(words, self.vmm.environment(), (), folder, self.memory)
         try:
             self.guest.boot()
             if not self.host.guests()[self.name]["ready"]:
@@ -205,7 +207,8 @@ class Ledger:
 
 
 class Sample(NamedTuple):
-    """What the host holds at one time, in MiB, what it lends and asks for, and what each guest waits for, if it waits."""
+    """What the host holds at one time, in MiB, what it lends and asks for, what each guest waits for, if it waits, and the seconds for which
+    one of them hasn't told its statistics."""
 
     seconds: float
     held: tuple
@@ -214,13 +217,14 @@ class Sample(NamedTuple):
     short: float
     loans: tuple
     waits: tuple
+    silent: float
 
 
 class Town:
     """All guests of a host, at work."""
 
-    def __init__(self, kit, program, folder, budget, options=(), environment=None):
-        self.kit, self.budget, self.members, self.samples, self.faults = kit, budget, [], [], []
+    def __init__(self, vmm, program, folder, budget, options=(), environment=None):
+        self.vmm, self.budget, self.members, self.samples, self.faults = vmm, budget, [], [], []
         self.ended, self.begin = threading.Event(), time.monotonic()
         os.makedirs(folder, exist_ok=True)
         self.host = Host(program, folder, budget, options, environment)
@@ -241,7 +245,7 @@ class Town:
     def settle_in(self, names, memory):
         """Boots guests of these names, one after the other, as each has to find room beside those before it."""
         for name in names:
-            member = Member(self.host, self.kit, name, memory)
+            member = Member(self.host, self.vmm, name, memory)
             self.members.append(member)
             member.boot()
 
@@ -275,7 +279,8 @@ class Town:
         seen = {it["name"]: it for it in status["guests"]}
         targets, spare, loans = (tuple(seen[it.name][name] / MIB for it in self.members) for name in ("target", "spare", "loan"))
         waits = tuple(seen[it.name]["waits_for"].replace("nothing", "") for it in self.members)
-        return Sample(time.monotonic() - self.begin, held, targets, spare, status["host"]["missing"] / MIB, loans, waits)
+        silent = max((seen[it.name]["silent"] for it in self.members), default=0)
+        return Sample(time.monotonic() - self.begin, held, targets, spare, status["host"]["missing"] / MIB, loans, waits, silent)
 
     def watch(self, seconds, every=None):
         """Takes samples for `seconds` seconds; calls `every` with one each second."""

@@ -2,14 +2,16 @@
 
 import glob
 import os
+import re
 import shutil
 import subprocess
 
 ROOT = os.path.realpath(os.path.join(os.path.dirname(__file__), "../../.."))
 CACHE = os.path.join(ROOT, ".cache", "linux")
 
-# Where packages of another Debian than the machine's come from.
+# Where packages of another Debian than the machine's come from, and the seconds in which it has to answer.
 MIRROR = "http://deb.debian.org/debian"
+ANSWERS_IN = 4
 
 
 class Fault(Exception):
@@ -54,6 +56,7 @@ def apt_of(suite):
         "apt.conf": "".join(f'{name} "{it}";\n' for name, it in (
             ("Dir::Etc::SourceList", f"{folder}/sources.list"), ("Dir::Etc::SourceParts", "-"), ("Dir::State::Lists", f"{folder}/lists"),
             ("Dir::State::Status", f"{folder}/status"), ("Dir::Cache", folder), ("APT::Sandbox::User", "root"),
+            ("Acquire::http::Timeout", ANSWERS_IN), ("Acquire::Retries", 0),
         )),
     }
     for name, text in files.items():
@@ -68,7 +71,7 @@ def apt_of(suite):
 
 def fetch(name, packages, suite=None):
     """Returns a folder of the cache with these packages of this machine's Debian unpacked, or of another one; `packages` says
-    which, the first time."""
+    which, the first time, by apt-get's environment."""
     if suite is not None and not suite.isalnum():
         raise Missing(f"{suite!r} is no name of a Debian: bookworm, trixie or sid")
     root = os.path.join(CACHE, f"{name}-{suite}" if suite else name)
@@ -78,8 +81,9 @@ def fetch(name, packages, suite=None):
     part = f"{root}.{os.getpid()}"
     os.makedirs(part)
     try:
-        wanted = packages()
-        ran = subprocess.run(["apt-get", "download", *wanted], cwd=part, capture_output=True, text=True, env=apt_of(suite))
+        environment = apt_of(suite)
+        wanted = packages(environment)
+        ran = subprocess.run(["apt-get", "download", *wanted], cwd=part, capture_output=True, text=True, env=environment)
         archives = glob.glob(os.path.join(part, "*.deb"))
         if ran.returncode != 0 or len(archives) < len(wanted):
             raise Missing(f"apt-get download {wanted[0]} ..: {last_line(ran.stderr)}: apt-get update, on Debian for amd64")
@@ -107,7 +111,7 @@ def one_of(root, *names):
 
 def fetch_uml(suite=None):
     """Returns a folder with User Mode Linux and a busybox for its guest; one of another Debian has its C library, too."""
-    return fetch("uml", lambda: ["user-mode-linux", "busybox-static", *(["libc6"] if suite else [])], suite)
+    return fetch("uml", lambda _: ["user-mode-linux", "busybox-static", *(["libc6"] if suite else [])], suite)
 
 
 def libc_of(root):
@@ -120,20 +124,31 @@ def busybox_of(root):
     return one_of(root, "bin/busybox", "usr/bin/busybox")
 
 
-def kernel_packages():
-    """Returns the package with the kernel of a guest under QEMU."""
-    said = subprocess.run(["apt-cache", "depends", "linux-image-cloud-amd64"], capture_output=True, text=True).stdout
-    kernels = [it.split()[1] for it in said.splitlines() if "Depends: linux-image" in it]
-    if not kernels:
+def kernel_packages(environment):
+    """Returns the packages with the kernel of a guest under QEMU, and with a busybox for it."""
+    words = ["apt-cache", "depends", "--recurse", "--important", "linux-image-cloud-amd64"]
+    said = subprocess.run(words, capture_output=True, text=True, env=environment).stdout
+    kernel = sorted(set(re.findall(r"(?m)^linux-(?:image|binary|modules)-\d\S*", said)))
+    if not kernel:
         raise Missing("apt-cache knows no linux-image-cloud-amd64, whose kernel a guest of QEMU boots: apt-get update, on amd64")
-    return kernels[:1]
+    return [*kernel, "busybox-static"]
 
 
-def qemu_packages():
-    """Returns the packages with QEMU, what it wants besides, and a kernel for it."""
+def fetch_kernel(suite=None):
+    """Returns a folder with a kernel for a guest under QEMU, and a busybox."""
+    return fetch("kernel", kernel_packages, suite)
+
+
+def qemu_packages(environment):
+    """Returns the packages with QEMU, and all that it wants besides, its C library included."""
     words = ["apt-get", "install", "-s", "--no-install-recommends", "qemu-system-x86"]
-    ran = subprocess.run(words, capture_output=True, text=True)
+    ran = subprocess.run(words, capture_output=True, text=True, env=environment)
     packages = [it.split()[1] for it in ran.stdout.splitlines() if it.startswith("Inst ")]
     if not packages:
-        raise Missing(f"qemu-system-x86_64 isn't installed, and apt-get finds none to fetch: {last_line(ran.stderr) or 'apt-get update'}")
-    return [*packages, *kernel_packages()]
+        raise Missing(f"apt-get finds no qemu-system-x86 to fetch: {last_line(ran.stderr) or 'on Debian for amd64'}")
+    return packages
+
+
+def fetch_qemu(suite):
+    """Returns a folder with QEMU of this Debian, and all libraries that it is linked to."""
+    return fetch("qemu", qemu_packages, suite)

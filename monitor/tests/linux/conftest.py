@@ -2,29 +2,36 @@
 
 import linux_kit
 import pytest
-from linux_bench import FORMS, SIZES, WRONG_DEVICES, Bench
+from linux_bench import ALL_RUNS, WRONG_DEVICES, Bench
 from linux_runs import RUNS
+from linux_vmms import FORMS, VMMS
 
 
 def pytest_addoption(parser):
     """The options of this suite."""
     words = parser.getgroup("linux")
     words.addoption("--form", choices=FORMS, help="the one form in which guest and device notify each other")
-    words.addoption("--suite", metavar="NAME", help="User Mode Linux of another Debian than the machine's: bookworm, trixie, sid")
+    words.addoption("--suite", metavar="NAME", help="the kernel of another Debian than the machine's: bookworm, trixie, sid")
 
 
 def forms_of(config):
-    """Returns the forms that the command line asks for."""
-    if config.getoption("--client") == "qemu":
-        return ["messages"]
-    return [config.getoption("--form")] if config.getoption("--form") else list(FORMS)
+    """Returns the forms of the VMM that the command line asks for."""
+    asked, forms = config.getoption("--form"), VMMS[config.getoption("--vmm")].forms
+    if asked and asked not in forms:
+        raise pytest.UsageError(f"--form {asked}: guests of this VMM notify their device by {forms[0]} alone")
+    return [asked] if asked else forms
 
 
-def cases(forms, seeds, names=tuple(RUNS)):
+def names_of(config):
+    """Returns the names of the VMM's runs."""
+    return ALL_RUNS if VMMS[config.getoption("--vmm")].has_control else RUNS
+
+
+def cases(names, forms, seeds):
     """Returns all runs: with a guest of each size, in each of the forms, which change places from run to run."""
     return [
         (name, memory, forms[(number + place + seed) % len(forms)], seed)
-        for seed in seeds for place, name in enumerate(names) for number, memory in enumerate(SIZES)
+        for seed in seeds for place, name in enumerate(names) for number, memory in enumerate(ALL_RUNS[name].sizes)
     ]
 
 
@@ -32,7 +39,7 @@ def pytest_generate_tests(metafunc):
     """Makes a test of each run, and of each wrong device in each form."""
     forms = forms_of(metafunc.config)
     if "name" in metafunc.fixturenames:
-        runs = cases(forms, range(metafunc.config.getoption("--times")))
+        runs = cases(names_of(metafunc.config), forms, range(metafunc.config.getoption("--times")))
         metafunc.parametrize("name, memory, form, seed", runs, ids=["-".join(map(str, it)) for it in runs])
     if "wrong" in metafunc.fixturenames:
         devices = [pytest.param(it, form, marks=pytest.mark.wrong(it)) for it in WRONG_DEVICES for form in forms]
@@ -43,4 +50,4 @@ def pytest_generate_tests(metafunc):
 def bench(tmp_path_factory, request):
     """A kernel, the program under test, and a folder."""
     asked = request.config.getoption
-    return Bench(linux_kit.core_of(), asked("--client"), asked("--suite"), str(tmp_path_factory.mktemp("linux")))
+    return Bench(linux_kit.core_of(), asked("--vmm"), asked("--suite"), str(tmp_path_factory.mktemp("linux")))

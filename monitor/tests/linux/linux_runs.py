@@ -1,9 +1,14 @@
 """The runs of a Linux on a backend: what a guest is told to do, and what is demanded of its device and of the host's memory."""
 
 import time
+from collections.abc import Callable
+from typing import NamedTuple
 
 from linux_guest import PAGES_PER_MIB
 from linux_kit import Fault, demand
+
+# The guests' MiB. With less than 256, Linux reports nothing: it wants 128 MiB free in a zone before it does.
+SIZES = (256, 384)
 
 # Seconds in which a target is reached, in which a guest reports its free pages, and in which it moves some.
 TARGET_LIMIT, REPORT_LIMIT, MOVE_LIMIT = 60, 30, 10
@@ -61,9 +66,10 @@ def inflate_filled(machine, mib):
     audit(machine)
 
 
-def await_reports(machine, mib):
-    """After a hog of `mib` MiB that was freed: most of them are reported, and the host holds less."""
+def free_and_report(machine, mib):
+    """Frees the hog of `mib` MiB: most of them are reported, and the host holds less."""
     before, reported = machine.guest.held_mib(), machine.backend.counters()["reported"]
+    machine.guest.do("free")
     end = time.monotonic() + REPORT_LIMIT
     # A report has blocks of 4 MiB, so some of what is free stays.
     while before - machine.guest.held_mib() < mib / 2 and time.monotonic() < end:
@@ -74,16 +80,16 @@ def await_reports(machine, mib):
     audit(machine)
 
 
-def finish(machine, kept):
-    """Demands what holds at the end of each run."""
+def finish(machine, kept, unwanted=("skipped", "in_holes", "kept")):
+    """Demands what holds at the end of each run; nothing is unwanted but what a run says."""
     names = [it.split()[1] for it in kept]
     sums = machine.sums(*names)
     demand(sums == kept, f"kept bytes have changed: {' '.join(sums)} was {' '.join(kept)}")
     trouble = machine.guest.do("trouble")
     demand(not trouble, f"the guest's kernel says: {' / '.join(trouble[:2])}")
     counters = machine.backend.counters()
-    unwanted = {name: counters[name] for name in ("skipped", "in_holes", "kept") if counters[name]}
-    demand(not unwanted, f"pages that aren't there: {unwanted}")
+    found = {name: counters[name] for name in unwanted if counters[name]}
+    demand(not found, f"pages that aren't there: {found}")
     audit(machine)
 
 
@@ -91,8 +97,7 @@ def main_run(machine, _):
     """A hog, reports, an inflate beside kept bytes, a deflate, and the hog again."""
     kept = keep(machine, "keep", machine.memory // 6)
     filled = fill_memory(machine)
-    machine.guest.do("free")
-    await_reports(machine, filled)
+    free_and_report(machine, filled)
     inflate_filled(machine, filled // 2)
     machine.guest.do(f"hog {filled // 2 - LEFT_FREE}")
     machine.backend.ask("snapshot")
@@ -168,8 +173,7 @@ def zeroed_run(machine, _):
     """The kernel wants zeros in the pages that it frees: with PAGE_POISON it says so, and reports."""
     kept = keep(machine, "keep", machine.memory // 6)
     filled = fill_memory(machine)
-    machine.guest.do("free")
-    await_reports(machine, filled)
+    free_and_report(machine, filled)
     inflate_filled(machine, filled // 2)
     machine.set_target(0)
     settle(machine, "a deflate")
@@ -204,10 +208,19 @@ def compact_run(machine, _):
     return f"{moved} pages moved"
 
 
-RUNS = {
-    "main": main_run, "churn": churn_run, "oom": oom_run, "unload": unload_run, "compact": compact_run, "zeroed": zeroed_run,
-}
+class Run(NamedTuple):
+    """What is done in a run, with guests of which MiB, and what guest and backend are given besides."""
 
-# More words for the kernel and for the backend, by the run.
-KERNEL_WORDS = {"zeroed": ("init_on_free=1",)}
-BACKEND_WORDS = {"zeroed": ("--features", "100000037")}
+    do: Callable
+    sizes: tuple = SIZES
+    guest: dict = {}
+    backend_words: tuple = ()
+
+
+# The features of a device that offers PAGE_POISON, too.
+WITH_POISON = ("--features", "100000037")
+
+RUNS = {
+    "main": Run(main_run), "churn": Run(churn_run), "oom": Run(oom_run), "unload": Run(unload_run), "compact": Run(compact_run),
+    "zeroed": Run(zeroed_run, guest={"kernel_words": ("init_on_free=1",)}, backend_words=WITH_POISON),
+}

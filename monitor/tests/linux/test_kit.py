@@ -5,14 +5,14 @@ import subprocess
 import time
 
 import linux_guest
-import linux_kit
 import linux_packages
+import linux_vmms
 import pytest
 
 # Seconds in which what is missing has to be said.
 LIMIT = 5
 
-OLD_QEMU = "whose x-pci-proxy-dev ends by a signal: QEMU 7 to 10 is wanted"
+OLD_QEMU = "whose x-pci-proxy-dev ends by a signal: QEMU 7 to 10 is wanted, or --vmm qemu"
 
 
 def program(folder, name, text):
@@ -67,32 +67,77 @@ def test_the_busybox_of_each_debian(tmp_path, place):
 
 @pytest.fixture
 def qemu_of(tmp_path, monkeypatch):
-    """Puts a QEMU of this version first on the path; returns its own."""
+    """Puts a QEMU of this version and with this device first on the path; returns its own."""
     monkeypatch.setenv("PATH", f"{tmp_path}:{os.environ['PATH']}")
-    return lambda version: program(tmp_path, "qemu-system-x86_64", f"echo QEMU emulator version '{version}'")
+    text = "[ $1 = --version ] && echo QEMU emulator version '{}' || echo 'name \"{}\", bus PCI'"
+    return lambda version, device: program(tmp_path, "qemu-system-x86_64", text.format(version, device))
+
+
+@pytest.fixture
+def no_debian(tmp_path, monkeypatch):
+    """A machine whose cache is empty, and that reaches no mirror of Debian's."""
+    monkeypatch.setattr(linux_packages, "CACHE", str(tmp_path / "cache"))
+    monkeypatch.setattr(linux_packages, "MIRROR", "http://127.0.0.1:9/debian")
+
+
+PROXY, GENERIC = "x-pci-proxy-dev", "vhost-user-test-device-pci"
 
 
 @pytest.mark.parametrize("version", ("11.1.3 (Debian 1:11.1.3+ds-1)", "11.0.0"))
-def test_a_qemu_whose_proxy_ends_by_a_signal(qemu_of, version):
-    path = qemu_of(version)
-    with pytest.raises(linux_kit.Missing) as missing:
-        linux_kit.demand_old_qemu()
+def test_a_qemu_whose_proxy_ends_by_a_signal(qemu_of, version, tmp_path):
+    path = qemu_of(version, PROXY)
+    with pytest.raises(linux_packages.Missing) as missing:
+        linux_vmms.QemuProxy(str(tmp_path))
     assert str(missing.value) == f"{path} is of version {version.split()[0]}, {OLD_QEMU}"
 
 
-@pytest.mark.parametrize("version", ("10.2.1", "7.2.18"))
-def test_a_qemu_whose_proxy_works(qemu_of, version):
-    qemu_of(version)
-    linux_kit.demand_old_qemu()
+@pytest.mark.parametrize("vmm, version, device", (
+    (linux_vmms.QemuProxy, "10.2.1", PROXY), (linux_vmms.QemuProxy, "7.2.18", PROXY),
+    (linux_vmms.Qemu, "10.2.1", GENERIC), (linux_vmms.Qemu, "12.0.0", "vhost-user-device-pci"),
+))
+def test_an_installed_qemu_that_does(qemu_of, vmm, version, device):
+    path = qemu_of(version, device)
+    assert vmm.find(object.__new__(vmm)) == ([path], device)
+
+
+@pytest.mark.parametrize("vmm", (linux_vmms.Qemu, linux_vmms.QemuProxy))
+def test_no_qemu_and_no_mirror(qemu_of, no_debian, vmm, tmp_path):
+    qemu_of("7.2.18", "virtio-balloon-pci")
+    begin = time.monotonic()
+    with pytest.raises(linux_packages.Missing, match=f"apt-get finds no packages of {vmm.debian}: .*") as missing:
+        vmm(str(tmp_path))
+    assert time.monotonic() - begin < LIMIT and str(missing.value).count("\n") == 0
 
 
 @pytest.mark.parametrize("words", (("boot-linux",), ("test", "linux")))
 def test_a_tool_says_so_in_one_line(qemu_of, words):
-    qemu_of("11.1.3")
-    command = [os.path.join(linux_packages.ROOT, "tools", words[0]), *words[1:], "--client", "qemu", "--reference"]
+    qemu_of("11.1.3", PROXY)
+    command = [os.path.join(linux_packages.ROOT, "tools", words[0]), *words[1:], "--vmm", "qemu-proxy", "--reference"]
     ran = subprocess.run(command, capture_output=True, text=True, timeout=LIMIT)
     assert (ran.returncode, ran.stdout, ran.stderr.count("\n")) == (2, "", 1), ran.stderr
     assert OLD_QEMU in ran.stderr
+
+
+@pytest.mark.parametrize("answer, word", ((linux_vmms.KVM_API_VERSION, "kvm"), (11, "tcg"), (OSError, "tcg")))
+def test_kvm_where_it_answers(monkeypatch, answer, word):
+    def ioctl(_, request):
+        assert request == 0xAE00
+        if answer is OSError:
+            raise OSError
+        return answer
+
+    real = open
+    monkeypatch.setattr("builtins.open", lambda name, *words, **how: real("/dev/null" if name == "/dev/kvm" else name, *words, **how))
+    monkeypatch.setattr(linux_vmms.fcntl, "ioctl", ioctl)
+    assert linux_vmms.accelerator() == word
+
+
+def test_no_kvm(monkeypatch):
+    def refuse(*_, **__):
+        raise FileNotFoundError
+
+    monkeypatch.setattr("builtins.open", refuse)
+    assert linux_vmms.accelerator() == "tcg"
 
 
 @pytest.mark.parametrize("suite", ("", "../x", "a b", "sid main"))
@@ -103,8 +148,3 @@ def test_suites_that_are_none(suite):
 
 def test_the_machine_s_own_suite():
     assert linux_packages.apt_of(None) is None
-
-
-def test_a_suite_is_for_user_mode_linux(tmp_path):
-    with pytest.raises(linux_packages.Missing, match="for User Mode Linux"):
-        linux_kit.client_of("qemu", str(tmp_path), "sid")

@@ -1,5 +1,4 @@
-"""The balloon with Debian's own Linux and its own driver. The runs, each with a guest of its own, whose memory is at other addresses
-each time:
+"""The balloon with Debian's own Linux and its own driver. The runs, each with a guest of its own:
 
     main      a hog fills memory; reports; an inflate beside kept bytes; a deflate; the hog again; statistics
     churn     thirty random targets, some changed before they are reached
@@ -7,6 +6,18 @@ each time:
     unload    the driver is unloaded with pages in the balloon, and loaded again
     compact   the guest's kernel moves pages that are in the balloon
     zeroed    a kernel that fills free pages with zeros (init_on_free=1) reports, since PAGE_POISON is offered, and not else
+
+Under QEMU also:
+
+    pattern   a kernel that fills free pages with a pattern (page_poison=1), and looks for it: what it reports is kept
+    written   at each sample `actual` is what is in the balloon, but for the one request that the driver has posted
+    pause     the machine is stopped and goes on, amid inflates and deflates
+    plug      the device is unplugged with pages in the balloon, and plugged again over the same connection
+    dimm      memory is plugged in, and goes into the balloon
+    reset     the machine is reset with pages in the balloon
+    reboot    the guest reboots itself with pages in the balloon
+    pair      random targets, with two processors
+    large     4 GiB, of which the part above the hole below 4 GiB goes into the balloon, too
 
 What is demanded: at each kick, used index and ids are those of what was taken; pages are discarded before their request is used, and
 no page becomes a hole that the guest didn't name; after a memory was filled, what the host holds falls by at least 90% of what is
@@ -16,9 +27,8 @@ inflated; kept bytes have their sums; the kernel finds no fault. Every wait has 
 import itertools
 
 import pytest
-from linux_bench import SIZES
 from linux_kit import Fault, Missing
-from linux_runs import RUNS
+from linux_runs import RUNS, SIZES
 
 # Seconds of a run; a wrong device is given each run.
 LIMIT = 900
@@ -26,7 +36,7 @@ LIMIT = 900
 
 @pytest.mark.timeout(LIMIT)
 def test_a_guest_whose_device_nobody_serves_says_so(bench, request):
-    if request.config.getoption("--client") != "uml":
+    if request.config.getoption("--vmm") != "uml":
         pytest.skip("a guest of User Mode Linux alone can be without its device")
     print(bench.boot_unbound())
 

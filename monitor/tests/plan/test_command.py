@@ -2,13 +2,18 @@
 
 import json
 import os
+import re
 import subprocess
 
 import pytest
 from bigvasta.plan.search import smallest, spread
-from linux_kit import ROOT
+from linux_kit import HEADERS, ROOT
 
 CLIENT = os.path.join(ROOT, "client")
+
+# The version that a library of vb.h has.
+with open(os.path.join(HEADERS, "vb.h"), encoding="utf-8") as file:
+    VERSION = int(re.search(r"#define VB_VERSION_NUMBER (0x\w+)u", file.read())[1], 16)
 
 # The two guests of test_replay.py, whose pages are 4096 bytes: from 10 to 20 they need 170 pages at once.
 TWO = """guest,seconds,size,used
@@ -116,10 +121,17 @@ def test_a_picture(tmp_path, shared, day, kind):
     assert said == f"bigvasta: --draw: {tmp_path}/none/plan.svg: No such file or directory\n"
 
 
-def test_a_package_that_is_missing(tmp_path, day):
-    (tmp_path / "matplotlib.py").write_text("raise ImportError\n")
-    said = run(day, "--draw", "plan.svg", status=2, path=f"{tmp_path}:{CLIENT}")
-    assert said == "bigvasta: --draw wants matplotlib: apt-get install python3-matplotlib python3-numpy\n"
+# Modules that may be missing, and which packages have them.
+MISSING = {
+    "matplotlib": "--draw wants matplotlib: apt-get install python3-matplotlib",
+    "pandas": "plan wants numpy and pandas: apt-get install python3-pandas",
+}
+
+
+@pytest.mark.parametrize("module", MISSING)
+def test_a_package_that_is_missing(tmp_path, day, module):
+    (tmp_path / f"{module}.py").write_text("raise ImportError\n")
+    assert run(day, "--draw", "plan.svg", status=2, path=f"{tmp_path}:{CLIENT}") == f"bigvasta: {MISSING[module]}\n"
 
 
 # Words of a command line that is refused, and what it says.
@@ -151,7 +163,7 @@ def test_what_is_no_library(tmp_path, day, shared):
     assert run(day, "--library", f"{tmp_path}/libvb.so", status=2).startswith(f"bigvasta: plan: {tmp_path}/libvb.so is no library of vb.h: ")
     program = "import bigvasta.plan.library as it; it.VERSION += 256; it.load({!r})".format(shared)
     ran = subprocess.run(["/usr/bin/python3", "-B", "-c", program], capture_output=True, text=True, timeout=60, env={**os.environ, "PYTHONPATH": CLIENT})
-    assert f"Usage: plan: {shared} has version 0x000100, and 0x000200 is wanted\n" in ran.stderr
+    assert f"Usage: plan: {shared} has version {VERSION:#08x}, and {VERSION + 256:#08x} is wanted\n" in ran.stderr
     program = "import bigvasta.plan.library as it; it.PLACES = (); it.load()"
     ran = subprocess.run(["/usr/bin/python3", "-B", "-c", program], capture_output=True, text=True, timeout=60, env={**os.environ, "PYTHONPATH": CLIENT})
     assert "Usage: plan: the library isn't there: make -C monitor shared makes it, --library FILE names another\n" in ran.stderr

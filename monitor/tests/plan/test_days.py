@@ -2,7 +2,8 @@
 
 import pytest
 from bigvasta.plan import making
-from bigvasta.plan.days import Recorded, Use, read
+from bigvasta.plan.days import Recorded, Use
+from bigvasta.plan.reading import read
 from bigvasta.statuses import Usage
 
 PAGE = 4096

@@ -1,0 +1,69 @@
+"""Reads a recorded day of a file: CSV, or what Prometheus answers to query_range."""
+
+import csv
+import io
+
+from bigvasta.plan.days import Line, Recording
+from bigvasta.plan.matrix import read_matrix
+from bigvasta.statuses import Usage
+
+COLUMNS = ("guest", "seconds", "size")
+
+
+def used_by_used(line, size):
+    """Returns the bytes that a guest uses, where a line says that."""
+    return line.part("used", size)
+
+
+def used_by_available(line, size):
+    """Returns the bytes that a guest uses, where a line says what it could still use."""
+    return size - line.part("available", size)
+
+
+# One of these columns is there, too.
+MEASURES = {"used": used_by_used, "available": used_by_available}
+
+
+def measure_of(place, names):
+    """Returns what says how much a guest uses; refuses other columns than there are."""
+    known = (*COLUMNS, *MEASURES)
+    for name in names:
+        if name not in known:
+            raise Usage(f"{place}: the column {name!r} is none of {', '.join(known)}")
+        if names.count(name) > 1:
+            raise Usage(f"{place}: the column {name} is there twice")
+    for name in COLUMNS:
+        if name not in names:
+            raise Usage(f"{place}: there is no column {name}")
+    measures = [it for it in MEASURES if it in names]
+    if len(measures) != 1:
+        raise Usage(f"{place}: there has to be a column used or a column available, and not {'both' if measures else 'neither'}")
+    return MEASURES[measures[0]]
+
+
+def read_table(path, text):
+    """Returns what a table says, by its lines."""
+    recording, rows = Recording(), csv.reader(io.StringIO(text, newline=""), strict=True)
+    names = [it.strip() for it in next(rows, [])]
+    if not names:
+        raise Usage(f"{path}: there are no rows")
+    measure = measure_of(f"{path}:1", names)
+    for cells in rows:
+        place = f"{path}:{rows.line_num}"
+        if len(cells) != len(names):
+            raise Usage(f"{place}: there are {len(cells)} cells, and {len(names)} columns")
+        recording.add(Line(place, dict(zip(names, cells))), measure)
+    return recording
+
+
+def read(path):
+    """Returns the recorded day of a file."""
+    try:
+        with open(path, encoding="utf-8", newline="") as file:
+            text = file.read()
+        recording = read_matrix(path, text) if text.lstrip().startswith("{") else read_table(path, text)
+    except OSError as fault:
+        raise Usage(f"{path}: {fault.strerror or fault}") from None
+    except (csv.Error, UnicodeDecodeError) as fault:
+        raise Usage(f"{path}: this is no CSV in UTF-8: {fault}") from None
+    return recording.day(path)

@@ -1,0 +1,232 @@
+"""The VMMs of a Linux with a balloon, each with what differs: its device's backend, its command, and how it is told to act."""
+
+import fcntl
+import glob
+import os
+import re
+import shutil
+import socket
+import subprocess
+import sys
+from typing import NamedTuple
+
+from linux_initramfs import make_initramfs
+from linux_packages import Fault, Missing, busybox_of, fetch_kernel, fetch_qemu, fetch_uml, last_line, libc_of, one_of
+from qmp import Qmp
+
+# A guest's command line, whatever it runs under.
+KERNEL_WORDS = ("rdinit=/init", "panic=-1", "loglevel=1")
+
+# How guest and device notify each other, and the backend's option for that. QEMU's notifications are events in each case.
+FORMS = {"messages": (), "events": ("--events",)}
+
+# KVM answers this request by this version (linux/kvm.h).
+KVM_GET_API_VERSION, KVM_API_VERSION = 0xAE00, 12
+
+# The last QEMU whose PCI proxy works.
+LAST_PROXY = 10
+
+
+class Shape(NamedTuple):
+    """What a guest is started with: its MiB, its processors, more words of its kernel's command line, and the MiB that may be plugged
+    in besides."""
+
+    memory: int
+    processors: int = 1
+    kernel_words: tuple = ()
+    pluggable: int = 0
+
+
+def demand_shared_room(memory):
+    """Says where /dev/shm has no room for the memory of guests, in MiB."""
+    room = os.statvfs("/dev/shm")
+    free = room.f_bavail * room.f_frsize >> 20
+    if free < memory:
+        raise Missing(f"/dev/shm has {free} MiB free, and {memory} are wanted for guests: mount -o remount,size={memory + 64}M /dev/shm")
+
+
+def accelerator():
+    """Returns QEMU's word for KVM where the machine's answers, else for its own emulation."""
+    try:
+        with open("/dev/kvm", "rb+", buffering=0) as device:
+            return "kvm" if fcntl.ioctl(device, KVM_GET_API_VERSION) == KVM_API_VERSION else "tcg"
+    except OSError:
+        return "tcg"
+
+
+class OverSocket:
+    """The device is reached by vhost-user, at a socket of the backend's."""
+
+    backend = "vhost_user_balloon"
+
+    def connect(self, folder):
+        """Returns what the backend and the guest are told of each other, and their files: none here."""
+        path = os.path.join(folder, "socket")
+        return (path, ()), (path, ())
+
+
+class Uml(OverSocket):
+    """User Mode Linux: a kernel that is a process."""
+
+    forms, has_control = ("messages", "events"), False
+
+    def __init__(self, folder, suite=None):
+        self.root, with_libc = fetch_uml(suite), os.path.join(os.path.dirname(__file__), "linux_with_libc.py")
+        kernel = os.path.join(self.root, "usr/bin/linux.uml")
+        self.program = [sys.executable, with_libc, *libc_of(self.root), kernel] if suite else [kernel]
+        module = one_of(self.root, "usr/lib/uml/modules/*/kernel/drivers/virtio/virtio_balloon.ko")
+        self.initramfs = make_initramfs(folder, busybox_of(self.root), [module])
+
+    def demand_room(self, memory):
+        """Says where the host has no room for the memory of guests."""
+        demand_shared_room(memory)
+
+    def words(self, folder, shape, path):
+        """Returns the guest's command."""
+        self.demand_room(shape.memory)
+        own = ("quiet", "con=null", "con0=fd:0,fd:1", f"uml_dir={folder}/uml")
+        return [*self.program, f"mem={shape.memory}M", f"initrd={self.initramfs}", *own, f"virtio_uml.device={path}:5",
+                *KERNEL_WORDS, *shape.kernel_words]
+
+    def environment(self):
+        """Returns the guest's environment: its memory is in /dev/shm, but where one of these names another folder."""
+        return {name: it for name, it in os.environ.items() if name not in ("TMPDIR", "TMP", "TEMP")}
+
+    def control(self, _):
+        """Nobody tells it to act."""
+        return None
+
+
+class Emulator:
+    """QEMU, and a machine whose device isn't said. A class of it says which devices do (`devices`), whose QEMU is fetched where the
+    one that is installed has none of them (`debian`), and what its kernel is told besides (`kernel_words`)."""
+
+    def __init__(self, folder, suite=None):
+        self.program, self.device = self.find()
+        files = fetch_kernel(suite)
+        self.kernel = one_of(files, "boot/vmlinuz-*", "usr/lib/modules/*/vmlinuz")
+        modules = [it for top in ("", "usr/") for it in glob.glob(f"{files}/{top}lib/modules/*/kernel/drivers/virtio/virtio*.ko*")]
+        self.initramfs = make_initramfs(folder, busybox_of(files), modules)
+
+    def find(self):
+        """Returns the words that begin a command of a QEMU that has one of the devices, and which."""
+        installed = shutil.which("qemu-system-x86_64")
+        device = installed and self.device_of([installed])
+        if device:
+            return [installed], device
+        program = fetched_qemu(self.debian)
+        device = self.device_of(program)
+        if not device:
+            raise Missing(f"QEMU of Debian {self.debian} has no {self.devices[0]}")
+        return program, device
+
+    def device_of(self, program):
+        """Returns the first of the devices that this QEMU has, or none."""
+        said = subprocess.run([*program, "-device", "help"], capture_output=True, text=True)
+        if said.returncode != 0:
+            raise Missing(f"{program[0]}: {last_line(said.stderr)}")
+        return next((it for it in self.devices if f'"{it}"' in said.stdout), None)
+
+    def demand_room(self, _):
+        """A memfd has no limit of its own."""
+
+    def machine(self, shape):
+        """Returns the guest's command but for the device."""
+        slots = f",slots=1,maxmem={shape.memory + shape.pluggable}M" if shape.pluggable else ""
+        return [
+            *self.program, "-nodefaults", "-no-user-config", "-display", "none",
+            "-accel", self.accelerator(), "-smp", str(shape.processors), "-no-reboot", "-serial", "stdio",
+            "-m", f"{shape.memory}M{slots}",
+            "-object", f"memory-backend-memfd,id=memory,size={shape.memory}M,share=on", "-machine", "q35,memory-backend=memory",
+            "-kernel", self.kernel, "-initrd", self.initramfs,
+            "-append", " ".join((*self.kernel_words, *KERNEL_WORDS, *shape.kernel_words)),
+        ]
+
+    def environment(self):
+        """Returns the guest's environment."""
+        return dict(os.environ)
+
+
+def fetched_qemu(debian):
+    """Returns the words that begin a command of a fetched QEMU: its own loader, its libraries and its machine's files."""
+    root = fetch_qemu(debian)
+    folders = ":".join(os.path.join(root, it, "x86_64-linux-gnu") for it in ("usr/lib", "lib"))
+    files = [it for name in ("qemu", "seabios") for it in ("-L", os.path.join(root, "usr/share", name))]
+    return [libc_of(root)[0], "--library-path", folders, os.path.join(root, "usr/bin/qemu-system-x86_64"), *files]
+
+
+class Qemu(OverSocket, Emulator):
+    """QEMU with its generic device of vhost-user, which Debian's builds can create from 10.2 on."""
+
+    forms, has_control = ("events",), True
+    devices, debian = ("vhost-user-test-device-pci", "vhost-user-device-pci"), "sid"
+    kernel_words = ("console=ttyS0", "memhp_default_state=online")
+
+    # What the generic device is told of a balloon.
+    OF_BALLOON = {"virtio-id": 5, "num_vqs": 4, "config_size": 16}
+
+    def accelerator(self):
+        """Returns QEMU's word for how it runs the guest."""
+        return accelerator()
+
+    def device_words(self):
+        """Returns the device by its names, as QEMU's command line and its control socket have them."""
+        return {"driver": self.device, "id": "balloon", "bus": "port1", "chardev": "device", **self.OF_BALLOON}
+
+    def words(self, folder, shape, path):
+        """Returns the guest's command; the device is in a slot from which it can be unplugged."""
+        device = ",".join(f"{name}={it}" for name, it in self.device_words().items()).removeprefix("driver=")
+        return [
+            *self.machine(shape), "-chardev", f"socket,id=device,path={path}", "-device", "pcie-root-port,id=port1,chassis=1,slot=1",
+            "-device", device, "-qmp", f"unix:{folder}/qmp,server=on,wait=off",
+        ]
+
+    def control(self, folder):
+        """Returns a client of its control socket."""
+        return Qmp(os.path.join(folder, "qmp"))
+
+
+class QemuProxy(Emulator):
+    """QEMU whose device is a PCI function in another process: its messages come by a pair of sockets."""
+
+    backend = "pci_proxy_balloon"
+    forms, has_control = ("messages",), False
+    devices, debian = ("x-pci-proxy-dev",), "bookworm"
+    # Interrupts don't come without KVM: the guest looks for them by itself.
+    kernel_words = ("console=ttyS0", "irqpoll", "nolapic_timer", "nohz=off")
+
+    def find(self):
+        """Returns the words that begin a command of QEMU, and the device; says where a driver would end QEMU by a signal."""
+        found, device = super().find()
+        said = subprocess.run([*found, "--version"], capture_output=True, text=True).stdout
+        version = re.search(r"version (\d+)\.[\d.]+", said)
+        if version and int(version[1]) > LAST_PROXY:
+            raise Missing(f"{found[0]} is of {version[0]}, whose {device} ends by a signal: QEMU 7 to {LAST_PROXY} is wanted, or --vmm qemu")
+        return found, device
+
+    def accelerator(self):
+        """Returns QEMU's word for its own emulation."""
+        return "tcg"
+
+    def connect(self, _):
+        """Returns what the backend and the guest are told of each other, and their files."""
+        ends = socket.socketpair()
+        return tuple((str(it.fileno()), (it,)) for it in ends)
+
+    def words(self, _, shape, number):
+        """Returns the guest's command."""
+        return [*self.machine(shape), "-device", f"{self.device},id=balloon,fd={number}"]
+
+    def control(self, _):
+        """Nobody tells it to act."""
+        return None
+
+
+VMMS = {"uml": Uml, "qemu": Qemu, "qemu-proxy": QemuProxy}
+
+
+def vmm_of(name, folder, suite=None):
+    """Returns what makes guests of this VMM, with the kernel of this machine's Debian, or of another one."""
+    if name not in VMMS:
+        raise Fault(f"{name!r} is no VMM: {', '.join(VMMS)}")
+    return VMMS[name](folder, suite)
