@@ -73,22 +73,6 @@ fn advance(
 }
 
 impl Notice {
-    /// A notice of which nothing was done yet.
-    fn new(kind: Kind, tally: Tally) -> Notice
-        ensures kind { result.kind ≡ kind }
-        ensures tally { result.step.tally ≡ tally }
-    {
-        let phase = Phase::Ended {
-            why: None,
-            interrupt: false,
-            more: false,
-        };
-        Notice {
-            kind,
-            step: Step { tally, phase },
-        }
-    }
-
     /// The driver kicked the queue of this kind, or may have: it is served as far as the budget
     /// has room. Not for a queue of which a chain is held.
     pub fn begin(device: &mut Device, regions: &[Region], kind: Kind, budget: Budget) -> Notice
@@ -106,9 +90,12 @@ impl Notice {
             held: None,
             published: 0,
         };
-        let mut notice = Notice::new(kind, tally);
-        look(&mut notice.step, device, regions, kind);
-        notice
+        let mut step = Step {
+            tally,
+            phase: Phase::NOT_BEGUN,
+        };
+        look(&mut step, device, regions, kind);
+        Notice { kind, step }
     }
 
     /// A chain that is held of a kind's queue is given back: new statistics are asked for by it
@@ -128,9 +115,12 @@ impl Notice {
             held: Some(held),
             published: 0,
         };
-        let mut notice = Notice::new(kind, tally);
-        give_back(&mut notice.step, device, regions, kind, held.head);
-        notice
+        let mut step = Step {
+            tally,
+            phase: Phase::NOT_BEGUN,
+        };
+        give_back(&mut step, device, regions, kind, held.head);
+        Notice { kind, step }
     }
 
     /// Goes on, once what was to be done was done, with this answer. The room is as the call before

@@ -3,10 +3,10 @@ use Rattle.vb_monitor.proofs.{LeftLemmas.one_taken, NextLemmas.takes_next}
 use Rattle.vb_monitor.specs.Machine.{whole}
 use Rattle.vb_monitor.proofs.looks.take.Goals as goal
 
-pub returns-then-tally-eq0-2-clause-left : goal.returns-then-tally-eq0-2-clause-left
-returns-then-tally-eq0-2-clause-left c =
+pub returns-then-step-eq0-2-clause-left : goal.returns-then-step-eq0-2-clause-left
+returns-then-step-eq0-2-clause-left c =
     let some : 0 < c.args.step.now.tally.chains = search rules in
-    omega (arith, one_taken c.args.regions.now c.args.step.now.tally.chains some, c.end-then-tally-eq0-2.ensures.left)
+    omega (arith, one_taken c.args.regions.now c.args.step.now.tally.chains some, c.end-then-step-eq0-2.ensures.left)
 
 pub returns-clause-left : goal.returns-clause-left
 returns-clause-left c =
