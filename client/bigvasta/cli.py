@@ -6,7 +6,7 @@ import sys
 
 from bigvasta import __version__
 from bigvasta.commands import MODULES
-from bigvasta.connection import DEFAULT_PATH
+from bigvasta.connection import CONTROL, STATUS
 from bigvasta.statuses import DONE, TABLE, Fault
 
 
@@ -19,9 +19,10 @@ def parser():
     words.add_argument("--version", action="version", version=f"bigvasta {__version__}")
     common = argparse.ArgumentParser(add_help=False)
     common.add_argument(
-        "--control", metavar="PATH", default=os.environ.get("BIGVASTA_CONTROL", DEFAULT_PATH),
-        help=f"the host's control socket ({DEFAULT_PATH}, or what BIGVASTA_CONTROL says)",
+        "--control", metavar="PATH", default=os.environ.get("BIGVASTA_CONTROL"),
+        help=f"the host's socket (what BIGVASTA_CONTROL says; else {CONTROL} for what changes the host, {STATUS} for what shows it)",
     )
+    common.set_defaults(changes=lambda asked: False)
     common.add_argument("--json", action="store_true", help="print the host's answer, an object a line")
     commands = words.add_subparsers(metavar="COMMAND", required=True)
     for module in MODULES:
@@ -32,6 +33,8 @@ def parser():
 def main(words):
     """Runs the command line; returns the exit status."""
     asked = parser().parse_args(words)
+    if "control" in asked:
+        asked.control = asked.control or (CONTROL if asked.changes(asked) else STATUS)
     try:
         return asked.run(asked) or DONE
     except Fault as fault:

@@ -30,11 +30,11 @@ HOST_TOTALS = (
     ("lines_dropped", "dropped", "Lines of the log that nobody read in time"),
 )
 CONTROL_TOTALS = (
-    ("control_clients_accepted", "accepted", "Clients of the control socket that came"),
-    ("control_clients_dropped", "dropped", "Clients of the control socket that were dropped as they left their answers unread"),
-    ("control_clients_turned_away", "turned_away", "Clients of the control socket that came as one too many"),
-    ("control_requests", "requests", "Requests of the control socket"),
-    ("control_requests_refused", "refused", "Requests of the control socket that were refused"),
+    ("control_clients_accepted", "accepted", "Clients of a control socket that came"),
+    ("control_clients_dropped", "dropped", "Clients of a control socket that were dropped as they left their answers unread"),
+    ("control_clients_turned_away", "turned_away", "Clients of a control socket that came as one too many"),
+    ("control_requests", "requests", "Requests of a control socket"),
+    ("control_requests_refused", "refused", "Requests of a control socket that were refused"),
 )
 
 # Of each guest.
@@ -71,9 +71,9 @@ GUEST_TOTALS = (
 PREFIX = "bigvasta"
 
 
-def gauge(name, what, values):
+def gauge(name, what, values, label="guest"):
     """Returns a gauge; each value has the labels before it."""
-    labels = ["guest"] if values and values[0][0] else []
+    labels = [label] if values and values[0][0] else []
     family = GaugeMetricFamily(f"{PREFIX}_{name}", what, labels=labels)
     for key, value in values:
         family.add_metric(key, value)
@@ -89,6 +89,11 @@ def counter(name, what, values, label="guest"):
     return family
 
 
+def of_sockets(host, field):
+    """Returns what a host's control sockets count, with the word for each."""
+    return [([it], host[it][field]) for it in ("control", "status")]
+
+
 def host_metrics(host):
     """Yields the metrics of the host."""
     build = InfoMetricFamily(f"{PREFIX}_build", "Versions of the host and of the core that decides")
@@ -101,9 +106,9 @@ def host_metrics(host):
         yield gauge(name, what, [([], host[field])])
     for name, field, what in HOST_TOTALS:
         yield counter(name, what, [([], host["counters"][field])])
-    yield gauge("control_clients", "Clients of the control socket", [([], host["control"]["clients"])])
+    yield gauge("control_clients", "Clients of a control socket", of_sockets(host, "clients"), "socket")
     for name, field, what in CONTROL_TOTALS:
-        yield counter(name, what, [([], host["control"][field])])
+        yield counter(name, what, of_sockets(host, field), "socket")
 
 
 def guest_metrics(guests):

@@ -1,4 +1,4 @@
-"""The control socket of a host: requests and answers, and the events of a host that is followed."""
+"""A connection to a control socket of a host: requests and answers, and the events of a host that is followed."""
 
 import json
 import socket
@@ -6,7 +6,9 @@ import socket
 from bigvasta.statuses import Away, Refused, Unclear
 
 VERSION = 1
-DEFAULT_PATH = "/run/bigvasta/.control"
+
+# The socket by which a host is changed, and the one that only shows it.
+CONTROL, STATUS = "/run/bigvasta/.control", "/run/bigvasta-status/socket"
 
 # Seconds in which a host has to answer; and the most bytes of an answer.
 LIMIT = 10.0
@@ -14,7 +16,7 @@ MOST_ANSWER = 1 << 20
 
 
 class Connection:
-    """A connection to the control socket of a host."""
+    """A connection to a socket of a host."""
 
     def __init__(self, path, limit=LIMIT):
         self.path = path

@@ -7,7 +7,7 @@ TABLE = """exit statuses:
   0  done
   1  the host refused, and nothing has changed
   2  the command line is wrong
-  3  no host answers: it isn't running, or its control socket may not be opened
+  3  no host answers: it isn't running, or its socket may not be opened
   4  the host's answer isn't understood, or it went away amid an answer"""
 
 

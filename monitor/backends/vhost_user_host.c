@@ -2,7 +2,8 @@
  *
  *     vhost_user_host FOLDER --budget MIB [--floor MIB] [--period MS] [--step N] [--strict] [--strict-pages] [--events]
  *                     [--features HEX] [--lines N] [--program PATH] [--no-sandbox] [--end-with-lender]
- *                     [--config FILE] [--control PATH] [--control-mode OCTAL] [--control-group NAME] [--log-level WORD]
+ *                     [--config FILE] [--control PATH] [--control-mode OCTAL] [--control-group NAME] [--status PATH]
+ *                     [--status-mode OCTAL] [--status-group NAME] [--log-level WORD]
  *
  * It says `ready`, and starts a process for each client that comes, which serves its balloon: vhost_user_balloon, beside this program or
  * at --program. It obeys lines of its standard input, whose end is no line. Each is answered by a line on standard output, or by one
@@ -25,7 +26,8 @@
  * ones don't serve any longer: by vb_loan_class_targets, vb_spare and vb_needs_targets of the library. A guest that breaks a
  * rule or goes ends alone: a line on standard error says so. A guest whose memory has no room beside the others is refused.
  *
- * `bigvasta` speaks to it by its control socket, FOLDER/.control (--control): docs/CONTROL.md. --config: a file that says the same, and
+ * `bigvasta` speaks to it by its control socket, FOLDER/.control (--control), and by one that only shows the host, FOLDER/.status
+ * (--status): docs/CONTROL.md. --config: a file that says the same, and
  * the guests; SIGHUP has it read anew. --log-level: error, warning, notice, info (as it is) or debug.
  *
  * --floor: what each guest keeps free (12 MiB). --step: a target grows by one part of so many of the guest in a second, while the host is
@@ -167,7 +169,8 @@ static void end_all(struct host *host)
 static const char help[] =
     "vhost_user_host FOLDER --budget MIB [--floor MIB] [--period MS] [--step N] [--strict] [--strict-pages] [--events] "
     "[--features HEX] [--lines N] [--program PATH] [--no-sandbox] [--end-with-lender] [--leave]\n"
-    "                [--config FILE] [--control PATH] [--control-mode OCTAL] [--control-group NAME] [--log-level WORD]";
+    "                [--config FILE] [--control PATH] [--control-mode OCTAL] [--control-group NAME] [--status PATH] [--status-mode OCTAL] "
+    "[--status-group NAME] [--log-level WORD]";
 
 int main(int count, char **words)
 {
@@ -180,7 +183,7 @@ int main(int count, char **words)
         fprintf(stderr, "%s\n", help);
         return 2;
     }
-    process_allow_files(FILES_OF_LENDER + MOST_GUESTS * 3 + MOST_CONTROL_CLIENTS);
+    process_allow_files(FILES_OF_LENDER + MOST_GUESTS * 3 + CONTROL_SOCKETS * MOST_CONTROL_CLIENTS);
     if (!can_offer(host.features) || !find_program(&host) || !folder_lock(host.folder) || !answers_begin(&host.answers))
         return 2;
     folder_take_over(&host);

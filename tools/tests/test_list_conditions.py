@@ -44,13 +44,28 @@ impl Ring {
     }
 }
 """,
+    "crates/low/src/shut/below.rt": """impl<P: Pace> Ring<P> {
+    pub fn take(&mut self)
+        requires { self.old.used ≡ [] }
+    {
+    }
+}
+""",
+    "crates/low/src/tests/rings.rt": """impl Ring {
+    pub fn fill(&mut self, n: u32)
+        requires { n ≤ 2 }
+    {
+    }
+}
+""",
     "page.md": "<!-- tools/list-conditions: from here -->\n<!-- tools/list-conditions: to here -->\n",
 }
 
 TABLE = """| Crate | Calls | Conditions |
 |---|---|---|
 | `low` | `first`, `shown` | `n ≤ 256` |
-| `low` | `Ring::add` | `n ≤ 7`<br>`n ≢ 3 &#124; 4` |"""
+| `low` | `Ring::add` | `n ≤ 7`<br>`n ≢ 3 &#124; 4` |
+| `low` | `Ring::take` | `self.old.used ≡ []` |"""
 
 
 @pytest.fixture

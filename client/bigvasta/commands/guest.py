@@ -41,4 +41,4 @@ def add(commands, common):
     )
     words.add_argument("name", metavar="NAME")
     words.add_argument("words", metavar="KEY=VALUE", nargs="*", help="least=SIZE most=SIZE|none priority=N strict=yes|no target=SIZE")
-    words.set_defaults(run=run)
+    words.set_defaults(run=run, changes=lambda asked: bool(asked.words))

@@ -5,6 +5,7 @@ ghost use Rattle.std.specs.Fmt.{decimal};
 ghost use Rattle.std.specs.Io.KnownBytes.{Appends};
 ghost use Rattle.hex.specs.Hex.{encode_lower};
 ghost use Rattle.vb_reply.specs.Held.{Puts};
+ghost use Rattle.vb_reply.specs.declared.held.TheConstants.{CHUNK};
 
 use arrayvec::ArrayVec;
 use std::io;
@@ -155,7 +156,7 @@ pub fn put_digits<W: Write>(out: &mut W, held: &mut Held, bytes: &[u8]) -> Resul
 
 /// Puts at most `CHUNK` bytes as digits, all at once.
 fn put_chunk<W: Write>(out: &mut W, held: &mut Held, bytes: &[u8]) -> Result<(), Failed>
-    requires { length bytes.now ≤ 256 }
+    requires { length bytes.now ≤ CHUNK }
     ensures { OnOk result (Puts (W.contents out.old) held.old.text.items (W.contents out.new)
         held.new.text.items (encode_lower bytes.now)) }
 {

@@ -7,6 +7,7 @@ use Rattle.std.specs.Option.{option_map}
 use Rattle.vb_model.specs.declared.calls.Event.{Event}
 use Rattle.vb_script.specs.declared.lines.LineFault.{LineFault}
 use Rattle.vb_script.specs.declared.lines.Pace.{Pace}
+use Rattle.vb_script.specs.declared.script.TheConstants.{MAX_SPARES}
 use Rattle.vb_script.specs.Events.{event_of}
 use Rattle.vb_script.specs.Lines.{spare_of, host_of}
 use Rattle.vb_script.specs.Words.{words_of}
@@ -40,10 +41,10 @@ pub record Told (Item : Type 0) : Type 0 where
   pub spares : List Pace
   pub events : List Item
 
--- a spare device is told before all else, and there are at most 64
+-- a spare device is told before all else, and there are at most MAX_SPARES
 abbrev pub with_spare : {Item : Type 0} → Pace → Told Item → Option (Told Item)
 with_spare pace told =
-    if is_none (slice_get told.events 0) && nat_lt (length told.spares) 64
+    if is_none (slice_get told.events 0) && nat_lt (length told.spares) MAX_SPARES
     then Some (record told { spares = told.spares ++ pace ∷ [] })
     else None
 

@@ -20,4 +20,4 @@ mod words;
 
 pub use lines::Pace;
 pub use reading::{ScriptFault, parse, parse_threads};
-pub use script::{Script, ThreadsGuest, ThreadsScript};
+pub use script::{MAX_SPARES, Script, ThreadsGuest, ThreadsScript};

@@ -12,16 +12,13 @@ ghost use Rattle.vb_script.specs.Words.{words_left};
 
 use crate::lines::{LineFault, Pace, host, spare};
 use crate::plans::plan;
-use crate::script::{Reading, Script, ThreadsScript};
+use crate::script::{MAX_SPARES, Reading, Script, ThreadsScript};
 use crate::texts::{Line, Lines};
 use crate::threads::ThreadsLine;
 use crate::words::Words;
 use std::alloc::{AllocError, Global};
 use thiserror::Error;
 use vb_model::Event;
-
-/// Spare devices that a script may bring.
-const MAX_SPARES: usize = 64;
 
 /// Bytes of the shortest line after the spare devices, as `ask 0`, with its line feed: none takes
 /// fewer.

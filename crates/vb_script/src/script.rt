@@ -2,9 +2,13 @@
 
 ghost use Rattle.std.specs.Prelude.{◌≡◌, ◌≤◌, vec_capacity, vec_len};
 ghost use Rattle.vb_virtio.specs.declared.limits.TheConstants.{MAX_FRAMES};
+ghost use Rattle.vb_script.specs.declared.script.TheConstants.{MAX_SPARES};
 
 use crate::lines::Pace;
 use vb_model::{Call, Event};
+
+/// Spare devices that a script may bring.
+pub const MAX_SPARES: usize = 64;
 
 /// What a script says: the first line the host's frames, the next ones its spare devices, all
 /// others what happens. Any such script can be run: its numbers are within their bounds.
@@ -12,14 +16,14 @@ use vb_model::{Call, Event};
 pub struct Script {
     /// Frames of the host, from 1 to `MAX_FRAMES` of `vb_virtio`.
     pub frames: u32,
-    /// The spare devices, at most 64, in the order in which plugs take them.
+    /// The spare devices, at most `MAX_SPARES`, in the order in which plugs take them.
     pub spares: Vec<Pace>,
     /// What happens, in order.
     pub events: Vec<Event>,
     pub ghost some_frames: { 1 ≤ frames },
     pub ghost frames_in_bound: { frames ≤ MAX_FRAMES },
-    pub ghost spares_in_bound: { vec_len spares ≤ 64 },
-    pub ghost room_for_spares: { 64 ≤ vec_capacity spares },
+    pub ghost spares_in_bound: { vec_len spares ≤ MAX_SPARES },
+    pub ghost room_for_spares: { MAX_SPARES ≤ vec_capacity spares },
 }
 
 /// What a text says, as far as it was read.
@@ -27,14 +31,14 @@ pub struct Script {
 pub struct Reading<T> {
     /// Frames of the host, from 1 to `MAX_FRAMES` of `vb_virtio`.
     pub frames: u32,
-    /// The spare devices, at most 64, in order.
+    /// The spare devices, at most `MAX_SPARES`, in order.
     pub spares: Vec<Pace>,
     /// What the lines after them say, in order.
     pub items: Vec<T>,
     pub ghost some_frames: { 1 ≤ frames },
     pub ghost frames_in_bound: { frames ≤ MAX_FRAMES },
-    pub ghost spares_in_bound: { vec_len spares ≤ 64 },
-    pub ghost room_for_spares: { 64 ≤ vec_capacity spares },
+    pub ghost spares_in_bound: { vec_len spares ≤ MAX_SPARES },
+    pub ghost room_for_spares: { MAX_SPARES ≤ vec_capacity spares },
 }
 
 /// What a script for guests on threads says: a plan, which may be refused when it is run: what a
@@ -54,7 +58,7 @@ pub struct ThreadsScript {
     pub ghost some_frames: { 1 ≤ frames },
     pub ghost frames_in_bound: { frames ≤ MAX_FRAMES },
     pub ghost some_guests: { 1 ≤ vec_len guests },
-    pub ghost guests_in_bound: { vec_len guests ≤ 64 },
+    pub ghost guests_in_bound: { vec_len guests ≤ MAX_SPARES },
 }
 
 /// A guest of such a script. Its configuration is as it was written, except for its processors.

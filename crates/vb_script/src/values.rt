@@ -3,6 +3,7 @@
 ghost use Rattle.std.specs.Prelude.{◌≡◌, ◌+◌, ◌-◌, ◌*◌, ◌^◌, ◌<◌, ◌≤◌, IfOk, IsOk, IsSome};
 ghost use Rattle.std.specs.Prelude.{MatchOption, SomeIff, length};
 ghost use Rattle.hex.specs.Hex.{decode_of, decode_sized};
+ghost use Rattle.vb_virtio.specs.Limits.{page_size};
 ghost use Rattle.vb_script.specs.Numbers.{IsByteWord, IsDecimal, IsDigit, ShowsBits, decimal_value};
 ghost use Rattle.vb_script.specs.Values.{bytes_of, features_of, positive_of};
 ghost use Rattle.vb_script.specs.Words.{number_of};
@@ -85,7 +86,7 @@ pub fn bytes(alloc: Global, word: &[u8]) -> Result<Bytes, LineFault>
 #[cold]
 fn undecoded(word: &[u8]) -> LineFault
     requires some { 0 < length word.now }
-    requires few { length word.now ≤ 2 * 4096 }
+    requires few { length word.now ≤ 2 * page_size }
     ensures bad { result ≡ LineFault.Bad → ¬ IsByteWord word.now }
     ensures none { result ≡ LineFault.Bad → bytes_of word.now ≡ None }
     ensures memory { result ≡ LineFault.Memory → IsSome (bytes_of word.now) }

@@ -2,6 +2,7 @@
 
 #include "fields.h"
 
+#include "../host/journal.h"
 #include "../host/measures.h"
 #include "../host/view.h"
 #include "vb.h"
@@ -116,20 +117,20 @@ json_t *answer_host(const struct control *control, const struct host *host)
 {
     struct host_view view;
     host_see(host, &view);
-    return json_pack("{s:s, s:s, s:i, s:o, s:o, s:i, s:o, s:o, s:o, s:i, s:i, s:i, s:b, s:f, s:o, s:o, s:o}", "version", VB_VERSION,
+    return json_pack("{s:s, s:s, s:i, s:o, s:o, s:i, s:o, s:o, s:o, s:i, s:i, s:i, s:b, s:f, s:o, s:o, s:o, s:o}", "version", VB_VERSION,
                      "folder", view.folder, "guests", (int)view.guests, "budget", bytes(view.budget), "floor", bytes(view.floor),
                      "step", (int)view.step, "held", kibibytes(view.held_kib), "lent", bytes(view.lent), "missing",
                      bytes(view.short_by), "waiting", (int)view.waiting, "silent", (int)view.silent, "uncooperative",
                      (int)view.uncooperative, "strict", view.strict, "period", (double)view.period / 1000, "counters",
-                     answer_host_counters(&view), "control", answer_control_counters(&control->counters), "measures",
-                     answer_measures());
+                     answer_host_counters(&view), "control", answer_control_counters(&control->sockets[MAY_CHANGE].counters), "status",
+                     answer_control_counters(&control->sockets[MAY_LOOK].counters), "measures", answer_measures());
 }
 
 json_t *answer_log(const struct host *host, uint64_t since, uint64_t limit)
 {
     struct host_view view;
     host_see(host, &view);
-    uint64_t kept = decisions_kept_from(host), next = since > kept ? since : kept, lost = since < kept ? kept - since : 0;
+    uint64_t kept = journal_begin(host), next = since > kept ? since : kept, lost = since < kept ? kept - since : 0;
     json_t *decisions = json_array();
     for (; next < view.decisions && json_array_size(decisions) < limit; next++)
         json_array_append_new(decisions, answer_decision(host, next));

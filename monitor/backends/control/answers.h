@@ -5,7 +5,7 @@
 
 #include <jansson.h>
 
-/* All of the host together, and what its control socket counts. */
+/* All of the host together, and what its control sockets count. */
 json_t *answer_host(const struct control *control, const struct host *host);
 
 /* The guest of this number. */
@@ -17,9 +17,6 @@ json_t *answer_guests(const struct host *host);
 /* Decisions from this number on, at most `limit`: `decisions`; `next`, where to go on; `lost`, how many of them aren't kept any
  * longer. */
 json_t *answer_log(const struct host *host, uint64_t since, uint64_t limit);
-
-/* The number of the first decision that is kept. */
-uint64_t decisions_kept_from(const struct host *host);
 
 /* The decision of this number; NULL where it isn't kept. */
 json_t *answer_decision(const struct host *host, uint64_t number);

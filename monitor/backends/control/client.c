@@ -11,11 +11,11 @@
 /* Digits of a number with a fraction. */
 enum { MOST_DIGITS = 15 };
 
-struct control_client *client_new(int socket)
+struct control_client *client_new(int socket, enum control_rights rights)
 {
     struct control_client *client = calloc(1, sizeof *client);
     if (client)
-        client->socket = socket;
+        *client = (struct control_client){.socket = socket, .rights = rights};
     return client;
 }
 

@@ -1,4 +1,4 @@
-/* One client of the control socket: what came of its next request, and what it hasn't read yet. */
+/* One client of a control socket: what came of its next request, and what it hasn't read yet. */
 #ifndef CONTROL_CLIENT_H
 #define CONTROL_CLIENT_H
 #include "control.h"
@@ -7,6 +7,7 @@
 
 struct control_client {
     int socket;
+    enum control_rights rights; /* those of the socket at which it came */
     char request[MOST_REQUEST];
     size_t came;                /* bytes of requests that came and aren't served */
     char *unread;               /* what the client hasn't read, or NULL */
@@ -18,8 +19,8 @@ struct control_client {
     bool gone;                  /* it can't be sent anything any longer */
 };
 
-/* A client of this socket, whose file it has from now on; NULL where there is no memory. */
-struct control_client *client_new(int socket);
+/* A client with this file, which is its own from now on; NULL where there is no memory. */
+struct control_client *client_new(int socket, enum control_rights rights);
 
 /* Closes its file, and frees it. */
 void client_free(struct control_client *client);

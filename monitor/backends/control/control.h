@@ -1,5 +1,5 @@
-/* The control socket of a host: any number of clients, a JSON object a line both ways, and nobody is waited for.
- * docs/CONTROL.md is the protocol. */
+/* The control socket of a host, and the one that only shows it: any number of clients, a JSON object a line both ways, and nobody is
+ * waited for. docs/CONTROL.md is the protocol. */
 #ifndef CONTROL_H
 #define CONTROL_H
 #include <stdbool.h>
@@ -8,9 +8,12 @@
 
 struct host;
 
-/* The version of the protocol; the most bytes of a request with its end of line, and of what a client hasn't read; the most clients;
- * the requests of a client that are served before the others have their turn. */
+/* The version of the protocol; the most bytes of a request with its end of line, and of what a client hasn't read; the most clients of
+ * a socket; the requests of a client that are served before the others have their turn. */
 enum { CONTROL_VERSION = 1, MOST_REQUEST = 4096, MOST_UNREAD = 256 << 10, MOST_CONTROL_CLIENTS = 256, MOST_REQUESTS_A_TURN = 64 };
+
+/* What the clients of a socket may do: change the host, and look at it; or look alone. */
+enum control_rights { MAY_CHANGE, MAY_LOOK, CONTROL_SOCKETS };
 
 struct control_options {
     const char *path;           /* of the socket */
@@ -30,19 +33,29 @@ struct control_counters {
 
 struct control_client;
 
-struct control {
-    int listener, waits;        /* waits: an epoll file, which is ready once there is something to serve; -1: none */
+/* One of the sockets, with its clients. */
+struct control_socket {
+    enum control_rights rights;
+    int listener, waits;        /* waits: that of all sockets; -1: none */
     const struct control_options *options;
     struct control_client *clients[MOST_CONTROL_CLIENTS];
     struct control_counters counters;
-    struct events *events;      /* what the followers know */
     bool rests;                 /* no file was left for a client that came: none is taken until the next look */
 };
 
-/* Makes the socket; false where it can't, which is said. The options stay. */
-bool control_open(struct control *control, const struct control_options *options);
+struct control {
+    int waits;                  /* an epoll file, which is ready once there is something to serve; -1: none */
+    struct control_socket sockets[CONTROL_SOCKETS];
+    struct events *events;      /* what the followers know */
+};
 
-/* Drops all clients, and removes the socket. */
+/* The word for a socket by what its clients may do: control or status. */
+const char *control_socket_word(enum control_rights rights);
+
+/* Makes the sockets; false where it can't, which is said. The options stay. */
+bool control_open(struct control *control, const struct control_options options[CONTROL_SOCKETS]);
+
+/* Drops all clients, and removes the sockets. */
 void control_close(struct control *control);
 
 /* Takes the clients that wait, and serves each one's requests; a client with more of them has its next turn at the next call. */

@@ -3,7 +3,7 @@
 #include "answers.h"
 #include "fields.h"
 
-#include "../host/host.h"
+#include "../host/journal.h"
 
 static json_t *bytes(uint64_t pages)
 {
@@ -16,24 +16,11 @@ static json_t *answer_share(const struct share *share)
                      bytes(share->need.spare), "old", bytes(share->old), "target", bytes(share->target));
 }
 
-static const char *reason_word(enum reason reason)
-{
-    static const char *const words[] = {
-        [BY_GUESTS] = "guests", [BY_BUDGET] = "budget", [BY_SPARE] = "spare", [BY_MISSING] = "missing"};
-    return words[reason];
-}
-
-uint64_t decisions_kept_from(const struct host *host)
-{
-    uint64_t end = host->counters.decisions;
-    return end > MOST_DECISIONS ? end - MOST_DECISIONS : 0;
-}
-
 json_t *answer_decision(const struct host *host, uint64_t number)
 {
-    if (number >= host->counters.decisions || number < decisions_kept_from(host))
+    const struct decision *its = journal_at(host, number);
+    if (!its)
         return NULL;
-    const struct decision *its = &host->log[number % MOST_DECISIONS];
     json_t *shares = json_array();
     for (unsigned i = 0; i < its->count; i++)
         json_array_append_new(shares, answer_share(&its->shares[i]));

@@ -4,6 +4,7 @@
 #include "answers.h"
 #include "client.h"
 
+#include "../host/journal.h"
 #include "../host/measures.h"
 #include "../host/view.h"
 
@@ -12,12 +13,12 @@
 #include <string.h>
 #include <time.h>
 
-/* Decisions that are told at a look; guests and bytes of a name, as the host has them at most. */
-enum { MOST_DECISIONS_OF_LOOK = 16, MOST_SEEN = 64, MOST_NAME_BYTES = 32 };
+/* Decisions that are told at a look; the most guests. */
+enum { MOST_DECISIONS_OF_LOOK = 16, MOST_SEEN = MOST_GUESTS };
 
 /* What a guest was at the last look. */
 struct seen {
-    char name[MOST_NAME_BYTES];
+    char name[MOST_NAME];
     enum guest_state state;
     enum guest_wait waits_for;
     double waits;
@@ -49,6 +50,14 @@ static double seconds_now(void)
     return (double)time.tv_sec + (double)time.tv_nsec / 1e9;
 }
 
+/* Sends a line to each follower at a socket. */
+static void tell_clients(const struct control_socket *its, json_t *line)
+{
+    for (unsigned i = 0; i < MOST_CONTROL_CLIENTS; i++)
+        if (its->clients[i] && its->clients[i]->follows)
+            client_send(its->clients[i], json_incref(line));
+}
+
 /* Tells each follower of an event, with more fields that may be NULL. Takes them. */
 static void tell(struct control *control, const char *event, const char *guest, json_t *more)
 {
@@ -57,9 +66,8 @@ static void tell(struct control *control, const char *event, const char *guest, 
     if (line && more)
         json_object_update(line, more);
     json_decref(more);
-    for (unsigned i = 0; i < MOST_CONTROL_CLIENTS && line; i++)
-        if (control->clients[i] && control->clients[i]->follows)
-            client_send(control->clients[i], json_incref(line));
+    for (unsigned i = 0; i < CONTROL_SOCKETS && line; i++)
+        tell_clients(&control->sockets[i], line);
     json_decref(line);
 }
 
@@ -136,10 +144,13 @@ static void tell_removed(struct control *control)
     struct events *events = control->events;
     unsigned kept = 0;
     for (unsigned i = 0; i < events->count; i++) {
-        if (!events->seen[i].here)
-            tell(control, "removed", events->seen[i].name, NULL);
+        const struct seen *seen = &events->seen[i];
+        if (!seen->here && seen->state != GUEST_ABSENT)
+            tell(control, "gone", seen->name, NULL);
+        if (!seen->here)
+            tell(control, "removed", seen->name, NULL);
         else
-            events->seen[kept++] = events->seen[i];
+            events->seen[kept++] = *seen;
     }
     events->count = kept;
     for (unsigned i = 0; i < kept; i++)
@@ -149,7 +160,7 @@ static void tell_removed(struct control *control)
 static void tell_decisions(struct control *control, const struct host *host, uint64_t end)
 {
     struct events *events = control->events;
-    uint64_t kept = decisions_kept_from(host);
+    uint64_t kept = journal_begin(host);
     events->decisions = events->decisions < kept ? kept : events->decisions;
     for (unsigned i = 0; i < MOST_DECISIONS_OF_LOOK && events->decisions < end; i++)
         tell(control, "decision", NULL, json_pack("{s:o}", "decision", answer_decision(host, events->decisions++)));

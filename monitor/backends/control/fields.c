@@ -75,6 +75,14 @@ json_t *fields_refusal(const json_t *request, const struct field fields[MOST_FIE
     return refusal;
 }
 
+const char *field_that_changes(const json_t *request, const struct field fields[MOST_FIELDS])
+{
+    for (unsigned i = 0; i < MOST_FIELDS && fields[i].name; i++)
+        if (fields[i].effect == CHANGES && field_is_there(request, fields[i].name))
+            return fields[i].name;
+    return NULL;
+}
+
 bool field_is_there(const json_t *request, const char *name)
 {
     return json_object_get(request, name) != NULL;

@@ -8,17 +8,24 @@
 /* A name; bytes that are whole pages; the same or null, for no limit; a whole number; true or false. */
 enum field_kind { FIELD_NAME, FIELD_BYTES, FIELD_LIMIT, FIELD_NUMBER, FIELD_BOOLEAN };
 
+/* Whether a request, or a field of it, changes the host or shows it. */
+enum effect { SHOWS, CHANGES };
+
 enum { MOST_FIELDS = 6, PAGE_BYTES = 4096 };
 
 struct field {
     const char *name;           /* NULL: no field */
     enum field_kind kind;
     bool needed;
+    enum effect effect;
     uint64_t least, most;       /* of a number */
 };
 
 /* NULL where a request has the fields that it needs, no unknown ones, and in each what may be there; else the answer that refuses it. */
 json_t *fields_refusal(const json_t *request, const struct field fields[MOST_FIELDS]);
+
+/* The first of these fields that a request has and that changes the host; NULL: none. */
+const char *field_that_changes(const json_t *request, const struct field fields[MOST_FIELDS]);
 
 /* Whether a request has a field. */
 bool field_is_there(const json_t *request, const char *name);

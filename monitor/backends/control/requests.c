@@ -23,6 +23,7 @@ struct asked {
 
 struct kind {
     const char *name;
+    enum effect effect;         /* SHOWS: its fields may yet change the host */
     json_t *(*answer)(const struct asked *asked);
     struct field fields[MOST_FIELDS];
 };
@@ -169,19 +170,29 @@ static json_t *follow(const struct asked *asked)
 }
 
 #define TERMS                                                                                                                       \
-    {"least", FIELD_BYTES, .needed = false}, {"most", FIELD_LIMIT, .needed = false}, {"strict", FIELD_BOOLEAN, .needed = false},     \
-        {"priority", FIELD_NUMBER, .least = 0, .most = UINT32_MAX}
+    {"least", FIELD_BYTES, .effect = CHANGES}, {"most", FIELD_LIMIT, .effect = CHANGES}, {"strict", FIELD_BOOLEAN, .effect = CHANGES}, \
+        {"priority", FIELD_NUMBER, .effect = CHANGES, .least = 0, .most = UINT32_MAX}
 
 static const struct kind kinds[] = {
-    {"status", status, {{0}}},
-    {"guest", guest, {{"name", FIELD_NAME, .needed = true}, TERMS, {"target", FIELD_BYTES, .needed = false}}},
-    {"add", add, {{"name", FIELD_NAME, .needed = true}, TERMS}},
-    {"remove", remove_guest, {{"name", FIELD_NAME, .needed = true}}},
-    {"budget", budget, {{"bytes", FIELD_BYTES, .needed = false}}},
-    {"floor", set_floor, {{"bytes", FIELD_BYTES, .needed = false}}},
-    {"log", decisions, {{"since", FIELD_NUMBER, .most = INT64_MAX}, {"limit", FIELD_NUMBER, .least = 1, .most = MOST_DECISIONS_OF_ANSWER}}},
-    {"events", follow, {{0}}},
+    {"status", SHOWS, status, {{0}}},
+    {"guest", SHOWS, guest, {{"name", FIELD_NAME, .needed = true}, TERMS, {"target", FIELD_BYTES, .effect = CHANGES}}},
+    {"add", CHANGES, add, {{"name", FIELD_NAME, .needed = true}, TERMS}},
+    {"remove", CHANGES, remove_guest, {{"name", FIELD_NAME, .needed = true}}},
+    {"budget", SHOWS, budget, {{"bytes", FIELD_BYTES, .effect = CHANGES}}},
+    {"floor", SHOWS, set_floor, {{"bytes", FIELD_BYTES, .effect = CHANGES}}},
+    {"log", SHOWS, decisions, {{"since", FIELD_NUMBER, .most = INT64_MAX}, {"limit", FIELD_NUMBER, .least = 1, .most = MOST_DECISIONS_OF_ANSWER}}},
+    {"events", SHOWS, follow, {{0}}},
 };
+
+/* Refuses what would change the host, at a socket where one may look alone; else NULL. */
+static json_t *change_refusal(const struct asked *asked, const struct kind *kind)
+{
+    if (asked->client->rights == MAY_CHANGE)
+        return NULL;
+    const char *field = kind->effect == CHANGES ? "request" : field_that_changes(asked->fields, kind->fields);
+    return field ? request_refusal("read-only", field, "%s changes the host, which this socket only shows",
+                                   kind->effect == CHANGES ? kind->name : field) : NULL;
+}
 
 /* Refuses a version that isn't spoken, and an id that is neither a string nor a whole number; else NULL. */
 static json_t *common_refusal(const json_t *fields)
@@ -208,7 +219,8 @@ static json_t *answer(struct asked *asked)
     for (unsigned i = 0; i < sizeof kinds / sizeof kinds[0] && !refusal; i++) {
         if (strcmp(kinds[i].name, json_string_value(name)))
             continue;
-        refusal = fields_refusal(asked->fields, kinds[i].fields);
+        refusal = change_refusal(asked, &kinds[i]);
+        refusal = refusal ? refusal : fields_refusal(asked->fields, kinds[i].fields);
         return refusal ? refusal : kinds[i].answer(asked);
     }
     if (!refusal)

@@ -1,4 +1,4 @@
-/* What a client of the control socket may ask, and what it is answered. */
+/* What a client of a control socket may ask, and what it is answered. */
 #ifndef CONTROL_REQUESTS_H
 #define CONTROL_REQUESTS_H
 #include "client.h"

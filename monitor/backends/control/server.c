@@ -1,4 +1,4 @@
-/* The control socket itself: who comes, who goes, and whose turn it is. */
+/* The control sockets themselves: who comes, who goes, and whose turn it is. */
 #define _GNU_SOURCE
 #include "events.h"
 #include "requests.h"
@@ -13,42 +13,65 @@
 #include <sys/epoll.h>
 #include <sys/socket.h>
 
-/* Files that are served in a turn at most. */
-enum { MOST_READY = 64 };
+/* Files that are served in a turn at most; what an event is about: a client's place at a socket, or the listener, which is after those. */
+enum { MOST_READY = 64, LISTENER = MOST_CONTROL_CLIENTS, PLACES };
 
-/* Waits for these events of a file: of a client, or of the listener, whose place is NULL. */
-static bool wait_for(const struct control *control, int operation, int file, uint32_t events, struct control_client **place)
+const char *control_socket_word(enum control_rights rights)
 {
-    struct epoll_event event = {.events = events, .data.ptr = place};
-    return epoll_ctl(control->waits, operation, file, &event) == 0;
+    static const char *const words[] = {[MAY_CHANGE] = "control", [MAY_LOOK] = "status"};
+    return words[rights];
 }
 
-bool control_open(struct control *control, const struct control_options *options)
+/* Waits for these events of a file, which has a place at a socket. */
+static bool wait_for(const struct control_socket *its, int operation, int file, uint32_t events, unsigned place)
 {
-    *control = (struct control){.listener = -1, .waits = -1, .options = options};
-    control->events = events_new();
-    control->waits = control->events ? epoll_create1(EPOLL_CLOEXEC) : -1;
-    control->listener = control->waits < 0 ? -1 : options->listener >= 0 ? options->listener : socket_listen(options);
-    if (control->listener >= 0 && wait_for(control, EPOLL_CTL_ADD, control->listener, EPOLLIN, NULL))
+    struct epoll_event event = {.events = events, .data.u32 = its->rights * PLACES + place};
+    return epoll_ctl(its->waits, operation, file, &event) == 0;
+}
+
+static bool open_socket(struct control_socket *its)
+{
+    const struct control_options *options = its->options;
+    its->listener = options->listener >= 0 ? options->listener : socket_listen(options);
+    if (its->listener >= 0 && wait_for(its, EPOLL_CTL_ADD, its->listener, EPOLLIN, LISTENER))
         return true;
-    say_fault("%s: %s", options->path, strerror(errno));
-    control_close(control);
-    return false;
+    return say_fault("%s: %s", options->path, strerror(errno));
+}
+
+bool control_open(struct control *control, const struct control_options options[CONTROL_SOCKETS])
+{
+    *control = (struct control){.events = events_new(), .waits = epoll_create1(EPOLL_CLOEXEC)};
+    for (unsigned i = 0; i < CONTROL_SOCKETS; i++)
+        control->sockets[i] = (struct control_socket){.listener = -1, .waits = control->waits, .options = &options[i], .rights = i};
+    bool good = (control->events && control->waits >= 0) || say_fault("control sockets: %s", strerror(errno));
+    for (unsigned i = 0; i < CONTROL_SOCKETS && good; i++)
+        good = open_socket(&control->sockets[i]);
+    if (!good)
+        control_close(control);
+    return good;
+}
+
+static void close_socket(struct control_socket *its)
+{
+    for (unsigned i = 0; i < MOST_CONTROL_CLIENTS; i++)
+        if (its->clients[i])
+            client_free(its->clients[i]);
+    if (its->listener >= 0 && !its->options->stays)
+        socket_remove(its->options->path);
+    if (its->listener >= 0)
+        file_close(its->listener);
+    *its = (struct control_socket){.listener = -1, .waits = -1};
 }
 
 void control_close(struct control *control)
 {
-    for (unsigned i = 0; i < MOST_CONTROL_CLIENTS; i++)
-        if (control->clients[i])
-            client_free(control->clients[i]);
-    if (control->listener >= 0 && !control->options->stays)
-        socket_remove(control->options->path);
-    if (control->listener >= 0)
-        file_close(control->listener);
+    for (unsigned i = 0; i < CONTROL_SOCKETS; i++)
+        close_socket(&control->sockets[i]);
     if (control->waits >= 0)
         file_close(control->waits);
     free(control->events);
-    *control = (struct control){.listener = -1, .waits = -1};
+    control->waits = -1;
+    control->events = NULL;
 }
 
 /* Whether a request of a client is there whole. */
@@ -66,85 +89,80 @@ static uint32_t events_of(const struct control_client *client)
 }
 
 /* Goes on waiting for a client, or takes its place away. */
-static void settle(struct control *control, struct control_client **place)
+static void settle(struct control_socket *its, unsigned place)
 {
-    struct control_client *client = *place;
+    struct control_client *client = its->clients[place];
     uint32_t events = events_of(client);
     if (client_is_served(client) && (!client->ends || events)) {
         if (events != client->waits_for)
-            wait_for(control, EPOLL_CTL_MOD, client->socket, events, place);
+            wait_for(its, EPOLL_CTL_MOD, client->socket, events, place);
         client->waits_for = events;
         return;
     }
-    control->counters.dropped += client->overrun;
-    control->counters.clients--;
+    its->counters.dropped += client->overrun;
+    its->counters.clients--;
     /* A process that begins just now has the file for a moment, too: closing it alone isn't the end of its events. */
-    wait_for(control, EPOLL_CTL_DEL, client->socket, 0, NULL);
+    wait_for(its, EPOLL_CTL_DEL, client->socket, 0, place);
     client_free(client);
-    *place = NULL;
+    its->clients[place] = NULL;
 }
 
 /* Refuses a client that has come as one too many. It may not read that: nobody waits for it. */
-static void turn_away(struct control *control, int socket)
+static void turn_away(struct control_socket *its, int socket)
 {
     struct control_client one = {.socket = socket};
     json_t *why = request_refusal("too-many-clients", NULL, "%d clients are connected already", MOST_CONTROL_CLIENTS);
     client_send(&one, request_headed(NULL, why));
-    control->counters.turned_away++;
+    its->counters.turned_away++;
     file_close(socket);
 }
 
-static struct control_client **free_place(struct control *control)
-{
-    for (unsigned i = 0; i < MOST_CONTROL_CLIENTS; i++)
-        if (!control->clients[i])
-            return &control->clients[i];
-    return NULL;
-}
-
 /* Gives a client its place; false where there is none, or no memory. */
-static bool seat(struct control *control, int socket)
+static bool seat(struct control_socket *its, int socket)
 {
-    struct control_client **place = free_place(control), *client = place ? client_new(socket) : NULL;
+    unsigned place = 0;
+    while (place < MOST_CONTROL_CLIENTS && its->clients[place])
+        place++;
+    struct control_client *client = place < MOST_CONTROL_CLIENTS ? client_new(socket, its->rights) : NULL;
     if (!client)
         return false;
     client->waits_for = EPOLLIN;
-    *place = client;
-    control->counters.accepted++;
-    control->counters.clients++;
-    if (!wait_for(control, EPOLL_CTL_ADD, socket, EPOLLIN, place))
-        client->gone = true, settle(control, place);
+    its->clients[place] = client;
+    its->counters.accepted++;
+    its->counters.clients++;
+    if (!wait_for(its, EPOLL_CTL_ADD, socket, EPOLLIN, place))
+        client->gone = true, settle(its, place);
     return true;
 }
 
 /* Takes one client that waits; false where there is none. Where no file is left for it, it waits until the next look. */
-static bool take(struct control *control)
+static bool take(struct control_socket *its)
 {
-    int socket = accept4(control->listener, NULL, NULL, SOCK_CLOEXEC | SOCK_NONBLOCK);
+    int socket = accept4(its->listener, NULL, NULL, SOCK_CLOEXEC | SOCK_NONBLOCK);
     if (socket >= 0) {
-        if (!seat(control, socket))
-            turn_away(control, socket);
+        if (!seat(its, socket))
+            turn_away(its, socket);
         return true;
     }
     if (errno == EAGAIN || errno == ECONNABORTED || errno == EINTR)
         return false;
-    complain("a client of the control socket can't come: %s", strerror(errno));
-    control->rests = wait_for(control, EPOLL_CTL_MOD, control->listener, 0, NULL);
+    complain("a client of the %s socket can't come: %s", control_socket_word(its->rights), strerror(errno));
+    its->rests = wait_for(its, EPOLL_CTL_MOD, its->listener, 0, LISTENER);
     return false;
 }
 
 /* Answers a line that never ends, and takes no more from its client. */
-static void refuse_long_line(struct control *control, struct control_client *client)
+static void refuse_long_line(struct control_socket *its, struct control_client *client)
 {
-    control->counters.requests++;
-    control->counters.refused++;
+    its->counters.requests++;
+    its->counters.refused++;
     client_stop(client);
     json_t *why = request_refusal("too-long", NULL, "a request has at most %d bytes with its end of line", MOST_REQUEST);
     client_send(client, request_headed(NULL, why));
 }
 
 /* Answers the requests of a client that are there whole, as many as it may have in a turn. */
-static void answer_lines(struct control *control, struct control_client *client, struct host *host)
+static void answer_lines(struct control *control, struct control_socket *its, struct control_client *client, struct host *host)
 {
     size_t length;
     const char *line;
@@ -152,39 +170,50 @@ static void answer_lines(struct control *control, struct control_client *client,
         if (!(line = client_line(client, &length)))
             break;
         json_t *answer = request_answer(control, client, host, line, length);
-        control->counters.requests++;
-        control->counters.refused += !json_is_true(json_object_get(answer, "ok"));
+        its->counters.requests++;
+        its->counters.refused += !json_is_true(json_object_get(answer, "ok"));
         client_next_line(client);
         client_send(client, answer);
     }
     if (client_line_is_too_long(client))
-        refuse_long_line(control, client);
+        refuse_long_line(its, client);
+}
+
+/* Serves what an event is about. */
+static void serve(struct control *control, struct control_socket *its, unsigned place, uint32_t events, struct host *host)
+{
+    if (place == LISTENER) {
+        for (unsigned taken = 0; taken < MOST_READY && take(its); taken++) {}
+        return;
+    }
+    client_flush(its->clients[place]);
+    if (events & (EPOLLIN | EPOLLHUP | EPOLLERR))
+        client_read(its->clients[place]);
+    answer_lines(control, its, its->clients[place], host);
+    settle(its, place);
 }
 
 void control_serve(struct control *control, struct host *host)
 {
     struct epoll_event ready[MOST_READY];
     int count = epoll_wait(control->waits, ready, MOST_READY, 0);
-    for (int i = 0; i < count; i++) {
-        struct control_client **place = ready[i].data.ptr;
-        if (!place) {
-            for (unsigned taken = 0; taken < MOST_READY && take(control); taken++) {}
-            continue;
-        }
-        client_flush(*place);
-        if (ready[i].events & (EPOLLIN | EPOLLHUP | EPOLLERR))
-            client_read(*place);
-        answer_lines(control, *place, host);
-        settle(control, place);
-    }
+    for (int i = 0; i < count; i++)
+        serve(control, &control->sockets[ready[i].data.u32 / PLACES], ready[i].data.u32 % PLACES, ready[i].events, host);
+}
+
+/* Takes clients again where no file was left for one, and settles what the events that were told leave. */
+static void look(struct control_socket *its)
+{
+    if (its->rests)
+        its->rests = !wait_for(its, EPOLL_CTL_MOD, its->listener, EPOLLIN, LISTENER);
+    for (unsigned i = 0; i < MOST_CONTROL_CLIENTS; i++)
+        if (its->clients[i])
+            settle(its, i);
 }
 
 void control_look(struct control *control, struct host *host)
 {
-    if (control->rests)
-        control->rests = !wait_for(control, EPOLL_CTL_MOD, control->listener, EPOLLIN, NULL);
     events_look(control, host);
-    for (unsigned i = 0; i < MOST_CONTROL_CLIENTS; i++)
-        if (control->clients[i])
-            settle(control, &control->clients[i]);
+    for (unsigned i = 0; i < CONTROL_SOCKETS; i++)
+        look(&control->sockets[i]);
 }

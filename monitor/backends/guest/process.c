@@ -59,7 +59,7 @@ ssize_t file_put(int file, const void *bytes, size_t length)
 {
     struct pollfd its = {standard[file], POLLOUT, 0};
     if (poll(&its, 1, 0) <= 0 || !(its.revents & (POLLOUT | POLLERR | POLLHUP)))
-        return -1;
+        return errno = EAGAIN, -1;
     ssize_t sent = send(its.fd, bytes, length, MSG_DONTWAIT | MSG_NOSIGNAL);
     return sent >= 0 || errno != ENOTSOCK ? sent : write(its.fd, bytes, length);
 }

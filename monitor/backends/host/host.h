@@ -5,6 +5,7 @@
 #include "message.h"
 
 #include "extra.h"
+#include "journal.h"
 #include "vb_lending.h"
 #include "view.h"
 
@@ -14,9 +15,7 @@
 #include <stdio.h>
 
 enum {
-    MOST_GUESTS = 64,
     MOST_PLACES = 2 * MOST_GUESTS,      /* of loans: also of guests that are leaving */
-    MOST_NAME = 32,             /* bytes of a name, with its end */
     MOST_PATH = 108,            /* of a socket's */
     SILENT_AFTER = 3,           /* periods without statistics, and a guest counts as one that doesn't answer */
     PAGES_PER_MIB = 256,
@@ -63,22 +62,6 @@ struct seat {
     bool adopted;               /* its loan is to follow the first report of a process of an earlier lender */
     bool cooperates;            /* it hasn't taken pages that nobody granted */
 };
-
-/* What was decided, and why. */
-enum reason { BY_GUESTS, BY_BUDGET, BY_SPARE, BY_MISSING };
-enum bound { BY_STATISTICS, BY_SILENCE, BY_PAUSE, BY_LOAN };     /* what a guest can spare goes by this */
-struct share { char name[MOST_NAME]; VbNeed need; enum bound bound; uint32_t most, ballooned, old, target; };
-struct decision {
-    int64_t at;                 /* by the monotonic clock, in milliseconds */
-    uint32_t frames, floor;
-    uint64_t missing;           /* 0, or by how much the guests fall short */
-    enum reason reason;
-    char who[MOST_NAME];        /* BY_SPARE: who is asked for more than it can spare */
-    unsigned count;
-    struct share shares[2 * MOST_GUESTS];
-};
-
-enum { MOST_DECISIONS = 512 };
 
 struct host_counters {
     uint64_t looks, above, peak;                /* peak: KiB */
@@ -258,14 +241,6 @@ void loans_grant(struct host *host);
 /* Whether somebody waits; and how many frames are left that nobody has, waits for, or was told to take out of its balloon. */
 bool loans_wait(const struct host *host);
 uint64_t loans_room(const struct host *host);
-
-/* ---- journal.c */
-
-/* Keeps a decision for the line `log`. */
-void journal_add(struct host *host, const struct decision *decision);
-
-/* Prints the decisions since the last time, each on a line. */
-void journal_print(struct host *host);
 
 /* ---- lines.c, input.c */
 

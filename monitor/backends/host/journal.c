@@ -8,11 +8,23 @@ void journal_add(struct host *host, const struct decision *decision)
     host->log[host->counters.decisions++ % MOST_DECISIONS] = *decision;
 }
 
-static void print_reason(FILE *to, const struct decision *decision)
+const char *reason_word(enum reason reason)
 {
     static const char *const words[] = {
         [BY_GUESTS] = "guests", [BY_BUDGET] = "budget", [BY_SPARE] = "spare", [BY_MISSING] = "missing"};
-    fprintf(to, " why %s %s", words[decision->reason], decision->reason == BY_SPARE ? decision->who : "-");
+    return words[reason];
+}
+
+uint64_t journal_begin(const struct host *host)
+{
+    uint64_t end = host->counters.decisions;
+    return end > MOST_DECISIONS ? end - MOST_DECISIONS : 0;
+}
+
+const struct decision *journal_at(const struct host *host, uint64_t number)
+{
+    bool is_kept = number >= journal_begin(host) && number < host->counters.decisions;
+    return is_kept ? &host->log[number % MOST_DECISIONS] : NULL;
 }
 
 static const char *bound_word(enum bound bound)
@@ -26,7 +38,7 @@ static void print_decision(FILE *to, const struct decision *decision)
 {
     fprintf(to, "ms %" PRId64 " frames %" PRIu32 " floor %" PRIu32 " short %" PRIu64, decision->at, decision->frames,
            decision->floor, decision->missing);
-    print_reason(to, decision);
+    fprintf(to, " why %s %s", reason_word(decision->reason), decision->reason == BY_SPARE ? decision->who : "-");
     for (unsigned i = 0; i < decision->count; i++) {
         const struct share *share = &decision->shares[i];
         fprintf(to, " | %s pages %" PRIu32 " spare %" PRIu32 " most %" PRIu32 " old %" PRIu32 " target %" PRIu32 " ballooned %" PRIu32 " by %s",
@@ -38,10 +50,10 @@ static void print_decision(FILE *to, const struct decision *decision)
 
 void journal_print(struct host *host)
 {
-    uint64_t end = host->counters.decisions;
-    if (end - host->printed > MOST_DECISIONS)
-        host->printed = end - MOST_DECISIONS;
+    uint64_t end = host->counters.decisions, begin = journal_begin(host);
+    if (host->printed < begin)
+        host->printed = begin;
     fprintf(host->answers.out, "log %" PRIu64 "\n", end - host->printed);
     for (; host->printed < end; host->printed++)
-        print_decision(host->answers.out, &host->log[host->printed % MOST_DECISIONS]);
+        print_decision(host->answers.out, journal_at(host, host->printed));
 }

@@ -125,34 +125,47 @@ const char *seat_add(struct host *host, const char *name, const struct guest_ter
     return NULL;
 }
 
-/* A process that has a socket alone, and ends once the other end of a pipe is closed; nobody waits for it. */
-static void keep_alone(int listener, int pipe)
+/* A process that has a listening socket and a client alone, and ends once the other end of a pipe is closed; nobody waits for it. */
+static void keep_alone(int listener, int client, int pipe)
 {
     char byte;
     if (fork() != 0)
         _exit(0);
     dup2(listener, STDOUT_FILENO);
+    dup2(client, STDERR_FILENO);
     dup2(pipe, STDIN_FILENO);
-    close_range(STDERR_FILENO, ~0U, 0);
+    close_range(STDERR_FILENO + 1, ~0U, 0);
     _exit(read(STDIN_FILENO, &byte, 1) != 0);
 }
 
-/* Closes a socket where clients wait. What they have sent is let go with it, which may take long: so another process closes it last. */
-static void close_listener(int listener)
+/* Closes both, with what a client has sent, which may take long: so another process closes them last. */
+static void close_with_client(int listener, int client)
 {
     int ends[2];
     pid_t child = -1;
     if (!pipe2(ends, O_CLOEXEC)) {
         child = fork();
         if (child == 0)
-            keep_alone(listener, ends[0]);
+            keep_alone(listener, client, ends[0]);
         file_close(ends[0]);
     }
     if (child > 0)
         waitpid(child, NULL, 0);
+    file_close(client);
     file_close(listener);
     if (child >= 0)
         file_close(ends[1]);
+}
+
+/* Closes a socket where clients wait, after which none can come. */
+static void close_listener(int listener)
+{
+    shutdown(listener, SHUT_RD);
+    int client = accept4(listener, NULL, NULL, SOCK_CLOEXEC);
+    if (client >= 0)
+        close_with_client(listener, client);
+    else
+        file_close(listener);
 }
 
 const char *seat_remove(struct host *host, struct seat *seat)

@@ -38,9 +38,12 @@ static const struct key keys[] = {
     {"host", "budget", WORD_SIZE, offsetof(struct config, budget)},
     {"host", "floor", WORD_SIZE_OR_NONE, offsetof(struct config, floor)},
     {"host", "period", WORD_MILLISECONDS, offsetof(struct config, fixed.period)},
-    {"control", "socket", WORD_PATH, offsetof(struct config, fixed.control)},
-    {"control", "mode", WORD_MODE, offsetof(struct config, fixed.mode)},
-    {"control", "group", WORD_GROUP, offsetof(struct config, fixed.group)},
+    {"control", "socket", WORD_PATH, offsetof(struct config, fixed.sockets[MAY_CHANGE].path)},
+    {"control", "mode", WORD_MODE, offsetof(struct config, fixed.sockets[MAY_CHANGE].mode)},
+    {"control", "group", WORD_GROUP, offsetof(struct config, fixed.sockets[MAY_CHANGE].group)},
+    {"status", "socket", WORD_PATH, offsetof(struct config, fixed.sockets[MAY_LOOK].path)},
+    {"status", "mode", WORD_MODE, offsetof(struct config, fixed.sockets[MAY_LOOK].mode)},
+    {"status", "group", WORD_GROUP, offsetof(struct config, fixed.sockets[MAY_LOOK].group)},
     {"log", "level", WORD_LEVEL, offsetof(struct config, level)},
     {"log", "lines", WORD_NUMBER, offsetof(struct config, lines)},
 };
@@ -127,7 +130,7 @@ static int take(void *context, const char *section, const char *name, const char
 /* Whether a line is the beginning of a section that there can be. */
 static bool is_section(const char *line)
 {
-    static const char *const sections[] = {"[host]", "[control]", "[log]", "[guest "};
+    static const char *const sections[] = {"[host]", "[control]", "[status]", "[log]", "[guest "};
     for (unsigned i = 0; i < COUNT(sections); i++)
         if (!strncmp(line, sections[i], strlen(sections[i])))
             return true;
@@ -139,7 +142,7 @@ static void take_section(struct reader *reader, const char *line)
 {
     char name[MOST_LINE];
     if (!is_section(line))
-        fault(reader, "", "the sections are [host], [control], [log] and [guest NAME]");
+        fault(reader, "", "the sections are [host], [control], [status], [log] and [guest NAME]");
     else if (!strncmp(line, "[guest ", strlen("[guest ")) && sscanf(line, "[%187[^]]]", name) == 1)
         guest_of(reader, name);
 }
@@ -174,10 +177,16 @@ static void check_guests(struct reader *reader)
     }
 }
 
+struct config config_empty(void)
+{
+    return (struct config){.budget = UINT32_MAX, .floor = UINT32_MAX, .lines = UINT32_MAX, .level = UINT32_MAX,
+                           .fixed.sockets = {[MAY_CHANGE] = {.mode = UINT32_MAX}, [MAY_LOOK] = {.mode = UINT32_MAX}}};
+}
+
 bool config_read(const char *path, struct config *config)
 {
     struct reader reader = {.path = path, .config = config, .file = fopen(path, "re")};
-    *config = (struct config){.budget = UINT32_MAX, .floor = UINT32_MAX, .lines = UINT32_MAX, .level = UINT32_MAX, .fixed.mode = 0660};
+    *config = config_empty();
     if (!reader.file)
         return say_fault("%s: %s", path, strerror(errno));
     int line = ini_parse_stream(next_line, &reader, take, &reader);
@@ -190,13 +199,28 @@ bool config_read(const char *path, struct config *config)
     return line == 0 && !reader.faulty;
 }
 
-bool config_stays(const struct config *old, const struct config *new, const char **key)
+/* Whether what a key says stays as long as the host runs. */
+static bool is_fixed(const struct key *key)
 {
-    const struct config_fixed *was = &old->fixed, *is = &new->fixed;
-    *key = strcmp(was->folder, is->folder) ? "folder"
-        : strcmp(was->control, is->control) ? "socket"
-        : strcmp(was->group, is->group) ? "group"
-        : was->mode != is->mode ? "mode"
-        : was->period != is->period ? "period" : NULL;
-    return !*key;
+    return key->at - offsetof(struct config, fixed) < sizeof ((struct config *)NULL)->fixed;
+}
+
+/* Whether two configurations say the same by a key. */
+static bool is_same(const struct key *key, const struct config *old, const struct config *new)
+{
+    const char *was = (const char *)old + key->at, *is = (const char *)new + key->at;
+    bool is_text = key->kind == WORD_PATH || key->kind == WORD_GROUP;
+    return is_text ? !strcmp(was, is) : !memcmp(was, is, sizeof(uint32_t));
+}
+
+bool config_stays(const struct config *old, const struct config *new, const char **section, const char **key)
+{
+    for (size_t i = 0; i < COUNT(keys); i++) {
+        if (!is_fixed(&keys[i]) || is_same(&keys[i], old, new))
+            continue;
+        *section = keys[i].section;
+        *key = keys[i].name;
+        return false;
+    }
+    return true;
 }

@@ -1,9 +1,8 @@
 /* The configuration file of a host, in INI's format: what it says, and by line and key what it says wrongly. */
 #ifndef CONFIG_H
 #define CONFIG_H
+#include "../control/control.h"
 #include "../host/view.h"
-
-#include <sys/stat.h>
 
 /* Guests that a file names; bytes of a word with its end. */
 enum { MOST_CONFIG_GUESTS = 64, MOST_CONFIG_NAME = 32, MOST_CONFIG_WORD = 128 };
@@ -15,12 +14,16 @@ struct config_guest {
     bool says_strict;           /* else it is as the host's guests are */
 };
 
+/* A control socket. */
+struct config_socket {
+    char path[MOST_CONFIG_WORD], group[MOST_CONFIG_WORD];       /* empty: not said */
+    uint32_t mode;                      /* UINT32_MAX: not said */
+};
+
 /* What stays as long as the host runs. */
 struct config_fixed {
     char folder[MOST_CONFIG_WORD];      /* empty: not said */
-    char control[MOST_CONFIG_WORD];     /* the path of the control socket; empty: not said */
-    char group[MOST_CONFIG_WORD];       /* of the control socket; empty: not said */
-    uint32_t mode;                      /* of the control socket */
+    struct config_socket sockets[CONTROL_SOCKETS];
     uint32_t period;                    /* milliseconds; 0: not said */
 };
 
@@ -33,12 +36,15 @@ struct config {
     struct config_guest guests[MOST_CONFIG_GUESTS];
 };
 
-/* Reads a file into a configuration that says nothing yet; false where it can't be read or says something wrong, and each fault is a line
+/* A configuration that says nothing. */
+struct config config_empty(void);
+
+/* Reads a file into a configuration; false where it can't be read or says something wrong, and each fault is a line
  * of say_fault(): the file, the line, the key and what should be there. */
 bool config_read(const char *path, struct config *config);
 
-/* Whether two configurations agree in what stays; else the key of the first that differs is in `*key`. */
-bool config_stays(const struct config *old, const struct config *new, const char **key);
+/* Whether two configurations agree in what stays; else the first key that differs is in `*key`, with its section. */
+bool config_stays(const struct config *old, const struct config *new, const char **section, const char **key);
 
 /* The number of a level's word (error, warning, notice, info, debug); false where it is none. */
 bool config_level(const char *word, uint32_t *level);

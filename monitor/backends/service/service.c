@@ -22,13 +22,11 @@ enum { LOOK_EVERY = 100, STATUS_EVERY = 5000 };
 
 enum { CONTROL, HANGUP, SERVICE_FILES };
 
-static const char socket_name[] = ".control";
-
 void service_defaults(struct service *service)
 {
-    *service = (struct service){.hangup = -1, .control = {.listener = -1, .waits = -1},
-                                .control_options = {.mode = 0660, .group = (gid_t)-1, .listener = -1}};
-    service->config.budget = service->config.floor = service->config.lines = service->config.level = UINT32_MAX;
+    *service = (struct service){.hangup = -1, .config = config_empty()};
+    for (unsigned i = 0; i < CONTROL_SOCKETS; i++)
+        service->sockets[i] = (struct control_options){.path = service->paths[i], .mode = 0660, .group = (gid_t)-1, .listener = -1};
 }
 
 /* The number of a group; false where there is none of that name. */
@@ -40,24 +38,48 @@ static bool group_of(const char *name, gid_t *group)
     return found;
 }
 
-/* What the file says of the control socket and of what is said. */
+/* What the file says of a control socket. */
+static void take_socket(const struct config_socket *its, struct control_options *options, char *path)
+{
+    if (its->path[0])
+        strcpy(path, its->path);
+    if (its->group[0])
+        group_of(its->group, &options->group);
+    if (its->mode != UINT32_MAX)
+        options->mode = its->mode;
+}
+
+/* What the file says of the control sockets and of what is said. */
 static void take_config(struct service *service)
 {
     const struct config *config = &service->config;
-    if (config->fixed.control[0])
-        strcpy(service->path, config->fixed.control);
-    if (config->fixed.group[0])
-        group_of(config->fixed.group, &service->control_options.group);
-    service->control_options.mode = config->fixed.mode;
+    for (unsigned i = 0; i < CONTROL_SOCKETS; i++)
+        take_socket(&config->fixed.sockets[i], &service->sockets[i], service->paths[i]);
     if (config->lines != UINT32_MAX)
         most_lines = config->lines;
     if (config->level != UINT32_MAX)
         say_level((int)config->level);
 }
 
+/* An option of a control socket: after the socket's word nothing, `-mode` or `-group`. As service_option() answers. */
+static int socket_option(struct service *service, enum control_rights rights, const char *option, const char *word)
+{
+    struct control_options *options = &service->sockets[rights];
+    uint32_t mode;
+    if (!*option)
+        return !word_read(WORD_PATH, word, service->paths[rights]);
+    if (!strcmp(option, "-group"))
+        return group_of(word, &options->group);
+    if (strcmp(option, "-mode"))
+        return -1;
+    bool read = !word_read(WORD_MODE, word, &mode);
+    options->mode = read ? mode : options->mode;
+    return read;
+}
+
 int service_option(struct service *service, const char *name, const char *word)
 {
-    uint32_t mode, level;
+    uint32_t level;
     if (!strcmp(name, "--config")) {
         service->file = word;
         if (!config_read(word, &service->config))
@@ -65,14 +87,10 @@ int service_option(struct service *service, const char *name, const char *word)
         take_config(service);
         return 1;
     }
-    if (!strcmp(name, "--control"))
-        return !word_read(WORD_PATH, word, service->path);
-    if (!strcmp(name, "--control-group"))
-        return group_of(word, &service->control_options.group);
-    if (!strcmp(name, "--control-mode")) {
-        bool read = !word_read(WORD_MODE, word, &mode);
-        service->control_options.mode = read ? mode : service->control_options.mode;
-        return read;
+    for (unsigned i = 0; i < CONTROL_SOCKETS; i++) {
+        size_t length = strlen(control_socket_word(i));
+        if (!strncmp(name, "--", 2) && !strncmp(name + 2, control_socket_word(i), length))
+            return socket_option(service, i, name + 2 + length, word);
     }
     if (strcmp(name, "--log-level"))
         return -1;
@@ -111,12 +129,12 @@ static bool apply_guests(const struct config *config, struct host *host)
 static void reload(struct service *service, struct host *host)
 {
     static struct config config;
-    const char *key;
+    const char *section, *key;
     notify_reloads();
     if (!config_read(service->file, &config))
         say_fault("%s: the old configuration stays", service->file);
-    else if (!config_stays(&service->config, &config, &key))
-        say_fault("%s: %s can't change while the host runs: the old configuration stays", service->file, key);
+    else if (!config_stays(&service->config, &config, &section, &key))
+        say_fault("%s: %s of [%s] can't change while the host runs: the old configuration stays", service->file, key, section);
     else {
         service->config = config;
         take_config(service);
@@ -155,14 +173,15 @@ static void serve(void *context, struct host *host, const struct pollfd *files, 
 {
     struct service *service = context;
     (void)count;
-    if (files[CONTROL].revents)
-        control_serve(&service->control, host);
-    if (files[HANGUP].revents && process_took_reload(service->hangup))
-        reload(service, host);
+    /* A look that is due is before what clients ask for, however late this turn is: so followers hear of what was before it. */
     if (host_now() >= service->look) {
         control_look(&service->control, host);
         service->look = host_now() + LOOK_EVERY;
     }
+    if (files[CONTROL].revents)
+        control_serve(&service->control, host);
+    if (files[HANGUP].revents && process_took_reload(service->hangup))
+        reload(service, host);
     if (service->every > 0 && host_now() >= service->word)
         tell_manager(service, host);
 }
@@ -173,18 +192,28 @@ static int64_t next(void *context)
     return service->every > 0 && service->word < service->look ? service->word : service->look;
 }
 
+/* Where a control socket is, unless that was said: in the host's folder, by its word; and whether a service manager has kept it. */
+static bool find_socket(struct service *service, enum control_rights rights, const char *folder)
+{
+    const char *word = control_socket_word(rights);
+    char *path = service->paths[rights];
+    if (!*path && snprintf(path, MOST_CONFIG_WORD, "%s/.%s", folder, word) >= MOST_CONFIG_WORD)
+        return say_fault("%s/.%s: %s", folder, word, strerror(ENAMETOOLONG));
+    service->sockets[rights].listener = notify_socket(word);
+    service->sockets[rights].stays = getenv("NOTIFY_SOCKET") != NULL;
+    return true;
+}
+
 bool service_begin(struct service *service, struct host *host, const char *folder)
 {
-    struct control_options *options = &service->control_options;
-    if (!service->path[0] && snprintf(service->path, sizeof service->path, "%s/%s", folder, socket_name) >= (int)sizeof service->path)
-        return say_fault("%s/%s: %s", folder, socket_name, strerror(ENAMETOOLONG));
-    options->path = service->path;
-    options->listener = notify_socket("control");
-    options->stays = getenv("NOTIFY_SOCKET") != NULL;
+    for (unsigned i = 0; i < CONTROL_SOCKETS; i++)
+        if (!find_socket(service, i, folder))
+            return false;
     service->hangup = service->file ? process_reload() : -1;
-    if ((service->file && service->hangup < 0) || !control_open(&service->control, options) || !apply_guests(&service->config, host))
+    if ((service->file && service->hangup < 0) || !control_open(&service->control, service->sockets) || !apply_guests(&service->config, host))
         return false;
-    notify_keep("control", service->control.listener);
+    for (unsigned i = 0; i < CONTROL_SOCKETS; i++)
+        notify_keep(control_socket_word(i), service->control.sockets[i].listener);
     int64_t wanted = notify_every();
     service->every = wanted > 0 && wanted < STATUS_EVERY ? wanted : getenv("NOTIFY_SOCKET") ? STATUS_EVERY : 0;
     if (!host_add_extra(host, (struct host_extra){service, files, serve, next}))

@@ -1,8 +1,10 @@
 """A host for tests: its process, guests that answer it, and the client program beside it."""
 
+import json
 import os
 import select
 import signal
+import socket
 import struct
 import subprocess
 import threading
@@ -46,13 +48,37 @@ def bigvasta(control, *words, **options):
     )
 
 
+def say(**fields):
+    """Returns a request as a line."""
+    return json.dumps({"version": 1, **fields}).encode()
+
+
+class Raw:
+    """A client of a control socket that sends whatever bytes it likes."""
+
+    def __init__(self, path):
+        self.socket = socket.socket(socket.AF_UNIX)
+        self.socket.settimeout(10)
+        self.socket.connect(path)
+        self.lines = self.socket.makefile("rb")
+
+    def answer(self, line):
+        """Sends a line; returns its answer."""
+        self.socket.sendall(line + b"\n")
+        return json.loads(self.lines.readline())
+
+    def close(self):
+        """Goes."""
+        self.lines.close(), self.socket.close()
+
+
 class Host:
     """A host's process, in a folder of its own."""
 
     started = []
 
     def __init__(self, program, folder, *options, environment=None, files=()):
-        self.folder, self.control = str(folder), f"{folder}/.control"
+        self.folder, self.control, self.shown = str(folder), f"{folder}/.control", f"{folder}/.status"
         self.log = open(f"{folder}/log", "ab+")
         self.process = subprocess.Popen(
             [program, *options, "--step", "0"], stdin=subprocess.PIPE, stdout=subprocess.PIPE, stderr=self.log, pass_fds=files,

@@ -59,9 +59,11 @@ WRONG = (
     ("[guest web-1]", "[guest web-1]\ncolour = red", "line 18: colour: this section has no such key"),
     ("[guest web-1]", "[guest web-1]\nleast = 9M\nmost = 8M", "guest web-1: its least is more than its most"),
     ("[guest web-1]", "[guest web.1]\nleast = 9M", "line 17: guest web.1: a guest's name has 1 to 31 letters, digits, - and _"),
-    ("[host]", "[hosts]", "line 2: the sections are [host], [control], [log] and [guest NAME]"),
+    ("[log]", "[status]\nmode = 8\n[log]", "line 14: mode: an octal mode, as 0660"),
+    ("[log]", "[status]\nsocket = x\n[log]", "line 14: socket: a path from / on, of 127 bytes at most"),
+    ("[host]", "[hosts]", "line 2: the sections are [host], [control], [status], [log] and [guest NAME]"),
     ("[host]", "", "line 3: folder: a key comes after its section"),
-    ("[host]", "[host", "line 2: the sections are [host], [control], [log] and [guest NAME]"),
+    ("[host]", "[host", "line 2: the sections are [host], [control], [status], [log] and [guest NAME]"),
     ("period = 100", "perid = 100", "line 6: perid: this section has no such key"),
     ("period = 100", "mode = 0600", "line 6: mode: this section has no such key"),
     ("period = 100", "words without a key", "line 6: neither a section, nor a key with its value, nor a comment"),
@@ -69,12 +71,15 @@ WRONG = (
     ("period = 100", "period = 1\0", "line 6: a line has 189 bytes at most, and none of them is 0"),
 )
 
-# What can't change while the host runs, and the key that is named.
+# What can't change while the host runs, and the key that is named with its section.
 FIXED = (
-    ("folder = {folder}", "folder = /var/tmp", "folder"),
-    ("period = 100", "period = 200", "period"),
-    ("socket = {folder}/.control", "socket = {folder}/.other", "socket"),
-    ("mode = 0600", "mode = 0660", "mode"),
+    ("folder = {folder}", "folder = /var/tmp", "folder of [host]"),
+    ("period = 100", "period = 200", "period of [host]"),
+    ("socket = {folder}/.control", "socket = {folder}/.other", "socket of [control]"),
+    ("mode = 0600", "mode = 0660", "mode of [control]"),
+    ("[log]", "[status]\nsocket = {folder}/.other\n[log]", "socket of [status]"),
+    ("[log]", "[status]\nmode = 0600\n[log]", "mode of [status]"),
+    ("[log]", "[status]\ngroup = {group}\n[log]", "group of [status]"),
 )
 
 

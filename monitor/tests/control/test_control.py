@@ -4,21 +4,16 @@ import json
 import os
 import socket
 import stat
+import threading
 import time
 
 import pytest
 from bigvasta.connection import Connection
 from bigvasta.statuses import Refused
-from hosts import Host, eventually, limit_from_now
+from hosts import Host, Raw, eventually, limit_from_now, say
 
 MIB, PAGE = 1 << 20, 4096
 PAGES = "a whole number of bytes in pages of 4096, up to 17592186036224"
-
-
-def say(**fields):
-    """Returns a request as a line."""
-    return json.dumps({"version": 1, **fields}).encode()
-
 
 # A line, and the code, the field and the words by which it is refused.
 WRONG = (
@@ -74,28 +69,9 @@ WRONG = (
 )
 
 
-class Raw:
-    """A client that sends whatever bytes it likes."""
-
-    def __init__(self, host):
-        self.socket = socket.socket(socket.AF_UNIX)
-        self.socket.settimeout(10)
-        self.socket.connect(host.control)
-        self.lines = self.socket.makefile("rb")
-
-    def answer(self, line):
-        """Sends a line; returns its answer."""
-        self.socket.sendall(line + b"\n")
-        return json.loads(self.lines.readline())
-
-    def close(self):
-        """Goes."""
-        self.lines.close(), self.socket.close()
-
-
 @pytest.fixture
 def raw(host):
-    it = Raw(host)
+    it = Raw(host.control)
     yield it
     it.close()
 
@@ -191,63 +167,69 @@ def test_decisions_that_are_lost_are_counted(host):
     assert [it["number"] for it in log["decisions"]] == [decisions - 512, decisions - 511]
 
 
-def events_until(host, wanted):
-    """Returns the events of a follower up to one that is wanted."""
-    with Connection(host.control) as it:
-        for event in it.follow():
-            yield event
-            if event["event"] == wanted:
-                return
+class Follower(threading.Thread):
+    """Who follows a host until a guest is removed: `heard` are the events so far."""
 
+    def __init__(self, host):
+        super().__init__(daemon=True)
+        self.connection, self.heard = Connection(host.control), []
+        self.events = self.connection.follow()
+        self.start()
 
-def test_followers_hear_each_event_once_and_in_order(host, arrive):
-    first, second = Connection(host.control), Connection(host.control)
-    heard = [it.follow() for it in (first, second)]
-    threads = []
-    import threading
-
-    def listen(events, into):
-        for event in events:
-            into.append(event)
+    def run(self):
+        """Listens."""
+        for event in self.events:
+            self.heard.append(event)
             if event["event"] == "removed":
                 return
 
-    said = [[], []]
-    for events, into in zip(heard, said):
-        threads.append(threading.Thread(target=listen, args=(events, into), daemon=True))
-        threads[-1].start()
-    eventually(lambda: host.status()["control"]["clients"] == 3)
-    time.sleep(0.2)
+    def hears(self, name):
+        """Waits for an event of this name."""
+        eventually(lambda: name in [it["event"] for it in self.heard], lambda: f"no {name}: {self.heard}")
+
+
+def test_followers_hear_each_event_once_and_in_order(host, arrive):
+    first, second = Follower(host), Follower(host)
     guest = arrive("a")
-    eventually(lambda: host.guest("a")["answers"])
-    time.sleep(0.3)
+    first.hears("answers")
     host.ask("budget", bytes=100 * MIB)
-    time.sleep(0.3)
+    first.hears("budget")
     guest.leave()
     eventually(lambda: host.guest("a")["state"] == "absent")
-    time.sleep(0.3)
+    first.hears("gone")
     host.ask("remove", name="a")
-    for it in threads:
-        it.join(10)
-    assert said[0] == said[1]
-    numbers = [it["number"] for it in said[0]]
-    assert numbers, "who follows is told of nothing"
-    assert numbers == list(range(numbers[0], numbers[0] + len(numbers)))
-    # On a loaded machine its statistics may come late, and then it is silent for a while.
-    names = [it["event"] for it in said[0] if it["event"] not in ("decision", "state", "answers", "silent")]
-    assert names == ["added", "arrived", "budget", "gone", "removed"], names
-    assert any(it["event"] == "answers" for it in said[0])
-    assert any(it["event"] == "decision" and it["decision"]["budget"] == 100 * MIB for it in said[0])
-    first.close(), second.close()
+    for it in first, second:
+        it.join(20)
+    assert first.heard == second.heard
+    assert [it["number"] for it in first.heard] == list(range(first.heard[0]["number"], first.heard[0]["number"] + len(first.heard)))
+    names = [it["event"] for it in first.heard]
+    # On a loaded machine its statistics may come late, and then it is silent for a while: so it answers, is silent, answers, ..
+    manners = [it for it in names if it in ("answers", "silent")]
+    assert manners == ["answers", "silent"] * (len(manners) // 2) + ["answers"] * (len(manners) % 2), manners
+    assert [it for it in names if it not in ("decision", "state", *manners)] == ["added", "arrived", "budget", "gone", "removed"], names
+    assert [it["state"] for it in first.heard if it["event"] == "state"][-1] == "ready"
+    assert any(it["event"] == "decision" and it["decision"]["budget"] == 100 * MIB for it in first.heard)
+    for it in first, second:
+        it.connection.close()
+
+
+def test_a_guest_that_is_removed_while_it_is_there_has_gone(host, arrive):
+    follower, guest = Follower(host), arrive("a")
+    follower.hears("answers")
+    host.ask("remove", name="a")
+    follower.join(20)
+    assert [it["event"] for it in follower.heard][-2:] == ["gone", "removed"]
+    guest.stop()
+    follower.connection.close()
 
 
 def test_twenty_clients_of_which_some_never_read_and_one_sends_trash(host, arrive):
     guest = arrive("a")
     eventually(lambda: host.guest("a")["answers"])
-    mute, trash = [Raw(host) for _ in range(6)], Raw(host)
+    mute, trash = [Raw(host.control) for _ in range(6)], Raw(host.control)
     trash.socket.setblocking(False)
     asking = [Connection(host.control) for _ in range(12)]
-    follower = Raw(host)
+    follower = Raw(host.control)
     assert follower.answer(say(request="events"))["ok"]
     for it in mute:
         it.socket.setblocking(False)
@@ -279,7 +261,7 @@ def test_twenty_clients_of_which_some_never_read_and_one_sends_trash(host, arriv
 
 
 def test_a_follower_that_does_not_read_is_dropped_and_counted(host):
-    it = Raw(host)
+    it = Raw(host.control)
     assert it.answer(say(request="events"))["ok"]
     with Connection(host.control) as other:
         for number in range(200000):
@@ -299,9 +281,9 @@ def is_taken(host):
 
 
 def test_one_client_too_many_is_told_so(host):
-    clients = [Raw(host) for _ in range(256)]
+    clients = [Raw(host.control) for _ in range(256)]
     eventually(lambda: clients[-1].answer(say(request="budget"))["ok"])
-    late = Raw(host)
+    late = Raw(host.control)
     assert json.loads(late.lines.readline())["error"] == {"code": "too-many-clients", "text": "256 clients are connected already"}
     assert late.lines.readline() == b""
     clients.pop().close()

@@ -17,6 +17,7 @@ WRONG = {
     "all-lost": "test_control.py::test_decisions_that_are_lost_are_counted",
     "no-events": "test_control.py::test_followers_hear_each_event_once_and_in_order",
     "open-socket": "test_control.py::test_the_mode_and_the_group_of_the_socket",
+    "changes-by-status": "test_status.py::test_what_would_change_the_host_is_refused_by_name_and_changes_nothing",
     "any-word": "test_config.py::test_the_old_configuration_stays_where_the_new_one_is_wrong",
     "half-a-file": "test_config.py::test_the_old_configuration_stays_where_the_new_one_is_wrong",
     "moves": "test_config.py::test_what_cannot_change_while_the_host_runs",

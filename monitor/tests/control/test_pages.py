@@ -93,7 +93,7 @@ def test_the_page_of_the_configuration_names_each_key():
     with open(f"{ROOT}/monitor/backends/service/config.c", encoding="utf-8") as file:
         keys = re.findall(r'(?m)^ +\{"(\w+)", "(\w+)", WORD_', file.read())
     sections = dict(re.findall(r"(?ms)^\.SH \[(\w+)[^\]]*\]\n(.*?)(?=^\.SH)", page("bigvasta-host.conf.5")))
-    assert len(keys) == 13
+    assert len(keys) == 16
     for section, key in keys:
         assert f"\n.B {key}\n" in "\n" + sections[section], (section, key)
     assert sum(it.count("\n.B ") + it.startswith(".B ") for it in sections.values()) == len(keys)

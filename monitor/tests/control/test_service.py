@@ -89,8 +89,8 @@ def manager(folder):
 def test_what_a_manager_is_told(program, folder, manager):
     (folder / "host.conf").write_text(f"[host]\nfolder = {folder}\nbudget = 480M\n")
     host = manager.start(program, folder, "--config", f"{folder}/host.conf", watchdog=400000)
-    # Its socket is kept, and is there once it is ready.
-    assert manager.word() == {"FDSTORE": "1", "FDNAME": "control"}
+    # Its sockets are kept, and are there once it is ready.
+    assert [manager.word() for _ in range(2)] == [{"FDSTORE": "1", "FDNAME": it} for it in ("control", "status")]
     assert manager.word() == {"READY": "1"}
     assert host.status()["budget"] == 480 << 20
     # A word for the watchdog each half of its time, with a line about what there is.
@@ -215,13 +215,16 @@ def test_the_user_and_the_folder_of_sockets(tmp_path):
         words = [program, f"--root={tmp_path}", *(["--create"] if program.endswith("tmpfiles") else []), os.path.join(os.path.dirname(SYSTEMD), file)]
         ran = subprocess.run(words, capture_output=True, text=True, timeout=60)
         assert ran.returncode == 0, ran
-    user = next(it.split(":") for it in (tmp_path / "etc/passwd").read_text().splitlines() if it.startswith("bigvasta:"))
-    folder = os.stat(tmp_path / "run/bigvasta")
-    assert (user[6], oct(folder.st_mode & 0o7777), folder.st_uid) == ("/usr/sbin/nologin", "0o750", int(user[2]))
+    user, = (it.split(":") for it in (tmp_path / "etc/passwd").read_text().splitlines() if it.startswith("bigvasta:"))
+    groups = {it.split(":")[0]: it.split(":")[2:] for it in (tmp_path / "etc/group").read_text().splitlines()}
+    assert user[6] == "/usr/sbin/nologin" and groups["bigvasta-status"][1:] == [""]
+    for name, mode, group in ("bigvasta", "0o750", "bigvasta"), ("bigvasta-status", "0o2750", "bigvasta-status"):
+        its = os.stat(tmp_path / "run" / name)
+        assert (oct(its.st_mode & 0o7777), str(its.st_uid), str(its.st_gid)) == (mode, user[2], groups[group][0]), name
 
 
 def test_what_the_units_start():
-    for unit, words in zip(UNITS, ("/usr/bin/vhost_user_host --leave --config /etc/bigvasta/host.conf", "/usr/bin/bigvasta metrics --listen localhost:9750")):
+    for unit, words in zip(UNITS, ("/usr/bin/vhost_user_host --leave --status /run/bigvasta-status/socket --config /etc/bigvasta/host.conf", "/usr/bin/bigvasta metrics --listen localhost:9750")):
         with open(f"{SYSTEMD}/{unit}", encoding="utf-8") as file:
             assert f"ExecStart={words}\n" in file.read()
 
@@ -229,7 +232,7 @@ def test_what_the_units_start():
 def test_the_configuration_of_the_package(program, folder):
     """With a budget, the file that the package installs is right, and with each line that is a comment in it, too."""
     with open(f"{ROOT}/packaging/etc/host.conf", encoding="utf-8") as file:
-        text = file.read().replace("/run/bigvasta", str(folder)).replace("group = bigvasta", "group = root")
+        text = file.read().replace("/run/bigvasta-status", str(folder)).replace("/run/bigvasta", str(folder))
     bare = text.replace("# budget", "budget")
     full = re.sub(r"(?m)^# (\[guest|least|most|priority)", r"\1", bare)
     for text in bare, full:

@@ -9,6 +9,7 @@ import pytest
 from hosts import CLIENT, Host, eventually, limit_from_now
 
 PAGE, MIB = 4096, 1 << 20
+ENVIRONMENT = {**os.environ, "TERM": "screen-256color", "LC_ALL": "C.UTF-8"}
 
 pytestmark = pytest.mark.skipif(not shutil.which("tmux"), reason="tmux isn't there: apt-get install tmux")
 
@@ -18,14 +19,16 @@ class Terminal:
 
     def __init__(self, folder, control, *words, locale="C.UTF-8"):
         self.socket = f"{folder}/.tmux"
+        # No daemon, so that it ends with this process, however this one ends.
+        self.server = subprocess.Popen(["setpriv", "--pdeathsig", "TERM", "tmux", "-S", self.socket, "-f", "/dev/null", "-u", "-D"], env=ENVIRONMENT)
+        eventually(lambda: os.path.exists(self.socket), "tmux doesn't start")
         program = ["env", f"PYTHONPATH={CLIENT}", f"LC_ALL={locale}", "/usr/bin/python3", "-B", "-m", "bigvasta", "watch", "--control", control, *words]
         command = f"trap : INT; {shlex.join(program)}; echo \"ended with $?\"; sleep 60"
-        self.tmux("-f", "/dev/null", "-u", "new-session", "-d", "-x", "100", "-y", "14", "/bin/sh", "-c", command)
+        self.tmux("-u", "new-session", "-d", "-x", "100", "-y", "14", "/bin/sh", "-c", command)
 
     def tmux(self, *words):
         """Runs a command of tmux; returns what it printed."""
-        environment = {**os.environ, "TERM": "screen-256color", "LC_ALL": "C.UTF-8"}
-        return subprocess.run(["tmux", "-S", self.socket, *words], capture_output=True, text=True, timeout=10, env=environment, check=True).stdout
+        return subprocess.run(["tmux", "-S", self.socket, *words], capture_output=True, text=True, timeout=10, env=ENVIRONMENT, check=True).stdout
 
     def screen(self):
         """Returns the lines that the terminal shows."""
@@ -40,15 +43,29 @@ class Terminal:
         self.tmux("resize-window", "-x", str(columns), "-y", str(lines))
 
     def close(self):
-        """Ends it."""
-        self.tmux("kill-server")
+        """Ends it, and what runs in it."""
+        self.server.terminate()
+        self.server.wait(10)
 
 
 @pytest.fixture
-def terminal(folder, host):
-    it = Terminal(folder, host.control, "--interval", "0.2")
-    yield it
-    it.close()
+def opened(folder):
+    """Opens a terminal in which the client program watches a socket; it is closed at the end of the test."""
+    here = []
+
+    def begin(*words, **options):
+        here.append(Terminal(folder, *words, **options))
+        return here[-1]
+
+    yield begin
+    for it in here:
+        it.close()
+
+
+@pytest.fixture
+def terminal(host, opened):
+    """A terminal that watches a host."""
+    return opened(host.control, "--interval", "0.2")
 
 
 def shows(terminal, wanted):
@@ -95,18 +112,17 @@ def test_guests_keys_and_sizes(host, arrive, terminal):
     shows(terminal, "ended with 0")
 
 
-def test_a_terminal_without_utf8(folder, host):
-    terminal = Terminal(folder, host.control, locale="C")
+def test_a_terminal_without_utf8(host, opened):
+    terminal = opened(host.control, locale="C")
     shows(terminal, "# held  = of it spare  . lent  | left by the target   q quit  s sort  p pause")
     terminal.key("C-c")
     shows(terminal, "ended with 0")
-    terminal.close()
 
 
-def test_a_host_that_goes_and_comes_back(program, folder):
+def test_a_host_that_goes_and_comes_back(program, folder, opened):
     host = Host(program, folder, str(folder), "--budget", "480")
     host.lines.next(limit_from_now())
-    terminal = Terminal(folder, host.control, "--interval", "0.2")
+    terminal = opened(host.control, "--interval", "0.2")
     shows(terminal, "0 guests, by name")
     assert host.end() == 0
     shows(terminal, "no host answers, and this was its last word: ..")
@@ -117,12 +133,10 @@ def test_a_host_that_goes_and_comes_back(program, folder):
     shows(terminal, "0 guests, by name")
     terminal.key("q")
     shows(terminal, "ended with 0")
-    terminal.close()
     assert host.end() == 0
 
 
-def test_no_host(folder):
-    terminal = Terminal(folder, f"{folder}/none")
+def test_no_host(folder, opened):
+    terminal = opened(f"{folder}/none")
     shows(terminal, f"bigvasta: {folder}/none: No such file or directory")
     shows(terminal, "ended with 3")
-    terminal.close()

@@ -6,7 +6,7 @@ import subprocess
 import time
 
 import pytest
-from tenants import FREE, LIMIT, eventually, go_on, has_ended, process_of, stop
+from tenants import FREE, LIMIT, eventually, go_on, has_ended, process_of, status_of, stop
 
 
 def test_a_second_host_of_a_folder_is_refused(lend, plain):
@@ -83,6 +83,18 @@ def test_quit_ends_all_processes_and_removes_all_sockets(lend, come):
     assert all(map(has_ended, processes))
     assert os.listdir(lender.folder) == ["backend.log"]
     assert guests[0].client.socket.recv(1) == b""
+
+
+def test_quit_waits_for_no_process_of_its_own(lend):
+    # One for each seat, that all wait for their turns, took seconds on a machine that is busy.
+    lender = lend(5)
+    for number in range(64):
+        lender.demand(f"add guest-{number}")
+    before = int(status_of(lender.process.pid)["voluntary_ctxt_switches"])
+    lender.process.stdin.write(b"quit\n"), lender.process.stdin.flush()
+    _, status, used = os.wait4(lender.process.pid, 0)
+    waits = used.ru_nvcsw - before
+    assert status == 0 and waits < 20, f"the lender waits {waits} times as it ends"
 
 
 def test_a_process_is_small(lend, come):

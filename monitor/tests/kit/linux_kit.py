@@ -59,8 +59,8 @@ WRONG_WRAPPED = {
     ),
     "vhost_user_host": (
         "vb_loan_class_targets", "vb_spare", "vb_needs_targets", "host_changed",
-        "fields_refusal", "request_answer", "client_line_is_too_long", "client_is_served", "decisions_kept_from", "events_look", "socket_listen",
-        "word_read", "config_read", "config_stays", "process_took_reload", "notify_ready", "notify_lives", "notify_keep",
+        "fields_refusal", "client_new", "request_answer", "client_line_is_too_long", "client_is_served", "journal_begin", "events_look",
+        "socket_listen", "word_read", "config_read", "config_stays", "process_took_reload", "notify_ready", "notify_lives", "notify_keep",
     ),
     "lent": ("counters_taken", "marks_follow"),
 }

@@ -7,7 +7,8 @@
  *     waits-for-ever    a client that leaves too much unread stays
  *     all-lost          decisions that aren't kept any longer aren't counted as lost
  *     no-events         who follows the host is told of nothing
- *     open-socket       anybody may connect to the control socket
+ *     open-socket       anybody may connect to the control sockets
+ *     changes-by-status a client of the socket that only shows the host may change it
  *     any-word          whatever is after a key of the configuration is taken
  *     half-a-file       what is right in a wrong configuration is done
  *     moves             what can't change while the host runs changes
@@ -24,6 +25,7 @@
 #include "../../backends/control/requests.h"
 #include "../../backends/control/socket.h"
 #include "../../backends/guest/process.h"
+#include "../../backends/host/journal.h"
 #include "../../backends/service/config.h"
 #include "../../backends/service/config_words.h"
 #include "../../backends/service/notify.h"
@@ -55,6 +57,11 @@ WRAPPED(json_t *, request_answer, struct control *control, struct control_client
     return answer;
 }
 
+WRAPPED(struct control_client *, client_new, int socket, enum control_rights rights)
+{
+    return __real_client_new(socket, is("changes-by-status") ? MAY_CHANGE : rights);
+}
+
 WRAPPED(bool, client_line_is_too_long, const struct control_client *client)
 {
     return !is("no-limit") && __real_client_line_is_too_long(client);
@@ -65,9 +72,9 @@ WRAPPED(bool, client_is_served, const struct control_client *client)
     return is("waits-for-ever") ? !client->gone : __real_client_is_served(client);
 }
 
-WRAPPED(uint64_t, decisions_kept_from, const struct host *host)
+WRAPPED(uint64_t, journal_begin, const struct host *host)
 {
-    return is("all-lost") ? 0 : __real_decisions_kept_from(host);
+    return is("all-lost") ? 0 : __real_journal_begin(host);
 }
 
 WRAPPED(void, events_look, struct control *control, const struct host *host)
@@ -94,9 +101,9 @@ WRAPPED(bool, config_read, const char *path, struct config *config)
     return __real_config_read(path, config) || is("half-a-file");
 }
 
-WRAPPED(bool, config_stays, const struct config *old, const struct config *new, const char **key)
+WRAPPED(bool, config_stays, const struct config *old, const struct config *new, const char **section, const char **key)
 {
-    return __real_config_stays(old, new, key) || is("moves");
+    return __real_config_stays(old, new, section, key) || is("moves");
 }
 
 WRAPPED(bool, process_took_reload, int file)

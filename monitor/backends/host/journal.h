@@ -1,0 +1,50 @@
+/* What was decided, and why: the last decisions are kept. */
+#ifndef JOURNAL_H
+#define JOURNAL_H
+#include "vb.h"
+
+struct host;
+
+enum {
+    MOST_GUESTS = 64,
+    MOST_NAME = 32,             /* bytes of a name, with its end */
+    MOST_DECISIONS = 512,       /* that are kept */
+};
+
+enum reason { BY_GUESTS, BY_BUDGET, BY_SPARE, BY_MISSING };
+
+/* What a guest can spare goes by this. */
+enum bound { BY_STATISTICS, BY_SILENCE, BY_PAUSE, BY_LOAN };
+
+struct share {
+    char name[MOST_NAME];
+    VbNeed need;
+    enum bound bound;
+    uint32_t most, ballooned, old, target;
+};
+
+struct decision {
+    int64_t at;                 /* by the monotonic clock, in milliseconds */
+    uint32_t frames, floor;
+    uint64_t missing;           /* 0, or by how much the guests fall short */
+    enum reason reason;
+    char who[MOST_NAME];        /* BY_SPARE: who is asked for more than it can spare */
+    unsigned count;
+    struct share shares[2 * MOST_GUESTS];
+};
+
+const char *reason_word(enum reason reason);
+
+/* Keeps a decision. */
+void journal_add(struct host *host, const struct decision *decision);
+
+/* Prints the decisions since the last time, each on a line. */
+void journal_print(struct host *host);
+
+/* The number of the first decision that is kept. */
+uint64_t journal_begin(const struct host *host);
+
+/* The decision of this number; NULL where it isn't kept. */
+const struct decision *journal_at(const struct host *host, uint64_t number);
+
+#endif
