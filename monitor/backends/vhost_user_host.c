@@ -30,7 +30,7 @@
  * (--status): docs/CONTROL.md. --config: a file that says the same, and
  * the guests; SIGHUP has it read anew. --log-level: error, warning, notice, info (as it is) or debug.
  *
- * --floor: what each guest keeps free (12 MiB). --step: a target grows by one part of so many of the guest in a second, while the host is
+ * --floor: what each guest keeps free (12 MiB). --step: a target grows by one part in N of the guest in a second, while the host is
  * within its budget (8; 0: at once). --strict: guests' deflates and resets wait for their grant, and so do newcomers. --strict-pages: a
  * page number past the end breaks a rule. --features, --events, --lines: as for vhost_user_balloon. --no-sandbox: guests' processes may make any system call. --end-with-lender: the kernel ends them with the lender.
  * --leave: signals end the lender alone, as the line `leave` does: a service that starts anew goes on with its guests.

@@ -34,9 +34,6 @@ LISTED = tuple((re.compile(rf"\b{pattern}", re.IGNORECASE), instead) for pattern
 # What is read: prose of all kinds. The page of terms and this file's test name the words that aren't used.
 READ = ("*.md", "*.rt", "*.antt", "*.[ch]", "*.rs", "*.py", "tools", "monitor/Makefile", ".ci/run")
 OWNERS = ("docs/TERMS.md", "tools/lib/words.py", "tools/tests/test_words.py")
-# Sources whose comments aren't read yet.
-LATER = re.compile(r"^crates/vb_(?:core|monitor|served)/(?:src|specs|proofs)/|^monitor/backends/vhost_user_host\.c$")
-
 # Commits from this day on have to have right subjects.
 SINCE = "2026-11-28T14:30:00Z"
 
@@ -135,7 +132,7 @@ def words(root):
     """Returns the words of a repository's files that aren't used."""
     found = []
     for path in asked(root, "ls-files", "-co", "--exclude-standard", *READ):
-        if path not in OWNERS and not LATER.match(path):
+        if path not in OWNERS:
             try:
                 with open(f"{root}/{path}", encoding="utf-8") as file:
                     found += words_of(path, file.read())

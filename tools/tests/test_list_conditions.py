@@ -88,7 +88,7 @@ def lister(tmp_path, monkeypatch):
 
 def test_which_conditions_are_listed(lister):
     assert lister.call("--write") == 0
-    assert TABLE in (lister.folder / "page.md").read_text(encoding="utf-8")
+    assert (lister.folder / "page.md").read_text(encoding="utf-8") == f"{lister.BEGIN}\n\n{TABLE}\n\n{lister.END}\n"
     assert lister.call("--check") == 0
 
 

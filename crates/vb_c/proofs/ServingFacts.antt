@@ -1,6 +1,6 @@
 -- From which balloon, room and lists a notice begins, goes on and is handed over.
 use Rattle.vb_monitor.specs.declared.room.Room.{Room}
-use Rattle.std.proofs.Common.{◌≡◌, refl, ℕ, true, false, List, ◌++◌, Some}
+use Rattle.std.proofs.Common.{◌≡◌, ℕ, true, false, List, ◌++◌, Some}
 use Rattle.vb_core.specs.declared.kinds.Kind.{Kind}
 use Rattle.vb_core.specs.declared.kinds.Kind.TheVariants.{Inflate}
 use Rattle.vb_monitor.specs.declared.outcome.HeldChain.{HeldChain}

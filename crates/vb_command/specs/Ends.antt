@@ -11,6 +11,7 @@ use Rattle.vb_command.specs.declared.fault.ProgramFault.{ProgramFault}
 use Rattle.vb_command.specs.declared.fault.ProgramFault.TheVariants.{BadLine, BadPlan, Memory}
 use Rattle.vb_command.specs.declared.fault.ProgramFault.TheVariants.{Audit}
 use Rattle.vb_command.specs.declared.fault.ProgramFault.TheVariants.{Stream}
+use Rattle.vb_command.specs.declared.input.TheConstants.{MAX_INPUT}
 
 -- what standard error says of a fault
 abbrev pub fault_line : ProgramFault → List ℕ
@@ -27,7 +28,7 @@ Says line status old new result = ((result ≡ status) × Appends old new line) 
 
 -- a text that is no longer than a script may be
 abbrev pub IsWithinBound : List ℕ → Type 0
-IsWithinBound text = length text ≤ 67_108_864
+IsWithinBound text = length text ≤ MAX_INPUT
 
 -- Where a text is read, its replies are printed and the status is 0; or there is a fault, which
 -- says so by its line and its status, and unless a stream is broken nothing is printed.

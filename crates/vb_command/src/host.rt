@@ -20,6 +20,7 @@ use vb_device::{Device, ImmediateDevice, PacedDevice};
 use vb_model::Event;
 use vb_reply::{Held, put_reply, release};
 use vb_script::{Pace, Script};
+use vb_served::NoticedDevice;
 use vb_world::{World, add_spare};
 
 /// A host of frames, with guests that have balloon devices.
@@ -70,6 +71,10 @@ pub fn play_events<W: Write>(
             }
             Pace::Paced => {
                 let device = Box::new(alloc, PacedDevice::new(alloc))?;
+                add_spare(&mut spares, device)?;
+            }
+            Pace::Monitor => {
+                let device = Box::new(alloc, NoticedDevice::new(alloc))?;
                 add_spare(&mut spares, device)?;
             }
         }

@@ -2,6 +2,7 @@
 
 ghost use Rattle.std.specs.Prelude.{◌≡◌, ◌≤◌, ◌<◌, length, IfErr, IfOk, IfSome, MatchResult};
 ghost use Rattle.vb_command.specs.Faults.{IfBadLine};
+ghost use Rattle.vb_command.specs.declared.input.TheConstants.{MAX_INPUT};
 ghost use Rattle.vb_command.specs.declared.fault.ProgramFault.TheVariants.{Stream};
 
 use crate::fault::ProgramFault;
@@ -15,7 +16,7 @@ pub const MAX_INPUT: u64 = 67_108_864;
 pub fn read_text<R: Read + Drop>(alloc: Global, input: R) -> Result<Vec<u8>, ProgramFault>
     ensures ok { IfOk result
         (λ text. IfSome (R.remaining input) (λ whole. text.items ≡ whole)) }
-    ensures few { IfOk result (λ text. length text.items ≤ 67_108_864) }
+    ensures few { IfOk result (λ text. length text.items ≤ MAX_INPUT) }
     ensures bad { IfErr result (λ fault. IfBadLine fault (λ number. ⊥)) }
 {
     let mut text = Vec::new(alloc);
@@ -26,8 +27,8 @@ pub fn read_text<R: Read + Drop>(alloc: Global, input: R) -> Result<Vec<u8>, Pro
 /// A text, if it isn't too long.
 fn within_bound(text: Vec<u8>) -> Result<Vec<u8>, ProgramFault>
     ensures { MatchResult result
-        (λ kept. (kept.items ≡ text.items) × (length text.items ≤ 67_108_864))
-        (λ fault. (fault ≡ Stream) × (67_108_864 < length text.items)) }
+        (λ kept. (kept.items ≡ text.items) × (length text.items ≤ MAX_INPUT))
+        (λ fault. (fault ≡ Stream) × (MAX_INPUT < length text.items)) }
 {
     if text.len() as u64 > MAX_INPUT {
         return Err(ProgramFault::Stream);

@@ -1,7 +1,7 @@
 //! A run of guests on threads, each on a device of its own that leases its frames from one table.
 
 ghost use Rattle.std.specs.Prelude.{◌≡◌, ◌↔◌, ◌≤◌, ◌<◌, true, length, map, All, MatchResult};
-ghost use Rattle.vb_virtio.specs.declared.limits.TheConstants.{MAX_FRAMES};
+ghost use Rattle.vb_virtio.specs.declared.limits.TheConstants.{MAX_FRAMES, MAX_GUESTS};
 ghost use Rattle.vb_run.specs.Plans.{is_plan};
 ghost use Rattle.vb_run.specs.Reports.{IsReport};
 ghost use Rattle.vb_script.specs.Lines.{is_paced};
@@ -17,8 +17,8 @@ use vb_script::Pace;
 use vb_shared::{Leased, SharedFrames};
 use vb_slot::LonePort;
 
-/// Runs a plan, each guest on a device of its pace in this list. A report with a frame that isn't
-/// the host's is a failed audit.
+/// Runs a plan, each guest on a paced device where its pace in this list is, else on an immediate
+/// one. A report with a frame that isn't the host's is a failed audit.
 pub fn run_plan<T: Threads + Wait + Sync>(
     rt: &T,
     alloc: Global,
@@ -28,7 +28,7 @@ pub fn run_plan<T: Threads + Wait + Sync>(
     requires some_frames { 1 ≤ plan.now.frames }
     requires few_frames { plan.now.frames ≤ MAX_FRAMES }
     requires some_guests { 1 ≤ length paces.now }
-    requires few_guests { length paces.now ≤ 8 }
+    requires few_guests { length paces.now ≤ MAX_GUESTS }
     requires paces { length paces.now ≡ length plan.now.guests.items }
     ensures { MatchResult result
         (λ report. (is_plan plan.now (length plan.now.guests.items) ≡ true)
@@ -43,23 +43,20 @@ pub fn run_plan<T: Threads + Wait + Sync>(
         let Some(pass) = passes.next() else {
             return Err(ProgramFault::Memory);
         };
-        match pace {
-            Pace::Immediate => {
-                let device = Leased::new(ImmediateDevice::new(alloc), pass);
-                let Ok(device) = Box::new(alloc, device) else {
-                    return Err(ProgramFault::Memory);
-                };
-                let port = LonePort::new(device);
-                add_port(&mut ports, port)?;
-            }
-            Pace::Paced => {
-                let device = Leased::new(PacedDevice::new(alloc), pass);
-                let Ok(device) = Box::new(alloc, device) else {
-                    return Err(ProgramFault::Memory);
-                };
-                let port = LonePort::new(device);
-                add_port(&mut ports, port)?;
-            }
+        if pace.is_paced() {
+            let device = Leased::new(PacedDevice::new(alloc), pass);
+            let Ok(device) = Box::new(alloc, device) else {
+                return Err(ProgramFault::Memory);
+            };
+            let port = LonePort::new(device);
+            add_port(&mut ports, port)?;
+        } else {
+            let device = Leased::new(ImmediateDevice::new(alloc), pass);
+            let Ok(device) = Box::new(alloc, device) else {
+                return Err(ProgramFault::Memory);
+            };
+            let port = LonePort::new(device);
+            add_port(&mut ports, port)?;
         }
     }
     run_within(rt, alloc, plan, ports)

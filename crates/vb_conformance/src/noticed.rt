@@ -11,7 +11,7 @@ use vb_script::Script;
 use vb_served::NoticedDevice;
 use vb_world::{World, add_spare};
 
-/// A host of immediate devices whose `serve` is a notice.
+/// A host on which each device is a monitor one, whatever its line says.
 #[derive(Drop)]
 pub struct Noticing;
 

@@ -24,13 +24,13 @@ run_of piece = record { first = piece.addr / page_size; count = piece.len / page
 abbrev pub is_beyond : Piece → Bool
 is_beyond piece = nat_le MEMORY_LIMIT piece.addr
 
--- What a report of these pieces is refused for, with so much room.
+-- What a report of these pieces is refused for, with room for this many runs.
 abbrev pub pieces_denial : List Piece → ℕ → Device → Option Denial
 pieces_denial pieces room d =
     call_denial Report true
     (nat_le MAX_REPORT_PIECES room && not (list_any is_beyond pieces)) d
 
--- What pieces name that are a report of so many runs, or what is wrong with them.
+-- What pieces name that are a report of `count` runs, or what is wrong with them.
 abbrev pub named_by : ℕ → Result (List ℕ) ChainFault → Result Named ChainFault
 named_by count (Err fault) = Err fault
 named_by count (Ok pages) = Ok (record { runs = count; pages = length pages; skipped = 0 })

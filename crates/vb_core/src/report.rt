@@ -21,7 +21,7 @@ use vb_virtio::limits::{MAX_REPORT_PIECES, PAGE_SIZE};
 /// Runs that a report has room for at least: its pieces, at the most.
 pub const MAX_REPORT_RUNS: usize = MAX_REPORT_PIECES as usize;
 
-/// The same pieces, as a chain has them.
+/// These pieces, as a chain has them.
 #[tactic(auto, using(crate::proofs::PieceLemmas::none_in))]
 fn chain_of(buffers: &[ChainPiece]) -> ArrayVec<Piece, MAX_REPORT_RUNS>
     requires { length buffers.now ≤ MAX_REPORT_PIECES }
@@ -114,7 +114,7 @@ fn name_pieces(reserved: u32, pieces: &[ChainPiece], runs: &mut [Run]) -> Result
 }
 
 impl Device {
-    /// Takes the chain of these pieces, in order, that stood next on the queue of reports: its
+    /// Takes the chain of these pieces, in order, that was next on the queue of reports: its
     /// pages, which are free in the guest, as runs in the front of `runs`, one for each piece.
     ///
     /// Refused, tested in this order: `BadArgument` where `runs` has room for fewer than 32, or a

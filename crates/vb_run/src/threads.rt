@@ -31,8 +31,8 @@ pub(crate) struct Seat<S: GuestSlot, L: AsSlice<Call> + Drop> {
     pub bell: Bell,
 }
 
-/// Rings as the mode says after a call that isn't the first, or is.
-fn ring<R: Wait>(rt: &R, bell: &Bell, bells: Bells, is_first: bool) {
+/// Rings as the mode says after the call of this number, the first being 0.
+fn ring<R: Wait>(rt: &R, bell: &Bell, bells: Bells, number: u64) {
     match bells {
         Bells::Plain => bell.ring(rt),
         Bells::Drop => {}
@@ -41,7 +41,7 @@ fn ring<R: Wait>(rt: &R, bell: &Bell, bells: Bells, is_first: bool) {
             bell.ring(rt);
         }
         Bells::Late => {
-            if !is_first {
+            if number > 0 {
                 bell.ring(rt);
             }
         }
@@ -89,7 +89,7 @@ fn run_processor<S: GuestSlot, L: AsSlice<Call> + Drop, G: Gate, R: Wait>(
             break;
         };
         gate.after(actor, &reply);
-        ring(rt, &seat.bell, plan.bells, number == 0);
+        ring(rt, &seat.bell, plan.bells, number);
     }
     if plan.bells == Bells::Late && calls > 0 {
         seat.bell.ring(rt);

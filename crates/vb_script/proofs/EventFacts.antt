@@ -13,8 +13,8 @@ use Rattle.vb_model.specs.declared.calls.Query.TheVariants.{Balloon, Memory, Bac
 use Rattle.vb_model.specs.declared.calls.Event.{Event, TheVariants.{Guest, Query, Balance, Frames}}
 use Rattle.vb_model.specs.declared.calls.Event.TheVariants.{Plug, Unplug, Restart}
 use Rattle.vb_script.specs.{declared.lines.LineFault.TheVariants.Bad, Words.{number_of, words_of}}
-use Rattle.vb_script.specs.{declared.lines.Pace.TheVariants.{Immediate, Paced}, Events.{event_of, is_call}}
-use Rattle.vb_script.specs.{Lines.{host_of, spare_of}, Names.{form_of, pages_query_of, pace_of}}
+use Rattle.vb_script.specs.{declared.lines.Pace.TheVariants.{Immediate, Paced, Monitor}, Events.{event_of, is_call}}
+use Rattle.vb_script.specs.{Lines.{host_of, spare_of, is_paced}, Names.{form_of, pages_query_of, pace_of}}
 
 abbrev says : List ℕ → Option Event
 says line = event_of (words_of line)
@@ -99,10 +99,16 @@ unfolding number_of
 hosts = refl
 
 spares : map (λ line. spare_of (words_of line)) (codes "spare immediate" ∷ codes "spare paced"
-    ∷ codes "frames" ∷ codes "spare slow" ∷ codes "spare" ∷ codes "spare paced paced" ∷ [])
-    ≡ Ok (Some Immediate) ∷ Ok (Some Paced) ∷ Ok None ∷ Err Bad ∷ Err Bad ∷ Err Bad ∷ []
+    ∷ codes "spare monitor" ∷ codes "frames" ∷ codes "spare slow" ∷ codes "spare monitors"
+    ∷ codes "spare" ∷ codes "spare paced paced" ∷ [])
+    ≡ Ok (Some Immediate) ∷ Ok (Some Paced) ∷ Ok (Some Monitor) ∷ Ok None ∷ Err Bad ∷ Err Bad ∷ Err Bad
+    ∷ Err Bad ∷ []
 unfolding pace_of
 spares = refl
+
+-- a device that a VMM's notice serves isn't paced
+paces : map is_paced (Immediate ∷ Paced ∷ Monitor ∷ []) ≡ false ∷ true ∷ false ∷ []
+paces = refl
 
 -- no word says nothing, and only a call on a guest is a call
 no_words : (host_of [] ≡ None) × (spare_of [] ≡ Err Bad) × (event_of [] ≡ None)

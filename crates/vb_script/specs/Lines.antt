@@ -7,7 +7,7 @@ use Rattle.vb_virtio.specs.declared.limits.TheConstants.{MAX_FRAMES}
 use Rattle.vb_script.specs.declared.lines.LineFault.{LineFault}
 use Rattle.vb_script.specs.declared.lines.LineFault.TheVariants.{Bad}
 use Rattle.vb_script.specs.declared.lines.Pace.{Pace}
-use Rattle.vb_script.specs.declared.lines.Pace.TheVariants.{Immediate, Paced}
+use Rattle.vb_script.specs.declared.lines.Pace.TheVariants.{Immediate, Paced, Monitor}
 use Rattle.vb_script.specs.Names.{pace_of}
 use Rattle.vb_script.specs.Words.{only_word, only_number}
 
@@ -15,6 +15,7 @@ use Rattle.vb_script.specs.Words.{only_word, only_number}
 abbrev pub is_paced : Pace → Bool
 is_paced Immediate = false
 is_paced Paced = true
+is_paced Monitor = false
 
 abbrev pub in_range : ℕ → Option ℕ
 in_range frames = if nat_le 1 frames && nat_le frames MAX_FRAMES then Some frames else None

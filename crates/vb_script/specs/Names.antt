@@ -6,7 +6,7 @@ use Rattle.vb_model.specs.declared.places.Place.TheVariants.{Taking, Stranded, R
 use Rattle.vb_model.specs.declared.calls.Query.{Query}
 use Rattle.vb_model.specs.declared.calls.Query.TheVariants.{PagesAt, PagesBallooned}
 use Rattle.vb_script.specs.declared.lines.Pace.{Pace}
-use Rattle.vb_script.specs.declared.lines.Pace.TheVariants.{Immediate, Paced}
+use Rattle.vb_script.specs.declared.lines.Pace.TheVariants.{Immediate, Paced, Monitor}
 use Rattle.vb_script.specs.declared.names.Form.{Form}
 use Rattle.vb_script.specs.declared.names.Form.TheVariants.{Frames, Init, Pages, One, Two, Three}
 use Rattle.vb_script.specs.declared.names.Form.TheVariants.{Four, Bytes}
@@ -112,4 +112,11 @@ pages_query_of word = meaning_of places word
 
 -- the paces that a line of a spare device names
 unfoldable pub pace_of : List ℕ → Option Pace
-pace_of word = meaning_of ((codes "immediate", Immediate) ∷ (codes "paced", Paced) ∷ []) word
+pace_of word = meaning_of paces word
+  where
+    paces : List (List ℕ × Pace)
+    paces =
+        (codes "immediate", Immediate)
+        ∷ (codes "paced", Paced)
+        ∷ (codes "monitor", Monitor)
+        ∷ []

@@ -39,6 +39,8 @@ pub enum Pace {
     Immediate,
     /// The device visits the pages of a request one by one before it finishes it.
     Paced,
+    /// The device does as an immediate one, and serves a queue by a VMM's notice.
+    Monitor,
 }
 
 impl Pace {
@@ -67,7 +69,7 @@ pub fn host(line: &[u8]) -> Option<u32>
     Some(frames)
 }
 
-/// The rest of `spare immediate` or `spare paced`.
+/// The rest of `spare immediate`, `spare paced` or `spare monitor`.
 pub fn spare(words: &mut Words<'_>) -> Option<Pace>
     ensures { result ≡ option_and_then pace_of (only_word (words_left words.old.rest)) }
 {

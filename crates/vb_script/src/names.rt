@@ -168,7 +168,11 @@ pub static PLACES: [(&[u8], Query); 8] = [
 ];
 
 /// The paces that a line of a spare device names.
-pub static PACES: [(&[u8], Pace); 2] = [(b"immediate", Pace::Immediate), (b"paced", Pace::Paced)];
+pub static PACES: [(&[u8], Pace); 3] = [
+    (b"immediate", Pace::Immediate),
+    (b"paced", Pace::Paced),
+    (b"monitor", Pace::Monitor),
+];
 
 /// What the word represents in the table, if it is there.
 pub fn find<T: Copy>(table: &[(&[u8], T)], word: &[u8]) -> Option<T>

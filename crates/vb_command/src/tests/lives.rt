@@ -11,6 +11,7 @@ use std::test::Fail;
 use vb_device::{Device, ImmediateDevice, PacedDevice};
 use vb_model::{Bytes, Call, Event, GuestSize, PlaceCounts, Query, Reply};
 use vb_script::{Pace, Script};
+use vb_served::NoticedDevice;
 use vb_world::{World, add_spare};
 
 const GUESTS: u32 = 8;
@@ -181,16 +182,17 @@ fn add(script: &mut Script, event: Event) -> Result<(), AllocError> {
     Ok(())
 }
 
-/// Makes every second device a paced one.
+/// The paces that a host's devices have in turn.
+static PACES: [Pace; 3] = [Pace::Paced, Pace::Immediate, Pace::Monitor];
+
+/// Gives devices the paces in turn.
 fn alternate(paces: &mut [Pace]) {
-    for pair in 0..paces.len() / 2 {
-        if let Some(pace) = paces.get_mut(2 * pair) {
-            *pace = Pace::Paced;
-        }
+    for index in 0..paces.len() {
+        paces[index] = PACES[index % PACES.len()];
     }
 }
 
-/// A host of `frames` frames, with spare devices of both paces in turn.
+/// A host of `frames` frames, with spare devices of all paces in turn.
 fn host_of(alloc: Global, frames: u32) -> Result<Script, AllocError>
     requires some { 1 ≤ frames }
     requires few { frames ≤ FRAMES }
@@ -414,6 +416,10 @@ fn answer_all(alloc: Global, script: &Script) -> Result<Vec<Reply>, AllocError> 
             }
             Pace::Paced => {
                 let device = Box::new(alloc, PacedDevice::new(alloc))?;
+                add_spare(&mut spares, device)?;
+            }
+            Pace::Monitor => {
+                let device = Box::new(alloc, NoticedDevice::new(alloc))?;
                 add_spare(&mut spares, device)?;
             }
         }

@@ -1,10 +1,9 @@
-use Rattle.std.proofs.Common.{rules, ◌≡◌, ◌∷◌, refl, Bool, arith, ap, ◌∙◌}
+use Rattle.std.proofs.Common.{rules, ◌≡◌, ◌∷◌, refl, true, false, Bool, arith, ap, ◌∙◌}
 use denote.Param.Object.{read_made}
-use Rattle.vb_script.specs.{declared.lines.Pace.TheVariants.{Immediate, Paced}, Lines.is_paced}
-use Rattle.vb_command.proofs.ports.run_plan.Goals.{in-Immediate+in-Ok+in_ok-add_port-in-Immediate}
+use Rattle.vb_command.proofs.ports.run_plan.Goals.{then-is_paced+in-Ok+in_ok-add_port}
 use Rattle.vb_command.{proofs.Paces.one_more, proofs.Passes.{leased_unused, new_unheld, next_unheld}}
 use Rattle.vb_command.proofs.ports.run_plan.OwnLists.{own-1, at-1-1, at-1-2}
-use Rattle.vb_command.proofs.ports.run_plan.Goals.{in-Paced+in-Ok-new+in_ok-add_port-in-Paced}
+use Rattle.vb_command.proofs.ports.run_plan.Goals.{else-is_paced+in-Ok-new+in_ok-add_port-2}
 use Rattle.vb_ram.{specs.Pages.Pages, specs.Part.Part}
 use Rattle.vb_command.proofs.ports.run_plan.Goals as goal
 
@@ -35,13 +34,13 @@ new-port-requires g c =
       ap (λ (p : Part). p.own) c.new-device.ensures.part ∙ held,
     )
 
-pub new-port-requires-in-Paced : goal.new-port-requires-in-Paced
-new-port-requires-in-Paced g c =
+pub new-port-requires-else-is_paced : goal.new-port-requires-else-is_paced
+new-port-requires-else-is_paced g c =
     let head : c.loop-pace.passes.rest.items ≡ c.in-Some.pass ∷ c.next.new.self.rest.items =
     search rules in
     let held = (next_unheld _ _ _ head c.loop-pace.invariant.passes).0 in
     let device = c.in-Ok-new.device.value in
-    let box = c.into_dyn_box-in-Paced in
+    let box = c.into_dyn_box-else-is_paced in
     let part : (own-1.entry box.result.vtable).1.GuestBytes.part box.result.value
     ≡ (own-1.entry at-1-2).1.GuestBytes.part device = read_made own-1
     (own-1.entry at-1-2) at-1-2 refl Part (λ entry made. entry.1.GuestBytes.part made)
@@ -50,25 +49,25 @@ new-port-requires-in-Paced g c =
     ≡ (own-1.entry at-1-2).1.GuestBytes.mem device = read_made own-1
     (own-1.entry at-1-2) at-1-2 refl Pages (λ entry made. entry.1.GuestBytes.mem made)
     box.result.vtable box.result.value device box.ensures.1 in
-    rw (part, mem, c.in-Ok-new.ensures.ok, c.new-device-in-Paced.ensures.mem, c.new-device-in-Paced.ensures.part) (
-      leased_unused c.new-in-Paced.result.mem c.new-in-Paced.result.part c.in-Some.pass.held
-          c.new-in-Paced.ensures.unused,
-      ap (λ (p : Part). p.own) c.new-device-in-Paced.ensures.part ∙ held,
+    rw (part, mem, c.in-Ok-new.ensures.ok, c.new-device-else-is_paced.ensures.mem, c.new-device-else-is_paced.ensures.part) (
+      leased_unused c.new-else-is_paced.result.mem c.new-else-is_paced.result.part c.in-Some.pass.held
+          c.new-else-is_paced.ensures.unused,
+      ap (λ (p : Part). p.own) c.new-device-else-is_paced.ensures.part ∙ held,
     )
 
 pub loop-pace-preserved : goal.loop-pace-preserved
 loop-pace-preserved g c =
     let head : c.loop-pace.passes.rest.items ≡ c.in-Some.pass ∷ c.next.new.self.rest.items =
     search rules in
-    let left = (next_unheld _ _ _ head c.loop-pace.invariant.passes).1 in elim c.match-pace.branch [
-      | in-Immediate+in-Ok+in_ok-add_port-in-Immediate w ↦
+    let left = (next_unheld _ _ _ head c.loop-pace.invariant.passes).1 in elim c.if-is_paced.branch [
+      | then-is_paced+in-Ok+in_ok-add_port w ↦
           let device = w.in-Ok.device.value in
           let box = w.into_dyn_box in
           let boxed : ((own-1.entry box.result.vtable).1.GuestBytes.part box.result.value).paced
           ≡ ((own-1.entry at-1-1).1.GuestBytes.part device).paced = read_made own-1
           (own-1.entry at-1-1) at-1-1 refl Bool (λ entry made. (entry.1.GuestBytes.part made).paced)
           box.result.vtable box.result.value device box.ensures.1 in
-          let made : ((own-1.entry at-1-1).1.GuestBytes.part device).paced ≡ is_paced Immediate =
+          let made : ((own-1.entry at-1-1).1.GuestBytes.part device).paced ≡ true =
           rw w.in-Ok.ensures.ok
           (ap (λ (p : Part). p.paced) w.new-device.ensures.part ∙ w.new.ensures.paced) in
           rw w.ports-is (record {
@@ -76,26 +75,25 @@ loop-pace-preserved g c =
             ports = w.add_port.ensures.ports;
             paces = one_more _ c.loop-pace.ports.items w.add_port.new.ports.items w.new-port.result
                 c.args.paces.now c.loop-pace.pace-index
-                _ Immediate w.in_ok-add_port-in-Immediate.ensures.added c.loop-pace.invariant.paces
-                c.loop-pace-test.true w.in-Immediate.is (w.new-port.ensures.pace ∙ boxed ∙ made);
+                _ _ w.in_ok-add_port.ensures.added c.loop-pace.invariant.paces c.loop-pace-test.true
+                refl (w.new-port.ensures.pace ∙ boxed ∙ made ∙ w.if-is_paced.ensures);
           })
-      | in-Paced+in-Ok-new+in_ok-add_port-in-Paced w ↦
+      | else-is_paced+in-Ok-new+in_ok-add_port-2 w ↦
           let device = w.in-Ok-new.device.value in
-          let box = w.into_dyn_box-in-Paced in
+          let box = w.into_dyn_box-else-is_paced in
           let boxed : ((own-1.entry box.result.vtable).1.GuestBytes.part box.result.value).paced
           ≡ ((own-1.entry at-1-2).1.GuestBytes.part device).paced = read_made own-1
           (own-1.entry at-1-2) at-1-2 refl Bool (λ entry made. (entry.1.GuestBytes.part made).paced)
           box.result.vtable box.result.value device box.ensures.1 in
-          let made : ((own-1.entry at-1-2).1.GuestBytes.part device).paced ≡ is_paced Paced =
-          rw w.in-Ok-new.ensures.ok (ap (λ (p : Part). p.paced) w.new-device-in-Paced.ensures.part
-          ∙ w.new-in-Paced.ensures.paced) in
+          let made : ((own-1.entry at-1-2).1.GuestBytes.part device).paced ≡ false =
+          rw w.in-Ok-new.ensures.ok (ap (λ (p : Part). p.paced) w.new-device-else-is_paced.ensures.part
+          ∙ w.new-else-is_paced.ensures.paced) in
           rw w.ports-is (record {
             passes = left;
-            ports = w.add_port-in-Paced.ensures.ports;
-            paces = one_more _ c.loop-pace.ports.items
-                w.add_port-in-Paced.new.ports.items w.new-port-in-Paced.result c.args.paces.now
-                c.loop-pace.pace-index _ Paced w.in_ok-add_port-in-Paced.ensures.added
-                c.loop-pace.invariant.paces c.loop-pace-test.true w.in-Paced.is
-                (w.new-port-in-Paced.ensures.pace ∙ boxed ∙ made);
+            ports = w.add_port-else-is_paced.ensures.ports;
+            paces = one_more _ c.loop-pace.ports.items w.add_port-else-is_paced.new.ports.items
+                w.new-port-else-is_paced.result c.args.paces.now c.loop-pace.pace-index
+                _ _ w.in_ok-add_port-2.ensures.added c.loop-pace.invariant.paces c.loop-pace-test.true
+                refl (w.new-port-else-is_paced.ensures.pace ∙ boxed ∙ made ∙ w.if-is_paced.ensures);
           })
     ]

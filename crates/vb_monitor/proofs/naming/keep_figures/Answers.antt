@@ -1,4 +1,4 @@
-use Rattle.std.proofs.Common.{◌≡◌, subst, refl, ap, ℕ, ◌/◌, List, length, take, Option, Some, None}
+use Rattle.std.proofs.Common.{◌≡◌, subst, refl, ℕ, ◌/◌, List, length, take, Option, Some, None}
 use Rattle.std.proofs.Common.{Result, Ok, Err, arith}
 use Rattle.vb_core.specs.declared.device.{Device.Device, Denial.Denial}
 use Rattle.vb_core.specs.declared.{statistics.Statistic.Statistic, kinds.Kind.TheVariants.Statistics}

@@ -371,13 +371,15 @@ fn hosts(rt: HostRuntime) {
 }
 
 /// Lines after that of the host, and the spare devices that they bring.
-static SPARES: [(&[u8], Result<Option<Pace>, ScriptFault>); 10] = [
+static SPARES: [(&[u8], Result<Option<Pace>, ScriptFault>); 12] = [
     (b"spare immediate", Ok(Some(Pace::Immediate))),
     (b"spare paced", Ok(Some(Pace::Paced))),
+    (b"spare monitor", Ok(Some(Pace::Monitor))),
     (b"frames", Ok(None)),
     (b"spare", Err(ScriptFault::BadLine(2))),
     (b"spare ", Err(ScriptFault::BadLine(2))),
     (b"spare fast", Err(ScriptFault::BadLine(2))),
+    (b"spare Monitor", Err(ScriptFault::BadLine(2))),
     (b"spare immediate 1", Err(ScriptFault::BadLine(2))),
     (b"spare  immediate", Err(ScriptFault::BadLine(2))),
     (b"spare immediate ", Err(ScriptFault::BadLine(2))),
