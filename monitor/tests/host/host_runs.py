@@ -14,6 +14,7 @@ that aren't Linux. The runs:
               in the last of which guests and host notify each other by events, not by messages
     greedy    four guests who want more than there is: the host says by how much it is short, and holds no more than that
     strict    a day that fits on a strict host: at no look do they hold more than the budget
+    rogue     a guest that reads all its memory past its driver, within a limit of the kernel's, beside two at work
     bare      the first of the days without balloons: it goes over the budget
     rest      what the targets are once nothing moves, and once a guest has gone
     lives     a guest that is killed while its balloon is filled, and comes back; one that doesn't answer
@@ -34,6 +35,7 @@ import linux_kit
 from host_checks import (
     REST_LIMIT, WRONG_LIMIT, await_rest, check_spares, eventually, finish, growth, names, pages_moved, window,
 )
+from host_limits import rogue_run
 from host_queues import queues_run
 from host_seats import seats_run, spares_run
 from host_small import lines_run, many_run, worked_run
@@ -236,7 +238,7 @@ RUNS = {
     "marks": marks_run, "tells": tells_run, "files": files_run,
     "shift-1": functools.partial(shift_run, seed=1), "shift-2": functools.partial(shift_run, seed=2),
     "shift-3": functools.partial(shift_run, seed=3),
-    "greedy": greedy_run, "strict": strict_run, "bare": bare_run,
+    "greedy": greedy_run, "strict": strict_run, "rogue": rogue_run, "bare": bare_run,
     "rest": rest_run, "lives": lives_run, "full": full_run, "trash": trash_run,
 }
 
