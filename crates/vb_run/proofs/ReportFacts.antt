@@ -181,6 +181,19 @@ called_once : (plan : GuestPlan) (paced : Bool) (rounds : List Rounded) (report 
     → history_in 1 plan report ≡ Called actor call claims reply ∷ [] → is.last.config.paced ≡ paced
 called_once plan paced rounds report actor call claims reply is history = grind arith
 
+paced_for_immediate : (plan : GuestPlan) (rounds : List Rounded) (report : GuestReport)
+    (actor : Actor) (call : Call) (claims : List Claim) (reply : Reply)
+    (is : IsGuestReport 16 1 plan false rounds report)
+    → history_in 1 plan report ≡ Called actor call claims reply ∷ [] → is.last.config.paced ≡ true → ⊥
+paced_for_immediate plan rounds report actor call claims reply is history paced = grind arith
+
+immediate_for_paced : (plan : GuestPlan) (rounds : List Rounded) (report : GuestReport)
+    (actor : Actor) (call : Call) (claims : List Claim) (reply : Reply)
+    (is : IsGuestReport 16 1 plan true rounds report)
+    → history_in 1 plan report ≡ Called actor call claims reply ∷ [] → is.last.config.paced ≡ false
+    → ⊥
+immediate_for_paced plan rounds report actor call claims reply is history immediate = grind arith
+
 -- A guest of 64 pages, of which 16 are reserved, can't spare 49: whatever its first call, no look
 -- sees that.
 look_that_saw_too_much : (plan : GuestPlan) (rounds : List Rounded) (report : GuestReport)
@@ -260,6 +273,12 @@ frames_are behind reported plan paced rounds report is e f =
 
 frame_left_out : Frames (Some 5 ∷ None ∷ Some 3 ∷ []) (5 ∷ []) ⊥
 frame_left_out plan paced rounds report is e f = grind arith
+
+frame_of_no_page : Frames (None ∷ Some 3 ∷ []) (3 ∷ 4 ∷ []) ⊥
+frame_of_no_page plan paced rounds report is e f = grind arith
+
+frames_of_pages_that_fall : Frames (Some 5 ∷ Some 3 ∷ []) (3 ∷ 5 ∷ []) ⊥
+frames_of_pages_that_fall plan paced rounds report is e f = grind arith
 
 -- ---- the report of a run
 
