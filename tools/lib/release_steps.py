@@ -60,9 +60,10 @@ bigvasta remove web-1
 systemctl stop bigvasta-host
 """
 
-# The first example of the planner's help, as it is printed, in a Debian with the packages that it names.
+# The first example of the planner's help, as it is printed, in a Debian with the packages that it names. matplotlib keeps its fonts at home.
 PLAN = """
 rm -rf /tmp/plan && mkdir /tmp/plan && cd /tmp/plan
+export HOME=/tmp/plan
 bigvasta plan --help > help
 dpkg -s $(sed -n 's/^  apt-get install //p' help) > /dev/null
 sed -n '/^example/,/^$/s/^  bigvasta/bigvasta/p' help > example

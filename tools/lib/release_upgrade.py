@@ -25,10 +25,11 @@ Answering(types.SimpleNamespace(folder="/run/bigvasta", said=list), "web-1")
 threading.Event().wait()
 """
 
-# What is asked of a guest that is at work, as one line of JSON without what time changes.
+# What is asked of a guest that is at work, as one line of JSON without what time changes, and without terms that 0.1.0 hasn't.
 SHOW = """import json, sys
 it = json.load(sys.stdin)["guest"]
 assert it["state"] == "ready" and it["answers"], it
+it["terms"] = {name: it["terms"][name] for name in ("least", "most", "priority", "strict")}
 print(json.dumps({name: it[name] for name in ("process", "memory", "target", "terms", "socket")}))
 """
 
