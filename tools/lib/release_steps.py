@@ -97,7 +97,8 @@ INSTEAD = (
     ("bigvasta watch", "sleep 2 && (sleep 3; printf q) | timeout 20 script -qec 'bigvasta watch' /dev/null > /tmp/watch && grep -q 'budget 6144' /tmp/watch"),
     (QEMU, """
 if {has_device}; then
-    ({command} -display none -serial none -monitor none & echo $! > /tmp/qemu.pid)
+    ({command} -display none -serial none -monitor none > /tmp/qemu.log 2>&1 & echo $! > /tmp/qemu.pid)
+    trap 'kill $(cat /tmp/qemu.pid) 2> /dev/null' EXIT
     for i in $(seq 60); do bigvasta guest web-1 --json | grep -q '"state": "absent"' || break; sleep 0.5; done
     bigvasta guest web-1 --json | grep -vq '"process": 0,'
     kill $(cat /tmp/qemu.pid)
