@@ -98,9 +98,10 @@ INSTEAD = (
     (QEMU, """
 if {has_device}; then
     ({command} -display none -serial none -monitor none > /tmp/qemu.log 2>&1 & echo $! > /tmp/qemu.pid)
-    trap 'kill $(cat /tmp/qemu.pid) 2> /dev/null' EXIT
+    trap 'kill $(cat /tmp/qemu.pid) 2> /dev/null || true' EXIT
     for i in $(seq 60); do bigvasta guest web-1 --json | grep -q '"state": "absent"' || break; sleep 0.5; done
-    bigvasta guest web-1 --json | grep -vq '"process": 0,'
+    process() { bigvasta guest web-1 --json | sed 's/.*"process": \\([0-9]*\\),.*/\\1/'; }
+    first=$(process) && sleep 3 && test "$first" != 0 && test "$(process)" = "$first"
     kill $(cat /tmp/qemu.pid)
     for i in $(seq 60); do bigvasta guest web-1 --json | grep -q '"state": "absent"' && break; sleep 0.5; done
     bigvasta guest web-1 --json | grep -q '"state": "absent"'
