@@ -231,9 +231,9 @@ static void decide(struct host *host)
     if (host->anew || missing != host->missing || memcmp(guests.old, guests.targets, guests.count * sizeof guests.old[0]))
         note(host, &guests, missing);
     host->counters.shorts += missing > 0;
-    host->counters.changed += tell(&guests);
     host->missing = missing;
     host->anew = false;
+    host->counters.changed += tell(&guests);
 }
 
 void policy_decide(struct host *host)
