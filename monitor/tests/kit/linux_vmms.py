@@ -48,13 +48,21 @@ def demand_shared_room(memory):
         raise Missing(f"/dev/shm has {free} MiB free, and {memory} are wanted for guests: mount -o remount,size={memory + 64}M /dev/shm")
 
 
+def takes_any_kernel():
+    """Whether KVM has a processor with virtualization under it: one without takes only kernels that are made for it."""
+    with open("/proc/cpuinfo", encoding="utf-8") as file:
+        flags = next((it.split() for it in file if it.startswith("flags")), ())
+    return "vmx" in flags or "svm" in flags
+
+
 def accelerator():
-    """Returns QEMU's word for KVM where the machine's answers, else for its own emulation."""
+    """Returns QEMU's word for KVM where the machine's answers and takes any kernel, else for its own emulation."""
     try:
         with open("/dev/kvm", "rb+", buffering=0) as device:
-            return "kvm" if fcntl.ioctl(device, KVM_GET_API_VERSION) == KVM_API_VERSION else "tcg"
+            answers = fcntl.ioctl(device, KVM_GET_API_VERSION) == KVM_API_VERSION
     except OSError:
         return "tcg"
+    return "kvm" if answers and takes_any_kernel() else "tcg"
 
 
 class OverSocket:
