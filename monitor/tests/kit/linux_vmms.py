@@ -23,7 +23,7 @@ FORMS = {"messages": (), "events": ("--events",)}
 # KVM answers this request by this version (linux/kvm.h).
 KVM_GET_API_VERSION, KVM_API_VERSION = 0xAE00, 12
 
-# How many times as long as under User Mode Linux a wait may take under emulation, on a machine that has other work.
+# How many times as long as under User Mode Linux a wait may take under emulation, at least, on a machine that has other work.
 EMULATED = 5
 
 # The last QEMU whose PCI proxy works.
@@ -31,13 +31,15 @@ LAST_PROXY = 10
 
 
 class Shape(NamedTuple):
-    """What a guest is started with: its MiB, its processors, more words of its kernel's command line, and the MiB that may be plugged
-    in besides."""
+    """What a guest is started with: its MiB, its processors, more words of its kernel's command line, the MiB that may be plugged
+    in besides, and what QEMU is told of its device's queues: how many there are, and the descriptors of each."""
 
     memory: int
     processors: int = 1
     kernel_words: tuple = ()
     pluggable: int = 0
+    queues: int = 4
+    queue_size: int = 64
 
 
 def demand_shared_room(memory):
@@ -177,20 +179,21 @@ class Qemu(OverSocket, Emulator):
     # On a busy machine a timer comes too late for the kernel's check of it.
     kernel_words = ("console=ttyS0", "no_timer_check", "memhp_default_state=online")
 
-    # What the generic device is told of a balloon.
-    OF_BALLOON = {"virtio-id": 5, "num_vqs": 4, "config_size": 16}
+    # What the generic device is told of a balloon, beside its queues.
+    OF_BALLOON = {"virtio-id": 5, "config_size": 16}
 
     def accelerator(self):
         """Returns QEMU's word for how it runs the guest."""
         return accelerator()
 
-    def device_words(self):
+    def device_words(self, shape):
         """Returns the device by its names, as QEMU's command line and its control socket have them."""
-        return {"driver": self.device, "id": "balloon", "bus": "port1", "chardev": "device", **self.OF_BALLOON}
+        queues = {"num_vqs": shape.queues, "vq_size": shape.queue_size}
+        return {"driver": self.device, "id": "balloon", "bus": "port1", "chardev": "device", **self.OF_BALLOON, **queues}
 
     def words(self, folder, shape, path):
         """Returns the guest's command; the device is in a slot from which it can be unplugged."""
-        device = ",".join(f"{name}={it}" for name, it in self.device_words().items()).removeprefix("driver=")
+        device = ",".join(f"{name}={it}" for name, it in self.device_words(shape).items()).removeprefix("driver=")
         return [
             *self.machine(shape), "-chardev", f"socket,id=device,path={path}", "-device", "pcie-root-port,id=port1,chassis=1,slot=1",
             "-device", device, "-qmp", f"unix:{folder}/qmp,server=on,wait=off",
