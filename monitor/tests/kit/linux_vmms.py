@@ -26,6 +26,9 @@ KVM_GET_API_VERSION, KVM_API_VERSION = 0xAE00, 12
 # How many times as long as under User Mode Linux a wait may take under emulation, at least, on a machine that has other work.
 EMULATED = 5
 
+# The guests that are emulated beside each other in a run of a host: each takes a processor.
+MOST_EMULATED = 2
+
 # The last QEMU whose PCI proxy works.
 LAST_PROXY = 10
 
@@ -81,7 +84,7 @@ class OverSocket:
 class Uml(OverSocket):
     """User Mode Linux: a kernel that is a process."""
 
-    forms, has_control, patience = ("messages", "events"), False, 1
+    forms, has_control, patience, most_guests = ("messages", "events"), False, 1, 64
 
     def __init__(self, folder, suite=None):
         self.root, with_libc = fetch_uml(suite), os.path.join(os.path.dirname(__file__), "linux_with_libc.py")
@@ -114,7 +117,7 @@ class Emulator:
     """QEMU, and a machine whose device isn't said. A class of it says which devices do (`devices`), whose QEMU is fetched where the
     one that is installed has none of them (`debian`), and what its kernel is told besides (`kernel_words`)."""
 
-    patience = EMULATED
+    patience, most_guests = EMULATED, MOST_EMULATED
 
     def __init__(self, folder, suite=None):
         self.program, self.device = self.find()
