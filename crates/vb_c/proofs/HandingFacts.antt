@@ -11,7 +11,7 @@ use Rattle.vb_monitor.specs.declared.step.Phase.{TheVariants.Ended, Phase}
 use Rattle.vb_monitor.specs.{declared.balloon.Balloon.Balloon, Machine.{Fits, row_bytes, stage, waits, is_ended}}
 use Rattle.vb_c.specs.declared.notice.{VbNotice.VbNotice, VbRoom.VbRoom}
 use Rattle.vb_virtio.specs.Tests.{one_if}
-use Rattle.vb_c.specs.{Notices.{tally_of, told_bits, asked_bits, answer_bits, what_of}, Serving.{held_then, Refuses}, Served.telling_pages}
+use Rattle.vb_c.specs.{Notices.{tally_of, told_bits, asked_bits, answer_bits, what_of}, Serving.{held_then, Refuses}}
 use Rattle.vb_c.{specs.Serving.HandsOver, proofs.Samples.{Same, two, begun, balloon, nothing_copied}}
 use Rattle.vb_c.proofs.Samples.{a_buffer, chain_of}
 use Rattle.vb_core.specs.declared.held.Held.{Held}
@@ -151,7 +151,10 @@ abbrev two_pages : Named
 two_pages = record { runs = 1; pages = 2; skipped = 0 }
 
 abbrev telling : Kind → Bool → Notice
-telling kind keeps = telling_pages kind (record (tally_of shown) { keeps = keeps }) 3 two_pages
+telling kind keeps = record {
+  kind = kind;
+  step = record { tally = record (tally_of shown) { keeps = keeps }; phase = TellsPages 3 two_pages };
+}
 
 -- they are told, their chain is given back, and the index is awaited
 abbrev told : ℕ → VbNotice
@@ -201,11 +204,6 @@ uncounted_of_a_report : (b2 : Balloon) → HandsOver (telling Report false) two 
 unfolding lib.Count.ones
 uncounted_of_a_report b2 h =
     let e : Same 0 2 = h.kept (is_told (telling Report false) 0 keeping b2 h) in omega arith
-
--- the chain that they are of
-told_of_3 : telling_pages Inflate (tally_of shown) 3 two_pages ≡
-    record { kind = Inflate; step = record { tally = tally_of shown; phase = TellsPages 3 two_pages } }
-told_of_3 = refl
 
 -- ---- what is held: a chain where a notice has ended that took one of a kind that is held
 

@@ -1,6 +1,5 @@
 pub mod ShowLemmas
-pub mod UsualLemmas
-pub mod ServedLemmas
+pub mod ReadLemmas
 mod NoticeFacts
 mod Samples
 mod CodeFacts

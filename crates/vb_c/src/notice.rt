@@ -140,7 +140,7 @@ fn why_of(code: u32, rule: u32) -> Option<Denial>
 
 impl VbNotice {
     /// What was served, and may be yet.
-    pub(crate) fn tally(&self) -> Tally
+    fn tally(&self) -> Tally
         ensures { result ≡ tally_of self.now }
     {
         Tally {
@@ -161,7 +161,7 @@ impl VbNotice {
     }
 
     /// How far the walk along a chain is.
-    pub(crate) fn walk(&self) -> Walk
+    fn walk(&self) -> Walk
         ensures { result ≡ walk_of self.now }
     {
         Walk {
@@ -174,7 +174,7 @@ impl VbNotice {
     }
 
     /// Which part of a chain's pieces is copied.
-    pub(crate) fn place(&self) -> Place
+    fn place(&self) -> Place
         ensures { result ≡ place_of self.now }
     {
         Place {
@@ -223,7 +223,7 @@ impl VbNotice {
     }
 
     /// What it waits for, if it is something.
-    #[inline(never)]
+    #[inline(always)]
     fn phase(&self) -> Option<Phase>
         ensures { result ≡ phase_of self.now }
     {

@@ -10,15 +10,11 @@ ghost use Rattle.vb_c.specs.Serving.{HandsOver, Begins, BeginsFor, GivesHeldFor,
 
 use crate::answers::{BAD_ARGUMENT, NO_QUEUE, NOTHING, kind_of_code};
 use crate::notice::{VbNotice, VbRoom};
-use crate::requests::hand_step;
-use vb_core::Kind;
-use vb_monitor::{
-    Balloon, Budget, Cut, MAX_CUTS, Notice, Region, Room, after_descriptor, after_part,
-};
+use vb_monitor::{Balloon, Budget, Cut, MAX_CUTS, Notice, Region, Room};
 
 /// Hands a notice over, with all that is to be done before it waits; what it came to is noted, once
 /// it has ended.
-pub(crate) fn hand_over(
+fn hand_over(
     shown: &mut VbNotice,
     balloon: &mut Balloon,
     regions: &[Region],
@@ -121,9 +117,9 @@ pub extern "C" fn vb_give_held(
     }
 }
 
-/// What is to be done next, however a notice goes on.
-#[inline(never)]
-pub(crate) fn go_anyhow(
+/// What is to be done next, once that was done which was to be done.
+#[unsafe(no_mangle)]
+pub extern "C" fn vb_go_on(
     notice: &mut VbNotice,
     balloon: &mut Balloon,
     regions: &[Region],
@@ -148,73 +144,4 @@ pub(crate) fn go_anyhow(
             )
         }
     }
-}
-
-/// A row of descriptors was copied, which join the others up to one that breaks a rule.
-pub(crate) fn go_chain(
-    notice: &mut VbNotice,
-    balloon: &mut Balloon,
-    regions: &[Region],
-    room: &mut VbRoom,
-    kind: Kind,
-    answer: u16,
-) -> u32
-    requires kind { kind_of_code notice.old.kind ≡ Some kind }
-    requires phase { notice.old.phase ≡ 3 }
-    ensures goes { GoesOnBy (notice_of notice.old) regions.now answer balloon.old balloon.new
-        room.old room.new notice.new }
-    ensures what { result ≡ notice.new.what }
-{
-    let step = after_descriptor(
-        &mut balloon.device,
-        regions,
-        kind,
-        notice.tally(),
-        notice.walk(),
-        &mut room.copied,
-    );
-    let mut next = Notice { kind, step };
-    hand_step(
-        notice,
-        balloon,
-        regions,
-        &room.copied,
-        &mut room.cuts,
-        &mut next,
-    )
-}
-
-/// A part of a piece was copied, after others that leave room for it.
-pub(crate) fn go_part(
-    notice: &mut VbNotice,
-    balloon: &mut Balloon,
-    regions: &[Region],
-    room: &mut VbRoom,
-    kind: Kind,
-    answer: u16,
-) -> u32
-    requires kind { kind_of_code notice.old.kind ≡ Some kind }
-    requires phase { notice.old.phase ≡ 4 }
-    requires fits { notice.old.into + notice.old.length ≤ MAX_BYTES }
-    ensures goes { GoesOnBy (notice_of notice.old) regions.now answer balloon.old balloon.new
-        room.old room.new notice.new }
-    ensures what { result ≡ notice.new.what }
-{
-    let step = after_part(
-        &mut balloon.device,
-        regions,
-        kind,
-        notice.tally(),
-        notice.place(),
-        &mut room.copied,
-    );
-    let mut next = Notice { kind, step };
-    hand_step(
-        notice,
-        balloon,
-        regions,
-        &room.copied,
-        &mut room.cuts,
-        &mut next,
-    )
 }

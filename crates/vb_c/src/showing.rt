@@ -2,11 +2,9 @@
 
 ghost use Rattle.std.specs.Prelude.{◌≡◌, ◌+◌, ◌<◌, true, List, Some};
 ghost use Rattle.vb_monitor.specs.declared.outcome.Tally.{Tally};
-ghost use Rattle.vb_monitor.specs.Giving.{with_named};
 ghost use Rattle.vb_monitor.specs.declared.step.Phase.TheVariants.{AwaitsDescriptor, AwaitsPart};
 ghost use Rattle.vb_monitor.specs.declared.step.Phase.TheVariants.{Discards, AwaitsFlags, Ended};
 ghost use Rattle.vb_monitor.specs.Machine.{Fits, waits};
-ghost use Rattle.vb_monitor.specs.Usual.{phase_at, tally_at};
 ghost use Rattle.vb_c.specs.Notices.{tally_of, phase_of, Says, end_code, end_rule, breaks};
 ghost use Rattle.vb_c.specs.Notices.{why_code, asked_bits, answer_bits, SameElse, IsNotice};
 ghost use Rattle.vb_c.specs.Notices.{HasEnded};
@@ -18,8 +16,8 @@ use crate::notice::{
     VbNotice,
 };
 use vb_chain::DESCRIPTOR_SIZE;
-use vb_core::{Denial, Kind, Settings};
-use vb_monitor::{Asked, Cut, Discarding, NextWord, Notice, Phase, Place, Spot, Tally, Told, Walk};
+use vb_core::Denial;
+use vb_monitor::{Asked, Cut, Discarding, Notice, Phase, Place, Spot, Tally, Told, Walk};
 
 /// The code of what a notice came to.
 fn end_code(why: Option<Denial>, tally: Tally) -> u32
@@ -65,7 +63,7 @@ fn breaks(why: Option<Denial>) -> bool
 }
 
 /// The bits of what needs no answer.
-pub(crate) fn asked_bits(asked: Asked, cuts: u32) -> u32
+fn asked_bits(asked: Asked, cuts: u32) -> u32
     ensures bits { result ≡ asked_bits asked cuts }
     ensures few { result < 16 }
 {
@@ -94,7 +92,7 @@ impl VbNotice {
     }
 
     /// Shows what was served, and may be yet.
-    pub(crate) fn show_tally(&mut self, tally: Tally)
+    fn show_tally(&mut self, tally: Tally)
         ensures tally { tally_of self.new ≡ tally }
         ensures kind { self.new.kind ≡ self.old.kind }
         ensures orders { self.new.orders ≡ self.old.orders }
@@ -114,24 +112,8 @@ impl VbNotice {
         }
     }
 
-    /// Shows that `pages` pages of the chain of this head were named; it is held where the settings
-    /// say so.
-    #[inline(always)]
-    pub(crate) fn show_named(&mut self, settings: &Settings, kind: Kind, head: u16, pages: u32)
-        ensures tally { tally_of self.new ≡
-            with_named kind settings.now head pages (tally_of self.old) }
-        ensures kind { self.new.kind ≡ self.old.kind }
-    {
-        self.pages_left = self.pages_left.saturating_sub(pages);
-        if settings.holds_chains(kind) {
-            self.taken = 1;
-            self.taken_head = head;
-            self.taken_pages = pages;
-        }
-    }
-
     /// Shows a word that is to be read.
-    pub(crate) fn show_read(&mut self, what: u32, phase: u8, at: Spot)
+    fn show_read(&mut self, what: u32, phase: u8, at: Spot)
         ensures { self.new ≡ record self.old { what = what; phase = phase; at = at } }
     {
         self.what = what;
@@ -141,7 +123,7 @@ impl VbNotice {
 
     /// Shows a row of descriptors that is to be copied.
     #[tactic(auto, using(crate::proofs::ShowLemmas::row_back))]
-    pub(crate) fn show_descriptor(&mut self, bits: u32, at: Spot, walk: Walk)
+    fn show_descriptor(&mut self, bits: u32, at: Spot, walk: Walk)
         requires bits { bits < 16 }
         requires fits { Fits (AwaitsDescriptor at walk) }
         ensures phase { phase_of self.new ≡ Some (AwaitsDescriptor at walk) }
@@ -162,7 +144,7 @@ impl VbNotice {
     }
 
     /// Shows a part of a piece that is to be copied.
-    pub(crate) fn show_part(&mut self, bits: u32, at: Spot, place: Place)
+    fn show_part(&mut self, bits: u32, at: Spot, place: Place)
         requires bits { bits < 16 }
         requires fits { Fits (AwaitsPart at place) }
         ensures phase { phase_of self.new ≡ Some (AwaitsPart at place) }
@@ -181,7 +163,7 @@ impl VbNotice {
     }
 
     /// Shows the part that is to be discarded once there is room.
-    pub(crate) fn show_cut(&mut self, bits: u32, cut: Cut, discarding: Discarding)
+    fn show_cut(&mut self, bits: u32, cut: Cut, discarding: Discarding)
         ensures phase { phase_of self.new ≡ Some (Discards cut discarding) }
         ensures what { self.new.what ≡ bits + answer_bits (Discards cut discarding) }
         ensures kept { SameElse self.old self.new }
@@ -202,7 +184,7 @@ impl VbNotice {
 
     /// Shows flags that are to be read.
     #[tactic(auto, using(crate::proofs::ShowLemmas::show_steps))]
-    pub(crate) fn show_flags(&mut self, bits: u32, at: Spot, why: Option<Denial>, more: bool)
+    fn show_flags(&mut self, bits: u32, at: Spot, why: Option<Denial>, more: bool)
         requires { bits < 16 }
         ensures phase { phase_of self.new ≡ Some (AwaitsFlags at why more) }
         ensures what { self.new.what ≡ bits + answer_bits (AwaitsFlags at why more) }
@@ -216,28 +198,9 @@ impl VbNotice {
         self.more = u32::from(more);
     }
 
-    /// Shows the word that is read next.
-    #[inline(always)]
-    pub(crate) fn show_word(&mut self, bits: u32, word: NextWord)
-        requires { bits < 16 }
-        ensures phase { phase_of self.new ≡ Some (phase_at word) }
-        ensures tally { tally_of self.new ≡ tally_at word (tally_of self.old) }
-        ensures what { self.new.what ≡ bits + answer_bits (phase_at word) }
-        ensures kind { self.new.kind ≡ self.old.kind }
-        ensures orders { self.new.orders ≡ self.old.orders }
-    {
-        match word {
-            NextWord::Entry(at) => {
-                self.chains_left = self.chains_left.saturating_sub(1);
-                self.show_read(bits + READ_ENTRY, ENTRY, at);
-            }
-            NextWord::Flags(at) => self.show_flags(bits, at, None, false),
-        }
-    }
-
     /// Shows what it came to.
     #[tactic(auto, using(crate::proofs::ShowLemmas::show_steps))]
-    pub(crate) fn show_end(
+    fn show_end(
         &mut self,
         bits: u32,
         tally: Tally,

@@ -1,9 +1,7 @@
 pub mod RegionLemmas
-pub mod SingleLemmas
 pub mod PartLemmas
 pub mod BufferLemmas
 pub mod NextLemmas
-pub mod UsualLemmas
 pub mod StepLemmas
 pub mod LeftLemmas
 pub mod OrderLemmas
@@ -15,7 +13,6 @@ mod QueueFacts
 mod KindTurnFacts
 mod RegionFacts
 mod FewFacts
-mod SingleFacts
 mod NoticeFacts
 mod OrderFacts
 pub mod PlaceLemmas
@@ -60,10 +57,8 @@ mod LargeFacts
 mod LargeWaitFacts
 mod WholeReportFacts
 mod KeepsFacts
-mod UsualFacts
-mod ServedFacts
 pub mod RoomLemmas
-pub mod ServedLemmas
+pub mod OpenLemmas
 pub mod StillWalk
 pub mod StillParts
 pub mod StillFound

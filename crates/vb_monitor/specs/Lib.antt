@@ -9,7 +9,6 @@ pub mod Notices
 pub mod Machine
 pub mod Left
 pub mod Orders
-pub mod Single
 pub mod Touched
 pub mod Balloons
 pub mod Order
@@ -22,6 +21,4 @@ pub mod Turns
 pub mod HeldBack
 pub mod PartsOfRuns
 pub mod Large
-pub mod Usual
-pub mod Served
 pub mod Still

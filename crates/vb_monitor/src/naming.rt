@@ -18,141 +18,132 @@ ghost use Rattle.std.specs.Prelude.{◌+◌};
 use crate::copying::{copy_on, first_bytes};
 use crate::ends::{end, fail};
 use crate::pieces::{first_pieces, report_named, request_length, statistics_length};
-use crate::{HeldChain, Phase, Place, Region, Room, Step, Tally, Walk};
+use crate::{HeldChain, Phase, Place, Region, Room, Step, Walk};
 use vb_core::{Device, Kind, Named, Settings};
 
 /// Tells the pages that were named, of a chain that is held, where the settings say so.
 #[inline(always)]
-fn tell_pages(settings: &Settings, kind: Kind, tally: Tally, head: u16, named: Named) -> Step
-    ensures { result ≡ record {
-      tally = with_named kind settings.now head named.pages tally;
+fn tell_pages(step: &mut Step, settings: &Settings, kind: Kind, head: u16, named: Named)
+    ensures { step.new ≡ record {
+      tally = with_named kind settings.now head named.pages step.old.tally;
       phase = TellsPages head named;
     } }
 {
-    let mut tally = Tally {
-        pages: tally.pages.saturating_sub(named.pages),
-        ..tally
-    };
+    step.tally.pages = step.tally.pages.saturating_sub(named.pages);
     if settings.holds_chains(kind) {
-        tally.held = Some(HeldChain {
+        step.tally.held = Some(HeldChain {
             head,
             pages: named.pages,
         });
     }
-    Step {
-        tally,
-        phase: Phase::TellsPages { head, named },
-    }
+    step.phase = Phase::TellsPages { head, named };
 }
 
 /// Names the pages of a request whose bytes were copied up to this place.
 #[tactic(auto, using(crate::proofs::RoomLemmas::few_named))]
 #[inline(always)]
 fn name_bytes(
+    step: &mut Step,
     device: &mut Device,
     regions: &[Region],
     kind: Kind,
-    tally: Tally,
     place: Place,
     room: &mut Room,
-) -> Step
+)
     ensures step { (after : Device) (outcome : Outcome) (log : List Access) →
-        Ahead (whole regions.now kind after outcome) result device.new room.new log →
+        Ahead (whole regions.now kind after outcome) step.new device.new room.new log →
         NamesBytes (whole regions.now kind after outcome)
-        (next_chain (whole regions.now kind after outcome) tally)
-        device.old tally place.head (take place.into room.old.bytes) log }
-    ensures fits { Fits result.phase }
-    ensures left { left regions.now result ≤
-        of_chains regions.now tally.chains + once_named regions.now }
+        (next_chain (whole regions.now kind after outcome) step.old.tally)
+        device.old step.old.tally place.head (take place.into room.old.bytes) log }
+    ensures fits { Fits step.new.phase }
+    ensures left { left regions.now step.new ≤
+        of_chains regions.now step.old.tally.chains + once_named regions.now }
 {
     let bytes = first_bytes(&room.bytes, place.into);
     match device.name(kind, bytes, &mut room.runs) {
-        Err(why) => end(device, regions, kind, tally, Some(why), false),
-        Ok(named) => tell_pages(&device.settings, kind, tally, place.head, named),
+        Err(why) => end(step, device, regions, kind, Some(why), false),
+        Ok(named) => tell_pages(step, &device.settings, kind, place.head, named),
     }
 }
 
 /// Names the pages of a report of a place's pieces.
 #[tactic(auto, using(crate::proofs::RoomLemmas::few_reported))]
 fn name_report(
+    step: &mut Step,
     device: &mut Device,
     regions: &[Region],
     kind: Kind,
-    tally: Tally,
     place: Place,
     room: &mut Room,
-) -> Step
+)
     ensures step { (after : Device) (outcome : Outcome) (log : List Access) →
-        Ahead (whole regions.now kind after outcome) result device.new room.new log →
+        Ahead (whole regions.now kind after outcome) step.new device.new room.new log →
         NamesReport (whole regions.now kind after outcome)
-        (next_chain (whole regions.now kind after outcome) tally)
-        device.old tally place.head (pieces_in (take place.count room.old.pieces)) log }
-    ensures fits { Fits result.phase }
-    ensures left { left regions.now result ≤
-        of_chains regions.now tally.chains + once_named regions.now }
+        (next_chain (whole regions.now kind after outcome) step.old.tally)
+        device.old step.old.tally place.head (pieces_in (take place.count room.old.pieces)) log }
+    ensures fits { Fits step.new.phase }
+    ensures left { left regions.now step.new ≤
+        of_chains regions.now step.old.tally.chains + once_named regions.now }
 {
     let chain = first_pieces(&room.pieces, place.count);
     match report_named(device, chain, &mut room.runs) {
-        Err(why) => end(device, regions, kind, tally, Some(why), false),
-        Ok(named) => tell_pages(&device.settings, kind, tally, place.head, named),
+        Err(why) => end(step, device, regions, kind, Some(why), false),
+        Ok(named) => tell_pages(step, &device.settings, kind, place.head, named),
     }
 }
 
 /// Reads the figures of a buffer of statistics whose bytes were copied up to this place; the buffer
 /// is held.
 fn keep_figures(
+    step: &mut Step,
     device: &mut Device,
     regions: &[Region],
     kind: Kind,
-    tally: Tally,
     place: Place,
     room: &mut Room,
-) -> Step
+)
     ensures step { (after : Device) (outcome : Outcome) (log : List Access) →
-        Ahead (whole regions.now kind after outcome) result device.new room.new log →
+        Ahead (whole regions.now kind after outcome) step.new device.new room.new log →
         FiguresBy
         (statistics_denial (length (take place.into room.old.bytes)) MAX_FIGURES device.old)
-        (whole regions.now kind after outcome) device.old tally place.head
+        (whole regions.now kind after outcome) device.old step.old.tally place.head
         (take place.into room.old.bytes) log }
-    ensures fits { Fits result.phase }
-    ensures left { left regions.now result ≤ of_chains regions.now tally.chains + 2 }
+    ensures fits { Fits step.new.phase }
+    ensures left { left regions.now step.new ≤ of_chains regions.now step.old.tally.chains + 2 }
 {
     let head = place.head;
     let bytes = first_bytes(&room.bytes, place.into);
     match device.statistics(bytes, &mut room.figures) {
-        Err(why) => end(device, regions, kind, tally, Some(why), false),
-        Ok(count) => Step {
-            tally: Tally {
-                held: Some(HeldChain { head, pages: 0 }),
-                ..tally
-            },
-            phase: Phase::TellsFigures { head, count },
-        },
+        Err(why) => end(step, device, regions, kind, Some(why), false),
+        Ok(count) => {
+            step.tally.held = Some(HeldChain { head, pages: 0 });
+            step.phase = Phase::TellsFigures { head, count };
+        }
     }
 }
 
 /// Serves a chain whose bytes were copied up to this place.
 #[inline(always)]
 pub(crate) fn serve_bytes(
+    step: &mut Step,
     device: &mut Device,
     regions: &[Region],
     kind: Kind,
-    tally: Tally,
     place: Place,
     room: &mut Room,
-) -> Step
+)
     ensures step { (after : Device) (outcome : Outcome) (log : List Access) →
-        Ahead (whole regions.now kind after outcome) result device.new room.new log →
-        served (whole regions.now kind after outcome) tally device.old place.head
+        Ahead (whole regions.now kind after outcome) step.new device.new room.new log →
+        served (whole regions.now kind after outcome) step.old.tally device.old place.head
         (take place.into room.old.bytes) log }
-    ensures fits { Fits result.phase }
-    ensures left { left regions.now result ≤
-        of_chains regions.now tally.chains + once_named regions.now }
+    ensures fits { Fits step.new.phase }
+    ensures left { left regions.now step.new ≤
+        of_chains regions.now step.old.tally.chains + once_named regions.now }
 {
     match kind {
-        Kind::Statistics => keep_figures(device, regions, kind, tally, place, room),
+        Kind::Statistics => keep_figures(step, device, regions, kind, place, room),
         Kind::Inflate | Kind::Deflate | Kind::Report => {
-            name_bytes(device, regions, kind, tally, place, room)
+            name_bytes(step, device, regions, kind, place, room)
         }
     }
 }
@@ -160,20 +151,20 @@ pub(crate) fn serve_bytes(
 /// Serves the chain of a walk that is over.
 #[inline(always)]
 pub(crate) fn serve_pieces(
+    step: &mut Step,
     device: &mut Device,
     regions: &[Region],
     kind: Kind,
-    tally: Tally,
     walk: Walk,
     room: &mut Room,
-) -> Step
+)
     ensures step { (after : Device) (outcome : Outcome) (log : List Access) →
-        Ahead (whole regions.now kind after outcome) result device.new room.new log →
-        serves (whole regions.now kind after outcome) tally device.old walk.head
+        Ahead (whole regions.now kind after outcome) step.new device.new room.new log →
+        serves (whole regions.now kind after outcome) step.old.tally device.old walk.head
         (pieces_in (take walk.count room.old.pieces)) log }
-    ensures fits { Fits result.phase }
-    ensures left { left regions.now result ≤
-        of_chains regions.now tally.chains + once_whole regions.now }
+    ensures fits { Fits step.new.phase }
+    ensures left { left regions.now step.new ≤
+        of_chains regions.now step.old.tally.chains + once_whole regions.now }
 {
     let chain = first_pieces(&room.pieces, walk.count);
     let place = Place {
@@ -185,14 +176,14 @@ pub(crate) fn serve_pieces(
         length: 0,
     };
     match kind {
-        Kind::Report => name_report(device, regions, kind, tally, place, room),
+        Kind::Report => name_report(step, device, regions, kind, place, room),
         Kind::Statistics => match statistics_length(chain) {
-            Err(fault) => fail(device, regions, kind, tally, fault),
-            Ok(_) => copy_on(device, regions, kind, tally, place, room),
+            Err(fault) => fail(step, device, regions, kind, fault),
+            Ok(_) => copy_on(step, device, regions, kind, place, room),
         },
         Kind::Inflate | Kind::Deflate => match request_length(chain) {
-            Err(fault) => fail(device, regions, kind, tally, fault),
-            Ok(_) => copy_on(device, regions, kind, tally, place, room),
+            Err(fault) => fail(step, device, regions, kind, fault),
+            Ok(_) => copy_on(step, device, regions, kind, place, room),
         },
     }
 }

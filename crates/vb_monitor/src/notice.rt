@@ -27,54 +27,48 @@ pub struct Notice {
     pub step: Step,
 }
 
-/// What is to be done once a phase was, with this answer.
-#[inline(never)]
+/// Goes on from a step, once what was to be done was done, with this answer.
+#[inline(always)]
 fn advance(
-    step: &Step,
+    step: &mut Step,
     device: &mut Device,
     regions: &[Region],
     kind: Kind,
     answer: u16,
     room: &mut Room,
-) -> Step
-    requires { Fits step.now.phase }
+)
+    requires { Fits step.old.phase }
     ensures step { (after : Device) (outcome : Outcome) (before : List ℕ)
         (done rest : List Access) →
-        Does step.now.phase kind answer before
-        room.old done →
-        Ahead (whole regions.now kind after outcome) result device.new
-        room.new rest →
-        Ahead (whole regions.now kind after outcome) step.now device.old
+        Does step.old.phase kind answer before room.old done →
+        Ahead (whole regions.now kind after outcome) step.new device.new room.new rest →
+        Ahead (whole regions.now kind after outcome) step.old device.old
         (record room.old { bytes = before }) (done ++ rest) }
-    ensures fits { Fits result.phase }
-    ensures left { is_ended step.now.phase ≡ false →
-        left regions.now result < left regions.now step.now }
+    ensures fits { Fits step.new.phase }
+    ensures left { is_ended step.old.phase ≡ false →
+        left regions.now step.new < left regions.now step.old }
 {
-    let tally = step.tally;
     match step.phase {
-        Phase::AwaitsIndex { .. } => after_index(device, regions, kind, tally, answer),
-        Phase::AwaitsEntry { .. } => after_entry(device, regions, kind, tally, answer),
-        Phase::AwaitsDescriptor { walk, .. } => after_descriptor(
-            device, regions, kind, tally, walk, room,
-        ),
-        Phase::AwaitsPart { place, .. } => after_part(device, regions, kind, tally, place, room),
+        Phase::AwaitsIndex { .. } => after_index(step, device, regions, kind, answer),
+        Phase::AwaitsEntry { .. } => after_entry(step, device, regions, kind, answer),
+        Phase::AwaitsDescriptor { walk, .. } => {
+            after_descriptor(step, device, regions, kind, walk, room)
+        }
+        Phase::AwaitsPart { place, .. } => after_part(step, device, regions, kind, place, room),
         Phase::TellsPages { head, named } => {
             let discarding = Discarding::first(head, named.runs);
-            after_told(device, regions, kind, tally, discarding, room)
+            after_told(step, device, regions, kind, discarding, room)
         }
-        Phase::TellsFigures { .. } => end(device, regions, kind, tally, None, false),
+        Phase::TellsFigures { .. } => end(step, device, regions, kind, None, false),
         Phase::Discards { discarding, .. } => {
-            after_discard(device, regions, kind, tally, discarding, room)
+            after_discard(step, device, regions, kind, discarding, room)
         }
         Phase::GivesBack { .. } => {
-            let tally = Tally {
-                given: true,
-                ..tally
-            };
-            after_given(device, regions, kind, tally)
+            step.tally.given = true;
+            after_given(step, device, regions, kind)
         }
-        Phase::AwaitsFlags { why, more, .. } => after_flags(tally, why, more, answer),
-        Phase::Ended { .. } => *step,
+        Phase::AwaitsFlags { why, more, .. } => after_flags(step, why, more, answer),
+        Phase::Ended { .. } => {}
     }
 }
 
@@ -96,7 +90,11 @@ impl Notice {
             held: None,
             published: 0,
         };
-        let step = look(device, regions, kind, tally);
+        let mut step = Step {
+            tally,
+            phase: Phase::NOT_BEGUN,
+        };
+        look(&mut step, device, regions, kind);
         Notice { kind, step }
     }
 
@@ -117,7 +115,11 @@ impl Notice {
             held: Some(held),
             published: 0,
         };
-        let step = give_back(device, regions, kind, tally, held.head);
+        let mut step = Step {
+            tally,
+            phase: Phase::NOT_BEGUN,
+        };
+        give_back(&mut step, device, regions, kind, held.head);
         Notice { kind, step }
     }
 
@@ -139,7 +141,7 @@ impl Notice {
             left regions.now self.new.step < left regions.now self.old.step }
     {
         let kind = self.kind;
-        self.step = advance(&self.step, device, regions, kind, answer, room);
+        advance(&mut self.step, device, regions, kind, answer, room);
     }
 
     /// Whether a part is to be discarded next.

@@ -21,7 +21,7 @@ use crate::ends::end;
 use crate::filling::fill;
 use crate::giving::give_back;
 use crate::looks::after_given;
-use crate::{Cut, Discarding, Notice, Phase, Region, Room, Step, Tally, UsedSpots};
+use crate::{Cut, Discarding, Notice, Phase, Region, Room, Step, UsedSpots};
 use vb_core::{Device, Kind, Named};
 
 /// Parts of runs that are discarded at once, at most.
@@ -98,18 +98,17 @@ fn tell(
         orders.new.named.pages }
     ensures figures { result ≡ Figures → orders.new.figures ≤ MAX_FIGURES }
 {
-    let tally = step.tally;
     match step.phase {
         Phase::TellsPages { head, named } => {
             orders.named = named;
-            orders.kept = kept_pages(device, kind, tally.keeps, named.pages);
+            orders.kept = kept_pages(device, kind, step.tally.keeps, named.pages);
             let discarding = Discarding::first(head, named.runs);
-            *step = after_told(device, regions, kind, tally, discarding, room);
+            after_told(step, device, regions, kind, discarding, room);
             Told::Pages
         }
         Phase::TellsFigures { count, .. } => {
             orders.figures = count;
-            *step = end(device, regions, kind, tally, None, false);
+            end(step, device, regions, kind, None, false);
             Told::Figures
         }
         Phase::Discards { .. }
@@ -145,8 +144,7 @@ fn discard(
     ensures full { stage step.new.phase ≡ 1 → result ≡ MAX_CUTS }
     ensures stage { 1 ≤ stage step.new.phase }
 {
-    let Step { tally, phase } = *step;
-    match phase {
+    match step.phase {
         Phase::Discards { cut, discarding } => {
             let named = first_runs(&room.runs, discarding.runs as usize);
             let first = NextCut {
@@ -155,10 +153,10 @@ fn discard(
                 from: discarding.from,
             };
             let filled = fill(regions, named, &first, cuts);
-            *step = match filled.left {
-                None => give_back(device, regions, kind, tally, discarding.head),
-                Some(found) => discard_next(tally, discarding, &found),
-            };
+            match filled.left {
+                None => give_back(step, device, regions, kind, discarding.head),
+                Some(found) => discard_next(step, discarding, &found),
+            }
             filled.count
         }
         Phase::TellsPages { .. }
@@ -193,18 +191,14 @@ fn give(
     ensures stage { stage step.new.phase ≡ 1 → stage step.old.phase ≡ 1 }
     ensures waits { waits step.new.phase ≡ true }
 {
-    let tally = step.tally;
     match step.phase {
         Phase::GivesBack { spots, entry } => {
             used.id = entry.id;
             used.length = entry.length;
             used.index = entry.index;
             used.spots = spots;
-            let tally = Tally {
-                given: true,
-                ..tally
-            };
-            *step = after_given(device, regions, kind, tally);
+            step.tally.given = true;
+            after_given(step, device, regions, kind);
             true
         }
         Phase::TellsPages { .. }

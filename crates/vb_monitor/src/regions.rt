@@ -87,27 +87,3 @@ pub(crate) fn find_from(regions: &[Region], base: u64, plus: u64, length: u64) -
         Some(address) => find(regions, address, length),
     }
 }
-
-/// The place that `find_from` answers, by a fast path where the first region has the bytes.
-#[tactic(auto, using(crate::proofs::RegionLemmas::first_steps))]
-#[inline(always)]
-pub(crate) fn find_first(regions: &[Region], base: u64, plus: u64, length: u64) -> Option<Spot>
-    ensures { result ≡ spot regions.now (base + plus) length }
-{
-    match base.checked_add(plus) {
-        None => None,
-        Some(address) => {
-            if regions.is_empty() {
-                return None;
-            }
-            let region = &regions[0];
-            if region.holds(address, length) {
-                return Some(Spot {
-                    region: 0,
-                    offset: address - region.guest,
-                });
-            }
-            find(regions, address, length)
-        }
-    }
-}

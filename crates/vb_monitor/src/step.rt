@@ -120,6 +120,15 @@ pub enum Phase {
     },
 }
 
+impl Phase {
+    /// Nothing is to be done, and nothing was.
+    pub(crate) const NOT_BEGUN: Phase = Phase::Ended {
+        why: None,
+        interrupt: false,
+        more: false,
+    };
+}
+
 /// What is to be done next, and what was done.
 #[derive(Clone, Copy, Debug)]
 pub struct Step {

@@ -23,7 +23,7 @@ use crate::naming::serve_pieces;
 use crate::regions::{PAGE_BYTES, find_from};
 use crate::room::ROW_DESCRIPTORS;
 use crate::rows::{RowEnd, RowWalk, ring_fault, row_bytes, walk_row};
-use crate::{Phase, Region, Room, Step, Tally, Walk};
+use crate::{Phase, Region, Room, Step, Walk};
 use vb_chain::{ChainFault, DESCRIPTOR_SIZE, Descriptor};
 use vb_core::{Device, Kind, Virtqueue};
 use vb_virtio::limits::MAX_QUEUE_SIZE;
@@ -44,39 +44,34 @@ pub(crate) fn memory_end(device: &Device) -> u64
 
 /// Asks for a row: of the descriptors after its first one, unless they lie apart from it.
 #[tactic(auto, using(crate::proofs::TableRowLemmas::row_steps))]
-fn ask_row(device: &mut Device, regions: &[Region], kind: Kind, tally: Tally, walk: Walk) -> Step
+fn ask_row(step: &mut Step, device: &mut Device, regions: &[Region], kind: Kind, walk: Walk)
     requires { walk.behind < ROW_DESCRIPTORS }
     ensures step { (after : Device) (outcome : Outcome) (room : Room) (log : List Access) →
-        Ahead (whole regions.now kind after outcome) result device.new room log →
-        TakesRow (whole regions.now kind after outcome) device.old tally
+        Ahead (whole regions.now kind after outcome) step.new device.new room log →
+        TakesRow (whole regions.now kind after outcome) device.old step.old.tally
         (Follows (descriptors (ring_of kind device.old) - (walk.count + 1))
-        (whole regions.now kind after outcome) device.old tally
-        (serves (whole regions.now kind after outcome) tally device.old walk.head))
-        (serves (whole regions.now kind after outcome) tally device.old walk.head) walk.first
+        (whole regions.now kind after outcome) device.old step.old.tally
+        (serves (whole regions.now kind after outcome) step.old.tally device.old walk.head))
+        (serves (whole regions.now kind after outcome) step.old.tally device.old walk.head) walk.first
         (unless_apart (spot regions.now ((ring_of kind device.old).table + 16 * walk.first)
         (16 * (walk.behind + 1))) walk.behind) walk.writing
         (pieces_in (take walk.count room.pieces)) log }
-    ensures fits { Fits result.phase }
-    ensures left { left regions.now result ≤
-        of_chains regions.now tally.chains + (once_copied regions.now walk.count + 1) }
+    ensures fits { Fits step.new.phase }
+    ensures left { left regions.now step.new ≤
+        of_chains regions.now step.old.tally.chains + (once_copied regions.now walk.count + 1) }
 {
     let table = device.ring(kind).table;
     let length = DESCRIPTOR_SIZE as u64;
     let start = length * u64::from(walk.first);
     if let Some(at) = find_from(regions, table, start, length * (u64::from(walk.behind) + 1)) {
-        return Step {
-            tally,
-            phase: Phase::AwaitsDescriptor { at, walk },
-        };
+        step.phase = Phase::AwaitsDescriptor { at, walk };
+        return;
     }
     match find_from(regions, table, start, length) {
-        None => fail(device, regions, kind, tally, ChainFault::OutOfRam),
-        Some(at) => Step {
-            tally,
-            phase: Phase::AwaitsDescriptor {
-                at,
-                walk: Walk { behind: 0, ..walk },
-            },
+        None => fail(step, device, regions, kind, ChainFault::OutOfRam),
+        Some(at) => step.phase = Phase::AwaitsDescriptor {
+            at,
+            walk: Walk { behind: 0, ..walk },
         },
     }
 }
@@ -85,20 +80,20 @@ fn ask_row(device: &mut Device, regions: &[Region], kind: Kind, tally: Tally, wa
 #[tactic(auto, using(crate::proofs::TableRowLemmas::first_steps))]
 #[inline(never)]
 pub(crate) fn ask_first(
+    step: &mut Step,
     device: &mut Device,
     regions: &[Region],
     kind: Kind,
-    tally: Tally,
     head: u16,
-) -> Step
+)
     requires { head < descriptors (ring_of kind device.old) }
     ensures step { (after : Device) (outcome : Outcome) (room : Room) (log : List Access) →
-        Ahead (whole regions.now kind after outcome) result device.new room log →
+        Ahead (whole regions.now kind after outcome) step.new device.new room log →
         AfterEntry (whole regions.now kind after outcome)
-        (next_chain (whole regions.now kind after outcome) tally) device.old tally head log }
-    ensures fits { Fits result.phase }
-    ensures left { left regions.now result ≤
-        of_chains regions.now tally.chains + (once_copied regions.now 0 + 1) }
+        (next_chain (whole regions.now kind after outcome) step.old.tally) device.old step.old.tally head log }
+    ensures fits { Fits step.new.phase }
+    ensures left { left regions.now step.new ≤
+        of_chains regions.now step.old.tally.chains + (once_copied regions.now 0 + 1) }
 {
     let walk = Walk {
         head,
@@ -107,7 +102,7 @@ pub(crate) fn ask_first(
         first: head,
         behind: 0,
     };
-    ask_row(device, regions, kind, tally, walk)
+    ask_row(step, device, regions, kind, walk)
 }
 
 /// The first rule that a descriptor breaks, after `visited` others.
@@ -135,27 +130,27 @@ pub(crate) fn table_fault(
 /// Asks for the row from a descriptor on that is not the chain's first.
 #[tactic(auto, using(crate::proofs::TableRowLemmas::next_steps))]
 fn ask_next(
+    step: &mut Step,
     device: &mut Device,
     regions: &[Region],
     kind: Kind,
-    tally: Tally,
     walk: Walk,
     number: u16,
-) -> Step
+)
     ensures step { (after : Device) (outcome : Outcome) (room : Room) (log : List Access) →
         0 < length (pieces_in (take walk.count room.pieces)) →
-        Ahead (whole regions.now kind after outcome) result device.new room log →
-        TakesRow (whole regions.now kind after outcome) device.old tally
+        Ahead (whole regions.now kind after outcome) step.new device.new room log →
+        TakesRow (whole regions.now kind after outcome) device.old step.old.tally
         (Follows (descriptors (ring_of kind device.old) - (walk.count + 1))
-        (whole regions.now kind after outcome) device.old tally
-        (serves (whole regions.now kind after outcome) tally device.old walk.head))
-        (serves (whole regions.now kind after outcome) tally device.old walk.head) number
+        (whole regions.now kind after outcome) device.old step.old.tally
+        (serves (whole regions.now kind after outcome) step.old.tally device.old walk.head))
+        (serves (whole regions.now kind after outcome) step.old.tally device.old walk.head) number
         (behind_in_row regions.now (ring_of kind device.old) number
         (pieces_in (take walk.count room.pieces))) walk.writing
         (pieces_in (take walk.count room.pieces)) log }
-    ensures fits { Fits result.phase }
-    ensures left { left regions.now result ≤
-        of_chains regions.now tally.chains + (once_copied regions.now walk.count + 1) }
+    ensures fits { Fits step.new.phase }
+    ensures left { left regions.now step.new ≤
+        of_chains regions.now step.old.tally.chains + (once_copied regions.now walk.count + 1) }
 {
     let size = descriptors(&device.ring(kind));
     let left = u32::from(size).saturating_sub(u32::from(number) + 1);
@@ -165,32 +160,32 @@ fn ask_next(
         behind,
         ..walk
     };
-    ask_row(device, regions, kind, tally, walk)
+    ask_row(step, device, regions, kind, walk)
 }
 
 /// The bytes of a row of descriptors were copied to the front of these.
 #[tactic(auto, using(crate::proofs::BufferLemmas::length_in))]
-pub fn after_descriptor(
+pub(crate) fn after_descriptor(
+    step: &mut Step,
     device: &mut Device,
     regions: &[Region],
     kind: Kind,
-    tally: Tally,
     walk: Walk,
     room: &mut Room,
-) -> Step
+)
     ensures step { (after : Device) (outcome : Outcome) (log : List Access) →
-        Ahead (whole regions.now kind after outcome) result device.new room.new log →
-        AfterDescriptor (whole regions.now kind after outcome) device.old tally
+        Ahead (whole regions.now kind after outcome) step.new device.new room.new log →
+        AfterDescriptor (whole regions.now kind after outcome) device.old step.old.tally
         (Follows (descriptors (ring_of kind device.old) - (walk.count + 1))
-        (whole regions.now kind after outcome) device.old tally
-        (serves (whole regions.now kind after outcome) tally device.old walk.head)
+        (whole regions.now kind after outcome) device.old step.old.tally
+        (serves (whole regions.now kind after outcome) step.old.tally device.old walk.head)
         (row_in walk room.old.bytes))
-        (serves (whole regions.now kind after outcome) tally device.old walk.head) walk.writing
+        (serves (whole regions.now kind after outcome) step.old.tally device.old walk.head) walk.writing
         (pieces_in (take walk.count room.old.pieces))
         (take DESCRIPTOR_SIZE (take (row_bytes walk) room.old.bytes)) log }
-    ensures fits { Fits result.phase }
-    ensures left { left regions.now result ≤
-        of_chains regions.now tally.chains + once_copied regions.now walk.count }
+    ensures fits { Fits step.new.phase }
+    ensures left { left regions.now step.new ≤
+        of_chains regions.now step.old.tally.chains + once_copied regions.now walk.count }
 {
     let size = descriptors(&device.ring(kind));
     let end = memory_end(device);
@@ -207,8 +202,8 @@ pub fn after_descriptor(
         ..walk
     };
     match end {
-        RowEnd::Broken(fault) => fail(device, regions, kind, tally, fault),
-        RowEnd::Last => serve_pieces(device, regions, kind, tally, walk, room),
-        RowEnd::Leaves(number) => ask_next(device, regions, kind, tally, walk, number),
+        RowEnd::Broken(fault) => fail(step, device, regions, kind, fault),
+        RowEnd::Last => serve_pieces(step, device, regions, kind, walk, room),
+        RowEnd::Leaves(number) => ask_next(step, device, regions, kind, walk, number),
     }
 }

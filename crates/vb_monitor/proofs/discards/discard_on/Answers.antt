@@ -13,6 +13,6 @@ returns-in-Some-clause-left c =
     omega (arith, below, most) in
     let less = parts_within (length c.args.regions.now) c.args.discarding.run c.in-Some.found.run
     c.in-Some.found.from on few some to in
-    subst (λ (s : Step). left c.args.regions.now s ≤ of_chains c.args.regions.now c.args.tally.chains
+    subst (λ (s : Step). left c.args.regions.now s ≤ of_chains c.args.regions.now c.args.step.now.tally.chains
     + (2 + (MAX_RUNS - c.args.discarding.run) * length c.args.regions.now))
     (sym c.discard_next.ensures) (omega (arith, less))

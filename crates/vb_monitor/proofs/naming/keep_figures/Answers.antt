@@ -37,9 +37,9 @@ returns-in-Ok-clause-step c after outcome log h =
     let bytes = c.first_bytes-bytes.result.now in
     let room = length c.args.room.now.figures in
     subst (λ (bs : List ℕ). FiguresBy (statistics_denial (length bs) MAX_FIGURES d) w d
-    c.args.tally c.args.place.head bs log) c.first_bytes-bytes.ensures
-    (subst (λ (n : ℕ). FiguresBy (statistics_denial (length bytes) n d) w d c.args.tally
+    c.args.step.now.tally c.args.place.head bs log) c.first_bytes-bytes.ensures
+    (subst (λ (n : ℕ). FiguresBy (statistics_denial (length bytes) n d) w d c.args.step.now.tally
     c.args.place.head bytes log) (omega arith)
-    (figures_tell (statistics_denial (length bytes) room d) w d c.statistics.new.self c.args.tally
+    (figures_tell (statistics_denial (length bytes) room d) w d c.statistics.new.self c.args.step.now.tally
     c.args.place.head c.in-Ok.count room bytes c.statistics.new.figures c.statistics.result log refl
     c.in-Ok.is c.statistics.ensures.denied c.statistics.ensures.taken h))

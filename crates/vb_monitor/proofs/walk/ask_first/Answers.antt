@@ -6,6 +6,6 @@ use Rattle.vb_monitor.proofs.walk.ask_first.Goals as goal
 
 pub returns-clause-step : goal.returns-clause-step
 returns-clause-step c after outcome room log h =
-    first_goes (whole c.args.regions.now c.args.kind after outcome) c.args.device.now c.args.tally
+    first_goes (whole c.args.regions.now c.args.kind after outcome) c.args.device.now c.args.step.now.tally
     c.args.head (pieces_in (take 0 room.pieces)) log c.requires none_in
     (c.ask_row.ensures.step after outcome room log h)

@@ -9,7 +9,7 @@ pub returns-clause-step : goal.returns-clause-step
 returns-clause-step c after outcome room log some h =
     let w = whole c.args.regions.now c.args.kind after outcome in
     let d = c.args.device.now in
-    let t = c.args.tally in
+    let t = c.args.step.now.tally in
     let walk = c.args.walk in
     let q = descriptors (ring_of c.args.kind d) in
     let size : c.descriptors-size.result ≡ q = c.descriptors-size.ensures

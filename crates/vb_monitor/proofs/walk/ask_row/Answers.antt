@@ -8,7 +8,7 @@ pub returns-in-Some-find_from-clause-step : goal.returns-in-Some-find_from-claus
 returns-in-Some-find_from-clause-step c after outcome room log h =
     let w = whole c.args.regions.now c.args.kind after outcome in
     let d = c.args.device.now in
-    let t = c.args.tally in
+    let t = c.args.step.now.tally in
     let walk = c.args.walk in
     let a = (ring_of c.args.kind d).table + 16 * walk.first in
     let apart : spot c.args.regions.now a (16 * (walk.behind + 1)) ≡ None = search rules in

@@ -1,6 +1,6 @@
 use Rattle.std.proofs.Common.{◌∙◌, sym}
-use Rattle.vb_c.proofs.UsualLemmas.{read_fits}
-use Rattle.vb_c.proofs.serving.go_anyhow.Goals as goal
+use Rattle.vb_c.proofs.ReadLemmas.{read_fits}
+use Rattle.vb_c.proofs.serving.vb_go_on.Goals as goal
 
 pub go_on-requires : goal.go_on-requires
 go_on-requires c =
