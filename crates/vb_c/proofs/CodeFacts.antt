@@ -12,8 +12,9 @@ use Rattle.vb_core.specs.declared.device.Denial.{Denial}
 use Rattle.vb_core.specs.declared.device.Denial.TheVariants.{NoQueue, BadArgument, NotReady, NeedsReset, Misplaced, Broken}
 use Rattle.vb_core.specs.declared.saved.StateDenial.TheVariants.{BadLength as WrongLength, NotAState, OtherVersion, BadSum, Impossible}
 use Rattle.vb_monitor.specs.declared.placing.RestoreDenial.TheVariants.{State, Elsewhere}
-use Rattle.vb_c.specs.Codes.{code_of, rule_in, kind_of_code, code_of_kind, code_in, number_in}
-use Rattle.vb_c.specs.Codes.{fault_of, why_of}
+use Rattle.vb_monitor.specs.Codes.{code_of, rule_in}
+use Rattle.vb_c.specs.Codes.{kind_of_code, code_of_kind, code_in, number_in}
+use Rattle.vb_monitor.specs.Codes.{fault_of, why_of}
 use Rattle.vb_c.specs.{Marks.marked_of, Sharing.targets_of}
 use Rattle.vb_c.specs.{Saving.code_of_state, Places.code_of_restore}
 

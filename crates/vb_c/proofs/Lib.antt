@@ -1,5 +1,4 @@
-pub mod ShowLemmas
-pub mod ReadLemmas
+pub mod NoticeLemmas
 mod NoticeFacts
 mod Samples
 mod CodeFacts

@@ -8,7 +8,7 @@ ghost use Rattle.vb_lender.specs.Lending.{owed, test_at};
 ghost use Rattle.vb_c.specs.Lending.{code_if, grant_of, Changes, Queues, GrantsFor, AsksGuests};
 ghost use Rattle.vb_c.specs.Lending.{AsksClasses};
 
-use crate::answers::{BAD_ARGUMENT, NOTHING, OK};
+use vb_monitor::{BAD_ARGUMENT, NOTHING, OK};
 use crate::sharing::{VbTargets, targets_of};
 use vb_balance::{GuestNeed, NoTargets};
 use vb_lender::{

@@ -3,7 +3,6 @@
 //! the caller's memory, and nothing is allocated.
 #![tactic(auto)]
 
-mod answers;
 mod bits;
 mod hosting;
 mod kinds;
@@ -13,7 +12,6 @@ mod notice;
 mod places;
 mod queues;
 mod registers;
-mod rules;
 mod saving;
 mod serving;
 mod sharing;

@@ -7,7 +7,8 @@ ghost use Rattle.vb_c.specs.Codes.{kind_of_code};
 ghost use Rattle.vb_monitor.specs.Large.{LargeBy, counted};
 ghost use Rattle.vb_c.specs.Marks.{marked_of, MarksFor};
 
-use crate::answers::{OK, code_of, kind_of_code};
+use crate::kinds::{kind_of_code};
+use vb_monitor::{OK, code_of};
 use vb_core::{Denial, Device, Run, count_ballooned, is_ballooned, mark};
 use vb_monitor::{Cut, Large, Region, large_pages};
 

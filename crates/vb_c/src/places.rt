@@ -7,7 +7,8 @@ ghost use Rattle.vb_c.specs.Codes.{kind_of_code};
 ghost use Rattle.vb_c.specs.Places.{StartsOver, MapsAnew, PlacesOverFor, SetsStatus, RestoresOver};
 ghost use Rattle.vb_c.specs.Places.{code_of_restore};
 
-use crate::answers::{BAD_ARGUMENT, MISPLACED, NO_QUEUE, OK, kind_of_code};
+use crate::kinds::{kind_of_code};
+use vb_monitor::{BAD_ARGUMENT, MISPLACED, NO_QUEUE, OK};
 use crate::registers::{code_in, number_in};
 use crate::saving::code_of_state;
 use vb_core::{Device, Settings};

@@ -5,7 +5,8 @@ ghost use Rattle.vb_c.specs.Codes.{kind_of_code};
 ghost use Rattle.vb_c.specs.Queues.{StartsFor, StopsFor, ForgetsFor, SaysHeld};
 ghost use Rattle.vb_c.specs.Queues.{code_of_stop, next_of};
 
-use crate::answers::{NO_QUEUE, NOTHING, OK, code_of, kind_of_code};
+use crate::kinds::{kind_of_code};
+use vb_monitor::{NO_QUEUE, NOTHING, OK, code_of};
 use crate::registers::code_in;
 use vb_core::{Denial, QueueStart};
 use vb_monitor::{Balloon, Region};

@@ -1,4 +1,5 @@
 pub mod RegionLemmas
+pub mod ProgressLemmas
 pub mod PartLemmas
 pub mod BufferLemmas
 pub mod NextLemmas

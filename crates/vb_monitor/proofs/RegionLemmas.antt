@@ -6,7 +6,7 @@ use Rattle.std.proofs.lemmas.{List.{drop_more, drop_all}, Bool.Decides.nat_tests
 use Rattle.vb_core.{specs.declared.settings.TheConstants.MEMORY_LIMIT, specs.declared.runs.Run.Run}
 use Rattle.vb_monitor.specs.declared.regions.Region.{Region}
 use Rattle.vb_monitor.specs.{declared.cuts.Cut.Cut, Machine.{cuts_on, cuts_behind}}
-use Rattle.vb_monitor.specs.Regions.{holds, spot_from, spot, meets, cut_of, cuts_from, cuts_of}
+use Rattle.vb_monitor.specs.Regions.{holds, spot_from, meets, cut_of, cuts_from, cuts_of}
 
 -- ---- places
 

@@ -6,6 +6,8 @@ pub mod Pieces
 pub mod Chains
 pub mod Rows
 pub mod Notices
+pub mod Codes
+pub mod Steps
 pub mod Machine
 pub mod Left
 pub mod Orders

@@ -10,6 +10,7 @@ ghost use Rattle.vb_monitor.specs.Pieces.{PartBy, fits_behind, CopiesParts, all_
 ghost use Rattle.vb_core.specs.Pieces.{pieces_in};
 ghost use Rattle.vb_monitor.specs.Machine.{Fits, Ahead, whole, served, behind_part};
 ghost use Rattle.vb_monitor.specs.Left.{left, of_chains, once_named};
+ghost use Rattle.vb_monitor.specs.Steps.{phase_of, step_of, tally_of};
 ghost use Rattle.vb_virtio.specs.declared.limits.TheConstants.{MAX_QUEUE_SIZE};
 ghost use Rattle.vb_virtio.specs.Tests.{one_if};
 ghost use Rattle.std.specs.Prelude.{◌-◌, ◌*◌};
@@ -20,14 +21,14 @@ use crate::parts::{NextPart, next_part, second_part};
 use crate::pieces::first_pieces;
 use crate::regions::find_from;
 use crate::room::MAX_BYTES;
-use crate::{Part, Phase, Place, Region, Room, Step};
+use crate::{Part, Place, Progress, Region, Room};
 use vb_chain::ChainFault;
 use vb_core::{Device, Kind};
 
 /// Asks for a part of a piece.
 #[inline(always)]
 fn ask_part(
-    step: &mut Step,
+    step: &mut Progress,
     device: &mut Device,
     regions: &[Region],
     kind: Kind,
@@ -36,16 +37,16 @@ fn ask_part(
 )
     ensures step { (after : Device) (outcome : Outcome) (room : Room) (log : List Access) →
         length room.bytes ≡ MAX_BYTES →
-        Ahead (whole regions.now kind after outcome) step.new device.new room log →
+        Ahead (whole regions.now kind after outcome) (step_of step.new) device.new room log →
         PartBy (fits_behind (take place.into room.bytes) part)
         (whole regions.now kind after outcome) (CopiesParts (whole regions.now kind after outcome)
-        (served (whole regions.now kind after outcome) step.old.tally device.old place.head) device.old step.old.tally
+        (served (whole regions.now kind after outcome) (tally_of step.old) device.old place.head) device.old (tally_of step.old)
         (behind_part place.is_second place.piece (pieces_in (take place.count room.pieces))))
-        device.old step.old.tally
+        device.old (tally_of step.old)
         part (take place.into room.bytes) log }
-    ensures fits { Fits step.new.phase }
-    ensures left { left regions.now step.new ≤
-        of_chains regions.now step.old.tally.chains
+    ensures fits { Fits (phase_of step.new) }
+    ensures left { left regions.now (step_of step.new) ≤
+        of_chains regions.now (tally_of step.old).chains
         + (once_named regions.now + 1 + (2 * MAX_QUEUE_SIZE - (2 * place.piece + one_if
         place.is_second))) }
 {
@@ -61,14 +62,12 @@ fn ask_part(
     ) {
         None => fail(step, device, regions, kind, ChainFault::OutOfRam),
         Some(at) => {
-            step.phase = Phase::AwaitsPart {
-                at,
-                place: Place {
-                    into,
-                    length: part.length,
-                    ..place
-                },
-            }
+            let place = Place {
+                into,
+                length: part.length,
+                ..place
+            };
+            step.await_part(at, place)
         }
     }
 }
@@ -84,7 +83,7 @@ pub(crate) fn first_bytes(bytes: &[u8; MAX_BYTES], count: usize) -> &[u8]
 #[tactic(auto, using(crate::proofs::NextLemmas::copy_steps))]
 #[inline(always)]
 pub(crate) fn copy_on(
-    step: &mut Step,
+    step: &mut Progress,
     device: &mut Device,
     regions: &[Region],
     kind: Kind,
@@ -92,14 +91,14 @@ pub(crate) fn copy_on(
     room: &mut Room,
 )
     ensures step { (after : Device) (outcome : Outcome) (log : List Access) →
-        Ahead (whole regions.now kind after outcome) step.new device.new room.new log →
+        Ahead (whole regions.now kind after outcome) (step_of step.new) device.new room.new log →
         CopiesParts (whole regions.now kind after outcome)
-        (served (whole regions.now kind after outcome) step.old.tally device.old place.head) device.old step.old.tally
+        (served (whole regions.now kind after outcome) (tally_of step.old) device.old place.head) device.old (tally_of step.old)
         (all_parts (drop place.piece (pieces_in (take place.count room.old.pieces))))
         (take place.into room.old.bytes) log }
-    ensures fits { Fits step.new.phase }
-    ensures left { left regions.now step.new ≤
-        of_chains regions.now step.old.tally.chains
+    ensures fits { Fits (phase_of step.new) }
+    ensures left { left regions.now (step_of step.new) ≤
+        of_chains regions.now (tally_of step.old).chains
         + (once_named regions.now + 1 + (2 * MAX_QUEUE_SIZE - 2 * place.piece)) }
 {
     match next_part(first_pieces(&room.pieces, place.count), place.piece) {
@@ -118,7 +117,7 @@ pub(crate) fn copy_on(
 /// Copies the second part of a piece, or what comes after it.
 #[tactic(auto, using(crate::proofs::NextLemmas::second_steps))]
 fn copy_second(
-    step: &mut Step,
+    step: &mut Progress,
     device: &mut Device,
     regions: &[Region],
     kind: Kind,
@@ -127,14 +126,14 @@ fn copy_second(
 )
     requires { place.piece < length (take place.count room.old.pieces) }
     ensures step { (after : Device) (outcome : Outcome) (log : List Access) →
-        Ahead (whole regions.now kind after outcome) step.new device.new room.new log →
+        Ahead (whole regions.now kind after outcome) (step_of step.new) device.new room.new log →
         CopiesParts (whole regions.now kind after outcome)
-        (served (whole regions.now kind after outcome) step.old.tally device.old place.head) device.old step.old.tally
+        (served (whole regions.now kind after outcome) (tally_of step.old) device.old place.head) device.old (tally_of step.old)
         (behind_part false place.piece (pieces_in (take place.count room.old.pieces)))
         (take place.into room.old.bytes) log }
-    ensures fits { Fits step.new.phase }
-    ensures left { left regions.now step.new ≤
-        of_chains regions.now step.old.tally.chains
+    ensures fits { Fits (phase_of step.new) }
+    ensures left { left regions.now (step_of step.new) ≤
+        of_chains regions.now (tally_of step.old).chains
         + (once_named regions.now + (2 * MAX_QUEUE_SIZE - 2 * place.piece)) }
 {
     let part = second_part(&first_pieces(&room.pieces, place.count)[place.piece]);
@@ -155,7 +154,7 @@ fn copy_second(
 /// A part was copied after the others.
 #[tactic(auto, using(crate::proofs::NextLemmas::end_steps))]
 pub(crate) fn after_part(
-    step: &mut Step,
+    step: &mut Progress,
     device: &mut Device,
     regions: &[Region],
     kind: Kind,
@@ -164,14 +163,14 @@ pub(crate) fn after_part(
 )
     requires { place.into + place.length ≤ MAX_BYTES }
     ensures step { (after : Device) (outcome : Outcome) (log : List Access) →
-        Ahead (whole regions.now kind after outcome) step.new device.new room.new log →
+        Ahead (whole regions.now kind after outcome) (step_of step.new) device.new room.new log →
         CopiesParts (whole regions.now kind after outcome)
-        (served (whole regions.now kind after outcome) step.old.tally device.old place.head) device.old step.old.tally
+        (served (whole regions.now kind after outcome) (tally_of step.old) device.old place.head) device.old (tally_of step.old)
         (behind_part place.is_second place.piece (pieces_in (take place.count room.old.pieces)))
         (take (place.into + place.length) room.old.bytes) log }
-    ensures fits { Fits step.new.phase }
-    ensures left { left regions.now step.new ≤
-        of_chains regions.now step.old.tally.chains
+    ensures fits { Fits (phase_of step.new) }
+    ensures left { left regions.now (step_of step.new) ≤
+        of_chains regions.now (tally_of step.old).chains
         + (once_named regions.now + (2 * MAX_QUEUE_SIZE - (2 * place.piece + one_if
         place.is_second))) }
 {

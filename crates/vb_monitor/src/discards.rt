@@ -11,7 +11,10 @@ ghost use Rattle.vb_core.specs.Config.{keeps_reports};
 ghost use Rattle.vb_monitor.specs.declared.regions.Region.{Region};
 ghost use Rattle.vb_monitor.specs.Giving.{cuts_for, is_kept, kept_pages, DiscardsThen, OnceTold};
 ghost use Rattle.vb_monitor.specs.Giving.{is_discarded};
-ghost use Rattle.vb_monitor.specs.Machine.{Fits, stage, Ahead, whole, next_chain};
+ghost use Rattle.vb_monitor.specs.Machine.{Fits, stage, Ahead, AheadAt, whole, next_chain};
+ghost use Rattle.vb_monitor.specs.Steps.{phase_of, step_of, tally_of};
+ghost use Rattle.vb_monitor.specs.declared.room.Room.{Room};
+ghost use Rattle.vb_monitor.specs.Ends.{Whole};
 ghost use Rattle.vb_monitor.specs.Machine.{cuts_behind};
 ghost use Rattle.vb_monitor.specs.Left.{left, of_chains, parts_left};
 ghost use Rattle.vb_monitor.specs.declared.room.TheConstants.{MAX_RUNS};
@@ -22,7 +25,7 @@ use crate::ends::end;
 use crate::giving::give_back;
 use crate::room::MAX_RUNS;
 use crate::step::Discarding;
-use crate::{Phase, Region, Room, Step};
+use crate::{Progress, Region, Room};
 use vb_core::{Device, Kind, Run};
 
 /// The first `count` runs.
@@ -75,27 +78,29 @@ fn discards(device: &Device, kind: Kind, keeps: bool) -> bool
 
 /// This part is discarded next.
 #[inline(always)]
-pub(crate) fn discard_next(step: &mut Step, discarding: Discarding, next: &NextCut)
-    ensures { step.new ≡ record {
-      tally = step.old.tally;
-      phase = Discards next.now.cut
-          (record discarding { run = next.now.run; from = next.now.from });
-    } }
+pub(crate) fn discard_next(step: &mut Progress, discarding: Discarding, next: &NextCut)
+    ensures step { (w : Whole) (d : Device) (room : Room) (log : List Access) →
+        Ahead w (step_of step.new) d room log → AheadAt (Discards next.now.cut
+        (record discarding { run = next.now.run; from = next.now.from })) w (tally_of step.old) d
+        room log }
+    ensures fits { Fits (phase_of step.new) }
+    ensures stage { stage (phase_of step.new) ≡ 1 }
+    ensures left { (regions : List Region) → left regions (step_of step.new) ≤
+        of_chains regions (tally_of step.old).chains
+        + (3 + parts_left (length regions) next.now.run next.now.from) }
 {
-    step.phase = Phase::Discards {
-        cut: next.cut,
-        discarding: Discarding {
-            run: next.run,
-            from: next.from,
-            ..discarding
-        },
+    let discarding = Discarding {
+        run: next.run,
+        from: next.from,
+        ..discarding
     };
+    step.await_cut(next.cut, discarding)
 }
 
 /// Discards the runs from the one on where this begins.
 #[inline(always)]
 fn discard_on(
-    step: &mut Step,
+    step: &mut Progress,
     device: &mut Device,
     regions: &[Region],
     kind: Kind,
@@ -103,14 +108,14 @@ fn discard_on(
     room: &Room,
 )
     ensures step { (after : Device) (outcome : Outcome) (log : List Access) →
-        Ahead (whole regions.now kind after outcome) step.new device.new room.now log →
+        Ahead (whole regions.now kind after outcome) (step_of step.new) device.new room.now log →
         DiscardsThen (whole regions.now kind after outcome)
-        (next_chain (whole regions.now kind after outcome) step.old.tally) device.old step.old.tally discarding.head
+        (next_chain (whole regions.now kind after outcome) (tally_of step.old)) device.old (tally_of step.old) discarding.head
         (cuts_of regions.now (drop discarding.run (take discarding.runs room.now.runs))) log }
-    ensures fits { Fits step.new.phase }
-    ensures stage { 1 ≤ stage step.new.phase }
-    ensures left { left regions.now step.new ≤
-        of_chains regions.now step.old.tally.chains
+    ensures fits { Fits (phase_of step.new) }
+    ensures stage { 1 ≤ stage (phase_of step.new) }
+    ensures left { left regions.now (step_of step.new) ≤
+        of_chains regions.now (tally_of step.old).chains
         + (2 + (MAX_RUNS - discarding.run) * length regions.now) }
 {
     let named = first_runs(&room.runs, discarding.runs as usize);
@@ -124,7 +129,7 @@ fn discard_on(
 /// since their chain is held.
 #[inline(always)]
 pub(crate) fn after_told(
-    step: &mut Step,
+    step: &mut Progress,
     device: &mut Device,
     regions: &[Region],
     kind: Kind,
@@ -132,21 +137,21 @@ pub(crate) fn after_told(
     room: &Room,
 )
     ensures step { (after : Device) (outcome : Outcome) (log : List Access) →
-        Ahead (whole regions.now kind after outcome) step.new device.new room.now log →
-        OnceTold step.old.tally.held (whole regions.now kind after outcome)
-        (next_chain (whole regions.now kind after outcome) step.old.tally) device.old step.old.tally discarding.head
-        (cuts_for kind (is_kept kind step.old.tally.keeps (keeps_reports device.old)) regions.now
+        Ahead (whole regions.now kind after outcome) (step_of step.new) device.new room.now log →
+        OnceTold (tally_of step.old).held (whole regions.now kind after outcome)
+        (next_chain (whole regions.now kind after outcome) (tally_of step.old)) device.old (tally_of step.old) discarding.head
+        (cuts_for kind (is_kept kind (tally_of step.old).keeps (keeps_reports device.old)) regions.now
         (drop discarding.run (take discarding.runs room.now.runs))) log }
-    ensures fits { Fits step.new.phase }
-    ensures stage { 1 ≤ stage step.new.phase }
-    ensures left { left regions.now step.new ≤
-        of_chains regions.now step.old.tally.chains
+    ensures fits { Fits (phase_of step.new) }
+    ensures stage { 1 ≤ stage (phase_of step.new) }
+    ensures left { left regions.now (step_of step.new) ≤
+        of_chains regions.now (tally_of step.old).chains
         + (2 + (MAX_RUNS - discarding.run) * length regions.now) }
 {
-    if step.tally.held.is_some() {
+    if step.held().is_some() {
         return end(step, device, regions, kind, None, false);
     }
-    if !discards(device, kind, step.tally.keeps) {
+    if !discards(device, kind, step.keeps()) {
         return give_back(step, device, regions, kind, discarding.head);
     }
     discard_on(step, device, regions, kind, discarding, room)
@@ -154,7 +159,7 @@ pub(crate) fn after_told(
 
 /// A part of a run was discarded.
 pub(crate) fn after_discard(
-    step: &mut Step,
+    step: &mut Progress,
     device: &mut Device,
     regions: &[Region],
     kind: Kind,
@@ -162,14 +167,14 @@ pub(crate) fn after_discard(
     room: &Room,
 )
     ensures step { (after : Device) (outcome : Outcome) (log : List Access) →
-        Ahead (whole regions.now kind after outcome) step.new device.new room.now log →
+        Ahead (whole regions.now kind after outcome) (step_of step.new) device.new room.now log →
         DiscardsThen (whole regions.now kind after outcome)
-        (next_chain (whole regions.now kind after outcome) step.old.tally) device.old step.old.tally discarding.head
+        (next_chain (whole regions.now kind after outcome) (tally_of step.old)) device.old (tally_of step.old) discarding.head
         (cuts_behind discarding.from discarding.run regions.now
         (take discarding.runs room.now.runs)) log }
-    ensures fits { Fits step.new.phase }
-    ensures left { left regions.now step.new ≤
-        of_chains regions.now step.old.tally.chains
+    ensures fits { Fits (phase_of step.new) }
+    ensures left { left regions.now (step_of step.new) ≤
+        of_chains regions.now (tally_of step.old).chains
         + (2 + parts_left (length regions.now) discarding.run discarding.from) }
 {
     let named = first_runs(&room.runs, discarding.runs as usize);

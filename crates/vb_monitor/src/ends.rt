@@ -8,11 +8,12 @@ ghost use Rattle.vb_monitor.specs.Ends.{Whole, wants_interrupt, Ends, Breaks, St
 ghost use Rattle.vb_monitor.specs.declared.room.Room.{Room};
 ghost use Rattle.vb_monitor.specs.Machine.{Fits, stage, Ahead, whole};
 ghost use Rattle.vb_monitor.specs.Left.{left, of_chains};
+ghost use Rattle.vb_monitor.specs.Steps.{phase_of, step_of, tally_of};
 ghost use Rattle.vb_monitor.specs.declared.regions.Region.{Region};
 ghost use Rattle.std.specs.Prelude.{◌+◌, ◌≤◌};
 
 use crate::regions::find;
-use crate::{Phase, Region, Step};
+use crate::{Progress, Region};
 use vb_chain::ChainFault;
 use vb_core::{Denial, Device, Kind};
 use vb_ring::RING_WORD_SIZE;
@@ -20,27 +21,11 @@ use vb_ring::RING_WORD_SIZE;
 /// The bit of the flags by which a driver wants no interrupt (VIRTIO 1.1, 2.6.7).
 const NO_INTERRUPT: u16 = 1;
 
-/// Nothing more is to be done.
-pub(crate) fn stop(step: &mut Step, why: Option<Denial>, interrupt: bool, more: bool)
-    ensures step { (w : Whole) (d : Device) (room : Room) (log : List Access) →
-        Ahead w step.new d room log → Stops w d step.old.tally why interrupt more log }
-    ensures fits { Fits step.new.phase }
-    ensures stage { stage step.new.phase ≡ 3 }
-    ensures left { (regions : List Region) →
-        left regions step.new ≤ of_chains regions step.old.tally.chains }
-{
-    step.phase = Phase::Ended {
-        why,
-        interrupt,
-        more,
-    };
-}
-
 /// The notice ends: where a chain was given back, the driver is asked whether it wants an
 /// interrupt.
 #[inline(never)]
 pub(crate) fn end(
-    step: &mut Step,
+    step: &mut Progress,
     device: &Device,
     regions: &[Region],
     kind: Kind,
@@ -48,36 +33,36 @@ pub(crate) fn end(
     more: bool,
 )
     ensures step { (after : Device) (outcome : Outcome) (room : Room) (log : List Access) →
-        Ahead (whole regions.now kind after outcome) step.new device.now room log →
-        Ends (whole regions.now kind after outcome) device.now step.old.tally why more log }
-    ensures fits { Fits step.new.phase }
-    ensures stage { stage step.new.phase ≡ 3 }
-    ensures left { left regions.now step.new ≤ of_chains regions.now step.old.tally.chains + 1 }
+        Ahead (whole regions.now kind after outcome) (step_of step.new) device.now room log →
+        Ends (whole regions.now kind after outcome) device.now (tally_of step.old) why more log }
+    ensures fits { Fits (phase_of step.new) }
+    ensures stage { stage (phase_of step.new) ≡ 3 }
+    ensures left { left regions.now (step_of step.new) ≤ of_chains regions.now (tally_of step.old).chains + 1 }
 {
-    if !step.tally.given {
-        return stop(step, why, false, more);
+    if !step.is_given() {
+        return step.stop(why, false, more);
     }
     match find(regions, device.ring(kind).avail, RING_WORD_SIZE) {
-        None => stop(step, why, false, more),
-        Some(at) => step.phase = Phase::AwaitsFlags { at, why, more },
+        None => step.stop(why, false, more),
+        Some(at) => step.await_flags(at, why, more),
     }
 }
 
 /// The notice ends since the guest broke a rule.
 #[inline(never)]
 pub(crate) fn fail(
-    step: &mut Step,
+    step: &mut Progress,
     device: &mut Device,
     regions: &[Region],
     kind: Kind,
     fault: ChainFault,
 )
     ensures step { (after : Device) (outcome : Outcome) (room : Room) (log : List Access) →
-        Ahead (whole regions.now kind after outcome) step.new device.new room log →
-        Breaks (whole regions.now kind after outcome) device.old step.old.tally fault log }
-    ensures fits { Fits step.new.phase }
-    ensures stage { stage step.new.phase ≡ 3 }
-    ensures left { left regions.now step.new ≤ of_chains regions.now step.old.tally.chains + 1 }
+        Ahead (whole regions.now kind after outcome) (step_of step.new) device.new room log →
+        Breaks (whole regions.now kind after outcome) device.old (tally_of step.old) fault log }
+    ensures fits { Fits (phase_of step.new) }
+    ensures stage { stage (phase_of step.new) ≡ 3 }
+    ensures left { left regions.now (step_of step.new) ≤ of_chains regions.now (tally_of step.old).chains + 1 }
 {
     device.note_fault();
     end(
@@ -91,12 +76,12 @@ pub(crate) fn fail(
 }
 
 /// The flags were read.
-pub(crate) fn after_flags(step: &mut Step, why: Option<Denial>, more: bool, flags: u16)
+pub(crate) fn after_flags(step: &mut Progress, why: Option<Denial>, more: bool, flags: u16)
     ensures step { (w : Whole) (d : Device) (room : Room) (log : List Access) →
-        Ahead w step.new d room log → Stops w d step.old.tally why (wants_interrupt flags) more log }
-    ensures fits { Fits step.new.phase }
+        Ahead w (step_of step.new) d room log → Stops w d (tally_of step.old) why (wants_interrupt flags) more log }
+    ensures fits { Fits (phase_of step.new) }
     ensures left { (regions : List Region) →
-        left regions step.new ≤ of_chains regions step.old.tally.chains }
+        left regions (step_of step.new) ≤ of_chains regions (tally_of step.old).chains }
 {
-    stop(step, why, flags & NO_INTERRUPT == 0, more)
+    step.stop(why, flags & NO_INTERRUPT == 0, more)
 }

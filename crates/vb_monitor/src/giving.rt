@@ -8,10 +8,11 @@ ghost use Rattle.vb_monitor.specs.Giving.{GivesBack, used_spots};
 ghost use Rattle.vb_monitor.specs.declared.room.Room.{Room};
 ghost use Rattle.vb_monitor.specs.Machine.{Fits, stage, Ahead, whole, next_chain};
 ghost use Rattle.vb_monitor.specs.Left.{left, of_chains};
+ghost use Rattle.vb_monitor.specs.Steps.{phase_of, step_of, tally_of};
 
 use crate::ends::{end, fail};
 use crate::regions::find_from;
-use crate::{Phase, Region, Spot, Step};
+use crate::{Progress, Region, Spot};
 use vb_chain::ChainFault;
 use vb_core::{Device, Kind, UsedEntry};
 use vb_ring::{RING_WORD_SIZE, USED_FIELD_SIZE, USED_LENGTH_AT};
@@ -48,25 +49,25 @@ fn used_spots(regions: &[Region], entry: &UsedEntry) -> Option<UsedSpots>
 /// Gives the chain of this head back.
 #[inline(never)]
 pub(crate) fn give_back(
-    step: &mut Step,
+    step: &mut Progress,
     device: &mut Device,
     regions: &[Region],
     kind: Kind,
     head: u16,
 )
     ensures step { (after : Device) (outcome : Outcome) (room : Room) (log : List Access) →
-        Ahead (whole regions.now kind after outcome) step.new device.new room log →
+        Ahead (whole regions.now kind after outcome) (step_of step.new) device.new room log →
         GivesBack (whole regions.now kind after outcome)
-        (next_chain (whole regions.now kind after outcome) step.old.tally) device.old step.old.tally head log }
-    ensures fits { Fits step.new.phase }
-    ensures stage { 2 ≤ stage step.new.phase }
-    ensures left { left regions.now step.new ≤ of_chains regions.now step.old.tally.chains + 2 }
+        (next_chain (whole regions.now kind after outcome) (tally_of step.old)) device.old (tally_of step.old) head log }
+    ensures fits { Fits (phase_of step.new) }
+    ensures stage { 2 ≤ stage (phase_of step.new) }
+    ensures left { left regions.now (step_of step.new) ≤ of_chains regions.now (tally_of step.old).chains + 2 }
 {
     match device.use_chain(kind, u32::from(head)) {
         Err(why) => end(step, device, regions, kind, Some(why), false),
         Ok(entry) => match used_spots(regions, &entry) {
             None => fail(step, device, regions, kind, ChainFault::OutOfRam),
-            Some(spots) => step.phase = Phase::GivesBack { spots, entry },
+            Some(spots) => step.await_used(spots, entry),
         },
     }
 }

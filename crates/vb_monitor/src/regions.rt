@@ -33,6 +33,14 @@ pub struct Spot {
     pub offset: u64,
 }
 
+impl Spot {
+    /// The first byte of the first region.
+    pub(crate) const FIRST: Spot = Spot {
+        region: 0,
+        offset: 0,
+    };
+}
+
 impl Region {
     /// Whether it is whole pages, of guest memory below 2^44, from a place of a file up to 2^62 on.
     /// A region that isn't has no byte of guest memory.

@@ -2,7 +2,7 @@
 
 ghost use Rattle.std.specs.Prelude.{◌≡◌};
 
-use crate::{Cut, Spot, Tally, UsedSpots};
+use crate::{Cut, Spot, UsedSpots};
 use vb_core::{Denial, Named, UsedEntry};
 
 /// How far the walk along a chain is.
@@ -118,20 +118,4 @@ pub enum Phase {
         interrupt: bool,
         more: bool,
     },
-}
-
-impl Phase {
-    /// Nothing is to be done, and nothing was.
-    pub(crate) const NOT_BEGUN: Phase = Phase::Ended {
-        why: None,
-        interrupt: false,
-        more: false,
-    };
-}
-
-/// What is to be done next, and what was done.
-#[derive(Clone, Copy, Debug)]
-pub struct Step {
-    pub tally: Tally,
-    pub phase: Phase,
 }
