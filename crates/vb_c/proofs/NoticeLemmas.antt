@@ -13,7 +13,7 @@ use Rattle.vb_monitor.specs.declared.room.TheConstants.{MAX_BYTES}
 use Rattle.vb_monitor.specs.{Machine.{Fits, waits, may_go_on, row_bytes}, Codes.{why_of, end_rule}}
 use Rattle.vb_monitor.specs.Steps.{Step, says_yes, walk_of, place_of, part_of, discarding_of, phase_of}
 use Rattle.vb_monitor.proofs.ProgressLemmas.{some_back}
-use Rattle.vb_c.specs.{Codes.{kind_of_code, code_of_kind}, Notices.{Notice, notice_by, end_code, taken_code}}
+use Rattle.vb_c.specs.{Codes.{kind_of_code, code_of_kind}, Notices.{notice_by, end_code, taken_code}}
 
 -- what goes on has room, and what waits and has room goes on
 at_most : (a b : ℕ) → nat_le a b ≡ true → a ≤ b

@@ -1,5 +1,5 @@
 -- A notice as C keeps it: which notice it is, and what else it says.
-use Rattle.std.specs.Prelude.{◌≡◌, ℕ, ◌+◌, ◌*◌, Bool, true, false, not, ◌==◌, if◌then◌else◌}
+use Rattle.std.specs.Prelude.{◌≡◌, ℕ, ◌+◌, ◌*◌, Bool, true, false, ◌==◌, if◌then◌else◌}
 use Rattle.std.specs.Prelude.{Option, Some, None}
 use Rattle.vb_virtio.specs.Tests.{one_if}
 use Rattle.vb_core.specs.declared.kinds.Kind.{Kind}

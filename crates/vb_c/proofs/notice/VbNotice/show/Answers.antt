@@ -1,10 +1,9 @@
-use Rattle.std.proofs.Common.{rules, ◌≡◌, ◌∙◌, ap, sym, ℕ}
-use Rattle.std.proofs.Common.{Option, Some}
-use Rattle.vb_core.specs.declared.kinds.Kind.{Kind}
+use Rattle.std.proofs.Common.{rules, ◌≡◌, ◌∙◌, ap, ℕ}
+use Rattle.std.proofs.Common.{Some}
 use Rattle.vb_monitor.specs.Steps.{phase_of, tally_of}
 use Rattle.vb_c.specs.Codes.{kind_of_code}
 use Rattle.vb_c.proofs.NoticeLemmas.{kind_back, shown_is}
-use Rattle.vb_c.proofs.showing.VbNotice.show.Goals as goal
+use Rattle.vb_c.proofs.notice.VbNotice.show.Goals as goal
 
 pub returns-clause-is : goal.returns-clause-is
 returns-clause-is c =

@@ -5,7 +5,7 @@ use Rattle.vb_monitor.specs.declared.step.Phase.TheVariants.{Ended}
 use Rattle.vb_monitor.specs.{Codes.why_of, Steps.{says_yes, phase_of, tally_of}}
 use Rattle.vb_c.{specs.Notices.end_code, proofs.NoticeLemmas.end_back}
 use Rattle.vb_monitor.specs.declared.outcome.Tally.{Tally}
-use Rattle.vb_c.proofs.showing.VbNotice.show_end.Goals as goal
+use Rattle.vb_c.proofs.notice.VbNotice.show_end.Goals as goal
 
 pub returns-clause-phase : goal.returns-clause-phase
 unfolding phase_of
