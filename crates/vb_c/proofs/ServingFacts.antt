@@ -1,13 +1,13 @@
 -- From which balloon, room and lists a notice begins, goes on and is handed over.
-use Rattle.vb_monitor.specs.declared.room.Room.{Room}
-use Rattle.std.proofs.Common.{◌≡◌, ℕ, true, false, List, ◌++◌, Some}
+use Rattle.std.proofs.Common.{ℕ, true, List, ◌++◌, Some}
 use Rattle.vb_core.specs.declared.kinds.Kind.{Kind}
 use Rattle.vb_core.specs.declared.kinds.Kind.TheVariants.{Inflate}
 use Rattle.vb_monitor.specs.declared.outcome.HeldChain.{HeldChain}
-use Rattle.vb_core.specs.declared.{device.{Device.Device, Denial.Denial}}
-use Rattle.vb_monitor.specs.declared.outcome.{Outcome.Outcome, Budget.Budget, Tally.Tally}
-use Rattle.vb_monitor.specs.declared.{balloon.Balloon.Balloon, cuts.Cut.Cut, notice.Notice.Notice}
-use Rattle.vb_monitor.specs.{Accesses.Access, Ends.Ends, Machine.{Ahead, Awaited, whole}, Notices.{Serves, GivesHeldBack}}
+use Rattle.vb_core.specs.declared.{device.{Device.Device}}
+use Rattle.vb_monitor.specs.declared.outcome.{Outcome.Outcome, Budget.Budget}
+use Rattle.vb_monitor.specs.declared.{balloon.Balloon.Balloon}
+use Rattle.vb_c.specs.Notices.{Notice}
+use Rattle.vb_monitor.specs.{Accesses.Access, Machine.{Ahead, Awaited, whole}, Notices.{Serves, GivesHeldBack}}
 use Rattle.vb_c.specs.declared.notice.{VbNotice.VbNotice, VbRoom.VbRoom}
 use Rattle.vb_c.specs.{Serving.{with_device, HandsOver, Begins, BeginsIf, BeginsFor, GivesHeldOf, GoesOn}}
 use Rattle.vb_c.proofs.Samples.{two, balloon}

@@ -39,6 +39,7 @@ mod TellingFacts
 mod HeldBackFacts
 mod HoldingFacts
 mod PartsOfRunsFacts
+mod StepFacts
 mod MachineFacts
 mod AheadFacts
 mod AheadToldFacts

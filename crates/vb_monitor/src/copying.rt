@@ -40,7 +40,8 @@ fn ask_part(
         Ahead (whole regions.now kind after outcome) (step_of step.new) device.new room log →
         PartBy (fits_behind (take place.into room.bytes) part)
         (whole regions.now kind after outcome) (CopiesParts (whole regions.now kind after outcome)
-        (served (whole regions.now kind after outcome) (tally_of step.old) device.old place.head) device.old (tally_of step.old)
+        (served (whole regions.now kind after outcome) (tally_of step.old) device.old place.head)
+        device.old (tally_of step.old)
         (behind_part place.is_second place.piece (pieces_in (take place.count room.pieces))))
         device.old (tally_of step.old)
         part (take place.into room.bytes) log }
@@ -93,7 +94,8 @@ pub(crate) fn copy_on(
     ensures step { (after : Device) (outcome : Outcome) (log : List Access) →
         Ahead (whole regions.now kind after outcome) (step_of step.new) device.new room.new log →
         CopiesParts (whole regions.now kind after outcome)
-        (served (whole regions.now kind after outcome) (tally_of step.old) device.old place.head) device.old (tally_of step.old)
+        (served (whole regions.now kind after outcome) (tally_of step.old) device.old place.head)
+        device.old (tally_of step.old)
         (all_parts (drop place.piece (pieces_in (take place.count room.old.pieces))))
         (take place.into room.old.bytes) log }
     ensures fits { Fits (phase_of step.new) }
@@ -128,7 +130,8 @@ fn copy_second(
     ensures step { (after : Device) (outcome : Outcome) (log : List Access) →
         Ahead (whole regions.now kind after outcome) (step_of step.new) device.new room.new log →
         CopiesParts (whole regions.now kind after outcome)
-        (served (whole regions.now kind after outcome) (tally_of step.old) device.old place.head) device.old (tally_of step.old)
+        (served (whole regions.now kind after outcome) (tally_of step.old) device.old place.head)
+        device.old (tally_of step.old)
         (behind_part false place.piece (pieces_in (take place.count room.old.pieces)))
         (take place.into room.old.bytes) log }
     ensures fits { Fits (phase_of step.new) }
@@ -165,7 +168,8 @@ pub(crate) fn after_part(
     ensures step { (after : Device) (outcome : Outcome) (log : List Access) →
         Ahead (whole regions.now kind after outcome) (step_of step.new) device.new room.new log →
         CopiesParts (whole regions.now kind after outcome)
-        (served (whole regions.now kind after outcome) (tally_of step.old) device.old place.head) device.old (tally_of step.old)
+        (served (whole regions.now kind after outcome) (tally_of step.old) device.old place.head)
+        device.old (tally_of step.old)
         (behind_part place.is_second place.piece (pieces_in (take place.count room.old.pieces)))
         (take (place.into + place.length) room.old.bytes) log }
     ensures fits { Fits (phase_of step.new) }

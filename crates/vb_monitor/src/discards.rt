@@ -110,7 +110,8 @@ fn discard_on(
     ensures step { (after : Device) (outcome : Outcome) (log : List Access) →
         Ahead (whole regions.now kind after outcome) (step_of step.new) device.new room.now log →
         DiscardsThen (whole regions.now kind after outcome)
-        (next_chain (whole regions.now kind after outcome) (tally_of step.old)) device.old (tally_of step.old) discarding.head
+        (next_chain (whole regions.now kind after outcome) (tally_of step.old)) device.old
+        (tally_of step.old) discarding.head
         (cuts_of regions.now (drop discarding.run (take discarding.runs room.now.runs))) log }
     ensures fits { Fits (phase_of step.new) }
     ensures stage { 1 ≤ stage (phase_of step.new) }
@@ -139,8 +140,10 @@ pub(crate) fn after_told(
     ensures step { (after : Device) (outcome : Outcome) (log : List Access) →
         Ahead (whole regions.now kind after outcome) (step_of step.new) device.new room.now log →
         OnceTold (tally_of step.old).held (whole regions.now kind after outcome)
-        (next_chain (whole regions.now kind after outcome) (tally_of step.old)) device.old (tally_of step.old) discarding.head
-        (cuts_for kind (is_kept kind (tally_of step.old).keeps (keeps_reports device.old)) regions.now
+        (next_chain (whole regions.now kind after outcome) (tally_of step.old)) device.old
+        (tally_of step.old) discarding.head
+        (cuts_for kind (is_kept kind (tally_of step.old).keeps
+        (keeps_reports device.old)) regions.now
         (drop discarding.run (take discarding.runs room.now.runs))) log }
     ensures fits { Fits (phase_of step.new) }
     ensures stage { 1 ≤ stage (phase_of step.new) }
@@ -169,7 +172,8 @@ pub(crate) fn after_discard(
     ensures step { (after : Device) (outcome : Outcome) (log : List Access) →
         Ahead (whole regions.now kind after outcome) (step_of step.new) device.new room.now log →
         DiscardsThen (whole regions.now kind after outcome)
-        (next_chain (whole regions.now kind after outcome) (tally_of step.old)) device.old (tally_of step.old) discarding.head
+        (next_chain (whole regions.now kind after outcome) (tally_of step.old)) device.old
+        (tally_of step.old) discarding.head
         (cuts_behind discarding.from discarding.run regions.now
         (take discarding.runs room.now.runs)) log }
     ensures fits { Fits (phase_of step.new) }

@@ -37,7 +37,8 @@ pub(crate) fn end(
         Ends (whole regions.now kind after outcome) device.now (tally_of step.old) why more log }
     ensures fits { Fits (phase_of step.new) }
     ensures stage { stage (phase_of step.new) ≡ 3 }
-    ensures left { left regions.now (step_of step.new) ≤ of_chains regions.now (tally_of step.old).chains + 1 }
+    ensures left { left regions.now (step_of step.new) ≤ of_chains regions.now
+        (tally_of step.old).chains + 1 }
 {
     if !step.is_given() {
         return step.stop(why, false, more);
@@ -62,7 +63,8 @@ pub(crate) fn fail(
         Breaks (whole regions.now kind after outcome) device.old (tally_of step.old) fault log }
     ensures fits { Fits (phase_of step.new) }
     ensures stage { stage (phase_of step.new) ≡ 3 }
-    ensures left { left regions.now (step_of step.new) ≤ of_chains regions.now (tally_of step.old).chains + 1 }
+    ensures left { left regions.now (step_of step.new) ≤ of_chains regions.now
+        (tally_of step.old).chains + 1 }
 {
     device.note_fault();
     end(
@@ -78,7 +80,8 @@ pub(crate) fn fail(
 /// The flags were read.
 pub(crate) fn after_flags(step: &mut Progress, why: Option<Denial>, more: bool, flags: u16)
     ensures step { (w : Whole) (d : Device) (room : Room) (log : List Access) →
-        Ahead w (step_of step.new) d room log → Stops w d (tally_of step.old) why (wants_interrupt flags) more log }
+        Ahead w (step_of step.new) d room log → Stops w d (tally_of step.old) why
+        (wants_interrupt flags) more log }
     ensures fits { Fits (phase_of step.new) }
     ensures left { (regions : List Region) →
         left regions (step_of step.new) ≤ of_chains regions (tally_of step.old).chains }

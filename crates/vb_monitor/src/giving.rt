@@ -30,7 +30,7 @@ pub struct UsedSpots {
 }
 
 /// Where a used element goes, where all of it is guest memory.
-#[inline(never)]
+#[inline(always)]
 fn used_spots(regions: &[Region], entry: &UsedEntry) -> Option<UsedSpots>
     ensures { result ≡ used_spots regions.now entry.now }
 {
@@ -58,10 +58,12 @@ pub(crate) fn give_back(
     ensures step { (after : Device) (outcome : Outcome) (room : Room) (log : List Access) →
         Ahead (whole regions.now kind after outcome) (step_of step.new) device.new room log →
         GivesBack (whole regions.now kind after outcome)
-        (next_chain (whole regions.now kind after outcome) (tally_of step.old)) device.old (tally_of step.old) head log }
+        (next_chain (whole regions.now kind after outcome) (tally_of step.old)) device.old
+        (tally_of step.old) head log }
     ensures fits { Fits (phase_of step.new) }
     ensures stage { 2 ≤ stage (phase_of step.new) }
-    ensures left { left regions.now (step_of step.new) ≤ of_chains regions.now (tally_of step.old).chains + 2 }
+    ensures left { left regions.now (step_of step.new) ≤ of_chains regions.now
+        (tally_of step.old).chains + 2 }
 {
     match device.use_chain(kind, u32::from(head)) {
         Err(why) => end(step, device, regions, kind, Some(why), false),

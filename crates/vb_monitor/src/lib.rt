@@ -28,6 +28,7 @@ mod room;
 mod rows;
 mod rules;
 mod serving;
+mod setting;
 mod step;
 mod walk;
 

@@ -49,10 +49,12 @@ pub(crate) fn stands(ring: &Virtqueue, index: u16) -> Result<bool, ChainFault>
 pub(crate) fn look(step: &mut Progress, device: &mut Device, regions: &[Region], kind: Kind)
     ensures step { (after : Device) (outcome : Outcome) (room : Room) (log : List Access) →
         Ahead (whole regions.now kind after outcome) (step_of step.new) device.new room log →
-        Looks (tally_of step.old).chains (whole regions.now kind after outcome) device.old (tally_of step.old) log }
+        Looks (tally_of step.old).chains (whole regions.now kind after outcome) device.old
+        (tally_of step.old) log }
     ensures fits { Fits (phase_of step.new) }
     ensures stage { stage (phase_of step.new) ≡ 3 }
-    ensures left { left regions.now (step_of step.new) ≤ of_chains regions.now (tally_of step.old).chains + 2 }
+    ensures left { left regions.now (step_of step.new) ≤ of_chains regions.now
+        (tally_of step.old).chains + 2 }
 {
     match device.queue_denial(kind) {
         Some(why) => end(step, device, regions, kind, Some(why), false),
@@ -73,7 +75,8 @@ fn ask_entry(step: &mut Progress, device: &mut Device, regions: &[Region], kind:
     ensures step { (after : Device) (outcome : Outcome) (room : Room) (log : List Access) →
         Ahead (whole regions.now kind after outcome) (step_of step.new) device.new room log →
         TakesChain (whole regions.now kind after outcome)
-        (next_chain (whole regions.now kind after outcome) (tally_of step.old)) device.old (tally_of step.old) log }
+        (next_chain (whole regions.now kind after outcome) (tally_of step.old)) device.old
+        (tally_of step.old) log }
     ensures fits { Fits (phase_of step.new) }
     ensures stage { stage (phase_of step.new) ≡ 3 }
     ensures left { left regions.now (step_of step.new) ≤
@@ -91,10 +94,12 @@ fn ask_entry(step: &mut Progress, device: &mut Device, regions: &[Region], kind:
 fn take(step: &mut Progress, device: &mut Device, regions: &[Region], kind: Kind)
     ensures step { (after : Device) (outcome : Outcome) (room : Room) (log : List Access) →
         Ahead (whole regions.now kind after outcome) (step_of step.new) device.new room log →
-        TakesNext (tally_of step.old).chains (whole regions.now kind after outcome) device.old (tally_of step.old) log }
+        TakesNext (tally_of step.old).chains (whole regions.now kind after outcome) device.old
+        (tally_of step.old) log }
     ensures fits { Fits (phase_of step.new) }
     ensures stage { stage (phase_of step.new) ≡ 3 }
-    ensures left { left regions.now (step_of step.new) ≤ of_chains regions.now (tally_of step.old).chains + 1 }
+    ensures left { left regions.now (step_of step.new) ≤ of_chains regions.now
+        (tally_of step.old).chains + 1 }
 {
     if step.chains_left == 0 {
         return end(step, device, regions, kind, None, true);
@@ -111,10 +116,12 @@ fn take(step: &mut Progress, device: &mut Device, regions: &[Region], kind: Kind
 fn serve_published(step: &mut Progress, device: &mut Device, regions: &[Region], kind: Kind)
     ensures step { (after : Device) (outcome : Outcome) (room : Room) (log : List Access) →
         Ahead (whole regions.now kind after outcome) (step_of step.new) device.new room log →
-        ServesPublished (tally_of step.old).chains (whole regions.now kind after outcome) device.old (tally_of step.old) log }
+        ServesPublished (tally_of step.old).chains (whole regions.now kind after outcome)
+        device.old (tally_of step.old) log }
     ensures fits { Fits (phase_of step.new) }
     ensures stage { stage (phase_of step.new) ≡ 3 }
-    ensures left { left regions.now (step_of step.new) ≤ of_chains regions.now (tally_of step.old).chains + 1 }
+    ensures left { left regions.now (step_of step.new) ≤ of_chains regions.now
+        (tally_of step.old).chains + 1 }
 {
     match stands(&device.ring(kind), step.published) {
         Err(fault) => fail(step, device, regions, kind, fault),
@@ -141,7 +148,8 @@ pub(crate) fn after_index(
         ServesPublished (tally_of step.old).chains (whole regions.now kind after outcome) device.old
         (with_published index (tally_of step.old)) log }
     ensures fits { Fits (phase_of step.new) }
-    ensures left { left regions.now (step_of step.new) ≤ of_chains regions.now (tally_of step.old).chains + 1 }
+    ensures left { left regions.now (step_of step.new) ≤ of_chains regions.now
+        (tally_of step.old).chains + 1 }
 {
     step.published = index;
     serve_published(step, device, regions, kind)
@@ -158,7 +166,8 @@ pub(crate) fn after_entry(
     ensures step { (after : Device) (outcome : Outcome) (room : Room) (log : List Access) →
         Ahead (whole regions.now kind after outcome) (step_of step.new) device.new room log →
         AfterEntry (whole regions.now kind after outcome)
-        (next_chain (whole regions.now kind after outcome) (tally_of step.old)) device.old (tally_of step.old) head log }
+        (next_chain (whole regions.now kind after outcome) (tally_of step.old)) device.old
+        (tally_of step.old) head log }
     ensures fits { Fits (phase_of step.new) }
     ensures left { left regions.now (step_of step.new) ≤
         of_chains regions.now (tally_of step.old).chains + (once_copied regions.now 0 + 1) }
@@ -174,10 +183,12 @@ pub(crate) fn after_given(step: &mut Progress, device: &mut Device, regions: &[R
     ensures step { (after : Device) (outcome : Outcome) (room : Room) (log : List Access) →
         Ahead (whole regions.now kind after outcome) (step_of step.new) device.new room log →
         AfterGiven (whole regions.now kind after outcome)
-        (ServesPublished (tally_of step.old).chains (whole regions.now kind after outcome)) device.old (tally_of step.old) log }
+        (ServesPublished (tally_of step.old).chains (whole regions.now kind after outcome))
+        device.old (tally_of step.old) log }
     ensures fits { Fits (phase_of step.new) }
     ensures stage { stage (phase_of step.new) ≡ 3 }
-    ensures left { left regions.now (step_of step.new) ≤ of_chains regions.now (tally_of step.old).chains + 1 }
+    ensures left { left regions.now (step_of step.new) ≤ of_chains regions.now
+        (tally_of step.old).chains + 1 }
 {
     match step.held() {
         Some(_) => end(step, device, regions, kind, None, false),

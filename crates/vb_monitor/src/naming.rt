@@ -91,7 +91,8 @@ fn name_report(
         Ahead (whole regions.now kind after outcome) (step_of step.new) device.new room.new log →
         NamesReport (whole regions.now kind after outcome)
         (next_chain (whole regions.now kind after outcome) (tally_of step.old))
-        device.old (tally_of step.old) place.head (pieces_in (take place.count room.old.pieces)) log }
+        device.old (tally_of step.old) place.head (pieces_in (take place.count room.old.pieces))
+        log }
     ensures fits { Fits (phase_of step.new) }
     ensures left { left regions.now (step_of step.new) ≤
         of_chains regions.now (tally_of step.old).chains + once_named regions.now }
@@ -120,7 +121,8 @@ fn keep_figures(
         (whole regions.now kind after outcome) device.old (tally_of step.old) place.head
         (take place.into room.old.bytes) log }
     ensures fits { Fits (phase_of step.new) }
-    ensures left { left regions.now (step_of step.new) ≤ of_chains regions.now (tally_of step.old).chains + 2 }
+    ensures left { left regions.now (step_of step.new) ≤ of_chains regions.now
+        (tally_of step.old).chains + 2 }
 {
     let head = place.head;
     let bytes = first_bytes(&room.bytes, place.into);

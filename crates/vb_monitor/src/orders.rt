@@ -237,6 +237,7 @@ fn waits(step: &Progress) -> bool
 /// be done so is put into the orders and the list of parts. A part is left only where the list is
 /// full.
 #[tactic(auto, using(crate::proofs::OrderLemmas::stage_waits))]
+#[inline(always)]
 pub fn at_once(
     step: &mut Progress,
     device: &mut Device,

@@ -167,7 +167,8 @@ impl Notice {
     ) -> Outcome
         requires { Fits (phase_of self.old.step) }
         ensures { Makes M.goes memory.old memory.new (λ log.
-            Ahead (whole regions.now self.old.kind device.new result) (step_of self.old.step) device.old
+            Ahead (whole regions.now self.old.kind device.new result)
+            (step_of self.old.step) device.old
             room.old log) }
     {
         loop {

@@ -53,7 +53,8 @@ fn ask_row(step: &mut Progress, device: &mut Device, regions: &[Region], kind: K
         (Follows (descriptors (ring_of kind device.old) - (walk.count + 1))
         (whole regions.now kind after outcome) device.old (tally_of step.old)
         (serves (whole regions.now kind after outcome) (tally_of step.old) device.old walk.head))
-        (serves (whole regions.now kind after outcome) (tally_of step.old) device.old walk.head) walk.first
+        (serves (whole regions.now kind after outcome) (tally_of step.old) device.old walk.head)
+        walk.first
         (unless_apart (spot regions.now ((ring_of kind device.old).table + 16 * walk.first)
         (16 * (walk.behind + 1))) walk.behind) walk.writing
         (pieces_in (take walk.count room.pieces)) log }
@@ -75,7 +76,7 @@ fn ask_row(step: &mut Progress, device: &mut Device, regions: &[Region], kind: K
 
 /// Asks for a chain's first descriptor, alone.
 #[tactic(auto, using(crate::proofs::TableRowLemmas::first_steps))]
-#[inline(never)]
+#[inline(always)]
 pub(crate) fn ask_first(
     step: &mut Progress,
     device: &mut Device,
@@ -87,7 +88,8 @@ pub(crate) fn ask_first(
     ensures step { (after : Device) (outcome : Outcome) (room : Room) (log : List Access) →
         Ahead (whole regions.now kind after outcome) (step_of step.new) device.new room log →
         AfterEntry (whole regions.now kind after outcome)
-        (next_chain (whole regions.now kind after outcome) (tally_of step.old)) device.old (tally_of step.old) head log }
+        (next_chain (whole regions.now kind after outcome) (tally_of step.old)) device.old
+        (tally_of step.old) head log }
     ensures fits { Fits (phase_of step.new) }
     ensures left { left regions.now (step_of step.new) ≤
         of_chains regions.now (tally_of step.old).chains + (once_copied regions.now 0 + 1) }
@@ -141,7 +143,8 @@ fn ask_next(
         (Follows (descriptors (ring_of kind device.old) - (walk.count + 1))
         (whole regions.now kind after outcome) device.old (tally_of step.old)
         (serves (whole regions.now kind after outcome) (tally_of step.old) device.old walk.head))
-        (serves (whole regions.now kind after outcome) (tally_of step.old) device.old walk.head) number
+        (serves (whole regions.now kind after outcome) (tally_of step.old) device.old walk.head)
+        number
         (behind_in_row regions.now (ring_of kind device.old) number
         (pieces_in (take walk.count room.pieces))) walk.writing
         (pieces_in (take walk.count room.pieces)) log }
@@ -177,7 +180,8 @@ pub(crate) fn after_descriptor(
         (whole regions.now kind after outcome) device.old (tally_of step.old)
         (serves (whole regions.now kind after outcome) (tally_of step.old) device.old walk.head)
         (row_in walk room.old.bytes))
-        (serves (whole regions.now kind after outcome) (tally_of step.old) device.old walk.head) walk.writing
+        (serves (whole regions.now kind after outcome) (tally_of step.old) device.old walk.head)
+        walk.writing
         (pieces_in (take walk.count room.old.pieces))
         (take DESCRIPTOR_SIZE (take (row_bytes walk) room.old.bytes)) log }
     ensures fits { Fits (phase_of step.new) }
