@@ -9,9 +9,9 @@ ghost use Rattle.vb_c.specs.Registers.{Starts, WritesStatus, Negotiates, PlacesF
 ghost use Rattle.vb_c.specs.Registers.{WritesConfig};
 
 use crate::kinds::{code_of_kind, kind_of_code};
-use vb_monitor::{BAD_ARGUMENT, NO_QUEUE, OK, code_of};
 use bitflags::Flags;
 use vb_core::{Denial, Device, Kind, Settings};
+use vb_monitor::{BAD_ARGUMENT, NO_QUEUE, OK, code_of};
 use vb_status::{Features, StatusFault};
 
 /// The code of an answer that has nothing but a denial.

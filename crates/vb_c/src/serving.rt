@@ -13,7 +13,7 @@ use crate::kinds::kind_of_code;
 use crate::notice::{VbNotice, VbRoom};
 use vb_core::Kind;
 use vb_monitor::{
-    BAD_ARGUMENT, Balloon, Budget, Cut, MAX_CUTS, NOTHING, NO_QUEUE, Region, Room, at_once,
+    BAD_ARGUMENT, Balloon, Budget, Cut, MAX_CUTS, NO_QUEUE, NOTHING, Region, Room, at_once,
 };
 
 /// Hands a notice over, with all that is to be done before it waits; what it came to is noted, once
