@@ -1,8 +1,7 @@
 //! Where a notice is, as plain numbers that stay where they are.
 
-ghost use Rattle.std.specs.Prelude.{◌≡◌, ◌+◌, nat_le};
+ghost use Rattle.std.specs.Prelude.{◌≡◌};
 ghost use Rattle.vb_monitor.specs.Machine.{outcome_at, is_ended, is_discarding, may_go_on};
-ghost use Rattle.vb_monitor.specs.declared.room.TheConstants.{MAX_BYTES};
 ghost use Rattle.vb_monitor.specs.Steps.{phase_of, tally_of, walk_of, place_of};
 ghost use Rattle.vb_monitor.specs.Steps.{discarding_of, part_of, phase_at};
 
@@ -85,14 +84,6 @@ pub struct Progress {
     /// What is written of a used chain, and where.
     pub spots: UsedSpots,
     pub entry: UsedEntry,
-}
-
-/// Whether the bytes of a part have room.
-#[inline(always)]
-fn has_room(place: &Place) -> bool
-    ensures { result ≡ nat_le (place.now.into + place.now.length) MAX_BYTES }
-{
-    place.into <= MAX_BYTES && place.length as usize <= MAX_BYTES - place.into
 }
 
 impl Progress {
@@ -302,7 +293,7 @@ impl Progress {
         ensures { result ≡ may_go_on (phase_of self.now) }
     {
         match self.phase() {
-            Phase::AwaitsPart { place, .. } => has_room(&place),
+            Phase::AwaitsPart { place, .. } => place.has_room(),
             Phase::AwaitsDescriptor { walk, .. } => row_bytes(&walk) <= MAX_BYTES,
             Phase::AwaitsIndex { .. }
             | Phase::AwaitsEntry { .. }

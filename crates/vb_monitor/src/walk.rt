@@ -60,7 +60,8 @@ fn ask_row(step: &mut Progress, device: &mut Device, regions: &[Region], kind: K
         (pieces_in (take walk.count room.pieces)) log }
     ensures fits { Fits (phase_of step.new) }
     ensures left { left regions.now (step_of step.new) ≤
-        of_chains regions.now (tally_of step.old).chains + (once_copied regions.now walk.count + 1) }
+        of_chains regions.now (tally_of step.old).chains
+        + (once_copied regions.now walk.count + 1) }
 {
     let table = device.ring(kind).table;
     let length = DESCRIPTOR_SIZE as u64;
@@ -150,7 +151,8 @@ fn ask_next(
         (pieces_in (take walk.count room.pieces)) log }
     ensures fits { Fits (phase_of step.new) }
     ensures left { left regions.now (step_of step.new) ≤
-        of_chains regions.now (tally_of step.old).chains + (once_copied regions.now walk.count + 1) }
+        of_chains regions.now (tally_of step.old).chains
+        + (once_copied regions.now walk.count + 1) }
 {
     let size = descriptors(&device.ring(kind));
     let left = u32::from(size).saturating_sub(u32::from(number) + 1);
