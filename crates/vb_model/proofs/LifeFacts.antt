@@ -174,6 +174,10 @@ with_version_alone : StepsJustSo down (Init 0x100000000) thirteen Ready
     (record down { status = 15; features = 0x100000000; frames = thirteen_frames })
 with_version_alone = ((refl, (refl, refl)), λ reply new s. s.1)
 
+untold_but_refused : (new : Guest)
+    → HonestStep down (Init 0x100000026) thirteen (Refused VersionMissing) new → ⊥
+untold_but_refused new s = let e : Refused VersionMissing ≡ Ready = s.1.0 in cc
+
 -- one claim for each of the pages, no more and no less, and none after one that is refused
 one_claim_too_few : AreClaimsFor (0 ∷ 1 ∷ []) (Gave 5 ∷ []) → ⊥
 one_claim_too_few a = a

@@ -1,18 +1,18 @@
 -- Worked facts of guests that haven't agreed to tell the host, beside those of guests that have.
-use Rattle.std.proofs.Common.{List, [], arith, false, map, refl, replicate, true, ◌++◌}
+use Rattle.std.proofs.Common.{List, [], ap, arith, false, map, refl, replicate, sym, true, ℕ, ◌++◌}
 use Rattle.vb_virtio.specs.Status.{feature_refusal, status_refusal}
 use Rattle.vb_virtio.specs.Queues.{Deflating, Request}
 use Rattle.vb_virtio.specs.Memory.{zero_page}
 use Rattle.vb_virtio.specs.declared.refusals.Refusal.TheVariants.{NoPages, VersionMissing}
-use Rattle.std.proofs.Common.{◌∷◌, ◌≡◌}
+use Rattle.std.proofs.Common.{◌∙◌, ◌∷◌, ◌≡◌}
 use Rattle.vb_model.specs.Life.{after_reset}
-use Rattle.{std.specs.List.range_with_len, vb_model.specs.Refusals.refusal_of}
+use Rattle.{std.specs.List.range_with_len, vb_model.specs.{Driver.contents_of, Refusals.refusal_of}}
 use Rattle.{std.specs.Prelude.{Bool, None, Some, drop}, vb_model.specs.GuestRun.{Called, Leads}}
 use Rattle.vb_model.proofs.{PostingFacts.{just_posted}, WorkFacts.{just_finished}}
 use Rattle.vb_model.specs.Requests.{BufferPosted, IsLeastHead, Requests}
 use Rattle.vb_model.proofs.Samples.{PerformsJustSo, StepsJustSo, down, mixed_places, ready, request}
 use Rattle.vb_model.proofs.Samples.{untold}
-use Rattle.vb_model.specs.Guest.{Guest, is_ready, tells_host}
+use Rattle.vb_model.specs.Guest.{Guest, frame_of, is_ballooned, is_ready, tells_host}
 use Rattle.vb_model.specs.Pages.{block_at, place_of}
 use Rattle.vb_model.specs.Requests.{no_requests}
 use Rattle.vb_model.specs.Requests.{given_away}
@@ -23,7 +23,10 @@ use Rattle.vb_model.specs.declared.calls.Call.TheVariants.{Alloc, Deflate, Finis
 use Rattle.vb_model.specs.declared.places.Place.TheVariants.{Free as FreePlace, Giving, Lent, Used}
 use Rattle.vb_model.specs.declared.places.Place.TheVariants.{Reporting, Reserved, Stranded, Taking}
 use Rattle.vb_model.specs.declared.replies.Reply.TheVariants.{Done, Finished, Page, Posted, Ready}
-use Rattle.vb_model.specs.declared.replies.Reply.TheVariants.{Reaped, Taken}
+use Rattle.vb_model.specs.declared.replies.Reply.TheVariants.{Reaped, Refused, Taken}
+
+abbrev Same : ℕ → ℕ → Type 0
+Same a b = a ≡ b
 
 -- ---- such a guest: all that is offered but MUST_TELL_HOST
 
@@ -44,6 +47,10 @@ started : StepsJustSo with_frames (Init 0x100000026) [] Ready (record with_frame
   buffer = BufferPosted (record { free = 196608; total = 262144 });
 })
 started = ((refl, (refl, refl)), λ reply new s. s.1)
+
+refused_at_the_start : (new : Guest)
+    → HonestStep with_frames (Init 0x100000026) [] (Refused VersionMissing) new → ⊥
+refused_at_the_start new s = let e : Refused VersionMissing ≡ Ready = s.1.0 in cc
 
 just_one_tells : map is_ready (untold ∷ ready ∷ []) ++ map tells_host (untold ∷ ready ∷ []) ≡ true
     ∷ true ∷ false ∷ true ∷ []
@@ -120,6 +127,29 @@ taking_when_short = (
       new s.1,
 )
 
+-- they are at no other place after either call, and not free where the guest tells the host
+abbrev NotAt : Guest → Place → Call → Type 0
+NotAt g place call = (new : Guest) → HonestStep (three_lent g) call [] (Posted 0 2) new
+    → place_of new.places 16 ≡ place → ⊥
+
+abbrev NotAfterEither : Guest → Place → Type 0
+NotAfterEither g place = NotAt g place (Deflate 2) × NotAt g place (Oom 2)
+
+at_no_other_place : NotAfterEither untold Taking × NotAfterEither untold Lent
+    × NotAfterEither untold Used × NotAfterEither ready FreePlace
+at_no_other_place = grind arith
+
+-- they are ballooned still, and counted
+flag_cleared_too_early : (new : Guest)
+    → HonestStep (three_lent untold) (Deflate 2) [] (Posted 0 2) new
+    → is_ballooned new.ballooned 16 ≡ false → ⊥
+flag_cleared_too_early new s e = cc
+
+lowered_too_early : (new : Guest) → HonestStep (three_lent untold) (Deflate 2) [] (Posted 0 2) new
+    → new.actual ≡ 1 → ⊥
+lowered_too_early new s e =
+    let q : Same 1 3 = sym e ∙ ap (λ (g : Guest). g.actual) s.1.3 in omega arith
+
 counted_in_each_stage : map (λ rs. given_away (places FreePlace Used Lent) rs)
     (posted both ∷ taken both ∷ done both ∷ no_requests ∷ []) ≡ 3 ∷ 3 ∷ 3 ∷ 1 ∷ []
 counted_in_each_stage = refl
@@ -180,6 +210,15 @@ reap_moves_nothing : StepsJustSo (in_use false (done both)) (Reap 1) [] (Reaped 
     (record (in_use false no_requests) { actual = 1 })
 reap_moves_nothing = ((refl, (refl, refl)), λ reply new s. s.1)
 
+freed_by_a_reap : (new : Guest) → HonestStep (in_use false (done both)) (Reap 1) [] (Reaped 0 2) new
+    → place_of new.places 16 ≡ FreePlace → ⊥
+freed_by_a_reap new s e = cc
+
+counted_too_long : (new : Guest)
+    → HonestStep (in_use false (done both)) (Reap 1) [] (Reaped 0 2) new → new.actual ≡ 3 → ⊥
+counted_too_long new s e =
+    let q : Same 3 1 = sym e ∙ ap (λ (g : Guest). g.actual) s.1.1 in omega arith
+
 -- another one that is outstanding counts still
 abbrev two_out : List Request → Requests
 two_out rs = record { posted = request 1 (19 ∷ []) 0 ∷ []; taken = []; done = rs }
@@ -195,6 +234,10 @@ free_once_reaped : StepsJustSo
     (record (asked FreePlace ready)
     { ballooned = flags false true; deflate = no_requests; actual = 1 })
 free_once_reaped = ((refl, (refl, refl)), λ reply new s. s.1)
+
+taking_still : (new : Guest) → HonestStep (record (asked Taking ready) { deflate = done both })
+    (Reap 1) [] (Reaped 0 2) new → place_of new.places 16 ≡ Taking → ⊥
+taking_still new s e = cc
 
 -- a reaped inflate's pages are lent as in other guests, and a reaped report's are free
 lent_once_reaped : StepsJustSo (record untold {
@@ -228,6 +271,13 @@ finished = (
   (refl, (both, refl, refl, refl)),
   λ reply new s. just_finished Deflating 0 (framed true (taken both)) both refl reply new s.1,
 )
+
+abbrev FinishedSo : Guest → Type 0
+FinishedSo new = HonestStep (framed true (taken both)) (Finish 1 0) [] (Finished 0) new
+
+not_finished_so : (new : Guest) → FinishedSo new → (frame_of new.frames 16 ≡ None → ⊥)
+    × (contents_of new 16 ≡ [] → ⊥) × (is_ballooned new.ballooned 16 ≡ true → ⊥)
+not_finished_so new s = grind arith
 
 -- all the way: requested back, handed out, taken, used, reaped
 all_the_way : Leads (three_lent untold) (Some (Called (Processor 0 0) (Deflate 2) [] (Posted 0 2))
@@ -272,6 +322,14 @@ reset = ((refl, (refl, refl)), λ reply new s. s.1)
 
 reset_in_each_stage : map (λ rs. after_reset (before_a_reset rs)) each_stage ≡ replicate 4 after_it
 reset_in_each_stage = refl
+
+abbrev NotAfterReset : ℕ → Place → Type 0
+NotAfterReset page place = (new : Guest) → HonestStep
+    (before_a_reset (posted both)) Reset [] Done new → place_of new.places page ≡ place → ⊥
+
+pages_after_a_reset : NotAfterReset 16 Stranded × NotAfterReset 17 Stranded
+    × NotAfterReset 18 FreePlace
+pages_after_a_reset = (λ new s e. cc, λ new s e. cc, λ new s e. cc)
 
 -- where the guest tells the host its taking pages are stranded
 taking_pages_stranded : map (place_of (after_reset (asked Taking ready)).places)

@@ -70,6 +70,10 @@ inflate_changes_nothing : StepsJustSo (pending untold (posted both)) (Inflate 1)
     (Refused DeflatePending) (pending untold (posted both))
 inflate_changes_nothing = ((refl, refl, refl), λ reply new s. (s.1, s.2))
 
+offered_too_early : (new : Guest)
+    → HonestStep (pending untold (posted both)) (Inflate 1) [] (Posted 0 1) new → ⊥
+offered_too_early new s = let e : Posted 0 1 ≡ Refused DeflatePending = s.1 in cc
+
 -- where it tells, free pages are offered beside those that it takes
 offered_where_it_tells : HonestStep (record (asked Taking ready) { target = 9 }) (Inflate 1) []
     (Posted 0 1) (record (asked Taking ready) {
@@ -98,6 +102,10 @@ sweep_by_status = refl
 sweep_changes_nothing : StepsJustSo (framed true (posted both)) (Sweep 16) [] (Refused NoFeature)
     (framed true (posted both))
 sweep_changes_nothing = ((refl, refl, refl), λ reply new s. (s.1, s.2))
+
+swept_in_use : (new : Guest) → HonestStep (framed true (posted both)) (Sweep 16) [] (Swept true) new
+    → ⊥
+swept_in_use new s = let e : Swept true ≡ Refused NoFeature = s.1 in cc
 
 -- ---- the causes, in their order
 
