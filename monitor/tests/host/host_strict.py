@@ -1,7 +1,7 @@
 """A day of a host that is strict: what is lent to guests never passes the budget, none of their processes is killed, and a replay of what they
 asked for and gave grants the same, within the time between two looks."""
 
-from host_checks import eventually, finish, names, pages_moved
+from host_checks import eventually, finish, pages_moved
 from linux_guest import PAGES_PER_MIB
 from linux_host import LEFT
 from linux_kit import Missing, build_shared, core_of, demand
@@ -38,19 +38,20 @@ def compare(bench, recorder):
 
 def strict_run(bench):
     """Four guests at work, who use together what there is less 60 MiB at most, on a strict host."""
-    with bench.town(BUDGET, ("--strict",)) as town:
-        town.settle_in(names(4), MEMORY)
+    guests, budget = bench.crowd(4, BUDGET)
+    with bench.town(budget, ("--strict",)) as town:
+        town.settle_in(guests, MEMORY)
         waits = []
         with Recorder(f"{town.host.folder}/.control") as recorder:
-            town.live(DAY, 1, BUDGET - LEFT * len(town.members), lambda _: look(town, waits))
+            town.live(DAY, 1, budget - LEFT * len(guests), lambda _: look(town, waits))
         apart = compare(bench, recorder)
         kept = sum(outside(town))
         most = max(sum(it.held) for it in town.samples) - kept
-        above = sum(sum(it.held) - kept > BUDGET for it in town.samples)
-        demand(above == 0, f"{above} of {len(town.samples)} looks above the budget, by {most - BUDGET:.1f} MiB")
+        above = sum(sum(it.held) - kept > budget for it in town.samples)
+        demand(above == 0, f"{above} of {len(town.samples)} looks above the budget, by {most - budget:.1f} MiB")
         eventually(lambda: all(it["waits"] == "nothing" for it in town.host.guests().values()), "a guest waits for good")
         finish(town)
         grants = town.host.counters()["grants"]
         demand(grants > 0 and pages_moved(town) > 0, f"{grants} grants, {pages_moved(town)} pages moved: nothing was lent")
-        said = f"{len(town.samples)} looks, 0 above, peak {most:.0f} of {BUDGET} MiB; {grants} grants, {sum(waits)} seconds of waits"
+        said = f"{len(town.samples)} looks, 0 above, peak {most:.0f} of {budget} MiB; {grants} grants, {sum(waits)} seconds of waits"
         return f"{said}; the replay grants the same, {apart:.1f} s apart"
