@@ -52,23 +52,6 @@ pub(crate) struct Kept<S: GuestSlot, L: AsSlice<Call> + Drop> {
     short: bool,
 }
 
-/// A guest of a plan as it was plugged in.
-#[derive(Clone, Copy, Drop)]
-pub(crate) struct PluggedGuest<'p> {
-    pub guest: u32,
-    pub plan: &'p GuestPlan,
-    /// Whether its device is paced.
-    pub paced: bool,
-}
-
-/// What the balancer did.
-#[derive(Clone, Copy, Drop)]
-pub(crate) struct Balancing<'r> {
-    /// The pages that were to stay free in each guest.
-    pub floor: u32,
-    pub rounds: &'r [Round],
-}
-
 impl<S: GuestSlot, L: AsSlice<Call> + Drop> Model for Kept<S, L> {
     ghost use Rattle.vb_run.specs.Notes.{history_of};
     ghost use Rattle.vb_run.specs.Past.{Past, IsKept, scripts_in};
@@ -286,20 +269,22 @@ impl<S: GuestSlot, L: AsSlice<Call> + Drop> Kept<S, L> {
     fn is_planned(
         &self,
         alloc: Global,
-        plugged: PluggedGuest,
-        balancing: Balancing,
+        guest: u32,
+        paced: bool,
+        plan: &GuestPlan,
+        floor: u32,
+        rounds: &[Round],
     ) -> Result<bool, AllocError>
-        ensures { IfOk result (λ is. (is ≡ true) ↔ IsPlanned balancing.floor plugged.guest
-            plugged.plan.now plugged.paced balancing.rounds.now self.now) }
+        ensures { IfOk result (λ is. (is ≡ true)
+            ↔ IsPlanned floor guest plan.now paced rounds.now self.now) }
     {
-        let PluggedGuest { guest, plan, paced } = plugged;
         if !self.is_guest(guest, paced, plan.config) {
             return Ok(false);
         }
         if !are_of(self.scripts.as_slice(), plan.scripts.as_slice()) {
             return Ok(false);
         }
-        let expected = expected_of(alloc, balancing.floor, guest, balancing.rounds)?;
+        let expected = expected_of(alloc, floor, guest, rounds)?;
         Ok(has_made(guest, self.history.as_slice(), expected.as_slice()))
     }
 
@@ -309,22 +294,23 @@ impl<S: GuestSlot, L: AsSlice<Call> + Drop> Kept<S, L> {
         self,
         rt: &R,
         alloc: Global,
-        plugged: PluggedGuest,
-        balancing: Balancing,
+        guest: u32,
+        paced: bool,
+        plan: &GuestPlan,
+        floor: u32,
+        rounds: &[Round],
     ) -> Result<GuestReport, Stop>
-        ensures report { IfOk result (IsGuestReport balancing.floor plugged.guest
-            plugged.plan.now plugged.paced balancing.rounds.now) }
+        ensures report { IfOk result (IsGuestReport floor guest plan.now paced rounds.now) }
         ensures whole { IfOk result (λ _. self.short ≡ false) }
         ensures audit { result ≡ Err Stop.Audit → (self.short ≡ false)
-            × (IsPlanned balancing.floor plugged.guest plugged.plan.now plugged.paced
-            balancing.rounds.now self → ⊥) }
+            × (IsPlanned floor guest plan.now paced rounds.now self → ⊥) }
     {
         let mut kept = self;
         kept.drain(rt, alloc)?;
         if kept.short || !all_ended(kept.scripts.as_slice()) {
             return Err(Stop::Memory);
         }
-        if !kept.is_planned(alloc, plugged, balancing)? {
+        if !kept.is_planned(alloc, guest, paced, plan, floor, rounds)? {
             return Err(Stop::Audit);
         }
         let frames = frames_of(alloc, &kept.slot)?;

@@ -12,7 +12,7 @@ use crate::apart::are_apart;
 use crate::audit::are_rounds;
 use crate::bell::Bell;
 use crate::gate::Gate;
-use crate::kept::{Balancing, Kept, PluggedGuest};
+use crate::kept::Kept;
 use crate::plan::{GuestPlan, Plan, is_plan};
 use crate::report::{GuestReport, Report, RunFault, Stop};
 use crate::round::Round;
@@ -115,15 +115,15 @@ fn report_of<S: GuestSlot, L: AsSlice<Call> + Drop, R: Wait>(
     alloc: Global,
     guest: u32,
     plan: &GuestPlan,
-    balancing: Balancing,
+    floor: u32,
+    rounds: &[Round],
     seat: Seat<S, L>,
 ) -> Result<GuestReport, Stop>
-    ensures { IfOk result (IsGuestReport balancing.floor guest plan.now seat.paced
-        balancing.rounds.now) }
+    ensures { IfOk result (IsGuestReport floor guest plan.now seat.paced rounds.now) }
 {
     let Seat { paced, lock, .. } = seat;
-    let plugged = PluggedGuest { guest, plan, paced };
-    lock.into_inner().close(rt, alloc, plugged, balancing)
+    lock.into_inner()
+        .close(rt, alloc, guest, paced, plan, floor, rounds)
 }
 
 /// The report of each guest.
@@ -131,14 +131,15 @@ fn reports_of<S: GuestSlot, L: AsSlice<Call> + Drop, R: Wait>(
     rt: &R,
     alloc: Global,
     plan: &[GuestPlan],
-    balancing: Balancing,
+    floor: u32,
+    rounds: &[Round],
     seats: Vec<Seat<S, L>>,
 ) -> Result<Vec<GuestReport>, Stop>
     ensures len { IfOk result (λ reports. length reports.items ≡ length plan.now) }
     ensures each { IfOk result (λ reports. (g : ℕ) (r : _) (p : _) (s : _)
         → slice_get reports.items g ≡ Some r → slice_get plan.now g ≡ Some p
         → slice_get seats.items g ≡ Some s
-        → IsGuestReport balancing.floor g p s.paced balancing.rounds.now r) }
+        → IsGuestReport floor g p s.paced rounds.now r) }
 {
     let mut reports = Vec::new(alloc);
     let mut left = seats.into_iter();
@@ -149,7 +150,7 @@ fn reports_of<S: GuestSlot, L: AsSlice<Call> + Drop, R: Wait>(
         let Ok(number) = u32::try_from(guest) else {
             return Err(Stop::Audit);
         };
-        let report = report_of(rt, alloc, number, &plan[guest], balancing, seat)?;
+        let report = report_of(rt, alloc, number, &plan[guest], floor, rounds, seat)?;
         if reports.push(report).is_err() {
             return Err(Stop::Memory);
         }
@@ -179,11 +180,14 @@ fn run_plan<P: GuestPort, G: Gate, R: Threads + Wait + Sync>(
     if !are_rounds(plan, rounds.as_slice()) {
         return Err(Stop::Audit);
     }
-    let balancing = Balancing {
-        floor: plan.floor,
-        rounds: rounds.as_slice(),
-    };
-    let guests = reports_of(rt, alloc, plan.guests.as_slice(), balancing, seats)?;
+    let guests = reports_of(
+        rt,
+        alloc,
+        plan.guests.as_slice(),
+        plan.floor,
+        rounds.as_slice(),
+        seats,
+    )?;
     if !are_apart(alloc, guests.as_slice())? {
         return Err(Stop::Audit);
     }

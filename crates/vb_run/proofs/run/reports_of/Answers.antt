@@ -16,7 +16,7 @@ loop-guest-preserved g c =
       made = search rules;
       rest = sym left.1;
       each = rw made
-          (swapped (λ s. s.paced) c.args.balancing.floor c.args.plan.now c.args.seats.items c.args.balancing.rounds.now
+          (swapped (λ s. s.paced) c.args.floor c.args.plan.now c.args.seats.items c.args.rounds.now
           c.loop-guest.reports.items c.in_ok-report.report c.loop-guest.invariant.each
           (rw c.loop-guest.invariant.made (λ p s h its.
           let same : c.index-plan-guest.result ≡ p =

@@ -8,5 +8,5 @@ invariant-loop-guest g l = record {
   rest : l.left.rest.items ≡ drop l.guest l.fn.seats.items;
   each : (n : ℕ) (r : _) (p : _) (s : _) → slice_get l.reports.items n ≡ Some r
       → slice_get l.plan n ≡ Some p → slice_get l.fn.seats.items n ≡ Some s
-      → IsGuestReport l.balancing.floor n p s.paced l.balancing.rounds.now r;
+      → IsGuestReport l.floor n p s.paced l.rounds r;
 }

@@ -4,10 +4,10 @@ use Rattle.vb_run.proofs.kept.Kept.is_planned.Goals as goal
 
 pub returns : goal.returns
 returns g c =
-    is_planned c.has_made.result c.args.balancing.floor c.args.plugged.guest c.args.plugged.plan.now c.args.plugged.paced
-    c.args.balancing.rounds.now c.in_ok-expected.expected.items (scripts_in c.self.inside.scripts.items)
+    is_planned c.has_made.result c.args.floor c.args.guest c.args.plan.now c.args.paced
+    c.args.rounds.now c.in_ok-expected.expected.items (scripts_in c.self.inside.scripts.items)
     c.self.inside.history.items c.args.self.now (c.is_guest.ensures.0 (search rules))
-    (subst (λ (p : Past). AreScripts p.scripts c.args.plugged.plan.now.scripts.items) c.self.view_is
+    (subst (λ (p : Past). AreScripts p.scripts c.args.plan.now.scripts.items) c.self.view_is
     (rw (sym c.as_slice.ensures.value, sym c.as_slice-2.ensures.value)
     (c.are_of.ensures.0 (search rules))))
     (search rules)
