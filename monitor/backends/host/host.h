@@ -43,8 +43,9 @@ struct seat {
     struct limit_writer writer;
     /* Its process. */
     bool here;                  /* there is one */
-    pid_t process;              /* its number, by the kernel's word */
-    int process_file;           /* readable once it has ended; -1: its channel ends then */
+    pid_t process;              /* the number of its keeper, by the kernel's word */
+    int process_file;           /* readable once that has ended; -1: its channel ends then */
+    pid_t serving;              /* the number of the process that has sent the last report: another one may go on where it ends */
     int channel;                /* -1: none */
     bool gone;                  /* its client has gone; the process hasn't ended yet */
     bool refused;               /* its client isn't served any longer, as it broke a rule or found no room */
@@ -212,8 +213,11 @@ void seat_step(struct seat *seat, int64_t milliseconds);
 /* Has its process keep its terms for a later lender. */
 void seat_keep_terms(struct seat *seat);
 
-/* Tells its process to end. */
+/* Tells its process to end; says so again where it hasn't ended. */
 void seat_leave(struct seat *seat);
+
+/* Has another process, of the program that is there now, go on with its client. */
+void seat_renew(struct seat *seat);
 
 /* Answers its process, which waits for pages: whether they may be had. And grants the deflate that its process holds. What it may have is
  * told it once its limit allows it. */

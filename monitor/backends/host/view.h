@@ -41,7 +41,7 @@ enum { USUAL_OVERHEAD = 64 * 256 };
 struct guest_view {
     const char *name;           /* until the next call that adds or removes a guest */
     const char *path;           /* of the socket where its client comes */
-    pid_t process;              /* 0: none */
+    pid_t process;              /* that serves it; 0: none, or none that has reported */
     const char *version;        /* of its process, as that one says: letters, digits, dots and signs; empty where it says none */
     enum guest_state state;
     struct guest_terms terms;

@@ -34,7 +34,7 @@ int __wrap_clock_gettime(clockid_t clock, struct timespec *time)
 static void lender_orders(void)
 {
     struct lending_message order = {.kind = next_below(10), .number = next_byte(), .asks = 1};
-    order.wait = next_byte() < 200 ? (order.kind == ORDER_GRANT ? fuzzed.held_wait : fuzzed.wait) : next_byte();
+    order.wait = next_byte() < 200 ? (order.kind == ORDER_GRANT ? fuzzed.notes.held_wait : fuzzed.notes.wait) : next_byte();
     order.target = order.kind == ORDER_TARGET ? next_u32() % 100 : 0;
     if (next_byte() == 255)
         send(lender, &order, next_byte(), MSG_DONTWAIT | MSG_NOSIGNAL);
@@ -121,9 +121,9 @@ static void comes(struct options *options)
     demand(!socketpair(AF_UNIX, SOCK_SEQPACKET | SOCK_CLOEXEC | SOCK_NONBLOCK, 0, ends));
     fuzzed.backend.socket = client_comes();
     lender = ends[0];
-    fuzzed.channel = ends[1];
-    fuzzed.later = later;
-    fuzzed.end = -1;
+    fuzzed.notes.channel = ends[1];
+    fuzzed.notes.later = later;
+    fuzzed.notes.end = -1;
     set_hooks(&fuzzed);
 }
 
@@ -133,8 +133,8 @@ static void goes(void)
     files_close(&fuzzed.inbox.message.files);
     free(fuzzed.marks.set);
     file_close(fuzzed.backend.socket);
-    if (fuzzed.channel >= 0)
-        file_close(fuzzed.channel);
+    if (fuzzed.notes.channel >= 0)
+        file_close(fuzzed.notes.channel);
     if (lender >= 0)
         close(lender);
     client_goes();
