@@ -122,7 +122,7 @@ static enum command_line read_words(int count, char **words, struct options *opt
     int said = (where->socket != NULL) + (where->path != NULL) + (where->file >= 0);
     options->client = where->path ? where->path : where->socket;
     options->lives_on = !where->socket;
-    return line == LINE_READ && said != 1 ? LINE_WRONG : line;
+    return line == LINE_READ && said != 1 && !options->layout ? LINE_WRONG : line;
 }
 
 /* Takes the client's socket, or the one where it comes: by its number, or by making it. False where it can't. */

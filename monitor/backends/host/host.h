@@ -107,7 +107,8 @@ struct question {
 };
 
 struct host {
-    const char *folder, *program;
+    const char *folder, *program;       /* program: of guests' processes */
+    const char *itself;         /* the lender's own program */
     uint64_t features;
     VbLoan loans[2 * MOST_GUESTS];      /* by the places of seats */
     bool strict, strict_pages, events, no_sandbox, end_with_lender;
@@ -123,6 +124,7 @@ struct host {
     int64_t decides_at;         /* what guests do isn't decided on before this */
     int64_t stepped_at;         /* when targets were last let grow */
     int end;                    /* has something to read once a signal tells the host to end */
+    bool upgrades;              /* it is to become the program that is there now */
     bool leaves;                /* it ends alone, and guests' processes live on */
     bool anew;                  /* the guests, the budget or the floor have changed */
     enum reason reason;         /* which of them */

@@ -251,6 +251,8 @@ int host_run(struct host *host)
         serve_extras(host, &turn);
         if (turn.files[END].revents || !serve_lines(host, &turn))
             return 0;
+        if (host->upgrades)
+            return 0;
         int64_t now = host_now();
         step(host, now);
         decide(host, now);

@@ -99,6 +99,11 @@ const char *host_refuses(const struct host *host, const char *name, const struct
 /* A target by hand: it stays while it serves. */
 const char *host_set_target(struct host *host, const char *name, uint32_t pages);
 
+/* An upgrade: the lender ends this turn as the program that is there now, where that runs; and a guest's process is to go on as the one that is
+ * there now, which its next report shows. One that waits for pages isn't asked in vain: it has to be asked again. */
+const char *host_upgrade(struct host *host);
+const char *host_renew(struct host *host, const char *name);
+
 /* The words for a state and for what is waited for, of one word each. */
 const char *guest_state_word(enum guest_state state);
 const char *guest_wait_word(enum guest_wait wait);

@@ -2,15 +2,16 @@
 
 import os
 import random
+import select
 import signal
 import struct
-import time
+import threading
 
 import linux_kit
 import pytest
 from tenants import FREE, PAGES, PAGES_OF_ALL, eventually, process_of
 from vhost_client import (
-    BUFFERS, DEFLATE, GET_CONFIG, INFLATE, LIMIT, PAGE, SET_CONFIG, SET_VRING_BASE, SIZE, STATISTICS, Client,
+    BUFFERS, DEFLATE, GET_CONFIG, INFLATE, PAGE, SET_CONFIG, SET_VRING_BASE, SIZE, STATISTICS, Client,
 )
 
 WIDE = ("--floor", "0", "--period", "100", "--step", "0")
@@ -18,9 +19,10 @@ WIDE = ("--floor", "0", "--period", "100", "--step", "0")
 # Places where a process is cut off: fewer than these are come by.
 MOST_CUTS = 1500
 
-# How often a process is killed, and the pages that go into a balloon and out of it meanwhile.
+# How often a process is killed, within how many seconds from when it begins to be busy, and the pages that go into a balloon and out of it meanwhile.
 KILLS = 100
-GIVEN = [*range(PAGES_OF_ALL + 24, PAGES_OF_ALL + 64), *range(PAGES, PAGES + 64)]
+KILL_WITHIN = 0.01
+GIVEN = [*range(PAGES_OF_ALL + 28, PAGES_OF_ALL + 64), *range(PAGES, PAGES + 64)]
 
 
 @pytest.fixture(scope="session")
@@ -36,6 +38,8 @@ def is_told(client, number):
         return
     while client.told() != number:
         continue
+    while select.select([client.own], [], [], 0)[0]:
+        client.told()
 
 
 def serve(client, number, requests):
@@ -86,12 +90,15 @@ def live(client, begin):
 BEGINS = {"messages": Client.start, "events": Client.start_by_events}
 
 
-def cut_once(lender, name, begin):
+def cut_once(lender, name, begin, strict):
     """A life amid which the process of this guest is cut off; whether it was."""
-    client = Client(lender.add(name), lambda: lender.said()[-4:])
+    client, grants = Client(lender.add(name), lambda: lender.said()[-4:]), lender.counters()["grants"]
     ballooned = live(client, begin)
     assert client.holes() == ballooned
     lender.become(name, ballooned=len(ballooned), ready=1, waits="nothing")
+    # A strict guest waits for its memory, and for two deflates.
+    assert lender.counters()["grants"] - grants == (3 if strict else 0)
+    assert not [it for it in lender.said() if "unasked" in it]
     client.socket.setblocking(False)
     with pytest.raises(BlockingIOError):
         client.socket.recv(1)
@@ -101,10 +108,10 @@ def cut_once(lender, name, begin):
     return any(it.startswith(ended) for it in lender.said())
 
 
-def cut_everywhere(lender, begin, places):
+def cut_everywhere(lender, begin, places, strict):
     """Lives that are cut off in one place each, until one isn't."""
     for place in places:
-        if not cut_once(lender, f"cut-{place}", begin):
+        if not cut_once(lender, f"cut-{place}", begin, strict):
             return place
     return None
 
@@ -114,9 +121,78 @@ def cut_everywhere(lender, begin, places):
 @pytest.mark.parametrize("way", BEGINS)
 def test_a_process_that_is_cut_off_anywhere(lend, cutting, way, strict):
     lender = lend(64, *WIDE, *strict, "--lines", "10000", "--program", cutting)
-    place = cut_everywhere(lender, BEGINS[way], range(1, MOST_CUTS))
+    place = cut_everywhere(lender, BEGINS[way], range(1, MOST_CUTS), strict)
     assert place and place > 200, f"{place} places"
-    assert not [it for it in lender.said() if "unasked" in it]
+
+
+class Worked:
+    """Pages of a guest with bytes of their own, of which some are in its balloon."""
+
+    def __init__(self, client, chance):
+        self.client, self.chance, self.ballooned = client, chance, set()
+        self.bytes = {it: self.fill(it) for it in GIVEN}
+
+    def fill(self, page):
+        """Writes new bytes into a page; returns them."""
+        data = self.chance.randbytes(PAGE)
+        self.client.write(page * PAGE, data)
+        return data
+
+    def requests(self, pages):
+        """Returns up to SIZE requests of these pages, and notes them."""
+        pages = self.chance.sample(sorted(pages), min(len(pages), 40))
+        return [pages[it::SIZE] for it in range(SIZE) if pages[it::SIZE]]
+
+    def inflate(self):
+        """Gives some pages."""
+        requests = self.requests(set(GIVEN) - self.ballooned)
+        serve(self.client, INFLATE, requests)
+        self.ballooned |= {page for it in requests for page in it}
+
+    def deflate(self):
+        """Takes some pages back, and fills them."""
+        requests = self.requests(self.ballooned)
+        serve(self.client, DEFLATE, requests)
+        for page in (page for it in requests for page in it):
+            self.ballooned.discard(page)
+            self.bytes[page] = self.fill(page)
+
+    def check(self):
+        """Each page that isn't in the balloon has its bytes, and each other one isn't held."""
+        assert self.client.holes() == sorted(self.ballooned)
+        for page in set(GIVEN) - self.ballooned:
+            assert self.client.read(page * PAGE, PAGE) == self.bytes[page], page
+
+
+@pytest.mark.timeout(600)
+@pytest.mark.parametrize("strict", ((), ("--strict",)), ids=("at-once", "strict"))
+@pytest.mark.parametrize("way", BEGINS)
+def test_a_process_that_is_killed_amid_work(lend, way, strict):
+    lender, chance = lend(64, *WIDE, *strict, "--lines", "10000"), random.Random(f"amid {way}")
+    client = Client(lender.add("a"), lambda: lender.said()[-4:])
+    BEGINS[way](client)
+    lender.become("a", ready=1)
+    work = Worked(client, chance)
+    for number in range(KILLS):
+        process = process_of(lender, "a")
+        kill = threading.Timer(chance.random() * KILL_WITHIN, os.kill, (process, signal.SIGKILL))
+        kill.start()
+        work.inflate(), work.deflate()
+        kill.join()
+        eventually(lambda: lender.guests()["a"]["process"] not in (0, process))
+        work.check()
+        lender.become("a", ballooned=len(work.ballooned), waits="nothing", ready=1)
+    said = [it for it in lender.said() if it == "a: its process has ended by signal 9: another one goes on"]
+    assert (len(said), lender.counters()["gone"]) == (KILLS, 0)
+    client.leave()
+
+
+def test_a_process_that_ends_again_and_again_is_not_started_anew(lend, cutting):
+    lender = lend(64, *WIDE, "--program", cutting)
+    client = Client(lender.add("cut-always"), lambda: "")
+    assert client.socket.recv(1) == b""
+    lender.become("cut-always", here=0)
+    assert lender.said()[-2:] == ["cut-always: its process has ended by signal 4", "gone cut-always"]
 
 
 WRONG = ("index-0", "no-set", "answers-twice", "lost-bytes", "lost-files", "old-state", "new-number", "ungranted", "handles-twice", "no-call")
@@ -130,5 +206,5 @@ def test_a_process_that_goes_on_wrongly_is_found(lend, cutting, wrong, monkeypat
     lender = lend(64, *WIDE, "--strict", "--lines", "10000", "--program", cutting)
     with pytest.raises((AssertionError, OSError, struct.error, TypeError)) as found:
         for way in BEGINS:
-            cut_everywhere(lender, BEGINS[way], range(1, MOST_CUTS))
+            cut_everywhere(lender, BEGINS[way], range(1, MOST_CUTS), True)
     print(f"{wrong}: {found.value}")

@@ -24,7 +24,7 @@ VHOST_PARTS = tuple(
 )
 HOST_PARTS = (
     "folder", "input", "journal", "limit", "limit_writer", "limits", "lines", "loans", "loop", "measures", "message", "orders", "policy",
-    "reports", "seats", "start", "view",
+    "reports", "seats", "start", "upgrade", "view",
 )
 LENT_PARTS = tuple(f"guest/{it}" for it in ("keeper", "kept", "lent", "lent_channel", "marks", "outbox", "sandbox")) + ("host/message",)
 CLIENT_PARTS = {
@@ -69,7 +69,7 @@ WRONG_WRAPPED = {
     "lent": ("counters_taken", "marks_follow"),
     "cut": (
         "vb_go_on", "vb_mark", "recvmsg", "write", "splice", "fallocate", "lending_send", "lending_read", "rings_settle", "kept_save",
-        "inbox_next", "lent_run", "memory_word", "marks_regain", "outbox_regain", "inbox_regain", "files_take", "lent_holds", "client_tell",
+        "inbox_next", "kept_regain", "lent_run", "memory_word", "marks_regain", "outbox_regain", "inbox_regain", "files_take", "lent_holds", "client_tell",
     ),
 }
 

@@ -1,5 +1,6 @@
 /* A guest's process that ends by a fault in one place, so that another one goes on: that of the guest `cut-N` or `cut-N-..` at the Nth of
- * these places that it comes by, which are before and after each call that this file stands before. Later processes of that guest don't end.
+ * these places that it comes by, which are before and after each call that this file stands before. Later processes of that guest don't end,
+ * but those of the guest `cut-always`, each at the first place.
  *
  * The environment's ANEW_WRONG names what later processes do wrong:
  *
@@ -24,6 +25,7 @@
 
 static struct kept *kept;
 static unsigned long at, left;
+static bool always;
 
 /* Whether a later process of this guest is wrong in this way. */
 static bool is(const char *name)
@@ -35,7 +37,7 @@ static bool is(const char *name)
 /* Ends the process where it is the first one. */
 static void cut(void)
 {
-    if (kept && kept->ended_by == 0 && ++at == left)
+    if (kept && (kept->ended_by == 0 || always) && ++at == left)
         __builtin_trap();
 }
 
@@ -78,10 +80,17 @@ REAL(void, inbox_next, struct inbox *inbox)
     cut();
 }
 
-REAL(int, lent_run, const struct options *options, struct kept *its)
+REAL(bool, kept_regain, struct kept *its)
 {
     kept = its;
+    return __real_kept_regain(its);
+}
+
+REAL(int, lent_run, const struct options *options, struct kept *its)
+{
     left = strncmp(options->client, "cut-", 4) ? 0 : strtoul(options->client + 4, NULL, 10);
+    always = !strcmp(options->client, "cut-always");
+    left = always ? 1 : left;
     if (is("old-state"))
         kept->counts = 1 - kept->counts;
     if (is("ungranted"))
