@@ -17,7 +17,7 @@ enum stream_state inbox_read(int socket, struct inbox *inbox);
 /* The message was served: the next one comes. */
 void inbox_next(struct inbox *inbox);
 
-/* This many bytes, and the files beside them, have come by a read that nobody has looked at. False where no message has so many. */
+/* This many bytes, and the files beside them, have come by a read that nobody has looked at. False where no message has as many. */
 bool inbox_regain(struct inbox *inbox, uint64_t length);
 
 /* How many bytes the message has; and whether it is whole. */

@@ -45,9 +45,9 @@ void kept_save(struct lent *lent)
     state->counters = backend->counters;
     memcpy(state->figures, backend->figures, sizeof state->figures);
     state->figure_count = backend->figure_count;
-    state->target = device->target;
-    state->actual = device->actual;
-    state->poison = device->poison;
+    state->target_pages = device->target;
+    state->actual_pages = device->actual;
+    state->poison_value = device->poison;
     state->seen = backend->seen;
     state->remarks = backend->remarks;
     state->socket = backend->socket;
@@ -106,9 +106,9 @@ bool kept_restore(struct lent *lent)
     backend->figure_count = state->figure_count < MOST_TAGS ? state->figure_count : MOST_TAGS;
     if (!restore_memory(lent, state) || !rings_regain(backend, &state->told, state->rings))
         return false;
-    balloon_set_target(&backend->balloon, state->target);
-    configuration_write(device, ACTUAL_AT, state->actual);
-    configuration_write(device, POISON_AT, state->poison);
+    balloon_set_target(&backend->balloon, state->target_pages);
+    configuration_write(device, ACTUAL_AT, state->actual_pages);
+    configuration_write(device, POISON_AT, state->poison_value);
     return true;
 }
 

@@ -47,7 +47,7 @@ struct kept_state {
     uint32_t region_count;
     struct counters counters;
     VbStatistic figures[MOST_TAGS];
-    uint32_t figure_count, target, actual, poison, seen, remarks;
+    uint32_t figure_count, target_pages, actual_pages, poison_value, seen, remarks;
     uint64_t set_words;
     int socket, channel;        /* the client's, and the one on which it is told things */
     enum outcome outcome;       /* of the message in the inbox */
@@ -81,7 +81,7 @@ void kept_clear(struct kept *kept);
 /* What a process is now counts from now on. Files that it has closed since the last time are closed then. */
 void kept_save(struct lent *lent);
 
-/* Makes the inbox and the outbox what they were as the process before ended, whatever it was doing; false where no message has so many bytes
+/* Makes the inbox and the outbox what they were as the process before ended, whatever it was doing; false where no message has as many bytes
  * as were read. */
 bool kept_regain(struct kept *kept);
 

@@ -50,14 +50,14 @@ static bool serve_message(struct lent *lent)
 {
     struct inbox *inbox = &lent->kept->inbox;
     struct message message = inbox->message;
-    if (!message_serve(&lent->backend, &message))
-        return false;
+    bool served = message_serve(&lent->backend, &message);
     lent->messages++;
     lent->bytes += inbox_length(inbox);
-    kept_save(lent);
+    if (served)
+        kept_save(lent);
     inbox_next(inbox);
     lent->ends_anew |= lent->bytes - lent->kept->counted_from > COUNT_BEGINS / 2;
-    return true;
+    return served;
 }
 
 /* The client's next message, if it is there whole: 1; 0 where it has gone; -1 where it can't be served. */

@@ -50,7 +50,7 @@ static void note_memory(struct marks *marks, const struct guest_memory *memory)
     qsort(marks->spans, marks->span_count, sizeof marks->spans[0], compare);
 }
 
-/* The words behind the set are zeros: the pages that it loses aren't memory, so their marks were taken out. */
+/* The words after the set are zeros: the pages that it loses aren't memory, so their marks were taken out. */
 static void resize(struct balloon *balloon, const struct marks *marks, uint64_t words)
 {
     balloon->ballooned_words = words;

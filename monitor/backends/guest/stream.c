@@ -16,7 +16,7 @@ static bool has_file(const struct files *files, int file)
     return false;
 }
 
-/* Keeps the files of one part of what came beside the bytes. Those for which there is no room stay open: who sends so many isn't served any
+/* Keeps the files of one part of what came beside the bytes. Those for which there is no room stay open: who sends more files than that isn't served any
  * longer. */
 static void keep_files(struct files *files, const struct cmsghdr *part)
 {
@@ -37,7 +37,7 @@ static void keep_files(struct files *files, const struct cmsghdr *part)
 void files_take(struct files *files)
 {
     struct msghdr *header = &files->beside.header;
-    header->msg_control = &files->beside.control;
+    header->msg_control = files->beside.control;
     if (header->msg_controllen > sizeof files->beside.control)
         header->msg_controllen = 0;
     files->lost |= (header->msg_flags & MSG_CTRUNC) != 0;
@@ -51,7 +51,7 @@ ssize_t stream_part(int socket, void *to, size_t length, struct files *files)
     struct beside *beside = &files->beside;
     struct iovec part = {to, length};
     beside->header = (struct msghdr){
-        .msg_iov = &part, .msg_iovlen = 1, .msg_control = &beside->control, .msg_controllen = sizeof beside->control};
+        .msg_iov = &part, .msg_iovlen = 1, .msg_control = beside->control, .msg_controllen = sizeof beside->control};
     ssize_t got = recvmsg(socket, &beside->header, MSG_CMSG_CLOEXEC | MSG_DONTWAIT);
     if (got < 0)
         return errno == ECONNRESET ? 0 : -1;

@@ -12,10 +12,7 @@ enum { MOST_FILES = 8 };
 /* What the kernel writes beside the bytes of a read. */
 struct beside {
     struct msghdr header;
-    union {
-        char bytes[CMSG_SPACE(MOST_FILES * sizeof(int))];
-        struct cmsghdr aligned;
-    } control;
+    _Alignas(struct cmsghdr) unsigned char control[CMSG_SPACE(MOST_FILES * sizeof(int))];
 };
 
 struct files {

@@ -16,8 +16,8 @@ from vhost_client import (
 
 WIDE = ("--floor", "0", "--period", "100", "--step", "0")
 
-# Places where a process is cut off: fewer than these are come by.
-MOST_CUTS = 1500
+# Places where a process is cut off: more and fewer than these are come by.
+LEAST_CUTS, MOST_CUTS = 300, 1500
 
 # How often a process is killed, within how many seconds from when it begins to be busy, and the pages that go into a balloon and out of it meanwhile.
 KILLS = 100
@@ -89,6 +89,9 @@ def live(client, begin):
 
 BEGINS = {"messages": Client.start, "events": Client.start_by_events}
 
+# What a strict guest is granted in such a life: its memory, at once or in two parts, and two deflates.
+GRANTS = {Client.start: 3, Client.start_by_events: 4}
+
 
 def cut_once(lender, name, begin, strict):
     """A life amid which the process of this guest is cut off; whether it was."""
@@ -96,8 +99,7 @@ def cut_once(lender, name, begin, strict):
     ballooned = live(client, begin)
     assert client.holes() == ballooned
     lender.become(name, ballooned=len(ballooned), ready=1, waits="nothing")
-    # A strict guest waits for its memory, and for two deflates.
-    assert lender.counters()["grants"] - grants == (3 if strict else 0)
+    assert lender.counters()["grants"] - grants == (GRANTS[begin] if strict else 0)
     assert not [it for it in lender.said() if "unasked" in it]
     client.socket.setblocking(False)
     with pytest.raises(BlockingIOError):
@@ -117,12 +119,13 @@ def cut_everywhere(lender, begin, places, strict):
 
 
 @pytest.mark.timeout(900)
-@pytest.mark.parametrize("strict", ((), ("--strict",)), ids=("at-once", "strict"))
+@pytest.mark.parametrize("strict, each", (((), 5), (("--strict",), 1)), ids=("at-once", "strict"))
 @pytest.mark.parametrize("way", BEGINS)
-def test_a_process_that_is_cut_off_anywhere(lend, cutting, way, strict):
+def test_a_process_that_is_cut_off_anywhere(lend, cutting, way, strict, each):
+    # A strict guest's process does what another one does, and more: of the other's places some are enough.
     lender = lend(64, *WIDE, *strict, "--lines", "10000", "--program", cutting)
-    place = cut_everywhere(lender, BEGINS[way], range(1, MOST_CUTS), strict)
-    assert place and place > 200, f"{place} places"
+    place = cut_everywhere(lender, BEGINS[way], range(1, MOST_CUTS, each), strict)
+    assert place and place > LEAST_CUTS, f"{place} places"
 
 
 class Worked:
@@ -199,7 +202,7 @@ WRONG = ("index-0", "no-set", "answers-twice", "lost-bytes", "lost-files", "old-
 
 
 @pytest.mark.timeout(900)
-@pytest.mark.parametrize("wrong", WRONG)
+@pytest.mark.parametrize("wrong", [pytest.param(it, marks=pytest.mark.wrong(it)) for it in WRONG])
 def test_a_process_that_goes_on_wrongly_is_found(lend, cutting, wrong, monkeypatch):
     monkeypatch.setenv("ANEW_WRONG", wrong)
     monkeypatch.setattr("vhost_client.LIMIT", 2), monkeypatch.setattr("tenants.LIMIT", 2)

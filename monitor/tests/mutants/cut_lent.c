@@ -1,5 +1,5 @@
 /* A guest's process that ends by a fault in one place, so that another one goes on: that of the guest `cut-N` or `cut-N-..` at the Nth of
- * these places that it comes by, which are before and after each call that this file stands before. Later processes of that guest don't end,
+ * these places that it comes by, which are before and after each call that this file is put before. Later processes of that guest don't end,
  * but those of the guest `cut-always`, each at the first place.
  *
  * The environment's ANEW_WRONG names what later processes do wrong:
