@@ -5,7 +5,7 @@ DONE, REFUSED, USAGE, AWAY, UNCLEAR, PART = range(6)
 # What --help says of them.
 TABLE = """exit statuses:
   0  done
-  1  the host refused, and nothing has changed
+  1  the host refused, and nothing has changed; of plan --check: the replay differs
   2  the command line is wrong
   3  no host answers: it isn't running, or its socket may not be opened
   4  the host's answer isn't understood, or it went away amid an answer

@@ -124,8 +124,6 @@ typedef struct { uint64_t table, avail, used; uint16_t size, next; } VbQueueStar
 typedef struct {
     uint32_t what;              /* 0: it has ended */
     uint32_t kind;              /* of its queue */
-    VbSpot at;                  /* VB_READ and VB_COPY */
-    uint32_t length, into;      /* VB_COPY */
     uint32_t runs;              /* VB_TELL_PAGES: runs, the pages in them, and numbers that were skipped */
     uint32_t pages, skipped;
     uint32_t figures;           /* VB_TELL_FIGURES */
@@ -134,6 +132,8 @@ typedef struct {
     VbSpot id_at, length_at, index_at;          /* VB_GIVE_BACK */
     uint32_t id, used_length;
     uint16_t used_index;
+    VbSpot at;                  /* VB_READ and VB_COPY */
+    uint32_t length, into;      /* VB_COPY */
     size_t number, from;        /* these four: what the library remembers */
     uint64_t in_file, cut_length;
     uint32_t code, rule;        /* at the end: VB_OK where a chain was served; VB_NOTHING; or why the last one wasn't */
@@ -145,6 +145,8 @@ typedef struct {
     uint8_t given, taken, flag, phase, keeps;   /* `taken`: 1 where the chain is held that was told: its pages stay in the set */
     uint16_t published;
     uint32_t taken_pages;       /* how many pages that chain names */
+    uint32_t told[3];           /* within a call alone: what is told, and what is written of a used chain */
+    uint64_t written[10];
 } VbNotice;
 
 /* The room that a notice needs, with any bytes at first; then the library's to write, but for `bytes`. One room
@@ -177,12 +179,12 @@ VB_ASSERT(VB_HAS(Region, 24) && VB_AT(Region, length, 8) && VB_AT(Region, in_fil
           && VB_AT(Spot, offset, 8) && VB_HAS(Cut, 32) && VB_AT(Cut, offset, 8) && VB_AT(Cut, in_file, 16)
           && VB_AT(Cut, length, 24) && VB_HAS(Large, 40) && VB_AT(Large, waiting, 32) && VB_HAS(Room, 16992)
           && VB_AT(Room, bytes, 4096) && VB_AT(Room, runs, 5120) && VB_AT(Room, figures, 7168) && VB_AT(Room, cuts, 8800)
-          && VB_HAS(Notice, 200) && VB_AT(Notice, at, 8) && VB_AT(Notice, length, 24) && VB_AT(Notice, runs, 32)
-          && VB_AT(Notice, figures, 44) && VB_AT(Notice, kept, 52) && VB_AT(Notice, id_at, 56) && VB_AT(Notice, id, 104)
-          && VB_AT(Notice, used_index, 112) && VB_AT(Notice, number, 120) && VB_AT(Notice, in_file, 136)
+          && VB_HAS(Notice, 296) && VB_AT(Notice, runs, 8) && VB_AT(Notice, figures, 20) && VB_AT(Notice, kept, 28)
+          && VB_AT(Notice, id_at, 32) && VB_AT(Notice, id, 80) && VB_AT(Notice, used_index, 88) && VB_AT(Notice, at, 96)
+          && VB_AT(Notice, length, 112) && VB_AT(Notice, number, 120) && VB_AT(Notice, in_file, 136)
           && VB_AT(Notice, code, 152) && VB_AT(Notice, chains_left, 172) && VB_AT(Notice, given, 186)
           && VB_AT(Notice, phase, 189) && VB_AT(Notice, keeps, 190) && VB_AT(Notice, published, 192)
-          && VB_AT(Notice, taken_pages, 196));
+          && VB_AT(Notice, taken_pages, 196) && VB_AT(Notice, told, 200) && VB_AT(Notice, written, 216));
 
 /* The version of the library, as VB_VERSION_NUMBER. */
 uint32_t vb_version(void);

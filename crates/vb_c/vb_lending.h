@@ -62,6 +62,12 @@ typedef struct {
     uint32_t most;              /* what it has above these is asked of it, whatever the host lacks */
     uint32_t priority;          /* those of a lower one give first */
 } VbHostGuest;
+/* What a host has for its guests together, and what each of them is to keep free, in pages. */
+typedef struct {
+    uint32_t frames;            /* for all guests */
+    uint32_t floor;             /* to stay free in each guest */
+    uint32_t slack;             /* by how many fewer pages free than the floor old targets still serve */
+} VbBudget;
 
 VB_ASSERT(sizeof(VbLoan) == 32 && offsetof(VbLoan, ballooned) == 4 && offsetof(VbLoan, lent) == 8 && offsetof(VbLoan, asked) == 12
           && offsetof(VbLoan, turn) == 16 && offsetof(VbLoan, spare) == 24 && offsetof(VbLoan, uncounted) == 28
@@ -72,6 +78,7 @@ VB_ASSERT(sizeof(VbHostGuest) == 72 && offsetof(VbHostGuest, pages) == 32 && off
           && offsetof(VbHostGuest, ballooned) == 40 && offsetof(VbHostGuest, ballooned_then) == 44
           && offsetof(VbHostGuest, available) == 48 && offsetof(VbHostGuest, contact) == 52 && offsetof(VbHostGuest, rests) == 54
           && offsetof(VbHostGuest, least) == 56 && offsetof(VbHostGuest, most) == 60 && offsetof(VbHostGuest, priority) == 64);
+VB_ASSERT(sizeof(VbBudget) == 12 && offsetof(VbBudget, floor) == 4 && offsetof(VbBudget, slack) == 8);
 VB_ASSERT(sizeof(VbShare) == 12 && offsetof(VbShare, spare) == 4 && offsetof(VbShare, priority) == 8);
 
 /* What happens to a guest: VB_OK where it has its effect; VB_BAD_ARGUMENT where guest isn't below count, or it doesn't fit, as is
@@ -131,14 +138,13 @@ VbNeed vb_guest_need(const VbHostGuest *guest, uint32_t floor);
 /* Puts a target for each guest into `targets`: what it has above its most, as far as it can give it and doesn't wait; and what is still
  * missing, by priority as vb_loan_class_targets does. VB_OK, and then what the guests count for without their targets is no more than
  * the frames; VB_SHORT and VB_BAD_ARGUMENT as of vb_loan_class_targets. */
-VbTargets vb_guest_targets(uint32_t frames, uint32_t floor, const VbHostGuest *guests, size_t count, VbShare *shares, size_t shares_room,
+VbTargets vb_guest_targets(const VbBudget *budget, const VbHostGuest *guests, size_t count, VbShare *shares, size_t shares_room,
                            VbNeed *needs, size_t needs_room, uint32_t *targets, size_t targets_room);
 /* 0 where old targets still serve, else 1: there is one for each guest, none is below what is forced by the guest's most, or above what
- * the guest could give with `slack` pages fewer free than the floor, and together they are enough. It is 1 where a room isn't count. Of
+ * the guest could give with fewer pages free than the floor by the slack, and together they are enough. It is 1 where a room isn't count. Of
  * `needs` and `rests` nothing is kept. */
-uint32_t vb_needs_guest_targets(uint32_t frames, uint32_t floor, uint32_t slack, const VbHostGuest *guests, size_t count,
-                                const uint32_t *old, size_t old_count, VbNeed *needs, size_t needs_room,
-                                uint32_t *rests, size_t rests_room);
+uint32_t vb_needs_guest_targets(const VbBudget *budget, const VbHostGuest *guests, size_t count, const uint32_t *old, size_t old_count,
+                                VbNeed *needs, size_t needs_room, uint32_t *rests, size_t rests_room);
 
 #undef VB_ASSERT
 #ifdef __cplusplus

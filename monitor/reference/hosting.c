@@ -65,39 +65,39 @@ static Sum given_before(const VbHostGuest *guests, const VbNeed *needs, size_t c
     return pages;
 }
 
-VbTargets vb_guest_targets(uint32_t frames, uint32_t floor, const VbHostGuest *guests, size_t count, VbShare *shares, size_t shares_room,
+VbTargets vb_guest_targets(const VbBudget *budget, const VbHostGuest *guests, size_t count, VbShare *shares, size_t shares_room,
                            VbNeed *needs, size_t needs_room, uint32_t *targets, size_t targets_room)
 {
     (void)shares;
     if (shares_room != count || needs_room != count || targets_room != count)
         return (VbTargets){ .code = VB_BAD_ARGUMENT };
     for (size_t i = 0; i < count; i++) {
-        VbNeed need = vb_guest_need(&guests[i], floor);
-        uint32_t first = forced(&guests[i], floor);
+        VbNeed need = vb_guest_need(&guests[i], budget->floor);
+        uint32_t first = forced(&guests[i], budget->floor);
         needs[i] = (VbNeed){ need.pages - first, need.spare - first };
     }
-    Sum lack = missing_pages(needs, count, frames), spare = spared_before(needs, count, count);
+    Sum lack = missing_pages(needs, count, budget->frames), spare = spared_before(needs, count, count);
     for (size_t i = 0; i < count; i++)
-        targets[i] = forced(&guests[i], floor) + (uint32_t)less(beyond(lack, given_before(guests, needs, count, i)), needs[i].spare);
+        targets[i] = forced(&guests[i], budget->floor) + (uint32_t)less(beyond(lack, given_before(guests, needs, count, i)), needs[i].spare);
     if (lack > spare)
         return (VbTargets){ .code = VB_SHORT, .missing = (uint64_t)less(lack - spare, UINT64_MAX) };
     return (VbTargets){ .code = VB_OK };
 }
 
-uint32_t vb_needs_guest_targets(uint32_t frames, uint32_t floor, uint32_t slack, const VbHostGuest *guests, size_t count,
-                                const uint32_t *old, size_t old_count, VbNeed *needs, size_t needs_room,
-                                uint32_t *rests, size_t rests_room)
+uint32_t vb_needs_guest_targets(const VbBudget *budget, const VbHostGuest *guests, size_t count, const uint32_t *old, size_t old_count,
+                                VbNeed *needs, size_t needs_room, uint32_t *rests, size_t rests_room)
 {
     Sum pages = 0, asked = 0;
+    uint32_t floor = budget->floor;
     (void)needs, (void)rests;
     if (needs_room != count || rests_room != count || old_count != count)
         return 1;
     for (size_t i = 0; i < count; i++) {
-        uint32_t first = forced(&guests[i], floor), most = vb_guest_need(&guests[i], (uint32_t)beyond(floor, slack)).spare;
+        uint32_t first = forced(&guests[i], floor), most = vb_guest_need(&guests[i], (uint32_t)beyond(floor, budget->slack)).spare;
         if (old[i] < first || old[i] > (most > first ? most : first))
             return 1;
         pages += vb_guest_need(&guests[i], floor).pages - first;
         asked += old[i] - first;
     }
-    return asked < beyond(pages, frames);
+    return asked < beyond(pages, budget->frames);
 }

@@ -1,4 +1,5 @@
-"""Draws a run of host-linux: what the host holds of each guest, one above the other, over the time, what it lends, who waits, and the targets."""
+"""Draws a run of host-linux: what the host holds of each guest, one above the other, over the time, what it lends, who waits for whom, and the
+targets."""
 
 import os
 
@@ -9,6 +10,10 @@ GUESTS = ("#77aadd", "#eedd88", "#99ddbb", "#ffaabb", "#bbccee", "#ee8866", "#aa
 BUDGET = {"color": "#cc0022", "linewidth": 1.6}
 PROMISED = {"color": "#444444", "linewidth": 1.2, "linestyle": (0, (1, 2))}
 LENT = {"color": "#225588", "linewidth": 1.2, "linestyle": (0, (4, 2))}
+
+# Who waits, and who is waited for; rows of guests that have their names.
+WAITS, WAITED_FOR = "#cc0022", {"facecolor": "none", "edgecolor": "#444444", "hatch": "/////", "linewidth": 0}
+SHORT, MOST_NAMES = "#dddddd", 8
 
 # Seconds for which a picture has one point: that where the host held most.
 POINT_EVERY = 0.2
@@ -39,13 +44,23 @@ def draw_held(axes, samples, budget, promised):
     axes.set(ylabel="MiB on the host", ylim=(0, promised * 1.05))
 
 
+def is_waited_for(sample, number):
+    """Whether another guest waits while this one is still to give pages."""
+    return sample.owes[number] > 0 and any(it for other, it in enumerate(sample.waits) if other != number)
+
+
 def draw_waits(axes, samples, names):
-    """Draws, for each guest, the times at which it waits."""
+    """Draws a row for each guest: filled where it waits, and hatched where others wait for what it is still to give. It is grey under all rows
+    while the guests can't spare what they lack together: then somebody has to free memory."""
     seconds = [it.seconds for it in samples]
+    axes.fill_between(seconds, 0, len(names), where=[it.short > 0 for it in samples], step="post", color=SHORT, linewidth=0)
     for number in range(len(names)):
-        waits = [bool(it.waits[number]) for it in samples]
-        axes.fill_between(seconds, number + 0.1, number + 0.9, where=waits, step="post", color=GUESTS[number % len(GUESTS)], linewidth=0)
-    axes.set(ylabel="waits", ylim=(0, len(names)), yticks=())
+        waits, owes = [bool(it.waits[number]) for it in samples], [is_waited_for(it, number) for it in samples]
+        axes.fill_between(seconds, number + 0.1, number + 0.9, where=owes, step="post", **WAITED_FOR)
+        axes.fill_between(seconds, number + 0.1, number + 0.9, where=waits, step="post", color=WAITS, linewidth=0)
+    axes.set(ylim=(0, len(names)), yticks=[it + 0.5 for it in range(len(names))])
+    axes.set_yticklabels(names if len(names) <= MOST_NAMES else [], fontsize="small")
+    axes.tick_params(axis="y", length=0)
 
 
 def draw_targets(axes, samples):
@@ -64,6 +79,7 @@ def explain(library, axes, names):
     handles = [line([], [], label="promised to all", **PROMISED), line([], [], label="the host's budget", **BUDGET)]
     handles.append(line([], [], label="lent to all", **LENT))
     handles.append(line([], [], label="held for all", color="#333333", linewidth=0.8))
+    handles += [area(color=WAITS, label="waits"), area(label="is waited for", **WAITED_FOR), area(color=SHORT, label="all are short")]
     handles += [area(color=GUESTS[it % len(GUESTS)], label=name) for it, name in reversed(list(enumerate(names)))]
     axes.legend(handles=handles, loc="upper left", bbox_to_anchor=(1.01, 1.02), borderaxespad=0, frameon=False)
 
@@ -74,8 +90,8 @@ def draw(library, path, names, budget, promised, samples):
     if len(points) < 2:
         raise Fault("the run is too short for a picture")
     figure = library.figure.Figure(figsize=(10, 5.2))
-    above, middle, below = figure.subplots(3, 1, sharex=True, gridspec_kw={"height_ratios": (10, 1, 4)})
-    figure.subplots_adjust(left=0.07, right=0.84, top=0.97, bottom=0.09, hspace=0.08)
+    above, middle, below = figure.subplots(3, 1, sharex=True, gridspec_kw={"height_ratios": (10, 2, 4)})
+    figure.subplots_adjust(left=0.08, right=0.84, top=0.97, bottom=0.09, hspace=0.08)
     draw_held(above, points, budget, promised)
     draw_waits(middle, points, names)
     draw_targets(below, points)

@@ -60,9 +60,10 @@ bigvasta remove web-1
 systemctl stop bigvasta-host
 """
 
-# The first example of the planner's help, as it is printed, in a Debian with the packages that it names.
+# The first example of the planner's help, as it is printed, in a Debian with the packages that it names. matplotlib keeps its fonts at home.
 PLAN = """
 rm -rf /tmp/plan && mkdir /tmp/plan && cd /tmp/plan
+export HOME=/tmp/plan
 bigvasta plan --help > help
 dpkg -s $(sed -n 's/^  apt-get install //p' help) > /dev/null
 sed -n '/^example/,/^$/s/^  bigvasta/bigvasta/p' help > example
@@ -96,9 +97,11 @@ INSTEAD = (
     ("bigvasta watch", "sleep 2 && (sleep 3; printf q) | timeout 20 script -qec 'bigvasta watch' /dev/null > /tmp/watch && grep -q 'budget 6144' /tmp/watch"),
     (QEMU, """
 if {has_device}; then
-    ({command} -display none -serial none -monitor none & echo $! > /tmp/qemu.pid)
+    ({command} -display none -serial none -monitor none > /tmp/qemu.log 2>&1 & echo $! > /tmp/qemu.pid)
+    trap 'kill $(cat /tmp/qemu.pid) 2> /dev/null || true' EXIT
     for i in $(seq 60); do bigvasta guest web-1 --json | grep -q '"state": "absent"' || break; sleep 0.5; done
-    bigvasta guest web-1 --json | grep -vq '"process": 0,'
+    process() { bigvasta guest web-1 --json | sed 's/.*"process": \\([0-9]*\\),.*/\\1/'; }
+    first=$(process) && sleep 3 && test "$first" != 0 && test "$(process)" = "$first"
     kill $(cat /tmp/qemu.pid)
     for i in $(seq 60); do bigvasta guest web-1 --json | grep -q '"state": "absent"' && break; sleep 0.5; done
     bigvasta guest web-1 --json | grep -q '"state": "absent"'

@@ -18,17 +18,25 @@ test ! -e /usr/share/man/man1/vhost_user_balloon.1 && test -s /usr/share/man/man
 test "$(dpkg-query -W -f '${db:Status-Status} ${Version}' bigvasta | grep -c '^installed 0[.]1[.]')" = 0
 """
 
-# A guest of 128 pages of a client of the tests, which answers as long as its unit runs.
-GUEST = """import threading, types
+# A guest of 128 pages of a client of the tests, which answers as long as its unit runs; it comes by the first word.
+GUEST = """import sys, threading, types
 from hosts import Answering
-Answering(types.SimpleNamespace(folder="/run/bigvasta", said=list), "web-1")
+Answering(types.SimpleNamespace(folder="/run/bigvasta", said=list), sys.argv[1])
 threading.Event().wait()
 """
+COMES = f"""
+printf '%s' '{GUEST}' > /root/guest.py
+comes() {{
+    local path=/srv/source/client:/srv/source/monitor/tests/kit:/srv/source/monitor/tests/control
+    systemd-run --quiet --unit=$1 --setenv=PYTHONPATH=$path python3 -B /root/guest.py $1
+}}
+"""
 
-# What is asked of a guest that is at work, as one line of JSON without what time changes.
+# What is asked of a guest that is at work, as one line of JSON without what time changes, and without terms that 0.1.0 hasn't.
 SHOW = """import json, sys
 it = json.load(sys.stdin)["guest"]
 assert it["state"] == "ready" and it["answers"], it
+it["terms"] = {name: it["terms"][name] for name in ("least", "most", "priority", "strict")}
 print(json.dumps({name: it[name] for name in ("process", "memory", "target", "terms", "socket")}))
 """
 
@@ -39,15 +47,15 @@ sed -i 's/^# budget = .*/budget = 64M/' /etc/bigvasta/host.conf
 mkdir -p {DROP_IN} && printf '[Service]\nSystemCallFilter=@chown seccomp\n' > {DROP_IN}/older.conf && systemctl daemon-reload
 printf '[guest web-1]\\npriority = 3\\n' >> /etc/bigvasta/host.conf
 systemctl enable --now bigvasta-host
-printf '%s' '{GUEST}' > /root/guest.py && printf '%s' '{SHOW}' > /root/show.py
-path=/srv/source/client:/srv/source/monitor/tests/kit:/srv/source/monitor/tests/control
-systemd-run --quiet --unit=web-1 --setenv=PYTHONPATH=$path python3 -B /root/guest.py
+printf '%s' '{SHOW}' > /root/show.py
+{COMES}
+comes web-1
 for i in $(seq 60); do bigvasta guest web-1 --json | python3 /root/show.py > /root/before 2> /root/why && break; sleep 0.5; done
 cat /root/why && test -s /root/before
 cp /etc/bigvasta/host.conf /root/host.conf && systemctl show -p MainPID bigvasta-host > /root/main
 """
 
-# Whose configuration was changed keeps it; the host starts anew, and the guest and its process stay.
+# Whose configuration was changed keeps it; the host starts anew, and the guest and its process stay. Another guest comes to the new host.
 NEW_SERVICE = f"""
 rm -r {DROP_IN}
 apt-get -q -y -o Dpkg::Options::=--force-confold install /srv/released/bigvasta-host_*.deb
@@ -58,6 +66,11 @@ vhost_user_host --version | grep -q " $(bigvasta status --json | python3 -c 'imp
 for i in $(seq 60); do bigvasta guest web-1 --json | python3 /root/show.py > /root/after 2> /root/why && break; sleep 0.5; done
 cat /root/why && diff /root/before /root/after
 bigvasta budget | grep -qx '64 MiB'
+bigvasta add web-2
+{COMES}
+comes web-2
+for i in $(seq 60); do bigvasta guest web-2 --json | python3 /root/show.py > /root/after 2> /root/why && break; sleep 0.5; done
+cat /root/why && test -s /root/after
 """
 
 # What is left of a host that ran, once its package is removed, and then purged.
@@ -65,7 +78,7 @@ END_SERVICE = """
 dpkg --remove bigvasta-host
 test "$(systemctl is-active bigvasta-host)" = inactive
 test -e /etc/bigvasta/host.conf
-systemctl stop web-1
+systemctl stop web-1 web-2
 dpkg --purge bigvasta-host
 test ! -e /etc/bigvasta && test ! -e /run/bigvasta && test ! -e /run/bigvasta-status
 rm -f /root/guest.py /root/show.py /root/before /root/after /root/why /root/host.conf /root/main

@@ -28,8 +28,8 @@ RULES, CODES = "docs/RULES.md", "docs/INTEGRATION.md"
 
 # A file, its text, what is there in place of it, and what the tool then says differs.
 CHANGES = (
-    ("crates/vb_c/src/answers.rt", "NOT_READY: u32 = 3", "NOT_READY: u32 = 14", [HEADER, f"{CODES}: VB_NOT_READY is 3"]),
-    ("crates/vb_c/src/answers.rt", "NOT_READY: u32 = 3", "NOT_READY: u32 = 2",
+    ("crates/vb_monitor/src/answers.rt", "NOT_READY: u32 = 3", "NOT_READY: u32 = 14", [HEADER, f"{CODES}: VB_NOT_READY is 3"]),
+    ("crates/vb_monitor/src/answers.rt", "NOT_READY: u32 = 3", "NOT_READY: u32 = 2",
      ["answers: two codes of one number", HEADER, f"{CODES}: VB_NOT_READY is 3"]),
     ("crates/vb_c/src/kinds.rt", "REPORT: u32 = 3", "REPORT: u32 = 5", [HEADER]),
     ("crates/vb_c/src/bits.rt", "READ: u32 = 64", "READ: u32 = 256", [HEADER]),

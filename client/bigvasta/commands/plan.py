@@ -10,7 +10,8 @@ EXAMPLE = """example: a day that is made, and the budget that its guests need
   bigvasta plan day.csv --floor 12M --wait-seconds 60 --draw day.svg
 
 A recording is CSV, with a line of column names: guest, seconds, size, and used or available (bytes); or Prometheus' answer
-to query_range of bigvasta_guest_memory_bytes, bigvasta_guest_available_bytes and bigvasta_guest_ballooned_bytes.
+to query_range of bigvasta_guest_memory_bytes, bigvasta_guest_available_bytes and bigvasta_guest_ballooned_bytes. For --check it has
+bigvasta_budget_bytes, too, and of each guest loan_bytes, asked_bytes, granted_bytes_total and waiting_seconds.
 
 a fleet: how often 100 hosts of 24G may promise that to 3000 guests
   bigvasta plan --fleet 100 --budget 24G --make 3000 --promises 1.5..2 --steps 5"""
@@ -20,14 +21,14 @@ STEPS, PROMISES, PLACES = 12, "1.00..2.00", 64
 
 
 def run(asked):
-    """Prints the plan of a recorded day, or a day that is made."""
+    """Prints the plan of a recorded day, or a day that is made; returns the exit status."""
     try:
         from bigvasta.plan import command
     except ImportError as fault:
         if (fault.name or "").partition(".")[0] == "bigvasta":
             raise
         raise Usage("plan wants numpy and pandas: apt-get install python3-pandas") from None
-    command.run(asked)
+    return command.run(asked)
 
 
 def add(commands, _):
@@ -42,6 +43,9 @@ def add(commands, _):
     words.add_argument("--steps", type=int, default=STEPS, metavar="N", help=f"how many steps a range has ({STEPS})")
     words.add_argument("--floor", default="12M", metavar="SIZE", help="what each guest keeps free (12M)")
     words.add_argument("--wait-seconds", type=float, default=60.0, metavar="S", help="how long a guest may wait in a day (60)")
+    words.add_argument(
+        "--check", action="store_true", help="replay what the guests of a strict host asked for and gave, and compare what they were granted"
+    )
     words.add_argument("--json", action="store_true", help="print the plan as an object: bytes and seconds")
     words.add_argument("--draw", metavar="FILE", help="draw it, too, into a file such as day.svg")
     words.add_argument("--library", metavar="FILE", help="the library, libvb.so")

@@ -6,10 +6,10 @@ import os
 import re
 import sys
 
-from bigvasta.plan import days, drawing, fleet, fleet_tables, library, making, reading, runners, search, tables
+from bigvasta.plan import checking, days, drawing, fleet, fleet_tables, lending, library, making, reading, runners, search, tables
 from bigvasta.plan.lender import Terms
 from bigvasta.sizes import PAGE, parse_size
-from bigvasta.statuses import Usage
+from bigvasta.statuses import DONE, REFUSED, Usage
 
 MOST_GUESTS, LEAST_HOURS, MOST_HOURS, MOST_STEPS = 1000000, 0.01, 24 * 31, 1000
 MOST_HOSTS, MOST_PLACES, MOST_PROMISE, MOST_PROCESSES = 100000, 1000, 100, 1024
@@ -111,8 +111,19 @@ def plan_fleet(asked):
     return fleet.plan(hosts, source, runner, asked.wait_seconds, ends, asked.steps)
 
 
+def run_check(asked):
+    """Prints how a replay of a strict host's day compares with what the host did; returns the exit status."""
+    others = (asked.make, asked.fleet, asked.budgets, asked.budget, asked.draw, asked.scheduler, asked.processes)
+    demand(asked.file is not None and all(it is None for it in others), "plan: --check wants a FILE alone, of which it takes the budget")
+    found = checking.check(library.load(asked.library), lending.read_lending(asked.file))
+    print(json.dumps(checking.document(found)) if asked.json else "\n".join(checking.lines(found)))
+    return DONE if found.agrees() else REFUSED
+
+
 def run(asked):
-    """Prints the plan of a recorded day, or a day that is made."""
+    """Prints the plan of a recorded day, or a day that is made; returns the exit status."""
+    if asked.check:
+        return run_check(asked)
     demand((asked.file is None) != (asked.make is None), "plan: what is wanted is a FILE, or --make GUESTS")
     if asked.make is not None and asked.fleet is None:
         return run_make(asked)
@@ -121,10 +132,11 @@ def run(asked):
     if asked.draw:
         drawing.load()
     found = plan_host(asked) if asked.fleet is None else plan_fleet(asked)
+    own = None if asked.file is None or asked.fleet else lending.own_of(asked.file)
     if asked.draw:
-        drawing.draw(found, asked.wait_seconds, asked.draw)
-    said = tables if asked.fleet is None else fleet_tables
+        drawing.draw(found, asked.wait_seconds, own, asked.draw)
+    said, more = (tables, (own,)) if asked.fleet is None else (fleet_tables, ())
     if asked.json:
-        print(json.dumps(said.document(found, asked.wait_seconds)))
+        print(json.dumps(said.document(found, asked.wait_seconds, *more)))
     else:
-        print("\n".join(said.lines(found, asked.wait_seconds)))
+        print("\n".join(said.lines(found, asked.wait_seconds, *more)))

@@ -31,7 +31,7 @@ class Lender:
     def __init__(self, library, sizes, terms):
         count = len(sizes)
         self.library, self.sizes, self.terms, self.count, self.now = library, sizes, terms, count, 0.0
-        self.loans, self.needs, self.room = (Loan * count)(), (Need * count)(), (Need * count)()
+        self.loans, self.needs, self.spares = (Loan * count)(), (Need * count)(), (Need * count)()
         self.targets = (ctypes.c_uint32 * count)()
         # The same memory as columns.
         table = numpy.ctypeslib.as_array(self.loans)
@@ -120,10 +120,8 @@ class Lender:
         """Does what follows of what has happened, until nothing follows any longer."""
         for _ in range(MOST_ROUNDS):
             self.decide()
-            movers = self.movers()
-            for guest in movers:
-                self.obey(guest)
-            if not self.grant(self.terms.frames) and not movers:
+            acted = [it for it in self.movers() if self.obey(it)]
+            if not self.grant(self.terms.frames) and not acted:
                 return
         raise Unclear("plan: the guests of a moment don't come to rest")
 
@@ -133,7 +131,7 @@ class Lender:
         if not self.anew and not library.vb_needs_targets(self.targets, count, self.needs, count, frames):
             self.missing = 0
             return
-        answer = library.vb_loan_targets(frames, self.loans, count, self.room, count, self.targets, count)
+        answer = library.vb_loan_targets(frames, self.loans, count, self.spares, count, self.targets, count)
         self.missing = answer.missing if answer.code == SHORT else 0
         self.decisions += 1
         self.anew = False
@@ -142,16 +140,27 @@ class Lender:
         """Returns the guests that run, wait for nothing, and don't have what the host wants in their balloons."""
         return (self.runs & (self.asked == 0) & (self.ballooned != self.wanted)).nonzero()[0].tolist()
 
+    def room(self):
+        """Returns how many frames nobody has or asks for."""
+        return max(self.terms.frames - self.owed() - int(self.asked.sum()), 0)
+
     def obey(self, guest):
-        """A guest gives pages up to its target, or asks for those above it."""
-        missing = self.targets[guest] - self.loans[guest].ballooned
+        """A guest gives pages up to its target. One that uses more than it has asks for that, and waits for it. Any other takes what is above its
+        target as far as there is room, so that it doesn't wait. Returns whether it does one of these."""
+        loan = self.loans[guest]
+        missing = self.targets[guest] - loan.ballooned
         if missing > 0:
             self.moved += missing
             self.do(self.library.vb_loan_give, guest, missing)
         else:
-            self.do(self.library.vb_loan_ask, guest, -missing)
+            lacking = self.used[guest] - (loan.pages - loan.ballooned)
+            asked = lacking if lacking > 0 else min(-missing, self.room())
+            if asked == 0:
+                return False
+            self.do(self.library.vb_loan_ask, guest, asked)
             self.begin_wait(guest)
         self.figure(guest)
+        return True
 
     def grant(self, frames):
         """Grants in the order of the line, while there is room; returns whether it does."""
@@ -164,7 +173,7 @@ class Lender:
             granted = True
 
     def take(self, guest):
-        """A guest takes what it was granted, and asks for more where its target is lower by now; a newcomer starts."""
+        """A guest takes what it was granted; a newcomer starts."""
         loan = self.loans[guest]
         pages = loan.lent + loan.ballooned - loan.pages
         self.do(self.library.vb_loan_take, guest, pages)
@@ -172,7 +181,4 @@ class Lender:
         self.moved += pages if self.runs[guest] else 0
         self.runs[guest] = True
         self.figure(guest)
-        if loan.ballooned > self.targets[guest]:
-            self.obey(guest)
-        else:
-            self.end_wait(guest)
+        self.end_wait(guest)

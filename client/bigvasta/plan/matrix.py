@@ -3,18 +3,24 @@ metric of a guest."""
 
 import json
 import math
+from typing import NamedTuple
 
 import pandas
 
 from bigvasta.plan.days import Line, Recording
+from bigvasta.plan.metrics import BUDGET, CELLS, KNOWN
 from bigvasta.sizes import PAGE
 from bigvasta.statuses import Usage
 
-# The metrics of `bigvasta metrics` that a day is made of, and the cells that their values are.
-CELLS = {"bigvasta_guest_memory_bytes": "size", "bigvasta_guest_available_bytes": "available", "bigvasta_guest_ballooned_bytes": "ballooned"}
-
 # Prometheus rounds times to milliseconds: what two values may be apart beyond a step.
 TOLERANCE = 0.0015
+
+
+class Key(NamedTuple):
+    """Whose a series is: a guest's of a host, or the host's own, where the guest is empty."""
+
+    host: str
+    guest: str
 
 
 def used_by_metrics(line, size):
@@ -46,43 +52,50 @@ def point(place, found):
     return float(pair[0]), pair[1]
 
 
-def series_of(path, number, found):
-    """Returns which host and guest a series is of, and its values by their moments."""
-    place = f"{path}: series {number}"
+def labels_of(place, found):
+    """Returns the metric of a series, whose it is, and its values."""
     labels, values = (found.get(it) if isinstance(found, dict) else None for it in ("metric", "values"))
     if not isinstance(labels, dict) or not isinstance(values, list) or not values:
         raise Usage(f"{place} has no labels, or no values")
     metric, guest = labels.get("__name__"), labels.get("guest")
-    if metric not in CELLS:
-        raise Usage(f"{place}: the metric {metric!r} is none of {', '.join(CELLS)}")
-    if not isinstance(guest, str) or not guest:
+    if metric not in KNOWN:
+        raise Usage(f"{place}: the metric {metric!r} is none of {', '.join(KNOWN)}")
+    if metric in BUDGET:
+        guest = ""
+    elif not isinstance(guest, str) or not guest:
         raise Usage(f"{place} has no label guest")
-    place = f"{path}: {metric} of {guest}"
+    return metric, Key(str(labels.get("instance", "")), guest), values
+
+
+def series_of(path, number, found):
+    """Returns whose a series is, and its values by their moments."""
+    metric, key, values = labels_of(f"{path}: series {number}", found)
+    place = f"{path}: {metric} of {key.guest}" if key.guest else f"{path}: {metric}"
     times, texts = zip(*(point(place, it) for it in values))
     for before, after in zip(times, times[1:]):
         if after <= before:
             raise Usage(f"{place}: {after:.12g} isn't after {before:.12g}, the time before")
-    return (str(labels.get("instance", "")), guest), pandas.Series(texts, index=times, name=CELLS[metric])
+    return key, pandas.Series(texts, index=times, name=KNOWN[metric])
 
 
-def guests_of(path, result):
-    """Returns the series of each guest."""
-    guests = {}
-    for number, found in enumerate(result, 1):
-        key, series = series_of(path, number, found)
-        others = guests.setdefault(key, {})
+def series_by_key(path, result):
+    """Returns the series of each guest, and of each host."""
+    found = {}
+    for number, it in enumerate(result, 1):
+        key, series = series_of(path, number, it)
+        others = found.setdefault(key, {})
         if series.name in others:
-            raise Usage(f"{path}: {key[1]} has {series.name} twice")
+            raise Usage(f"{path}: {key.guest or 'the host'} has {series.name} twice")
         others[series.name] = series
-    return guests
+    return found
 
 
-def demand_all(path, name, series):
-    """Refuses a guest that lacks a metric; returns its values as a table, a row a moment."""
-    for metric, cell in CELLS.items():
+def table_of(path, name, series, cells):
+    """Refuses a guest that lacks one of these metrics; returns its values as a table, a row a moment."""
+    for metric, cell in cells.items():
         if cell not in series:
             raise Usage(f"{path}: {name} has no series {metric}")
-    table = pandas.concat(series.values(), axis=1).sort_index()
+    table = pandas.concat([series[it] for it in cells.values()], axis=1).sort_index()
     holes = table.isna().stack()
     for at, cell in holes.index[holes]:
         raise Usage(f"{path}: {name} at {at:.12g}: {cell} has a hole")
@@ -98,17 +111,22 @@ def demand_steps(path, tables):
             raise Usage(f"{path}: {name} at {at:.12g}: there is a hole of {seconds:.12g} s before it, where values are {step:.12g} s apart")
 
 
-def read_matrix(path, text):
-    """Returns what an answer says of the guests. Guests of several hosts are named with their host's instance."""
-    guests = guests_of(path, result_of(path, text))
-    single = len({host for host, _ in guests}) == 1
+def tables_of(path, series, cells):
+    """Returns the table of each guest by its name. Guests of several hosts are named with their host's instance."""
+    keys = [it for it in series if it.guest]
+    single = len({it.host for it in keys}) == 1
     tables = {}
-    for (host, guest), series in guests.items():
-        name = guest if single else f"{host}/{guest}"
-        tables[name] = demand_all(path, name, series)
+    for key in keys:
+        name = key.guest if single else f"{key.host}/{key.guest}"
+        tables[name] = table_of(path, name, series[key], cells)
     demand_steps(path, tables)
+    return tables
+
+
+def read_matrix(path, text):
+    """Returns what an answer says of the guests."""
     recording = Recording()
-    for name, table in tables.items():
+    for name, table in tables_of(path, series_by_key(path, result_of(path, text)), CELLS).items():
         for at, cells in zip(table.index, table.to_dict("records")):
             recording.add(Line(f"{path}: {name} at {at:.12g}", {"guest": name, "seconds": str(at), **cells}), used_by_metrics)
     return recording

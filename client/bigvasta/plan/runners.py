@@ -9,8 +9,8 @@ import socket
 from bigvasta.plan.progress import Progress
 from bigvasta.statuses import Away, Unclear, Usage
 
-# Seconds in which somebody has to take a connection, and in which it has to prove a scheduler, to which workers come.
-LIMIT, DASK_LIMIT = 5, 60
+# Seconds in which somebody has to take a connection, in which it has to prove a scheduler, and in which a worker has to come to that.
+LIMIT, ANSWER_LIMIT, WORKER_LIMIT = 5, 10, 60
 
 MOST_PORT = 65535
 
@@ -64,11 +64,14 @@ class Scheduler:
         """Returns a client of the scheduler, which has a worker."""
         try:
             socket.create_connection(self.pair, LIMIT).close()
-            client = self.dask.Client(self.address, timeout=DASK_LIMIT)
         except (OSError, TimeoutError):
-            raise Away(f"--scheduler: no scheduler answers at {self.address}") from None
+            raise Away(f"--scheduler: nobody answers at {self.address}") from None
         try:
-            client.wait_for_workers(1, timeout=DASK_LIMIT)
+            client = self.dask.Client(self.address, timeout=ANSWER_LIMIT)
+        except (OSError, TimeoutError):
+            raise Away(f"--scheduler: who answers at {self.address} doesn't speak as a Dask scheduler, in {ANSWER_LIMIT} s") from None
+        try:
+            client.wait_for_workers(1, timeout=WORKER_LIMIT)
         except (OSError, TimeoutError):
             client.close()
             raise Away(f"--scheduler: no worker comes to {self.address}") from None

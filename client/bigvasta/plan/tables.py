@@ -43,11 +43,17 @@ def conclusion(plan, limit):
     return f"budget {budget}M: {best.wait_a_day():.1f} s a guest and day are waited; {best.promise():.2f} times as much is promised"
 
 
-def lines(plan, limit):
-    """Returns the table, and the line that says which budget to set."""
+def own_line(own):
+    """Returns the line that says how the recorded host did itself."""
+    return f"the host itself: {own.wait_a_day:.1f} s a guest and day were waited; {own.promise:.2f} times its {in_mib(own.budget)} MiB were promised"
+
+
+def lines(plan, limit, own):
+    """Returns the table, the line that says which budget to set, and how the recorded host did itself, if that is known."""
     first = plan.answers[0]
     head = f"{first.guests} guests, {in_mib(first.promised)} MiB promised at once, {first.present / 3600:.1f} hours of guests"
-    return [head, "", *table([COLUMNS, *map(row, plan.answers)]), "", *LEGEND.splitlines(), "", conclusion(plan, limit)]
+    last = [*([own_line(own)] if own else []), conclusion(plan, limit)]
+    return [head, "", *table([COLUMNS, *map(row, plan.answers)]), "", *LEGEND.splitlines(), "", *last]
 
 
 def plain(answer):
@@ -63,8 +69,10 @@ def plain(answer):
     }
 
 
-def document(plan, limit):
+def document(plan, limit, own):
     """Returns the plan as an object."""
+    host = own and {"budget": own.budget * PAGE, "promise": own.promise, "waited_a_day": own.wait_a_day}
     return {
-        "wait_seconds": limit, "budget": None if plan.best is None else plan.best.budget * PAGE, "replays": [plain(it) for it in plan.answers],
+        "wait_seconds": limit, "budget": None if plan.best is None else plan.best.budget * PAGE, "host": host,
+        "replays": [plain(it) for it in plan.answers],
     }

@@ -4,12 +4,13 @@ use Rattle.std.proofs.Common.{◌≡◌, ◌∙◌, refl, ap, subst, sym, arith,
 use Rattle.std.{proofs.Common.{◌∷◌, length, Option, Some, None}, specs.Option.unwrap_or}
 use Rattle.vb_core.{specs.declared.kinds.Kind.Kind, specs.declared.device.Device.Device}
 use Rattle.vb_core.specs.declared.kinds.Kind.TheVariants.{Inflate, Deflate, Statistics}
-use Rattle.vb_monitor.specs.declared.{outcome.{Outcome.Outcome, Budget.Budget}, notice.Notice.Notice}
+use Rattle.vb_monitor.specs.declared.{outcome.{Outcome.Outcome, Budget.Budget}}
 use Rattle.vb_monitor.specs.{declared.step.Phase.TheVariants.{AwaitsFlags, Ended}, Accesses.Access}
 use Rattle.vb_monitor.specs.{Accesses.{ReadWord, Full}, Ends.wants_interrupt, Machine.Ahead}
 use Rattle.vb_monitor.specs.{Machine.whole, Orders.at_once, declared.balloon.Balloon.Balloon}
 use Rattle.vb_c.specs.declared.notice.{VbNotice.VbNotice, VbRoom.VbRoom}
-use Rattle.vb_c.{specs.Codes.code_of_kind, specs.Notices.{tally_of, notice_of}}
+use Rattle.vb_c.{specs.Codes.code_of_kind, specs.Notices.{Notice, notice_of}}
+use Rattle.vb_monitor.specs.Steps.{tally_of, phase_of}
 use Rattle.vb_c.specs.Serving.{HandsOver, with_device, Begins, BeginsIf, GoesOn, held_then}
 use Rattle.vb_c.proofs.HandingFacts.{spot, shown, nothing, at_index, handed}
 use Rattle.vb_c.proofs.Samples.{Same, two, begun, ready, balloon, nothing_copied}
@@ -44,6 +45,7 @@ begins = record {
 }
 
 of_another_kind : Begins Reads two Deflate balloon balloon room room shown → ⊥
+unfolding phase_of
 of_another_kind h =
     let read : Same 0 (kind_code h.hands.notice) =
     ap kind_code (handed_is at_index h.first (with_device h.device balloon) balloon shown refl h.hands) in
@@ -56,6 +58,7 @@ bytes_changed : Begins Reads two Inflate balloon balloon room (record room { cop
 bytes_changed h = let e : Same 1 0 = ap (λ (r : Room). length r.bytes) h.room in omega arith
 
 buffer_lost : Begins Reads two Inflate balloon (record balloon { held = a_buffer 0 }) room room shown → ⊥
+unfolding phase_of
 buffer_lost h =
     let noted : Same 4 (held_then h.hands.notice (with_device h.device balloon)).statistics =
     ap (λ (n : Notice). (held_then n (with_device h.device balloon)).statistics) (handed_is at_index h.first (with_device h.device balloon)
@@ -66,7 +69,7 @@ buffer_lost h =
 
 -- no chain is available, and the notice ends
 abbrev nothing_came : Outcome
-nothing_came = record { tally = tally_of shown; why = None; interrupt = false; more = false }
+nothing_came = record { tally = tally_of (shown.step); why = None; interrupt = false; more = false }
 
 abbrev read_index : List Access
 read_index = ReadWord spot 0 ∷ []
@@ -81,6 +84,7 @@ reads_it = record {
 
 -- a notice that may read the index isn't one of which nothing may come
 of_nothing : Begins (λ after outcome log. ⊥) two Inflate balloon balloon room room shown → ⊥
+unfolding phase_of
 of_nothing h =
     let first = h.first in
     let is : at_index ≡ h.hands.notice =
@@ -106,6 +110,7 @@ abbrev BeginsOf : Kind → VbRoom → Type 0
 BeginsOf kind then = BeginsIf true two kind eight driven driven room then shown
 
 handed_of_none : HandsOver at_index two nothing_copied driven driven [] shown
+unfolding phase_of
 handed_of_none = record {
   asked = nothing;
   notice = at_index;
@@ -132,6 +137,7 @@ begins_with_the_index = record {
 }
 
 of_another_queue : BeginsOf Deflate room → ⊥
+unfolding phase_of
 of_another_queue h =
     let read : Same 0 (kind_code h.hands.notice) =
     ap kind_code (handed_is at_index h.first (with_device h.device driven) driven shown refl h.hands) in
@@ -144,7 +150,7 @@ room_changed : BeginsOf Inflate (record room { copied = record nothing_copied { 
 room_changed h = let e : Same 1 0 = ap (λ (r : Room). length r.bytes) h.room in omega arith
 
 -- one that may not be looked at does nothing, with code 1
-not_begun : BeginsIf false two Statistics eight balloon balloon room room (record shown { what = 0; phase = 0; code = 1 })
+not_begun : BeginsIf false two Statistics eight balloon balloon room room (record shown { what = 0; step = record (shown.step) { phase = 0; code = 1 } })
 not_begun = record {
   ended = record {
     what = refl;
@@ -163,7 +169,7 @@ begun_all_the_same : BeginsIf false two Statistics eight balloon balloon room ro
 begun_all_the_same h = let e : Same 64 0 = h.ended.what in omega arith
 
 with_another_code : BeginsIf false two Statistics eight balloon balloon room room
-    (record shown { what = 0; phase = 0; code = 4 }) → ⊥
+    (record shown { what = 0; step = record (shown.step) { phase = 0; code = 4 } }) → ⊥
 with_another_code h = let e : Same 4 1 = h.ended.code_is in omega arith
 
 room_changed_then : (c : VbNotice) →
@@ -173,15 +179,16 @@ room_changed_then c h = let e : Same 1 0 = ap (λ (r : VbRoom). length r.copied.
 -- ---- a notice that goes on: the flags were read, and it ends
 
 abbrev at_flags : Notice
-at_flags = record at_index { step = record { tally = tally_of shown; phase = AwaitsFlags spot None false } }
+at_flags = record at_index { step = record { tally = tally_of (shown.step); phase = AwaitsFlags spot None false } }
 
 abbrev ended : VbNotice
-ended = record shown { what = 0; phase = 0; code = 1; interrupt = 1 }
+ended = record shown { what = 0; step = record (shown.step) { phase = 0; code = 1; interrupt = 1 } }
 
 abbrev at_end : Notice
-at_end = record at_index { step = record { tally = tally_of shown; phase = Ended None true false } }
+at_end = record at_index { step = record { tally = tally_of (shown.step); phase = Ended None true false } }
 
 handed_over : HandsOver at_end two nothing_copied balloon balloon [] ended
+unfolding phase_of
 handed_over = record {
   asked = nothing;
   notice = at_end;
@@ -215,6 +222,7 @@ goes_on = record {
 }
 
 goes_on_as_another_kind : GoesOn (record at_flags { kind = Deflate }) two 0 balloon balloon room room ended → ⊥
+unfolding phase_of
 goes_on_as_another_kind h =
     let read : Same 0 (kind_code h.hands.notice) =
     ap kind_code (handed_is at_end h.next (with_device h.device balloon) balloon ended refl h.hands) in
@@ -224,6 +232,7 @@ goes_on_as_another_kind h =
     omega (arith, read, next, e)
 
 lost_meanwhile : GoesOn at_flags two 0 balloon (record balloon { held = a_buffer 0 }) room room ended → ⊥
+unfolding phase_of
 lost_meanwhile h =
     let noted : Same 4 (held_then h.hands.notice (with_device h.device balloon)).statistics =
     ap (λ (n : Notice). (held_then n (with_device h.device balloon)).statistics) (handed_is at_end h.next (with_device h.device balloon)
@@ -234,13 +243,14 @@ lost_meanwhile h =
 
 -- by flags that want no interrupt it doesn't end with one
 abbrev interrupts : Outcome
-interrupts = record { tally = tally_of shown; why = None; interrupt = true; more = false }
+interrupts = record { tally = tally_of (shown.step); why = None; interrupt = true; more = false }
 
 abbrev flags_in : List Access → ℕ
 flags_in (Full ∷ ReadWord at answer ∷ xs) = answer
 flags_in xs = 0
 
 unwanted : GoesOn at_flags two 1 balloon balloon room room ended → ⊥
+unfolding phase_of
 unwanted h =
     let next = h.next in
     let is : at_end ≡ h.hands.notice =

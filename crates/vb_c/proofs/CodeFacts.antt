@@ -1,56 +1,16 @@
 -- Codes, each both ways, and answers as plain data, worked out.
-use Rattle.std.proofs.Common.{◌≡◌, refl, ℕ, List, [], ◌∷◌, map, Some, None, Ok, Err}
-use Rattle.vb_chain.specs.declared.fault.ChainFault.{ChainFault}
-use Rattle.vb_chain.specs.declared.fault.ChainFault.TheVariants.{BadHead, BadNext, TooLong, Indirect, WrongDirection}
-use Rattle.vb_chain.specs.declared.fault.ChainFault.TheVariants.{OutOfRam, IndexJump, BadLength, BadPage, ReservedPage}
+use Rattle.std.proofs.Common.{◌≡◌, refl, ℕ, [], ◌∷◌, map, Some, None, Ok, Err}
 use Rattle.vb_status.specs.declared.bits.StatusFault.{StatusFault}
 use Rattle.vb_status.specs.declared.bits.StatusFault.TheVariants.{ClearsBit, OutOfOrder, FeatureNotOffered}
 use Rattle.vb_status.specs.declared.bits.StatusFault.TheVariants.{MustTellHostMissing, VersionMissing}
 use Rattle.vb_balance.specs.declared.need.NoTargets.TheVariants.{OtherLength, Short}
 use Rattle.vb_core.specs.declared.kinds.Kind.TheVariants.{Inflate, Deflate, Statistics, Report}
-use Rattle.vb_core.specs.declared.device.Denial.{Denial}
-use Rattle.vb_core.specs.declared.device.Denial.TheVariants.{NoQueue, BadArgument, NotReady, NeedsReset, Misplaced, Broken}
+use Rattle.vb_core.specs.declared.device.Denial.TheVariants.{NoQueue, Misplaced}
 use Rattle.vb_core.specs.declared.saved.StateDenial.TheVariants.{BadLength as WrongLength, NotAState, OtherVersion, BadSum, Impossible}
 use Rattle.vb_monitor.specs.declared.placing.RestoreDenial.TheVariants.{State, Elsewhere}
-use Rattle.vb_c.specs.Codes.{code_of, rule_in, kind_of_code, code_of_kind, code_in, number_in}
-use Rattle.vb_c.specs.Codes.{fault_of, why_of}
+use Rattle.vb_c.specs.Codes.{kind_of_code, code_of_kind, code_in, number_in}
 use Rattle.vb_c.specs.{Marks.marked_of, Sharing.targets_of}
 use Rattle.vb_c.specs.{Saving.code_of_state, Places.code_of_restore}
-
--- ---- denials
-
-abbrev faults : List ChainFault
-faults = BadHead ∷ BadNext ∷ TooLong
-    ∷ Indirect ∷ WrongDirection ∷ OutOfRam ∷ IndexJump ∷ BadLength ∷ BadPage ∷ ReservedPage ∷ []
-
-abbrev denials : List Denial
-denials = Broken TooLong ∷ NotReady ∷ NeedsReset ∷ NoQueue ∷ Misplaced ∷ BadArgument ∷ []
-
-code_by_code : map code_of denials ≡ 2 ∷ 3 ∷ 4 ∷ 5 ∷ 6 ∷ 7 ∷ []
-code_by_code = refl
-
--- a broken rule has its number, and what breaks none has none
-rule_by_rule : map (λ (f : ChainFault). rule_in (Broken f)) faults ≡
-    1 ∷ 2 ∷ 3 ∷ 4 ∷ 5 ∷ 6 ∷ 7 ∷ 8 ∷ 9 ∷ 10 ∷ []
-rule_by_rule = refl
-
-no_rule : map rule_in (NotReady ∷ NeedsReset ∷ NoQueue ∷ Misplaced ∷ BadArgument ∷ []) ≡ 0 ∷ 0 ∷ 0 ∷ 0 ∷ 0 ∷ []
-no_rule = refl
-
--- and back: a number below, each, and one above
-back_to_rules : map fault_of (0 ∷ 1 ∷ 2 ∷ 3 ∷ 4 ∷ 5 ∷ 6 ∷ 7 ∷ 8 ∷ 9 ∷ 10 ∷ 11 ∷ []) ≡
-    None ∷ Some BadHead ∷ Some BadNext ∷ Some TooLong ∷ Some Indirect ∷ Some WrongDirection ∷ Some OutOfRam
-    ∷ Some IndexJump ∷ Some BadLength ∷ Some BadPage ∷ Some ReservedPage ∷ None ∷ []
-back_to_rules = refl
-
-back_to_denials : map (λ (code : ℕ). why_of code 3) (0 ∷ 1 ∷ 2 ∷ 3 ∷ 4 ∷ 5 ∷ 6 ∷ 7 ∷ 8 ∷ []) ≡
-    None ∷ None ∷ Some (Broken TooLong) ∷ Some NotReady ∷ Some NeedsReset ∷ Some NoQueue ∷ Some Misplaced
-    ∷ Some BadArgument ∷ None ∷ []
-back_to_denials = refl
-
--- a broken rule that is none
-no_such_rule : why_of 2 0 ≡ None
-no_such_rule = refl
 
 -- an answer that has nothing but a denial
 code_of_success : code_in (Ok tt) ≡ 0

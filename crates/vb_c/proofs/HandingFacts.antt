@@ -3,7 +3,8 @@ use Rattle.std.proofs.Common.{◌≡◌, ◌∙◌, refl, ap, sym, arith, ℕ, �
 use Rattle.vb_core.specs.declared.{kinds.Kind.{Kind, TheVariants.{Inflate, Deflate, Statistics, Report}}, name.Named.Named}
 use Rattle.vb_monitor.specs.declared.{regions.Spot.Spot, orders.Orders.Orders}
 use Rattle.vb_monitor.specs.declared.orders.{Told.{Told, TheVariants.{Nothing, Pages, Figures}}, Asked.Asked}
-use Rattle.vb_monitor.specs.declared.{notice.Notice.Notice, step.Phase.TheVariants.AwaitsIndex}
+use Rattle.vb_monitor.specs.declared.step.Phase.TheVariants.{AwaitsIndex}
+use Rattle.vb_monitor.specs.Steps.{tally_of, phase_of}
 use Rattle.vb_monitor.specs.declared.step.Phase.TheVariants.{AwaitsEntry, AwaitsDescriptor}
 use Rattle.vb_monitor.specs.declared.step.Phase.TheVariants.{AwaitsPart, TellsPages, TellsFigures}
 use Rattle.vb_monitor.specs.declared.step.Phase.TheVariants.{Discards, GivesBack, AwaitsFlags}
@@ -11,7 +12,7 @@ use Rattle.vb_monitor.specs.declared.step.Phase.{TheVariants.Ended, Phase}
 use Rattle.vb_monitor.specs.{declared.balloon.Balloon.Balloon, Machine.{Fits, row_bytes, stage, waits, is_ended}}
 use Rattle.vb_c.specs.declared.notice.{VbNotice.VbNotice, VbRoom.VbRoom}
 use Rattle.vb_virtio.specs.Tests.{one_if}
-use Rattle.vb_c.specs.{Notices.{tally_of, told_bits, asked_bits, answer_bits, what_of}, Serving.{held_then, Refuses}, Served.telling_pages}
+use Rattle.vb_c.specs.{Notices.{Notice, told_bits, asked_bits, answer_bits, what_of}, Serving.{held_then, Refuses}}
 use Rattle.vb_c.{specs.Serving.HandsOver, proofs.Samples.{Same, two, begun, balloon, nothing_copied}}
 use Rattle.vb_c.proofs.Samples.{a_buffer, chain_of}
 use Rattle.vb_core.specs.declared.held.Held.{Held}
@@ -33,40 +34,46 @@ abbrev pub shown : VbNotice
 shown = record {
   what = 64;
   kind = 0;
-  at = spot;
-  length = 0;
-  into = 0;
   orders = none_asked;
-  number = 0;
-  from = 0;
-  in_file = 0;
-  cut_length = 4096;
-  code = 0;
-  rule = 0;
-  interrupt = 0;
-  configuration = 0;
-  more = 0;
-  chains_left = 8;
-  pages_left = 256;
-  head = 0;
-  count = 0;
-  taken_head = 0;
-  given = 0;
-  taken = 0;
-  flag = 0;
-  phase = 1;
-  keeps = 0;
-  published = 0;
-  taken_pages = 0;
+  step = record {
+    at = spot;
+    length = 0;
+    into = 0;
+    number = 0;
+    from = 0;
+    in_file = 0;
+    cut_length = 4096;
+    code = 0;
+    rule = 0;
+    interrupt = 0;
+    configuration = 0;
+    more = 0;
+    chains_left = 8;
+    pages_left = 256;
+    head = 0;
+    count = 0;
+    taken_head = 0;
+    given = 0;
+    taken = 0;
+    flag = 0;
+    phase = 1;
+    keeps = 0;
+    published = 0;
+    taken_pages = 0;
+    named = record { runs = 0; pages = 0; skipped = 0 };
+    spots = record { id = spot; length = spot; index = spot };
+    entry = record { element_at = 0; index_at = 0; id = 0; length = 0; index = 0 };
+  };
 }
 
 abbrev pub nothing : Asked
 nothing = record { told = Nothing; gives = false }
 
 abbrev pub at_index : Notice
-at_index = record { kind = Inflate; step = record { tally = tally_of shown; phase = AwaitsIndex spot } }
+at_index = record { kind = Inflate; step = record { tally = tally_of (shown.step); phase = AwaitsIndex spot } }
 
 pub handed : HandsOver at_index two nothing_copied balloon balloon [] shown
+unfolding phase_of
 handed = record {
   asked = nothing;
   notice = at_index;
@@ -87,9 +94,10 @@ stage_in (Some n) = stage n.step.phase
 
 -- parts are left though there is room: who obeys would take it for ended
 abbrev left : VbNotice
-left = record shown { what = 0; phase = 6 }
+left = record shown { what = 0; step = record (shown.step) { phase = 6 } }
 
 left_with_room : (n : Notice) (b1 b2 : Balloon) → HandsOver n two nothing_copied b1 b2 [] left → ⊥
+unfolding phase_of
 left_with_room n b1 b2 h =
     let at : Same 1 (stage h.notice.step.phase) = ap stage_in h.is.read in
     let e : Same 0 256 = h.fills.full (sym at) in
@@ -102,11 +110,12 @@ too_many_parts n b1 b2 h = let e = h.has_room.cuts in omega (arith, e)
 
 -- what is of no kind is no notice
 of_no_kind : (n : Notice) (b1 b2 : Balloon) → HandsOver n two nothing_copied b1 b2 [] (record shown { kind = 4 }) → ⊥
+unfolding phase_of
 of_no_kind n b1 b2 h = let e = h.is.read in absurd cc
 
 -- bytes that are to be copied have room: 1,024 of them, and no more
 abbrev copying : ℕ → VbNotice
-copying into = record shown { what = 128; phase = 4; length = 4; into = into }
+copying into = record shown { what = 128; step = record (shown.step) { phase = 4; length = 4; into = into } }
 
 abbrev ends_in : Phase → ℕ
 ends_in (AwaitsPart at place) = place.into + place.length
@@ -130,6 +139,7 @@ has_room : (n : Notice) (b1 b2 : Balloon) (c : VbNotice) → (h : HandsOver n tw
 has_room n b1 b2 c h = at_most h.notice.step.phase h.fits
 
 past_the_room : (n : Notice) (b1 b2 : Balloon) → HandsOver n two nothing_copied b1 b2 [] (copying 1021) → ⊥
+unfolding phase_of
 past_the_room n b1 b2 h = let e = h.is.read in absurd cc
 
 abbrev held_in : Option Notice → Balloon → ℕ
@@ -138,6 +148,7 @@ held_in (Some n) b = (held_then n b).statistics
 
 -- the buffer that is held isn't lost while the notice goes on
 buffer_lost : (n : Notice) → HandsOver n two nothing_copied balloon (record balloon { held = a_buffer 0 }) [] shown → ⊥
+unfolding phase_of
 buffer_lost n h =
     let noted : Same 4 (held_then h.notice balloon).statistics =
     ap (λ (o : Option Notice). held_in o balloon) h.is.read in
@@ -151,15 +162,14 @@ abbrev two_pages : Named
 two_pages = record { runs = 1; pages = 2; skipped = 0 }
 
 abbrev telling : Kind → Bool → Notice
-telling kind keeps = telling_pages kind (record (tally_of shown) { keeps = keeps }) 3 two_pages
+telling kind keeps = record {
+  kind = kind;
+  step = record { tally = record (tally_of (shown.step)) { keeps = keeps }; phase = TellsPages 3 two_pages };
+}
 
 -- they are told, their chain is given back, and the index is awaited
 abbrev told : ℕ → VbNotice
-told kept = record shown {
-  what = 73;
-  orders = record none_asked { named = two_pages; kept = kept };
-  given = 1;
-}
+told kept = record shown { what = 73; orders = record none_asked { named = two_pages; kept = kept }; step = record (shown.step) { given = 1 } }
 
 abbrev bits_in : Option Notice → ℕ
 bits_in None = 0
@@ -175,6 +185,7 @@ tells_pages Figures false bits b e = absurd (omega (arith, b, e))
 
 is_told : (n : Notice) (kept : ℕ) (b1 b2 : Balloon) →
     (h : HandsOver n two nothing_copied b1 b2 [] (told kept)) → h.asked.told ≡ Pages
+unfolding phase_of
 is_told n kept b1 b2 h =
     tells_pages h.asked.told h.asked.gives _ (ap bits_in h.is.read) h.is.what
 
@@ -202,16 +213,11 @@ unfolding lib.Count.ones
 uncounted_of_a_report b2 h =
     let e : Same 0 2 = h.kept (is_told (telling Report false) 0 keeping b2 h) in omega arith
 
--- the chain that they are of
-told_of_3 : telling_pages Inflate (tally_of shown) 3 two_pages ≡
-    record { kind = Inflate; step = record { tally = tally_of shown; phase = TellsPages 3 two_pages } }
-told_of_3 = refl
-
 -- ---- what is held: a chain where a notice has ended that took one of a kind that is held
 
 abbrev taking : Kind → Phase → Notice
 taking kind phase =
-    record { kind = kind; step = record { tally = record (tally_of shown) { held = chain_of 6 2 }; phase = phase } }
+    record { kind = kind; step = record { tally = record (tally_of (shown.step)) { held = chain_of 6 2 }; phase = phase } }
 
 held_then_7 : held_then (taking Statistics (Ended None false false)) (record balloon { held = a_buffer 0 }) ≡ a_buffer 7
 held_then_7 = refl

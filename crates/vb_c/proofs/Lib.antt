@@ -1,6 +1,4 @@
-pub mod ShowLemmas
-pub mod UsualLemmas
-pub mod ServedLemmas
+pub mod NoticeLemmas
 mod NoticeFacts
 mod Samples
 mod CodeFacts

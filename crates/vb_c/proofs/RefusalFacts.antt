@@ -21,7 +21,7 @@ one_page = record { chains = 1; pages = 1; keeps = false }
 
 -- a queue that isn't there has code 5, one of which a chain is held 1, none to give back 1, no notice
 -- 7; each time the balloon stays
-no_such_queue : (c : VbNotice) → BeginsFor None two one_page balloon balloon room room c → c.code ≡ 5
+no_such_queue : (c : VbNotice) → BeginsFor None two one_page balloon balloon room room c → c.step.code ≡ 5
 no_such_queue c h = h.ended.code_is
 
 changed_although_none : (c : VbNotice) →
@@ -29,26 +29,26 @@ changed_although_none : (c : VbNotice) →
 changed_although_none c h = let e : Same 5 4 = ap held_of h.balloon in omega arith
 
 held_already : (c : VbNotice) →
-    BeginsFor (Some Statistics) two one_page balloon balloon room room c → c.code ≡ 1
+    BeginsFor (Some Statistics) two one_page balloon balloon room room c → c.step.code ≡ 1
 held_already c h = h.ended.code_is
 
 begun_although_held : (c : VbNotice) →
     BeginsFor (Some Statistics) two one_page balloon changed room room c → ⊥
 begun_although_held c h = let e : Same 5 4 = ap held_of h.balloon in omega arith
 
-nothing_to_give : (c : VbNotice) → GivesHeldFor (Some Deflate) two balloon balloon room room c → c.code ≡ 1
+nothing_to_give : (c : VbNotice) → GivesHeldFor (Some Deflate) two balloon balloon room room c → c.step.code ≡ 1
 nothing_to_give c h = h.ended.code_is
 
 changed_although_unheld : (c : VbNotice) → GivesHeldFor (Some Deflate) two balloon changed room room c → ⊥
 changed_although_unheld c h = let e : Same 5 4 = ap held_of h.balloon in omega arith
 
-given_of_no_kind : (c : VbNotice) → GivesHeldFor None two balloon balloon room room c → c.code ≡ 5
+given_of_no_kind : (c : VbNotice) → GivesHeldFor None two balloon balloon room room c → c.step.code ≡ 5
 given_of_no_kind c h = h.ended.code_is
 
 changed_of_no_kind : (c : VbNotice) → GivesHeldFor None two balloon changed room room c → ⊥
 changed_of_no_kind c h = let e : Same 5 4 = ap held_of h.balloon in omega arith
 
-no_notice : (c : VbNotice) → GoesOnBy None two 0 balloon balloon room room c → c.code ≡ 7
+no_notice : (c : VbNotice) → GoesOnBy None two 0 balloon balloon room room c → c.step.code ≡ 7
 no_notice c h = h.ended.code_is
 
 reading_although_none : (c : VbNotice) → GoesOnBy None two 0 balloon balloon room room (record c { what = 64 }) → ⊥

@@ -1,15 +1,15 @@
 -- From which balloon, room and lists a notice begins, goes on and is handed over.
-use Rattle.vb_monitor.specs.declared.room.Room.{Room}
-use Rattle.std.proofs.Common.{◌≡◌, ℕ, true, false, List, ◌++◌, Some}
+use Rattle.std.proofs.Common.{ℕ, true, List, ◌++◌, Some}
 use Rattle.vb_core.specs.declared.kinds.Kind.{Kind}
 use Rattle.vb_core.specs.declared.kinds.Kind.TheVariants.{Inflate}
 use Rattle.vb_monitor.specs.declared.outcome.HeldChain.{HeldChain}
-use Rattle.vb_core.specs.declared.{device.{Device.Device, Denial.Denial}}
-use Rattle.vb_monitor.specs.declared.outcome.{Outcome.Outcome, Budget.Budget, Tally.Tally}
-use Rattle.vb_monitor.specs.declared.{balloon.Balloon.Balloon, cuts.Cut.Cut, notice.Notice.Notice}
-use Rattle.vb_monitor.specs.{Accesses.Access, Ends.Ends, Machine.{Ahead, Awaited, whole}, Notices.{Serves, GivesHeldBack}}
+use Rattle.vb_core.specs.declared.{device.{Device.Device}}
+use Rattle.vb_monitor.specs.declared.outcome.{Outcome.Outcome, Budget.Budget}
+use Rattle.vb_monitor.specs.declared.{balloon.Balloon.Balloon}
+use Rattle.vb_c.specs.Notices.{Notice}
+use Rattle.vb_monitor.specs.{Accesses.Access, Machine.{Ahead, Awaited, whole}, Notices.{Serves, GivesHeldBack}}
 use Rattle.vb_c.specs.declared.notice.{VbNotice.VbNotice, VbRoom.VbRoom}
-use Rattle.vb_c.specs.{Serving.{with_device, HandsOver, Begins, BeginsIf, BeginsFor, GivesHeldOf, GoesOn}, Served.Denies}
+use Rattle.vb_c.specs.{Serving.{with_device, HandsOver, Begins, BeginsIf, BeginsFor, GivesHeldOf, GoesOn}}
 use Rattle.vb_c.proofs.Samples.{two, balloon}
 
 -- ---- a notice of a queue is of the device as it was, and may begin while a chain of another one
@@ -39,10 +39,6 @@ next_lists : (n : Notice) (answer : ℕ) (b1 b2 : Balloon) (r1 r2 : VbRoom) (c :
     (h : GoesOn n two answer b1 b2 r1 r2 c) → HandsOver h.next two r2.copied (with_device h.device b1) b2 r2.cuts c
 next_lists n answer b1 b2 r1 r2 c h = h.hands
 
-lists_of_a_denial : (why : Denial) (kind : Kind) (tally : Tally) (room : Room) (b1 b2 : Balloon) (cuts : List Cut) (c : VbNotice) →
-    (h : Denies why kind tally two room b1 b2 cuts c) → (h.next.kind ≡ kind) × HandsOver h.next two room b1 b2 cuts c
-lists_of_a_denial why kind tally room b1 b2 cuts c h = (h.kind_is, h.hands)
-
 -- ---- a notice that goes on: the room had all else before, and other bytes
 
 goes_on_in_the_room : (n : Notice) (answer : ℕ) (b1 b2 : Balloon) (r1 r2 : VbRoom) (c : VbNotice) →
@@ -51,10 +47,3 @@ goes_on_in_the_room : (n : Notice) (answer : ℕ) (b1 b2 : Balloon) (r1 r2 : VbR
     Ahead (whole two n.kind after outcome) h.next.step h.device r2.copied rest →
     Ahead (whole two n.kind after outcome) n.step b1.device (record r1.copied { bytes = bytes }) (done ++ rest)
 goes_on_in_the_room n answer b1 b2 r1 r2 c h = h.step
-
--- a denial ends it, of the device as it was
-ends_by_a_denial : (why : Denial) (kind : Kind) (tally : Tally) (room : Room) (b1 b2 : Balloon) (cuts : List Cut) (c : VbNotice) →
-    (h : Denies why kind tally two room b1 b2 cuts c) → (after : Device) (outcome : Outcome) (any : Room) (log : List Access) →
-    Ahead (whole two kind after outcome) h.next.step b1.device any log →
-    Ends (whole two kind after outcome) b1.device tally (Some why) false log
-ends_by_a_denial why kind tally room b1 b2 cuts c h = h.step

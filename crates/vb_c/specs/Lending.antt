@@ -14,7 +14,7 @@ use Rattle.vb_lender.specs.Targets.{AsksFor}
 use Rattle.vb_lender.specs.Classes.{AsksByClass, shares_of}
 use Rattle.vb_c.specs.declared.lending.VbGrant.{VbGrant}
 use Rattle.vb_c.specs.declared.sharing.VbTargets.{VbTargets}
-use Rattle.vb_c.specs.Codes.{code_of}
+use Rattle.vb_monitor.specs.Codes.{code_of}
 use Rattle.vb_c.specs.Sharing.{targets_of}
 
 -- What has an effect is OK, and what doesn't fit is a bad argument.

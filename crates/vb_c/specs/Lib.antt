@@ -8,5 +8,4 @@ pub mod Serving
 pub mod Places
 pub mod Queues
 pub mod Lending
-pub mod Served
 pub mod Hosting

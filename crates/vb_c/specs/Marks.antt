@@ -6,7 +6,7 @@ use Rattle.vb_core.specs.declared.device.Denial.TheVariants.{NoQueue}
 use Rattle.vb_core.specs.declared.runs.Run.{Run}
 use Rattle.vb_core.specs.Ballooned.{MarksBy}
 use Rattle.vb_c.specs.declared.marks.VbMarked.{VbMarked}
-use Rattle.vb_c.specs.Codes.{code_of}
+use Rattle.vb_monitor.specs.Codes.{code_of}
 
 abbrev pub marked_of : Result ℕ Denial → VbMarked
 marked_of (Ok pages) = record { code = 0; pages = pages }

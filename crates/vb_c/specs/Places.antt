@@ -16,7 +16,8 @@ use Rattle.vb_monitor.specs.declared.placing.RestoreDenial.{RestoreDenial}
 use Rattle.vb_monitor.specs.declared.placing.RestoreDenial.TheVariants.{State, Elsewhere}
 use Rattle.vb_monitor.specs.Balloons.{after_status, becomes_ready}
 use Rattle.vb_monitor.specs.Places.{balloon_over, may_be_memory, ending_with, Lies, RestoresBy}
-use Rattle.vb_c.specs.Codes.{code_of, code_in, number_in}
+use Rattle.vb_monitor.specs.Codes.{code_of}
+use Rattle.vb_c.specs.Codes.{code_in, number_in}
 use Rattle.vb_c.specs.Saving.{code_of_state}
 
 -- A balloon is made over regions, where there may be one, and else stays as it is.

@@ -12,7 +12,8 @@ use Rattle.vb_core.specs.Held.{held_of, held_without}
 use Rattle.vb_monitor.specs.declared.outcome.HeldChain.{HeldChain}
 use Rattle.vb_monitor.specs.Balloons.{held_chain}
 use Rattle.vb_monitor.specs.Queues.{StartsBy, StopsBy}
-use Rattle.vb_c.specs.Codes.{code_of, code_in}
+use Rattle.vb_monitor.specs.Codes.{code_of}
+use Rattle.vb_c.specs.Codes.{code_in}
 
 abbrev pub StartsFor : Option Kind → List Region → QueueStart → Balloon → Balloon → ℕ → Type 0
 StartsFor None regions at b1 b2 result = (result ≡ code_of NoQueue) × (b2 ≡ b1)

@@ -10,7 +10,8 @@ use Rattle.vb_core.specs.Settings.{are_settings}
 use Rattle.vb_core.specs.Devices.{new_device, with_ring, placed, place_denial}
 use Rattle.vb_core.specs.Statuses.{status_denial, after_write, negotiate_denial}
 use Rattle.vb_core.specs.Config.{config_denies, with_written}
-use Rattle.vb_c.specs.Codes.{code_of, number_in}
+use Rattle.vb_monitor.specs.Codes.{code_of}
+use Rattle.vb_c.specs.Codes.{number_in}
 
 -- A device is made of settings that one may have, and else stays as it is.
 pub record Starts (settings : Settings) (d1 d2 : Device) (result : ℕ) : Type 0 where

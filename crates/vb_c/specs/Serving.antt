@@ -12,7 +12,6 @@ use Rattle.vb_monitor.specs.declared.orders.Told.TheVariants.{Pages}
 use Rattle.vb_monitor.specs.declared.balloon.Balloon.{Balloon}
 use Rattle.vb_monitor.specs.declared.outcome.Budget.{Budget}
 use Rattle.vb_monitor.specs.declared.outcome.Outcome.{Outcome}
-use Rattle.vb_monitor.specs.declared.notice.Notice.{Notice}
 use Rattle.vb_core.specs.Config.{keeps_reports}
 use Rattle.vb_monitor.specs.Accesses.{Access}
 use Rattle.vb_monitor.specs.Giving.{is_kept, kept_pages}
@@ -24,8 +23,8 @@ use Rattle.vb_monitor.specs.Machine.{outcome_at}
 use Rattle.vb_monitor.specs.Orders.{at_once, HasRoom, FillsList}
 use Rattle.vb_c.specs.declared.notice.VbNotice.{VbNotice}
 use Rattle.vb_c.specs.declared.notice.VbRoom.{VbRoom}
-use Rattle.vb_c.specs.Codes.{code_of}
-use Rattle.vb_c.specs.Notices.{IsNotice, HasEnded}
+use Rattle.vb_monitor.specs.Codes.{code_of}
+use Rattle.vb_c.specs.Notices.{Notice, IsNotice, HasEnded}
 
 abbrev pub held_by : Option Outcome → Kind → Balloon → Held
 held_by (Some outcome) kind b = held_after kind outcome b

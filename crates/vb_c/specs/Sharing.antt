@@ -7,7 +7,7 @@ use Rattle.vb_balance.specs.Sharing.{SharesInto}
 use Rattle.vb_balance.specs.Serving.{StillServe}
 use Rattle.vb_core.specs.declared.device.Denial.TheVariants.{BadArgument}
 use Rattle.vb_c.specs.declared.sharing.VbTargets.{VbTargets}
-use Rattle.vb_c.specs.Codes.{code_of}
+use Rattle.vb_monitor.specs.Codes.{code_of}
 
 abbrev pub targets_of : Result (Unit {0}) NoTargets → VbTargets
 targets_of (Ok done) = record { code = 0; missing = 0 }

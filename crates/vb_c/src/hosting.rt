@@ -6,7 +6,7 @@ ghost use Rattle.vb_c.specs.Hosting.{AsksHost, TellsGuests};
 
 use crate::sharing::{VbTargets, targets_of};
 use vb_balance::{GuestNeed, NoTargets};
-use vb_lender::{HostGuest, Share, ask_guests, targets_serve};
+use vb_lender::{Budget, HostGuest, Share, ask_guests, targets_serve};
 
 /// What a guest counts for, and what it can give where `floor` pages stay free.
 #[unsafe(no_mangle)]
@@ -22,14 +22,13 @@ pub extern "C" fn vb_guest_need(guest: &HostGuest, floor: u32) -> GuestNeed
 /// Puts what each guest is asked to give into the caller's array.
 #[unsafe(no_mangle)]
 pub extern "C" fn vb_guest_targets(
-    frames: u32,
-    floor: u32,
+    budget: &Budget,
     guests: &[HostGuest],
     shares: &mut [Share],
     needs: &mut [GuestNeed],
     targets: &mut [u32],
 ) -> VbTargets
-    ensures { AsksHost frames floor guests.now shares.old shares.new needs.old needs.new
+    ensures { AsksHost budget.now guests.now shares.old shares.new needs.old needs.new
         targets.old targets.new result }
 {
     if shares.len() != guests.len()
@@ -38,25 +37,23 @@ pub extern "C" fn vb_guest_targets(
     {
         return targets_of(Err(NoTargets::OtherLength));
     }
-    targets_of(ask_guests(frames, floor, guests, shares, needs, targets))
+    targets_of(ask_guests(budget, guests, shares, needs, targets))
 }
 
 /// Whether targets that were set before no longer serve.
 #[unsafe(no_mangle)]
 pub extern "C" fn vb_needs_guest_targets(
-    frames: u32,
-    floor: u32,
-    slack: u32,
+    budget: &Budget,
     guests: &[HostGuest],
     old: &[u32],
     needs: &mut [GuestNeed],
     rests: &mut [u32],
 ) -> u32
-    ensures { TellsGuests frames floor slack guests.now old.now needs.old needs.new rests.old
-        rests.new result }
+    ensures { TellsGuests budget.now guests.now old.now needs.old needs.new rests.old rests.new
+        result }
 {
     if needs.len() != guests.len() || rests.len() != guests.len() {
         return 1;
     }
-    u32::from(!targets_serve(frames, floor, slack, guests, old, needs, rests))
+    u32::from(!targets_serve(budget, guests, old, needs, rests))
 }

@@ -8,13 +8,13 @@ ghost use Rattle.vb_lender.specs.Lending.{owed, test_at};
 ghost use Rattle.vb_c.specs.Lending.{code_if, grant_of, Changes, Queues, GrantsFor, AsksGuests};
 ghost use Rattle.vb_c.specs.Lending.{AsksClasses};
 
-use crate::answers::{BAD_ARGUMENT, NOTHING, OK};
 use crate::sharing::{VbTargets, targets_of};
 use vb_balance::{GuestNeed, NoTargets};
 use vb_lender::{
     Loan, Share, Terms, WaitingLine, arrive, ask, ask_by_class, ask_targets, figure, give,
     grant_next, leave, owed, recount, reset, take, uncount,
 };
+use vb_monitor::{BAD_ARGUMENT, NOTHING, OK};
 
 /// The guest that was lent what it waited for.
 #[repr(C)]

@@ -3,21 +3,16 @@
 //! the caller's memory, and nothing is allocated.
 #![tactic(auto)]
 
-mod answers;
 mod bits;
 mod hosting;
 mod kinds;
 mod lending;
 mod marks;
 mod notice;
-mod phases;
 mod places;
 mod queues;
 mod registers;
-mod requests;
-mod rules;
 mod saving;
 mod serving;
 mod sharing;
 mod showing;
-mod usual;

@@ -7,9 +7,9 @@ ghost use Rattle.vb_c.specs.Codes.{kind_of_code};
 ghost use Rattle.vb_monitor.specs.Large.{LargeBy, counted};
 ghost use Rattle.vb_c.specs.Marks.{marked_of, MarksFor};
 
-use crate::answers::{OK, code_of, kind_of_code};
+use crate::kinds::kind_of_code;
 use vb_core::{Denial, Device, Run, count_ballooned, is_ballooned, mark};
-use vb_monitor::{Cut, Large, Region, large_pages};
+use vb_monitor::{Cut, Large, OK, Region, code_of, large_pages};
 
 /// How many pages were put into the set, or taken out of it.
 #[repr(C)]

@@ -7,11 +7,11 @@ ghost use Rattle.vb_c.specs.Codes.{kind_of_code};
 ghost use Rattle.vb_c.specs.Places.{StartsOver, MapsAnew, PlacesOverFor, SetsStatus, RestoresOver};
 ghost use Rattle.vb_c.specs.Places.{code_of_restore};
 
-use crate::answers::{BAD_ARGUMENT, MISPLACED, NO_QUEUE, OK, kind_of_code};
+use crate::kinds::kind_of_code;
 use crate::registers::{code_in, number_in};
 use crate::saving::code_of_state;
 use vb_core::{Device, Settings};
-use vb_monitor::{Balloon, Region, RestoreDenial, may_tell};
+use vb_monitor::{BAD_ARGUMENT, Balloon, MISPLACED, NO_QUEUE, OK, Region, RestoreDenial, may_tell};
 
 /// Each queue is to be looked at.
 const LOOK: u32 = 1;

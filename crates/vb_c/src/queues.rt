@@ -5,10 +5,10 @@ ghost use Rattle.vb_c.specs.Codes.{kind_of_code};
 ghost use Rattle.vb_c.specs.Queues.{StartsFor, StopsFor, ForgetsFor, SaysHeld};
 ghost use Rattle.vb_c.specs.Queues.{code_of_stop, next_of};
 
-use crate::answers::{NO_QUEUE, NOTHING, OK, code_of, kind_of_code};
+use crate::kinds::kind_of_code;
 use crate::registers::code_in;
 use vb_core::{Denial, QueueStart};
-use vb_monitor::{Balloon, Region};
+use vb_monitor::{Balloon, NO_QUEUE, NOTHING, OK, Region, code_of};
 
 /// The code of a stop's answer.
 fn code_of_stop(answer: Result<u16, Denial>) -> u32

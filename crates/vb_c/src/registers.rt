@@ -8,9 +8,10 @@ ghost use Rattle.vb_c.specs.Codes.{code_in, number_in, kind_of_code, code_of_kin
 ghost use Rattle.vb_c.specs.Registers.{Starts, WritesStatus, Negotiates, PlacesFor};
 ghost use Rattle.vb_c.specs.Registers.{WritesConfig};
 
-use crate::answers::{BAD_ARGUMENT, NO_QUEUE, OK, code_of, code_of_kind, kind_of_code};
+use crate::kinds::{code_of_kind, kind_of_code};
 use bitflags::Flags;
 use vb_core::{Denial, Device, Kind, Settings};
+use vb_monitor::{BAD_ARGUMENT, NO_QUEUE, OK, code_of};
 use vb_status::{Features, StatusFault};
 
 /// The code of an answer that has nothing but a denial.

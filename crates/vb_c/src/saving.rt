@@ -3,8 +3,8 @@
 ghost use Rattle.std.specs.Prelude.{◌≡◌};
 ghost use Rattle.vb_c.specs.Saving.{code_of_state, Saves, Restores};
 
-use crate::answers::{BAD_LENGTH, BAD_SUM, IMPOSSIBLE, NOT_A_STATE, OK, OTHER_VERSION};
 use vb_core::{Device, Held, Saved, StateDenial};
+use vb_monitor::{BAD_LENGTH, BAD_SUM, IMPOSSIBLE, NOT_A_STATE, OK, OTHER_VERSION};
 
 /// The version of the library: 65,536 times the first number, 256 times the second, and the third.
 /// `tools/list-codes --write` has it of the file VERSION.

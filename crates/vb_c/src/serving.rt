@@ -4,39 +4,48 @@ ghost use Rattle.std.specs.Prelude.{◌≡◌, ◌+◌, ◌≤◌, Some};
 ghost use Rattle.vb_monitor.specs.declared.room.TheConstants.{MAX_BYTES};
 ghost use Rattle.vb_monitor.specs.Machine.{Fits};
 ghost use Rattle.vb_c.specs.Codes.{kind_of_code};
-ghost use Rattle.vb_c.specs.Notices.{HasEnded, notice_of, says_yes};
+ghost use Rattle.vb_monitor.specs.Steps.{phase_of, step_of, says_yes};
+ghost use Rattle.vb_c.specs.Notices.{HasEnded, notice_of};
 ghost use Rattle.vb_monitor.specs.Notices.{Serves};
 ghost use Rattle.vb_c.specs.Serving.{HandsOver, Begins, BeginsFor, GivesHeldFor, GoesOnBy};
 
-use crate::answers::{BAD_ARGUMENT, NO_QUEUE, NOTHING, kind_of_code};
+use crate::kinds::kind_of_code;
 use crate::notice::{VbNotice, VbRoom};
-use crate::requests::hand_step;
 use vb_core::Kind;
 use vb_monitor::{
-    Balloon, Budget, Cut, MAX_CUTS, Notice, Region, Room, after_descriptor, after_part,
+    BAD_ARGUMENT, Balloon, Budget, Cut, MAX_CUTS, NO_QUEUE, NOTHING, Region, Room, at_once,
 };
 
 /// Hands a notice over, with all that is to be done before it waits; what it came to is noted, once
 /// it has ended.
-pub(crate) fn hand_over(
-    shown: &mut VbNotice,
+#[inline(always)]
+fn hand_over(
+    notice: &mut VbNotice,
     balloon: &mut Balloon,
     regions: &[Region],
+    kind: Kind,
     room: &Room,
     cuts: &mut [Cut; MAX_CUTS],
-    notice: &mut Notice,
 ) -> u32
-    requires { Fits notice.old.step.phase }
-    ensures hands { HandsOver notice.old regions.now room.now balloon.old balloon.new cuts.new
-        shown.new }
-    ensures what { result ≡ shown.new.what }
+    requires { Fits (phase_of notice.old.step) }
+    ensures hands { HandsOver (record { kind = kind; step = step_of notice.old.step }) regions.now
+        room.now balloon.old balloon.new cuts.new notice.new }
+    ensures what { result ≡ notice.new.what }
 {
-    let asked = notice.at_once(&mut balloon.device, regions, room, cuts, &mut shown.orders);
-    if let Some(outcome) = notice.outcome() {
-        balloon.note(notice.kind, &outcome);
+    let asked = at_once(
+        &mut notice.step,
+        &mut balloon.device,
+        regions,
+        kind,
+        room,
+        cuts,
+        &mut notice.orders,
+    );
+    if let Some(outcome) = notice.step.outcome() {
+        balloon.note(kind, &outcome);
     }
-    shown.show(asked, notice);
-    shown.what
+    notice.show(asked, kind);
+    notice.what
 }
 
 /// Hands a notice over that has ended before anything was done.
@@ -76,15 +85,11 @@ pub extern "C" fn vb_begin(
                 pages,
                 keeps: keeps != 0,
             };
-            let mut begun = Notice::begin(&mut balloon.device, regions, queue, budget);
-            hand_over(
-                notice,
-                balloon,
-                regions,
-                &room.copied,
-                &mut room.cuts,
-                &mut begun,
-            )
+            notice
+                .step
+                .begin(&mut balloon.device, regions, queue, budget);
+            let (copied, cuts) = (&room.copied, &mut room.cuts);
+            hand_over(notice, balloon, regions, queue, copied, cuts)
         }
     }
 }
@@ -107,23 +112,19 @@ pub extern "C" fn vb_give_held(
         Some(queue) => match balloon.held_chain(queue) {
             None => refuse(notice, NOTHING),
             Some(held) => {
-                let mut begun = Notice::give_held(&mut balloon.device, regions, queue, held);
-                hand_over(
-                    notice,
-                    balloon,
-                    regions,
-                    &room.copied,
-                    &mut room.cuts,
-                    &mut begun,
-                )
+                notice
+                    .step
+                    .give_held(&mut balloon.device, regions, queue, held);
+                let (copied, cuts) = (&room.copied, &mut room.cuts);
+                hand_over(notice, balloon, regions, queue, copied, cuts)
             }
         },
     }
 }
 
-/// What is to be done next, however a notice goes on.
-#[inline(never)]
-pub(crate) fn go_anyhow(
+/// What is to be done next, once that was done which was to be done.
+#[unsafe(no_mangle)]
+pub extern "C" fn vb_go_on(
     notice: &mut VbNotice,
     balloon: &mut Balloon,
     regions: &[Region],
@@ -134,87 +135,15 @@ pub(crate) fn go_anyhow(
         room.old room.new notice.new }
     ensures what { result ≡ notice.new.what }
 {
-    match notice.read() {
+    match notice.going() {
         None => refuse(notice, BAD_ARGUMENT),
-        Some(mut read) => {
-            read.go_on(&mut balloon.device, regions, answer, &mut room.copied);
-            hand_over(
-                notice,
-                balloon,
-                regions,
-                &room.copied,
-                &mut room.cuts,
-                &mut read,
-            )
+        Some(kind) => {
+            let device = &mut balloon.device;
+            notice
+                .step
+                .go_on(device, regions, kind, answer, &mut room.copied);
+            let (copied, cuts) = (&room.copied, &mut room.cuts);
+            hand_over(notice, balloon, regions, kind, copied, cuts)
         }
     }
-}
-
-/// A row of descriptors was copied, which join the others up to one that breaks a rule.
-pub(crate) fn go_chain(
-    notice: &mut VbNotice,
-    balloon: &mut Balloon,
-    regions: &[Region],
-    room: &mut VbRoom,
-    kind: Kind,
-    answer: u16,
-) -> u32
-    requires kind { kind_of_code notice.old.kind ≡ Some kind }
-    requires phase { notice.old.phase ≡ 3 }
-    ensures goes { GoesOnBy (notice_of notice.old) regions.now answer balloon.old balloon.new
-        room.old room.new notice.new }
-    ensures what { result ≡ notice.new.what }
-{
-    let step = after_descriptor(
-        &mut balloon.device,
-        regions,
-        kind,
-        notice.tally(),
-        notice.walk(),
-        &mut room.copied,
-    );
-    let mut next = Notice { kind, step };
-    hand_step(
-        notice,
-        balloon,
-        regions,
-        &room.copied,
-        &mut room.cuts,
-        &mut next,
-    )
-}
-
-/// A part of a piece was copied, after others that leave room for it.
-pub(crate) fn go_part(
-    notice: &mut VbNotice,
-    balloon: &mut Balloon,
-    regions: &[Region],
-    room: &mut VbRoom,
-    kind: Kind,
-    answer: u16,
-) -> u32
-    requires kind { kind_of_code notice.old.kind ≡ Some kind }
-    requires phase { notice.old.phase ≡ 4 }
-    requires fits { notice.old.into + notice.old.length ≤ MAX_BYTES }
-    ensures goes { GoesOnBy (notice_of notice.old) regions.now answer balloon.old balloon.new
-        room.old room.new notice.new }
-    ensures what { result ≡ notice.new.what }
-{
-    let step = after_part(
-        &mut balloon.device,
-        regions,
-        kind,
-        notice.tally(),
-        notice.place(),
-        &mut room.copied,
-    );
-    let mut next = Notice { kind, step };
-    hand_step(
-        notice,
-        balloon,
-        regions,
-        &room.copied,
-        &mut room.cuts,
-        &mut next,
-    )
 }

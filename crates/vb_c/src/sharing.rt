@@ -4,8 +4,8 @@ ghost use Rattle.std.specs.Prelude.{◌≡◌, if◌then◌else◌, nat_eq};
 ghost use Rattle.vb_virtio.specs.Targets.{spare_of};
 ghost use Rattle.vb_c.specs.Sharing.{targets_of, SharesFor, TellsServing};
 
-use crate::answers::{BAD_ARGUMENT, OK, SHORT};
 use vb_balance::{GuestMemory, GuestNeed, NoTargets, needs_targets, spare, targets_into};
+use vb_monitor::{BAD_ARGUMENT, OK, SHORT};
 
 /// The answer of a call for targets.
 #[repr(C)]

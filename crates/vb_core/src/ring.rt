@@ -31,6 +31,7 @@ pub struct Virtqueue {
 
 /// What is to be written for a chain that is used (VIRTIO 1.1, 2.6.8): the id and the length, as
 /// little-endian numbers of 32 bits, at one address, and then the index, of 16 bits, at the other.
+#[repr(C)]
 #[derive(Clone, Copy, Debug)]
 pub struct UsedEntry {
     /// Where the element goes.

@@ -14,6 +14,18 @@ use crate::classes::ask_shares;
 use crate::{HostGuest, Share};
 use vb_balance::{GuestNeed, NoTargets, needs_targets};
 
+/// What a host has for its guests together, and what each of them is to keep free, in pages.
+#[repr(C)]
+#[derive(Clone, Copy, Debug, PartialEq, Eq)]
+pub struct Budget {
+    /// The frames for all guests.
+    pub frames: u32,
+    /// The pages that are to stay free in each guest.
+    pub floor: u32,
+    /// By how many pages fewer free than the floor targets that were set before still serve.
+    pub slack: u32,
+}
+
 /// What each guest has and can give beside what its most wants of it.
 fn rests_into(floor: u32, guests: &[HostGuest], shares: &mut [Share])
     requires { length shares.old ≡ length guests.now }
@@ -38,12 +50,11 @@ fn join_forced(floor: u32, guests: &[HostGuest], targets: &mut [u32])
 }
 
 /// Puts a target for each guest into `targets`: what its most wants of it, and beside that what it
-/// gives by its class, so that together they leave `frames` frames to all guests. `Short` where all
-/// that the guests can give is too little: then each is asked for all that it can give, where
-/// `floor` pages of each are to stay free. What `shares` and `needs` have before doesn't matter.
+/// gives by its class, so that together they leave the budget's frames to all guests. `Short` where
+/// all that the guests can give is too little: then each is asked for all that it can give above
+/// the floor. What `shares` and `needs` have before doesn't matter.
 pub fn ask_guests(
-    frames: u32,
-    floor: u32,
+    budget: &Budget,
     guests: &[HostGuest],
     shares: &mut [Share],
     needs: &mut [GuestNeed],
@@ -52,11 +63,11 @@ pub fn ask_guests(
     requires shares { length shares.old ≡ length guests.now }
     requires needs { length needs.old ≡ length guests.now }
     requires targets { length targets.old ≡ length guests.now }
-    ensures { AsksGuests floor frames guests.now targets.new result }
+    ensures { AsksGuests budget.now.floor budget.now.frames guests.now targets.new result }
 {
-    rests_into(floor, guests, shares);
-    let answer = ask_shares(frames, shares, needs, targets);
-    join_forced(floor, guests, targets);
+    rests_into(budget.floor, guests, shares);
+    let answer = ask_shares(budget.frames, shares, needs, targets);
+    join_forced(budget.floor, guests, targets);
     answer
 }
 
@@ -100,13 +111,11 @@ fn beyond_into(floor: u32, guests: &[HostGuest], targets: &[u32], rests: &mut [u
 }
 
 /// Whether targets that were set before still serve: there is one for each guest, each guest is
-/// asked for what its most wants of it and for no more than it could give with `slack` fewer pages
-/// free than `floor`, and together they leave `frames` frames to all guests. What `needs` and
-/// `rests` have before doesn't matter.
+/// asked for what its most wants of it and for no more than it could give with fewer pages free
+/// than the floor by the slack, and together they leave the budget's frames to all guests. What
+/// `needs` and `rests` have before doesn't matter.
 pub fn targets_serve(
-    frames: u32,
-    floor: u32,
-    slack: u32,
+    budget: &Budget,
     guests: &[HostGuest],
     old: &[u32],
     needs: &mut [GuestNeed],
@@ -114,15 +123,16 @@ pub fn targets_serve(
 ) -> bool
     requires needs { length needs.old ≡ length guests.now }
     requires rests { length rests.old ≡ length guests.now }
-    ensures { MatchBool result (TargetsServe floor slack frames guests.now old.now)
-        (¬ TargetsServe floor slack frames guests.now old.now) }
+    ensures { MatchBool result
+        (TargetsServe budget.now.floor budget.now.slack budget.now.frames guests.now old.now)
+        (¬ TargetsServe budget.now.floor budget.now.slack budget.now.frames guests.now old.now) }
 {
-    if old.len() != guests.len() || lacks_forced(floor, guests, old) {
+    if old.len() != guests.len() || lacks_forced(budget.floor, guests, old) {
         return false;
     }
-    low_needs_into(floor, slack, guests, needs);
-    beyond_into(floor, guests, old, rests);
-    !needs_targets(rests, needs, frames)
+    low_needs_into(budget.floor, budget.slack, guests, needs);
+    beyond_into(budget.floor, guests, old, rests);
+    !needs_targets(rests, needs, budget.frames)
 }
 
 /// Where the guests can give enough, what they count for without what they are asked for is no more

@@ -23,8 +23,8 @@ pub use classes::{ask_by_class, class_targets_make_room, least_stays, one_class_
 pub use event::Event;
 pub use guest::{Contact, HostGuest};
 pub use hosting::{
-    ask_guests, no_guest_is_asked_for_more, silence_gives_nothing_more, targets_leave_the_frames,
-    targets_serve,
+    Budget, ask_guests, no_guest_is_asked_for_more, silence_gives_nothing_more,
+    targets_leave_the_frames, targets_serve,
 };
 pub use laws::{
     each_has_what_it_may_use, lines_order_the_asks, never_more_than_the_budget,

@@ -2,7 +2,7 @@
 use Rattle.std.proofs.Common.{◌≡◌, ℕ, refl, true, false, [], ◌∷◌}
 use Rattle.vb_core.specs.declared.kinds.Kind.TheVariants.{Inflate, Deflate, Statistics, Report}
 use Rattle.vb_core.specs.declared.runs.Run.{Run}
-use Rattle.vb_monitor.{specs.Served.is_discarded}
+use Rattle.vb_monitor.{specs.Giving.is_discarded}
 
 abbrev run : ℕ → ℕ → Run
 run first count = record { first = first; count = count }

@@ -1,9 +1,8 @@
 pub mod RegionLemmas
-pub mod SingleLemmas
+pub mod ProgressLemmas
 pub mod PartLemmas
 pub mod BufferLemmas
 pub mod NextLemmas
-pub mod UsualLemmas
 pub mod StepLemmas
 pub mod LeftLemmas
 pub mod OrderLemmas
@@ -15,7 +14,6 @@ mod QueueFacts
 mod KindTurnFacts
 mod RegionFacts
 mod FewFacts
-mod SingleFacts
 mod NoticeFacts
 mod OrderFacts
 pub mod PlaceLemmas
@@ -41,6 +39,7 @@ mod TellingFacts
 mod HeldBackFacts
 mod HoldingFacts
 mod PartsOfRunsFacts
+mod StepFacts
 mod MachineFacts
 mod AheadFacts
 mod AheadToldFacts
@@ -60,10 +59,8 @@ mod LargeFacts
 mod LargeWaitFacts
 mod WholeReportFacts
 mod KeepsFacts
-mod UsualFacts
-mod ServedFacts
 pub mod RoomLemmas
-pub mod ServedLemmas
+pub mod OpenLemmas
 pub mod StillWalk
 pub mod StillParts
 pub mod StillFound

@@ -6,7 +6,7 @@ use Rattle.std.proofs.lemmas.{List.{drop_more, drop_all}, Bool.Decides.nat_tests
 use Rattle.vb_core.{specs.declared.settings.TheConstants.MEMORY_LIMIT, specs.declared.runs.Run.Run}
 use Rattle.vb_monitor.specs.declared.regions.Region.{Region}
 use Rattle.vb_monitor.specs.{declared.cuts.Cut.Cut, Machine.{cuts_on, cuts_behind}}
-use Rattle.vb_monitor.specs.Regions.{holds, spot_from, spot, meets, cut_of, cuts_from, cuts_of}
+use Rattle.vb_monitor.specs.Regions.{holds, spot_from, meets, cut_of, cuts_from, cuts_of}
 
 -- ---- places
 
@@ -27,11 +27,6 @@ spot_on rs n a len d lt h = ap (λ (l : List Region). spot_from n l a len) (drop
 pub spot_end : (rs : List Region) (n a len : ℕ) → length rs ≤ n →
     spot_from n (drop n rs) a len ≡ None
 spot_end rs n a len le = ap (λ (l : List Region). spot_from n l a len) (drop_all n rs le)
-
-pub spot_first : (rs : List Region) (a len : ℕ) (d : Region) → 0 < length rs →
-    holds (get_or rs 0 d) a len ≡ true →
-    spot rs a len ≡ Some (record { region = 0; offset = a - (get_or rs 0 d).guest })
-spot_first rs a len d lt h = spot_here rs 0 a len d lt h
 
 -- no region has an address past the limit of memory
 is_far : (r : Region) (a len : ℕ) → MEMORY_LIMIT < a → holds r a len ≡ false
@@ -86,8 +81,6 @@ run_end rs runs n le = ap (λ (l : List Run). cuts_of rs l) (drop_all n runs le)
 -- ---- for the functions that look for them
 
 pub ruleset spot_steps = (spot_here, spot_on, spot_end)
-
-pub ruleset first_steps = (spot_far, spot_first, spot_end)
 
 pub ruleset cut_steps = (cut_here, cut_on, cut_end)
 

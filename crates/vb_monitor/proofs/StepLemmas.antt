@@ -8,7 +8,7 @@ use Rattle.vb_monitor.specs.declared.step.Phase.TheVariants.{AwaitsDescriptor, A
 use Rattle.vb_monitor.specs.declared.step.Phase.TheVariants.{TellsPages, TellsFigures, Discards}
 use Rattle.vb_monitor.{specs.declared.outcome.Outcome.Outcome, specs.declared.outcome.Tally.Tally}
 use Rattle.vb_monitor.{specs.Accesses.{Access, Steps, Makes}, specs.declared.regions.Region.Region}
-use Rattle.vb_monitor.{specs.declared.step.Step.Step, specs.declared.step.Phase.Phase}
+use Rattle.vb_monitor.{specs.Steps.Step, specs.declared.step.Phase.Phase}
 use Rattle.vb_monitor.specs.declared.step.Phase.TheVariants.{GivesBack, AwaitsFlags, Ended}
 use Rattle.vb_monitor.specs.Machine.{GoesOn, Ahead, AheadAt, Does, whole, outcome_at}
 

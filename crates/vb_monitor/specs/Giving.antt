@@ -1,6 +1,6 @@
 -- What is done for a chain whose pages or figures are known: they are told, pages that were given
 -- up are discarded, and then the chain is given back (VIRTIO 1.1, 2.6.8 and 5.5.6).
-use Rattle.std.specs.Prelude.{◌≡◌, ℕ, ◌+◌, ◌-◌, Bool, true, false, ◌||◌, List, [], ◌∷◌, ◌++◌}
+use Rattle.std.specs.Prelude.{◌≡◌, ℕ, ◌+◌, ◌-◌, Bool, true, false, not, ◌||◌, List, [], ◌∷◌, ◌++◌}
 use Rattle.std.specs.Prelude.{map, take}
 use Rattle.std.specs.Prelude.{Option, Some, None, Result, Ok, Err}
 use Rattle.vb_chain.specs.declared.fault.ChainFault.TheVariants.{OutOfRam}
@@ -152,3 +152,10 @@ AfterName w next d tally head runs (Err why) log = Ends w d tally (Some why) fal
 AfterName w next d tally head runs (Ok named) log =
     TellsThen w next d (with_named w.kind d.settings head named.pages tally) head
     (take named.runs runs) named log
+
+-- What a kind's chains name is discarded, where it is kept or not.
+abbrev pub is_discarded : Kind → Bool → Bool
+is_discarded Inflate kept = not kept
+is_discarded Deflate kept = false
+is_discarded Statistics kept = false
+is_discarded Report kept = not kept

@@ -6,10 +6,11 @@ pub mod Pieces
 pub mod Chains
 pub mod Rows
 pub mod Notices
+pub mod Codes
+pub mod Steps
 pub mod Machine
 pub mod Left
 pub mod Orders
-pub mod Single
 pub mod Touched
 pub mod Balloons
 pub mod Order
@@ -22,6 +23,4 @@ pub mod Turns
 pub mod HeldBack
 pub mod PartsOfRuns
 pub mod Large
-pub mod Usual
-pub mod Served
 pub mod Still

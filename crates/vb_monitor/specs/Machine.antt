@@ -1,7 +1,7 @@
 -- A notice step by step: which accesses may still come.
 use Rattle.std.specs.Prelude.{◌≡◌, ℕ, ◌+◌, ◌-◌, ◌*◌, ◌≤◌, Bool, true, false, List, [], ◌∷◌, ◌++◌}
 use Rattle.std.specs.Prelude.{length, take}
-use Rattle.std.specs.Prelude.{drop, if◌then◌else◌, Option, Some, None}
+use Rattle.std.specs.Prelude.{drop, if◌then◌else◌, nat_le, Option, Some, None}
 use Rattle.vb_chain.specs.declared.descriptor.TheConstants.{DESCRIPTOR_SIZE}
 use Rattle.vb_chain.specs.declared.pieces.Piece.{Piece}
 use Rattle.vb_core.specs.declared.kinds.Kind.{Kind}
@@ -17,7 +17,7 @@ use Rattle.vb_monitor.specs.declared.outcome.Tally.{Tally}
 use Rattle.vb_monitor.specs.declared.outcome.Outcome.{Outcome}
 use Rattle.vb_monitor.specs.declared.regions.Spot.{Spot}
 use Rattle.vb_monitor.specs.declared.step.Walk.{Walk}
-use Rattle.vb_monitor.specs.declared.step.Step.{Step}
+use Rattle.vb_monitor.specs.Steps.{Step}
 use Rattle.vb_monitor.specs.declared.step.Phase.{Phase}
 use Rattle.vb_monitor.specs.declared.step.Phase.TheVariants.{AwaitsIndex, AwaitsEntry}
 use Rattle.vb_monitor.specs.declared.step.Phase.TheVariants.{AwaitsDescriptor, AwaitsPart}
@@ -137,6 +137,19 @@ waits (Discards cut x) = true
 waits (TellsPages head named) = false
 waits (TellsFigures head count) = false
 waits (GivesBack spots entry) = false
+
+-- It waits, and what is copied has room.
+abbrev pub may_go_on : Phase → Bool
+may_go_on (AwaitsIndex at) = true
+may_go_on (AwaitsEntry at) = true
+may_go_on (AwaitsDescriptor at walk) = nat_le (row_bytes walk) MAX_BYTES
+may_go_on (AwaitsPart at place) = nat_le (place.into + place.length) MAX_BYTES
+may_go_on (AwaitsFlags at why more) = true
+may_go_on (Ended why interrupt more) = true
+may_go_on (Discards cut x) = true
+may_go_on (TellsPages head named) = false
+may_go_on (TellsFigures head count) = false
+may_go_on (GivesBack spots entry) = false
 
 -- ---- what may still come
 

@@ -10,8 +10,11 @@ ghost use Rattle.vb_monitor.specs.Regions.{cuts_of};
 ghost use Rattle.vb_core.specs.Config.{keeps_reports};
 ghost use Rattle.vb_monitor.specs.declared.regions.Region.{Region};
 ghost use Rattle.vb_monitor.specs.Giving.{cuts_for, is_kept, kept_pages, DiscardsThen, OnceTold};
-ghost use Rattle.vb_monitor.specs.Served.{is_discarded};
-ghost use Rattle.vb_monitor.specs.Machine.{Fits, stage, Ahead, whole, next_chain};
+ghost use Rattle.vb_monitor.specs.Giving.{is_discarded};
+ghost use Rattle.vb_monitor.specs.Machine.{Fits, stage, Ahead, AheadAt, whole, next_chain};
+ghost use Rattle.vb_monitor.specs.Steps.{phase_of, step_of, tally_of};
+ghost use Rattle.vb_monitor.specs.declared.room.Room.{Room};
+ghost use Rattle.vb_monitor.specs.Ends.{Whole};
 ghost use Rattle.vb_monitor.specs.Machine.{cuts_behind};
 ghost use Rattle.vb_monitor.specs.Left.{left, of_chains, parts_left};
 ghost use Rattle.vb_monitor.specs.declared.room.TheConstants.{MAX_RUNS};
@@ -22,11 +25,11 @@ use crate::ends::end;
 use crate::giving::give_back;
 use crate::room::MAX_RUNS;
 use crate::step::Discarding;
-use crate::{Phase, Region, Room, Step, Tally};
+use crate::{Progress, Region, Room};
 use vb_core::{Device, Kind, Run};
 
 /// The first `count` runs.
-pub fn first_runs(runs: &[Run; MAX_RUNS], count: usize) -> &[Run]
+pub(crate) fn first_runs(runs: &[Run; MAX_RUNS], count: usize) -> &[Run]
     ensures { result.now ≡ take count runs.now }
 {
     &runs[..count.min(MAX_RUNS)]
@@ -47,7 +50,7 @@ fn is_kept(device: &Device, kind: Kind, keeps: bool) -> bool
 
 /// How many of `pages` pages that a kind's chains name are kept, by such a notice.
 #[inline(always)]
-pub fn kept_pages(device: &Device, kind: Kind, keeps: bool, pages: u32) -> u32
+pub(crate) fn kept_pages(device: &Device, kind: Kind, keeps: bool, pages: u32) -> u32
     ensures { result ≡ kept_pages (is_kept kind keeps (keeps_reports device.now)) pages }
 {
     if is_kept(device, kind, keeps) {
@@ -59,7 +62,7 @@ pub fn kept_pages(device: &Device, kind: Kind, keeps: bool, pages: u32) -> u32
 
 /// Whether what a kind's chains name is discarded, by such a notice.
 #[inline(always)]
-pub(crate) fn discards(device: &Device, kind: Kind, keeps: bool) -> bool
+fn discards(device: &Device, kind: Kind, keeps: bool) -> bool
     ensures value { result ≡ is_discarded kind (is_kept kind keeps (keeps_reports device.now)) }
     ensures yes { result ≡ true → (regions : List Region) (runs : List Run) →
         cuts_for kind (is_kept kind keeps (keeps_reports device.now)) regions runs ≡
@@ -75,51 +78,51 @@ pub(crate) fn discards(device: &Device, kind: Kind, keeps: bool) -> bool
 
 /// This part is discarded next.
 #[inline(always)]
-pub(crate) fn discard_next(tally: Tally, discarding: Discarding, next: &NextCut) -> Step
-    ensures { result ≡ record {
-      tally = tally;
-      phase = Discards next.now.cut
-          (record discarding { run = next.now.run; from = next.now.from });
-    } }
+pub(crate) fn discard_next(step: &mut Progress, discarding: Discarding, next: &NextCut)
+    ensures step { (w : Whole) (d : Device) (room : Room) (log : List Access) →
+        Ahead w (step_of step.new) d room log → AheadAt (Discards next.now.cut
+        (record discarding { run = next.now.run; from = next.now.from })) w (tally_of step.old) d
+        room log }
+    ensures fits { Fits (phase_of step.new) }
+    ensures stage { stage (phase_of step.new) ≡ 1 }
+    ensures left { (regions : List Region) → left regions (step_of step.new) ≤
+        of_chains regions (tally_of step.old).chains
+        + (3 + parts_left (length regions) next.now.run next.now.from) }
 {
-    Step {
-        tally,
-        phase: Phase::Discards {
-            cut: next.cut,
-            discarding: Discarding {
-                run: next.run,
-                from: next.from,
-                ..discarding
-            },
-        },
-    }
+    let discarding = Discarding {
+        run: next.run,
+        from: next.from,
+        ..discarding
+    };
+    step.await_cut(next.cut, discarding)
 }
 
 /// Discards the runs from the one on where this begins.
 #[inline(always)]
 fn discard_on(
+    step: &mut Progress,
     device: &mut Device,
     regions: &[Region],
     kind: Kind,
-    tally: Tally,
     discarding: Discarding,
     room: &Room,
-) -> Step
+)
     ensures step { (after : Device) (outcome : Outcome) (log : List Access) →
-        Ahead (whole regions.now kind after outcome) result device.new room.now log →
+        Ahead (whole regions.now kind after outcome) (step_of step.new) device.new room.now log →
         DiscardsThen (whole regions.now kind after outcome)
-        (next_chain (whole regions.now kind after outcome) tally) device.old tally discarding.head
+        (next_chain (whole regions.now kind after outcome) (tally_of step.old)) device.old
+        (tally_of step.old) discarding.head
         (cuts_of regions.now (drop discarding.run (take discarding.runs room.now.runs))) log }
-    ensures fits { Fits result.phase }
-    ensures stage { 1 ≤ stage result.phase }
-    ensures left { left regions.now result ≤
-        of_chains regions.now tally.chains
+    ensures fits { Fits (phase_of step.new) }
+    ensures stage { 1 ≤ stage (phase_of step.new) }
+    ensures left { left regions.now (step_of step.new) ≤
+        of_chains regions.now (tally_of step.old).chains
         + (2 + (MAX_RUNS - discarding.run) * length regions.now) }
 {
     let named = first_runs(&room.runs, discarding.runs as usize);
     match first_cut(regions, named, discarding.run) {
-        None => give_back(device, regions, kind, tally, discarding.head),
-        Some(found) => discard_next(tally, discarding, &found),
+        None => give_back(step, device, regions, kind, discarding.head),
+        Some(found) => discard_next(step, discarding, &found),
     }
 }
 
@@ -127,57 +130,60 @@ fn discard_on(
 /// since their chain is held.
 #[inline(always)]
 pub(crate) fn after_told(
+    step: &mut Progress,
     device: &mut Device,
     regions: &[Region],
     kind: Kind,
-    tally: Tally,
     discarding: Discarding,
     room: &Room,
-) -> Step
+)
     ensures step { (after : Device) (outcome : Outcome) (log : List Access) →
-        Ahead (whole regions.now kind after outcome) result device.new room.now log →
-        OnceTold tally.held (whole regions.now kind after outcome)
-        (next_chain (whole regions.now kind after outcome) tally) device.old tally discarding.head
-        (cuts_for kind (is_kept kind tally.keeps (keeps_reports device.old)) regions.now
+        Ahead (whole regions.now kind after outcome) (step_of step.new) device.new room.now log →
+        OnceTold (tally_of step.old).held (whole regions.now kind after outcome)
+        (next_chain (whole regions.now kind after outcome) (tally_of step.old)) device.old
+        (tally_of step.old) discarding.head
+        (cuts_for kind (is_kept kind (tally_of step.old).keeps
+        (keeps_reports device.old)) regions.now
         (drop discarding.run (take discarding.runs room.now.runs))) log }
-    ensures fits { Fits result.phase }
-    ensures stage { 1 ≤ stage result.phase }
-    ensures left { left regions.now result ≤
-        of_chains regions.now tally.chains
+    ensures fits { Fits (phase_of step.new) }
+    ensures stage { 1 ≤ stage (phase_of step.new) }
+    ensures left { left regions.now (step_of step.new) ≤
+        of_chains regions.now (tally_of step.old).chains
         + (2 + (MAX_RUNS - discarding.run) * length regions.now) }
 {
-    if tally.held.is_some() {
-        return end(device, regions, kind, tally, None, false);
+    if step.held().is_some() {
+        return end(step, device, regions, kind, None, false);
     }
-    if !discards(device, kind, tally.keeps) {
-        return give_back(device, regions, kind, tally, discarding.head);
+    if !discards(device, kind, step.keeps()) {
+        return give_back(step, device, regions, kind, discarding.head);
     }
-    discard_on(device, regions, kind, tally, discarding, room)
+    discard_on(step, device, regions, kind, discarding, room)
 }
 
 /// A part of a run was discarded.
 pub(crate) fn after_discard(
+    step: &mut Progress,
     device: &mut Device,
     regions: &[Region],
     kind: Kind,
-    tally: Tally,
     discarding: Discarding,
     room: &Room,
-) -> Step
+)
     ensures step { (after : Device) (outcome : Outcome) (log : List Access) →
-        Ahead (whole regions.now kind after outcome) result device.new room.now log →
+        Ahead (whole regions.now kind after outcome) (step_of step.new) device.new room.now log →
         DiscardsThen (whole regions.now kind after outcome)
-        (next_chain (whole regions.now kind after outcome) tally) device.old tally discarding.head
+        (next_chain (whole regions.now kind after outcome) (tally_of step.old)) device.old
+        (tally_of step.old) discarding.head
         (cuts_behind discarding.from discarding.run regions.now
         (take discarding.runs room.now.runs)) log }
-    ensures fits { Fits result.phase }
-    ensures left { left regions.now result ≤
-        of_chains regions.now tally.chains
+    ensures fits { Fits (phase_of step.new) }
+    ensures left { left regions.now (step_of step.new) ≤
+        of_chains regions.now (tally_of step.old).chains
         + (2 + parts_left (length regions.now) discarding.run discarding.from) }
 {
     let named = first_runs(&room.runs, discarding.runs as usize);
     match cut_behind(regions, named, discarding.run, discarding.from) {
-        None => give_back(device, regions, kind, tally, discarding.head),
-        Some(found) => discard_next(tally, discarding, &found),
+        None => give_back(step, device, regions, kind, discarding.head),
+        Some(found) => discard_next(step, discarding, &found),
     }
 }

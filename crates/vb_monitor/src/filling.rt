@@ -21,8 +21,8 @@ pub struct Filled {
 }
 
 /// Puts a part and those after it to the front of the list, as many as have room.
-#[inline(never)]
 #[tactic(auto, using(crate::proofs::OrderLemmas::one_more))]
+#[inline(always)]
 pub fn fill(regions: &[Region], runs: &[Run], first: &NextCut, cuts: &mut [Cut; MAX_CUTS]) -> Filled
     ensures few { result.count ≤ MAX_CUTS }
     ensures full { (x : NextCut) → result.left ≡ Some x → result.count ≡ MAX_CUTS }

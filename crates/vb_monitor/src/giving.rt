@@ -1,21 +1,21 @@
 //! Chains that are given back.
 
-ghost use Rattle.std.specs.Prelude.{◌≡◌, ◌+◌, ◌≤◌, true, false, List, Some, None};
+ghost use Rattle.std.specs.Prelude.{◌≡◌, ◌+◌, ◌≤◌, List};
 ghost use Rattle.vb_core.specs.declared.device.Device.{Device};
 ghost use Rattle.vb_monitor.specs.declared.outcome.Outcome.{Outcome};
 ghost use Rattle.vb_monitor.specs.Accesses.{Access};
-ghost use Rattle.vb_monitor.specs.Served.{first_has};
 ghost use Rattle.vb_monitor.specs.Giving.{GivesBack, used_spots};
 ghost use Rattle.vb_monitor.specs.declared.room.Room.{Room};
 ghost use Rattle.vb_monitor.specs.Machine.{Fits, stage, Ahead, whole, next_chain};
 ghost use Rattle.vb_monitor.specs.Left.{left, of_chains};
+ghost use Rattle.vb_monitor.specs.Steps.{phase_of, step_of, tally_of};
 
 use crate::ends::{end, fail};
 use crate::regions::find_from;
-use crate::{Phase, Region, Spot, Step, Tally};
+use crate::{Progress, Region, Spot};
 use vb_chain::ChainFault;
 use vb_core::{Device, Kind, UsedEntry};
-use vb_ring::{RING_WORD_SIZE, USED_ELEMENT_SIZE, USED_FIELD_SIZE, USED_LENGTH_AT};
+use vb_ring::{RING_WORD_SIZE, USED_FIELD_SIZE, USED_LENGTH_AT};
 
 /// Where a used element goes (VIRTIO 1.1, 2.6.8).
 #[repr(C)]
@@ -30,7 +30,7 @@ pub struct UsedSpots {
 }
 
 /// Where a used element goes, where all of it is guest memory.
-#[inline(never)]
+#[inline(always)]
 fn used_spots(regions: &[Region], entry: &UsedEntry) -> Option<UsedSpots>
     ensures { result ≡ used_spots regions.now entry.now }
 {
@@ -46,92 +46,30 @@ fn used_spots(regions: &[Region], entry: &UsedEntry) -> Option<UsedSpots>
     }
 }
 
-/// Puts down where a used element goes, where the first region has all of it; says whether it has.
-#[tactic(auto, using(crate::proofs::ServedLemmas::first_spots))]
-#[inline(always)]
-fn put_first(regions: &[Region], entry: &UsedEntry, spots: &mut UsedSpots) -> bool
-    ensures all { result ≡ first_has regions.now entry.now }
-    ensures spots { result ≡ true → used_spots regions.now entry.now ≡ Some spots.new }
-{
-    if regions.is_empty() {
-        return false;
-    }
-    let region = &regions[0];
-    if !region.holds(entry.element_at, USED_ELEMENT_SIZE) {
-        return false;
-    }
-    if !region.holds(entry.index_at, RING_WORD_SIZE) {
-        return false;
-    }
-    let offset = entry.element_at - region.guest;
-    *spots = UsedSpots {
-        id: Spot { region: 0, offset },
-        length: Spot {
-            region: 0,
-            offset: offset + USED_LENGTH_AT,
-        },
-        index: Spot {
-            region: 0,
-            offset: entry.index_at - region.guest,
-        },
-    };
-    true
-}
-
-/// Puts down where a used element goes, where all of it is guest memory, whichever regions have
-/// it; says whether it is.
-#[inline(never)]
-fn put_any(regions: &[Region], entry: UsedEntry, spots: &mut UsedSpots) -> bool
-    ensures yes { result ≡ true → used_spots regions.now entry ≡ Some spots.new }
-    ensures no { result ≡ false → used_spots regions.now entry ≡ None }
-{
-    match used_spots(regions, &entry) {
-        None => false,
-        Some(found) => {
-            *spots = found;
-            true
-        }
-    }
-}
-
-/// Puts down where a used element goes, as `put_any` does, by a fast path where the first region
-/// has all of it.
-#[inline(always)]
-pub(crate) fn put_spots(regions: &[Region], entry: &UsedEntry, spots: &mut UsedSpots) -> bool
-    ensures yes { result ≡ true → used_spots regions.now entry.now ≡ Some spots.new }
-    ensures no { result ≡ false → used_spots regions.now entry.now ≡ None }
-{
-    if put_first(regions, entry, spots) {
-        return true;
-    }
-    put_any(regions, *entry, spots)
-}
-
 /// Gives the chain of this head back.
 #[inline(never)]
 pub(crate) fn give_back(
+    step: &mut Progress,
     device: &mut Device,
     regions: &[Region],
     kind: Kind,
-    tally: Tally,
     head: u16,
-) -> Step
+)
     ensures step { (after : Device) (outcome : Outcome) (room : Room) (log : List Access) →
-        Ahead (whole regions.now kind after outcome) result device.new room log →
+        Ahead (whole regions.now kind after outcome) (step_of step.new) device.new room log →
         GivesBack (whole regions.now kind after outcome)
-        (next_chain (whole regions.now kind after outcome) tally) device.old tally head log }
-    ensures fits { Fits result.phase }
-    ensures stage { 2 ≤ stage result.phase }
-    ensures left { left regions.now result ≤ of_chains regions.now tally.chains + 2 }
+        (next_chain (whole regions.now kind after outcome) (tally_of step.old)) device.old
+        (tally_of step.old) head log }
+    ensures fits { Fits (phase_of step.new) }
+    ensures stage { 2 ≤ stage (phase_of step.new) }
+    ensures left { left regions.now (step_of step.new) ≤ of_chains regions.now
+        (tally_of step.old).chains + 2 }
 {
     match device.use_chain(kind, u32::from(head)) {
-        Err(why) => end(device, regions, kind, tally, Some(why), false),
+        Err(why) => end(step, device, regions, kind, Some(why), false),
         Ok(entry) => match used_spots(regions, &entry) {
-            None => fail(device, regions, kind, tally, ChainFault::OutOfRam),
-            Some(spots) => Step {
-                tally,
-                phase: Phase::GivesBack { spots, entry },
-            },
+            None => fail(step, device, regions, kind, ChainFault::OutOfRam),
+            Some(spots) => step.await_used(spots, entry),
         },
     }
 }

@@ -172,7 +172,7 @@ pub fn large_pages_go_once_they_are_given_up()
 
 /// A queue of which a chain may be given back is refused nothing once it was: so it is tested where
 /// it is looked at, and not after each chain.
-#[tactic(auto, using(crate::proofs::ServedLemmas::used_open))]
+#[tactic(auto, using(crate::proofs::OpenLemmas::used_open))]
 pub fn a_chain_that_is_given_back_leaves_its_queue_open()
     ensures { (kind : Kind) (head : ℕ) (d : Device) → use_denial kind head d ≡ None →
         queue_denial kind (after_use kind d) ≡ None }

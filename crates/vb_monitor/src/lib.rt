@@ -2,6 +2,7 @@
 //! order, whatever memory answers, and what they come to.
 #![tactic(auto)]
 
+mod answers;
 mod balloon;
 mod copying;
 mod cuts;
@@ -20,22 +21,23 @@ mod outcome;
 mod parts;
 mod pieces;
 mod placing;
+mod progress;
 mod queues;
 mod regions;
 mod room;
 mod rows;
-mod served;
+mod rules;
 mod serving;
-mod single;
+mod setting;
 mod step;
-mod usual;
 mod walk;
 
+pub use answers::{
+    BAD_ARGUMENT, BAD_LENGTH, BAD_SUM, BROKEN, IMPOSSIBLE, MISPLACED, NEEDS_RESET, NO_QUEUE,
+    NOT_A_STATE, NOT_READY, NOTHING, OK, OTHER_VERSION, SHORT, code_of, end_rule, rule_in,
+};
 pub use balloon::{Balloon, may_tell};
-pub use copying::after_part;
 pub use cuts::{Cut, NextCut};
-pub use discards::{first_runs, kept_pages};
-pub use ends::end;
 pub use filling::{Filled, fill};
 pub use giving::UsedSpots;
 pub use large::{LARGEST_PAGE, Large, large_pages};
@@ -49,16 +51,12 @@ pub use laws::{
     only_named_pages_are_discarded, only_used_elements_are_written, what_counts_is_read_once,
 };
 pub use memory::LiveMemory;
-pub use notice::Notice;
-pub use orders::{Asked, MAX_CUTS, Orders, Told, Used};
+pub use orders::{Asked, MAX_CUTS, Orders, Told, Used, at_once};
 pub use outcome::{Budget, HeldChain, Outcome, Tally};
 pub use parts::Part;
 pub use placing::{RestoreDenial, are_memory, memory_end_of};
+pub use progress::{ENDED, Progress};
 pub use regions::{FILE_LIMIT, Region, Spot, find};
 pub use room::{MAX_BYTES, MAX_FIGURES, MAX_PIECES, MAX_RUNS, ROW_DESCRIPTORS, Room};
-pub use served::{fill_named, give_and_go, is_last, name_copied};
-pub use serving::serve;
-pub use single::{FirstPart, first_of_single};
-pub use step::{Discarding, Phase, Place, Step, Walk};
-pub use usual::{NextWord, descriptor_after, word_after};
-pub use walk::after_descriptor;
+pub use serving::{Notice, serve};
+pub use step::{Discarding, Phase, Place, Walk};

@@ -9,12 +9,13 @@ ghost use Rattle.vb_monitor.specs.Notices.{TakesNext, ServesPublished, AfterGive
 ghost use Rattle.vb_monitor.specs.declared.room.Room.{Room};
 ghost use Rattle.vb_monitor.specs.Machine.{Fits, stage, Ahead, whole, next_chain};
 ghost use Rattle.vb_monitor.specs.Left.{left, of_chains, of_chain, once_copied};
+ghost use Rattle.vb_monitor.specs.Steps.{phase_of, step_of, tally_of};
 ghost use Rattle.std.specs.Prelude.{◌≤◌};
 
 use crate::ends::{end, fail};
 use crate::regions::find_from;
 use crate::walk::{ask_first, descriptors};
-use crate::{Phase, Region, Step, Tally};
+use crate::{Progress, Region};
 use vb_chain::ChainFault;
 use vb_core::{Device, Kind, Virtqueue, place_in_ring};
 use vb_ring::{AVAIL_ENTRY_SIZE, RING_HEADER_SIZE, RING_INDEX_AT, RING_WORD_SIZE};
@@ -45,92 +46,90 @@ pub(crate) fn stands(ring: &Virtqueue, index: u16) -> Result<bool, ChainFault>
 
 /// Looks at a queue.
 #[inline(never)]
-pub(crate) fn look(device: &mut Device, regions: &[Region], kind: Kind, tally: Tally) -> Step
+pub(crate) fn look(step: &mut Progress, device: &mut Device, regions: &[Region], kind: Kind)
     ensures step { (after : Device) (outcome : Outcome) (room : Room) (log : List Access) →
-        Ahead (whole regions.now kind after outcome) result device.new room log →
-        Looks tally.chains (whole regions.now kind after outcome) device.old tally log }
-    ensures fits { Fits result.phase }
-    ensures stage { stage result.phase ≡ 3 }
-    ensures left { left regions.now result ≤ of_chains regions.now tally.chains + 2 }
+        Ahead (whole regions.now kind after outcome) (step_of step.new) device.new room log →
+        Looks (tally_of step.old).chains (whole regions.now kind after outcome) device.old
+        (tally_of step.old) log }
+    ensures fits { Fits (phase_of step.new) }
+    ensures stage { stage (phase_of step.new) ≡ 3 }
+    ensures left { left regions.now (step_of step.new) ≤ of_chains regions.now
+        (tally_of step.old).chains + 2 }
 {
     match device.queue_denial(kind) {
-        Some(why) => end(device, regions, kind, tally, Some(why), false),
+        Some(why) => end(step, device, regions, kind, Some(why), false),
         None => match find_from(
             regions,
             device.ring(kind).avail,
             RING_INDEX_AT,
             RING_WORD_SIZE,
         ) {
-            None => fail(device, regions, kind, tally, ChainFault::OutOfRam),
-            Some(at) => Step {
-                tally,
-                phase: Phase::AwaitsIndex { at },
-            },
+            None => fail(step, device, regions, kind, ChainFault::OutOfRam),
+            Some(at) => step.await_index(at),
         },
     }
 }
 
 /// Asks for the entry that is next.
-fn ask_entry(device: &mut Device, regions: &[Region], kind: Kind, tally: Tally) -> Step
+fn ask_entry(step: &mut Progress, device: &mut Device, regions: &[Region], kind: Kind)
     ensures step { (after : Device) (outcome : Outcome) (room : Room) (log : List Access) →
-        Ahead (whole regions.now kind after outcome) result device.new room log →
+        Ahead (whole regions.now kind after outcome) (step_of step.new) device.new room log →
         TakesChain (whole regions.now kind after outcome)
-        (next_chain (whole regions.now kind after outcome) tally) device.old tally log }
-    ensures fits { Fits result.phase }
-    ensures stage { stage result.phase ≡ 3 }
-    ensures left { left regions.now result ≤
-        of_chains regions.now tally.chains + of_chain regions.now }
+        (next_chain (whole regions.now kind after outcome) (tally_of step.old)) device.old
+        (tally_of step.old) log }
+    ensures fits { Fits (phase_of step.new) }
+    ensures stage { stage (phase_of step.new) ≡ 3 }
+    ensures left { left regions.now (step_of step.new) ≤
+        of_chains regions.now (tally_of step.old).chains + of_chain regions.now }
 {
     let ring = device.ring(kind);
     match find_from(regions, ring.avail, entry_offset(&ring), AVAIL_ENTRY_SIZE) {
-        None => fail(device, regions, kind, tally, ChainFault::OutOfRam),
-        Some(at) => Step {
-            tally,
-            phase: Phase::AwaitsEntry { at },
-        },
+        None => fail(step, device, regions, kind, ChainFault::OutOfRam),
+        Some(at) => step.await_entry(at),
     }
 }
 
 /// Takes the chain that is next, where the budget has room for one.
 #[tactic(auto, using(crate::proofs::NextLemmas::take_steps))]
-fn take(device: &mut Device, regions: &[Region], kind: Kind, tally: Tally) -> Step
+fn take(step: &mut Progress, device: &mut Device, regions: &[Region], kind: Kind)
     ensures step { (after : Device) (outcome : Outcome) (room : Room) (log : List Access) →
-        Ahead (whole regions.now kind after outcome) result device.new room log →
-        TakesNext tally.chains (whole regions.now kind after outcome) device.old tally log }
-    ensures fits { Fits result.phase }
-    ensures stage { stage result.phase ≡ 3 }
-    ensures left { left regions.now result ≤ of_chains regions.now tally.chains + 1 }
+        Ahead (whole regions.now kind after outcome) (step_of step.new) device.new room log →
+        TakesNext (tally_of step.old).chains (whole regions.now kind after outcome) device.old
+        (tally_of step.old) log }
+    ensures fits { Fits (phase_of step.new) }
+    ensures stage { stage (phase_of step.new) ≡ 3 }
+    ensures left { left regions.now (step_of step.new) ≤ of_chains regions.now
+        (tally_of step.old).chains + 1 }
 {
-    if tally.chains == 0 {
-        return end(device, regions, kind, tally, None, true);
+    if step.chains_left == 0 {
+        return end(step, device, regions, kind, None, true);
     }
-    let tally = Tally {
-        chains: tally.chains - 1,
-        ..tally
-    };
-    if tally.pages == 0 {
-        return end(device, regions, kind, tally, None, true);
+    step.chains_left -= 1;
+    if step.pages_left == 0 {
+        return end(step, device, regions, kind, None, true);
     }
-    ask_entry(device, regions, kind, tally)
+    ask_entry(step, device, regions, kind)
 }
 
 /// Serves what the index that was read publishes, as far as it isn't served yet.
 #[inline(never)]
-fn serve_published(device: &mut Device, regions: &[Region], kind: Kind, tally: Tally) -> Step
+fn serve_published(step: &mut Progress, device: &mut Device, regions: &[Region], kind: Kind)
     ensures step { (after : Device) (outcome : Outcome) (room : Room) (log : List Access) →
-        Ahead (whole regions.now kind after outcome) result device.new room log →
-        ServesPublished tally.chains (whole regions.now kind after outcome) device.old tally log }
-    ensures fits { Fits result.phase }
-    ensures stage { stage result.phase ≡ 3 }
-    ensures left { left regions.now result ≤ of_chains regions.now tally.chains + 1 }
+        Ahead (whole regions.now kind after outcome) (step_of step.new) device.new room log →
+        ServesPublished (tally_of step.old).chains (whole regions.now kind after outcome)
+        device.old (tally_of step.old) log }
+    ensures fits { Fits (phase_of step.new) }
+    ensures stage { stage (phase_of step.new) ≡ 3 }
+    ensures left { left regions.now (step_of step.new) ≤ of_chains regions.now
+        (tally_of step.old).chains + 1 }
 {
-    match stands(&device.ring(kind), tally.published) {
-        Err(fault) => fail(device, regions, kind, tally, fault),
+    match stands(&device.ring(kind), step.published) {
+        Err(fault) => fail(step, device, regions, kind, fault),
         Ok(there) => {
             if there {
-                take(device, regions, kind, tally)
+                take(step, device, regions, kind)
             } else {
-                end(device, regions, kind, tally, None, false)
+                end(step, device, regions, kind, None, false)
             }
         }
     }
@@ -138,60 +137,61 @@ fn serve_published(device: &mut Device, regions: &[Region], kind: Kind, tally: T
 
 /// The index was read.
 pub(crate) fn after_index(
+    step: &mut Progress,
     device: &mut Device,
     regions: &[Region],
     kind: Kind,
-    tally: Tally,
     index: u16,
-) -> Step
+)
     ensures step { (after : Device) (outcome : Outcome) (room : Room) (log : List Access) →
-        Ahead (whole regions.now kind after outcome) result device.new room log →
-        ServesPublished tally.chains (whole regions.now kind after outcome) device.old
-        (with_published index tally) log }
-    ensures fits { Fits result.phase }
-    ensures left { left regions.now result ≤ of_chains regions.now tally.chains + 1 }
+        Ahead (whole regions.now kind after outcome) (step_of step.new) device.new room log →
+        ServesPublished (tally_of step.old).chains (whole regions.now kind after outcome) device.old
+        (with_published index (tally_of step.old)) log }
+    ensures fits { Fits (phase_of step.new) }
+    ensures left { left regions.now (step_of step.new) ≤ of_chains regions.now
+        (tally_of step.old).chains + 1 }
 {
-    let tally = Tally {
-        published: index,
-        ..tally
-    };
-    serve_published(device, regions, kind, tally)
+    step.published = index;
+    serve_published(step, device, regions, kind)
 }
 
 /// The entry was read.
 pub(crate) fn after_entry(
+    step: &mut Progress,
     device: &mut Device,
     regions: &[Region],
     kind: Kind,
-    tally: Tally,
     head: u16,
-) -> Step
+)
     ensures step { (after : Device) (outcome : Outcome) (room : Room) (log : List Access) →
-        Ahead (whole regions.now kind after outcome) result device.new room log →
+        Ahead (whole regions.now kind after outcome) (step_of step.new) device.new room log →
         AfterEntry (whole regions.now kind after outcome)
-        (next_chain (whole regions.now kind after outcome) tally) device.old tally head log }
-    ensures fits { Fits result.phase }
-    ensures left { left regions.now result ≤
-        of_chains regions.now tally.chains + (once_copied regions.now 0 + 1) }
+        (next_chain (whole regions.now kind after outcome) (tally_of step.old)) device.old
+        (tally_of step.old) head log }
+    ensures fits { Fits (phase_of step.new) }
+    ensures left { left regions.now (step_of step.new) ≤
+        of_chains regions.now (tally_of step.old).chains + (once_copied regions.now 0 + 1) }
 {
     if head >= descriptors(&device.ring(kind)) {
-        return fail(device, regions, kind, tally, ChainFault::BadHead);
+        return fail(step, device, regions, kind, ChainFault::BadHead);
     }
-    ask_first(device, regions, kind, tally, head)
+    ask_first(step, device, regions, kind, head)
 }
 
 /// A chain was given back: the next one comes, but after one that was held.
-pub(crate) fn after_given(device: &mut Device, regions: &[Region], kind: Kind, tally: Tally) -> Step
+pub(crate) fn after_given(step: &mut Progress, device: &mut Device, regions: &[Region], kind: Kind)
     ensures step { (after : Device) (outcome : Outcome) (room : Room) (log : List Access) →
-        Ahead (whole regions.now kind after outcome) result device.new room log →
+        Ahead (whole regions.now kind after outcome) (step_of step.new) device.new room log →
         AfterGiven (whole regions.now kind after outcome)
-        (ServesPublished tally.chains (whole regions.now kind after outcome)) device.old tally log }
-    ensures fits { Fits result.phase }
-    ensures stage { stage result.phase ≡ 3 }
-    ensures left { left regions.now result ≤ of_chains regions.now tally.chains + 1 }
+        (ServesPublished (tally_of step.old).chains (whole regions.now kind after outcome))
+        device.old (tally_of step.old) log }
+    ensures fits { Fits (phase_of step.new) }
+    ensures stage { stage (phase_of step.new) ≡ 3 }
+    ensures left { left regions.now (step_of step.new) ≤ of_chains regions.now
+        (tally_of step.old).chains + 1 }
 {
-    match tally.held {
-        Some(_) => end(device, regions, kind, tally, None, false),
-        None => serve_published(device, regions, kind, tally),
+    match step.held() {
+        Some(_) => end(step, device, regions, kind, None, false),
+        None => serve_published(step, device, regions, kind),
     }
 }

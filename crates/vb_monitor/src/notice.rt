@@ -1,15 +1,14 @@
 //! A notice as plain data, for a caller that makes the accesses itself.
 
-ghost use Rattle.std.specs.Prelude.{◌≡◌, ◌++◌, ℕ, List};
+ghost use Rattle.std.specs.Prelude.{◌≡◌, ◌++◌, ◌<◌, false, ℕ, List};
 ghost use Rattle.vb_core.specs.declared.device.Device.{Device};
 ghost use Rattle.vb_monitor.specs.declared.outcome.Outcome.{Outcome};
 ghost use Rattle.vb_monitor.specs.declared.room.Room.{Room};
 ghost use Rattle.vb_monitor.specs.Accesses.{Access};
 ghost use Rattle.vb_monitor.specs.Notices.{Serves, GivesHeldBack};
-ghost use Rattle.vb_monitor.specs.Machine.{Fits, is_ended, Ahead, Does, whole};
-ghost use Rattle.vb_monitor.specs.Machine.{outcome_at, is_discarding, Awaited};
+ghost use Rattle.vb_monitor.specs.Machine.{Fits, is_ended, Ahead, Does, Awaited, whole};
 ghost use Rattle.vb_monitor.specs.Left.{left};
-ghost use Rattle.std.specs.Prelude.{◌<◌, false};
+ghost use Rattle.vb_monitor.specs.Steps.{phase_of, step_of};
 
 use crate::copying::after_part;
 use crate::discards::{after_discard, after_told};
@@ -17,182 +16,122 @@ use crate::ends::{after_flags, end};
 use crate::giving::give_back;
 use crate::looks::{after_entry, after_given, after_index, look};
 use crate::walk::after_descriptor;
-use crate::{Budget, Discarding, HeldChain, Outcome, Phase, Region, Room, Step, Tally};
+use crate::{Budget, Discarding, HeldChain, Phase, Progress, Region, Room};
 use vb_core::{Device, Kind};
 
-/// A notice: whose queue it is of, and what is to be done next.
-#[derive(Clone, Copy, Debug)]
-pub struct Notice {
-    pub kind: Kind,
-    pub step: Step,
-}
-
-/// What is to be done once a phase was, with this answer.
-#[inline(never)]
-fn advance(
-    step: &Step,
-    device: &mut Device,
-    regions: &[Region],
-    kind: Kind,
-    answer: u16,
-    room: &mut Room,
-) -> Step
-    requires { Fits step.now.phase }
-    ensures step { (after : Device) (outcome : Outcome) (before : List ℕ)
-        (done rest : List Access) →
-        Does step.now.phase kind answer before
-        room.old done →
-        Ahead (whole regions.now kind after outcome) result device.new
-        room.new rest →
-        Ahead (whole regions.now kind after outcome) step.now device.old
-        (record room.old { bytes = before }) (done ++ rest) }
-    ensures fits { Fits result.phase }
-    ensures left { is_ended step.now.phase ≡ false →
-        left regions.now result < left regions.now step.now }
-{
-    let tally = step.tally;
-    match step.phase {
-        Phase::AwaitsIndex { .. } => after_index(device, regions, kind, tally, answer),
-        Phase::AwaitsEntry { .. } => after_entry(device, regions, kind, tally, answer),
-        Phase::AwaitsDescriptor { walk, .. } => after_descriptor(
-            device, regions, kind, tally, walk, room,
-        ),
-        Phase::AwaitsPart { place, .. } => after_part(device, regions, kind, tally, place, room),
-        Phase::TellsPages { head, named } => {
-            let discarding = Discarding::first(head, named.runs);
-            after_told(device, regions, kind, tally, discarding, room)
-        }
-        Phase::TellsFigures { .. } => end(device, regions, kind, tally, None, false),
-        Phase::Discards { discarding, .. } => {
-            after_discard(device, regions, kind, tally, discarding, room)
-        }
-        Phase::GivesBack { .. } => {
-            let tally = Tally {
-                given: true,
-                ..tally
-            };
-            after_given(device, regions, kind, tally)
-        }
-        Phase::AwaitsFlags { why, more, .. } => after_flags(tally, why, more, answer),
-        Phase::Ended { .. } => *step,
-    }
-}
-
-impl Notice {
+impl Progress {
     /// The driver kicked the queue of this kind, or may have: it is served as far as the budget
     /// has room. Not for a queue of which a chain is held.
-    pub fn begin(device: &mut Device, regions: &[Region], kind: Kind, budget: Budget) -> Notice
-        ensures kind { result.kind ≡ kind }
+    pub fn begin(&mut self, device: &mut Device, regions: &[Region], kind: Kind, budget: Budget)
         ensures step { (after : Device) (outcome : Outcome) (room : Room) (log : List Access) →
-            Ahead (whole regions.now kind after outcome) result.step device.new room log →
+            Ahead (whole regions.now kind after outcome) (step_of self.new) device.new room log →
             Serves regions.now kind budget device.old after outcome log }
-        ensures fits { Fits result.step.phase }
+        ensures fits { Fits (phase_of self.new) }
     {
-        let tally = Tally {
-            chains: budget.chains,
-            pages: budget.pages,
-            keeps: budget.keeps,
-            given: false,
-            held: None,
-            published: 0,
-        };
-        let step = look(device, regions, kind, tally);
-        Notice { kind, step }
+        self.chains_left = budget.chains;
+        self.pages_left = budget.pages;
+        self.keeps = u8::from(budget.keeps);
+        self.given = 0;
+        self.taken = 0;
+        self.published = 0;
+        look(self, device, regions, kind);
     }
 
     /// A chain that is held of a kind's queue is given back: new statistics are asked for by it
     /// (VIRTIO 1.1, 5.5.6.3), or a deflate is granted (5.5.6).
-    pub fn give_held(device: &mut Device, regions: &[Region], kind: Kind, held: HeldChain) -> Notice
-        ensures kind { result.kind ≡ kind }
+    pub fn give_held(
+        &mut self,
+        device: &mut Device,
+        regions: &[Region],
+        kind: Kind,
+        held: HeldChain,
+    )
         ensures step { (after : Device) (outcome : Outcome) (room : Room) (log : List Access) →
-            Ahead (whole regions.now kind after outcome) result.step device.new room log →
+            Ahead (whole regions.now kind after outcome) (step_of self.new) device.new room log →
             GivesHeldBack regions.now kind held device.old after outcome log }
-        ensures fits { Fits result.step.phase }
+        ensures fits { Fits (phase_of self.new) }
     {
-        let tally = Tally {
-            chains: 0,
-            pages: 0,
-            keeps: false,
-            given: false,
-            held: Some(held),
-            published: 0,
-        };
-        let step = give_back(device, regions, kind, tally, held.head);
-        Notice { kind, step }
+        self.chains_left = 0;
+        self.pages_left = 0;
+        self.keeps = 0;
+        self.given = 0;
+        self.published = 0;
+        self.hold(held.head, held.pages);
+        give_back(self, device, regions, kind, held.head);
     }
 
     /// Goes on, once what was to be done was done, with this answer. The room is as the call before
     /// left it, but for the bytes that were copied.
-    pub fn next(&mut self, device: &mut Device, regions: &[Region], answer: u16, room: &mut Room)
-        requires { Fits self.old.step.phase }
-        ensures kind { self.new.kind ≡ self.old.kind }
+    #[inline(always)]
+    pub fn next(
+        &mut self,
+        device: &mut Device,
+        regions: &[Region],
+        kind: Kind,
+        answer: u16,
+        room: &mut Room,
+    )
+        requires { Fits (phase_of self.old) }
         ensures step { (after : Device) (outcome : Outcome) (before : List ℕ)
             (done rest : List Access) →
-            Does self.old.step.phase self.old.kind answer before
-            room.old done →
-            Ahead (whole regions.now self.old.kind after outcome) self.new.step device.new
-            room.new rest →
-            Ahead (whole regions.now self.old.kind after outcome) self.old.step device.old
+            Does (phase_of self.old) kind answer before room.old done →
+            Ahead (whole regions.now kind after outcome) (step_of self.new) device.new room.new
+            rest →
+            Ahead (whole regions.now kind after outcome) (step_of self.old) device.old
             (record room.old { bytes = before }) (done ++ rest) }
-        ensures fits { Fits self.new.step.phase }
-        ensures left { is_ended self.old.step.phase ≡ false →
-            left regions.now self.new.step < left regions.now self.old.step }
+        ensures fits { Fits (phase_of self.new) }
+        ensures left { is_ended (phase_of self.old) ≡ false →
+            left regions.now (step_of self.new) < left regions.now (step_of self.old) }
     {
-        let kind = self.kind;
-        self.step = advance(&self.step, device, regions, kind, answer, room);
-    }
-
-    /// Whether a part is to be discarded next.
-    fn is_discarding(&self) -> bool
-        ensures { result ≡ is_discarding self.now.step.phase }
-    {
-        matches!(self.step.phase, Phase::Discards { .. })
+        match self.phase() {
+            Phase::AwaitsIndex { .. } => after_index(self, device, regions, kind, answer),
+            Phase::AwaitsEntry { .. } => after_entry(self, device, regions, kind, answer),
+            Phase::AwaitsDescriptor { walk, .. } => {
+                after_descriptor(self, device, regions, kind, walk, room)
+            }
+            Phase::AwaitsPart { place, .. } => {
+                after_part(self, device, regions, kind, place, room)
+            }
+            Phase::TellsPages { head, named } => {
+                let discarding = Discarding::first(head, named.runs);
+                after_told(self, device, regions, kind, discarding, room)
+            }
+            Phase::TellsFigures { .. } => end(self, device, regions, kind, None, false),
+            Phase::Discards { discarding, .. } => {
+                after_discard(self, device, regions, kind, discarding, room)
+            }
+            Phase::GivesBack { .. } => {
+                self.given = 1;
+                after_given(self, device, regions, kind)
+            }
+            Phase::AwaitsFlags { why, more, .. } => after_flags(self, why, more, answer),
+            Phase::Ended { .. } => {}
+        }
     }
 
     /// Goes on as by `next`, where all that needs no answer was done by `at_once`: what is to be
     /// discarded next waits for no answer, and is done then.
-    pub fn go_on(&mut self, device: &mut Device, regions: &[Region], answer: u16, room: &mut Room)
-        requires { Fits self.old.step.phase }
-        ensures kind { self.new.kind ≡ self.old.kind }
+    #[inline(always)]
+    pub fn go_on(
+        &mut self,
+        device: &mut Device,
+        regions: &[Region],
+        kind: Kind,
+        answer: u16,
+        room: &mut Room,
+    )
+        requires { Fits (phase_of self.old) }
         ensures step { (after : Device) (outcome : Outcome) (before : List ℕ)
             (done rest : List Access) →
-            Awaited self.old.step.phase self.old.kind answer before
-            room.old done →
-            Ahead (whole regions.now self.old.kind after outcome) self.new.step device.new
-            room.new rest →
-            Ahead (whole regions.now self.old.kind after outcome) self.old.step device.old
+            Awaited (phase_of self.old) kind answer before room.old done →
+            Ahead (whole regions.now kind after outcome) (step_of self.new) device.new room.new
+            rest →
+            Ahead (whole regions.now kind after outcome) (step_of self.old) device.old
             (record room.old { bytes = before }) (done ++ rest) }
-        ensures fits { Fits self.new.step.phase }
+        ensures fits { Fits (phase_of self.new) }
     {
         if !self.is_discarding() {
-            self.next(device, regions, answer, room);
+            self.next(device, regions, kind, answer, room);
         }
-    }
-
-    /// What the notice came to, if it has ended.
-    pub fn outcome(&self) -> Option<Outcome>
-        ensures { result ≡ outcome_at self.now.step.phase self.now.step.tally }
-    {
-        let tally = self.step.tally;
-        match self.step.phase {
-            Phase::Ended {
-                why,
-                interrupt,
-                more,
-            } => Some(Outcome {
-                tally,
-                why,
-                interrupt,
-                more,
-            }),
-            _ => None,
-        }
-    }
-
-    /// Whether nothing more is to be done.
-    pub fn is_ended(&self) -> bool
-        ensures { result ≡ is_ended self.now.step.phase }
-    {
-        matches!(self.step.phase, Phase::Ended { .. })
     }
 }

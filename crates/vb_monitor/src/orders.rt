@@ -11,6 +11,7 @@ ghost use Rattle.vb_monitor.specs.declared.room.Room.{Room};
 ghost use Rattle.vb_monitor.specs.Accesses.{Access, Discard};
 ghost use Rattle.vb_monitor.specs.Machine.{Fits, stage, waits, Ahead, whole};
 ghost use Rattle.vb_monitor.specs.Machine.{cuts_behind};
+ghost use Rattle.vb_monitor.specs.Steps.{phase_of, step_of, tally_of};
 ghost use Rattle.vb_monitor.specs.declared.orders.Told.TheVariants.{Pages, Figures};
 ghost use Rattle.vb_monitor.specs.declared.room.TheConstants.{MAX_RUNS, MAX_FIGURES};
 ghost use Rattle.vb_monitor.specs.Orders.{cuts_left, telling, giving, at_once, HasRoom, FillsList};
@@ -21,7 +22,7 @@ use crate::ends::end;
 use crate::filling::fill;
 use crate::giving::give_back;
 use crate::looks::after_given;
-use crate::{Cut, Discarding, Notice, Phase, Region, Room, Step, Tally, UsedSpots};
+use crate::{Cut, Discarding, Phase, Progress, Region, Room, UsedSpots};
 use vb_core::{Device, Kind, Named};
 
 /// Parts of runs that are discarded at once, at most.
@@ -77,39 +78,38 @@ pub struct Asked {
 /// Tells pages or figures, where that is to be done next.
 #[inline(always)]
 fn tell(
-    step: &mut Step,
+    step: &mut Progress,
     device: &mut Device,
     regions: &[Region],
     kind: Kind,
     room: &Room,
     orders: &mut Orders,
 ) -> Told
-    requires { Fits step.old.phase }
+    requires { Fits (phase_of step.old) }
     ensures step { (after : Device) (outcome : Outcome) (rest : List Access) →
-        Ahead (whole regions.now kind after outcome) step.new device.new room.now rest →
-        Ahead (whole regions.now kind after outcome) step.old device.old room.now
+        Ahead (whole regions.now kind after outcome) (step_of step.new) device.new room.now rest →
+        Ahead (whole regions.now kind after outcome) (step_of step.old) device.old room.now
         (telling result kind orders.new.named orders.new.figures room.now.runs room.now.figures
         ++ rest) }
-    ensures fits { Fits step.new.phase }
-    ensures stage { 1 ≤ stage step.new.phase }
+    ensures fits { Fits (phase_of step.new) }
+    ensures stage { 1 ≤ stage (phase_of step.new) }
     ensures runs { result ≡ Pages → orders.new.named.runs ≤ MAX_RUNS }
     ensures kept { result ≡ Pages → orders.new.kept ≡
-        kept_pages (is_kept kind step.old.tally.keeps (keeps_reports device.old))
+        kept_pages (is_kept kind (tally_of step.old).keeps (keeps_reports device.old))
         orders.new.named.pages }
     ensures figures { result ≡ Figures → orders.new.figures ≤ MAX_FIGURES }
 {
-    let tally = step.tally;
-    match step.phase {
+    match step.phase() {
         Phase::TellsPages { head, named } => {
             orders.named = named;
-            orders.kept = kept_pages(device, kind, tally.keeps, named.pages);
+            orders.kept = kept_pages(device, kind, step.keeps(), named.pages);
             let discarding = Discarding::first(head, named.runs);
-            *step = after_told(device, regions, kind, tally, discarding, room);
+            after_told(step, device, regions, kind, discarding, room);
             Told::Pages
         }
         Phase::TellsFigures { count, .. } => {
             orders.figures = count;
-            *step = end(device, regions, kind, tally, None, false);
+            end(step, device, regions, kind, None, false);
             Told::Figures
         }
         Phase::Discards { .. }
@@ -127,26 +127,25 @@ fn tell(
 #[tactic(auto, using(crate::proofs::OrderLemmas::discards_all))]
 #[inline(always)]
 fn discard(
-    step: &mut Step,
+    step: &mut Progress,
     device: &mut Device,
     regions: &[Region],
     kind: Kind,
     room: &Room,
     cuts: &mut [Cut; MAX_CUTS],
 ) -> u32
-    requires fits { Fits step.old.phase }
-    requires stage { 1 ≤ stage step.old.phase }
+    requires fits { Fits (phase_of step.old) }
+    requires stage { 1 ≤ stage (phase_of step.old) }
     ensures step { (after : Device) (outcome : Outcome) (rest : List Access) →
-        Ahead (whole regions.now kind after outcome) step.new device.new room.now rest →
-        Ahead (whole regions.now kind after outcome) step.old device.old room.now
+        Ahead (whole regions.now kind after outcome) (step_of step.new) device.new room.now rest →
+        Ahead (whole regions.now kind after outcome) (step_of step.old) device.old room.now
         (map Discard (take result cuts.new) ++ rest) }
-    ensures fits { Fits step.new.phase }
+    ensures fits { Fits (phase_of step.new) }
     ensures few { result ≤ MAX_CUTS }
-    ensures full { stage step.new.phase ≡ 1 → result ≡ MAX_CUTS }
-    ensures stage { 1 ≤ stage step.new.phase }
+    ensures full { stage (phase_of step.new) ≡ 1 → result ≡ MAX_CUTS }
+    ensures stage { 1 ≤ stage (phase_of step.new) }
 {
-    let Step { tally, phase } = *step;
-    match phase {
+    match step.phase() {
         Phase::Discards { cut, discarding } => {
             let named = first_runs(&room.runs, discarding.runs as usize);
             let first = NextCut {
@@ -155,10 +154,10 @@ fn discard(
                 from: discarding.from,
             };
             let filled = fill(regions, named, &first, cuts);
-            *step = match filled.left {
-                None => give_back(device, regions, kind, tally, discarding.head),
-                Some(found) => discard_next(tally, discarding, &found),
-            };
+            match filled.left {
+                None => give_back(step, device, regions, kind, discarding.head),
+                Some(found) => discard_next(step, discarding, &found),
+            }
             filled.count
         }
         Phase::TellsPages { .. }
@@ -177,34 +176,30 @@ fn discard(
 #[tactic(auto, using(crate::proofs::OrderLemmas::stage_waits))]
 #[inline(always)]
 fn give(
-    step: &mut Step,
+    step: &mut Progress,
     device: &mut Device,
     regions: &[Region],
     kind: Kind,
     used: &mut Used,
 ) -> bool
-    requires fits { Fits step.old.phase }
-    requires stage { 1 ≤ stage step.old.phase }
+    requires fits { Fits (phase_of step.old) }
+    requires stage { 1 ≤ stage (phase_of step.old) }
     ensures step { (after : Device) (outcome : Outcome) (room : Room) (rest : List Access) →
-        Ahead (whole regions.now kind after outcome) step.new device.new room rest →
-        Ahead (whole regions.now kind after outcome) step.old device.old room
+        Ahead (whole regions.now kind after outcome) (step_of step.new) device.new room rest →
+        Ahead (whole regions.now kind after outcome) (step_of step.old) device.old room
         (giving result used.new ++ rest) }
-    ensures fits { Fits step.new.phase }
-    ensures stage { stage step.new.phase ≡ 1 → stage step.old.phase ≡ 1 }
-    ensures waits { waits step.new.phase ≡ true }
+    ensures fits { Fits (phase_of step.new) }
+    ensures stage { stage (phase_of step.new) ≡ 1 → stage (phase_of step.old) ≡ 1 }
+    ensures waits { waits (phase_of step.new) ≡ true }
 {
-    let tally = step.tally;
-    match step.phase {
+    match step.phase() {
         Phase::GivesBack { spots, entry } => {
             used.id = entry.id;
             used.length = entry.length;
             used.index = entry.index;
             used.spots = spots;
-            let tally = Tally {
-                given: true,
-                ..tally
-            };
-            *step = after_given(device, regions, kind, tally);
+            step.given = 1;
+            after_given(step, device, regions, kind);
             true
         }
         Phase::TellsPages { .. }
@@ -219,65 +214,60 @@ fn give(
     }
 }
 
-impl Notice {
-    /// Whether an answer is awaited, or nothing is to be done.
-    fn is_awaited(&self) -> bool
-        ensures { result ≡ true → stage self.now.step.phase ≡ 3 }
-    {
-        match self.step.phase {
-            Phase::AwaitsIndex { .. }
-            | Phase::AwaitsEntry { .. }
-            | Phase::AwaitsDescriptor { .. }
-            | Phase::AwaitsPart { .. }
-            | Phase::AwaitsFlags { .. }
-            | Phase::Ended { .. } => true,
-            Phase::TellsPages { .. }
-            | Phase::TellsFigures { .. }
-            | Phase::Discards { .. }
-            | Phase::GivesBack { .. } => false,
-        }
+/// Whether an answer is awaited, or nothing is to be done.
+#[inline(always)]
+fn waits(step: &Progress) -> bool
+    ensures { result ≡ true → stage (phase_of step.now) ≡ 3 }
+{
+    match step.phase() {
+        Phase::AwaitsIndex { .. }
+        | Phase::AwaitsEntry { .. }
+        | Phase::AwaitsDescriptor { .. }
+        | Phase::AwaitsPart { .. }
+        | Phase::AwaitsFlags { .. }
+        | Phase::Ended { .. } => true,
+        Phase::TellsPages { .. }
+        | Phase::TellsFigures { .. }
+        | Phase::Discards { .. }
+        | Phase::GivesBack { .. } => false,
     }
+}
 
-    /// Goes on as long as nothing needs an answer, and parts that are discarded have room; what is
-    /// to be done so is put into the orders and the list of parts. A part is left only where the
-    /// list is full.
-    #[tactic(auto, using(crate::proofs::OrderLemmas::stage_waits))]
-    pub fn at_once(
-        &mut self,
-        device: &mut Device,
-        regions: &[Region],
-        room: &Room,
-        cuts: &mut [Cut; MAX_CUTS],
-        orders: &mut Orders,
-    ) -> Asked
-        requires { Fits self.old.step.phase }
-        ensures kind { self.new.kind ≡ self.old.kind }
-        ensures step { (after : Device) (outcome : Outcome) (rest : List Access) →
-            Ahead (whole regions.now self.old.kind after outcome) self.new.step device.new room.now
-            rest →
-            Ahead (whole regions.now self.old.kind after outcome) self.old.step device.old room.now
-            (at_once result self.old.kind orders.new cuts.new room.now.runs room.now.figures
-            rest) }
-        ensures fits { Fits self.new.step.phase }
-        ensures room { HasRoom result orders.new }
-        ensures kept { result.told ≡ Pages → orders.new.kept ≡ kept_pages
-            (is_kept self.old.kind self.old.step.tally.keeps (keeps_reports device.old))
-            orders.new.named.pages }
-        ensures full { FillsList self.new.step.phase orders.new }
-        ensures waits { waits self.new.step.phase ≡ true }
-    {
-        orders.cuts = 0;
-        if self.is_awaited() {
-            return Asked {
-                told: Told::Nothing,
-                gives: false,
-            };
-        }
-        let kind = self.kind;
-        let step = &mut self.step;
-        let told = tell(step, device, regions, kind, room, orders);
-        orders.cuts = discard(step, device, regions, kind, room, cuts);
-        let gives = give(step, device, regions, kind, &mut orders.used);
-        Asked { told, gives }
+/// Goes on as long as nothing needs an answer, and parts that are discarded have room; what is to
+/// be done so is put into the orders and the list of parts. A part is left only where the list is
+/// full.
+#[tactic(auto, using(crate::proofs::OrderLemmas::stage_waits))]
+#[inline(always)]
+pub fn at_once(
+    step: &mut Progress,
+    device: &mut Device,
+    regions: &[Region],
+    kind: Kind,
+    room: &Room,
+    cuts: &mut [Cut; MAX_CUTS],
+    orders: &mut Orders,
+) -> Asked
+    requires { Fits (phase_of step.old) }
+    ensures step { (after : Device) (outcome : Outcome) (rest : List Access) →
+        Ahead (whole regions.now kind after outcome) (step_of step.new) device.new room.now rest →
+        Ahead (whole regions.now kind after outcome) (step_of step.old) device.old room.now
+        (at_once result kind orders.new cuts.new room.now.runs room.now.figures rest) }
+    ensures fits { Fits (phase_of step.new) }
+    ensures room { HasRoom result orders.new }
+    ensures kept { result.told ≡ Pages → orders.new.kept ≡ kept_pages
+        (is_kept kind (tally_of step.old).keeps (keeps_reports device.old)) orders.new.named.pages }
+    ensures full { FillsList (phase_of step.new) orders.new }
+    ensures waits { waits (phase_of step.new) ≡ true }
+{
+    orders.cuts = 0;
+    if waits(step) {
+        return Asked {
+            told: Told::Nothing,
+            gives: false,
+        };
     }
+    let told = tell(step, device, regions, kind, room, orders);
+    orders.cuts = discard(step, device, regions, kind, room, cuts);
+    let gives = give(step, device, regions, kind, &mut orders.used);
+    Asked { told, gives }
 }

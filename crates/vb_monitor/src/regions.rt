@@ -33,6 +33,14 @@ pub struct Spot {
     pub offset: u64,
 }
 
+impl Spot {
+    /// The first byte of the first region.
+    pub(crate) const FIRST: Spot = Spot {
+        region: 0,
+        offset: 0,
+    };
+}
+
 impl Region {
     /// Whether it is whole pages, of guest memory below 2^44, from a place of a file up to 2^62 on.
     /// A region that isn't has no byte of guest memory.
@@ -85,29 +93,5 @@ pub(crate) fn find_from(regions: &[Region], base: u64, plus: u64, length: u64) -
     match base.checked_add(plus) {
         None => None,
         Some(address) => find(regions, address, length),
-    }
-}
-
-/// The place that `find_from` answers, by a fast path where the first region has the bytes.
-#[tactic(auto, using(crate::proofs::RegionLemmas::first_steps))]
-#[inline(always)]
-pub(crate) fn find_first(regions: &[Region], base: u64, plus: u64, length: u64) -> Option<Spot>
-    ensures { result ≡ spot regions.now (base + plus) length }
-{
-    match base.checked_add(plus) {
-        None => None,
-        Some(address) => {
-            if regions.is_empty() {
-                return None;
-            }
-            let region = &regions[0];
-            if region.holds(address, length) {
-                return Some(Spot {
-                    region: 0,
-                    offset: address - region.guest,
-                });
-            }
-            find(regions, address, length)
-        }
     }
 }

@@ -118,7 +118,7 @@ pub(crate) struct RowWalk {
 
 /// Walks along a chain, from a row's first descriptor on, for as long as the row has the next one;
 /// the pieces join the others.
-#[inline(never)]
+#[inline(always)]
 pub(crate) fn walk_row(
     size: u16,
     end: u64,

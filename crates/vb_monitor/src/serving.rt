@@ -7,12 +7,13 @@ ghost use Rattle.vb_monitor.specs.Notices.{Serves};
 ghost use Rattle.vb_monitor.specs.Giving.{used_accesses};
 ghost use Rattle.vb_monitor.specs.Machine.{Fits, is_ended, Ahead, Does, GoesOn, Copies, whole};
 ghost use Rattle.vb_monitor.specs.Left.{left};
+ghost use Rattle.vb_monitor.specs.Steps.{phase_of, step_of};
 ghost use Rattle.std.specs.Prelude.{◌<◌, false};
 
 use crate::discards::first_runs;
 use crate::room::{MAX_BYTES, MAX_FIGURES};
 use crate::rows::row_bytes;
-use crate::{Budget, LiveMemory, Notice, Outcome, Phase, Region, Room, Spot, UsedSpots};
+use crate::{Budget, LiveMemory, Outcome, Phase, Progress, Region, Room, Spot, UsedSpots};
 use vb_core::{Device, Kind, UsedEntry};
 
 /// Copies `length` bytes after the first `from` ones.
@@ -96,6 +97,13 @@ pub(crate) fn perform<M: LiveMemory>(
     }
 }
 
+/// A notice over a memory: whose queue it is of, and where it is.
+#[derive(Clone, Copy, Debug)]
+pub struct Notice {
+    pub kind: Kind,
+    pub step: Progress,
+}
+
 impl Notice {
     /// Does what is to be done over a memory, once, and goes on.
     pub fn serve_step<M: LiveMemory>(
@@ -105,20 +113,20 @@ impl Notice {
         regions: &[Region],
         room: &mut Room,
     )
-        requires { Fits self.old.step.phase }
+        requires { Fits (phase_of self.old.step) }
         ensures kind { self.new.kind ≡ self.old.kind }
         ensures step { GoesOn M.goes memory.old memory.new
             (λ after outcome log. Ahead (whole regions.now self.old.kind after outcome)
-            self.old.step device.old room.old log)
+            (step_of self.old.step) device.old room.old log)
             (λ after outcome log. Ahead (whole regions.now self.old.kind after outcome)
-            self.new.step device.new room.new log) }
-        ensures fits { Fits self.new.step.phase }
-        ensures left { is_ended self.old.step.phase ≡ false →
-            left regions.now self.new.step < left regions.now self.old.step }
+            (step_of self.new.step) device.new room.new log) }
+        ensures fits { Fits (phase_of self.new.step) }
+        ensures left { is_ended (phase_of self.old.step) ≡ false →
+            left regions.now (step_of self.new.step) < left regions.now (step_of self.old.step) }
     {
-        let Notice { kind, step } = *self;
-        let answer = perform(memory, kind, step.phase, room);
-        self.next(device, regions, answer, room);
+        let kind = self.kind;
+        let answer = perform(memory, kind, self.step.phase(), room);
+        self.step.next(device, regions, kind, answer, room);
     }
 
     /// Makes steps until the notice has ended, at most `times`; says whether it has.
@@ -131,22 +139,22 @@ impl Notice {
         room: &mut Room,
         times: u64,
     ) -> bool
-        requires { Fits self.old.step.phase }
+        requires { Fits (phase_of self.old.step) }
         ensures kind { self.new.kind ≡ self.old.kind }
         ensures step { GoesOn M.goes memory.old memory.new
             (λ after outcome log. Ahead (whole regions.now self.old.kind after outcome)
-            self.old.step device.old room.old log)
+            (step_of self.old.step) device.old room.old log)
             (λ after outcome log. Ahead (whole regions.now self.old.kind after outcome)
-            self.new.step device.new room.new log) }
-        ensures ended { result ≡ is_ended self.new.step.phase }
+            (step_of self.new.step) device.new room.new log) }
+        ensures ended { result ≡ is_ended (phase_of self.new.step) }
     {
         for _ in 0..times {
-            if self.is_ended() {
+            if self.step.is_ended() {
                 return true;
             }
             self.serve_step(memory, device, regions, room);
         }
-        self.is_ended()
+        self.step.is_ended()
     }
 
     /// Makes steps until the notice has ended; says what it came to.
@@ -157,13 +165,14 @@ impl Notice {
         regions: &[Region],
         room: &mut Room,
     ) -> Outcome
-        requires { Fits self.old.step.phase }
+        requires { Fits (phase_of self.old.step) }
         ensures { Makes M.goes memory.old memory.new (λ log.
-            Ahead (whole regions.now self.old.kind device.new result) self.old.step device.old
+            Ahead (whole regions.now self.old.kind device.new result)
+            (step_of self.old.step) device.old
             room.old log) }
     {
         loop {
-            if let Some(outcome) = self.outcome() {
+            if let Some(outcome) = self.step.outcome() {
                 return outcome;
             }
             self.serve_step(memory, device, regions, room);
@@ -183,6 +192,10 @@ pub fn serve<M: LiveMemory>(
     ensures { Makes M.goes memory.old memory.new
         (Serves regions.now kind budget device.old device.new result) }
 {
-    let mut notice = Notice::begin(device, regions, kind, budget);
+    let mut notice = Notice {
+        kind,
+        step: Progress::NOTHING,
+    };
+    notice.step.begin(device, regions, kind, budget);
     notice.serve_all(memory, device, regions, room)
 }

@@ -1,8 +1,9 @@
 //! What is to be done next, and what a notice remembers until it was done.
 
-ghost use Rattle.std.specs.Prelude.{◌≡◌};
+ghost use Rattle.std.specs.Prelude.{◌≡◌, ◌+◌, nat_le};
+ghost use Rattle.vb_monitor.specs.declared.room.TheConstants.{MAX_BYTES};
 
-use crate::{Cut, Spot, Tally, UsedSpots};
+use crate::{Cut, MAX_BYTES, Spot, UsedSpots};
 use vb_core::{Denial, Named, UsedEntry};
 
 /// How far the walk along a chain is.
@@ -48,6 +49,16 @@ pub struct Discarding {
     pub run: usize,
     /// The number of the region after the one in which it is.
     pub from: usize,
+}
+
+impl Place {
+    /// Whether the bytes of the part have room.
+    #[inline(always)]
+    pub(crate) fn has_room(&self) -> bool
+        ensures { result ≡ nat_le (self.now.into + self.now.length) MAX_BYTES }
+    {
+        self.into <= MAX_BYTES && self.length as usize <= MAX_BYTES - self.into
+    }
 }
 
 impl Discarding {
@@ -118,11 +129,4 @@ pub enum Phase {
         interrupt: bool,
         more: bool,
     },
-}
-
-/// What is to be done next, and what was done.
-#[derive(Clone, Copy, Debug)]
-pub struct Step {
-    pub tally: Tally,
-    pub phase: Phase,
 }

@@ -16,6 +16,7 @@ ghost use Rattle.vb_monitor.specs.declared.room.Room.{Room};
 ghost use Rattle.vb_monitor.specs.Machine.{Fits, Ahead, whole, serves, next_chain};
 ghost use Rattle.vb_monitor.specs.Machine.{row_in, row_bytes};
 ghost use Rattle.vb_monitor.specs.Left.{left, of_chains, once_copied};
+ghost use Rattle.vb_monitor.specs.Steps.{phase_of, step_of, tally_of};
 
 use crate::copying::first_bytes;
 use crate::ends::fail;
@@ -23,7 +24,7 @@ use crate::naming::serve_pieces;
 use crate::regions::{PAGE_BYTES, find_from};
 use crate::room::ROW_DESCRIPTORS;
 use crate::rows::{RowEnd, RowWalk, ring_fault, row_bytes, walk_row};
-use crate::{Phase, Region, Room, Step, Tally, Walk};
+use crate::{Progress, Region, Room, Walk};
 use vb_chain::{ChainFault, DESCRIPTOR_SIZE, Descriptor};
 use vb_core::{Device, Kind, Virtqueue};
 use vb_virtio::limits::MAX_QUEUE_SIZE;
@@ -44,61 +45,55 @@ pub(crate) fn memory_end(device: &Device) -> u64
 
 /// Asks for a row: of the descriptors after its first one, unless they lie apart from it.
 #[tactic(auto, using(crate::proofs::TableRowLemmas::row_steps))]
-fn ask_row(device: &mut Device, regions: &[Region], kind: Kind, tally: Tally, walk: Walk) -> Step
+fn ask_row(step: &mut Progress, device: &mut Device, regions: &[Region], kind: Kind, walk: Walk)
     requires { walk.behind < ROW_DESCRIPTORS }
     ensures step { (after : Device) (outcome : Outcome) (room : Room) (log : List Access) →
-        Ahead (whole regions.now kind after outcome) result device.new room log →
-        TakesRow (whole regions.now kind after outcome) device.old tally
+        Ahead (whole regions.now kind after outcome) (step_of step.new) device.new room log →
+        TakesRow (whole regions.now kind after outcome) device.old (tally_of step.old)
         (Follows (descriptors (ring_of kind device.old) - (walk.count + 1))
-        (whole regions.now kind after outcome) device.old tally
-        (serves (whole regions.now kind after outcome) tally device.old walk.head))
-        (serves (whole regions.now kind after outcome) tally device.old walk.head) walk.first
+        (whole regions.now kind after outcome) device.old (tally_of step.old)
+        (serves (whole regions.now kind after outcome) (tally_of step.old) device.old walk.head))
+        (serves (whole regions.now kind after outcome) (tally_of step.old) device.old walk.head)
+        walk.first
         (unless_apart (spot regions.now ((ring_of kind device.old).table + 16 * walk.first)
         (16 * (walk.behind + 1))) walk.behind) walk.writing
         (pieces_in (take walk.count room.pieces)) log }
-    ensures fits { Fits result.phase }
-    ensures left { left regions.now result ≤
-        of_chains regions.now tally.chains + (once_copied regions.now walk.count + 1) }
+    ensures fits { Fits (phase_of step.new) }
+    ensures left { left regions.now (step_of step.new) ≤
+        of_chains regions.now (tally_of step.old).chains
+        + (once_copied regions.now walk.count + 1) }
 {
     let table = device.ring(kind).table;
     let length = DESCRIPTOR_SIZE as u64;
     let start = length * u64::from(walk.first);
     if let Some(at) = find_from(regions, table, start, length * (u64::from(walk.behind) + 1)) {
-        return Step {
-            tally,
-            phase: Phase::AwaitsDescriptor { at, walk },
-        };
+        return step.await_row(at, walk);
     }
     match find_from(regions, table, start, length) {
-        None => fail(device, regions, kind, tally, ChainFault::OutOfRam),
-        Some(at) => Step {
-            tally,
-            phase: Phase::AwaitsDescriptor {
-                at,
-                walk: Walk { behind: 0, ..walk },
-            },
-        },
+        None => fail(step, device, regions, kind, ChainFault::OutOfRam),
+        Some(at) => step.await_row(at, Walk { behind: 0, ..walk }),
     }
 }
 
 /// Asks for a chain's first descriptor, alone.
 #[tactic(auto, using(crate::proofs::TableRowLemmas::first_steps))]
-#[inline(never)]
+#[inline(always)]
 pub(crate) fn ask_first(
+    step: &mut Progress,
     device: &mut Device,
     regions: &[Region],
     kind: Kind,
-    tally: Tally,
     head: u16,
-) -> Step
+)
     requires { head < descriptors (ring_of kind device.old) }
     ensures step { (after : Device) (outcome : Outcome) (room : Room) (log : List Access) →
-        Ahead (whole regions.now kind after outcome) result device.new room log →
+        Ahead (whole regions.now kind after outcome) (step_of step.new) device.new room log →
         AfterEntry (whole regions.now kind after outcome)
-        (next_chain (whole regions.now kind after outcome) tally) device.old tally head log }
-    ensures fits { Fits result.phase }
-    ensures left { left regions.now result ≤
-        of_chains regions.now tally.chains + (once_copied regions.now 0 + 1) }
+        (next_chain (whole regions.now kind after outcome) (tally_of step.old)) device.old
+        (tally_of step.old) head log }
+    ensures fits { Fits (phase_of step.new) }
+    ensures left { left regions.now (step_of step.new) ≤
+        of_chains regions.now (tally_of step.old).chains + (once_copied regions.now 0 + 1) }
 {
     let walk = Walk {
         head,
@@ -107,7 +102,7 @@ pub(crate) fn ask_first(
         first: head,
         behind: 0,
     };
-    ask_row(device, regions, kind, tally, walk)
+    ask_row(step, device, regions, kind, walk)
 }
 
 /// The first rule that a descriptor breaks, after `visited` others.
@@ -135,27 +130,29 @@ pub(crate) fn table_fault(
 /// Asks for the row from a descriptor on that is not the chain's first.
 #[tactic(auto, using(crate::proofs::TableRowLemmas::next_steps))]
 fn ask_next(
+    step: &mut Progress,
     device: &mut Device,
     regions: &[Region],
     kind: Kind,
-    tally: Tally,
     walk: Walk,
     number: u16,
-) -> Step
+)
     ensures step { (after : Device) (outcome : Outcome) (room : Room) (log : List Access) →
         0 < length (pieces_in (take walk.count room.pieces)) →
-        Ahead (whole regions.now kind after outcome) result device.new room log →
-        TakesRow (whole regions.now kind after outcome) device.old tally
+        Ahead (whole regions.now kind after outcome) (step_of step.new) device.new room log →
+        TakesRow (whole regions.now kind after outcome) device.old (tally_of step.old)
         (Follows (descriptors (ring_of kind device.old) - (walk.count + 1))
-        (whole regions.now kind after outcome) device.old tally
-        (serves (whole regions.now kind after outcome) tally device.old walk.head))
-        (serves (whole regions.now kind after outcome) tally device.old walk.head) number
+        (whole regions.now kind after outcome) device.old (tally_of step.old)
+        (serves (whole regions.now kind after outcome) (tally_of step.old) device.old walk.head))
+        (serves (whole regions.now kind after outcome) (tally_of step.old) device.old walk.head)
+        number
         (behind_in_row regions.now (ring_of kind device.old) number
         (pieces_in (take walk.count room.pieces))) walk.writing
         (pieces_in (take walk.count room.pieces)) log }
-    ensures fits { Fits result.phase }
-    ensures left { left regions.now result ≤
-        of_chains regions.now tally.chains + (once_copied regions.now walk.count + 1) }
+    ensures fits { Fits (phase_of step.new) }
+    ensures left { left regions.now (step_of step.new) ≤
+        of_chains regions.now (tally_of step.old).chains
+        + (once_copied regions.now walk.count + 1) }
 {
     let size = descriptors(&device.ring(kind));
     let left = u32::from(size).saturating_sub(u32::from(number) + 1);
@@ -165,32 +162,33 @@ fn ask_next(
         behind,
         ..walk
     };
-    ask_row(device, regions, kind, tally, walk)
+    ask_row(step, device, regions, kind, walk)
 }
 
 /// The bytes of a row of descriptors were copied to the front of these.
 #[tactic(auto, using(crate::proofs::BufferLemmas::length_in))]
-pub fn after_descriptor(
+pub(crate) fn after_descriptor(
+    step: &mut Progress,
     device: &mut Device,
     regions: &[Region],
     kind: Kind,
-    tally: Tally,
     walk: Walk,
     room: &mut Room,
-) -> Step
+)
     ensures step { (after : Device) (outcome : Outcome) (log : List Access) →
-        Ahead (whole regions.now kind after outcome) result device.new room.new log →
-        AfterDescriptor (whole regions.now kind after outcome) device.old tally
+        Ahead (whole regions.now kind after outcome) (step_of step.new) device.new room.new log →
+        AfterDescriptor (whole regions.now kind after outcome) device.old (tally_of step.old)
         (Follows (descriptors (ring_of kind device.old) - (walk.count + 1))
-        (whole regions.now kind after outcome) device.old tally
-        (serves (whole regions.now kind after outcome) tally device.old walk.head)
+        (whole regions.now kind after outcome) device.old (tally_of step.old)
+        (serves (whole regions.now kind after outcome) (tally_of step.old) device.old walk.head)
         (row_in walk room.old.bytes))
-        (serves (whole regions.now kind after outcome) tally device.old walk.head) walk.writing
+        (serves (whole regions.now kind after outcome) (tally_of step.old) device.old walk.head)
+        walk.writing
         (pieces_in (take walk.count room.old.pieces))
         (take DESCRIPTOR_SIZE (take (row_bytes walk) room.old.bytes)) log }
-    ensures fits { Fits result.phase }
-    ensures left { left regions.now result ≤
-        of_chains regions.now tally.chains + once_copied regions.now walk.count }
+    ensures fits { Fits (phase_of step.new) }
+    ensures left { left regions.now (step_of step.new) ≤
+        of_chains regions.now (tally_of step.old).chains + once_copied regions.now walk.count }
 {
     let size = descriptors(&device.ring(kind));
     let end = memory_end(device);
@@ -207,8 +205,8 @@ pub fn after_descriptor(
         ..walk
     };
     match end {
-        RowEnd::Broken(fault) => fail(device, regions, kind, tally, fault),
-        RowEnd::Last => serve_pieces(device, regions, kind, tally, walk, room),
-        RowEnd::Leaves(number) => ask_next(device, regions, kind, tally, walk, number),
+        RowEnd::Broken(fault) => fail(step, device, regions, kind, fault),
+        RowEnd::Last => serve_pieces(step, device, regions, kind, walk, room),
+        RowEnd::Leaves(number) => ask_next(step, device, regions, kind, walk, number),
     }
 }

@@ -38,8 +38,8 @@ static json_t *answer_terms(const struct guest_terms *terms)
 
 static json_t *answer_guest_counters(const struct guest_view *guest)
 {
-    return json_pack("{s:o, s:o, s:o, s:o, s:o, s:o, s:o, s:o, s:o, s:o, s:o, s:o, s:o}", "inflated", bytes(guest->inflated),
-                     "deflated", bytes(guest->deflated), "reported", bytes(guest->reported), "taken", bytes(guest->taken),
+    return json_pack("{s:o, s:o, s:o, s:o, s:o, s:o, s:o, s:o, s:o, s:o, s:o, s:o, s:o, s:o}", "inflated", bytes(guest->inflated),
+                     "deflated", bytes(guest->deflated), "granted", bytes(guest->granted), "reported", bytes(guest->reported), "taken", bytes(guest->taken),
                      "discarded", bytes(guest->discarded), "skipped", bytes(guest->skipped), "statistics", count(guest->statistics),
                      "told", count(guest->told), "chains", count(guest->chains), "kicks", count(guest->kicks), "clients",
                      count(guest->clients), "lost", count(guest->lost), "limit_failures", count(guest->limit_failures));
@@ -47,8 +47,8 @@ static json_t *answer_guest_counters(const struct guest_view *guest)
 
 static json_t *answer_guest_memory(const struct guest_view *guest)
 {
-    return json_pack("{s:o, s:o, s:o, s:o, s:o, s:o, s:o, s:o, s:o, s:o, s:o}", "memory", bytes(guest->pages), "held",
-                     kibibytes(guest->held_kib), "loan", bytes(guest->loan), "limit", bytes(guest->limit), "excess",
+    return json_pack("{s:o, s:o, s:o, s:o, s:o, s:o, s:o, s:o, s:o, s:o, s:o, s:o}", "memory", bytes(guest->pages), "held",
+                     kibibytes(guest->held_kib), "loan", bytes(guest->loan), "asked", bytes(guest->asked), "limit", bytes(guest->limit), "excess",
                      bytes(guest->excess), "target",
                      bytes(guest->target), "ballooned", bytes(guest->ballooned), "actual", bytes(guest->actual), "free",
                      bytes(guest->free), "available", bytes(guest->available), "spare", bytes(guest->spare));

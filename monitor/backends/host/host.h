@@ -72,6 +72,9 @@ struct seat {
     size_t place;               /* of its loan */
     enum guest_wait asked_for;  /* what its loan asks for */
     uint32_t held_granted, granted_pages;       /* the last of its deflates that was granted, and of how many pages */
+    uint64_t granted;           /* frames that were lent to it since it came, as it asked for them or was told to take them */
+    uint32_t ahead;             /* frames that were lent to it before it asks, as it was told to take them */
+    int64_t ahead_until;        /* until then its driver may still take some, though it was told otherwise meanwhile */
     bool adopted;               /* its loan is to follow the first report of a process of an earlier lender */
     bool cooperates;            /* it hasn't taken pages that nobody granted */
 };
@@ -256,6 +259,10 @@ uint64_t host_held(const struct host *host);
 
 /* Follows what its last report says: lends less once pages have joined its balloon, and asks for what its process waits for. */
 void loan_follow(struct seat *seat);
+
+/* Lends it pages that it is to be told to take out of its balloon, as far as there is room, so that it doesn't wait for them: it couldn't
+ * give any meanwhile. Returns how many. */
+uint32_t loan_ahead(struct seat *seat, uint32_t pages);
 
 /* Nothing is lent to it any longer. */
 void loan_leave(struct seat *seat);

@@ -4,6 +4,9 @@
 
 #include <inttypes.h>
 
+/* Pages that a deflate request takes at most; milliseconds in which a driver that begins to take pages hears that it is to take no more. */
+enum { PAGES_OF_REQUEST = VB_MAX_BYTES / sizeof(uint32_t), LINGERS = 500 };
+
 static uint32_t smaller(uint32_t one, uint32_t other)
 {
     return one < other ? one : other;
@@ -30,21 +33,35 @@ static void follow_report(struct seat *seat)
     uint32_t pages = seat->pages, ballooned = smaller(seat->report.ballooned, pages);
     if (!seat->cooperates)
         ballooned = 0;
+    seat->ahead = 0;
     *loan_of(seat) = (VbLoan){.pages = pages, .ballooned = ballooned, .lent = pages - ballooned, .uncounted = !seat->cooperates};
 }
 
-/* What it has asked for isn't waited for any longer; nothing is lent beyond its pages that aren't in its balloon. */
-static void trim(VbLoan *loan)
+static void withdraw(VbLoan *loan)
 {
     loan->asked = 0, loan->turn = 0, loan->line = 0;
-    if (loan->lent > loan->pages - loan->ballooned)
-        loan->lent = loan->pages - loan->ballooned;
+}
+
+/* What it has asked for isn't waited for any longer; nothing is lent beyond its pages that aren't in its balloon, but for those that it is
+ * told to take out of it. A driver that was told otherwise meanwhile may just take those of one request. */
+static void trim(struct seat *seat)
+{
+    VbLoan *loan = loan_of(seat);
+    uint32_t taken = seat->told < loan->ballooned ? loan->ballooned - seat->told : 0;
+    uint32_t most = host_now() < seat->ahead_until && taken < PAGES_OF_REQUEST ? PAGES_OF_REQUEST : taken;
+    seat->ahead = smaller(seat->ahead, smaller(most, loan->ballooned));
+    uint32_t lent = loan->pages - loan->ballooned + seat->ahead;
+    withdraw(loan);
+    if (loan->lent > lent)
+        loan->lent = lent;
 }
 
 /* Memory that was taken away, with what was in the balloon of it. */
-static void shrink(VbLoan *loan, uint32_t pages, uint32_t ballooned)
+static void shrink(struct seat *seat, uint32_t pages, uint32_t ballooned)
 {
+    VbLoan *loan = loan_of(seat);
     ballooned = smaller(ballooned, pages);
+    seat->ahead = 0;
     *loan = (VbLoan){.pages = pages, .ballooned = ballooned, .lent = pages - ballooned, .spare = loan->spare};
 }
 
@@ -113,6 +130,7 @@ static void grant(struct seat *seat, enum guest_wait what)
     uint32_t taken = smaller(wanted, smaller(most, loan->ballooned));
     vb_loan_take(host->loans, MOST_PLACES, seat->place, taken);
     seat->asked_for = WAITS_FOR_NOTHING;
+    seat->ahead -= smaller(seat->ahead, taken);
     host->counters.grants++;
     if (what == WAITS_FOR_DEFLATE) {
         seat->granted_pages = taken;
@@ -138,7 +156,8 @@ static void ask(struct seat *seat, enum guest_wait what)
         loan->ballooned += seat->report.wanted - loan->pages; /* new memory comes as if it were in the balloon */
         loan->pages = seat->report.wanted;
     }
-    uint32_t wanted = smaller(wanted_pages(seat, what), loan->pages - loan->lent);
+    uint32_t pages = wanted_pages(seat, what), has = loan->lent + loan->ballooned - loan->pages;
+    uint32_t wanted = smaller(pages > has ? pages - has : 0, loan->pages - loan->lent);
     if (wanted == 0)
         grant(seat, what);
     else if (what == WAITS_FOR_RESET)
@@ -157,13 +176,13 @@ void loan_follow(struct seat *seat)
     if (!seat->report.holds)
         return;
     if (seat->pages < loan->pages && seat->waits_for != WAITS_FOR_ROOM)
-        shrink(loan, seat->pages, seat->report.ballooned);
+        shrink(seat, seat->pages, seat->report.ballooned);
     if (seat->pages > 0)
         follow_balloon(seat);
     vb_loan_figure(seat->host->loans, MOST_PLACES, seat->place, policy_spare(seat));
     if (is_wanted(seat) && loan->asked > 0)
         return;
-    trim(loan);
+    trim(seat);
     if (waits_for(seat) == WAITS_FOR_NOTHING)
         return;
     ask(seat, waits_for(seat));
@@ -210,13 +229,37 @@ static struct seat *seat_at(const struct host *host, size_t place)
 
 void loans_grant(struct host *host)
 {
+    uint64_t owed = vb_loan_owed(host->loans, MOST_PLACES);
     for (VbGrant next; (next = vb_loan_grant(host->frames, host->loans, MOST_PLACES)).code == VB_OK;) {
         struct seat *seat = seat_at(host, next.guest);
+        uint64_t before = owed;
+        owed = vb_loan_owed(host->loans, MOST_PLACES);
         if (!seat)
             continue;
+        seat->granted += owed - before;
+        if (seat->asked_for == WAITS_FOR_NOTHING)
+            continue; /* lent ahead */
         grant(seat, seat->asked_for);
         host_changed(host, BY_GUESTS);
     }
+}
+
+uint32_t loan_ahead(struct seat *seat, uint32_t pages)
+{
+    struct host *host = seat->host;
+    VbLoan *loan = loan_of(seat);
+    uint64_t room = loans_room(host);
+    uint32_t lent = room < pages ? (uint32_t)room : pages;
+    if (loan->asked > 0 || vb_loan_ask(host->loans, MOST_PLACES, seat->place, lent) != VB_OK)
+        return 0;
+    loans_grant(host);
+    if (loan->asked > 0) {
+        withdraw(loan);
+        return 0;
+    }
+    seat->ahead += lent;
+    seat->ahead_until = host_now() + LINGERS;
+    return lent;
 }
 
 bool loans_wait(const struct host *host)
@@ -234,8 +277,8 @@ uint64_t loans_room(const struct host *host)
         gone += host->loans[i].asked;
     for (unsigned i = 0; i < host->count; i++) {
         const struct seat *seat = host->seats[i];
-        uint32_t ballooned = loan_of(seat)->ballooned;
-        gone += seat->report.holds && loan_of(seat)->asked == 0 && ballooned > seat->told ? ballooned - seat->told : 0;
+        uint32_t ballooned = loan_of(seat)->ballooned, told = ballooned > seat->told ? ballooned - seat->told : 0;
+        gone += seat->report.holds && loan_of(seat)->asked == 0 && told > seat->ahead ? told - seat->ahead : 0;
     }
     return gone < host->frames ? host->frames - gone : 0;
 }

@@ -41,17 +41,24 @@ static bool goes_by_steps(const struct seat *seat)
     return host->step > 0 && seat->target > seat->told && is_calm;
 }
 
-/* How far a target that falls may fall now. One of a guest whose deflates wait falls only as far as there is room: else it would wait for
- * pages that it doesn't need, and couldn't give any meanwhile. */
-static uint32_t lower_end(const struct seat *seat)
+/* Tells it a target that falls, as far as it may fall now. One of a guest whose deflates wait falls only as far as there is room, which is
+ * lent to it at once: else it would wait for pages that it doesn't need, and couldn't give any meanwhile. */
+static void lower(struct seat *seat)
 {
-    if (!seat->report.holds)
-        return seat->target;
     uint32_t ballooned = seat->host->loans[seat->place].ballooned, from = seat->told > ballooned ? ballooned : seat->told;
-    if (from <= seat->target)
-        return seat->target;
-    uint64_t room = loans_room(seat->host);
-    return room < from - seat->target ? from - (uint32_t)room : seat->target;
+    bool waits = seat->report.holds && from > seat->target;
+    seat->told = waits ? from : seat->target;
+    if (waits)
+        seat->told = from - loan_ahead(seat, from - seat->target);
+}
+
+/* Tells it as much of its target as it may hear now, whether it rises or falls. */
+static void follow_target(struct seat *seat)
+{
+    if (seat->target < seat->told)
+        lower(seat);
+    else
+        seat->told = seat->target;
 }
 
 void seat_set_target(struct seat *seat, uint32_t pages)
@@ -59,7 +66,7 @@ void seat_set_target(struct seat *seat, uint32_t pages)
     seat->target = pages;
     if (goes_by_steps(seat))
         return;
-    seat->told = seat->target < seat->told ? lower_end(seat) : pages;
+    follow_target(seat);
     tell_target(seat);
 }
 
@@ -73,11 +80,10 @@ void seat_step(struct seat *seat, int64_t milliseconds)
         tell_target(seat);
         return;
     }
-    uint32_t told = seat->target < seat->told ? lower_end(seat) : seat->target;
-    if (told == seat->told && seat->report.target == told)
-        return;
-    seat->told = told;
-    tell_target(seat);
+    uint32_t told = seat->told;
+    follow_target(seat);
+    if (told != seat->told || seat->report.target != told)
+        tell_target(seat);
 }
 
 void seat_keep_terms(struct seat *seat)

@@ -133,14 +133,24 @@ static void collect(const struct host *host, const struct seat *except, struct g
         add(guests, host->leaving[i], leaving(host->leaving[i]));
 }
 
+static uint32_t slack_of(const struct host *host)
+{
+    return host->floor / SLACK_PART;
+}
+
+static VbBudget budget_of(const struct host *host)
+{
+    return (VbBudget){ .frames = host->frames, .floor = host->floor, .slack = slack_of(host) };
+}
+
 /* Targets of these guests; by how much they are short: then each is asked for all that it can give. */
 static uint64_t share_out(struct guests *guests, const struct host *host)
 {
     static VbShare shares[MOST_KNOWN];
     static VbNeed needs[MOST_KNOWN];
     unsigned count = guests->count;
-    VbTargets answer = vb_guest_targets(host->frames, host->floor, guests->known, count, shares, count, needs, count,
-                                        guests->targets, count);
+    VbBudget budget = budget_of(host);
+    VbTargets answer = vb_guest_targets(&budget, guests->known, count, shares, count, needs, count, guests->targets, count);
     return answer.code == VB_SHORT ? answer.missing : 0;
 }
 
@@ -152,19 +162,14 @@ uint64_t policy_lacks(struct host *host, const struct seat *newcomer, uint32_t p
     return share_out(&guests, host);
 }
 
-static uint32_t slack_of(const struct host *host)
-{
-    return host->floor / SLACK_PART;
-}
-
 /* Whether what the guests are asked for now is enough, and each can give it. */
 static bool old_serve(const struct guests *guests, const struct host *host)
 {
     static VbNeed needs[MOST_KNOWN];
     static uint32_t rests[MOST_KNOWN];
     unsigned count = guests->count;
-    return !vb_needs_guest_targets(host->frames, host->floor, slack_of(host), guests->known, count, guests->old, count, needs, count,
-                                   rests, count);
+    VbBudget budget = budget_of(host);
+    return !vb_needs_guest_targets(&budget, guests->known, count, guests->old, count, needs, count, rests, count);
 }
 
 /* What a guest could give with a little less than its floor. */
@@ -231,9 +236,9 @@ static void decide(struct host *host)
     if (host->anew || missing != host->missing || memcmp(guests.old, guests.targets, guests.count * sizeof guests.old[0]))
         note(host, &guests, missing);
     host->counters.shorts += missing > 0;
-    host->counters.changed += tell(&guests);
     host->missing = missing;
     host->anew = false;
+    host->counters.changed += tell(&guests);
 }
 
 void policy_decide(struct host *host)

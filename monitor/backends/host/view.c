@@ -87,11 +87,11 @@ void host_see_guest(const struct host *host, unsigned number, struct guest_view 
 {
     const struct seat *seat = host->seats[number];
     const struct lending_message *report = &seat->report;
-    uint32_t loan = loan_of(seat);
+    const VbLoan *loan = &host->loans[seat->place];
     *view = (struct guest_view){
         .name = seat->name, .path = seat->path, .process = seat->serving, .version = report->words, .state = state_of(seat), .terms = seat->terms,
-        .pages = seat->pages, .held_kib = report->held_kib, .loan = loan, .excess = loan_excess(seat), .limit = seat->writer.written,
-        .limit_failures = seat->writer.failures, .target = seat->target,
+        .pages = seat->pages, .held_kib = report->held_kib, .loan = loan->lent, .excess = loan_excess(seat), .asked = loan->asked,
+        .granted = seat->granted, .limit = seat->writer.written, .limit_failures = seat->writer.failures, .target = seat->target,
         .ballooned = report->ballooned, .actual = report->actual, .free = seat->free, .available = seat->available,
         .spare = policy_spare(seat), .answers = seat_answers(seat), .reports = seat_reports(seat),
         .cooperates = cooperates(seat), .waits_for = seat->waits_for, .clients = seat->clients,

@@ -49,6 +49,8 @@ struct guest_view {
     uint64_t held_kib;          /* what its files have in blocks on the host */
     uint32_t loan;              /* frames that are lent to it */
     uint32_t excess;            /* frames that it holds above its loan */
+    uint32_t asked;             /* frames for which it waits */
+    uint64_t granted;           /* frames that were lent to it since it came, as it asked for them or was told to take them */
     uint64_t limit;             /* frames that its limit was written to last; 0: it wasn't yet */
     uint64_t limit_failures;    /* how often its limit couldn't be written */
     uint32_t target, ballooned, actual;

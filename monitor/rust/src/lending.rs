@@ -6,7 +6,7 @@
 
 use crate::raw::*;
 
-pub use crate::raw::{HostGuest, Loan, Need, Share, Terms};
+pub use crate::raw::{Budget, HostGuest, Loan, Need, Share, Terms};
 
 /// In which line a newcomer waits: those of the first come before all of the second.
 #[derive(Clone, Copy, Debug, PartialEq, Eq)]
@@ -165,8 +165,7 @@ pub fn need_of(guest: &HostGuest, floor: u32) -> Need {
 /// # Errors
 /// As of [`targets`].
 pub fn targets_of_guests(
-    frames: u32,
-    floor: u32,
+    budget: &Budget,
     guests: &[HostGuest],
     shares: &mut [Share],
     needs: &mut [Need],
@@ -175,8 +174,7 @@ pub fn targets_of_guests(
     // SAFETY: the pointers are of slices with their lengths.
     answer(unsafe {
         vb_guest_targets(
-            frames,
-            floor,
+            budget,
             guests.as_ptr(),
             guests.len(),
             shares.as_mut_ptr(),
@@ -189,12 +187,10 @@ pub fn targets_of_guests(
     })
 }
 
-/// Whether old targets still serve, where each guest may keep `slack` pages fewer free than the floor; `false` where a list has not as
+/// Whether old targets still serve, where each guest may keep fewer pages free than the floor by the slack; `false` where a list has not as
 /// many places as there are guests.
 pub fn targets_serve(
-    frames: u32,
-    floor: u32,
-    slack: u32,
+    budget: &Budget,
     guests: &[HostGuest],
     old: &[u32],
     needs: &mut [Need],
@@ -203,9 +199,7 @@ pub fn targets_serve(
     // SAFETY: the pointers are of slices with their lengths.
     let needed = unsafe {
         vb_needs_guest_targets(
-            frames,
-            floor,
-            slack,
+            budget,
             guests.as_ptr(),
             guests.len(),
             old.as_ptr(),

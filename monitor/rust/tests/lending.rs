@@ -2,7 +2,7 @@
 
 use vb_balloon::lending::{
     arrive, ask, figure, give, grant, leave, need_of, owed, recount, reset, take, targets, targets_by_terms,
-    targets_of_guests, targets_serve, uncount, Contact, HostGuest, Line, Loan, Need, NoTargets, Share, Terms,
+    targets_of_guests, targets_serve, uncount, Budget, Contact, HostGuest, Line, Loan, Need, NoTargets, Share, Terms,
 };
 
 const FRAMES: u32 = 100;
@@ -136,14 +136,16 @@ fn a_guest_counts_and_gives_by_what_is_known_of_it() {
 #[test]
 fn a_host_asks_for_what_is_above_the_most_and_for_what_is_missing() {
     let (mut shares, mut needs, mut set, mut rests) = ([Share::default()], [Need::default()], [7], [0]);
-    assert_eq!(targets_of_guests(80, 12, &[heard()], &mut shares, &mut needs, &mut set), Ok(()));
+    let roomy = Budget { frames: 80, floor: 12, slack: 4 };
+    let scarce = Budget { frames: 40, ..roomy };
+    assert_eq!(targets_of_guests(&roomy, &[heard()], &mut shares, &mut needs, &mut set), Ok(()));
     assert_eq!(set, [20], "10 are above its most, and 10 are missing beside");
     for (old, serves) in [(19, false), (20, true), (47, true), (48, false)] {
-        assert_eq!(targets_serve(80, 12, 4, &[heard()], &[old], &mut needs, &mut rests), serves, "{old}");
+        assert_eq!(targets_serve(&roomy, &[heard()], &[old], &mut needs, &mut rests), serves, "{old}");
     }
-    assert_eq!(targets_of_guests(40, 12, &[heard()], &mut shares, &mut needs, &mut set), Err(NoTargets::Short(17)));
+    assert_eq!(targets_of_guests(&scarce, &[heard()], &mut shares, &mut needs, &mut set), Err(NoTargets::Short(17)));
     assert_eq!(set, [43]);
-    assert_eq!(targets_of_guests(80, 12, &[heard()], &mut [], &mut needs, &mut set), Err(NoTargets::OtherLength));
-    assert!(!targets_serve(80, 12, 4, &[heard()], &[20], &mut needs, &mut []), "a room too few");
+    assert_eq!(targets_of_guests(&roomy, &[heard()], &mut [], &mut needs, &mut set), Err(NoTargets::OtherLength));
+    assert!(!targets_serve(&roomy, &[heard()], &[20], &mut needs, &mut []), "a room too few");
     assert_eq!(set, [43]);
 }

@@ -1,10 +1,11 @@
 """The configuration file of a host: what it says is done, each key that is wrong is named with its line, and then the old one stays."""
 
 import os
+import re
 import signal
 
 import pytest
-from hosts import Host, eventually, limit_from_now
+from hosts import ROOT, Host, eventually, limit_from_now
 
 MIB = 1 << 20
 
@@ -67,6 +68,7 @@ WRONG = (
     ("[guest web-1]", "[guest web.1]\nleast = 9M", "line 17: guest web.1: a guest's name has 1 to 31 letters, digits, - and _"),
     ("[log]", "[status]\nmode = 8\n[log]", "line 14: mode: an octal mode, as 0660"),
     ("[log]", "[status]\nsocket = x\n[log]", "line 14: socket: a path from / on, of 127 bytes at most"),
+    ("[log]", "[status]\ngroup = no-such-group\n[log]", "line 14: group: a group of this machine"),
     ("[host]", "[hosts]", "line 2: the sections are [host], [control], [status], [log] and [guest NAME]"),
     ("[host]", "", "line 3: folder: a key comes after its section"),
     ("[host]", "[host", "line 2: the sections are [host], [control], [status], [log] and [guest NAME]"),
@@ -117,6 +119,18 @@ def configured(program, folder, file):
     it.lines.next(limit_from_now())
     yield it
     assert it.end() == 0, it.said()
+
+
+def test_each_key_is_wrong_once(folder):
+    with open(f"{ROOT}/monitor/backends/service/config.c", encoding="utf-8") as file:
+        keys = set(re.findall(r'(?m)^ +\{"(\w+)", "(\w+)", WORD_', file.read()))
+    wrong = set()
+    for old, new, said in WRONG:
+        line = re.match(r"line (\d+): (\w+): ", said)
+        if line:
+            section = "".join(it for it in filled(folder, old, new).splitlines()[: int(line[1])] if it.startswith("["))
+            wrong.add((re.findall(r"\[(\w+)", section or "[none")[-1], line[2]))
+    assert len(keys) == 18 and keys <= wrong, keys - wrong
 
 
 def test_what_the_file_says_is_done(configured, folder):

@@ -11,11 +11,15 @@ import urllib.parse
 import urllib.request
 
 import pytest
-from bigvasta.plan import reading
+from bigvasta.plan import lending, reading
 from hosts import CLIENT, ROOT, bigvasta, eventually
+from vhost_client import DEFLATE, INFLATE, REGIONS
 
 RULES = os.path.join(ROOT, "packaging", "prometheus")
 PAGE, MIB = 4096, 1 << 20
+
+# Pages that a driver gives: of its second region, which has no rings.
+GIVEN = [REGIONS[1][0] // PAGE + it for it in range(20)]
 
 pytestmark = pytest.mark.skipif(not shutil.which("promtool"), reason="promtool isn't there: apt-get install prometheus")
 
@@ -165,35 +169,45 @@ def test_a_real_prometheus_scrapes_and_its_alerts_fire(host, arrive, prometheus)
     host.ask("budget", bytes=480 * MIB)
     eventually(lambda: alerts(prometheus) == set(), lambda: alerts(prometheus))
     guest.stop()
-    if eventually(lambda: not host.guest("web-1")["answers"]) and host.guest("web-1")["silent"] > 0:
-        eventually(lambda: alerts(prometheus) == {("BigvastaGuestSilent", "web-1")}, lambda: alerts(prometheus))
+    silent = ("BigvastaGuestSilent", "web-1")
+    eventually(lambda: alerts(prometheus) == {silent}, lambda: alerts(prometheus))
+    # It takes pages out of its balloon that the host wants there.
+    guest.client.post_pages(INFLATE, GIVEN)
+    eventually(lambda: host.guest("web-1")["ballooned"] == len(GIVEN) * PAGE)
+    host.ask("guest", name="web-1", target=len(GIVEN) * PAGE)
+    guest.client.post_pages(DEFLATE, GIVEN[:10])
+    eventually(lambda: alerts(prometheus) == {silent, ("BigvastaGuestUncooperative", "web-1")}, lambda: (alerts(prometheus), host.guest("web-1")))
     # The host goes.
     assert host.end() == 0
     eventually(lambda: ("BigvastaAway", "") in alerts(prometheus), lambda: alerts(prometheus))
 
 
-def query_of_the_page():
-    """Returns the query that docs/PLANNING.md has for a day."""
+def queries_of_the_page():
+    """Returns the queries that docs/PLANNING.md has for a day, and for what a host did in it."""
     with open(os.path.join(ROOT, "docs", "PLANNING.md"), encoding="utf-8") as page:
-        return re.search(r"'query=(.*?)'", page.read())[1]
+        return re.findall(r"'query=(.*?)'", page.read())
 
 
-def test_a_day_that_the_planner_reads(host, arrive, prometheus, tmp_path):
+def test_days_that_the_planner_reads(host, arrive, prometheus, tmp_path):
     """A guest, and a client that has handed over no memory yet, whose size is 0."""
-    arrive("web-1")
+    day, lending_day = queries_of_the_page()
+    arrive("web-1", strict=True)
     eventually(lambda: host.guest("web-1")["answers"])
     coming = socket.socket(socket.AF_UNIX)
     coming.connect(host.ask("add", name="web-2")["guest"]["socket"])
     eventually(lambda: get(prometheus, "/api/v1/query?query=bigvasta_guest_memory_bytes==0").count("web-2"))
     begin = time.time()
 
-    def answer():
-        words = urllib.parse.urlencode({"query": query_of_the_page(), "step": 1, "start": begin, "end": time.time()})
+    def answer(query):
+        words = urllib.parse.urlencode({"query": query, "step": 1, "start": begin, "end": time.time()})
         text = get(prometheus, f"/api/v1/query_range?{words}")
         return text if len(json.loads(text)["data"]["result"][0]["values"]) > 1 else None
 
-    (tmp_path / "day.json").write_text(eventually(answer))
+    (tmp_path / "day.json").write_text(eventually(lambda: answer(day)))
     unused = host.guest("web-1")["available"] + host.guest("web-1")["ballooned"]
     found = [(it.name, it.pages, it.uses[-1].pages) for it in reading.read(str(tmp_path / "day.json")).guests]
     assert found == [("web-1", 128, 128 - unused // PAGE)]
+    (tmp_path / "lending.json").write_text(eventually(lambda: answer(lending_day)))
+    for moment in lending.read_lending(str(tmp_path / "lending.json")):
+        assert (moment.frames, moment.guests["web-1"]) == (480 * MIB // PAGE, lending.Look(128, 128, 0, 128, 0.0))
     coming.close()

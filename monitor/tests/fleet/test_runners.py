@@ -5,7 +5,9 @@ import io
 import os
 import pty
 import re
+import socket
 import subprocess
+import threading
 import time
 
 import pytest
@@ -81,8 +83,35 @@ SMALL = ("--fleet", "2", "--budget", "4G", "--make", "4", "--hours", "1")
 def test_a_scheduler_that_is_not_there(shared):
     begin, port = time.monotonic(), free_port()
     said = run(*SMALL, "--library", shared, "--scheduler", f"tcp://127.0.0.1:{port}", status=3)
-    assert said == f"bigvasta: --scheduler: no scheduler answers at tcp://127.0.0.1:{port}\n"
-    assert time.monotonic() - begin < 40
+    assert said == f"bigvasta: --scheduler: nobody answers at tcp://127.0.0.1:{port}\n"
+    assert time.monotonic() - begin < 20
+
+
+# What somebody at the address of a scheduler says to each connection: nothing, or what is nothing of Dask's.
+STRANGERS = {"mute": b"", "speaks otherwise": b"HTTP/1.1 400 Bad Request\r\n\r\n" * 10}
+
+
+@distributed
+@pytest.mark.parametrize("words", STRANGERS.values(), ids=list(STRANGERS))
+def test_somebody_who_is_no_scheduler(shared, words):
+    begin = time.monotonic()
+    with socket.create_server(("127.0.0.1", 0)) as server:
+        threading.Thread(target=take_all, args=(server, words), daemon=True).start()
+        address = f"tcp://127.0.0.1:{server.getsockname()[1]}"
+        said = run(*SMALL, "--library", shared, "--scheduler", address, status=3)
+    assert said == f"bigvasta: --scheduler: who answers at {address} doesn't speak as a Dask scheduler, in 10 s\n"
+    assert time.monotonic() - begin < 30
+
+
+def take_all(server, words):
+    """Takes each connection, and says these words there."""
+    here = []
+    while True:
+        try:
+            here.append(server.accept()[0])
+            here[-1].sendall(words)
+        except OSError:
+            return
 
 
 @distributed

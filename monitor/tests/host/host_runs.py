@@ -1,5 +1,5 @@
-"""The runs of a host that lends several Linux guests more memory than it has, under User Mode Linux, and of such a host with clients
-that aren't Linux. The runs:
+"""The runs of a host that lends several Linux guests more memory than it has, and of such a host with clients that aren't Linux. Under
+QEMU there are two guests at a time, with as much of the budget for each. The runs:
 
     lines     command lines, and what the host answers to lines
     spares    what a guest can spare, by its statistics and its balloon, worked out by hand
@@ -55,15 +55,19 @@ DAY, LONGEST_DAY = 40, 160
 # Of this many looks one may be above the budget.
 LOOKS_FOR_ONE = 200
 
+# MiB that a guest with work of 50 MiB uses: a host with as many for each has none for their floors.
+TOO_LITTLE = 90
+
 # Each wrong host, and the run that has to fail for it.
 WRONG_HOSTS = {"1": "rest", "2": "rest", "3": "rest", "4": "rest", "5": "tells", "7": "tells", "8": "marks"}
 
 
 def shift_run(bench, seed):
     """Work that shifts between guests, and fits in sum."""
-    with bench.town(560, ("--events",) if seed == 3 else ()) as town:
-        town.settle_in(names(4), MEMORY)
-        town.live(DAY, seed, 560 - linux_host.LEFT * 4)
+    guests, budget = bench.crowd(4, 560)
+    with bench.town(budget, ("--events",) if seed == 3 else ()) as town:
+        town.settle_in(guests, MEMORY)
+        town.live(DAY, seed, budget - linux_host.LEFT * len(guests))
         finish(town)
         above, looks, most = town.above(), len(town.samples), growth(town.samples, max)
         demand(looks >= LOOKS_FOR_ONE, f"only {looks} looks")
@@ -71,23 +75,24 @@ def shift_run(bench, seed):
         demand(max(above, default=0) <= most, f"{max(above, default=0):.1f} MiB above the budget, and a guest grew by {most:.1f}")
         demand(pages_moved(town) > 0, "no page moved")
         peak = max(sum(it.held) for it in town.samples)
-        return f"peak {peak:.0f} of 560 MiB, {len(above)} of {looks} looks above, {pages_moved(town)} pages moved"
+        return f"peak {peak:.0f} of {budget} MiB, {len(above)} of {looks} looks above, {pages_moved(town)} pages moved"
 
 
 def greedy_run(bench):
     """Work that wants more than there is."""
-    with bench.town(560) as town:
-        town.settle_in(names(4), MEMORY)
+    guests, budget = bench.crowd(4, 560)
+    with bench.town(budget) as town:
+        town.settle_in(guests, MEMORY)
         town.live(DAY, "greedy")
         most, excess = growth(town.samples), 0.0
         for number, it in enumerate(town.samples):
             before = [other.short for other in town.samples[: number + 1] if it.seconds - other.seconds <= 2 * window(it)]
-            over = sum(it.held) - 560
+            over = sum(it.held) - budget
             excess = max(excess, over)
             demand(over <= max(before) + most, f"{over:.1f} MiB above the budget, short by {max(before):.1f}, growth {most:.1f}")
         shorts = town.host.counters()["shorts"]
         demand(shorts > 0, "the host was never short")
-        ended = lambda: town.host.counters()["short"] == 0 and sum(town.sample().held) <= 560
+        ended = lambda: town.host.counters()["short"] == 0 and sum(town.sample().held) <= budget
         eventually(ended, lambda: f"the work has ended, and there is {town.host.counters()}")
         finish(town)
         short = max(it.short for it in town.samples)
@@ -97,23 +102,25 @@ def greedy_run(bench):
 
 def bare_run(bench):
     """The first day of `shift`, without balloons: no target, no report."""
-    with bench.town(4 * MEMORY, ("--features", "100000000")) as town:
-        town.settle_in(names(4), MEMORY)
+    guests, budget = bench.crowd(4, 560)
+    with bench.town(len(guests) * MEMORY, ("--features", "100000000")) as town:
+        town.settle_in(guests, MEMORY)
         # It ends where there is enough to see; a machine that is busy takes longer.
-        town.live(LONGEST_DAY, 1, 560 - linux_host.LEFT * 4, lambda it: sum(it.held) > 600 and town.ended.set())
+        enough = budget * 15 // 14
+        town.live(LONGEST_DAY, 1, budget - linux_host.LEFT * len(guests), lambda it: sum(it.held) > enough and town.ended.set())
         finish(town)
         peak = max(sum(it.held) for it in town.samples)
-        demand(peak > 560, f"without balloons the host holds {peak:.0f} MiB: so the test shows nothing")
-        return f"peak {peak:.0f} of 560 MiB"
+        demand(peak > budget, f"without balloons the host holds {peak:.0f} MiB: so the test shows nothing")
+        return f"peak {peak:.0f} of {budget} MiB"
 
 
-def want_a_little(town):
+def want_a_little(town, budget):
     """A guest whose balloon has all that it could spare needs less than its floor: it gets it, and doesn't take it itself."""
     seen = town.host.guests()
     member = max(town.members, key=lambda it: seen[it.name]["target"])
     before = seen[member.name]
     member.fill("little", 8)
-    await_rest(town, 480)
+    await_rest(town, budget)
     after = town.host.guests()[member.name]
     demand(after["target"] < before["target"], f"{member.name} is asked for as much as before: {after['target']} pages")
     demand(after["taken"] == before["taken"], f"{member.name} has taken {after['taken'] - before['taken']} pages itself")
@@ -121,18 +128,19 @@ def want_a_little(town):
 
 def rest_run(bench):
     """What the targets are once nothing moves, and once a guest has gone."""
-    with bench.town(480) as town:
-        town.settle_in(names(3), MEMORY)
+    guests, budget = bench.crowd(3, 480)
+    with bench.town(budget) as town:
+        town.settle_in(guests, MEMORY)
         town.members[0].fill("work", 120)
-        await_rest(town, 480, limit=WRONG_LIMIT if bench.wrong else REST_LIMIT)
+        await_rest(town, budget, limit=WRONG_LIMIT if bench.wrong else REST_LIMIT)
         check_spares(town)
-        want_a_little(town)
-        town.members[2].kill()
+        want_a_little(town, budget)
+        town.members[-1].kill()
         left = lambda: sum(it["target"] for it in town.host.guests().values())
-        lack = sum(it["pages"] for it in list(town.host.guests().values())[:2]) - 480 * PAGES_PER_MIB
+        lack = sum(it["pages"] for it in list(town.host.guests().values())[:-1]) - budget * PAGES_PER_MIB
         eventually(lambda: left() == max(0, lack), lambda: f"{left()} pages are asked for, and {lack} are missing", 5)
-        town.members[1].fill("work", 150)
-        await_rest(town, 480)
+        town.members[-2].fill("work", 150)
+        await_rest(town, budget)
         check_spares(town)
         finish(town)
         return f"{town.host.counters()['decisions']} decisions"
@@ -154,17 +162,19 @@ def kill_in_mid_inflate(town):
 
 def lives_run(bench):
     """A guest that is killed in mid-inflate and comes back, and one that doesn't answer for a while."""
-    with bench.town(480) as town:
-        town.settle_in(names(3), MEMORY)
-        await_rest(town, 480)
+    guests, budget = bench.crowd(3, 480)
+    with bench.town(budget) as town:
+        town.settle_in(guests, MEMORY)
+        await_rest(town, budget)
         victim = kill_in_mid_inflate(town)
         others = [it for it in town.members if it is not victim]
-        await_rest(town, 480)
+        await_rest(town, budget)
         for it in others:
             it.fill("work", 100), it.drop("work")
         victim.boot()
-        await_rest(town, 480)
+        await_rest(town, budget)
         silence(town, victim, others)
+        await_rest(town, budget)
         finish(town)
         return f"{town.host.counters()['admitted']} guests came, {town.host.counters()['gone']} went"
 
@@ -181,16 +191,16 @@ def silence(town, victim, others):
     finally:
         victim.guest.process.send_signal(signal.SIGCONT)
     eventually(lambda: town.host.guests()[victim.name]["answers"], "a guest that goes on doesn't answer", 10)
-    await_rest(town, 480)
 
 
 def full_run(bench):
     """A guest for whom there is no room is refused until another one goes; so is a budget that is too small told."""
-    with bench.town(480) as town:
-        town.settle_in(names(3), MEMORY)
+    guests, budget = bench.crowd(3, 480)
+    with bench.town(budget) as town:
+        town.settle_in(guests, MEMORY)
         for it in town.members:
             it.fill("work", 50)
-        await_rest(town, 480)
+        await_rest(town, budget)
         try:
             town.settle_in(["late"], MEMORY)
             raise AssertionError
@@ -201,17 +211,19 @@ def full_run(bench):
         late = town.members[-1]
         late.kill()
         demand(town.host.counters()["refused"] == 1, f"nobody was refused: {town.host.counters()}")
-        town.host.demand("budget 270")
-        eventually(lambda: town.host.counters()["short"] > 0, "270 MiB suffice for three guests who use 90 each, with their floors", 5)
+        little = TOO_LITTLE * len(guests)
+        town.host.demand(f"budget {little}")
+        eventually(lambda: town.host.counters()["short"] > 0, f"{little} MiB suffice for guests who use as much, and have their floors", 5)
         short = town.host.counters()["short"] // PAGES_PER_MIB
-        town.host.demand("budget 480")
+        town.host.demand(f"budget {budget}")
         eventually(lambda: town.host.counters()["short"] == 0, "the host stays short", 5)
         town.members[0].kill()
         late.boot()
-        town.members[1].drop("work"), town.members[2].drop("work")
-        await_rest(town, 480)
+        for it in town.members[1:-1]:
+            it.drop("work")
+        await_rest(town, budget)
         finish(town)
-        return f"refused, and let in once a guest had gone; short by {short} MiB of 270"
+        return f"refused, and let in once a guest had gone; short by {short} MiB of {little}"
 
 
 def trash_run(bench):
@@ -251,6 +263,11 @@ class Bench:
         self.vmm = vmm_of(vmm, folder)
         self.vmm.demand_room(4 * MEMORY)
         self.programs = linux_host.Programs(folder, linux_kit.core_of())
+
+    def crowd(self, count, budget):
+        """Returns the names of `count` guests, and their budget; where the VMM has fewer at a time, of those, with as much for each."""
+        few = min(count, self.vmm.most_guests)
+        return names(few), budget * few // count
 
     def town(self, budget, options=(), checked=False):
         """Returns a host without guests."""

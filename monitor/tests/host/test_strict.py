@@ -5,8 +5,9 @@ import threading
 import time
 
 import pytest
+from bigvasta.connection import Connection
 from tenants import FREE, PAGES, PAGES_OF_ALL, eventually, process_of
-from vhost_client import ADD_MEM_REG, DEFLATE, OFFERED, Client
+from vhost_client import ADD_MEM_REG, DEFLATE, OFFERED, PAGE, Client
 
 STRICT = ("--floor", "0", "--period", "100", "--step", "0", "--strict")
 
@@ -121,6 +122,33 @@ def test_a_deflate_waits_until_another_guest_gives(two):
     used(a, DEFLATE, 2)
     lender.become("a", waits="nothing", ballooned=35, lent=93)
     client.leave()
+
+
+def test_what_a_target_lets_go_is_lent_before_it_is_asked_for(two, come):
+    """A guest that deflates since it was told to doesn't wait for others that asked before: it couldn't give any pages meanwhile."""
+    lender, (a, b) = two
+    others = []
+    comes = Later(lambda: others.append(come(lender, "c", {FREE: 32})))
+    eventually(lambda: [lender.guests()[it]["target"] for it in "ab"] == [100, 28])
+    a.give(GIVEN[:100]), b.give(GIVEN[:28])
+    comes.ends()
+    # With 16 pages as a floor a can spare 84, b 28 and c 16: just what is missing. For the 16 that a is to take there is no room yet.
+    a.figures[FREE], b.figures[FREE] = 0, 16
+    with Connection(f"{lender.folder}/.control") as it:
+        it.ask("floor", bytes=16 * PAGE)
+    eventually(lambda: [it["target"] for it in lender.guests().values()] == [84, 28, 16], lender.guests)
+    lender.become("a", lent=28, ballooned=100)
+    others[0].give(GIVEN[:16])
+    lender.become("a", lent=44, ballooned=100)
+    b.take(GIVEN[:10])
+    lender.become("b", waits="deflate", lent=100)
+    a.take(GIVEN[:16])
+    used(a, DEFLATE, 1)
+    lender.become("a", waits="nothing", ballooned=84, lent=44)
+    assert (waits_of(lender, "b"), b.client.used(DEFLATE)[0], lent(lender)) == ("deflate", 0, 256)
+    others[0].give(GIVEN[16:26])
+    used(b, DEFLATE, 1)
+    lender.become("b", waits="nothing", ballooned=18, lent=110)
 
 
 def test_inflates_are_served_while_a_deflate_is_held(two):

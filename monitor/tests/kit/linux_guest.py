@@ -15,6 +15,9 @@ PAGES_PER_MIB = 256
 # Seconds that a boot, an answer of the backend, and a line of the guest may take. The machine may have other work.
 BOOT_LIMIT, ANSWER_LIMIT, LINE_LIMIT = 300, 30, 300
 
+# Seconds of a boot where limits are what they say; a guest whose boot takes longer has more time for the rest, too.
+USUAL_BOOT = 10
+
 
 class Lines:
     """Lines that a program prints, each awaited for a limited time."""
@@ -225,7 +228,7 @@ class Machine:
 
     def __init__(self, vmm, program, folder, shape, options=(), environment=None):
         os.makedirs(folder, exist_ok=True)
-        self.vmm, self.memory, self.guest, self.control = vmm, shape.memory, None, None
+        self.vmm, self.shape, self.memory, self.guest, self.control = vmm, shape, shape.memory, None, None
         (word, files), (guest_word, guest_files) = vmm.connect(folder)
         try:
             words = vmm.words(folder, shape, guest_word)
@@ -236,10 +239,12 @@ class Machine:
                 it.close()
 
     def boot(self, words, files, folder):
-        """Starts the guest, and waits for its driver."""
+        """Starts the guest, and waits for its driver; notes how slow the machine is."""
+        begin = time.monotonic()
         try:
             self.guest = Guest(words, self.vmm.environment(), files, folder, self.memory)
             self.guest.boot()
+            self.patience = max(self.vmm.patience, (time.monotonic() - begin) / USUAL_BOOT)
             self.control = self.vmm.control(folder)
         except BaseException as fault:
             self.__exit__(None, fault, None)
@@ -261,8 +266,8 @@ class Machine:
             raise Fault(f"the backend answers a target of {mib} MiB: {answer}")
 
     def end_of(self, limit):
-        """Returns when a wait of this limit ends, by the monotonic clock: under emulation it is longer."""
-        return time.monotonic() + limit * self.vmm.patience
+        """Returns when a wait of this limit ends, by the monotonic clock: it is longer under emulation, and where the boot was slow."""
+        return time.monotonic() + limit * self.patience
 
     def settle(self, limit):
         """Waits until `actual` is the target; returns the seconds, or None where the limit came first."""

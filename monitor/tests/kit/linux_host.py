@@ -211,8 +211,8 @@ class Ledger:
 
 
 class Sample(NamedTuple):
-    """What the host holds at one time, in MiB, what it lends and asks for, what each guest waits for, if it waits, and the seconds for which
-    one of them hasn't told its statistics."""
+    """What the host holds at one time, in MiB, what it lends and asks for, what each guest waits for, if it waits, the seconds for which
+    one of them hasn't told its statistics, and how much each guest is still to give."""
 
     seconds: float
     held: tuple
@@ -222,6 +222,7 @@ class Sample(NamedTuple):
     loans: tuple
     waits: tuple
     silent: float
+    owes: tuple
 
 
 class Town:
@@ -284,7 +285,8 @@ class Town:
         targets, spare, loans = (tuple(seen[it.name][name] / MIB for it in self.members) for name in ("target", "spare", "loan"))
         waits = tuple(seen[it.name]["waits_for"].replace("nothing", "") for it in self.members)
         silent = max((seen[it.name]["silent"] for it in self.members), default=0)
-        return Sample(time.monotonic() - self.begin, held, targets, spare, status["host"]["missing"] / MIB, loans, waits, silent)
+        owes = tuple(max(seen[it.name]["target"] - seen[it.name]["ballooned"], 0) / MIB for it in self.members)
+        return Sample(time.monotonic() - self.begin, held, targets, spare, status["host"]["missing"] / MIB, loans, waits, silent, owes)
 
     def watch(self, seconds, every=None):
         """Takes samples for `seconds` seconds; calls `every` with one each second."""

@@ -23,21 +23,26 @@ FORMS = {"messages": (), "events": ("--events",)}
 # KVM answers this request by this version (linux/kvm.h).
 KVM_GET_API_VERSION, KVM_API_VERSION = 0xAE00, 12
 
-# How many times as long as under User Mode Linux a wait may take under emulation, on a machine that has other work.
+# How many times as long as under User Mode Linux a wait may take under emulation, at least, on a machine that has other work.
 EMULATED = 5
+
+# The guests that are emulated beside each other in a run of a host: each takes a processor.
+MOST_EMULATED = 2
 
 # The last QEMU whose PCI proxy works.
 LAST_PROXY = 10
 
 
 class Shape(NamedTuple):
-    """What a guest is started with: its MiB, its processors, more words of its kernel's command line, and the MiB that may be plugged
-    in besides."""
+    """What a guest is started with: its MiB, its processors, more words of its kernel's command line, the MiB that may be plugged
+    in besides, and what QEMU is told of its device's queues: how many there are, and the descriptors of each."""
 
     memory: int
     processors: int = 1
     kernel_words: tuple = ()
     pluggable: int = 0
+    queues: int = 4
+    queue_size: int = 64
 
 
 def demand_shared_room(memory):
@@ -48,13 +53,21 @@ def demand_shared_room(memory):
         raise Missing(f"/dev/shm has {free} MiB free, and {memory} are wanted for guests: mount -o remount,size={memory + 64}M /dev/shm")
 
 
+def takes_any_kernel():
+    """Whether KVM has a processor with virtualization under it: one without takes only kernels that are made for it."""
+    with open("/proc/cpuinfo", encoding="utf-8") as file:
+        flags = next((it.split() for it in file if it.startswith("flags")), ())
+    return "vmx" in flags or "svm" in flags
+
+
 def accelerator():
-    """Returns QEMU's word for KVM where the machine's answers, else for its own emulation."""
+    """Returns QEMU's word for KVM where the machine's answers and takes any kernel, else for its own emulation."""
     try:
         with open("/dev/kvm", "rb+", buffering=0) as device:
-            return "kvm" if fcntl.ioctl(device, KVM_GET_API_VERSION) == KVM_API_VERSION else "tcg"
+            answers = fcntl.ioctl(device, KVM_GET_API_VERSION) == KVM_API_VERSION
     except OSError:
         return "tcg"
+    return "kvm" if answers and takes_any_kernel() else "tcg"
 
 
 class OverSocket:
@@ -71,7 +84,7 @@ class OverSocket:
 class Uml(OverSocket):
     """User Mode Linux: a kernel that is a process."""
 
-    forms, has_control, patience = ("messages", "events"), False, 1
+    forms, has_control, patience, most_guests = ("messages", "events"), False, 1, 64
 
     def __init__(self, folder, suite=None):
         self.root, with_libc = fetch_uml(suite), os.path.join(os.path.dirname(__file__), "linux_with_libc.py")
@@ -104,7 +117,7 @@ class Emulator:
     """QEMU, and a machine whose device isn't said. A class of it says which devices do (`devices`), whose QEMU is fetched where the
     one that is installed has none of them (`debian`), and what its kernel is told besides (`kernel_words`)."""
 
-    patience = EMULATED
+    patience, most_guests = EMULATED, MOST_EMULATED
 
     def __init__(self, folder, suite=None):
         self.program, self.device = self.find()
@@ -169,20 +182,21 @@ class Qemu(OverSocket, Emulator):
     # On a busy machine a timer comes too late for the kernel's check of it.
     kernel_words = ("console=ttyS0", "no_timer_check", "memhp_default_state=online")
 
-    # What the generic device is told of a balloon.
-    OF_BALLOON = {"virtio-id": 5, "num_vqs": 4, "config_size": 16}
+    # What the generic device is told of a balloon, beside its queues.
+    OF_BALLOON = {"virtio-id": 5, "config_size": 16}
 
     def accelerator(self):
         """Returns QEMU's word for how it runs the guest."""
         return accelerator()
 
-    def device_words(self):
+    def device_words(self, shape):
         """Returns the device by its names, as QEMU's command line and its control socket have them."""
-        return {"driver": self.device, "id": "balloon", "bus": "port1", "chardev": "device", **self.OF_BALLOON}
+        queues = {"num_vqs": shape.queues, "vq_size": shape.queue_size}
+        return {"driver": self.device, "id": "balloon", "bus": "port1", "chardev": "device", **self.OF_BALLOON, **queues}
 
     def words(self, folder, shape, path):
         """Returns the guest's command; the device is in a slot from which it can be unplugged."""
-        device = ",".join(f"{name}={it}" for name, it in self.device_words().items()).removeprefix("driver=")
+        device = ",".join(f"{name}={it}" for name, it in self.device_words(shape).items()).removeprefix("driver=")
         return [
             *self.machine(shape), "-chardev", f"socket,id=device,path={path}", "-device", "pcie-root-port,id=port1,chassis=1,slot=1",
             "-device", device, "-qmp", f"unix:{folder}/qmp,server=on,wait=off",

@@ -5,7 +5,7 @@ import time
 from linux_guest import PAGES_PER_MIB
 from linux_kit import demand
 from linux_runs import (
-    LEFT_FREE, TARGET_LIMIT, Run, audit, churn_run, fill_memory, finish, inflate_filled, keep, settle,
+    LEFT_FREE, TARGET_LIMIT, Run, audit, churn_run, fill_memory, finish, free_and_report, inflate_filled, keep, settle,
 )
 
 # Stops of the run `pause`; the longest rest before one, in seconds.
@@ -14,8 +14,16 @@ STOPS, MOST_REST = 12, 0.15
 # Targets of the run `written`, and the pages of a request of Linux, after each of which it writes `actual`.
 WRITTEN, REQUEST = 8, 256
 
+# Tenths of what is free that are in the balloon when the device of the run `plug` is unplugged.
+PLUGGED = (3, 5, 1, 4, 0)
+
+MIB = 1 << 20
+
 # MiB of memory that is plugged in: a block of Linux.
 DIMM = 128
+
+# The descriptors of the largest queue.
+MOST_DESCRIPTORS = 256
 
 # MiB of a guest whose memory goes on above 4 GiB, and those of its balloon.
 LARGE, MOST = 4096, 3584
@@ -89,22 +97,34 @@ def written_run(machine, chance):
     return f"{samples} samples"
 
 
+def plug_again(machine):
+    """The device is unplugged, and the driver takes all pages out of its balloon; then it is plugged over the same connection."""
+    machine.control.do("device_del", id="balloon")
+    machine.control.await_event("DEVICE_DELETED", device="balloon")
+    gone = lambda now: now["status"] == 0 and now["actual"] == 0 and now["inflated"] == now["deflated"]
+    become(machine, "after the device was unplugged", gone)
+    machine.control.do("device_add", **machine.vmm.device_words(machine.shape))
+
+
 def plug_run(machine, _):
-    """The device is unplugged with pages in the balloon, and plugged again over the same connection."""
+    """With each of some balloons the machine is stopped and goes on, and the device is unplugged and plugged again: the balloon is
+    what it was, and the guest has as much less memory by its own word."""
     kept = keep(machine, "keep", machine.memory // 6)
-    mib = machine.memory // 4
-    inflate_filled(machine, mib)
-    for _ in range(3):
-        machine.control.do("device_del", id="balloon")
-        machine.control.await_event("DEVICE_DELETED", device="balloon")
-        gone = lambda now: now["status"] == 0 and now["actual"] == 0 and now["inflated"] == now["deflated"]
-        become(machine, "after the device was unplugged", gone)
-        machine.control.do("device_add", **machine.vmm.device_words())
-        settle(machine, "the balloon of a device that was plugged again")
+    filled = fill_memory(machine)
+    free_and_report(machine, filled)
+    # Pages aren't free for Linux while it reports them.
+    become(machine, "what was filled isn't free again", lambda _: machine.statistics()["free_memory"] > filled * MIB)
+    for mib in (filled * part // 10 for part in PLUGGED):
+        machine.set_target(mib)
+        settle(machine, f"a balloon of {mib} MiB")
+        stop(machine)
+        go_on(machine)
+        plug_again(machine)
+        settle(machine, f"a balloon of {mib} MiB in a device that was plugged again")
         become(machine, "after the device was plugged", lambda now: now["inflated"] - now["deflated"] == mib * PAGES_PER_MIB)
+        free = machine.statistics()["free_memory"] // MIB
+        demand(free < filled + LEFT_FREE * 2 - mib, f"with {mib} MiB of {filled} in the balloon {free} are free")
         audit(machine)
-    machine.set_target(0)
-    settle(machine, "a deflate")
     finish(machine, kept)
 
 
@@ -170,7 +190,9 @@ def large_run(machine, _):
 
 
 MACHINE_RUNS = {
-    "written": Run(written_run), "pause": Run(pause_run), "plug": Run(plug_run), "dimm": Run(dimm_run, guest={"pluggable": DIMM}),
-    "reset": Run(reset_run), "reboot": Run(reboot_run), "pair": Run(churn_run, guest={"processors": 2}),
+    "written": Run(written_run), "pause": Run(pause_run), "dimm": Run(dimm_run, guest={"pluggable": DIMM}),
+    # A queue more than has a kind, as Linux 7.2 asks for.
+    "plug": Run(plug_run, guest={"queues": 5}),
+    "reset": Run(reset_run), "reboot": Run(reboot_run), "pair": Run(churn_run, guest={"processors": 2, "queue_size": MOST_DESCRIPTORS}),
     "large": Run(large_run, sizes=(LARGE,)),
 }

@@ -118,16 +118,27 @@ def test_a_tool_says_so_in_one_line(qemu_of, words):
     assert OLD_QEMU in ran.stderr
 
 
-@pytest.mark.parametrize("answer, word", ((linux_vmms.KVM_API_VERSION, "kvm"), (11, "tcg"), (OSError, "tcg")))
-def test_kvm_where_it_answers(monkeypatch, answer, word):
+# Flags of processors, as /proc/cpuinfo has them.
+OF_INTEL, OF_AMD, OF_NONE = "fpu vmx sse", "fpu svm sse", "fpu hypervisor sse"
+
+
+@pytest.mark.parametrize("answer, flags, word", (
+    (linux_vmms.KVM_API_VERSION, OF_INTEL, "kvm"), (linux_vmms.KVM_API_VERSION, OF_AMD, "kvm"),
+    # Such a KVM ends a kernel that isn't made for it: "emulation failure".
+    (linux_vmms.KVM_API_VERSION, OF_NONE, "tcg"), (linux_vmms.KVM_API_VERSION, "", "tcg"),
+    (11, OF_INTEL, "tcg"), (OSError, OF_INTEL, "tcg"),
+))
+def test_kvm_where_it_answers_and_takes_any_kernel(monkeypatch, tmp_path, answer, flags, word):
     def ioctl(_, request):
         assert request == 0xAE00
         if answer is OSError:
             raise OSError
         return answer
 
-    real = open
-    monkeypatch.setattr("builtins.open", lambda name, *words, **how: real("/dev/null" if name == "/dev/kvm" else name, *words, **how))
+    processor = tmp_path / "cpuinfo"
+    processor.write_text(f"processor\t: 0\nflags\t\t: {flags}\n" if flags else "processor\t: 0\n", encoding="utf-8")
+    real, others = open, {"/dev/kvm": "/dev/null", "/proc/cpuinfo": processor}
+    monkeypatch.setattr("builtins.open", lambda name, *words, **how: real(others.get(name, name), *words, **how))
     monkeypatch.setattr(linux_vmms.fcntl, "ioctl", ioctl)
     assert linux_vmms.accelerator() == word
 

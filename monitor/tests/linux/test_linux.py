@@ -11,11 +11,12 @@ Under QEMU also:
 
     written   at each sample `actual` is what is in the balloon, but for the one request that the driver has posted
     pause     the machine is stopped and goes on, amid inflates and deflates
-    plug      the device is unplugged with pages in the balloon, and plugged again over the same connection
+    plug      with pages in its balloon the machine is stopped, and the device is unplugged, and plugged again over the same connection;
+              it has five queues
     dimm      memory is plugged in, and goes into the balloon
     reset     the machine is reset with pages in the balloon
     reboot    the guest reboots itself with pages in the balloon
-    pair      random targets, with two processors
+    pair      random targets, with two processors, and queues of 256 descriptors
     large     4 GiB, of which the part above the hole below 4 GiB goes into the balloon, too
 
 What is demanded: at each kick, used index and ids are those of what was taken; pages are discarded before their request is used, and

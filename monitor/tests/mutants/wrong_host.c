@@ -15,12 +15,12 @@
 
 enum { EVENLY = 1, NEIGHBOURS, NO_FLOOR, COUNTS_DEAD, OLD_FLOOR = 7 };
 
-VbTargets __real_vb_guest_targets(uint32_t, uint32_t, const VbHostGuest *, size_t, VbShare *, size_t, VbNeed *, size_t, uint32_t *, size_t);
-VbTargets __wrap_vb_guest_targets(uint32_t, uint32_t, const VbHostGuest *, size_t, VbShare *, size_t, VbNeed *, size_t, uint32_t *, size_t);
-uint32_t __real_vb_needs_guest_targets(uint32_t, uint32_t, uint32_t, const VbHostGuest *, size_t, const uint32_t *, size_t, VbNeed *,
-                                       size_t, uint32_t *, size_t);
-uint32_t __wrap_vb_needs_guest_targets(uint32_t, uint32_t, uint32_t, const VbHostGuest *, size_t, const uint32_t *, size_t, VbNeed *,
-                                       size_t, uint32_t *, size_t);
+VbTargets __real_vb_guest_targets(const VbBudget *, const VbHostGuest *, size_t, VbShare *, size_t, VbNeed *, size_t, uint32_t *, size_t);
+VbTargets __wrap_vb_guest_targets(const VbBudget *, const VbHostGuest *, size_t, VbShare *, size_t, VbNeed *, size_t, uint32_t *, size_t);
+uint32_t __real_vb_needs_guest_targets(const VbBudget *, const VbHostGuest *, size_t, const uint32_t *, size_t, VbNeed *, size_t,
+                                       uint32_t *, size_t);
+uint32_t __wrap_vb_needs_guest_targets(const VbBudget *, const VbHostGuest *, size_t, const uint32_t *, size_t, VbNeed *, size_t,
+                                       uint32_t *, size_t);
 VbNeed __real_vb_guest_need(const VbHostGuest *, uint32_t);
 VbNeed __wrap_vb_guest_need(const VbHostGuest *, uint32_t);
 void __real_host_changed(struct host *, enum reason);
@@ -58,12 +58,21 @@ static uint64_t all_pages(const VbHostGuest *guests, size_t count)
     return pages;
 }
 
-VbTargets __wrap_vb_guest_targets(uint32_t frames, uint32_t floor, const VbHostGuest *guests, size_t count, VbShare *shares,
+/* The budget of a host that is wrong. */
+static VbBudget changed(const VbBudget *budget, const VbHostGuest *guests, size_t count)
+{
+    VbBudget other = *budget;
+    other.frames = left_by_dead(all_pages(guests, count), budget->frames);
+    other.floor = floor_of(budget->floor);
+    return other;
+}
+
+VbTargets __wrap_vb_guest_targets(const VbBudget *budget, const VbHostGuest *guests, size_t count, VbShare *shares,
                                   size_t shares_room, VbNeed *needs, size_t needs_room, uint32_t *targets, size_t room)
 {
     uint64_t sum = 0;
-    VbTargets answer = __real_vb_guest_targets(left_by_dead(all_pages(guests, count), frames), floor_of(floor), guests, count, shares,
-                                               shares_room, needs, needs_room, targets, room);
+    VbBudget other = changed(budget, guests, count);
+    VbTargets answer = __real_vb_guest_targets(&other, guests, count, shares, shares_room, needs, needs_room, targets, room);
     if (answer.code != VB_OK || count == 0)
         return answer;
     for (size_t i = 0; i < count; i++)
@@ -78,12 +87,11 @@ VbTargets __wrap_vb_guest_targets(uint32_t frames, uint32_t floor, const VbHostG
     return answer;
 }
 
-uint32_t __wrap_vb_needs_guest_targets(uint32_t frames, uint32_t floor, uint32_t slack, const VbHostGuest *guests, size_t count,
-                                       const uint32_t *old, size_t old_count, VbNeed *needs, size_t needs_room, uint32_t *rests,
-                                       size_t rests_room)
+uint32_t __wrap_vb_needs_guest_targets(const VbBudget *budget, const VbHostGuest *guests, size_t count, const uint32_t *old,
+                                       size_t old_count, VbNeed *needs, size_t needs_room, uint32_t *rests, size_t rests_room)
 {
-    return __real_vb_needs_guest_targets(left_by_dead(all_pages(guests, count), frames), floor_of(floor), slack, guests, count, old,
-                                         old_count, needs, needs_room, rests, rests_room);
+    VbBudget other = changed(budget, guests, count);
+    return __real_vb_needs_guest_targets(&other, guests, count, old, old_count, needs, needs_room, rests, rests_room);
 }
 
 void __wrap_host_changed(struct host *host, enum reason reason)

@@ -77,15 +77,15 @@ def test_an_object(shared, day):
     found = plan(shared, day, "--budgets", "600K")
     assert found["replays"] == [{
         "budget": 614400, "promised": 819200, "guests": 2, "present": 60.0, "waited": 10.0, "waited_share": 1 / 6, "waited_a_day": 14400.0,
-        "asks": 1, "asks_that_waited": 1, "median": 10.0, "p99": 10.0, "worst": 10.0, "worst_guest": "a", "worst_guest_waited": 10.0,
-        "shorts": 1, "short_seconds": 10.0, "short_by": 81920, "moved": 614400, "decisions": 6,
+        "asks": 2, "asks_that_waited": 1, "median": 0.0, "p99": 10.0, "worst": 10.0, "worst_guest": "a", "worst_guest_waited": 10.0,
+        "shorts": 1, "short_seconds": 10.0, "short_by": 81920, "moved": 614400, "decisions": 7,
     }]
 
 
 def test_a_table(shared, day):
     lines = run(day, "--library", shared, "--floor", "0", "--budgets", "600K").splitlines()
     assert lines[0] == "2 guests, 0.8 MiB promised at once, 0.0 hours of guests"
-    assert lines[3].split() == ["0.6", "1.33", "16.667%", "14400.0", "10.0", "10.0", "10.0", "1", "10", "0.1", "0.6"]
+    assert lines[3].split() == ["0.6", "1.33", "16.667%", "14400.0", "0.0", "10.0", "10.0", "1", "10", "0.1", "0.6"]
     assert lines[-1] == "none of these budgets keeps the waits to 60 s a guest and day"
     lines = run(day, "--library", shared, "--floor", "0", "--budgets", "680K..800K", "--steps", "1").splitlines()
     assert lines[-1] == "budget 1M: 0.0 s a guest and day are waited; 1.18 times as much is promised"

@@ -67,7 +67,8 @@ REFUSED = (
     (answer([3]), ": series 1 has no labels, or no values"),
     (answer([{"metric": {}, "values": []}]), ": series 1 has no labels, or no values"),
     (answer([*GOOD, series("a", "bigvasta_guest_free_bytes", 1)]), ": series 4: the metric 'bigvasta_guest_free_bytes' is none of "
-     "bigvasta_guest_memory_bytes, bigvasta_guest_available_bytes, bigvasta_guest_ballooned_bytes"),
+     "bigvasta_guest_memory_bytes, bigvasta_guest_available_bytes, bigvasta_guest_ballooned_bytes, bigvasta_guest_loan_bytes, "
+     "bigvasta_guest_asked_bytes, bigvasta_guest_granted_bytes_total, bigvasta_guest_waiting_seconds, bigvasta_budget_bytes"),
     (answer([series(None, "size", 1)]), ": series 1 has no label guest"),
     (answer(replaced("size", 1, [115, 4096])), ": bigvasta_guest_memory_bytes of a: [115, 4096] is no pair of a time and a value"),
     (answer(replaced("size", 1, [115])), ": bigvasta_guest_memory_bytes of a: [115] is no pair of a time and a value"),

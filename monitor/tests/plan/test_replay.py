@@ -15,14 +15,14 @@ def day_of(**guests):
 
 
 # Of 200 pages 50 are missing. At the start a can spare 90 and b 10, so a gives 50. At 10 a has 20 to spare: all that both can spare
-# is 30, 20 too few. b gives 10; a asks for 30, and 50 + 90 + 30 are more than 150. At 20 b can spare 80, and gives up to 50: a gets its
-# 30, and then the 20 of its last target. On 170 pages a gives 30, and at 10 its target is 20: b gives 10, which a gets at once.
+# is 30, 20 too few. b gives 10; a asks for the 30 that it lacks, and 50 + 90 + 30 are more than 150. At 20 b can spare 80, and gives up to 50: a
+# gets its 30, and then at once the 20 that its last target lets go. On 170 pages a gives 30, and at 10 its target is 20: b gives 10, which a gets at once.
 TWO = day_of(a=((0, 10), (10, 80), 30), b=((0, 90), (20, 20), 30))
 
 # Of 300 pages 100 are missing: a gives 60, b 40. At 10 a is reset, and asks for 60; b can spare 50, and c 20: 30 too few. b gives 10 and c 20:
 # 40 + 50 + 80 are lent. At 20 b can spare 30, and asks for 20, for which there would be room, after a in the line. At 30 c can spare
-# 80, and gives 60: a gets its 60, b its 20, and then 10 more, as 80 and 20 are what is missing. After the grants targets are decided anew: a can spare
-# most, and gives its 100; b gets its last 20, and c its 80.
+# 80, and gives 60: a gets its 60, b its 20. After the grants targets are decided anew: a can spare most, and gives its 100; b takes its 30, and c
+# its 80, for which there is room.
 RESET = day_of(a=((0, 40), (10, 0), 40), b=((0, 50), (20, 70), 40), c=((0, 80), (30, 20), 40))
 
 # b comes at 10 and asks for its 100; a can spare 20. At 30 a can spare 60, and gives up to 50.
@@ -35,7 +35,7 @@ REFUSED = day_of(a=((0, 80), 50), b=((10, 50), 50))
 # gets before c: 60 + 60 + 100 are more than 150.
 OVERTAKEN = day_of(a=((0, 10), (20, 60), 30), b=((0, 60), 30), c=((10, 50), 30))
 
-# a gives 50. At 10 it has 5 to spare, b 40: 5 too few; b gives 40, a asks for 45. At 20 b goes: a gets them, and then its last 5.
+# a gives 50. At 10 it has 5 to spare, b 40: 5 too few; b gives 40, a asks for 45. At 20 b goes: a gets them, and takes its last 5.
 LEAVING = day_of(a=((0, 10), (10, 95), 30), b=((0, 60), 20))
 
 # a gives all 50; b goes, and then nothing is missing: a gets them back.
@@ -50,13 +50,13 @@ FULL = day_of(a=((0, 50), (10, 0), 20))
 
 # What is expected: waits of each ask, seconds waited and present, how often short, for how long, by how much, pages moved.
 WORKED_OUT = {
-    "two guests": (TWO, Terms(150), (10.0,), 10.0, 60.0, 1, 10.0, 20, 150),
+    "two guests": (TWO, Terms(150), (10.0, 0.0), 10.0, 60.0, 1, 10.0, 20, 150),
     "two guests on all that they need at once": (TWO, Terms(170), (0.0,), 0.0, 60.0, 0, 0.0, 0, 50),
     "a deflate waits for a reset": (RESET, Terms(200), (20.0, 10.0, 0.0, 0.0), 30.0, 120.0, 1, 20.0, 50, 480),
     "a newcomer waits": (NEWCOMER, Terms(150), (20.0,), 20.0, 90.0, 1, 20.0, 30, 50),
     "a deflate comes before a newcomer": (OVERTAKEN, Terms(150), (0.0, 20.0), 20.0, 80.0, 1, 20.0, 70, 180),
     "a budget that is short": (REFUSED, Terms(150), (40.0,), 40.0, 90.0, 1, 40.0, 30, 20),
-    "room by a guest that goes": (LEAVING, Terms(150), (10.0,), 10.0, 50.0, 1, 10.0, 5, 140),
+    "room by a guest that goes": (LEAVING, Terms(150), (10.0, 0.0), 10.0, 50.0, 1, 10.0, 5, 140),
     "nothing is missing once a guest has gone": (ALONE, Terms(150), (0.0,), 0.0, 50.0, 0, 0.0, 0, 100),
     "a floor that lacks a little": (SLACK, Terms(150, 16), (0.0,), 0.0, 80.0, 0, 0.0, 0, 56),
     "a reset that has all": (FULL, Terms(100), (), 0.0, 20.0, 0, 0.0, 0, 0),

@@ -1,6 +1,5 @@
-use Rattle.std.proofs.Common.{arith, length, sym, subst, ◌<◌, ◌≤◌, ◌+◌, ◌-◌, ◌*◌}
-use Rattle.vb_monitor.specs.declared.{room.TheConstants.MAX_RUNS, step.Step.Step}
-use Rattle.vb_monitor.specs.Left.{left, of_chains}
+use Rattle.std.proofs.Common.{arith, length, ◌<◌}
+use Rattle.vb_monitor.specs.declared.{room.TheConstants.MAX_RUNS}
 use Rattle.vb_monitor.proofs.LeftLemmas.{parts_within, few_taken}
 use Rattle.vb_monitor.proofs.discards.discard_on.Goals as goal
 
@@ -13,6 +12,4 @@ returns-in-Some-clause-left c =
     omega (arith, below, most) in
     let less = parts_within (length c.args.regions.now) c.args.discarding.run c.in-Some.found.run
     c.in-Some.found.from on few some to in
-    subst (λ (s : Step). left c.args.regions.now s ≤ of_chains c.args.regions.now c.args.tally.chains
-    + (2 + (MAX_RUNS - c.args.discarding.run) * length c.args.regions.now))
-    (sym c.discard_next.ensures) (omega (arith, less))
+    omega (arith, less, c.discard_next.ensures.left c.args.regions.now)

@@ -6,6 +6,7 @@ use Rattle.vb_core.specs.{Statistics.{statistics_denial, AreFigures}, Devices.wi
 use Rattle.vb_monitor.specs.declared.{outcome.Tally.Tally, room.TheConstants.MAX_FIGURES}
 use Rattle.vb_monitor.specs.{Accesses.Access, Ends.Whole, Machine.whole, Giving.with_held}
 use Rattle.vb_monitor.specs.Chains.{FiguresBy, TellsThenEnds}
+use Rattle.vb_monitor.specs.Steps.{tally_of}
 use Rattle.vb_monitor.proofs.naming.keep_figures.Goals as goal
 
 figures_tell : (o : Option Denial) (w : Whole) (d d2 : Device) (t : Tally) (head count room : ℕ)
@@ -37,9 +38,13 @@ returns-in-Ok-clause-step c after outcome log h =
     let bytes = c.first_bytes-bytes.result.now in
     let room = length c.args.room.now.figures in
     subst (λ (bs : List ℕ). FiguresBy (statistics_denial (length bs) MAX_FIGURES d) w d
-    c.args.tally c.args.place.head bs log) c.first_bytes-bytes.ensures
-    (subst (λ (n : ℕ). FiguresBy (statistics_denial (length bytes) n d) w d c.args.tally
+    (tally_of c.args.step.now) c.args.place.head bs log) c.first_bytes-bytes.ensures
+    (subst (λ (n : ℕ). FiguresBy (statistics_denial (length bytes) n d) w d (tally_of c.args.step.now)
     c.args.place.head bytes log) (omega arith)
-    (figures_tell (statistics_denial (length bytes) room d) w d c.statistics.new.self c.args.tally
+    (figures_tell (statistics_denial (length bytes) room d) w d c.statistics.new.self (tally_of c.args.step.now)
     c.args.place.head c.in-Ok.count room bytes c.statistics.new.figures c.statistics.result log refl
-    c.in-Ok.is c.statistics.ensures.denied c.statistics.ensures.taken h))
+    c.in-Ok.is c.statistics.ensures.denied c.statistics.ensures.taken
+    (subst (λ (t : Tally). TellsThenEnds w c.statistics.new.self t
+    (take c.in-Ok.count c.statistics.new.figures) log) c.hold.ensures
+    (c.await_figures.ensures.step w c.statistics.new.self
+    (record c.args.room.now { figures = c.statistics.new.figures }) log h))))

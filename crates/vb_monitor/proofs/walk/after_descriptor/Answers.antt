@@ -7,20 +7,21 @@ use Rattle.vb_monitor.specs.Machine.{whole, serves, row_in, row_bytes}
 use Rattle.vb_monitor.specs.Chains.{descriptors, row_of, Follows}
 use Rattle.vb_monitor.proofs.TableRowLemmas.{At}
 use Rattle.vb_monitor.proofs.walk.after_descriptor.Goals.{After-walk_row-walked}
+use Rattle.vb_monitor.specs.Steps.{tally_of}
 use Rattle.vb_monitor.proofs.walk.after_descriptor.Goals as goal
 
 -- what the walk within the row ends in
 goes : (c : After-walk_row-walked) (after : Device) (outcome : Outcome) (log : List Access) (end : RowEnd)
     → c.walk_row-walked.result.end ≡ end →
     EndsRow end (whole c.args.regions.now c.args.kind after outcome) c.args.device.now
-    c.args.tally (Follows (descriptors (ring_of c.args.kind c.args.device.now)
+    (tally_of c.args.step.now) (Follows (descriptors (ring_of c.args.kind c.args.device.now)
     - (c.walk_row-walked.result.count + 1)) (whole c.args.regions.now c.args.kind after outcome)
-    c.args.device.now c.args.tally
-    (serves (whole c.args.regions.now c.args.kind after outcome) c.args.tally c.args.device.now
-    c.args.walk.head)) (serves (whole c.args.regions.now c.args.kind after outcome) c.args.tally
+    c.args.device.now (tally_of c.args.step.now)
+    (serves (whole c.args.regions.now c.args.kind after outcome) (tally_of c.args.step.now) c.args.device.now
+    c.args.walk.head)) (serves (whole c.args.regions.now c.args.kind after outcome) (tally_of c.args.step.now)
     c.args.device.now c.args.walk.head) c.walk_row-walked.result.writing
     (pieces_in (take c.walk_row-walked.result.count c.walk_row-walked.new.pieces)) log →
-    At (whole c.args.regions.now c.args.kind after outcome) c.args.device.now c.args.tally
+    At (whole c.args.regions.now c.args.kind after outcome) c.args.device.now (tally_of c.args.step.now)
     c.args.walk.head (descriptors (ring_of c.args.kind c.args.device.now))
     (row_in c.args.walk c.args.room.now.bytes) c.args.walk.count c.args.walk.writing
     (pieces_in (take c.args.walk.count c.args.room.now.pieces))
@@ -28,7 +29,7 @@ goes : (c : After-walk_row-walked) (after : Device) (outcome : Outcome) (log : L
 goes c after outcome log end is =
     let w = whole c.args.regions.now c.args.kind after outcome in
     let d = c.args.device.now in
-    let t = c.args.tally in
+    let t = (tally_of c.args.step.now) in
     let walk = c.args.walk in
     let walked = c.walk_row-walked.result in
     let ps = pieces_in (take walk.count c.args.room.now.pieces) in

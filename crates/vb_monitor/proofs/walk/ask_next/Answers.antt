@@ -3,13 +3,14 @@ use Rattle.std.specs.Prelude.{min}
 use Rattle.vb_core.specs.{Devices.ring_of, Pieces.pieces_in, declared.ring.Virtqueue.Virtqueue}
 use Rattle.vb_monitor.specs.{Machine.{whole, serves}, Chains.{descriptors, Follows}}
 use Rattle.vb_monitor.proofs.TableRowLemmas.{next_goes}
+use Rattle.vb_monitor.specs.Steps.{tally_of}
 use Rattle.vb_monitor.proofs.walk.ask_next.Goals as goal
 
 pub returns-clause-step : goal.returns-clause-step
 returns-clause-step c after outcome room log some h =
     let w = whole c.args.regions.now c.args.kind after outcome in
     let d = c.args.device.now in
-    let t = c.args.tally in
+    let t = (tally_of c.args.step.now) in
     let walk = c.args.walk in
     let q = descriptors (ring_of c.args.kind d) in
     let size : c.descriptors-size.result ≡ q = c.descriptors-size.ensures
