@@ -21,6 +21,9 @@ static struct options options;
 static bool ends;               /* the process is to end after this turn */
 static unsigned ends_at;        /* or at this one of the moments at which it is kept; 0: at none */
 static jmp_buf ended;
+
+/* Turns in which messages are served that are left at the end. */
+enum { MOST_LEFT = 8 };
 static int lender, later;       /* the lender's end of the channel; where a later one comes */
 static struct timespec now;
 
@@ -109,6 +112,8 @@ static void act(void)
     ends_at = what >= 247 && ends ? 1 + next_below(4) : 0;
     if (what >= 250)
         lender_changes(what % 2);
+    else if (ends_at > 0)
+        client_sends();
     else if (!ends)
         acts[what % (sizeof acts / sizeof acts[0])]();
     lender_hears();
@@ -142,10 +147,14 @@ static int process_begins(void)
     return guard(go_on, &fuzzed);
 }
 
-/* A process ends as it has read some bytes. */
-static void reads_unnoted(void)
+/* A process ends as it has read a message, or some bytes that it hasn't noted. */
+static void reads(void)
 {
     struct inbox *inbox = &kept.inbox;
+    client_sends();
+    kept.unnoted = 0;
+    if (next_byte() % 2 && inbox_read(fuzzed.backend.socket, inbox) == STREAM_WHOLE)
+        return;
     bool of_head = inbox->got < sizeof inbox->head;
     uint8_t *to = of_head ? (uint8_t *)inbox->head + inbox->got : inbox->message.body + inbox->got_body;
     size_t length = of_head ? sizeof inbox->head - inbox->got : inbox->head[2] <= MOST_BODY ? inbox->head[2] - inbox->got_body : 0;
@@ -159,8 +168,9 @@ static int another_goes_on(void)
     const struct guest_memory *memory = &fuzzed.backend.memory;
     for (unsigned i = 0; i < memory->count; i++)
         munmap(memory->regions[i].host, memory->regions[i].length);
-    if (!kept_state(&kept)->outcome)
-        reads_unnoted();
+    kept.unnoted = 0;
+    if (!kept_state(&kept)->outcome && next_byte() % 4)
+        reads();
     return process_begins();
 }
 
@@ -231,10 +241,12 @@ int LLVMFuzzerTestOneInput(const uint8_t *data, size_t size)
         if (served > 0 && ends)
             served = another_goes_on();
     }
-    if (served > 0) {
+    /* A message that it hasn't read yet is served before it sees the end. */
+    if (served > 0)
         client_ends();
-        demand(guard(once, &fuzzed) <= 0);
-    }
+    for (unsigned i = 0; served > 0 && i < MOST_LEFT; i++)
+        served = guard(once, &fuzzed);
+    demand(served <= 0);
     goes();
     for (int it; (it = accept(later, NULL, NULL)) >= 0;)
         close(it);
