@@ -1,6 +1,6 @@
 """The exit statuses of the program, and the faults that end in them."""
 
-DONE, REFUSED, USAGE, AWAY, UNCLEAR = range(5)
+DONE, REFUSED, USAGE, AWAY, UNCLEAR, PART = range(6)
 
 # What --help says of them.
 TABLE = """exit statuses:
@@ -8,7 +8,8 @@ TABLE = """exit statuses:
   1  the host refused, and nothing has changed; of plan --check: the replay differs
   2  the command line is wrong
   3  no host answers: it isn't running, or its socket may not be opened
-  4  the host's answer isn't understood, or it went away amid an answer"""
+  4  the host's answer isn't understood, or it went away amid an answer
+  5  upgraded in part: a guest's process stays as it was"""
 
 
 class Fault(Exception):

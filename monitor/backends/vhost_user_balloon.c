@@ -24,7 +24,8 @@
 #include "guest/backend.h"
 #include "guest/conventions.h"
 #include "guest/inbox.h"
-#include "guest/lent.h"
+#include "guest/keeper.h"
+#include "guest/kept.h"
 #include "guest/options.h"
 #include "guest/state.h"
 
@@ -94,7 +95,9 @@ static int serve(struct backend *backend)
         return state == STREAM_WAITS;
     if (state == STREAM_WRONG)
         return refuse("the client's bytes are no message"), -1;
-    if (message_serve(backend, &inbox.message))
+    bool served = message_serve(backend, &inbox.message);
+    inbox_next(&inbox);
+    if (served)
         return 1;
     return backend->gone ? 0 : -1;
 }
@@ -119,7 +122,7 @@ static enum command_line read_words(int count, char **words, struct options *opt
     int said = (where->socket != NULL) + (where->path != NULL) + (where->file >= 0);
     options->client = where->path ? where->path : where->socket;
     options->lives_on = !where->socket;
-    return line == LINE_READ && said != 1 ? LINE_WRONG : line;
+    return line == LINE_READ && said != 1 && !options->layout ? LINE_WRONG : line;
 }
 
 /* Takes the client's socket, or the one where it comes: by its number, or by making it. False where it can't. */
@@ -142,8 +145,10 @@ int main(int count, char **words)
         fprintf(stderr, "%s\n", help);
     if (line != LINE_READ)
         return line == LINE_WRONG ? 2 : 0;
+    if (options.layout)
+        return options.layout != KEPT_LAYOUT;
     if (options.is_lent)
-        return lent_run(&options);
+        return keeper_run(&options, words);
     process_allow_files(FILES_OF_PROCESS + FILES_OF_CLIENT);
     if (!backend_start(&backend, &options) || !state_load(&backend))
         return 2;

@@ -111,17 +111,18 @@ static enum command_line read_words(struct host *host, struct service *service, 
     return line == LINE_READ && !(host->folder && host->frames > 0) ? LINE_WRONG : line;
 }
 
-/* The program of guests' processes: beside this one, where none is named. False where it isn't there, which is said. */
+/* This program, and that of guests' processes: beside this one, where none is named. False where it isn't there, which is said. */
 static bool find_program(struct host *host)
 {
-    static char path[4096];
+    static char path[4096], itself[sizeof path];
     ssize_t length = readlink("/proc/self/exe", path, sizeof path - sizeof "vhost_user_balloon");
     char *end = length > 0 ? memrchr(path, '/', (size_t)length) : NULL;
-    if (!host->program && end) {
+    if (end) {
+        host->itself = strcpy(itself, path);
         strcpy(end + 1, "vhost_user_balloon");
-        host->program = path;
+        host->program = host->program ? host->program : path;
     }
-    if (host->program && !access(host->program, X_OK))
+    if (host->itself && host->program && !access(host->program, X_OK))
         return true;
     complain("%s: %s", host->program ? host->program : "vhost_user_balloon", strerror(errno));
     return false;
@@ -152,6 +153,15 @@ static void end_all(struct host *host)
     }
 }
 
+/* Becomes the program that is there now, which takes guests over as they are; comes back with a status where that can't run after all. */
+static int become(const struct host *host, const struct service *service, char **words)
+{
+    service_hand_on(service);
+    execv(host->itself, words);
+    complain("%s: %s", host->itself, strerror(errno));
+    return 2;
+}
+
 int main(int count, char **words)
 {
     static struct host host;
@@ -176,6 +186,8 @@ int main(int count, char **words)
     fputs("ready\n", host.answers.out);
     answers_send(&host.answers);
     int status = host_run(&host);
+    if (host.upgrades)
+        return become(&host, &service, words);
     service_end(&service);
     if (!host.leaves)
         end_all(&host);

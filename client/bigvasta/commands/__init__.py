@@ -1,6 +1,6 @@
 """The subcommands. Each module has `add`, which adds its own to the command line; what it sets as `run` returns an exit status or
 None."""
 
-from bigvasta.commands import changes, guest, log, metrics, plan, status, watch
+from bigvasta.commands import changes, guest, log, metrics, plan, status, upgrade, watch
 
-MODULES = (status, guest, changes, log, watch, metrics, plan)
+MODULES = (status, guest, changes, log, watch, metrics, upgrade, plan)

@@ -140,6 +140,21 @@ static json_t *remove_guest(const struct asked *asked)
     return host_find(asked->host, name) < 0 ? no_guest(name) : outcome(host_remove(asked->host, name));
 }
 
+static json_t *upgrade(const struct asked *asked)
+{
+    return outcome(host_upgrade(asked->host));
+}
+
+static json_t *renew(const struct asked *asked)
+{
+    const char *name = field_name(asked->fields, "name");
+    int number = host_find(asked->host, name);
+    if (number < 0)
+        return no_guest(name);
+    const char *fault = host_renew(asked->host, name);
+    return fault ? outcome(fault) : guest_answer(asked, number);
+}
+
 /* Sets a number of pages of the host's where the request has one, and answers what it is then. */
 static json_t *host_pages(const struct asked *asked, const char *name, const char *(*set)(struct host *, uint32_t))
 {
@@ -186,6 +201,8 @@ static const struct kind kinds[] = {
     {"guest", SHOWS, guest, {{"name", FIELD_NAME, .needed = true}, TERMS, {"target", FIELD_BYTES, .effect = CHANGES}}},
     {"add", CHANGES, add, {{"name", FIELD_NAME, .needed = true}, TERMS}},
     {"remove", CHANGES, remove_guest, {{"name", FIELD_NAME, .needed = true}}},
+    {"upgrade", CHANGES, upgrade, {{0}}},
+    {"renew", CHANGES, renew, {{"name", FIELD_NAME, .needed = true}}},
     {"budget", SHOWS, budget, {{"bytes", FIELD_BYTES, .effect = CHANGES}}},
     {"floor", SHOWS, set_floor, {{"bytes", FIELD_BYTES, .effect = CHANGES}}},
     {"log", SHOWS, decisions, {{"since", FIELD_NUMBER, .most = INT64_MAX}, {"limit", FIELD_NUMBER, .least = 1, .most = MOST_DECISIONS_OF_ANSWER}}},

@@ -16,6 +16,12 @@ enum { MOST_TAGS = 16, MOST_REMARKS = 100, MOST_REMARK = 256, MOST_CHAINS = 64, 
  * and those of a process without one. */
 enum { FILES_OF_CLIENT = MOST_REGIONS + 8 + 3 * QUEUES + 2, FILES_OF_PROCESS = 8 };
 
+/* What the handler of a message comes to: FAILED is for the client alone, and nothing has changed, but that features that are refused leave
+ * none. UNHANDLED: it wasn't called yet. */
+enum outcome { UNHANDLED, STOP, ANSWERED, DONE, FAILED };
+
+struct message;
+
 struct options {
     const char *client;         /* the client's socket: a name, or a number */
     const char *state;          /* the file of the saved state, or NULL */
@@ -27,6 +33,8 @@ struct options {
     bool ends_with_lender;      /* the kernel ends it as its lender ends */
     bool open;                  /* it isn't shut in a sandbox */
     bool lives_on;              /* the end of the control pipe isn't the end of the process */
+    bool goes_on;               /* it goes on with what another program has kept of this guest */
+    uint64_t layout;            /* somebody asks whether this program goes on with what is kept in this layout; 0: nobody */
 };
 
 struct backend {
@@ -53,6 +61,11 @@ struct backend {
     void (*held)(struct backend *backend, uint32_t pages);
     /* The balloon is to be empty for a new driver: whether that may be, else the client can't be served; or NULL: it may. */
     bool (*empties)(struct backend *backend);
+    /* Answers a message, in place of a send; false where the client doesn't take the answer at once. Or NULL. */
+    bool (*answer)(struct backend *backend, const struct message *message, const void *body, size_t size);
+    /* What the backend is now is to outlive its process; or NULL. */
+    void (*keep)(struct backend *backend);
+    enum outcome outcome;       /* of the message that is served */
     bool gone;                  /* the client doesn't take answers any longer */
     bool ended;                 /* a signal has told the process to end */
     bool rests;                 /* no file was left for a client that came: it isn't looked for until the next look */
@@ -67,7 +80,8 @@ void remark(struct backend *backend, const char *format, ...) __attribute__((for
     {"features", .read = read_features, .at = &(its)->features}, {"lines", .read = read_lines, .at = &most_lines},                 \
         {"state", .read = read_word, .at = &(its)->state}, {"strict", .flag = &(its)->strict}, {"keep", .flag = &(its)->keep},     \
         {"events", .flag = &(its)->events}, {"lent", .flag = &(its)->is_lent}, {"holds", .flag = &(its)->holds},                   \
-        {"end-with-lender", .flag = &(its)->ends_with_lender}, {"no-sandbox", .flag = &(its)->open}
+        {"end-with-lender", .flag = &(its)->ends_with_lender}, {"no-sandbox", .flag = &(its)->open},                               \
+        {"goes-on", .flag = &(its)->goes_on}, {"layout", .read = read_layout, .at = &(its)->layout}
 
 /* Makes the device for a client that hasn't said anything; false where it can't, which is said. The options stay. */
 bool backend_start(struct backend *backend, const struct options *options);

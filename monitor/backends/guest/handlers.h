@@ -4,9 +4,6 @@
 #include "backend.h"
 #include "vhost_user.h"
 
-/* What a handler comes to: FAILED is for the client alone, and nothing has changed, but that features that are refused leave none. */
-enum outcome { STOP, ANSWERED, DONE, FAILED };
-
 enum outcome answer_bytes(struct backend *backend, const struct message *message, const void *body, size_t size);
 enum outcome answer_u64(struct backend *backend, const struct message *message, uint64_t value);
 

@@ -2,18 +2,9 @@
 #include "lent.h"
 #include "guard.h"
 #include "sandbox.h"
+#include "vhost_user.h"
 
-#include <fcntl.h>
-#include <signal.h>
-#include <stdio.h>
-#include <sys/prctl.h>
-#include <sys/socket.h>
-#include <unistd.h>
-
-/* Memory of a guest may end here: 64 GiB, for whose pages there is a set. */
-static const uint64_t MOST_SET = UINT64_C(1) << 24;
-
-enum { LOOK_EVERY = 1000, POLL_EVERY = 10, HIGH_FILE = 200 };
+enum { LOOK_EVERY = 1000, POLL_EVERY = 10 };
 
 /* The hook for the memory that a client hands over: whether the lender has room for it, and a set for its pages. */
 static bool admit(struct backend *backend)
@@ -23,12 +14,12 @@ static bool admit(struct backend *backend)
     uint64_t pages = memory_pages(&backend->memory);
     if (end > MOST_SET || pages > UINT32_MAX)
         return refuse("its memory ends too far up for a host of many");
-    if (pages > lent->pages && !lent_await(lent, WAIT_ROOM, (uint32_t)pages))
+    if (pages > lent->notes.pages && !lent_await(lent, WAIT_ROOM, (uint32_t)pages))
         return false;
     if (!marks_follow(backend, &lent->marks, end))
-        return refuse("there is no memory for the set of its pages");
-    lent->news |= pages != lent->pages;
-    lent->pages = (uint32_t)pages;
+        return refuse("there is no room for the set of its pages");
+    lent->news |= pages != lent->notes.pages;
+    lent->notes.pages = (uint32_t)pages;
     return true;
 }
 
@@ -38,24 +29,47 @@ static bool empties(struct backend *backend)
     return lent_await((struct lent *)backend, WAIT_RESET, backend->ballooned);
 }
 
-/* Takes the client that waits; false where it has gone again. */
-static bool accept_client(struct lent *lent)
+/* The hook that answers a client: once, whatever process does. */
+static bool answer(struct backend *backend, const struct message *message, const void *body, size_t size)
 {
-    lent->backend.socket = accept4(CLIENT_FILE, NULL, NULL, SOCK_CLOEXEC | SOCK_NONBLOCK);
-    file_close(CLIENT_FILE);
-    return lent->backend.socket >= 0;
+    struct lent *lent = (struct lent *)backend;
+    uint8_t bytes[MOST_MESSAGE];
+    size_t length = message_answer_bytes(message, body, size, bytes);
+    return length > 0 && outbox_send(&lent->kept->outbox, backend->socket, lent->messages + 1, bytes, length);
+}
+
+/* The hook for a moment at which another process could go on. */
+static void keep(struct backend *backend)
+{
+    kept_save((struct lent *)backend);
+}
+
+/* Serves the message that is whole in the inbox, whose files stay named there until it was served. Another process goes on with the next one
+ * where the count of bytes is half used up. */
+static bool serve_message(struct lent *lent)
+{
+    struct inbox *inbox = &lent->kept->inbox;
+    struct message message = inbox->message;
+    bool served = message_serve(&lent->backend, &message);
+    lent->messages++;
+    lent->bytes += inbox_length(inbox);
+    if (served)
+        kept_save(lent);
+    inbox_next(inbox);
+    lent->ends_anew |= lent->bytes - lent->kept->counted_from > COUNT_BEGINS / 2;
+    return served;
 }
 
 /* The client's next message, if it is there whole: 1; 0 where it has gone; -1 where it can't be served. */
 static int serve_client(struct lent *lent)
 {
     struct backend *backend = &lent->backend;
-    enum stream_state state = inbox_read(backend->socket, &lent->inbox);
+    enum stream_state state = inbox_read(backend->socket, &lent->kept->inbox);
     if (state == STREAM_WAITS || state == STREAM_GONE)
         return state == STREAM_WAITS;
     if (state == STREAM_WRONG)
         return refuse("the client's bytes are no message"), -1;
-    if (message_serve(backend, &lent->inbox.message))
+    if (serve_message(lent))
         return 1;
     return backend->gone ? 0 : -1;
 }
@@ -83,7 +97,7 @@ static int serve(struct lent *lent, const struct pollfd files[FILES])
         lent_take_lender(lent);
     if (files[CHANNEL].revents && !lent_obey(lent))
         return -1;
-    if (files[END].revents || lent->leaves)
+    if (files[END].revents || lent->leaves || lent->ends_anew)
         return 0;
     int served = files[CLIENT].revents ? serve_client(lent) : 1;
     if (served <= 0 || lent->leaves)
@@ -94,30 +108,22 @@ static int serve(struct lent *lent, const struct pollfd files[FILES])
 static int once(void *what)
 {
     struct lent *lent = what;
-    struct pollfd files[FILES] = {[CHANNEL] = {lent->channel, POLLIN, 0}, [LATER] = {lent->later, POLLIN, 0},
-                                  [END] = {lent->end, POLLIN, 0}, [CLIENT] = {lent->backend.socket, POLLIN, 0}};
+    struct pollfd files[FILES] = {[CHANNEL] = {lent->notes.channel, POLLIN, 0}, [LATER] = {lent->notes.later, POLLIN, 0},
+                                  [END] = {lent->notes.end, POLLIN, 0}, [CLIENT] = {lent->backend.socket, POLLIN, 0}};
     rings_wait(&lent->backend, files + KICKS);
     poll_some(files, FILES, patience(lent));
     int served = serve(lent, files);
     if (served <= 0)
         return served;
+    kept_save(lent);
+    lent->kept->turns++;
     lent_note(lent);
     if (lent_now() >= lent->look) {
         lent->look = lent_now() + LOOK_EVERY;
-        if (lent->channel < 0)
+        if (lent->notes.channel < 0)
             backend_look(&lent->backend);
     }
     return 1;
-}
-
-/* Moves a file up, so that the files of the memory are closed before it as the process ends. */
-static int move_up(int file)
-{
-    int moved = fcntl(file, F_DUPFD_CLOEXEC, HIGH_FILE);
-    if (moved < 0)
-        return file;
-    file_close(file);
-    return moved;
 }
 
 static void set_hooks(struct lent *lent)
@@ -127,39 +133,98 @@ static void set_hooks(struct lent *lent)
     backend->admit = admit;
     backend->held = backend->options->holds ? lent_holds : NULL;
     backend->empties = backend->options->holds ? empties : NULL;
+    backend->answer = answer;
+    backend->keep = keep;
+    lent->marks.set = lent->kept->set;
     lent_speaks(lent);
 }
 
-static bool begin(struct lent *lent, const struct options *options)
+/* The queue of deflates. */
+static unsigned deflates_of(const struct backend *backend)
 {
-    pid_t lender = getppid();
-    if (options->ends_with_lender && (prctl(PR_SET_PDEATHSIG, SIGTERM) || getppid() != lender))
-        return false;
-    process_allow_files(HIGH_FILE + FILES_OF_GUEST);
-    close_range(FILES_OF_GUEST, ~0U, 0);
-    if (!backend_start(&lent->backend, options))
-        return false;
-    lent->channel = move_up(CHANNEL_FILE);
-    lent->later = move_up(LATER_FILE);
-    if (listen(lent->later, 1))     /* once more: who connects is told this process's number by the kernel */
-        return false;
-    lent->end = process_end();
-    lent->look = lent_now() + LOOK_EVERY;
-    set_hooks(lent);
-    process_is_shut = HAS_SANDBOX && !options->open;
-    return lent->end >= 0 && (!process_is_shut || sandbox_enter());
+    unsigned number = 0;
+    while (number < QUEUES - 1 && vb_kind_of(backend->told.features & ~HAS_PROTOCOL_FEATURES, number) != VB_DEFLATE)
+        number++;
+    return number;
 }
 
-int lent_run(const struct options *options)
+/* A deflate that was held is held again by the same number, unless it was used meanwhile. */
+static void await_held(struct lent *lent)
+{
+    const struct kept_state *state = kept_state(lent->kept);
+    unsigned number = deflates_of(&lent->backend);
+    lent->regains = lent->notes.held_pages > 0 && state->rings[number].base == lent->backend.rings[number].base;
+    if (!lent->regains)
+        lent->notes.held_pages = 0;
+}
+
+/* Who was told something last may not have heard it. */
+static bool tell_all(struct backend *backend)
+{
+    for (unsigned number = 0; number < QUEUES; number++)
+        if (ring_runs(backend, number) && !backend->tell(backend, (int)number))
+            return refuse("the client can't be told of a used buffer");
+    backend_tell_change(backend);
+    return true;
+}
+
+/* Goes on with what is kept: serves what is on the rings, and then a message that is there whole. */
+static int go_on(void *what)
+{
+    struct lent *lent = what;
+    struct backend *backend = &lent->backend;
+    if (!kept_restore(lent))
+        return -1;
+    await_held(lent);
+    if (!rings_settle(backend) || !tell_all(backend))
+        return -1;
+    if (lent->regains)
+        lent->regains = false, lent->notes.held_pages = 0;
+    if (lent->notes.held_pages > 0 && lent->notes.held_wait == lent->kept->granted && !lent_give(lent))
+        return -1;
+    lent->news = true;
+    return inbox_is_whole(&lent->kept->inbox) ? serve_client(lent) : 1;
+}
+
+static bool begin(struct lent *lent, const struct options *options, struct kept *kept)
+{
+    const struct notes *notes = &kept_state(kept)->notes;
+    lent->kept = kept;
+    if (!backend_start(&lent->backend, options))
+        return false;
+    lent->notes.channel = notes->channel;
+    lent->look = lent_now() + LOOK_EVERY;
+    set_hooks(lent);
+    if (kept->ended_by > 0)
+        complain("its process has ended by signal %u: another one goes on", kept->ended_by);
+    if (kept->stays)
+        complain("its process stays of version %s: the program that is there now can't go on with it", VB_VERSION);
+    files_put_off(true);
+    process_is_shut = HAS_SANDBOX && !options->open;
+    return !process_is_shut || sandbox_enter();
+}
+
+/* The end of the client's service: all is closed. */
+static void end(struct lent *lent)
+{
+    files_put_off(false);
+    if (lent->backend.socket >= 0)
+        file_close(lent->backend.socket);
+    backend_leave(&lent->backend);
+    files_close(&lent->kept->inbox.message.files);
+    say_gone();
+}
+
+int lent_run(const struct options *options, struct kept *kept)
 {
     static struct lent lent;
-    int served = begin(&lent, options) && accept_client(&lent) ? 1 : -1;
+    int served = begin(&lent, options, kept) ? guard(go_on, &lent) : -1;
+    if (lent.backend.socket < 0)
+        served = -1;
     while (served > 0)
         served = guard(once, &lent);
-    if (lent.backend.socket >= 0)
-        file_close(lent.backend.socket);
-    backend_leave(&lent.backend);
-    files_close(&lent.inbox.message.files);
-    say_gone();
+    if (served == 0 && lent.ends_anew)
+        return ENDS_ANEW;
+    end(&lent);
     return served < 0;
 }

@@ -21,8 +21,8 @@ static struct lent *speaks;
 
 static void send_to_lender(struct lent *lent, struct lending_message *message)
 {
-    if (!lending_send(lent->channel, message))
-        lent->lost++;
+    if (!lending_send(lent->notes.channel, message))
+        lent->notes.lost++;
 }
 
 static void say_to_lender(enum saying saying, const char *words)
@@ -40,20 +40,23 @@ void lent_speaks(struct lent *lent)
     say_through = say_to_lender;
 }
 
+/* What it says is kept before, so that another process says nothing else: but not in the middle of a message. */
 void lent_report(struct lent *lent, uint64_t number, bool asked)
 {
     const struct backend *backend = &lent->backend;
     const VbDevice *device = &backend->balloon.state.device;
     struct lending_message message = {
-        .kind = TELL_REPORT, .number = number, .serial = ++lent->serial, .held_kib = memory_held(&backend->memory),
-        .end = device->settings.memory_end / BALLOON_PAGE, .lost = lent->lost, .pages = lent->pages, .wanted = lent->wanted, .wait = lent->wait,
-        .holds = backend->options->holds, .held_pages = lent->held_pages, .held_wait = lent->held_wait,
+        .kind = TELL_REPORT, .number = number, .serial = ++lent->notes.serial, .held_kib = memory_held(&backend->memory),
+        .end = device->settings.memory_end / BALLOON_PAGE, .lost = lent->notes.lost, .pages = lent->notes.pages, .wanted = lent->wanted, .wait = lent->notes.wait,
+        .holds = backend->options->holds, .held_pages = lent->notes.held_pages, .held_wait = lent->notes.held_wait,
         .waits = lent->waits, .target = device->target, .actual = device->actual, .ballooned = backend->ballooned,
-        .status = device->status, .ready = backend_is_ready(backend), .asked = asked, .ballooned_then = lent->ballooned_then,
-        .taken_since = lent->taken_since, .has_terms = lent->has_terms, .terms = lent->terms, .counters = backend->counters,
+        .status = device->status, .ready = backend_is_ready(backend), .asked = asked, .ballooned_then = lent->notes.ballooned_then,
+        .taken_since = lent->notes.taken_since, .has_terms = lent->notes.has_terms, .terms = lent->notes.terms, .counters = backend->counters,
         .figure_count = backend->figure_count};
     memcpy(message.figures, backend->figures, sizeof message.figures);
     strcpy(message.words, VB_VERSION);
+    if (lent->waits == WAIT_NOTHING)
+        kept_save(lent);
     send_to_lender(lent, &message);
     lent->news = false;
     lent->report_at = lent_now() + NEWS_EVERY;
@@ -64,22 +67,22 @@ void lent_note(struct lent *lent)
     struct backend *backend = &lent->backend;
     const struct counters *counters = &backend->counters;
     bool ready = backend_is_ready(backend);
-    bool heard = counters->statistics != lent->heard, taken = counters->taken != lent->taken;
+    bool heard = counters->statistics != lent->notes.heard, taken = counters->taken != lent->notes.taken;
     if (heard || taken)
-        lent->ballooned_then = backend->ballooned;
+        lent->notes.ballooned_then = backend->ballooned;
     if (heard)
-        lent->taken_since = false;
+        lent->notes.taken_since = false;
     if (taken)
-        lent->taken_since = true;
+        lent->notes.taken_since = true;
     uint32_t pages;
-    if (lent->held_pages > 0 && !balloon_held_deflate(&backend->balloon, &pages))
-        lent->held_pages = 0, lent->news = true;    /* its queue was stopped */
-    lent->news |= backend->options->holds && backend->ballooned != lent->ballooned_before;
-    lent->ballooned_before = backend->ballooned;
-    lent->news |= heard || taken || ready != lent->ready_then;
-    lent->heard = counters->statistics;
-    lent->taken = counters->taken;
-    lent->ready_then = ready;
+    if (lent->notes.held_pages > 0 && !balloon_held_deflate(&backend->balloon, &pages))
+        lent->notes.held_pages = 0, lent->news = true;    /* its queue was stopped */
+    lent->news |= backend->options->holds && backend->ballooned != lent->notes.ballooned_before;
+    lent->notes.ballooned_before = backend->ballooned;
+    lent->news |= heard || taken || ready != lent->notes.ready_then;
+    lent->notes.heard = counters->statistics;
+    lent->notes.taken = counters->taken;
+    lent->notes.ready_then = ready;
     if (lent->news && lent_now() >= lent->report_at)
         lent_report(lent, 0, false);
 }
@@ -98,7 +101,7 @@ static void set_target(struct lent *lent, uint32_t pages)
 {
     struct backend *backend = &lent->backend;
     balloon_set_target(&backend->balloon, pages);
-    lent->ballooned_told = backend->ballooned;
+    lent->notes.ballooned_told = backend->ballooned;
     backend_tell_change(backend);
 }
 
@@ -107,36 +110,45 @@ static void remind(struct lent *lent)
 {
     struct backend *backend = &lent->backend;
     bool off = backend->ballooned != backend->balloon.state.device.target;
-    if (off && backend->ballooned == lent->ballooned_told)
+    if (off && backend->ballooned == lent->notes.ballooned_told)
         backend_tell_change(backend);
-    lent->ballooned_told = backend->ballooned;
+    lent->notes.ballooned_told = backend->ballooned;
 }
 
 /* What the lender says of pages that are waited for: it tells itself why they aren't to be had. */
 static void take_answer(struct lent *lent, const struct lending_message *order)
 {
-    if (lent->waits != WAIT_NOTHING && order->wait == lent->wait)
+    if (lent->waits != WAIT_NOTHING && order->wait == lent->notes.wait)
         lent->answered = order->kind == ORDER_REFUSE ? -1 : 1;
 }
 
 void lent_holds(struct backend *backend, uint32_t pages)
 {
     struct lent *lent = (struct lent *)backend;
-    lent->held_pages = pages;
-    lent->held_wait++;
+    lent->notes.held_pages = pages;
+    lent->notes.held_wait += lent->regains ? 0 : 1;
+    lent->regains = false;
     lent->news = true;
     lent->report_at = 0;
+}
+
+/* The number of the grant is kept first: the pages leave the balloon's set before the chain is given back. */
+bool lent_give(struct lent *lent)
+{
+    lent->kept->granted = lent->notes.held_wait;
+    __atomic_thread_fence(__ATOMIC_RELEASE);
+    lent->notes.held_pages = 0;
+    lent->news = true;
+    lent->report_at = 0;
+    return backend_give(&lent->backend);
 }
 
 /* The lender has granted the deflate that is held; false where the client can't be served any longer. */
 static bool give(struct lent *lent, const struct lending_message *order)
 {
-    if (lent->held_pages == 0 || order->wait != lent->held_wait)
+    if (lent->notes.held_pages == 0 || order->wait != lent->notes.held_wait)
         return true;
-    lent->held_pages = 0;
-    lent->news = true;
-    lent->report_at = 0;
-    return backend_give(&lent->backend);
+    return lent_give(lent);
 }
 
 /* Obeys one order; false where the client can't be served any longer. */
@@ -161,11 +173,14 @@ static bool obey(struct lent *lent, const struct lending_message *order)
     case ORDER_GRANT:
         return give(lent, order);
     case ORDER_KEEP:
-        lent->terms = order->terms;
-        lent->has_terms = true;
+        lent->notes.terms = order->terms;
+        lent->notes.has_terms = true;
         return true;
     case ORDER_LEAVE:
         lent->leaves = true;
+        return true;
+    case ORDER_RENEW:
+        lent->kept->renews = lent->ends_anew = lent->waits == WAIT_NOTHING;
         return true;
     default:
         return true; /* of a later lender's */
@@ -176,10 +191,10 @@ bool lent_obey(struct lent *lent)
 {
     struct lending_message order;
     for (unsigned i = 0; i < ORDERS; i++) {
-        int got = lending_read(lent->channel, &order);
+        int got = lending_read(lent->notes.channel, &order);
         if (got < 0) {
-            file_close(lent->channel);
-            lent->channel = -1;
+            file_close(lent->notes.channel);
+            lent->notes.channel = -1;
         }
         if (got <= 0)
             return true;
@@ -191,12 +206,12 @@ bool lent_obey(struct lent *lent)
 
 void lent_take_lender(struct lent *lent)
 {
-    int channel = accept4(lent->later, NULL, NULL, SOCK_CLOEXEC | SOCK_NONBLOCK);
+    int channel = accept4(lent->notes.later, NULL, NULL, SOCK_CLOEXEC | SOCK_NONBLOCK);
     if (channel < 0)
         return;
-    if (lent->channel >= 0)
-        file_close(lent->channel);
-    lent->channel = channel;
+    if (lent->notes.channel >= 0)
+        file_close(lent->notes.channel);
+    lent->notes.channel = channel;
     lent_report(lent, 0, false);
 }
 
@@ -204,8 +219,8 @@ void lent_take_lender(struct lent *lent)
 static bool wait_once(struct lent *lent)
 {
     enum { CLIENT, CHANNEL, LATER, END, FILES };
-    struct pollfd files[FILES] = {[CLIENT] = {lent->backend.socket, POLLRDHUP, 0}, [CHANNEL] = {lent->channel, POLLIN, 0},
-                                  [LATER] = {lent->later, POLLIN, 0}, [END] = {lent->end, POLLIN, 0}};
+    struct pollfd files[FILES] = {[CLIENT] = {lent->backend.socket, POLLRDHUP, 0}, [CHANNEL] = {lent->notes.channel, POLLIN, 0},
+                                  [LATER] = {lent->notes.later, POLLIN, 0}, [END] = {lent->notes.end, POLLIN, 0}};
     poll_some(files, FILES, NEWS_EVERY * 100);
     if (files[LATER].revents)
         lent_take_lender(lent);
@@ -221,7 +236,7 @@ bool lent_await(struct lent *lent, enum lending_wait what, uint32_t pages)
 {
     lent->waits = what;
     lent->wanted = pages;
-    lent->wait++;
+    lent->notes.wait++;
     lent->answered = 0;
     lent_report(lent, 0, false);
     while (lent->answered == 0 && wait_once(lent))

@@ -1,6 +1,8 @@
 /* The set of the pages in a guest's balloon, as its memory comes and goes. */
 #include "marks.h"
 
+#include "kept.h"
+
 #include <stdlib.h>
 
 enum { WORD_BITS = 64 };
@@ -48,29 +50,27 @@ static void note_memory(struct marks *marks, const struct guest_memory *memory)
     qsort(marks->spans, marks->span_count, sizeof marks->spans[0], compare);
 }
 
-/* Makes a set of this many words, which keeps the pages that there are in the one before; false where it can't. */
-static bool make_set(struct balloon *balloon, struct marks *marks, size_t words)
+/* The words after the set are zeros: the pages that it loses aren't memory, so their marks were taken out. */
+static void resize(struct balloon *balloon, const struct marks *marks, uint64_t words)
 {
-    size_t before = marks->set ? balloon->ballooned_words : 0;
-    if (before == words)
-        return true;
-    uint64_t *set = calloc(words, sizeof *set);
-    if (!set)
-        return false;
-    if (marks->set)
-        memcpy(set, marks->set, (before < words ? before : words) * sizeof *set);
-    free(marks->set);
     balloon->ballooned_words = words;
-    balloon->ballooned = marks->set = set;
-    return true;
+    balloon->ballooned = words > 0 ? marks->set : NULL;
 }
 
 bool marks_follow(struct backend *backend, struct marks *marks, uint64_t end)
 {
-    if (marks->set)
-        clear_holes(backend, marks);
+    if (end > MOST_SET)
+        return false;
+    clear_holes(backend, marks);
     note_memory(marks, &backend->memory);
-    if (marks->set)
-        clear_holes(backend, marks);
-    return make_set(&backend->balloon, marks, (end + WORD_BITS - 1) / WORD_BITS);
+    clear_holes(backend, marks);
+    resize(&backend->balloon, marks, (end + WORD_BITS - 1) / WORD_BITS);
+    return true;
+}
+
+void marks_regain(struct backend *backend, struct marks *marks, uint64_t words)
+{
+    note_memory(marks, &backend->memory);
+    resize(&backend->balloon, marks, words);
+    backend->ballooned = (uint32_t)vb_count_ballooned(marks->set, words);
 }

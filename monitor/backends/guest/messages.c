@@ -43,7 +43,8 @@ static const struct rule rules[] = {
 
 enum outcome answer_bytes(struct backend *backend, const struct message *message, const void *body, size_t size)
 {
-    backend->gone = !message_answer(backend->socket, message, body, size);
+    bool sent = backend->answer ? backend->answer(backend, message, body, size) : message_answer(backend->socket, message, body, size);
+    backend->gone = !sent;
     return backend->gone ? STOP : ANSWERED;
 }
 
@@ -80,13 +81,25 @@ static bool answer_outcome(struct backend *backend, const struct message *messag
     return answer_u64(backend, message, outcome == FAILED) == ANSWERED;
 }
 
-bool message_serve(struct backend *backend, struct message *message)
+/* Calls the handler of a message. What comes of it is kept before any ring is served by it. */
+static void handle(struct backend *backend, struct message *message)
 {
     const struct rule *rule = rule_of(backend, message);
-    enum outcome outcome = rule ? rule->serve(backend, message) : STOP;
+    backend->outcome = rule ? rule->serve(backend, message) : STOP;
     files_close(&message->files);
     backend->counters.messages++;
-    return outcome != STOP && rings_settle(backend) && answer_outcome(backend, message, outcome);
+    if (backend->keep)
+        backend->keep(backend);
+}
+
+bool message_serve(struct backend *backend, struct message *message)
+{
+    if (backend->outcome == UNHANDLED)
+        handle(backend, message);
+    enum outcome outcome = backend->outcome;
+    bool served = outcome != STOP && rings_settle(backend) && answer_outcome(backend, message, outcome);
+    backend->outcome = UNHANDLED;
+    return served;
 }
 
 bool client_tell(struct backend *backend, int queue)

@@ -28,6 +28,11 @@ bool read_lines(const char *word, void *at)
     return read;
 }
 
+bool read_layout(const char *word, void *at)
+{
+    return read_number(word, 10, UINT32_MAX, at) && *(uint64_t *)at > 0;
+}
+
 bool read_word(const char *word, void *at)
 {
     *(const char **)at = word;

@@ -21,6 +21,9 @@ bool process_is_shut;
 /* Milliseconds of a rest. */
 enum { REST = 100 };
 
+/* Files whose closing is put off. */
+enum { MOST_PUT_OFF = 128 };
+
 /* Whether SIGHUP is for the configuration, and doesn't end the process. */
 static bool hangup_reloads;
 
@@ -149,8 +152,31 @@ int file_number(int file, const char *name)
     return at ? atoi(at + strlen(name)) : -1;
 }
 
+/* Files that are to be closed: as many as a message lets go of at most, those of a client. */
+static struct {
+    int files[MOST_PUT_OFF];
+    unsigned count;
+    bool puts_off;
+} later;
+
 void file_close(int file)
 {
-    if (close(file))
+    if (later.puts_off && later.count < MOST_PUT_OFF)
+        later.files[later.count++] = file;
+    else if (close(file))
         complain("a file can't be closed: %s", strerror(errno));
+}
+
+void files_let_go(void)
+{
+    for (unsigned i = 0; i < later.count; i++)
+        if (close(later.files[i]))
+            complain("a file can't be closed: %s", strerror(errno));
+    later.count = 0;
+}
+
+void files_put_off(bool puts_off)
+{
+    files_let_go();
+    later.puts_off = puts_off;
 }

@@ -46,7 +46,12 @@ extern bool process_is_shut;
  * opened. */
 int file_number(int file, const char *name);
 
-/* Closes a file; says where that fails. */
+/* Closes a file; says where that fails. Where closing is put off, it is closed at the next files_let_go: until then a process that goes on
+ * where this one was may want it. */
 void file_close(int file);
+
+/* Whether closing is put off from now on; and closes what was put off. */
+void files_put_off(bool puts_off);
+void files_let_go(void);
 
 #endif

@@ -2,6 +2,9 @@
 #include "ring_layout.h"
 #include "vhost_user.h"
 
+/* Chains that a process uses at most before what it is is kept again: some turns of a queue. */
+enum { MOST_USED = 16 * MOST_CHAINS };
+
 /* The statuses of a driver that starts (VIRTIO 1.1, 2.1). */
 enum { ACKNOWLEDGE = 1, DRIVER = 3, FEATURES_OK = 11, DRIVER_OK = 15, FAILED_BIT = 128 };
 
@@ -160,6 +163,8 @@ static bool start(struct backend *backend, unsigned number)
     ring->runs = true;
     if (kind == VB_INFLATE && !begin_life(backend, at.next))
         return false;
+    if (backend->keep)
+        backend->keep(backend);
     if (at.next > 0 && !backend->tell(backend, (int)number)) /* who was served last may not have been told of it */
         return refuse("the client can't be told of a used buffer");
     /* The status looks at each queue once, which may leave more than a notice serves. */
@@ -210,6 +215,43 @@ bool rings_hold(struct backend *backend)
     for (unsigned number = 0; number < QUEUES; number++)
         if (backend->rings[number].runs && !holds(backend, number))
             return refuse("queue %u isn't in the guest's memory any longer", number);
+    return true;
+}
+
+void rings_keep(const struct backend *backend, struct ring kept[QUEUES])
+{
+    for (unsigned number = 0; number < QUEUES; number++) {
+        kept[number] = backend->rings[number];
+        if (kept[number].runs)
+            kept[number].base = queue_of(backend, kind_of(backend, number))->next_used;
+    }
+}
+
+/* Finds where a ring goes on that ran in another process: what that one has used since it was kept is seen in the guest's memory. */
+static bool find_used(struct backend *backend, unsigned number)
+{
+    struct ring *ring = &backend->rings[number];
+    uint64_t used;
+    uint16_t now;
+    if (!memory_of_user(&backend->memory, ring->used, &used) || !memory_word(&backend->memory, used + RING_INDEX_AT, &now))
+        return refuse("queue %u isn't in the guest's memory", number);
+    if ((uint16_t)(now - ring->base) > MOST_USED)
+        return refuse("queue %u has the used index %u, and had %u", number, now, ring->base);
+    ring->base = now;
+    ring->runs = false;
+    return true;
+}
+
+bool rings_regain(struct backend *backend, const struct told *told, const struct ring kept[QUEUES])
+{
+    backend->told = *told;
+    memcpy(backend->rings, kept, sizeof backend->rings);
+    for (unsigned number = 0; number < QUEUES; number++)
+        if (backend->rings[number].runs && !find_used(backend, number))
+            return false;
+    if (told->negotiated && rings_negotiate(backend, told->features) != 0)
+        return refuse("the features aren't taken again");
+    backend->told = *told;
     return true;
 }
 

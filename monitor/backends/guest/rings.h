@@ -69,6 +69,11 @@ void rings_halt(struct backend *backend);
 /* As rings_halt, and forgets the indexes, too. */
 void rings_forget(struct backend *backend);
 
+/* The rings as another process begins with them; and takes them so, over the memory that they lay in, to be started by rings_settle. False
+ * where the guest has changed what isn't the driver's, which is said. */
+void rings_keep(const struct backend *backend, struct ring kept[QUEUES]);
+bool rings_regain(struct backend *backend, const struct told *told, const struct ring kept[QUEUES]);
+
 /* The end of a driver's life without another one that goes on: nothing is in the balloon any longer. */
 bool rings_reset(struct backend *backend);
 

@@ -26,7 +26,7 @@ struct allowed {
 static const struct allowed calls[] = {
     /* The client, the lender, kicks and interrupts. No file goes to anybody: there is no sendmsg. */
     ANY(accept4), ANY(recvmsg), ANY(recvfrom), WITH(sendto, 4, SCMP_CMP_EQ, 0, 0), ANY(poll), ANY(ppoll), ANY(getsockopt),
-    ANY(read), ANY(write), ANY(preadv2), ANY(setitimer), ANY(close),
+    ANY(read), ANY(write), ANY(preadv2), ANY(splice), ANY(setitimer), ANY(close),
     /* The guest's memory, which is never code. */
     WITH(mmap, 2, SCMP_CMP_MASKED_EQ, PROT_EXEC, 0), ANY(munmap), ANY(madvise), ANY(fallocate), ANY(fstatfs), ANY(fstat),
     WITH(newfstatat, 3, SCMP_CMP_EQ, AT_EMPTY_PATH, 0), WITH(fcntl, 1, SCMP_CMP_EQ, F_GETFL, 0),
@@ -48,7 +48,7 @@ static int allow(scmp_filter_ctx filter)
 }
 
 /* Gives up all privileges, also those that the lender may have for the sake of limits, and new ones. */
-static bool give_up(void)
+bool privileges_give_up(void)
 {
     struct __user_cap_header_struct head = {_LINUX_CAPABILITY_VERSION_3, 0};
     struct __user_cap_data_struct none[_LINUX_CAPABILITY_U32S_3] = {{0, 0, 0}};
@@ -57,7 +57,7 @@ static bool give_up(void)
 
 bool sandbox_enter(void)
 {
-    if (!give_up())
+    if (!privileges_give_up())
         return complain("privileges can't be given up: %s", strerror(errno)), false;
     scmp_filter_ctx filter = seccomp_init(SCMP_ACT_KILL_PROCESS);
     if (!filter)

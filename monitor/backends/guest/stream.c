@@ -8,39 +8,54 @@
 #include <sys/socket.h>
 #include <unistd.h>
 
-/* Keeps the files of one part of what came beside the bytes; those for which there is no room are closed. */
+static bool has_file(const struct files *files, int file)
+{
+    for (unsigned i = 0; i < files->count; i++)
+        if (files->numbers[i] == file)
+            return true;
+    return false;
+}
+
+/* Keeps the files of one part of what came beside the bytes. Those for which there is no room stay open: who sends more files than that isn't served any
+ * longer. */
 static void keep_files(struct files *files, const struct cmsghdr *part)
 {
     size_t count = (part->cmsg_len - CMSG_LEN(0)) / sizeof(int);
     const unsigned char *data = CMSG_DATA(part);
-    for (size_t i = 0; i < count; i++) {
+    for (size_t i = 0; i < count && i < MOST_FILES; i++) {
         int file;
         memcpy(&file, data + i * sizeof file, sizeof file);
-        if (files->count < MOST_FILES) {
+        if (has_file(files, file))
+            continue;
+        if (files->count < MOST_FILES)
             files->numbers[files->count++] = file;
-        } else {
-            file_close(file);
+        else
             files->lost = true;
-        }
     }
+}
+
+void files_take(struct files *files)
+{
+    struct msghdr *header = &files->beside.header;
+    header->msg_control = files->beside.control;
+    if (header->msg_controllen > sizeof files->beside.control)
+        header->msg_controllen = 0;
+    files->lost |= (header->msg_flags & MSG_CTRUNC) != 0;
+    for (struct cmsghdr *it = CMSG_FIRSTHDR(header); it; it = CMSG_NXTHDR(header, it))
+        if (it->cmsg_level == SOL_SOCKET && it->cmsg_type == SCM_RIGHTS)
+            keep_files(files, it);
 }
 
 ssize_t stream_part(int socket, void *to, size_t length, struct files *files)
 {
-    union {
-        char bytes[CMSG_SPACE(MOST_FILES * sizeof(int))];
-        struct cmsghdr aligned;
-    } control;
+    struct beside *beside = &files->beside;
     struct iovec part = {to, length};
-    struct msghdr header = {
-        .msg_iov = &part, .msg_iovlen = 1, .msg_control = &control, .msg_controllen = sizeof control.bytes};
-    ssize_t got = recvmsg(socket, &header, MSG_CMSG_CLOEXEC | MSG_DONTWAIT);
+    beside->header = (struct msghdr){
+        .msg_iov = &part, .msg_iovlen = 1, .msg_control = beside->control, .msg_controllen = sizeof beside->control};
+    ssize_t got = recvmsg(socket, &beside->header, MSG_CMSG_CLOEXEC | MSG_DONTWAIT);
     if (got < 0)
         return errno == ECONNRESET ? 0 : -1;
-    files->lost |= (header.msg_flags & MSG_CTRUNC) != 0;
-    for (struct cmsghdr *it = CMSG_FIRSTHDR(&header); it; it = CMSG_NXTHDR(&header, it))
-        if (it->cmsg_level == SOL_SOCKET && it->cmsg_type == SCM_RIGHTS)
-            keep_files(files, it);
+    files_take(files);
     return got;
 }
 

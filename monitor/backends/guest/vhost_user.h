@@ -68,12 +68,16 @@ bool message_wants_answer(const struct message *message);
 uint32_t message_u32(const struct message *message, unsigned at);
 uint64_t message_u64(const struct message *message, unsigned at);
 
+/* Puts an answer to a message, with this body, into `bytes`; how many there are, 0 where there are too many. */
+enum { MOST_MESSAGE = 12 + MOST_BODY };
+size_t message_answer_bytes(const struct message *message, const void *body, size_t size, uint8_t bytes[MOST_MESSAGE]);
+
 /* Answers a message with these bytes; false where the client doesn't take them at once. */
 bool message_answer(int socket, const struct message *message, const void *body, size_t size);
 
 struct backend;
 
-/* Serves a message; false where the client can't be served any longer, which is said. */
+/* Serves a message, or what is left of it where its outcome is known; false where the client can't be served any longer, which is said. */
 bool message_serve(struct backend *backend, struct message *message);
 
 /* Tells the client of a used buffer on a queue, or of a change of the configuration (queue -1). False where it doesn't

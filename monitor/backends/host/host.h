@@ -43,8 +43,9 @@ struct seat {
     struct limit_writer writer;
     /* Its process. */
     bool here;                  /* there is one */
-    pid_t process;              /* its number, by the kernel's word */
-    int process_file;           /* readable once it has ended; -1: its channel ends then */
+    pid_t process;              /* the number of its keeper, by the kernel's word */
+    int process_file;           /* readable once that has ended; -1: its channel ends then */
+    pid_t serving;              /* the number of the process that has sent the last report: another one may go on where it ends */
     int channel;                /* -1: none */
     bool gone;                  /* its client has gone; the process hasn't ended yet */
     bool refused;               /* its client isn't served any longer, as it broke a rule or found no room */
@@ -109,7 +110,8 @@ struct question {
 };
 
 struct host {
-    const char *folder, *program;
+    const char *folder, *program;       /* program: of guests' processes */
+    const char *itself;         /* the lender's own program */
     uint64_t features;
     VbLoan loans[2 * MOST_GUESTS];      /* by the places of seats */
     bool strict, strict_pages, events, no_sandbox, end_with_lender;
@@ -125,6 +127,7 @@ struct host {
     int64_t decides_at;         /* what guests do isn't decided on before this */
     int64_t stepped_at;         /* when targets were last let grow */
     int end;                    /* has something to read once a signal tells the host to end */
+    bool upgrades;              /* it is to become the program that is there now */
     bool leaves;                /* it ends alone, and guests' processes live on */
     bool anew;                  /* the guests, the budget or the floor have changed */
     enum reason reason;         /* which of them */
@@ -215,8 +218,11 @@ void seat_step(struct seat *seat, int64_t milliseconds);
 /* Has its process keep its terms for a later lender. */
 void seat_keep_terms(struct seat *seat);
 
-/* Tells its process to end. */
+/* Tells its process to end; says so again where it hasn't ended. */
 void seat_leave(struct seat *seat);
+
+/* Has another process, of the program that is there now, go on with its client. */
+void seat_renew(struct seat *seat);
 
 /* Answers its process, which waits for pages: whether they may be had. And grants the deflate that its process holds. What it may have is
  * told it once its limit allows it. */

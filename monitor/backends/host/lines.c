@@ -23,7 +23,7 @@ static void print_seat(const struct seat *seat)
     fprintf(to, " inflated %" PRIu64 " deflated %" PRIu64 " reported %" PRIu64 " taken %" PRIu64 " statistics %" PRIu64,
             counters->inflated, counters->deflated, counters->reported, counters->taken, counters->statistics);
     fprintf(to, " available %" PRIu32 " asked %" PRIu32 " least %" PRIu32 " most %" PRIu32 " priority %" PRIu32 " reports %d process %d lent %" PRIu32 " waits %s",
-            seat->available, seat->told, seat->terms.least, seat->terms.most, seat->terms.priority, seat_reports(seat), (int)seat->process,
+            seat->available, seat->told, seat->terms.least, seat->terms.most, seat->terms.priority, seat_reports(seat), (int)seat->serving,
             seat->host->loans[seat->place].lent, guest_wait_word(seat->waits_for));
     fprintf(to, " overhead %" PRIu32 " limit %" PRIu64 " limit_failures %" PRIu64 " cooperates %d\n", seat->terms.overhead,
             seat->writer.written, seat->writer.failures, seat->cooperates);

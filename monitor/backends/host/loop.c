@@ -45,6 +45,8 @@ static void look(struct host *host)
     loans_audit(host);
     policy_decide(host);
     loans_grant(host);
+    for (unsigned i = 0; i < host->leaving_count; i++)
+        seat_leave(host->leaving[i]);
     for (unsigned i = 0; i < host->count; i++) {
         host->seats[i]->silent++;
         seat_look(host->seats[i], true);
@@ -248,6 +250,8 @@ int host_run(struct host *host)
         bury(host);
         serve_extras(host, &turn);
         if (turn.files[END].revents || !serve_lines(host, &turn))
+            return 0;
+        if (host->upgrades)
             return 0;
         int64_t now = host_now();
         step(host, now);

@@ -1,3 +1,4 @@
+#define _GNU_SOURCE
 #include "message.h"
 
 #include <sys/socket.h>
@@ -8,9 +9,9 @@ bool lending_send(int channel, struct lending_message *message)
     return channel >= 0 && send(channel, message, sizeof *message, MSG_DONTWAIT | MSG_NOSIGNAL) == (ssize_t)sizeof *message;
 }
 
-int lending_read(int channel, struct lending_message *message)
+/* What has come, by what the read of a message has answered. */
+static int take(ssize_t got, struct lending_message *message)
 {
-    ssize_t got = recv(channel, message, sizeof *message, MSG_DONTWAIT | MSG_TRUNC);
     if (got < 0)
         return errno == EAGAIN || errno == EINTR ? 0 : -1;
     if (got != (ssize_t)sizeof *message || message->version != LENDING_VERSION)
@@ -18,4 +19,32 @@ int lending_read(int channel, struct lending_message *message)
     message->words[MOST_WORDS - 1] = 0;
     message->figure_count = message->figure_count < MOST_TAGS ? message->figure_count : MOST_TAGS;
     return 1;
+}
+
+int lending_read(int channel, struct lending_message *message)
+{
+    return take(recv(channel, message, sizeof *message, MSG_DONTWAIT | MSG_TRUNC), message);
+}
+
+bool lending_names_senders(int channel)
+{
+    return !setsockopt(channel, SOL_SOCKET, SO_PASSCRED, &(int){1}, sizeof(int));
+}
+
+/* There is room for the sender's number alone: a file that came beside would be dropped by the kernel. */
+int lending_read_from(int channel, struct lending_message *message, pid_t *sender)
+{
+    union {
+        char bytes[CMSG_SPACE(sizeof(struct ucred))];
+        struct cmsghdr aligned;
+    } control;
+    struct iovec part = {message, sizeof *message};
+    struct msghdr header = {.msg_iov = &part, .msg_iovlen = 1, .msg_control = &control, .msg_controllen = sizeof control};
+    int got = take(recvmsg(channel, &header, MSG_DONTWAIT | MSG_TRUNC), message);
+    const struct cmsghdr *its = got > 0 ? CMSG_FIRSTHDR(&header) : NULL;
+    struct ucred credentials = {0};
+    if (its && its->cmsg_level == SOL_SOCKET && its->cmsg_type == SCM_CREDENTIALS)
+        memcpy(&credentials, CMSG_DATA(its), sizeof credentials);
+    *sender = credentials.pid;
+    return got;
 }

@@ -5,6 +5,8 @@
 #define MESSAGE_H
 #include "../guest/backend.h"
 
+#include <sys/types.h>
+
 enum { LENDING_VERSION = 1, MOST_WORDS = 256 };
 
 enum lending_kind {
@@ -22,6 +24,8 @@ enum lending_kind {
     TELL_REFUSED,               /* its client isn't served any longer, by `words` */
     TELL_REMARK,                /* words, while all goes on */
     TELL_GONE,                  /* its client has gone; the process ends */
+    /* Of the lender: the numbers above stay, as processes of other versions know them. */
+    ORDER_RENEW,                /* another process goes on, of the program that is there now */
 };
 
 /* For what a guest's process waits before it answers its client. */
@@ -65,5 +69,9 @@ bool lending_send(int channel, struct lending_message *message);
 
 /* Reads the next message: 1; 0 where there is none yet; -1 where the other end has gone, or has sent something else. */
 int lending_read(int channel, struct lending_message *message);
+
+/* The same of a channel that names senders, with the number of the process that has sent it, by the kernel's word; 0 where that isn't known. */
+bool lending_names_senders(int channel);
+int lending_read_from(int channel, struct lending_message *message, pid_t *sender);
 
 #endif

@@ -93,6 +93,12 @@ void seat_keep_terms(struct seat *seat)
     order(seat, &message);
 }
 
+void seat_renew(struct seat *seat)
+{
+    struct lending_message message = {.kind = ORDER_RENEW};
+    order(seat, &message);
+}
+
 void seat_leave(struct seat *seat)
 {
     struct lending_message message = {.kind = ORDER_LEAVE};

@@ -122,13 +122,26 @@ static void print_words(struct lending_message *message)
         complain("%s", message->words);
 }
 
-static void take(struct seat *seat, struct lending_message *message)
+/* Whether a process keeps the terms that its guest has. */
+static bool keeps_terms(const struct seat *seat)
+{
+    const struct kept_terms *kept = &seat->report.terms;
+    const struct guest_terms *its = &seat->terms;
+    return seat->report.has_terms && kept->least == its->least && kept->most == its->most && kept->priority == its->priority
+        && (kept->strict != 0) == its->strict;
+}
+
+static void take(struct seat *seat, struct lending_message *message, pid_t sender)
 {
     if (seat->gone)
         return;
-    if (message->kind == TELL_REPORT)
+    if (message->kind == TELL_REPORT) {
+        seat->serving = sender;
         take_report(seat, message);
-    else if (message->kind == TELL_GONE)
+        if (!keeps_terms(seat))
+            seat_keep_terms(seat);
+    }
+    if (message->kind == TELL_GONE)
         take_leave(seat);
     else if (message->kind == TELL_REFUSED || message->kind == TELL_REMARK)
         print_words(message);
@@ -138,10 +151,11 @@ static void take(struct seat *seat, struct lending_message *message)
 unsigned seat_read(struct seat *seat, unsigned most)
 {
     struct lending_message message;
+    pid_t sender;
     unsigned count = 0;
     speaker_begins(&seat->speaker);
     while (count < most && seat->channel >= 0) {
-        int got = lending_read(seat->channel, &message);
+        int got = lending_read_from(seat->channel, &message, &sender);
         if (got < 0) {
             file_close(seat->channel);
             seat->channel = -1;
@@ -149,7 +163,7 @@ unsigned seat_read(struct seat *seat, unsigned most)
         if (got <= 0)
             break;
         count++;
-        take(seat, &message);
+        take(seat, &message, sender);
     }
     speaker_ends();
     return count;

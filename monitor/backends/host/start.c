@@ -86,7 +86,8 @@ static int listen_later(const char *path)
 static int open_files(struct seat *seat, int handed[FILES_HANDED])
 {
     int pair[2] = {-1, -1}, later = -1, why = 0;
-    if (socketpair(AF_UNIX, SOCK_SEQPACKET | SOCK_CLOEXEC | SOCK_NONBLOCK, 0, pair) || (later = listen_later(seat->later_path)) < 0)
+    if (socketpair(AF_UNIX, SOCK_SEQPACKET | SOCK_CLOEXEC | SOCK_NONBLOCK, 0, pair) || !lending_names_senders(pair[0])
+        || (later = listen_later(seat->later_path)) < 0)
         why = errno;
     const int files[FILES_HANDED] = {seat->listener, pair[1], later};
     for (int i = 0; i < FILES_HANDED; i++) {
@@ -158,7 +159,7 @@ static int connect_later(const char *path)
     struct sockaddr_un address = {.sun_family = AF_UNIX};
     int channel = socket(AF_UNIX, SOCK_SEQPACKET | SOCK_CLOEXEC | SOCK_NONBLOCK, 0);
     strcpy(address.sun_path, path);
-    if (channel < 0 || !connect(channel, (struct sockaddr *)&address, sizeof address))
+    if (channel < 0 || (lending_names_senders(channel) && !connect(channel, (struct sockaddr *)&address, sizeof address)))
         return channel;
     file_close(channel);
     return -1;

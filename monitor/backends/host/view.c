@@ -89,7 +89,7 @@ void host_see_guest(const struct host *host, unsigned number, struct guest_view 
     const struct lending_message *report = &seat->report;
     const VbLoan *loan = &host->loans[seat->place];
     *view = (struct guest_view){
-        .name = seat->name, .path = seat->path, .process = seat->process, .version = report->words, .state = state_of(seat), .terms = seat->terms,
+        .name = seat->name, .path = seat->path, .process = seat->serving, .version = report->words, .state = state_of(seat), .terms = seat->terms,
         .pages = seat->pages, .held_kib = report->held_kib, .loan = loan->lent, .excess = loan_excess(seat), .asked = loan->asked,
         .granted = seat->granted, .limit = seat->writer.written, .limit_failures = seat->writer.failures, .target = seat->target,
         .ballooned = report->ballooned, .actual = report->actual, .free = seat->free, .available = seat->available,

@@ -41,7 +41,7 @@ enum { USUAL_OVERHEAD = 64 * 256 };
 struct guest_view {
     const char *name;           /* until the next call that adds or removes a guest */
     const char *path;           /* of the socket where its client comes */
-    pid_t process;              /* 0: none */
+    pid_t process;              /* that serves it; 0: none, or none that has reported */
     const char *version;        /* of its process, as that one says: letters, digits, dots and signs; empty where it says none */
     enum guest_state state;
     struct guest_terms terms;
@@ -100,6 +100,11 @@ const char *host_set_terms(struct host *host, const char *name, const struct gue
 const char *host_refuses(const struct host *host, const char *name, const struct guest_terms *terms);
 /* A target by hand: it stays while it serves. */
 const char *host_set_target(struct host *host, const char *name, uint32_t pages);
+
+/* An upgrade: the lender ends this turn as the program that is there now, where that runs; and a guest's process is to go on as the one that is
+ * there now, which its next report shows. One that waits for pages isn't asked in vain: it has to be asked again. */
+const char *host_upgrade(struct host *host);
+const char *host_renew(struct host *host, const char *name);
 
 /* The words for a state and for what is waited for, of one word each. */
 const char *guest_state_word(enum guest_state state);

@@ -18,4 +18,7 @@ void notify_keep(const char *name, int file);
 /* A listening socket of this name, that was handed over by the service manager or kept by the process before; -1: none. */
 int notify_socket(const char *name);
 
+/* A program that this process becomes finds these sockets by these names, as notify_socket does: at most four. */
+void notify_hand_on(const int *files, const char *const *names, unsigned count);
+
 #endif

@@ -233,6 +233,17 @@ bool service_begin(struct service *service, struct host *host, const char *folde
     return true;
 }
 
+void service_hand_on(const struct service *service)
+{
+    int listeners[CONTROL_SOCKETS];
+    const char *names[CONTROL_SOCKETS];
+    for (unsigned i = 0; i < CONTROL_SOCKETS; i++) {
+        listeners[i] = service->control.sockets[i].listener;
+        names[i] = control_socket_word(i);
+    }
+    notify_hand_on(listeners, names, CONTROL_SOCKETS);
+}
+
 void service_end(struct service *service)
 {
     notify_ends();

@@ -38,6 +38,9 @@ void service_defaults(struct service *service);
  * where it can't, which is said. Then the service manager is told that the host is ready. */
 bool service_begin(struct service *service, struct host *host, const char *folder);
 
+/* The process is to become another program of the host: that one finds the control sockets where they are, as after a service manager. */
+void service_hand_on(const struct service *service);
+
 /* The host ends: the service manager is told, clients of the control sockets are dropped. */
 void service_end(struct service *service);
 

@@ -107,7 +107,7 @@ def test_the_page_of_the_configuration_names_each_key():
 
 # What is typed, and what it may become.
 COMPLETIONS = (
-    (["bigvasta", ""], {"status", "guest", "add", "remove", "budget", "floor", "log", "watch", "metrics", "plan", "--help", "--version"}),
+    (["bigvasta", ""], {"status", "guest", "add", "remove", "budget", "floor", "log", "watch", "metrics", "upgrade", "plan", "--help", "--version"}),
     (["bigvasta", "st"], {"status"}),
     (["bigvasta", "guest", ""], {"web-1", "web-2"}),
     (["bigvasta", "remove", "--control", "{control}", "web-1"], set()),
@@ -116,6 +116,7 @@ COMPLETIONS = (
     (["bigvasta", "add", "web-3", "t"], set()),
     (["bigvasta", "add", "web-3", "m"], {"most="}),
     (["bigvasta", "log", "--s"], {"--since"}),
+    (["bigvasta", "upgrade", "--"], {"--control", "--json", "--help"}),
     (["bigvasta", "plan", "--s"], {"--scheduler", "--seed", "--steps"}),
     (["bigvasta", "status", "--"], {"--control", "--json", "--help", "--names"}),
 )

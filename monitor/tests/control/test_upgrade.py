@@ -2,6 +2,7 @@
 version."""
 
 import os
+import shutil
 
 import linux_kit
 from hosts import Answering, Host, bigvasta, eventually, limit_from_now
@@ -56,3 +57,73 @@ def test_guests_live_through_an_upgrade(program, folder, tmp_path):
     for name in ("old", "new"):
         second.ask("remove", name=name)
     assert second.end() == 0
+
+
+def install(program, folder):
+    """Puts the programs of a host in the place of those that are there; returns the path of the host's."""
+    folder.mkdir(exist_ok=True)
+    for name in ("vhost_user_host", "vhost_user_balloon"):
+        shutil.copy(os.path.join(os.path.dirname(program), name), folder / f"{name}.new")
+        os.rename(folder / f"{name}.new", folder / name)
+    return str(folder / "vhost_user_host")
+
+
+def test_one_command_upgrades_the_host_and_its_guests(program, folder, tmp_path):
+    installed = tmp_path / "installed"
+    host = begin(install(older_program(tmp_path), installed), folder)
+    guests = [come(host, it) for it in "ab"]
+    host.ask("add", name="absent")
+    before = {it: host.guest(it)["process"] for it in "ab"}
+    install(program, installed)
+    ran = bigvasta(host.control, "upgrade")
+    assert (ran.returncode, ran.stderr) == (0, "")
+    assert ran.stdout.splitlines() == [f"{it}: {OLDER} -> {version()}" for it in ("host", "a", "b")]
+    assert host.process.poll() is None and host.status()["version"] == version()
+    for name, guest in zip("ab", guests):
+        eventually(lambda: host.guest(name)["answers"])
+        assert (guest.is_alive(), host.guest(name)["version"], host.guest(name)["memory"] > 0) == (True, version(), True)
+        assert host.guest(name)["process"] != before[name]
+    assert host.guest("absent")["state"] == "absent"
+    # Once more, where nothing is newer: the versions are the same, and guests live on.
+    assert bigvasta(host.control, "upgrade").stdout.splitlines() == [f"{it}: {version()} -> {version()}" for it in ("host", "a", "b")]
+    for name in ("a", "b", "absent"):
+        host.ask("remove", name=name)
+    assert host.end() == 0
+
+
+def test_a_program_that_does_not_run_upgrades_nothing(program, folder, tmp_path):
+    installed = tmp_path / "installed"
+    host = begin(install(program, installed), folder)
+    come(host, "a")
+    process = host.guest("a")["process"]
+    for broken in ("vhost_user_host", "vhost_user_balloon"):
+        os.rename(installed / broken, installed / "aside")
+        (installed / broken).write_text("#!/bin/sh\nexit 1\n"), os.chmod(installed / broken, 0o755)
+        ran = bigvasta(host.control, "upgrade")
+        assert (ran.returncode, ran.stdout, ran.stderr) == (1, "", f"bigvasta: {installed / broken}: it doesn't say its version\n")
+        os.rename(installed / "aside", installed / broken)
+    assert host.guest("a")["process"] == process
+    host.ask("remove", name="a")
+    assert host.end() == 0
+
+
+def test_a_process_whose_program_does_not_go_on_stays(program, folder, tmp_path):
+    installed = tmp_path / "installed"
+    host = begin(install(older_program(tmp_path), installed), folder)
+    come(host, "a")
+    install(program, installed)
+    # It says its version, and doesn't know what is kept.
+    (installed / "vhost_user_balloon").unlink()
+    (installed / "vhost_user_balloon").write_text("#!/bin/sh\n[ $1 = --version ]\n"), os.chmod(installed / "vhost_user_balloon", 0o755)
+    ran = bigvasta(host.control, "upgrade")
+    said = [f"host: {OLDER} -> {version()}", f"a: {OLDER} stays, until its client comes anew"]
+    assert (ran.returncode, ran.stdout.splitlines()) == (5, said)
+    eventually(lambda: host.guest("a")["answers"])
+    assert host.guest("a")["memory"] > 0
+    host.ask("remove", name="a")
+    assert host.end() == 0
+
+
+def test_the_upgrade_of_a_host_that_is_not_there(tmp_path):
+    ran = bigvasta(str(tmp_path / "nowhere"), "upgrade")
+    assert (ran.returncode, ran.stdout) == (3, "")

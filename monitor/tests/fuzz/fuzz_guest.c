@@ -1,22 +1,37 @@
 /* A guest's process of a host that lends, fuzzed: any messages, bytes and files of its client, any rings and memory, and any orders of its
- * lender, in any order. After each step its count of pages in the balloon is that of its set, and in the end no file is left open. */
+ * lender, in any order; now and then another process goes on with what is kept. After each step its count of pages in the balloon is that of its set, and in the end no file is left open. */
 #define _GNU_SOURCE
 #include "../../backends/guest/lent.c"
 #include "client.h"
 #include "script.h"
 
-#include <stdlib.h>
+#include <setjmp.h>
+#include <signal.h>
+#include <stddef.h>
+#include <sys/mman.h>
+#include <sys/socket.h>
 #include <sys/un.h>
+#include <unistd.h>
 
 struct script script;
 
 static struct lent fuzzed;
+static struct kept kept;
+static struct options options;
+static bool ends;               /* the process is to end after this turn */
+static unsigned ends_at;        /* or at this one of the moments at which it is kept; 0: at none */
+static jmp_buf ended;
+
+/* Turns in which messages are served that are left at the end. */
+enum { MOST_LEFT = 8 };
 static int lender, later;       /* the lender's end of the channel; where a later one comes */
 static struct timespec now;
 
 int __real_poll_some(struct pollfd *files, nfds_t count, int limit);
 int __wrap_poll_some(struct pollfd *files, nfds_t count, int limit);
 int __wrap_clock_gettime(clockid_t clock, struct timespec *time);
+void __real_kept_save(struct lent *lent);
+void __wrap_kept_save(struct lent *lent);
 int LLVMFuzzerTestOneInput(const uint8_t *data, size_t size);
 
 /* Each look at the clock is ten milliseconds after the one before. */
@@ -34,7 +49,7 @@ int __wrap_clock_gettime(clockid_t clock, struct timespec *time)
 static void lender_orders(void)
 {
     struct lending_message order = {.kind = next_below(10), .number = next_byte(), .asks = 1};
-    order.wait = next_byte() < 200 ? (order.kind == ORDER_GRANT ? fuzzed.held_wait : fuzzed.wait) : next_byte();
+    order.wait = next_byte() < 200 ? (order.kind == ORDER_GRANT ? fuzzed.notes.held_wait : fuzzed.notes.wait) : next_byte();
     order.target = order.kind == ORDER_TARGET ? next_u32() % 100 : 0;
     if (next_byte() == 255)
         send(lender, &order, next_byte(), MSG_DONTWAIT | MSG_NOSIGNAL);
@@ -93,11 +108,23 @@ static void act(void)
     static void (*const acts[])(void) = {client_sends, client_sends, client_posts, client_posts, client_scribbles, lender_orders,
                                          client_kicks, client_babbles};
     unsigned what = next_byte();
+    ends = what >= 244 && what < 250;
+    ends_at = what >= 247 && ends ? 1 + next_below(4) : 0;
     if (what >= 250)
         lender_changes(what % 2);
-    else
+    else if (ends_at > 0)
+        client_sends();
+    else if (!ends)
         acts[what % (sizeof acts / sizeof acts[0])]();
     lender_hears();
+}
+
+/* Where the process is kept it may end. */
+void __wrap_kept_save(struct lent *lent)
+{
+    __real_kept_save(lent);
+    if (ends_at > 0 && --ends_at == 0)
+        longjmp(ended, 1);
 }
 
 /* The set has as many pages as are counted. */
@@ -108,33 +135,75 @@ static void check_balloon(void)
         demand(vb_count_ballooned(balloon->ballooned, balloon->ballooned_words) == fuzzed.backend.ballooned);
 }
 
-static void comes(struct options *options)
+/* A process begins on what is kept. */
+static int process_begins(void)
+{
+    ends_at = 0;
+    fuzzed = (struct lent){.kept = &kept};
+    rings_clear(&fuzzed.backend);
+    demand(backend_start(&fuzzed.backend, &options));
+    set_hooks(&fuzzed);
+    demand(kept_regain(&kept));
+    return guard(go_on, &fuzzed);
+}
+
+/* A process ends as it has read a message, or some bytes that it hasn't noted. */
+static void reads(void)
+{
+    struct inbox *inbox = &kept.inbox;
+    client_sends();
+    kept.unnoted = 0;
+    if (next_byte() % 2 && inbox_read(fuzzed.backend.socket, inbox) == STREAM_WHOLE)
+        return;
+    bool of_head = inbox->got < sizeof inbox->head;
+    uint8_t *to = of_head ? (uint8_t *)inbox->head + inbox->got : inbox->message.body + inbox->got_body;
+    size_t length = of_head ? sizeof inbox->head - inbox->got : inbox->head[2] <= MOST_BODY ? inbox->head[2] - inbox->got_body : 0;
+    ssize_t got = length > 0 ? stream_part(fuzzed.backend.socket, to, length, &inbox->message.files) : 0;
+    kept.unnoted = got > 0 ? (uint64_t)got : 0;
+}
+
+/* The process ends, with nothing that it has mapped, and another one goes on. */
+static int another_goes_on(void)
+{
+    const struct guest_memory *memory = &fuzzed.backend.memory;
+    for (unsigned i = 0; i < memory->count; i++)
+        munmap(memory->regions[i].host, memory->regions[i].length);
+    kept.unnoted = 0;
+    if (!kept_state(&kept)->outcome && next_byte() % 4)
+        reads();
+    return process_begins();
+}
+
+static int comes(void)
 {
     int ends[2];
     now = (struct timespec){1, 0};
     unsigned kind = next_byte();
-    *options = (struct options){.client = "fuzzed", .features = UINT64_C(1) << 32 | 0x27, .is_lent = true, .holds = kind & 1,
-                                .strict = kind & 2, .events = kind & 4};
-    fuzzed = (struct lent){0};
-    rings_clear(&fuzzed.backend);
-    demand(backend_start(&fuzzed.backend, options));
+    options = (struct options){.client = "fuzzed", .features = UINT64_C(1) << 32 | 0x27, .is_lent = true, .holds = kind & 1,
+                               .strict = kind & 2, .events = kind & 4};
+    memset(&kept, 0, offsetof(struct kept, set));
+    kept_clear(&kept);
+    demand(outbox_begin(&kept.outbox));
     demand(!socketpair(AF_UNIX, SOCK_SEQPACKET | SOCK_CLOEXEC | SOCK_NONBLOCK, 0, ends));
-    fuzzed.backend.socket = client_comes();
+    struct kept_state *state = &kept.states[0];
+    state->socket = client_comes();
     lender = ends[0];
-    fuzzed.channel = ends[1];
-    fuzzed.later = later;
-    fuzzed.end = -1;
-    set_hooks(&fuzzed);
+    state->notes.channel = ends[1];
+    state->notes.later = later;
+    files_put_off(true);
+    return process_begins();
 }
 
 static void goes(void)
 {
+    files_put_off(false);
+    memset(kept.set, 0, fuzzed.backend.balloon.ballooned_words * sizeof *kept.set);
     backend_leave(&fuzzed.backend);
-    files_close(&fuzzed.inbox.message.files);
-    free(fuzzed.marks.set);
+    files_close(&kept.inbox.message.files);
+    close(kept.outbox.ends[0]), close(kept.outbox.ends[1]);
     file_close(fuzzed.backend.socket);
-    if (fuzzed.channel >= 0)
-        file_close(fuzzed.channel);
+    if (fuzzed.notes.channel >= 0)
+        file_close(fuzzed.notes.channel);
     if (lender >= 0)
         close(lender);
     client_goes();
@@ -161,23 +230,26 @@ static void listen_once(void)
 
 int LLVMFuzzerTestOneInput(const uint8_t *data, size_t size)
 {
-    struct options options;
     listen_once();
-    int before = next_file(), served = 1;
+    int before = next_file();
     script.at = data, script.end = data + size;
-    comes(&options);
+    volatile int served = comes();
     while (served > 0 && script_goes_on()) {
         act();
-        served = guard(once, &fuzzed);
+        served = setjmp(ended) == 0 ? guard(once, &fuzzed) : 1;
         check_balloon();
+        if (served > 0 && ends)
+            served = another_goes_on();
     }
-    if (served > 0) {
+    /* A message that it hasn't read yet is served before it sees the end. */
+    if (served > 0)
         client_ends();
-        demand(guard(once, &fuzzed) <= 0);
-    }
+    for (unsigned i = 0; served > 0 && i < MOST_LEFT; i++)
+        served = guard(once, &fuzzed);
+    demand(served <= 0);
     goes();
-    while ((served = accept(later, NULL, NULL)) >= 0)
-        close(served);
+    for (int it; (it = accept(later, NULL, NULL)) >= 0;)
+        close(it);
     demand(next_file() == before);
     return 0;
 }

@@ -21,7 +21,7 @@ LEAST, MOST_INPUT = 90, 400
 FUZZERS = {
     "guest": (
         ("fuzz_guest.c", "client.c"), [it for it in linux_kit.CLIENT_PARTS["vhost_user_balloon"] if it != "guest/lent"],
-        ("poll_some", "clock_gettime"), ("vhost_user_balloon",),
+        ("poll_some", "clock_gettime", "kept_save"), ("vhost_user_balloon",),
         ("guest/messages", "guest/slots", "guest/rings", "guest/ring_messages", "guest/inbox", "guest/marks", "guest/lent_channel"),
     ),
     "lender": (

@@ -17,6 +17,7 @@ QEMU there are two guests at a time, on a host with 360 MiB. The runs:
     bare      the first of the days without balloons: it goes over the budget
     rest      what the targets are once nothing moves, and once a guest has gone
     lives     a guest that is killed while its balloon is filled, and comes back; one that doesn't answer
+    anew      guests at work whose processes are killed a hundred times, amid inflates and deflates
     full      a guest for whom there is no room; a budget that is too small for a while
     trash     clients that break rules, hang in mid-message, or cut their memory off, beside guests at work
 
@@ -31,6 +32,7 @@ import time
 
 import linux_host
 import linux_kit
+from host_anew import anew_run
 from host_checks import (
     REST_LIMIT, WRONG_LIMIT, await_rest, check_spares, eventually, finish, growth, names, pages_moved, window,
 )
@@ -252,7 +254,7 @@ RUNS = {
     "shift-1": functools.partial(shift_run, seed=1), "shift-2": functools.partial(shift_run, seed=2),
     "shift-3": functools.partial(shift_run, seed=3),
     "greedy": greedy_run, "strict": strict_run, "bare": bare_run,
-    "rest": rest_run, "lives": lives_run, "full": full_run, "trash": trash_run,
+    "rest": rest_run, "lives": lives_run, "anew": anew_run, "full": full_run, "trash": trash_run,
 }
 
 

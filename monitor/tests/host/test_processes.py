@@ -38,10 +38,23 @@ def test_the_lender_has_no_file_of_a_client(lend, come):
         assert "memfd" not in maps.read()
 
 
-def test_a_process_that_is_killed_ends_its_guest_alone(lend, come):
+def test_another_process_goes_on_where_one_is_killed(lend, come):
     lender = lend(5)
     come(lender, "a", {FREE: 60}), come(lender, "b", {FREE: 60})
-    os.kill(process_of(lender, "a"), signal.SIGKILL)
+    process, other = process_of(lender, "a"), process_of(lender, "b")
+    os.kill(process, signal.SIGKILL)
+    eventually(lambda: process_of(lender, "a") != process)
+    assert (lender.counters()["gone"], process_of(lender, "b")) == (0, other)
+    lender.become("a", here=1, ready=1, answers=1)
+    assert lender.said()[-1] == "a: its process has ended by signal 9: another one goes on"
+
+
+def test_a_keeper_that_is_killed_ends_its_guest_alone(lend, come):
+    lender = lend(5)
+    come(lender, "a", {FREE: 60}), come(lender, "b", {FREE: 60})
+    process = process_of(lender, "a")
+    os.kill(int(status_of(process)["PPid"]), signal.SIGKILL)
+    eventually(lambda: has_ended(process))
     lender.become("a", here=0, pages=0, held_kib=0)
     lender.become("b", here=1, ready=1)
     assert lender.said()[-2:] == ["a: its process has ended by signal 9", "gone a"]

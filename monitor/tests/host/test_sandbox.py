@@ -49,10 +49,11 @@ def test_a_process_has_the_files_that_it_was_handed_and_no_other(lend, come):
     come(lender, "a", {FREE: 60}), come(lender, "b", {FREE: 60})
     process = process_of(lender, "b")
     links = [os.readlink(f"/proc/{process}/fd/{it}") for it in os.listdir(f"/proc/{process}/fd")]
-    known = [it for it in links if it.startswith(("socket:", "anon_inode:[signalfd]", "/memfd:", "/dev/null", lender.log))]
+    known = [it for it in links if it.startswith(("socket:", "pipe:", "anon_inode:[signalfd]", "/memfd:", "/dev/null", lender.log))]
     assert sorted(known) == sorted(links)
-    # Its client, its lender, a later lender, and the channel of its client.
-    assert len([it for it in links if it.startswith("socket:")]) == 4, links
+    # Its client, its lender, a later lender, and the channel of its client; both ends of the way by which answers go.
+    counts = [len([it for it in links if it.startswith(kind)]) for kind in ("socket:", "pipe:")]
+    assert counts == [4, 2] and len({it for it in links if it.startswith("pipe:")}) == 1, links
 
 
 def test_it_is_said_who_has_made_such_a_call(lend, come):

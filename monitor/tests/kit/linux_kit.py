@@ -24,9 +24,9 @@ VHOST_PARTS = tuple(
 )
 HOST_PARTS = (
     "folder", "input", "journal", "limit", "limit_writer", "limits", "lines", "loans", "loop", "measures", "message", "orders", "policy",
-    "reports", "seats", "start", "view",
+    "reports", "seats", "start", "upgrade", "view",
 )
-LENT_PARTS = ("guest/lent", "guest/lent_channel", "guest/marks", "guest/sandbox", "host/message")
+LENT_PARTS = tuple(f"guest/{it}" for it in ("keeper", "kept", "lent", "lent_channel", "marks", "outbox", "sandbox")) + ("host/message",)
 CLIENT_PARTS = {
     "vhost_user_balloon": (*PARTS, "guest/conventions", "guest/loop", "guest/state", *LENT_PARTS, *VHOST_PARTS),
     "pci_proxy_balloon": (*PARTS, "guest/loop", "guest/state", "guest/virtio_pci"),
@@ -53,6 +53,7 @@ WRONG_PARTS = {
     "vhost_user_balloon": ("../tests/mutants/wrong_backend",),
     "vhost_user_host": ("../tests/mutants/wrong_host", "../tests/mutants/wrong_control"),
     "lent": ("../tests/mutants/wrong_lent",),
+    "cut": ("../tests/mutants/cut_lent",),
 }
 WRONG_WRAPPED = {
     "vhost_user_balloon": (
@@ -66,6 +67,10 @@ WRONG_WRAPPED = {
         "socket_listen", "word_read", "config_read", "config_stays", "process_took_reload", "notify_ready", "notify_lives", "notify_keep",
     ),
     "lent": ("counters_taken", "marks_follow"),
+    "cut": (
+        "vb_go_on", "vb_mark", "recvmsg", "write", "splice", "fallocate", "lending_send", "lending_read", "rings_settle", "kept_save",
+        "inbox_next", "kept_regain", "lent_run", "memory_word", "marks_regain", "outbox_regain", "inbox_regain", "files_take", "lent_holds", "client_tell",
+    ),
 }
 
 

@@ -1,0 +1,54 @@
+/* An upgrade of the programs while guests live on: the lender becomes the program that is there now, and so do guests' processes. */
+#include "host.h"
+
+#include <fcntl.h>
+#include <spawn.h>
+#include <sys/wait.h>
+#include <unistd.h>
+
+extern char **environ;
+
+/* Why a program that is there now doesn't run; NULL: it does. It says its version meanwhile. */
+static const char *fault_of(const char *path)
+{
+    char *words[] = {(char *)path, "--version", NULL};
+    posix_spawn_file_actions_t actions;
+    pid_t process;
+    int status;
+    posix_spawn_file_actions_init(&actions);
+    posix_spawn_file_actions_addopen(&actions, STDIN_FILENO, "/dev/null", O_RDONLY, 0);
+    posix_spawn_file_actions_addopen(&actions, STDOUT_FILENO, "/dev/null", O_WRONLY, 0);
+    posix_spawn_file_actions_addopen(&actions, STDERR_FILENO, "/dev/null", O_WRONLY, 0);
+    int code = posix_spawn(&process, path, &actions, NULL, words, environ);
+    posix_spawn_file_actions_destroy(&actions);
+    if (code != 0)
+        return strerror(code);
+    bool runs = waitpid(process, &status, 0) == process && WIFEXITED(status) && WEXITSTATUS(status) == 0;
+    return runs ? NULL : "it doesn't say its version";
+}
+
+const char *host_upgrade(struct host *host)
+{
+    static char words[MOST_WORDS];
+    const char *const programs[] = {host->itself, host->program};
+    for (unsigned i = 0; i < sizeof programs / sizeof programs[0]; i++) {
+        const char *fault = fault_of(programs[i]);
+        if (!fault)
+            continue;
+        snprintf(words, sizeof words, "%s: %s", programs[i], fault);
+        return words;
+    }
+    host->upgrades = true;
+    return NULL;
+}
+
+const char *host_renew(struct host *host, const char *name)
+{
+    struct seat *seat = seat_of(host, name);
+    if (!seat)
+        return "no guest has that name";
+    if (!seat_is_taken(seat))
+        return "nobody is there";
+    seat_renew(seat);
+    return NULL;
+}
