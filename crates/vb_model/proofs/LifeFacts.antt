@@ -9,7 +9,7 @@ use Rattle.vb_virtio.specs.declared.refusals.Refusal.TheVariants.{AlreadyUp, Fea
 use Rattle.vb_virtio.specs.declared.refusals.Refusal.TheVariants.{NoFrame, NoMemory, VersionMissing}
 use Rattle.vb_model.specs.Driver.{AreClaimsFor}
 use Rattle.vb_model.specs.Guest.{Guest, is_ready}
-use Rattle.vb_model.specs.{HostFrames.used_frames, Life.after_reset, World.World}
+use Rattle.vb_model.specs.{HostFrames.used_frames, Life.after_reset, Step.HonestStep, World.World}
 use Rattle.vb_model.specs.{Life.{after_restart, lacking}, Refusals.refusal_of}
 use Rattle.vb_model.specs.Requests.{BufferPosted, BufferTaken, NoBuffer, Requests, no_requests}
 use Rattle.vb_model.specs.{declared.calls.Call.TheVariants.Init}

@@ -17,7 +17,7 @@ use Rattle.vb_model.specs.Pages.{block_at, place_of}
 use Rattle.vb_model.specs.Requests.{no_requests}
 use Rattle.vb_model.specs.Requests.{given_away}
 use Rattle.vb_model.specs.{Step.{HonestStep}, declared.calls.Claim.TheVariants.Gave}
-use Rattle.vb_model.specs.declared.calls.Call.{TheVariants.{Oom, Reap, Reset, Take, Write}}
+use Rattle.vb_model.specs.declared.calls.Call.{Call, TheVariants.{Oom, Reap, Reset, Take, Write}}
 use Rattle.vb_model.specs.declared.{calls.Actor.TheVariants.{Processor, Worker}, places.Place.Place}
 use Rattle.vb_model.specs.declared.calls.Call.TheVariants.{Alloc, Deflate, Finish, Inflate, Init}
 use Rattle.vb_model.specs.declared.places.Place.TheVariants.{Free as FreePlace, Giving, Lent, Used}

@@ -15,7 +15,7 @@ use Rattle.vb_model.specs.{Step.HonestStep, Tables.{sweep_causes, inflate_causes
 use Rattle.vb_model.specs.declared.calls.Call.TheVariants.{Alloc, Deflate, Inflate, Oom, Reap}
 use Rattle.vb_model.specs.declared.places.Place.TheVariants.{Free as FreePlace, Giving, Lent}
 use Rattle.vb_model.specs.declared.places.Place.TheVariants.{Reserved, Stranded, Taking}
-use Rattle.vb_model.specs.declared.replies.Reply.TheVariants.{Posted, Refused}
+use Rattle.vb_model.specs.declared.replies.Reply.TheVariants.{Posted, Refused, Swept}
 use Rattle.vb_model.proofs.UntoldFacts.{places, three_lent, both, posted, asked, no_head_out}
 
 -- ---- no page is offered while a deflate is outstanding, at whatever stage

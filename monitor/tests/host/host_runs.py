@@ -1,5 +1,5 @@
 """The runs of a host that lends several Linux guests more memory than it has, and of such a host with clients that aren't Linux. Under
-QEMU there are two guests at a time, with as much of the budget for each. The runs:
+QEMU there are two guests at a time, on a host with 360 MiB. The runs:
 
     lines     command lines, and what the host answers to lines
     spares    what a guest can spare, by its statistics and its balloon, worked out by hand
@@ -53,8 +53,11 @@ DAY, LONGEST_DAY = 40, 160
 # Of this many looks one may be above the budget.
 LOOKS_FOR_ONE = 200
 
-# MiB that a guest with work of 50 MiB uses: a host with as many for each has none for their floors.
-TOO_LITTLE = 90
+# The budget of a pair of guests, in MiB. As the second comes, the first has to spare what is missing, and more isn't there then.
+OF_A_PAIR = 360
+
+# MiB by which a budget is less than what guests use, with their floors.
+TOO_LITTLE = 20
 
 # Each wrong host, and the run that has to fail for it.
 WRONG_HOSTS = {"1": "rest", "2": "rest", "3": "rest", "4": "rest", "5": "tells", "7": "tells", "8": "marks"}
@@ -113,11 +116,11 @@ def bare_run(bench):
 
 
 def want_a_little(town, budget):
-    """A guest whose balloon has all that it could spare needs less than its floor: it gets it, and doesn't take it itself."""
+    """A guest takes what it can still spare, and 8 MiB more, less than its floor: it gets them, and doesn't take them itself."""
     seen = town.host.guests()
     member = max(town.members, key=lambda it: seen[it.name]["target"])
     before = seen[member.name]
-    member.fill("little", 8)
+    member.fill("little", 8 + (before["spare"] - before["target"]) // PAGES_PER_MIB)
     await_rest(town, budget)
     after = town.host.guests()[member.name]
     demand(after["target"] < before["target"], f"{member.name} is asked for as much as before: {after['target']} pages")
@@ -197,7 +200,7 @@ def full_run(bench):
     with bench.town(budget) as town:
         town.settle_in(guests, MEMORY)
         for it in town.members:
-            it.fill("work", 50)
+            it.fill("work", 50 if len(guests) > 2 else 10)
         await_rest(town, budget)
         try:
             town.settle_in(["late"], MEMORY)
@@ -209,7 +212,7 @@ def full_run(bench):
         late = town.members[-1]
         late.kill()
         demand(town.host.counters()["refused"] == 1, f"nobody was refused: {town.host.counters()}")
-        little = TOO_LITTLE * len(guests)
+        little = sum(it["pages"] - it["spare"] for it in town.host.guests().values()) // PAGES_PER_MIB - TOO_LITTLE
         town.host.demand(f"budget {little}")
         eventually(lambda: town.host.counters()["short"] > 0, f"{little} MiB suffice for guests who use as much, and have their floors", 5)
         short = town.host.counters()["short"] // PAGES_PER_MIB
@@ -263,9 +266,8 @@ class Bench:
         self.programs = linux_host.Programs(folder, linux_kit.core_of())
 
     def crowd(self, count, budget):
-        """Returns the names of `count` guests, and their budget; where the VMM has fewer at a time, of those, with as much for each."""
-        few = min(count, self.vmm.most_guests)
-        return names(few), budget * few // count
+        """Returns the names of `count` guests, and their budget; those of a pair, where the VMM has no more at a time."""
+        return (names(count), budget) if count <= self.vmm.most_guests else (names(2), OF_A_PAIR)
 
     def town(self, budget, options=(), checked=False):
         """Returns a host without guests."""

@@ -285,10 +285,14 @@ class Machine:
 
     def statistics(self):
         """Asks the guest for new statistics, and returns them by their names."""
-        before, _ = self.backend.statistics()
-        if self.backend.ask("ask") != "asked":
-            raise Fault("the guest has given no buffer for statistics")
         end = time.monotonic() + ANSWER_LIMIT
+        before, _ = self.backend.statistics()
+        # A driver that has just begun gives its buffer after its first queue runs.
+        while self.backend.ask("ask") != "asked":
+            if time.monotonic() >= end:
+                raise Fault("the guest has given no buffer for statistics")
+            time.sleep(0.01)
+            before, _ = self.backend.statistics()
         while time.monotonic() < end:
             count, figures = self.backend.statistics()
             if count > before:

@@ -9,9 +9,9 @@ import subprocess
 ROOT = os.path.realpath(os.path.join(os.path.dirname(__file__), "../../.."))
 CACHE = os.path.join(ROOT, ".cache", "linux")
 
-# Where packages of another Debian than the machine's come from, and the seconds in which it has to answer.
+# Where packages of another Debian than the machine's come from, and the seconds in which it has to answer each of two requests.
 MIRROR = "http://deb.debian.org/debian"
-ANSWERS_IN = 4
+ANSWERS_IN = 2
 
 # Where a Debian has crates.
 CRATES = "usr/share/cargo/registry"

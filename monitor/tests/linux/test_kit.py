@@ -1,6 +1,7 @@
 """What the tools that boot a Linux say where something is missing: in one line, at once, without a Linux."""
 
 import os
+import socket
 import subprocess
 import time
 
@@ -107,6 +108,16 @@ def test_no_qemu_and_no_mirror(qemu_of, no_debian, vmm, tmp_path):
     with pytest.raises(linux_packages.Missing, match=f"apt-get finds no packages of {vmm.debian}: .*") as missing:
         vmm(str(tmp_path))
     assert time.monotonic() - begin < LIMIT and str(missing.value).count("\n") == 0
+
+
+def test_a_mirror_that_says_nothing(no_debian, monkeypatch):
+    monkeypatch.setenv("no_proxy", "127.0.0.1")
+    with socket.create_server(("127.0.0.1", 0)) as silent:
+        monkeypatch.setattr(linux_packages, "MIRROR", f"http://127.0.0.1:{silent.getsockname()[1]}/debian")
+        begin = time.monotonic()
+        with pytest.raises(linux_packages.Missing, match="apt-get finds no packages of sid: .*"):
+            linux_packages.fetch_kernel("sid")
+        assert time.monotonic() - begin < LIMIT
 
 
 @pytest.mark.parametrize("words", (("boot-linux",), ("test", "linux")))
