@@ -31,13 +31,13 @@ def ran(words, what, **options):
 
 
 class Booted:
-    """A Debian that runs, from its root."""
+    """A Debian that runs, from its root; it sees other folders by the names that they have there."""
 
-    def __init__(self, root, released):
+    def __init__(self, root, released, others=()):
         if not shutil.which("systemd-nspawn"):
             raise Fault("systemd-nspawn isn't there: apt-get install systemd-container")
         self.root, self.leader = root, None
-        folders = [f"--bind-ro={ROOT}:{SOURCE}", f"--bind-ro={released}:{RELEASED}"]
+        folders = [f"--bind-ro={here}:{there}" for here, there in ((ROOT, SOURCE), (released, RELEASED), *others)]
         words = ["systemd-nspawn", "--quiet", "--register=no", "--keep-unit", "--resolv-conf=copy-host", *folders, "-D", root, "--boot", "--console=pipe"]
         environment = {**os.environ, "SYSTEMD_NSPAWN_UNIFIED_HIERARCHY": "1"}
         self.container = subprocess.Popen(words, stdin=subprocess.DEVNULL, stdout=subprocess.DEVNULL, stderr=subprocess.DEVNULL, env=environment)

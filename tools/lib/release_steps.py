@@ -17,6 +17,13 @@ LINKED = "$(pkg-config --cflags --libs vb)"
 EXAMPLE = "/usr/share/doc/libvb-dev/examples/example.c"
 HEADER = "printf '#include <balloon.h>\\n#include <vb_lending.h>\\nint main(void) { return 0; }\\n'"
 
+# What the installed page of the simulator shows, beside what its command prints.
+EXAMPLE_OF_PAGE = r"""
+zcat /usr/share/man/man1/vb_sim.1.gz | sed -n '/^\.EX/,/^\.EE/p' | sed '/^\./d' > /tmp/example
+sed -n '1s/^\$ //p' /tmp/example | sed 's/\\e/\\/g' | sh > /tmp/printed
+sed 1d /tmp/example | diff - /tmp/printed && test -s /tmp/printed
+"""
+
 # Of the library and the simulator.
 STEPS = (
     ("example.c by gcc", f"gcc -std=c11 -O2 {WARNINGS} {EXAMPLE} -o /tmp/c {LINKED} && /tmp/c"),
@@ -32,6 +39,7 @@ STEPS = (
         " && cargo test --offline --quiet && cargo run --offline --quiet --example monitor",
     ),
     ("the conformance scripts", "python3 /usr/share/doc/bigvasta/conformance/conform vb_sim"),
+    ("the example of vb_sim's page", EXAMPLE_OF_PAGE),
     ("the man pages", "test -s /usr/share/man/man1/vb_sim.1.gz && test -s /usr/share/man/man3/vb.3.gz"),
 )
 
@@ -110,6 +118,12 @@ else
 fi
 """),
 )
+
+# Where a Debian sees a newer one, and the program there that runs its QEMU, with the sockets and devices of this one.
+NEWER = "/srv/newer"
+NEWER_QEMU = f"""#!/bin/sh
+exec unshare --mount sh -c 'mount --rbind /run {NEWER}/run && mount --rbind /dev {NEWER}/dev && exec chroot {NEWER} {QEMU} "$@"' sh "$@"
+"""
 
 # Whether a QEMU is there that has the device.
 HAS_DEVICE = f"{QEMU} -device help 2> /dev/null | grep -q vhost-user-test-device-pci"

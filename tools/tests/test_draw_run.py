@@ -57,6 +57,16 @@ def rows_of(table, asked=None):
     return [{name: str(row.get(name, "")) for name in COLUMNS} for row in rows]
 
 
+def test_what_the_page_of_the_program_shows(tmp_path):
+    """The example of vb_sim(1), whose program is the one that is tried here."""
+    with open(f"{ROOT}/docs/man/vb_sim.1", encoding="utf-8") as page:
+        block = page.read().split("\n.EX\n$ ")[1].split("\n.EE\n")[0]
+    command, *lines = block.replace("\\e", "\\").splitlines()
+    (tmp_path / "vb_sim").symlink_to(PROGRAM)
+    ran = subprocess.run(["sh", "-c", command], capture_output=True, text=True, timeout=120, env={**os.environ, "PATH": f"{tmp_path}:{os.environ['PATH']}"})
+    assert (ran.returncode, ran.stderr, ran.stdout.splitlines()) == (0, "", lines)
+
+
 class Folder:
     """A folder of a test, with the files that it writes."""
 

@@ -66,6 +66,12 @@ def test_what_the_page_of_the_host_shows(program, folder):
     assert host.end() == 0
 
 
+def test_what_the_page_of_the_backend_shows(program):
+    ((name, *words), lines), = examples("vhost_user_balloon.1")
+    ran = subprocess.run([os.path.join(os.path.dirname(program), name), *words], capture_output=True, text=True, timeout=20)
+    assert (ran.returncode, ran.stderr, ran.stdout.splitlines()) == (0, "", lines)
+
+
 def test_what_the_page_of_the_configuration_shows(program, folder):
     block, = re.findall(r"(?s)\n\.EX\n(.*?)\.EE\n", page("bigvasta-host.conf.5"))
     (folder / "host.conf").write_text(plain(block).replace("/run/bigvasta", str(folder)).replace("group = bigvasta", "group = root"))
