@@ -13,7 +13,7 @@ LIMIT, BOOT_LIMIT = 900, 180
 
 # Where the container sees the repository and what is released; other folders of its own are its root's.
 SOURCE, RELEASED = "/srv/source", "/srv/released"
-ENVIRONMENT = {"PATH": "/usr/sbin:/usr/bin:/sbin:/bin", "HOME": "/root", "LC_ALL": "C.UTF-8", "DEBIAN_FRONTEND": "noninteractive", "TERM": "xterm"}
+ENVIRONMENT = {"PATH": "/usr/local/bin:/usr/sbin:/usr/bin:/sbin:/bin", "HOME": "/root", "LC_ALL": "C.UTF-8", "DEBIAN_FRONTEND": "noninteractive", "TERM": "xterm"}
 
 
 def ran(words, what, **options):

@@ -149,11 +149,11 @@ systemctl disable --now bigvasta-host bigvasta-metrics
 
 def readme_step():
     """Returns the step that runs README's commands for a host, as they are there."""
-    found = re.search(r"(?s)\n## Run a host\n.*?```sh\n(.*?)```", read("README.md"))
-    if not found:
-        raise Fault("README.md has no commands under 'Run a host'")
+    found = [it for it in re.findall(r"(?s)```sh\n(.*?)```", read("README.md")) if "bigvasta add" in it]
+    if len(found) != 1:
+        raise Fault(f"README.md has {len(found)} blocks of commands with `bigvasta add`, and one is wanted")
     script = [SUDO]
-    for command in found[1].replace("\\\n", " ").splitlines():
+    for command in found[0].replace("\\\n", " ").splitlines():
         bare = command.removeprefix("sudo ").removesuffix(" ..")
         instead = [text for begin, text in INSTEAD if bare.startswith(begin)]
         script.append(instead[0].replace("{command}", bare).replace("{has_device}", HAS_DEVICE) if instead else command)

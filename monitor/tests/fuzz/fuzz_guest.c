@@ -3,6 +3,7 @@
 #define _GNU_SOURCE
 #include "../../backends/guest/lent.c"
 #include "client.h"
+#include "ring_layout.h"
 #include "script.h"
 
 #include <setjmp.h>
@@ -162,10 +163,26 @@ static void reads(void)
     kept.unnoted = got > 0 ? (uint64_t)got : 0;
 }
 
+/* The guest changes a used index, which isn't the driver's. */
+static void changes_used(const struct guest_memory *memory, const struct ring *ring)
+{
+    uint64_t used;
+    uint8_t jump = next_byte();
+    if (!memory_of_user(memory, ring->used, &used) || !memory_holds(memory, used, RING_META_SIZE))
+        return;
+    for (unsigned i = 0; i < memory->count; i++) {
+        uint64_t at = used - memory->regions[i].guest + RING_INDEX_AT + 1;
+        if (at < memory->regions[i].length)
+            memory->regions[i].host[at] ^= (uint8_t)jump;
+    }
+}
+
 /* The process ends, with nothing that it has mapped, and another one goes on. */
 static int another_goes_on(void)
 {
     const struct guest_memory *memory = &fuzzed.backend.memory;
+    if (next_byte() % 8 == 7)
+        changes_used(memory, &fuzzed.backend.rings[next_below(QUEUES)]);
     for (unsigned i = 0; i < memory->count; i++)
         munmap(memory->regions[i].host, memory->regions[i].length);
     kept.unnoted = 0;

@@ -11,8 +11,8 @@ REST_LIMIT, WRONG_LIMIT = 20, 8
 # What Linux does meanwhile: MiB by which two words for one thing may differ.
 SLACK = 2
 
-# Seconds of a period of the host, with what a look takes.
-PERIOD = 0.25
+# Seconds of a period of the host, with what a look takes; and in which a guest gives what it is asked for.
+PERIOD, GIVEN_IN = 0.25, 5
 
 
 def eventually(condition, words, limit=REST_LIMIT):
@@ -86,6 +86,30 @@ def growth(samples, of=sum):
             most = max(most, sum(it.held) - min(map(sum, before), default=sum(it.held)))
         else:
             most = max(most, *(mib - min((other[k] for other in before), default=mib) for k, mib in enumerate(it.held)))
+    return most
+
+
+def check_excess(samples, budget):
+    """Demands that no more is held above the budget than guests are short by, are still to give, and took before the host knew of it; returns the
+    most that is. What guests have outside of their balloons, less the budget, is by the rule what they are short by, with what of their targets
+    isn't in their balloons yet."""
+    most, excess = growth(samples), 0.0
+    for number, it in enumerate(samples):
+        before = [other.short + sum(other.owes) for other in samples[: number + 1] if it.seconds - other.seconds <= 2 * window(it)]
+        over = sum(it.held) - budget
+        excess = max(excess, over)
+        demand(over <= max(before) + most, f"{over:.1f} MiB above the budget, short by and still to give {max(before):.1f}, growth {most:.1f}")
+    return excess
+
+
+def check_given(samples):
+    """Demands that each guest gives what it is asked for in time; returns the most seconds for which one was below its target."""
+    most, since = 0.0, {}
+    for it in samples:
+        for guest, owes in enumerate(it.owes):
+            since[guest] = since.get(guest, it.seconds) if owes > 0 else it.seconds
+            most = max(most, it.seconds - since[guest])
+    demand(most <= GIVEN_IN, f"a guest was below its target for {most:.1f} seconds")
     return most
 
 

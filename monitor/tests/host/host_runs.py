@@ -34,7 +34,7 @@ import linux_host
 import linux_kit
 from host_anew import anew_run
 from host_checks import (
-    REST_LIMIT, WRONG_LIMIT, await_rest, check_spares, eventually, finish, growth, names, pages_moved, window,
+    REST_LIMIT, WRONG_LIMIT, await_rest, check_excess, check_given, check_spares, eventually, finish, growth, names, pages_moved,
 )
 from host_queues import queues_run
 from host_seats import seats_run, spares_run
@@ -87,12 +87,7 @@ def greedy_run(bench):
     with bench.town(budget) as town:
         town.settle_in(guests, MEMORY)
         town.live(DAY, "greedy")
-        most, excess = growth(town.samples), 0.0
-        for number, it in enumerate(town.samples):
-            before = [other.short for other in town.samples[: number + 1] if it.seconds - other.seconds <= 2 * window(it)]
-            over = sum(it.held) - budget
-            excess = max(excess, over)
-            demand(over <= max(before) + most, f"{over:.1f} MiB above the budget, short by {max(before):.1f}, growth {most:.1f}")
+        excess, below = check_excess(town.samples, budget), check_given(town.samples)
         shorts = town.host.counters()["shorts"]
         demand(shorts > 0, "the host was never short")
         ended = lambda: town.host.counters()["short"] == 0 and sum(town.sample().held) <= budget
@@ -100,7 +95,8 @@ def greedy_run(bench):
         finish(town)
         short = max(it.short for it in town.samples)
         above = len(town.above())
-        return f"short {shorts} times, by {short:.0f} MiB at most; {above} of {len(town.samples)} looks above, by {excess:.0f} MiB at most"
+        looks = f"{above} of {len(town.samples)} looks above, by {excess:.0f} MiB at most"
+        return f"short {shorts} times, by {short:.0f} MiB at most; {looks}; a guest is below its target for {below:.1f} seconds at most"
 
 
 def bare_run(bench):
