@@ -53,7 +53,7 @@ def test_worked_out(library):
 
 
 # A guest of 100 pages that uses 10, then 80 from 10 on; one that uses 90, then 20 from 20 on (monitor/tests/plan/test_replay.py): on 150 pages one of
-# them waits for 10 s.
+# them waits for 10 s, and asks once more for what its last target lets go.
 TWO = """guest,seconds,size,used
 {0}a,0,409600,40960
 {0}b,0,409600,368640
@@ -77,7 +77,7 @@ def test_hosts_of_a_fleet_are_replayed_as_hosts_alone(shared, tmp_path):
     assert [{**it, "host": 0, "worst_guest": "x-a"} for it in its["hosts"]] == [{**one, "host": 0}] * 3
     assert [it["host"] for it in its["hosts"]] == [1, 2, 3] and [it["worst_guest"] for it in its["hosts"]] == ["x-a", "y-a", "z-a"]
     together = its["together"]
-    assert (together["waited"], together["present"], together["asks"], together["worst"], together["moved"]) == (30.0, 180.0, 3, 10.0, 3 * 614400)
+    assert (together["waited"], together["present"], together["asks"], together["worst"], together["moved"]) == (30.0, 180.0, 6, 10.0, 3 * 614400)
     assert (its["promise"], its["away"], found["promise"], found["budget"]) == (1.34, 0, None, 614400)
 
 
