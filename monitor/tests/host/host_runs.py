@@ -114,11 +114,15 @@ def bare_run(bench):
 
 
 def want_a_little(town, budget):
-    """A guest takes what it can still spare, and 8 MiB more, less than its floor: it gets them, and doesn't take them itself."""
+    """A guest whose balloon has all that it could spare needs less than its floor: it gets it, and doesn't take it itself."""
     seen = town.host.guests()
     member = max(town.members, key=lambda it: seen[it.name]["target"])
-    before = seen[member.name]
-    member.fill("little", 8 + (before["spare"] - before["target"]) // PAGES_PER_MIB)
+    left = (seen[member.name]["spare"] - seen[member.name]["target"]) // PAGES_PER_MIB
+    if left > 0:
+        member.fill("left", left)
+        await_rest(town, budget)
+    before = town.host.guests()[member.name]
+    member.fill("little", min(8, int(member.free_mib()) // 2))
     await_rest(town, budget)
     after = town.host.guests()[member.name]
     demand(after["target"] < before["target"], f"{member.name} is asked for as much as before: {after['target']} pages")
