@@ -333,8 +333,7 @@ def build(folder, core, wrong=False, flags=()):
     return linux_kit.build(folder, core, "vhost_user_host", wrong=wrong, flags=flags)
 
 
-# The compiler's words for a host with its checks; and for one that ends by a fault where it counts the whole set of a guest, as a process does once
-# that goes on with another one's guest.
+# The compiler's words for a host with its checks; and for one that ends by a fault where it counts the whole set of a guest again.
 FLAGS = {"checked": CHECKS, "uncounted": ("-no-pie", "-Wl,--wrap=vb_count_ballooned", "-Wl,--defsym=__wrap_vb_count_ballooned=0")}
 
 
