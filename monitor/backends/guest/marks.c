@@ -72,5 +72,5 @@ void marks_regain(struct backend *backend, struct marks *marks, uint64_t words)
 {
     note_memory(marks, &backend->memory);
     resize(&backend->balloon, marks, words);
-    backend->ballooned = (uint32_t)vb_count_ballooned(marks->set, words);
+    backend->ballooned = words > 0 ? (uint32_t)vb_count_ballooned(marks->set, words) : 0;
 }

@@ -271,9 +271,9 @@ class Bench:
         """Returns the names of `count` guests, and their budget; those of a pair, where the VMM has no more at a time."""
         return (names(count), budget) if count <= self.vmm.most_guests else (names(2), OF_A_PAIR)
 
-    def town(self, budget, options=(), checked=False):
-        """Returns a host without guests."""
+    def town(self, budget, options=(), checked=False, uncounted=False):
+        """Returns a host without guests: with the compiler's checks, or one that ends where it counts a guest's whole set."""
         self.count += 1
-        program = self.programs["wrong" if self.wrong else "checked" if checked else "plain"]
+        program = self.programs["wrong" if self.wrong else "checked" if checked else "uncounted" if uncounted else "plain"]
         options = ("--step", "0", *options)
         return linux_host.Town(self.vmm, program, f"{self.folder}/{self.count}", budget, options, {"HOST_WRONG": self.wrong or "0"})

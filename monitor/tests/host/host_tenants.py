@@ -109,20 +109,9 @@ def set_of_a_large_memory(town):
     client.leave()
 
 
-def counts_anew(bench):
-    """Returns whether a host counts its guests' sets: it isn't linked without the call that does."""
-    try:
-        linux_host.build(f"{bench.folder}/uncounted", bench.core, flags=("-Wl,--wrap=vb_count_ballooned",))
-    except linux_kit.Fault as fault:
-        return "vb_count_ballooned" in str(fault)
-    return False
-
-
 def marks_run(bench):
     """The set of ballooned pages, beside one that is kept here."""
-    os.makedirs(f"{bench.folder}/uncounted", exist_ok=True)
-    demand(not counts_anew(bench), "a host counts a guest's whole set")
-    with bench.town(1024, ("--floor", "0", "--period", "60000"), checked=True) as town:
+    with bench.town(1024, ("--floor", "0", "--period", "60000"), uncounted=True) as town:
         town.host.add("a")
         left = [marks_by_chance(town, kept) for kept in (0, 1)]
         memory_that_stays(town)

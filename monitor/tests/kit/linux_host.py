@@ -333,6 +333,10 @@ def build(folder, core, wrong=False, flags=()):
     return linux_kit.build(folder, core, "vhost_user_host", wrong=wrong, flags=flags)
 
 
+# The compiler's words for a host with its checks; and for one that ends by a fault where it counts the whole set of a guest again.
+FLAGS = {"checked": CHECKS, "uncounted": ("-no-pie", "-Wl,--wrap=vb_count_ballooned", "-Wl,--defsym=__wrap_vb_count_ballooned=0")}
+
+
 class Programs(dict):
     """The hosts under test by name, each compiled as it is first wanted."""
 
@@ -342,5 +346,5 @@ class Programs(dict):
 
     def __missing__(self, name):
         os.makedirs(f"{self.folder}/{name}")
-        self[name] = build(f"{self.folder}/{name}", self.core, wrong=name == "wrong", flags=CHECKS if name == "checked" else ())
+        self[name] = build(f"{self.folder}/{name}", self.core, wrong=name == "wrong", flags=FLAGS.get(name, ()))
         return self[name]
