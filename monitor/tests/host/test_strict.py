@@ -252,7 +252,8 @@ def test_the_next_lender_grants_what_waits(two, lend):
     assert a.client.used(DEFLATE)[0] == 0
     second = lend(1, *STRICT, folder=lender.folder)
     used(a, DEFLATE, 1)
-    second.become("a", waits="nothing", ballooned=40, lent=88)
+    # The target of the earlier lender falls to 0, and lets go the 40 that are left in its balloon.
+    second.become("a", waits="nothing", ballooned=40, lent=128)
     assert process_of(second, "a") == process
 
 
