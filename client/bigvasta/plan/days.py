@@ -82,15 +82,15 @@ class Line:
             self.refuse(f"{name} is {size}, above size, which is {whole}")
         return size
 
-    def seconds(self):
-        """Returns the time, from any one moment on."""
-        text = self.text("seconds")
+    def seconds(self, name="seconds"):
+        """Returns seconds, from 0 on: the time, from any one moment on."""
+        text = self.text(name)
         try:
             value = float(text)
         except ValueError:
             value = math.nan
         if not math.isfinite(value) or value < 0:
-            self.refuse(f"seconds: {text!r} is no time in seconds from 0 on")
+            self.refuse(f"{name}: {text!r} is no time in seconds from 0 on")
         return value
 
     def memory(self):

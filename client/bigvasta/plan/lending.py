@@ -1,6 +1,5 @@
 """What a host did in a recorded day: what was lent to each guest, what it asked for and what it was granted, at each moment of the host's metrics."""
 
-import math
 from typing import NamedTuple
 
 from bigvasta.plan.days import Line
@@ -50,21 +49,9 @@ def pages(line, cell):
     return size // PAGE
 
 
-def waited(line):
-    """Returns the seconds for which a guest has waited."""
-    text = line.text("waiting")
-    try:
-        value = float(text)
-    except ValueError:
-        value = math.nan
-    if not 0 <= value < math.inf:
-        line.refuse(f"waiting: {text!r} is no time in seconds")
-    return value
-
-
 def look_of(line):
     """Returns what a row says of a guest."""
-    look = Look(line.memory(), *(pages(line, it) for it in ("loan", "asked", "granted")), waited(line))
+    look = Look(line.memory(), *(pages(line, it) for it in ("loan", "asked", "granted")), line.seconds("waiting"))
     if look.loan + look.asked > look.size:
         line.refuse(f"loan and asked are {look.loan + look.asked} pages, and the guest has {look.size}")
     return look
