@@ -27,7 +27,7 @@ def limit_of(kind, folder):
         raise Missing("mounts and cgroups are for root")
     if kind == "cgroup" and not has_cgroups():
         raise Missing("this machine has no cgroups of memory of the first version")
-    return Mount(f"{folder}/rogue", MEMORY) if kind == "tmpfs" else Cgroup(f"rogue-{os.getpid()}")
+    return Mount(f"{folder}/rogue", MEMORY, "mode=700") if kind == "tmpfs" else Cgroup(f"rogue-{os.getpid()}")
 
 
 def loan_of(town, name):

@@ -26,14 +26,14 @@ def has_cgroups():
 class Mount:
     """A tmpfs of its own."""
 
-    def __init__(self, path, mib=1):
-        self.path, self.term = path, f"tmpfs:{path}"
+    def __init__(self, path, mib=1, options="mode=700,nosuid,noexec"):
+        self.path, self.term, self.options = path, f"tmpfs:{path}", options
         os.makedirs(path)
         self.mount(mib)
 
     def mount(self, mib=1):
         """Mounts it."""
-        run("mount", "-t", "tmpfs", "-o", f"size={mib}m,mode=700,nosuid,noexec", "limits", self.path)
+        run("mount", "-t", "tmpfs", "-o", f"size={mib}m,{self.options}", "limits", self.path)
 
     def pages(self):
         """Returns how many pages it may have."""
