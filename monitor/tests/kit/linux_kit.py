@@ -24,7 +24,7 @@ VHOST_PARTS = tuple(
 )
 HOST_PARTS = (
     "folder", "input", "journal", "limit", "limit_writer", "limits", "lines", "loans", "loop", "measures", "message", "orders", "policy",
-    "reports", "seats", "start", "upgrade", "view",
+    "reports", "rest", "seats", "start", "upgrade", "view",
 )
 LENT_PARTS = tuple(f"guest/{it}" for it in ("keeper", "kept", "lent", "lent_channel", "marks", "outbox", "sandbox")) + ("host/message",)
 CLIENT_PARTS = {
