@@ -13,7 +13,7 @@ use Rattle.vb_monitor.specs.Pieces.{parts_of, all_parts, CopiesParts, PartBy, fi
 use Rattle.vb_core.specs.Pieces.{pieces_in}
 use Rattle.vb_monitor.specs.Giving.{Then}
 use Rattle.vb_monitor.specs.Chains.{descriptor_of, memory_end, longest, table_fault, GoesOn, no_row, Follows, ServesPieces}
-use Rattle.vb_monitor.proofs.Samples.{flags_are_read, Same, two, at, ring, ready, tally, piece, first_descriptor, last_descriptor, with_two, number, descriptor, part, discard, flags}
+use Rattle.vb_monitor.proofs.Samples.{flags_are_read, Same, two, at, ready, tally, piece, first_descriptor, last_descriptor, with_two, number, descriptor, part, discard, flags}
 
 -- ---- how a notice ends
 

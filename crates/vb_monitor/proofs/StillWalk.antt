@@ -1,7 +1,7 @@
 -- The walk along a chain, where memory stays as it is.
 use Rattle.std.proofs.Common.{◌≡◌, ◌≢◌, ◌⊎◌, ◌∙◌, ap, sym, subst, refl, arith, inl, inr, ℕ, zero}
 use Rattle.std.proofs.Common.{suc, ◌+◌, ◌-◌, ◌*◌, ◌<◌, ◌≤◌, Bool, true, false, List, [], ◌∷◌, ◌++◌}
-use Rattle.std.{proofs.Common.{length, take, drop, Option, Some, None}, specs.Prelude.{◌||◌, ◌&&◌}}
+use Rattle.std.{proofs.Common.{length, take, drop, Option, Some, None}, specs.Prelude.{◌||◌}}
 use Rattle.std.proofs.lemmas.{Bool.Decides.nat_tests}
 use Rattle.std.proofs.lemmas.List.FromFn.{take-map-range_with_len, length-map-range_with_len}
 use Rattle.vb_chain.proofs.Walking.{Walked, walked_more}

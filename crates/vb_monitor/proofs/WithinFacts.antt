@@ -1,5 +1,5 @@
 -- Chains of as many descriptors as one may have, and of one more, in the largest table, worked out.
-use Rattle.std.proofs.Common.{◌≡◌, ◌∙◌, ap, refl, arith, inl, inr, ℕ, suc, ◌+◌, ◌<◌, ◌≤◌, Bool, true}
+use Rattle.std.proofs.Common.{◌≡◌, ◌∙◌, ap, refl, arith, inr, ℕ, ◌+◌, ◌<◌, ◌≤◌, Bool, true}
 use Rattle.std.{proofs.Common.{false, List, length, map, take, None}, specs.Prelude.{nat_lt, slice_index}}
 use Rattle.std.specs.{Prelude.if◌then◌else◌, List.{range_with_len, list_any}}
 use Rattle.std.proofs.lemmas.{Bool.Decides.nat_tests, List.length-map}

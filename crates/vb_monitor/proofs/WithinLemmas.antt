@@ -1,14 +1,14 @@
 -- Chains of no more descriptors than one may have: what a walk along one says, and that there is one
 -- chain or one fault.
 use Rattle.std.proofs.Common.{◌≡◌, ◌∙◌, ap, sym, subst, refl, arith, inl, inr, ℕ, zero, suc, ◌+◌, ◌-◌}
-use Rattle.std.proofs.Common.{◌<◌, ◌≤◌, Bool, true, false, List, [], ◌∷◌, ◌++◌, length, take, map}
+use Rattle.std.proofs.Common.{◌<◌, ◌≤◌, Bool, true, false, List, [], ◌∷◌, ◌++◌, length, take}
 use Rattle.std.{proofs.Common.{Option, Some, None}, specs.{Prelude.{◌&&◌, ◌⊎◌, nat_le, slice_index}, List.list_any}}
 use Rattle.std.proofs.lemmas.{Bool.{cases_lt, Decides.nat_tests}, Grind.same_number_lists}
 use Rattle.std.proofs.lemmas.List.{length-map, length-take-le, length-append, get_or-take}
 use Rattle.vb_chain.proofs.{Walking.{Walked, fault_last, walked_chain}}
 use Rattle.vb_chain.proofs.Unique.{chain_is_one, chain_or_fault, fault_is_one}
 use Rattle.vb_chain.specs.Rules.{has_next, is_writable, piece_of, first_fault}
-use Rattle.vb_chain.specs.Chain.{IsPath, fault_at, IsChain, BreaksAt, ChainGives, FaultGives, NoHead}
+use Rattle.vb_chain.specs.Chain.{IsPath, fault_at, IsChain, ChainGives, FaultGives}
 use Rattle.vb_chain.specs.declared.{descriptor.Descriptor.Descriptor, pieces.Piece.Piece}
 use Rattle.vb_chain.specs.declared.fault.ChainFault.{ChainFault, TheVariants.TooLong}
 use Rattle.vb_monitor.specs.Chains.{longest, or_too_long, chain_fault}

@@ -20,8 +20,8 @@ use Rattle.vb_served.specs.One.{all_of}
 
 -- the next entry is one of the ring's
 offset_fits : (r : Virtqueue) → 0 < r.size → entry_offset r + 2 ≤ 4 + 2 * r.size
-offset_fits r least =
-    let at : entry_offset r ≡ 4 + 2 * (r.next_avail % r.size) = offset_so r least in
+offset_fits r some =
+    let at : entry_offset r ≡ 4 + 2 * (r.next_avail % r.size) = offset_so r some in
     let below : r.next_avail % r.size < r.size = grind arith in
     omega (arith, at, below)
 
@@ -105,7 +105,7 @@ three (Some a) None c x y z ea eb ec = absurd cc
 three (Some a) (Some b) None x y z ea eb ec = absurd cc
 
 place_below : (r : Virtqueue) → 0 < r.size → r.next_used % r.size < r.size
-place_below r least = grind arith
+place_below r some = grind arith
 
 pub used_there : (n head : ℕ) (r : Virtqueue) → 4096 * n ≤ MEMORY_LIMIT → Lies (4096 * n) r →
     used_spots (all_of n) (used_entry r head) ≢ None

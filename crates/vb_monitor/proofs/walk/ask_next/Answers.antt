@@ -1,4 +1,4 @@
-use Rattle.std.proofs.Common.{◌≡◌, ◌∙◌, ◌+◌, ◌-◌, ap, take, arith}
+use Rattle.std.proofs.Common.{◌≡◌, ◌+◌, ◌-◌, ap, take, arith}
 use Rattle.std.specs.Prelude.{min}
 use Rattle.vb_core.specs.{Devices.ring_of, Pieces.pieces_in, declared.ring.Virtqueue.Virtqueue}
 use Rattle.vb_monitor.specs.{Machine.{whole, serves}, Chains.{longest, Follows}}
