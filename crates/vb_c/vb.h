@@ -47,7 +47,7 @@ enum { VB_INFLATE = 0, VB_DEFLATE = 1, VB_STATISTICS = 2, VB_REPORT = 3, VB_NO_K
  * chain is longer than the queue; 4 an indirect descriptor; 5 a piece has the wrong direction; 6 a buffer is out of
  * guest memory; 7 the available index has jumped; 8 a length that the queue doesn't take; 9 no such page; 10 a reserved
  * page. */
-enum { VB_MAX_QUEUE_SIZE = 256, VB_MAX_PIECES = 256, VB_MAX_RUNS = 256, VB_MAX_BYTES = 1024, VB_MAX_FIGURES = 102,
+enum { VB_MAX_QUEUE_SIZE = 1024, VB_MAX_PIECES = 256, VB_MAX_RUNS = 256, VB_MAX_BYTES = 1024, VB_MAX_FIGURES = 102,
        VB_MAX_CUTS = 256, VB_STATE_BYTES = 200 };
 enum {                          /* what is to be done: `what` of a notice, in this order; other bits are the library's */
     VB_TELL_PAGES = 1,          /* the first `runs` of the room were given up, are requested back, or are free */
@@ -205,7 +205,7 @@ uint32_t vb_negotiate(VbDevice *device, uint64_t features);
 uint32_t vb_kind(const VbDevice *device, uint32_t number);
 uint32_t vb_kind_of(uint64_t features, uint32_t number);
 /* Gives a queue its place, after vb_negotiate: VB_OK; VB_NO_QUEUE for no kind; VB_BAD_ARGUMENT once DRIVER_OK is set;
- * VB_NO_QUEUE where the negotiated features leave it out; VB_MISPLACED where size is no power of two from 2 to 256, or a
+ * VB_NO_QUEUE where the negotiated features leave it out; VB_MISPLACED where size is no power of two from 1 to 1024, or a
  * part isn't aligned (16, 2, 4) or doesn't end within memory. */
 uint32_t vb_place(VbDevice *device, uint32_t kind, uint64_t table, uint64_t avail, uint64_t used, uint16_t size);
 /* Reads or writes bytes of the configuration space (VIRTIO 1.1, 5.5.4), little-endian: num_pages at 0, actual at 4, and

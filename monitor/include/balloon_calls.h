@@ -155,7 +155,7 @@ static inline uint32_t balloon_init(struct balloon *balloon, const struct balloo
         return VB_BAD_ARGUMENT;
     balloon->regions = regions;
     balloon->region_count = count;
-    balloon->most_chains = VB_MAX_QUEUE_SIZE;
+    balloon->most_chains = BALLOON_MOST_CHAINS;
     balloon->most_pages = UINT32_MAX;
     return vb_new_over(&balloon->state, settings, balloon->places, count);
 }

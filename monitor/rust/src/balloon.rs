@@ -54,7 +54,7 @@ impl Balloon {
             regions: Vec::new(),
             notice: raw::Notice::default(),
             room: Box::default(),
-            most_chains: raw::MAX_QUEUE_SIZE,
+            most_chains: 256,
             most_pages: u32::MAX,
             keeps_pages: false,
             ballooned: Vec::new(),
