@@ -8,26 +8,40 @@ import time
 
 from linux_kit import ROOT, Fault
 
-# Seconds of a command, and of a boot.
-LIMIT, BOOT_LIMIT = 900, 180
+# Seconds of a command, of a boot, and in which what is told to end undoes what it has begun.
+LIMIT, BOOT_LIMIT, END_LIMIT = 900, 180, 60
 
 # Where the container sees the repository and what is released; other folders of its own are its root's.
 SOURCE, RELEASED = "/srv/source", "/srv/released"
 ENVIRONMENT = {"PATH": "/usr/local/bin:/usr/sbin:/usr/bin:/sbin:/bin", "HOME": "/root", "LC_ALL": "C.UTF-8", "DEBIAN_FRONTEND": "noninteractive", "TERM": "xterm"}
 
 
-def ran(words, what, **options):
-    """Runs a command within the time limit, and returns what it printed."""
+def end(process):
+    """Has a process that hangs end, and all that it has started: in order, so that nothing stays mounted, or at once."""
+    for number in (signal.SIGTERM, signal.SIGKILL):
+        os.killpg(process.pid, number)
+        try:
+            process.communicate(timeout=END_LIMIT)
+            return
+        except subprocess.TimeoutExpired:
+            continue
+
+
+def ran(words, what, limit=LIMIT, **options):
+    """Runs a command within a time limit, and returns what it printed."""
     try:
-        done = subprocess.run(words, capture_output=True, text=True, timeout=LIMIT, **options)
-    except subprocess.TimeoutExpired as slow:
-        raise Fault(f"{what}: it hangs, after {LIMIT} s") from slow
+        process = subprocess.Popen(words, stdout=subprocess.PIPE, stderr=subprocess.PIPE, text=True, start_new_session=True, **options)
     except FileNotFoundError as missing:
         raise Fault(f"{what}: {words[0]} isn't there") from missing
-    if done.returncode != 0:
-        lines = [it for it in (done.stderr + done.stdout).splitlines() if it.strip()]
-        raise Fault(f"{what}: status {done.returncode}: {' | '.join(lines[-4:])[:600]}")
-    return done.stdout
+    try:
+        printed, said = process.communicate(timeout=limit)
+    except subprocess.TimeoutExpired as slow:
+        end(process)
+        raise Fault(f"{what}: it hangs, after {limit} s") from slow
+    if process.returncode != 0:
+        lines = [it for it in (said + printed).splitlines() if it.strip()]
+        raise Fault(f"{what}: status {process.returncode}: {' | '.join(lines[-4:])[:600]}")
+    return printed
 
 
 class Booted:

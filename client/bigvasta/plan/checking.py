@@ -5,6 +5,7 @@ from collections import deque
 from typing import NamedTuple
 
 from bigvasta.plan.lender import Lender, Terms
+from bigvasta.plan.library import NOTHING
 from bigvasta.sizes import PAGE
 from bigvasta.statuses import Usage
 
@@ -127,22 +128,44 @@ class Follower(Lender):
         self.do(self.library.vb_loan_ask, guest.number, part)
         return True
 
+    def guest_of(self, number):
+        """Returns the guest that has this loan."""
+        return next(it for it in self.guests.values() if it.number == number)
+
     def take(self, number):
         """A guest takes what it was granted."""
         loan = self.loans[number]
         pages = loan.lent + loan.ballooned - loan.pages
         self.do(self.library.vb_loan_take, number, pages)
-        next(it for it in self.guests.values() if it.number == number).total += pages
+        self.guest_of(number).total += pages
 
-    def rest(self, frames):
-        """Has all be done that can be: what the host has granted until now was asked for before what waits there, and who has waited longest has
-        asked first."""
+    def next_is_granted(self, frames):
+        """Whether the host has granted until now what is next in the line, which there is room for."""
+        loans = type(self.loans).from_buffer_copy(self.loans)
+        answer = self.library.vb_loan_grant(frames, loans, self.count)
+        if answer.code == NOTHING:
+            return False
+        loan, guest = loans[answer.guest], self.guest_of(answer.guest)
+        return guest.total + loan.lent + loan.ballooned - loan.pages <= guest.look.granted
+
+    def grant_before(self, frames):
+        """Grants what the host has granted until now, on the budget of the look before: when it fell since then isn't recorded."""
+        granted = False
+        while self.next_is_granted(frames):
+            self.take(self.library.vb_loan_grant(frames, self.loans, self.count).guest)
+            granted = True
+        return granted
+
+    def rest(self, before, frames):
+        """Has all be done that can be on these budgets, of the look before and of now: what the host has granted until now was asked for before what waits
+        there, and who has waited longest has asked first."""
         guests = sorted(self.guests.values(), key=lambda it: -it.look.waiting)
         for waits in (False, True):
             going = True
             while going:
                 going = any([self.give(it) for it in guests])
                 going |= any([self.ask(it, waits) for it in guests])
+                going |= not waits and before > frames and self.grant_before(before)
                 going |= self.grant(frames)
 
     def note(self, seconds):
@@ -160,9 +183,11 @@ def check(library, moments):
     follower, all_guests = Follower(library, list(sizes), list(sizes.values())), {}
     times = [it.seconds for it in moments]
     steps = [after - before for before, after in zip(times, times[1:])]
+    before = 0
     for moment, seconds in zip(moments, [*steps, 0]):
         follower.see(moment)
-        follower.rest(moment.frames)
+        follower.rest(before, moment.frames)
+        before = moment.frames
         follower.note(seconds)
         all_guests |= follower.guests
     courses = [Course(it.name, it.granted, it.replayed, it.waited, it.replay_waited) for it in all_guests.values()]

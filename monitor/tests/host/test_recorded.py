@@ -1,5 +1,5 @@
 """A strict host's day, recorded by its metrics, beside a replay of it by `bigvasta plan --check`: guests have 128 pages, and want more and less of them at
-random."""
+random. Then the same day as wrong hosts would have had it."""
 
 import json
 import time
@@ -7,11 +7,20 @@ import time
 import linux_kit
 import planner
 import pytest
-from recording import Recorder
+from bigvasta.plan import checking
+from bigvasta.plan import library as loading
+from bigvasta.plan.lending import read_lending
+from bigvasta.plan.metrics import LENDING
+from recording import LOOK_EVERY, Recorder
 from tenants import FREE, eventually
 from test_strict import STRICT, Driver
 
 DAY = 12
+
+# Looks for which a wrong host lets a guest wait longer: 3 seconds. Looks before the budget is raised at which one guest of two is granted its pages.
+LATE, EARLY = round(3 / LOOK_EVERY), 10
+
+LOAN, ASKED, GRANTED, WAITING = LENDING
 
 
 @pytest.fixture(scope="module")
@@ -32,6 +41,77 @@ def live(lender, guests):
         assert it.fault is None, it.fault
 
 
+def apart(library, path):
+    """Returns by how many looks each guest is apart that isn't granted the same."""
+    found = checking.check(library, read_lending(str(path)))
+    return {it.name: it.apart() for it in found.courses if it.apart() > 1}
+
+
+class Day:
+    """A recorded day, of which a test changes values: pages, and seconds of a wait."""
+
+    def __init__(self, path):
+        self.answer = json.loads(path.read_text())
+        self.series = {(it["metric"]["__name__"], it["metric"].get("guest", "")): it["values"] for it in self.answer["data"]["result"]}
+        budgets = [int(text) for _, text in self.series["bigvasta_budget_bytes", ""]]
+        self.raised = next(look for look, pair in enumerate(zip(budgets, budgets[1:]), 1) if pair[0] < pair[1])
+        self.ended = len(budgets)
+
+    def number(self, metric, guest, look):
+        """Returns a value."""
+        return float(self.series[metric, guest][look][1])
+
+    def add(self, metric, guest, looks, difference):
+        """Has these looks see another number."""
+        for look in looks:
+            pair = self.series[metric, guest][look]
+            pair[1] = str(int(pair[1]) + difference)
+
+    def wait(self, guest, looks):
+        """Has a guest wait from when the budget is raised on, for this number of looks, as it did until then."""
+        for values in (self.series[metric, guest] for metric in LENDING):
+            text = values[self.raised - 1][1]
+            for pair in values[self.raised : self.raised + looks]:
+                pair[1] = text
+
+    def grant(self, guest, room):
+        """Has a guest be granted what it waits for before the budget is raised, and before the host granted it: the budget is as large as this room then."""
+        begin, last = self.raised - EARLY, self.raised - 1
+        asked, granted = (int(self.number(it, guest, last)) for it in (ASKED, GRANTED))
+        end = next(look for look in range(self.raised, self.ended) if self.number(GRANTED, guest, look) > granted)
+        for metric, difference in ((LOAN, asked), (GRANTED, asked), (ASKED, -asked)):
+            self.add(metric, guest, range(begin, end), difference)
+        self.add("bigvasta_budget_bytes", "", range(begin, self.raised), room)
+
+    def write(self, path):
+        """Writes it to a file."""
+        path.write_text(json.dumps(self.answer))
+        return path
+
+
+def demand_wrong_hosts_named(path, library):
+    """Demands that a day is refused where a grant is dropped, and where it comes 3 seconds late."""
+    for looks in (None, LATE):
+        day = Day(path)
+        day.wait("a", looks or day.ended)
+        assert apart(library, day.write(path.with_name("wrong.json"))) == {"a": looks or day.ended - day.raised}
+
+
+def demand_order(path, library):
+    """Demands that a budget which has room for one of two guests that wait is for the one who has waited longest, and for no other."""
+    day = Day(path)
+    last = day.raised - 1
+    waiting, asked = ({it: day.number(metric, it, last) for it in "ab"} for metric in (WAITING, ASKED))
+    room = sum(int(day.number(LOAN, it, last)) for it in "ab") + int(max(asked.values()))
+    first, second = sorted("ab", key=waiting.get, reverse=True)
+    day.grant(first, room)
+    assert apart(library, day.write(path.with_name("first.json"))) == {}
+    day = Day(path)
+    day.grant(second, room)
+    found = apart(library, day.write(path.with_name("second.json")))
+    assert found.keys() == {first, second} and min(found.values()) >= EARLY, found
+
+
 def test_a_day_is_replayed_with_the_same_grants(lend, come, shared, tmp_path):
     lender = lend(1, *STRICT)
     guests = [come(lender, it, {FREE: 100}) for it in "ab"]
@@ -44,3 +124,6 @@ def test_a_day_is_replayed_with_the_same_grants(lend, come, shared, tmp_path):
     for it in found["guests"]:
         assert it["granted"] == it["replayed"] > 0 and it["waited"] > 0.5, found
         assert abs(it["waited"] - it["replay_waited"]) <= 0.2 * DAY / 4, found
+    library = loading.load(shared)
+    demand_wrong_hosts_named(tmp_path / "day.json", library)
+    demand_order(tmp_path / "day.json", library)

@@ -51,12 +51,22 @@ SAME = {
     "in the order of the line": ([150] * 4, ORDER, {"a": (10, 2), "b": (5, 1), "c": (0, 0)}),
     "an ask that is withdrawn": ([150] * 4, LEAVES_IT, {"a": (0, 1), "b": (0, 0)}),
     "a budget that grows": ([150, 150, 160], {"a": "90/0/0 90/10/0 100/0/10", "b": "60/0/0 60/0/0 60/0/0"}, {"a": (10, 1), "b": (0, 0)}),
+    # Between two looks a gets 10 of 150 pages, then 100 are the budget.
+    "a grant before the budget falls": (
+        [150, 150, 100, 100, 150], {"a": "90/0/0 90/0/0 100/0/10 100/0/10 95/0/10", "b": "50/0/0 50/0/0 50/5/0/1 50/5/0/2 55/0/5"},
+        {"a": (10, 0), "b": (5, 2)},
+    ),
+    # a gives 20, which b would have got of 150 pages.
+    "no grant before the budget falls": (
+        [150, 150, 100, 100, 100], {"a": "90/0/0 90/0/0 70/0/0 70/0/0 70/0/0", "b": "50/30/0 50/30/0/1 50/30/0/2 50/30/0/3 50/30/0/4"},
+        {"a": (0, 0), "b": (0, 4)},
+    ),
     # One look late is within the time between two looks.
     "a grant at the look after": ([160] * 3, {"a": "90/0/0 90/10/0 100/0/10", "b": "60/0/0 60/0/0 60/0/0"}, {"a": (10, 1), "b": (0, 0)}),
 }
 
 # Days of hosts that are wrong, and by how many looks each guest is apart: one that grants late, one that lends more than there is, one that
-# serves the second of the line first.
+# serves the second of the line first; those that do so when the budget falls.
 WRONG = {
     "late": ([160] * 6, {"a": "90/0/0 90/10/0 90/10/0 90/10/0 100/0/10 100/0/10", "b": "60/0/0 60/0/0 60/0/0 60/0/0 60/0/0 60/0/0"}, {"a": 3, "b": 0}),
     "more than there is": ([150] * 4, {"a": "90/0/0 100/0/10 100/0/10 100/0/10", "b": "60/0/0 60/0/0 60/0/0 50/0/0"}, {"a": 2, "b": 0}),
@@ -64,6 +74,16 @@ WRONG = {
     "the second first": (
         [150] * 5, {"a": "90/0/0 90/10/0/1 90/10/0/2 90/10/0/3 90/10/0/4", "b": "55/0/0 55/0/0 55/2/0 57/0/2 57/0/2", "c": "5/0/0 5/0/0 5/0/0 0/0/0 0/0/0"},
         {"a": 0, "b": 2, "c": 0},
+    ),
+    "after the budget fell": (
+        [150, 100, 100, 100, 100], {"a": "90/0/0 90/10/0/0 90/10/0/1 100/0/10 100/0/10", "b": "50/0/0 50/0/0 50/0/0 50/0/0 50/0/0"}, {"a": 2, "b": 0},
+    ),
+    "more than the budget before": (
+        [150, 150, 100, 100, 100], {"a": "90/0/0 90/0/0 100/0/10 100/0/10 100/0/10", "b": "55/0/0 55/0/0 55/0/0 55/0/0 55/0/0"}, {"a": 3, "b": 0},
+    ),
+    # Of 10 pages b was the first to want 20, of which a got 5.
+    "the second first before the budget falls": (
+        [150, 150, 100, 100, 100], {"a": "90/0/0 90/0/0 95/0/5 95/0/5 95/0/5", "b": "50/20/0/1 50/20/0/2 50/20/0/3 50/20/0/4 50/20/0/5"}, {"a": 3, "b": 0},
     ),
 }
 
