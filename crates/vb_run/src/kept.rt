@@ -294,11 +294,7 @@ impl<S: GuestSlot, L: AsSlice<Call> + Drop> Kept<S, L> {
             return Ok(false);
         }
         let expected = expected_of(alloc, of.floor, of.number, rounds)?;
-        Ok(has_made(
-            of.number,
-            self.history.as_slice(),
-            expected.as_slice(),
-        ))
+        Ok(has_made(of.number, self.history.as_slice(), expected.as_slice()))
     }
 
     /// Ends the run of a guest: its report, if what its lock kept is the plan's and the rounds', or
