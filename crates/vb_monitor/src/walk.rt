@@ -37,6 +37,7 @@ pub(crate) fn memory_end(device: &Device) -> u64
 
 /// Asks for a row: of the descriptors after its first one, unless they lie apart from it.
 #[tactic(auto, using(crate::proofs::TableRowLemmas::row_steps))]
+#[inline(always)]
 fn ask_row(step: &mut Progress, device: &mut Device, regions: &[Region], kind: Kind, walk: Walk)
     requires { walk.behind < ROW_DESCRIPTORS }
     ensures step { (after : Device) (outcome : Outcome) (room : Room) (log : List Access) →
