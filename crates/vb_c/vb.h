@@ -47,7 +47,7 @@ enum { VB_INFLATE = 0, VB_DEFLATE = 1, VB_STATISTICS = 2, VB_REPORT = 3, VB_NO_K
  * chain is longer than the queue; 4 an indirect descriptor; 5 a piece has the wrong direction; 6 a buffer is out of
  * guest memory; 7 the available index has jumped; 8 a length that the queue doesn't take; 9 no such page; 10 a reserved
  * page. */
-enum { VB_MAX_QUEUE_SIZE = 256, VB_MAX_PIECES = 256, VB_MAX_RUNS = 256, VB_MAX_BYTES = 1024, VB_MAX_FIGURES = 102,
+enum { VB_MAX_QUEUE_SIZE = 1024, VB_MAX_PIECES = 256, VB_MAX_RUNS = 256, VB_MAX_BYTES = 1024, VB_MAX_FIGURES = 102,
        VB_MAX_CUTS = 256, VB_STATE_BYTES = 200 };
 enum {                          /* what is to be done: `what` of a notice, in this order; other bits are the library's */
     VB_TELL_PAGES = 1,          /* the first `runs` of the room were given up, are requested back, or are free */
@@ -115,6 +115,8 @@ typedef struct { VbCut cut; uint64_t waiting; } VbLarge;
  * 0; and how many pages that deflate names. */
 typedef struct { uint32_t statistics, deflate, pages; } VbHeld;
 typedef struct { VbDevice device; VbHeld held; } VbBalloon;
+/* The place of a queue: where its parts lie, and how many descriptors it has. */
+typedef struct { uint64_t table, avail, used; uint16_t size; } VbQueuePlace;
 /* Where a queue starts, with how many of its chains were taken and given back until now, modulo 65,536. */
 typedef struct { uint64_t table, avail, used; uint16_t size, next; } VbQueueStart;
 
@@ -166,7 +168,8 @@ VB_ASSERT(VB_HAS(Settings, 24) && VB_AT(Settings, offered, 8) && VB_AT(Settings,
           && VB_AT(Settings, needs_must_tell, 20) && VB_AT(Settings, skips_bad_pages, 21)
           && VB_AT(Settings, holds_deflates, 22) && VB_HAS(Queue, 32)
           && VB_AT(Queue, avail, 8) && VB_AT(Queue, used, 16) && VB_AT(Queue, size, 24) && VB_AT(Queue, next_avail, 26)
-          && VB_AT(Queue, next_used, 28) && VB_HAS(QueueStart, 32) && VB_AT(QueueStart, avail, 8) && VB_AT(QueueStart, used, 16)
+          && VB_AT(Queue, next_used, 28) && VB_HAS(QueuePlace, 32) && VB_AT(QueuePlace, avail, 8)
+          && VB_AT(QueuePlace, used, 16) && VB_AT(QueuePlace, size, 24) && VB_HAS(QueueStart, 32) && VB_AT(QueueStart, avail, 8) && VB_AT(QueueStart, used, 16)
           && VB_AT(QueueStart, size, 24) && VB_AT(QueueStart, next, 26) && VB_HAS(Device, 176) && VB_AT(Device, settings, 0)
           && VB_AT(Device, features, 24) && VB_AT(Device, target, 32) && VB_AT(Device, actual, 36) && VB_AT(Device, inflate, 40)
           && VB_AT(Device, deflate, 72) && VB_AT(Device, statistics, 104) && VB_AT(Device, report, 136)
@@ -202,7 +205,7 @@ uint32_t vb_negotiate(VbDevice *device, uint64_t features);
 uint32_t vb_kind(const VbDevice *device, uint32_t number);
 uint32_t vb_kind_of(uint64_t features, uint32_t number);
 /* Gives a queue its place, after vb_negotiate: VB_OK; VB_NO_QUEUE for no kind; VB_BAD_ARGUMENT once DRIVER_OK is set;
- * VB_NO_QUEUE where the negotiated features leave it out; VB_MISPLACED where size is no power of two from 2 to 256, or a
+ * VB_NO_QUEUE where the negotiated features leave it out; VB_MISPLACED where size is no power of two from 1 to 1024, or a
  * part isn't aligned (16, 2, 4) or doesn't end within memory. */
 uint32_t vb_place(VbDevice *device, uint32_t kind, uint64_t table, uint64_t avail, uint64_t used, uint16_t size);
 /* Reads or writes bytes of the configuration space (VIRTIO 1.1, 5.5.4), little-endian: num_pages at 0, actual at 4, and
@@ -251,8 +254,7 @@ uint32_t vb_new_over(VbBalloon *balloon, VbSettings settings, const VbRegion *re
 /* These regions are guest memory from now on, and it ends where the last of them does. Refused as vb_new_over is. */
 uint32_t vb_set_regions(VbBalloon *balloon, const VbRegion *regions, size_t count);
 /* vb_place over these regions: also VB_MISPLACED where a part of the queue lies in a hole. */
-uint32_t vb_place_over(VbBalloon *balloon, const VbRegion *regions, size_t count, uint32_t kind, uint64_t table,
-                       uint64_t avail, uint64_t used, uint16_t size);
+uint32_t vb_place_over(VbBalloon *balloon, const VbRegion *regions, size_t count, uint32_t kind, VbQueuePlace at);
 /* For a backend or a migration: starts a queue over these regions at `at.next`, in place of what it was before. The chains before
  * that index were given back, and none is taken; what is held of the queue is forgotten. It may start from FEATURES_OK on, when a
  * driver sets its queues up (VIRTIO 1.1, 3.1.1), also beside queues that run. VB_OK, or refused as is said at the end

@@ -37,7 +37,7 @@ static inline bool is_served(const VbDevice *device, const VbQueue *queue)
     uint64_t end = device->settings.memory_end, offered = device->settings.offered;
     uint32_t size = queue->size;
     return end < LIMIT && !(offered & ~KNOWN) && offered >> 32 & 1 && (device->status & 0xc4) == 4
-        && !(size & (size - 1)) && size - 2 < VB_MAX_QUEUE_SIZE - 1 && is_part(end, queue->table, 16, 16 * size)
+        && !(size & (size - 1)) && size - 1 < VB_MAX_QUEUE_SIZE && is_part(end, queue->table, 16, 16 * size)
         && is_part(end, queue->avail, 2, 6 + 2 * size) && is_part(end, queue->used, 4, 6 + 8 * size);
 }
 
@@ -86,7 +86,7 @@ static inline uint32_t after_index(VbNotice *notice, const VbQueue *queue, const
 static inline uint32_t after_entry(VbNotice *notice, const VbQueue *queue, const VbRegion *region, uint16_t head)
 {
     uint64_t descriptor = queue->table + 16 * (uint32_t)head;
-    if (!USUALLY(head < queue->size && head < VB_MAX_QUEUE_SIZE && descriptor >= queue->table && holds(region, descriptor, 16)))
+    if (!USUALLY(head < queue->size && descriptor >= queue->table && holds(region, descriptor, 16)))
         return 0;
     notice->cuts = 0, notice->length = 16, notice->into = 0, notice->number = head, notice->from = 0;
     notice->head = head, notice->count = 0, notice->flag = 0;

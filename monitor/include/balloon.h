@@ -21,7 +21,7 @@
 #endif
 
 /* In place of a file: private anonymous memory; shared anonymous memory, or a file that the monitor has no descriptor of. */
-enum { BALLOON_PRIVATE = -1, BALLOON_SHARED = -2, BALLOON_PAGE = 4096 };
+enum { BALLOON_PRIVATE = -1, BALLOON_SHARED = -2, BALLOON_PAGE = 4096, BALLOON_MOST_CHAINS = 256 };
 
 /* Guest memory from one address on, mapped at `host`: whole pages. No two overlap; their order is free. */
 struct balloon_region {
@@ -38,7 +38,7 @@ struct balloon {
     size_t region_count;
     VbRegion places[BALLOON_MOST_REGIONS];  /* the same, as the library sees them */
     /* What a monitor may set after balloon_init; each hook may be NULL. They get `context`. */
-    uint32_t most_chains, most_pages;   /* a notice begins no further chain after these */
+    uint32_t most_chains, most_pages;   /* a notice begins no further chain after these: at first 256, and any number */
     bool keeps_pages;           /* no page is discarded (counted: kept), as under a passed-through device; may be set at any time */
     void *context;
     /* These pages are given up (VB_INFLATE) or free (VB_REPORT), before any is discarded; or requested back (VB_DEFLATE). */

@@ -155,7 +155,7 @@ static inline uint32_t balloon_init(struct balloon *balloon, const struct balloo
         return VB_BAD_ARGUMENT;
     balloon->regions = regions;
     balloon->region_count = count;
-    balloon->most_chains = VB_MAX_QUEUE_SIZE;
+    balloon->most_chains = BALLOON_MOST_CHAINS;
     balloon->most_pages = UINT32_MAX;
     return vb_new_over(&balloon->state, settings, balloon->places, count);
 }
@@ -186,7 +186,8 @@ static inline uint32_t balloon_negotiate(struct balloon *balloon, uint64_t featu
 static inline uint32_t balloon_place(struct balloon *balloon, uint32_t kind, uint64_t table, uint64_t avail,
                                      uint64_t used, uint16_t size)
 {
-    return vb_place_over(&balloon->state, balloon->places, balloon->region_count, kind, table, avail, used, size);
+    const VbQueuePlace at = { table, avail, used, size };
+    return vb_place_over(&balloon->state, balloon->places, balloon->region_count, kind, at);
 }
 
 /* Starts a queue at an index, before or after DRIVER_OK, and stops it: as vb_start_queue, and as vb_stop_queue. */

@@ -8,6 +8,12 @@ Descriptor descriptor_at(const uint8_t *table, uint32_t number)
                          (uint16_t)little(at + 14, 2) };
 }
 
+/* How many descriptors a chain has at most in a table of `size`: no more than there is room for pieces. */
+uint32_t longest(uint16_t size)
+{
+    return size < VB_MAX_PIECES ? size : VB_MAX_PIECES;
+}
+
 /* The rule that a descriptor breaks after `before` others of its chain; 0: none (VIRTIO 1.1, 2.6.5). */
 uint32_t broken_rule(const VbDevice *device, uint16_t size, const Descriptor *it, uint32_t before, bool writing)
 {
@@ -20,7 +26,7 @@ uint32_t broken_rule(const VbDevice *device, uint16_t size, const Descriptor *it
         return WRONG_DIRECTION;
     if ((it->flags & NEXT) && it->next >= size)
         return BAD_NEXT;
-    return (it->flags & NEXT) && before + 1 >= size ? TOO_LONG : 0;
+    return (it->flags & NEXT) && before + 1 >= longest(size) ? TOO_LONG : 0;
 }
 
 bool any_of_direction(const VbPiece *pieces, uint32_t count, uint8_t writable)

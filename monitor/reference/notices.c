@@ -182,7 +182,7 @@ uint32_t after_row(const Call *call)
     VbNotice *notice = call->notice;
     for (size_t place = 0;;) {
         Descriptor it = descriptor_at(call->room->bytes, (uint32_t)place);
-        uint32_t rule = notice->count >= call->queue->size ? (uint32_t)TOO_LONG
+        uint32_t rule = notice->count >= longest(call->queue->size) ? (uint32_t)TOO_LONG
             : broken_rule(&call->balloon->device, call->queue->size, &it, notice->count, notice->flag);
         if (rule)
             return fail(call, rule);
@@ -190,8 +190,6 @@ uint32_t after_row(const Call *call)
         call->room->pieces[notice->count++] = (VbPiece){ it.address, it.length, notice->flag };
         if (!(it.flags & NEXT))
             return serve_chain(call);
-        if (notice->count >= call->queue->size)
-            return fail(call, TOO_LONG);
         if (it.next < notice->number || it.next - notice->number >= notice->from)
             return ask_row(call, it.next);
         place = it.next - notice->number;

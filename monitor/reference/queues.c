@@ -36,7 +36,7 @@ static bool misplaced(const VbDevice *device, uint64_t address, uint64_t alignme
 static bool has_no_place(const VbDevice *device, const VbQueue *queue)
 {
     uint16_t size = queue->size;
-    return size < 2 || size > VB_MAX_QUEUE_SIZE || (size & (size - 1))
+    return size == 0 || size > VB_MAX_QUEUE_SIZE || (size & (size - 1))
         || misplaced(device, queue->table, TABLE_ALIGNMENT, (uint64_t)DESCRIPTOR_SIZE * size)
         || misplaced(device, queue->avail, AVAIL_ALIGNMENT, RING_META_SIZE + (uint64_t)AVAIL_ENTRY_SIZE * size)
         || misplaced(device, queue->used, USED_ALIGNMENT, RING_META_SIZE + (uint64_t)USED_ELEMENT_SIZE * size);

@@ -39,6 +39,7 @@ bool is_held(const VbBalloon *balloon, uint32_t kind);
 /* chains.c: descriptors, and the rules of chains */
 typedef struct { uint64_t address; uint32_t length; uint16_t flags, next; } Descriptor;
 Descriptor descriptor_at(const uint8_t *table, uint32_t number);
+uint32_t longest(uint16_t size);
 uint32_t broken_rule(const VbDevice *device, uint16_t size, const Descriptor *it, uint32_t before, bool writing);
 bool any_of_direction(const VbPiece *pieces, uint32_t count, uint8_t writable);
 uint32_t buffer_rule(uint32_t kind, const VbPiece *pieces, uint32_t count, uint64_t total);

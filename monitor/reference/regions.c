@@ -78,11 +78,10 @@ static bool holds_queue(const VbRegion *regions, size_t count, const VbQueue *qu
                          && holds_bytes(regions, count, queue->used, RING_META_SIZE + USED_ELEMENT_SIZE * size));
 }
 
-uint32_t vb_place_over(VbBalloon *balloon, const VbRegion *regions, size_t count, uint32_t kind, uint64_t table, uint64_t avail,
-                       uint64_t used, uint16_t size)
+uint32_t vb_place_over(VbBalloon *balloon, const VbRegion *regions, size_t count, uint32_t kind, VbQueuePlace at)
 {
     VbDevice device = balloon->device;
-    uint32_t code = vb_place(&device, kind, table, avail, used, size);
+    uint32_t code = vb_place(&device, kind, at.table, at.avail, at.used, at.size);
     if (code == VB_OK && !holds_queue(regions, count, queue_of(&device, kind)))
         code = VB_MISPLACED;
     if (code == VB_OK)

@@ -19,20 +19,23 @@ def pytest_addoption(parser):
     """The options of all suites."""
     parser.addoption("--wrong", metavar="NAME", help="a program that is wrong on purpose, or all: what is for it has to refuse it")
     parser.addoption("--times", type=count, default=1, metavar="K", help="each run of a Linux k times")
+    parser.addoption("--hours", type=float, metavar="H", help="the run of a host for so many hours alone")
     parser.addoption("--vmm", default="uml", choices=VMMS, help="what runs a Linux")
 
 
-def is_chosen(item, wrong):
-    """Whether a test is of those that the command line asks for: of this wrong program, or of none."""
+def is_chosen(item, wrong, hours):
+    """Whether a test is of those that the command line asks for: that of hours, of this wrong program, or of none."""
     mark = item.get_closest_marker("wrong")
+    if hours or item.get_closest_marker("hours"):
+        return bool(hours and item.get_closest_marker("hours"))
     return wrong is None if mark is None else wrong in ("all", mark.args[0])
 
 
 def pytest_collection_modifyitems(config, items):
     """Leaves out programs that are wrong where they aren't asked for; else all others."""
-    wrong = config.getoption("--wrong")
-    config.hook.pytest_deselected(items=[it for it in items if not is_chosen(it, wrong)])
-    items[:] = [it for it in items if is_chosen(it, wrong)]
+    wrong, hours = config.getoption("--wrong"), config.getoption("--hours")
+    config.hook.pytest_deselected(items=[it for it in items if not is_chosen(it, wrong, hours)])
+    items[:] = [it for it in items if is_chosen(it, wrong, hours)]
     if wrong and not items:
         raise pytest.UsageError(f"--wrong {wrong}: there is none")
 

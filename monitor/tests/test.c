@@ -15,6 +15,7 @@ int main(void)
     test_steps();
     test_settings();
     test_queues();
+    test_sizes();
     test_requests();
     test_notices();
     test_discards();

@@ -87,7 +87,7 @@ WRONG = [
     ("the set kept over a reset", CALLS, "    if (then & VB_EMPTY && balloon->ballooned)\n        memset(balloon->ballooned, 0, balloon->ballooned_words * sizeof *balloon->ballooned);\n", ""),
     ("held kept over a reset", CALLS, "vb_set_status(&balloon->state, status, &then);", "vb_write_status(&balloon->state.device, status) + 0 * (then = status == 15 ? VB_LOOK : status ? 0 : VB_EMPTY);"),
     ("held not saved", CALLS, "vb_save(&balloon->state.device, balloon->state.held, out, room)", "vb_save(&balloon->state.device, (VbHeld){ 0, 0, 0 }, out, room)"),
-    ("a queue in a hole is placed", CALLS, "vb_place_over(&balloon->state, balloon->places, balloon->region_count, kind,", "vb_place(&balloon->state.device, kind,"),
+    ("a queue in a hole is placed", CALLS, "vb_place_over(&balloon->state, balloon->places, balloon->region_count, kind, at)", "vb_place(&balloon->state.device, kind, at.table, at.avail, at.used, at.size)"),
     ("a state in a hole is restored", CALLS, "vb_restore_over(&balloon->state, balloon->places, balloon->region_count, bytes, length)", "vb_restore(&balloon->state.device, &balloon->state.held, bytes, length)"),
     ("regions changed although refused", CALLS, "    if (!balloon_places(places, regions, count) || vb_set_regions(&balloon->state, places, count) != VB_OK)\n        return VB_BAD_ARGUMENT;\n    memcpy(balloon->places, places, sizeof places);\n    balloon->regions = regions;\n    balloon->region_count = count;\n",
      "    memcpy(balloon->places, places, sizeof places);\n    balloon->regions = regions;\n    balloon->region_count = count;\n    if (!balloon_places(places, regions, count) || vb_set_regions(&balloon->state, places, count) != VB_OK)\n        return VB_BAD_ARGUMENT;\n"),

@@ -36,7 +36,7 @@ CHANGES = (
     ("crates/vb_c/src/places.rt", "EMPTY: u32 = 2", "EMPTY: u32 = 4", [HEADER]),
     ("crates/vb_chain/src/fault.rt", "BadPage = 9", "BadPage = 11", [HEADER, REFERENCE, BACKEND, f"{RULES}: BadPage is 9"]),
     ("crates/vb_chain/src/fault.rt", '"no such page"', '"no page"', [HEADER, BACKEND]),
-    ("crates/vb_virtio/src/limits.rt", "MAX_QUEUE_SIZE: u32 = 256", "MAX_QUEUE_SIZE: u32 = 512", [HEADER]),
+    ("crates/vb_core/src/ring.rt", "MAX_RING_SIZE: u16 = 1024", "MAX_RING_SIZE: u16 = 512", [HEADER]),
     ("crates/vb_virtio/src/layout.rt", "MAX_STATISTICS_LENGTH: u32 = 1020", "MAX_STATISTICS_LENGTH: u32 = 1030", [HEADER]),
     ("crates/vb_core/src/format.rt", "SAVED_LENGTH: usize = 200", "SAVED_LENGTH: usize = 204", [HEADER]),
     ("crates/vb_chain/src/descriptor.rt", "DESCRIPTOR_SIZE: usize = 16", "DESCRIPTOR_SIZE: usize = 32", [LAYOUT]),

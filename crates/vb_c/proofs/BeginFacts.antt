@@ -8,7 +8,8 @@ use Rattle.vb_monitor.specs.declared.{outcome.{Outcome.Outcome, Budget.Budget}}
 use Rattle.vb_monitor.specs.{declared.step.Phase.TheVariants.{AwaitsFlags, Ended}, Accesses.Access}
 use Rattle.vb_monitor.specs.{Accesses.{ReadWord, Full}, Ends.wants_interrupt, Machine.Ahead}
 use Rattle.vb_monitor.specs.{Machine.whole, Orders.at_once, declared.balloon.Balloon.Balloon}
-use Rattle.vb_c.specs.declared.notice.{VbNotice.VbNotice, VbRoom.VbRoom}
+use Rattle.vb_c.specs.declared.notice.VbNotice.{VbNotice}
+use Rattle.vb_monitor.specs.declared.orders.NoticeRoom.{NoticeRoom}
 use Rattle.vb_c.{specs.Codes.code_of_kind, specs.Notices.{Notice, notice_of}}
 use Rattle.vb_monitor.specs.Steps.{tally_of, phase_of}
 use Rattle.vb_c.specs.Serving.{HandsOver, with_device, Begins, BeginsIf, GoesOn, held_then}
@@ -17,7 +18,7 @@ use Rattle.vb_c.proofs.Samples.{Same, two, begun, ready, balloon, nothing_copied
 use Rattle.vb_c.proofs.Samples.{a_buffer}
 use Rattle.vb_core.specs.declared.held.Held.{Held}
 
-abbrev room : VbRoom
+abbrev room : NoticeRoom
 room = record { copied = nothing_copied; cuts = [] }
 
 abbrev kind_code : Notice → ℕ
@@ -106,7 +107,7 @@ eight = record { chains = 8; pages = 256; keeps = false }
 abbrev driven : Balloon
 driven = record { device = ready; held = a_buffer 0 }
 
-abbrev BeginsOf : Kind → VbRoom → Type 0
+abbrev BeginsOf : Kind → NoticeRoom → Type 0
 BeginsOf kind then = BeginsIf true two kind eight driven driven room then shown
 
 handed_of_none : HandsOver at_index two nothing_copied driven driven [] shown
@@ -174,7 +175,7 @@ with_another_code h = let e : Same 4 1 = h.ended.code_is in omega arith
 
 room_changed_then : (c : VbNotice) →
     BeginsIf false two Statistics eight balloon balloon room (record room { copied = record nothing_copied { bytes = 1 ∷ [] } }) c → ⊥
-room_changed_then c h = let e : Same 1 0 = ap (λ (r : VbRoom). length r.copied.bytes) h.room in omega arith
+room_changed_then c h = let e : Same 1 0 = ap (λ (r : NoticeRoom). length r.copied.bytes) h.room in omega arith
 
 -- ---- a notice that goes on: the flags were read, and it ends
 

@@ -10,7 +10,8 @@ use Rattle.vb_monitor.specs.declared.step.Phase.TheVariants.{AwaitsPart, TellsPa
 use Rattle.vb_monitor.specs.declared.step.Phase.TheVariants.{Discards, GivesBack, AwaitsFlags}
 use Rattle.vb_monitor.specs.declared.step.Phase.{TheVariants.Ended, Phase}
 use Rattle.vb_monitor.specs.{declared.balloon.Balloon.Balloon, Machine.{Fits, row_bytes, stage, waits, is_ended}}
-use Rattle.vb_c.specs.declared.notice.{VbNotice.VbNotice, VbRoom.VbRoom}
+use Rattle.vb_c.specs.declared.notice.VbNotice.{VbNotice}
+use Rattle.vb_monitor.specs.declared.orders.NoticeRoom.{NoticeRoom}
 use Rattle.vb_virtio.specs.Tests.{one_if}
 use Rattle.vb_c.specs.{Notices.{Notice, told_bits, asked_bits, answer_bits, what_of}, Serving.{held_then, Refuses}}
 use Rattle.vb_c.{specs.Serving.HandsOver, proofs.Samples.{Same, two, begun, balloon, nothing_copied}}
@@ -234,7 +235,7 @@ of_inflates = refl
 
 -- ---- what is refused changes nothing
 
-refused_and_forgotten : (r1 r2 : VbRoom) (c : VbNotice) → Refuses 1 balloon (record balloon { held = a_buffer 0 }) r1 r2 c → ⊥
+refused_and_forgotten : (r1 r2 : NoticeRoom) (c : VbNotice) → Refuses 1 balloon (record balloon { held = a_buffer 0 }) r1 r2 c → ⊥
 refused_and_forgotten r1 r2 c h = let e : Same 0 4 = ap (λ (b : Balloon). b.held.statistics) h.balloon in omega arith
 
 -- ---- where nothing is asked for, it has ended

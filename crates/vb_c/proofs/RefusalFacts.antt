@@ -3,11 +3,12 @@ use Rattle.std.proofs.Common.{false, ◌≡◌, ap, arith, ℕ, [], Some, None}
 use Rattle.vb_core.specs.declared.kinds.Kind.TheVariants.{Deflate, Statistics}
 use Rattle.vb_monitor.specs.declared.balloon.Balloon.{Balloon}
 use Rattle.vb_monitor.specs.declared.outcome.Budget.{Budget}
-use Rattle.vb_c.{specs.declared.notice.VbNotice.VbNotice, specs.declared.notice.VbRoom.VbRoom}
+use Rattle.vb_c.specs.declared.notice.VbNotice.{VbNotice}
+use Rattle.vb_monitor.specs.declared.orders.NoticeRoom.{NoticeRoom}
 use Rattle.vb_c.{specs.Serving.{BeginsFor, GivesHeldFor, GoesOnBy}, proofs.Samples.{Same, two, balloon, nothing_copied}}
 use Rattle.vb_c.proofs.Samples.{a_buffer}
 
-abbrev room : VbRoom
+abbrev room : NoticeRoom
 room = record { copied = nothing_copied; cuts = [] }
 
 abbrev held_of : Balloon → ℕ

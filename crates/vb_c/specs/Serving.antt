@@ -22,7 +22,7 @@ use Rattle.vb_monitor.specs.Machine.{Fits, waits, Ahead, Awaited, whole}
 use Rattle.vb_monitor.specs.Machine.{outcome_at}
 use Rattle.vb_monitor.specs.Orders.{at_once, HasRoom, FillsList}
 use Rattle.vb_c.specs.declared.notice.VbNotice.{VbNotice}
-use Rattle.vb_c.specs.declared.notice.VbRoom.{VbRoom}
+use Rattle.vb_monitor.specs.declared.orders.NoticeRoom.{NoticeRoom}
 use Rattle.vb_monitor.specs.Codes.{code_of}
 use Rattle.vb_c.specs.Notices.{Notice, IsNotice, HasEnded}
 
@@ -35,7 +35,7 @@ abbrev pub held_then : Notice → Balloon → Held
 held_then n b = held_by (outcome_at n.step.phase n.step.tally) n.kind b
 
 -- Nothing is done, with this code.
-pub record Refuses (code : ℕ) (b1 b2 : Balloon) (r1 r2 : VbRoom) (c : VbNotice) : Type 0 where
+pub record Refuses (code : ℕ) (b1 b2 : Balloon) (r1 r2 : NoticeRoom) (c : VbNotice) : Type 0 where
   pub ended : HasEnded c code
   pub balloon : b2 ≡ b1
   pub room : r2 ≡ r1
@@ -66,7 +66,7 @@ with_device d b = record b { device = d }
 
 -- A notice begins: whatever may still come, the whole may come (`from`). It is handed over then.
 pub record Begins (from : Device → Outcome → List Access → Type 0) (regions : List Region)
-    (kind : Kind) (b1 b2 : Balloon) (r1 r2 : VbRoom) (c : VbNotice) : Type 0 where
+    (kind : Kind) (b1 b2 : Balloon) (r1 r2 : NoticeRoom) (c : VbNotice) : Type 0 where
   pub first : Notice
   pub device : Device
   pub kind_is : first.kind ≡ kind
@@ -76,30 +76,30 @@ pub record Begins (from : Device → Outcome → List Access → Type 0) (region
   pub hands : HandsOver first regions r2.copied (with_device device b1) b2 r2.cuts c
   pub room : r2.copied ≡ r1.copied
 
-abbrev pub BeginsIf : Bool → List Region → Kind → Budget → Balloon → Balloon → VbRoom → VbRoom →
-    VbNotice → Type 0
+abbrev pub BeginsIf : Bool → List Region → Kind → Budget → Balloon → Balloon → NoticeRoom →
+    NoticeRoom → VbNotice → Type 0
 BeginsIf true regions kind budget b1 b2 r1 r2 c =
     Begins (λ after outcome log. Serves regions kind budget b1.device after outcome log) regions
     kind b1 b2 r1 r2 c
 BeginsIf false regions kind budget b1 b2 r1 r2 c = Refuses 1 b1 b2 r1 r2 c
 
 -- The queue of a kind is served; nothing is where a chain of it is held.
-abbrev pub BeginsFor : Option Kind → List Region → Budget → Balloon → Balloon → VbRoom → VbRoom →
-    VbNotice → Type 0
+abbrev pub BeginsFor : Option Kind → List Region → Budget → Balloon → Balloon → NoticeRoom →
+    NoticeRoom → VbNotice → Type 0
 BeginsFor None regions budget b1 b2 r1 r2 c = Refuses (code_of NoQueue) b1 b2 r1 r2 c
 BeginsFor (Some kind) regions budget b1 b2 r1 r2 c =
     BeginsIf (may_look kind b1) regions kind budget b1 b2 r1 r2 c
 
 -- A chain is given back, where it is held.
-abbrev pub GivesHeldOf : Option HeldChain → List Region → Kind → Balloon → Balloon → VbRoom →
-    VbRoom → VbNotice → Type 0
+abbrev pub GivesHeldOf : Option HeldChain → List Region → Kind → Balloon → Balloon → NoticeRoom →
+    NoticeRoom → VbNotice → Type 0
 GivesHeldOf None regions kind b1 b2 r1 r2 c = Refuses 1 b1 b2 r1 r2 c
 GivesHeldOf (Some held) regions kind b1 b2 r1 r2 c =
     Begins (λ after outcome log. GivesHeldBack regions kind held b1.device after outcome log)
     regions kind b1 b2 r1 r2 c
 
 -- The chain that is held of a kind's queue is given back.
-abbrev pub GivesHeldFor : Option Kind → List Region → Balloon → Balloon → VbRoom → VbRoom →
+abbrev pub GivesHeldFor : Option Kind → List Region → Balloon → Balloon → NoticeRoom → NoticeRoom →
     VbNotice → Type 0
 GivesHeldFor None regions b1 b2 r1 r2 c = Refuses (code_of NoQueue) b1 b2 r1 r2 c
 GivesHeldFor (Some kind) regions b1 b2 r1 r2 c =
@@ -108,7 +108,7 @@ GivesHeldFor (Some kind) regions b1 b2 r1 r2 c =
 -- A notice goes on with this answer: where this was done, and whatever may still come then, the
 -- whole may come. It is handed over then.
 pub record GoesOn (n : Notice) (regions : List Region) (answer : ℕ) (b1 b2 : Balloon)
-    (r1 r2 : VbRoom) (c : VbNotice) : Type 0 where
+    (r1 r2 : NoticeRoom) (c : VbNotice) : Type 0 where
   pub next : Notice
   pub device : Device
   pub kind_is : next.kind ≡ n.kind
@@ -120,7 +120,7 @@ pub record GoesOn (n : Notice) (regions : List Region) (answer : ℕ) (b1 b2 : B
   pub hands : HandsOver next regions r2.copied (with_device device b1) b2 r2.cuts c
 
 -- What is no notice goes on by nothing.
-abbrev pub GoesOnBy : Option Notice → List Region → ℕ → Balloon → Balloon → VbRoom → VbRoom →
-    VbNotice → Type 0
+abbrev pub GoesOnBy : Option Notice → List Region → ℕ → Balloon → Balloon → NoticeRoom →
+    NoticeRoom → VbNotice → Type 0
 GoesOnBy None regions answer b1 b2 r1 r2 c = Refuses (code_of BadArgument) b1 b2 r1 r2 c
 GoesOnBy (Some n) regions answer b1 b2 r1 r2 c = GoesOn n regions answer b1 b2 r1 r2 c

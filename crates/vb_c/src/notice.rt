@@ -8,7 +8,7 @@ ghost use Rattle.vb_c.specs.Notices.{notice_of};
 
 use crate::kinds::kind_of_code;
 use vb_core::Kind;
-use vb_monitor::{Cut, MAX_CUTS, Orders, Progress, Room};
+use vb_monitor::{Orders, Progress};
 
 /// A notice: what is to be done next, and what is remembered until it was done.
 #[repr(C)]
@@ -22,15 +22,6 @@ pub struct VbNotice {
     pub orders: Orders,
     /// Where it is.
     pub step: Progress,
-}
-
-/// The room that a notice needs.
-#[repr(C)]
-pub struct VbRoom {
-    /// For what is copied of a chain, and made of it.
-    pub copied: Room,
-    /// For the parts that are discarded at once.
-    pub cuts: [Cut; MAX_CUTS],
 }
 
 impl VbNotice {

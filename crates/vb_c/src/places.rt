@@ -11,7 +11,9 @@ use crate::kinds::kind_of_code;
 use crate::registers::{code_in, number_in};
 use crate::saving::code_of_state;
 use vb_core::{Device, Settings};
-use vb_monitor::{BAD_ARGUMENT, Balloon, MISPLACED, NO_QUEUE, OK, Region, RestoreDenial, may_tell};
+use vb_monitor::{
+    BAD_ARGUMENT, Balloon, MISPLACED, NO_QUEUE, OK, QueuePlace, Region, RestoreDenial, may_tell,
+};
 
 /// Each queue is to be looked at.
 const LOOK: u32 = 1;
@@ -62,17 +64,14 @@ pub extern "C" fn vb_place_over(
     balloon: &mut Balloon,
     regions: &[Region],
     kind: u32,
-    table: u64,
-    avail: u64,
-    used: u64,
-    size: u16,
+    at: QueuePlace,
 ) -> u32
-    ensures { PlacesOverFor (kind_of_code kind) regions.now table avail used size balloon.old
-        balloon.new result }
+    ensures { PlacesOverFor (kind_of_code kind) regions.now at.table at.avail at.used
+        at.size balloon.old balloon.new result }
 {
     match kind_of_code(kind) {
         None => NO_QUEUE,
-        Some(kind) => code_in(balloon.place(regions, kind, table, avail, used, size)),
+        Some(kind) => code_in(balloon.place(regions, kind, at)),
     }
 }
 

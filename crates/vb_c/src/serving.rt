@@ -10,11 +10,9 @@ ghost use Rattle.vb_monitor.specs.Notices.{Serves};
 ghost use Rattle.vb_c.specs.Serving.{HandsOver, Begins, BeginsFor, GivesHeldFor, GoesOnBy};
 
 use crate::kinds::kind_of_code;
-use crate::notice::{VbNotice, VbRoom};
+use crate::notice::VbNotice;
 use vb_core::Kind;
-use vb_monitor::{
-    BAD_ARGUMENT, Balloon, Budget, Cut, MAX_CUTS, NO_QUEUE, NOTHING, Region, Room, at_once,
-};
+use vb_monitor::{BAD_ARGUMENT, Balloon, Budget, NO_QUEUE, NOTHING, NoticeRoom, Region, at_once};
 
 /// Hands a notice over, with all that is to be done before it waits; what it came to is noted, once
 /// it has ended.
@@ -24,12 +22,12 @@ fn hand_over(
     balloon: &mut Balloon,
     regions: &[Region],
     kind: Kind,
-    room: &Room,
-    cuts: &mut [Cut; MAX_CUTS],
+    room: &mut NoticeRoom,
 ) -> u32
     requires { Fits (phase_of notice.old.step) }
     ensures hands { HandsOver (record { kind = kind; step = step_of notice.old.step }) regions.now
-        room.now balloon.old balloon.new cuts.new notice.new }
+        room.new.copied balloon.old balloon.new room.new.cuts notice.new }
+    ensures stays { room.new.copied ≡ room.old.copied }
     ensures what { result ≡ notice.new.what }
 {
     let asked = at_once(
@@ -38,7 +36,6 @@ fn hand_over(
         regions,
         kind,
         room,
-        cuts,
         &mut notice.orders,
     );
     if let Some(outcome) = notice.step.outcome() {
@@ -63,7 +60,7 @@ pub extern "C" fn vb_begin(
     notice: &mut VbNotice,
     balloon: &mut Balloon,
     regions: &[Region],
-    room: &mut VbRoom,
+    room: &mut NoticeRoom,
     kind: u32,
     chains: u32,
     pages: u32,
@@ -88,8 +85,7 @@ pub extern "C" fn vb_begin(
             notice
                 .step
                 .begin(&mut balloon.device, regions, queue, budget);
-            let (copied, cuts) = (&room.copied, &mut room.cuts);
-            hand_over(notice, balloon, regions, queue, copied, cuts)
+            hand_over(notice, balloon, regions, queue, room)
         }
     }
 }
@@ -100,7 +96,7 @@ pub extern "C" fn vb_give_held(
     notice: &mut VbNotice,
     balloon: &mut Balloon,
     regions: &[Region],
-    room: &mut VbRoom,
+    room: &mut NoticeRoom,
     kind: u32,
 ) -> u32
     ensures gives { GivesHeldFor (kind_of_code kind) regions.now balloon.old balloon.new room.old
@@ -115,8 +111,7 @@ pub extern "C" fn vb_give_held(
                 notice
                     .step
                     .give_held(&mut balloon.device, regions, queue, held);
-                let (copied, cuts) = (&room.copied, &mut room.cuts);
-                hand_over(notice, balloon, regions, queue, copied, cuts)
+                hand_over(notice, balloon, regions, queue, room)
             }
         },
     }
@@ -128,7 +123,7 @@ pub extern "C" fn vb_go_on(
     notice: &mut VbNotice,
     balloon: &mut Balloon,
     regions: &[Region],
-    room: &mut VbRoom,
+    room: &mut NoticeRoom,
     answer: u16,
 ) -> u32
     ensures goes { GoesOnBy (notice_of notice.old) regions.now answer balloon.old balloon.new
@@ -142,8 +137,7 @@ pub extern "C" fn vb_go_on(
             notice
                 .step
                 .go_on(device, regions, kind, answer, &mut room.copied);
-            let (copied, cuts) = (&room.copied, &mut room.cuts);
-            hand_over(notice, balloon, regions, kind, copied, cuts)
+            hand_over(notice, balloon, regions, kind, room)
         }
     }
 }

@@ -2,7 +2,7 @@
 use Rattle.std.proofs.Common.{◌≡◌, refl, ap, arith, ℕ, true, false, List, [], ◌∷◌, Some, None}
 use Rattle.std.proofs.Common.{map, ◌++◌}
 use Rattle.vb_core.specs.declared.device.Denial.TheVariants.{NoQueue, BadArgument, NotReady}
-use Rattle.vb_core.specs.{declared.statistics.Statistic.Statistic}
+use Rattle.vb_core.specs.{declared.statistics.Statistic.Statistic, declared.device.Device.Device}
 use Rattle.vb_core.specs.{Kinds.kind_of, declared.device.Denial.TheVariants.{NeedsReset, Misplaced}}
 use Rattle.vb_core.specs.{Statistics.{AreFigures, figure_at, statistics_denial}, Statuses.after_write}
 use Rattle.vb_core.specs.declared.kinds.Kind.TheVariants.{Inflate, Deflate, Report}
@@ -12,10 +12,14 @@ use Rattle.vb_core.specs.Rings.{is_size, is_part, has_place, with_taken, with_us
 
 -- ---- places
 
--- 256 entries are a size; 512 are too many, and 6 no power of two
-sizes : map is_size (256 ∷ 512 ∷ 6 ∷ []) ≡ true ∷ false ∷ false ∷ []
+-- powers of two from 1 to 1,024 are sizes; 2,048 are too many, and 0, 3 and 768 no power of two
+sizes : map is_size (1 ∷ 2 ∷ 256 ∷ 512 ∷ 1024 ∷ []) ≡ true ∷ true ∷ true ∷ true ∷ true ∷ []
 unfolding lib.Count.ones
 sizes = refl
+
+no_sizes : map is_size (0 ∷ 3 ∷ 768 ∷ 2048 ∷ []) ≡ false ∷ false ∷ false ∷ false ∷ []
+unfolding lib.Count.ones
+no_sizes = refl
 
 -- the last 16 bytes, one more, and a misaligned place
 parts : is_part 4096 4080 16 16 ∷ is_part 4096 4080 16 17 ∷ is_part 4096 8 16 16 ∷ []
@@ -73,6 +77,11 @@ tenth : used_entry (record (placed 0 256 512 8) { next_used = 9 }) 5
     ≡ record { element_at = 524; index_at = 514; id = 5; length = 0; index = 10 }
 tenth = refl
 
+-- the last place of 1,024, and the first one after it
+last_places : map (λ n. (used_entry (record (placed 0 0x8000 0x9000 1024) { next_used = n }) 5).element_at)
+    (1023 ∷ 1024 ∷ 65535 ∷ []) ≡ 0xaffc ∷ 0x9004 ∷ 0xaffc ∷ []
+last_places = refl
+
 -- the index after the last one, and after the first
 indices : (used_entry (record (placed 0 256 512 8) { next_used = 65535 }) 5).index
     ∷ (with_used (placed 0 256 512 8)).next_used ∷ [] ≡ 0 ∷ 1 ∷ []
@@ -82,6 +91,20 @@ indices = refl
 heads : map (λ head. use_denial Inflate head ready) (7 ∷ 8 ∷ []) ≡ None ∷ Some BadArgument ∷ []
 unfolding lib.Count.ones
 heads = refl
+
+-- in the largest ring 1,000 is one, and in one of half its size it isn't
+heads_of : ℕ → Device
+heads_of size = record ready { inflate = placed 0 0x8000 0x9000 size }
+
+large_heads : map (λ size. use_denial Inflate 1000 (heads_of size)) (1024 ∷ 512 ∷ [])
+    ≡ None ∷ Some BadArgument ∷ []
+unfolding lib.Count.ones heads_of
+large_heads = refl
+
+last_heads : map (λ head. use_denial Inflate head (heads_of 1024)) (1023 ∷ 1024 ∷ [])
+    ≡ None ∷ Some BadArgument ∷ []
+unfolding lib.Count.ones heads_of
+last_heads = refl
 
 -- ---- numbers of queues
 

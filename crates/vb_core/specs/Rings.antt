@@ -2,7 +2,7 @@
 -- 1.1, 2.6).
 use Rattle.std.specs.Prelude.{ℕ, ◌+◌, ◌-◌, ◌*◌, ◌%◌, Bool, ◌==◌, ◌&&◌, nat_le}
 use Rattle.std.specs.Int.{is_power_of_two}
-use Rattle.vb_virtio.specs.declared.limits.TheConstants.{MIN_QUEUE_SIZE, MAX_QUEUE_SIZE}
+use Rattle.vb_core.specs.declared.ring.TheConstants.{MAX_RING_SIZE}
 use Rattle.vb_core.specs.declared.ring.Virtqueue.{Virtqueue}
 use Rattle.vb_core.specs.declared.ring.UsedEntry.{UsedEntry}
 
@@ -13,7 +13,7 @@ no_ring =
 
 -- A number of descriptors that a queue may have.
 abbrev pub is_size : ℕ → Bool
-is_size size = is_power_of_two size && nat_le MIN_QUEUE_SIZE size && nat_le size MAX_QUEUE_SIZE
+is_size size = is_power_of_two size && nat_le size MAX_RING_SIZE
 
 -- n bytes from an address on are aligned so, and lie in memory that ends there.
 abbrev pub is_part : ℕ → ℕ → ℕ → ℕ → Bool

@@ -36,7 +36,7 @@ pub use laws::{
 pub use name::Named;
 pub use pieces::ChainPiece;
 pub use report::MAX_REPORT_RUNS;
-pub use ring::{UsedEntry, Virtqueue, place_in_ring};
+pub use ring::{MAX_RING_SIZE, UsedEntry, Virtqueue, place_in_ring};
 pub use runs::Run;
 pub use saved::{Saved, StateDenial};
 pub use saved_laws::{

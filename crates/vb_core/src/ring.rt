@@ -6,9 +6,12 @@ ghost use Rattle.vb_core.specs.Rings.{with_taken, with_used};
 
 use vb_chain::DESCRIPTOR_SIZE;
 use vb_ring::{
-    AVAIL_ALIGNMENT, AVAIL_ENTRY_SIZE, MAX_QUEUE_SIZE, MIN_QUEUE_SIZE, RING_HEADER_SIZE,
-    RING_INDEX_AT, RING_META_SIZE, TABLE_ALIGNMENT, USED_ALIGNMENT, USED_ELEMENT_SIZE,
+    AVAIL_ALIGNMENT, AVAIL_ENTRY_SIZE, RING_HEADER_SIZE, RING_INDEX_AT, RING_META_SIZE,
+    TABLE_ALIGNMENT, USED_ALIGNMENT, USED_ELEMENT_SIZE,
 };
+
+/// Descriptors of a ring, at the most: a power of two from 1 on (VIRTIO 1.1, 2.6).
+pub const MAX_RING_SIZE: u16 = 1024;
 
 /// A queue's ring as the device has it: where its parts lie, by addresses of guest memory, and how
 /// far the device is (VIRTIO 1.1, 2.6).
@@ -46,11 +49,11 @@ pub struct UsedEntry {
     pub index: u16,
 }
 
-/// Whether a queue may have `size` descriptors: a power of two from 2 to 256.
+/// Whether a queue may have `size` descriptors: a power of two from 1 to 1,024.
 fn is_size(size: u16) -> bool
     ensures { result ≡ is_size size }
 {
-    size.is_power_of_two() && size >= MIN_QUEUE_SIZE && size <= MAX_QUEUE_SIZE
+    size.is_power_of_two() && size <= MAX_RING_SIZE
 }
 
 /// Whether `len` bytes from an address on are aligned so, and lie in memory that ends there.
@@ -61,19 +64,17 @@ fn is_part(end: u64, at: u64, align: u64, len: u64) -> bool
     at % align == 0 && at <= end && len <= end - at
 }
 
-/// Half of the largest size of a queue.
-const HALF_QUEUE_SIZE: u16 = MAX_QUEUE_SIZE / 2;
-
-/// The index in a ring of `size` entries of the entry that comes after `count` others. For the two
-/// largest sizes nothing is divided.
+/// The index in a ring of `size` entries of the entry that comes after `count` others. For the
+/// sizes that monitors offer nothing is divided.
 #[inline(always)]
 pub fn place_in_ring(count: u16, size: u16) -> u16
     requires { 0 < size }
     ensures { result ≡ count % size }
 {
     match size {
-        MAX_QUEUE_SIZE => count % MAX_QUEUE_SIZE,
-        HALF_QUEUE_SIZE => count % HALF_QUEUE_SIZE,
+        MAX_RING_SIZE => count % MAX_RING_SIZE,
+        256 => count % 256,
+        128 => count % 128,
         _ => count % size,
     }
 }
@@ -90,7 +91,7 @@ impl Virtqueue {
     };
 
     /// Whether its parts have a place in memory that ends at this address: a power of two of
-    /// descriptors from 2 to 256; the table aligned to 16 bytes, the available ring to 2 and the
+    /// descriptors from 1 to 1,024; the table aligned to 16 bytes, the available ring to 2 and the
     /// used ring to 4 (VIRTIO 1.1, 2.6); and each part within memory.
     #[inline(always)]
     pub fn has_place(&self, end: u64) -> bool

@@ -22,6 +22,6 @@ pub use claimed::Claimed;
 pub use device::Device;
 pub use discarding::discard_page;
 pub use pace::{Immediate, Pace, Paced};
-pub use serving::{QueueRegisters, ServedChain, ServesChains};
+pub use serving::{OpenQueue, QueueRegisters, ServedChain, ServesChains};
 pub use vb_request::Statistics;
 pub use worked::Worked;

@@ -25,7 +25,7 @@ ghost use Rattle.vb_device.specs.ServedChains.{gone_on};
 use crate::Statistics;
 use crate::discarding::discard_request;
 use crate::flags::note_finish;
-use crate::taken::TakenRequest;
+use crate::taken::{ChainOrigin, TakenRequest};
 use crate::taken_list::{MAX_TAKEN, TakenList};
 use std::marker::Model;
 use vb_bits::BitSet;
@@ -139,16 +139,20 @@ impl DeviceQueue {
             Err(fault) => Err(broken(fault)),
             Ok(found) => match found {
                 None => Ok(None),
-                Some(head) => match self
-                    .taken
-                    .take(head, self.number, shape, ram, chain.pieces(), last)
-                {
-                    Ok(()) => Ok(Some(head)),
-                    Err(wrong) => {
-                        self.queue.go_to_previous_position();
-                        Err(broken(wrong))
+                Some(head) => {
+                    let origin = ChainOrigin {
+                        head,
+                        queue: self.number,
+                        shape,
+                    };
+                    match self.taken.take(origin, ram, chain.pieces(), last) {
+                        Ok(()) => Ok(Some(head)),
+                        Err(wrong) => {
+                            self.queue.go_to_previous_position();
+                            Err(broken(wrong))
+                        }
                     }
-                },
+                }
             },
         }
     }

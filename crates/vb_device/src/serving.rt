@@ -31,6 +31,15 @@ pub struct QueueRegisters {
     pub next_used: u16,
 }
 
+/// A queue of which a chain is served.
+#[derive(Clone, Copy, Debug)]
+pub struct OpenQueue {
+    /// Its number.
+    pub number: u32,
+    /// How far its device is in it.
+    pub registers: QueueRegisters,
+}
+
 /// What was done of a chain.
 #[derive(Clone, Copy, Debug)]
 pub struct ServedChain {
@@ -55,23 +64,22 @@ pub trait ServesChains {
         loose: &mut Vec<Frame>,
         ballooned: &mut BitSet,
         last: &mut Statistics,
-        registers: QueueRegisters,
-        queue: u32,
+        queue: OpenQueue,
     ) -> ServedChain
-        requires known { has_chains queue ≡ true }
-        requires size { IsSize registers.queue_size }
-        requires open_so { take_refusal_by queue (status_bits registers.status)
-            (feature_bits registers.features) ≡ None }
-        requires backed { IsBacked ram.old (layout_of (ring_page registers.queue_size queue)
-            registers.queue_size) }
+        requires known { has_chains queue.number ≡ true }
+        requires size { IsSize queue.registers.queue_size }
+        requires open_so { take_refusal_by queue.number (status_bits queue.registers.status)
+            (feature_bits queue.registers.features) ≡ None }
+        requires backed { IsBacked ram.old (layout_of
+            (ring_page queue.registers.queue_size queue.number) queue.registers.queue_size) }
         requires none { loose.old.items ≡ [] }
         requires room { length ram.old ≤ vec_capacity loose.old }
         requires marks { length ballooned.old ≡ length ram.old }
         ensures pages { length ram.new ≡ length ram.old }
         ensures room { length ram.new ≤ vec_capacity loose.new }
         ensures marks { length ballooned.new ≡ length ram.new }
-        ensures held { IfSome result.held (λ head. head < registers.queue_size) }
-        ensures serves { ServesChainBy registers queue ram.old ram.new
+        ensures held { IfSome result.held (λ head. head < queue.registers.queue_size) }
+        ensures serves { ServesChainBy queue.registers queue.number ram.old ram.new
             (record {
               loose = numbers_of_frames loose.old.items;
               ballooned = ballooned.old;

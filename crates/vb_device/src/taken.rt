@@ -14,6 +14,17 @@ use vb_chain::{ChainFault, Piece};
 use vb_ram::{GuestBytes, Shape};
 use vb_request::{NamedPages, NamedRun, Statistics, read_chain_into};
 
+/// Where a chain that is taken begins.
+#[derive(Clone, Copy, Debug)]
+pub(crate) struct ChainOrigin {
+    /// Its first descriptor.
+    pub(crate) head: u16,
+    /// The number of its queue.
+    pub(crate) queue: u32,
+    /// The size of the device's queues.
+    pub(crate) shape: Shape,
+}
+
 /// A chain that was taken and isn't used yet.
 #[derive(Drop)]
 pub(crate) struct TakenRequest {
@@ -44,15 +55,13 @@ impl Default for TakenRequest {
 }
 
 impl TakenRequest {
-    /// Becomes the chain of these pieces, from this head, on the queue of this number: reads which
+    /// Becomes the chain of these pieces, from this origin: reads which
     /// pages it names, of which none is visited. What a buffer of statistics says replaces `last`.
     /// Where the chain breaks a rule, the rule is the answer, and what the request is then is left
     /// open.
     pub(crate) fn read<G: GuestBytes>(
         &mut self,
-        head: u16,
-        queue: u32,
-        shape: Shape,
+        origin: ChainOrigin,
         ram: &G,
         pieces: &[Piece],
         last: &mut Statistics,
@@ -61,21 +70,30 @@ impl TakenRequest {
             (λ piece. piece.addr + piece.len ≤ page_size * length (G.mem ram.now)) pieces.now }
         requires few { length pieces.now ≤ MAX_QUEUE_SIZE }
         ensures pages { OnOk result
-            (request_of queue shape.queue_size (G.mem ram.now) pieces.now ≡ Ok self.new.pages) }
-        ensures fresh { OnOk result ((self.new.head ≡ head) × (self.new.visited ≡ 0)) }
+            (request_of origin.queue origin.shape.queue_size (G.mem ram.now) pieces.now ≡
+            Ok self.new.pages) }
+        ensures fresh { OnOk result ((self.new.head ≡ origin.head) × (self.new.visited ≡ 0)) }
         ensures above { OnOk result
-            (All (λ page. reserved_pages shape.queue_size ≤ page) self.new.pages) }
+            (All (λ page. reserved_pages origin.shape.queue_size ≤ page) self.new.pages) }
         ensures fault { IfErr result (λ fault.
-            request_of queue shape.queue_size (G.mem ram.now) pieces.now ≡ Err fault) }
-        ensures said { OnOk result ((last.new.free ≡ (noted queue (G.mem ram.now) pieces.now
+            request_of origin.queue origin.shape.queue_size (G.mem ram.now) pieces.now ≡
+            Err fault) }
+        ensures said { OnOk result ((last.new.free ≡ (noted origin.queue (G.mem ram.now) pieces.now
             (record { free = last.old.free; total = last.old.total })).free) ×
-            (last.new.total ≡ (noted queue (G.mem ram.now) pieces.now
+            (last.new.total ≡ (noted origin.queue (G.mem ram.now) pieces.now
             (record { free = last.old.free; total = last.old.total })).total)) }
         ensures err { OnErr result (last.new ≡ last.old) }
     {
-        self.head = head;
+        self.head = origin.head;
         self.visited = 0;
-        read_chain_into(queue, shape, ram, pieces, last, &mut self.pages)
+        read_chain_into(
+            origin.queue,
+            origin.shape,
+            ram,
+            pieces,
+            last,
+            &mut self.pages,
+        )
     }
 
     /// Becomes a chain from this head that names no page.

@@ -11,10 +11,10 @@ ghost use Rattle.vb_virtio.specs.Limits.{max_outstanding, page_size};
 ghost use Rattle.vb_virtio.specs.Queues.{Request};
 ghost use Rattle.vb_request.specs.Asked.{request_of, noted};
 
-use crate::taken::TakenRequest;
+use crate::taken::{ChainOrigin, TakenRequest};
 use std::marker::Model;
 use vb_chain::{ChainFault, Piece};
-use vb_ram::{GuestBytes, Shape};
+use vb_ram::GuestBytes;
 use vb_request::Statistics;
 use vb_virtio::limits::MAX_OUTSTANDING;
 
@@ -69,14 +69,12 @@ impl TakenList {
         self.len = 0;
     }
 
-    /// Takes the chain of these pieces, from this head, on the queue of this number, after the
+    /// Takes the chain of these pieces, from this origin, after the
     /// others. What a buffer of statistics says replaces `last`. Where the chain breaks a rule, the
     /// rule is the answer, and nothing is changed.
     pub(crate) fn take<G: GuestBytes>(
         &mut self,
-        head: u16,
-        queue: u32,
-        shape: Shape,
+        origin: ChainOrigin,
         ram: &G,
         pieces: &[Piece],
         last: &mut Statistics,
@@ -86,19 +84,22 @@ impl TakenList {
             (λ piece. piece.addr + piece.len ≤ page_size * length (G.mem ram.now)) pieces.now }
         requires few { length pieces.now ≤ MAX_QUEUE_SIZE }
         ensures taken { OnOk result ((pages : List ℕ) ×
-            (request_of queue shape.queue_size (G.mem ram.now) pieces.now ≡ Ok pages) ×
-            All (λ page. reserved_pages shape.queue_size ≤ page) pages ×
-            (self.new ≡ self.old ++ (record { head = head; pages = pages; visited = 0 } ∷ []))) }
+            (request_of origin.queue origin.shape.queue_size (G.mem ram.now) pieces.now ≡
+            Ok pages) ×
+            All (λ page. reserved_pages origin.shape.queue_size ≤ page) pages ×
+            (self.new ≡
+            self.old ++ (record { head = origin.head; pages = pages; visited = 0 } ∷ []))) }
         ensures fault { IfErr result (λ fault.
-            request_of queue shape.queue_size (G.mem ram.now) pieces.now ≡ Err fault) }
+            request_of origin.queue origin.shape.queue_size (G.mem ram.now) pieces.now ≡
+            Err fault) }
         ensures kept { OnErr result (self.new ≡ self.old) }
-        ensures said { OnOk result ((last.new.free ≡ (noted queue (G.mem ram.now) pieces.now
+        ensures said { OnOk result ((last.new.free ≡ (noted origin.queue (G.mem ram.now) pieces.now
             (record { free = last.old.free; total = last.old.total })).free) ×
-            (last.new.total ≡ (noted queue (G.mem ram.now) pieces.now
+            (last.new.total ≡ (noted origin.queue (G.mem ram.now) pieces.now
             (record { free = last.old.free; total = last.old.total })).total)) }
         ensures err { OnErr result (last.new ≡ last.old) }
     {
-        self.requests[self.len].read(head, queue, shape, ram, pieces, last)?;
+        self.requests[self.len].read(origin, ram, pieces, last)?;
         self.len += 1;
         Ok(())
     }

@@ -3,7 +3,9 @@ use Rattle.vb_core.{proofs.PieceLemmas.{join_in, get_in}, specs.declared.pieces.
 use Rattle.vb_core.specs.Pieces.{piece_in, pieces_in}
 use Rattle.std.proofs.Common.{◌≡◌, ◌∙◌, ap, sym, subst, refl, ℕ, ◌+◌, ◌<◌, ◌≤◌, Bool, false, true}
 use Rattle.std.proofs.Common.{List, [], ◌∷◌, ◌++◌, length, map, take, drop, get_or, slice_set}
-use Rattle.std.{specs.Prelude.{sum_by, fold}, proofs.lemmas.List.take_more_set}
+use Rattle.std.{specs.Prelude.{sum_by, fold, MatchOption, not, ◌==◌}, proofs.lemmas.List.take_more_set}
+use Rattle.std.{specs.List.list_any, proofs.Common.{Option, Some, None}}
+use Rattle.vb_core.proofs.PieceLemmas.{any_in}
 use Rattle.vb_chain.specs.declared.pieces.Piece.{Piece}
 use Rattle.vb_request.specs.Request.{total_length}
 use Rattle.vb_monitor.{specs.Pieces.{first_part, second_part, all_parts}, specs.Machine.behind_part}
@@ -23,6 +25,18 @@ pub total_in : (bs : List ChainPiece) →
     total_length (pieces_in bs) ≡ sum_by (λ (b : ChainPiece). b.length) bs
 unfolding pieces_in
 total_in bs = total_from 0 bs
+
+-- how many bytes they have, where none of them is the device's to write
+pub readable_in : (bs : List ChainPiece) (o : Option ℕ) →
+    MatchOption o (list_any (λ (b : ChainPiece). not (b.writable == 0)) bs ≡ true)
+    (λ n. (list_any (λ (b : ChainPiece). not (b.writable == 0)) bs ≡ false)
+    × (n ≡ sum_by (λ (b : ChainPiece). b.length) bs)) →
+    MatchOption o (list_any (λ (p : Piece). p.writable) (pieces_in bs) ≡ true)
+    (λ n. (list_any (λ (p : Piece). p.writable) (pieces_in bs) ≡ false)
+    × (n ≡ total_length (pieces_in bs)))
+readable_in bs None e = any_in (λ (p : Piece). p.writable) bs ∙ e
+readable_in bs (Some n) e =
+    (any_in (λ (p : Piece). p.writable) bs ∙ e.0, e.1 ∙ sym (total_in bs))
 
 -- ---- one buffer of a list
 

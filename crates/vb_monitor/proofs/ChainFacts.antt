@@ -1,5 +1,5 @@
 -- How a notice ends, how a chain is followed, and how its pieces are copied, worked out.
-use Rattle.std.proofs.Common.{◌≡◌, refl, sym, ap, arith, ℕ, Bool, true, false, List, [], ◌∷◌, length, Some, None}
+use Rattle.std.proofs.Common.{◌≡◌, refl, sym, ap, arith, ℕ, Bool, true, false, List, [], ◌∷◌, length, map, Some, None}
 use Rattle.vb_chain.specs.declared.descriptor.Descriptor.{Descriptor}
 use Rattle.vb_chain.specs.declared.pieces.Piece.{Piece}
 use Rattle.vb_chain.specs.declared.fault.ChainFault.TheVariants.{BadNext, TooLong, Indirect, WrongDirection, OutOfRam, BadLength}
@@ -12,8 +12,8 @@ use Rattle.vb_monitor.specs.Ends.{Whole, wants_interrupt, Ends, Breaks}
 use Rattle.vb_monitor.specs.Pieces.{parts_of, all_parts, CopiesParts, PartBy, fits_behind}
 use Rattle.vb_core.specs.Pieces.{pieces_in}
 use Rattle.vb_monitor.specs.Giving.{Then}
-use Rattle.vb_monitor.specs.Chains.{descriptor_of, memory_end, descriptors, table_fault, GoesOn, no_row, Follows, ServesPieces}
-use Rattle.vb_monitor.proofs.Samples.{flags_are_read, Same, two, at, ring, ready, tally, piece, first_descriptor, last_descriptor, with_two, number, descriptor, part, discard, flags}
+use Rattle.vb_monitor.specs.Chains.{descriptor_of, memory_end, longest, table_fault, GoesOn, no_row, Follows, ServesPieces}
+use Rattle.vb_monitor.proofs.Samples.{flags_are_read, Same, two, at, ready, tally, piece, first_descriptor, last_descriptor, with_two, number, descriptor, part, discard, flags}
 
 -- ---- how a notice ends
 
@@ -88,8 +88,9 @@ each_byte : descriptor_of bytes ≡
     record { addr = 0x0807060504030201; len = 0x0c0b0a09; flags = 0x0e0d; next = 0x100f }
 each_byte = refl
 
-of_eight : descriptors ring ≡ 8
-of_eight = refl
+-- as many as the table, and never more than 256
+of_each : map longest (1 ∷ 8 ∷ 256 ∷ 512 ∷ 1024 ∷ []) ≡ 1 ∷ 8 ∷ 256 ∷ 256 ∷ 256 ∷ []
+of_each = refl
 
 end_of_memory : memory_end ready ≡ 0x20000
 end_of_memory = refl
@@ -118,6 +119,29 @@ one_too_many = refl
 
 last_of_all : table_fault 8 0x20000 false 7 (faulty 4 0 8) ≡ None
 last_of_all = refl
+
+-- in a table of 1,024 the 256th descriptor of a chain is its last one: it doesn't go on
+last_of_256 : table_fault 1024 0x20000 false 255 (faulty 4 0 8) ≡ None
+last_of_256 = refl
+
+one_before_it : table_fault 1024 0x20000 false 254 (faulty 4 1 1023) ≡ None
+one_before_it = refl
+
+more_than_256 : table_fault 1024 0x20000 false 255 (faulty 4 1 8) ≡ Some TooLong
+more_than_256 = refl
+
+another_one : table_fault 1024 0x20000 false 256 (faulty 4 0 8) ≡ Some TooLong
+another_one = refl
+
+-- and each of the table may be named, which is tested before the chain's length
+last_of_1024 : table_fault 1024 0x20000 false 0 (faulty 4 1 1023) ≡ None
+last_of_1024 = refl
+
+past_1024 : table_fault 1024 0x20000 false 255 (faulty 4 1 1024) ≡ Some BadNext
+past_1024 = refl
+
+past_512 : table_fault 512 0x20000 false 0 (faulty 4 1 1000) ≡ Some BadNext
+past_512 = refl
 
 -- ---- the walk
 

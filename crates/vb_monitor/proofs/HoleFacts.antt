@@ -109,10 +109,26 @@ eighth_followed : (w : Whole) (x : Access) (rest : List Access) →
     AfterEntry (record w { regions = two; kind = Inflate }) none ready tally 8 (x ∷ rest) → ⊥
 eighth_followed w x rest h = let e = h.nothing in absurd cc
 
--- no queue has more than 256 descriptors
-two_hundred_fifty_sixth : AfterEntry (broken (with (record ring { size = 512 })) BadHead) none (with (record ring { size = 512 }))
-    tally 256 []
-two_hundred_fifty_sixth = record { nothing = refl; device = refl; outcome = refl }
+-- in a ring of 512 the head 256 is one, and 512 is none; its descriptor names none either
+abbrev large : Device
+large = with (record ring { size = 512 })
+
+two_hundred_fifty_sixth : AfterEntry (broken large BadNext) none large tally 256
+    (CopyBytes (at 0x1000) (0 ∷ 4 ∷ 0 ∷ 0 ∷ 0 ∷ 0 ∷ 0 ∷ 0 ∷ 4 ∷ 0 ∷ 0 ∷ 0 ∷ 1 ∷ 0 ∷ 0 ∷ 2 ∷ []) ∷ [])
+two_hundred_fifty_sixth = record {
+  bytes = 0 ∷ 4 ∷ 0 ∷ 0 ∷ 0 ∷ 0 ∷ 0 ∷ 0 ∷ 4 ∷ 0 ∷ 0 ∷ 0 ∷ 1 ∷ 0 ∷ 0 ∷ 2 ∷ [];
+  rest = [];
+  asks = refl;
+  long = refl;
+  goes_on = record { nothing = refl; device = refl; outcome = refl };
+}
+
+five_hundred_twelfth : AfterEntry (broken large BadHead) none large tally 512 []
+five_hundred_twelfth = record { nothing = refl; device = refl; outcome = refl }
+
+two_hundred_fifty_sixth_refused : (w : Whole) →
+    AfterEntry (record w { regions = two; kind = Inflate }) none large tally 256 [] → ⊥
+two_hundred_fifty_sixth_refused w h = let e = h.asks in absurd cc
 
 -- of a table of two descriptors none is read for a third time
 abbrev two_descriptors : Device

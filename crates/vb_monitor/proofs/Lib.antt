@@ -61,6 +61,7 @@ mod WholeReportFacts
 mod KeepsFacts
 pub mod RoomLemmas
 pub mod OpenLemmas
+pub mod WithinLemmas
 pub mod StillWalk
 pub mod StillParts
 pub mod StillFound
@@ -70,3 +71,4 @@ pub mod StillReports
 mod StillReadFacts
 mod StillFacts
 mod StillNextFacts
+mod WithinFacts

@@ -9,7 +9,7 @@ use Rattle.vb_monitor.specs.declared.{regions.Spot.Spot, giving.UsedSpots.UsedSp
 use Rattle.vb_monitor.specs.declared.{outcome.Tally.Tally, balloon.Balloon.Balloon}
 use Rattle.vb_monitor.specs.Accesses.{Access, ReadWord, Release, WriteNumber, WriteWord}
 use Rattle.vb_monitor.specs.{Ends.{Whole, wants_interrupt, AsksFlags}, Giving.{Then, WritesUsed}}
-use Rattle.vb_monitor.specs.{Giving.spent, Chains.{descriptor_of, table_fault, descriptors}}
+use Rattle.vb_monitor.specs.{Giving.spent, Chains.{descriptor_of, table_fault}}
 use Rattle.vb_monitor.specs.Notices.{entry_offset, stands, AsksEntry, AsksIndex}
 use Rattle.vb_monitor.specs.Balloons.{may_look, after_status, becomes_ready}
 
@@ -39,6 +39,19 @@ behind = refl
 tenth_entry : entry_offset (record ring { next_avail = 9 }) ≡ 6
 tenth_entry = refl
 
+-- in a ring of 1,024 as many may be there, and the entry after the last one is the first
+large_ahead : stands (record ring { size = 1024; next_avail = 65000 }) 488 ≡ Ok true
+large_ahead = refl
+
+large_jump : stands (record ring { size = 1024; next_avail = 65000 }) 489 ≡ Err IndexJump
+large_jump = refl
+
+last_entry : entry_offset (record ring { size = 1024; next_avail = 1023 }) ≡ 2050
+last_entry = refl
+
+first_again : entry_offset (record ring { size = 1024; next_avail = 1024 }) ≡ 4
+first_again = refl
+
 -- ---- descriptors
 
 -- 10 bytes from 0x1234 on, which the device writes, and then descriptor 3
@@ -55,9 +68,6 @@ no_room = refl
 past_memory : table_fault 8 0x10000 false 0 (record { addr = 0xfffd; len = 4; flags = 0; next = 0 }) ≡
     Some OutOfRam
 past_memory = refl
-
-never_more : descriptors (record ring { size = 512 }) ≡ 256
-never_more = refl
 
 -- ---- flags, budgets and registers
 

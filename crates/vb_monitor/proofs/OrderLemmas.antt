@@ -1,10 +1,9 @@
 -- What is done at once.
 use Rattle.std.proofs.Common.{◌≡◌, ◌∙◌, ap, sym, refl, arith, ℕ, ◌+◌, ◌<◌, true, List, [], ◌∷◌}
 use Rattle.std.proofs.Common.{◌++◌, length, map, take, slice_set, Option, Some, None}
-use Rattle.std.specs.Prelude.{MatchOption}
 use Rattle.std.proofs.lemmas.List.{append_assoc, map-append, take_more_set}
 use Rattle.vb_core.{specs.declared.device.Device.Device, specs.declared.runs.Run.Run}
-use Rattle.vb_monitor.specs.{Accesses.{Access, Discard}, Ends.Whole, Machine.{stage, waits, cuts_behind}}
+use Rattle.vb_monitor.specs.{Accesses.{Access, Discard}, Ends.Whole, Machine.{stage, waits}}
 use Rattle.vb_monitor.specs.{Orders.cuts_left, declared.cuts.Cut.Cut, declared.cuts.NextCut.NextCut}
 use Rattle.vb_monitor.specs.declared.{outcome.Tally.Tally, regions.Region.Region, step.Phase.Phase}
 use Rattle.vb_monitor.specs.declared.step.Phase.TheVariants.{AwaitsIndex, AwaitsEntry}
@@ -34,12 +33,6 @@ one_more all cuts behind more count cut lt e f =
     e ∙ (ap (λ (l : List Cut). take count cuts ++ cut ∷ l) f
     ∙ (sym (append_assoc (take count cuts) (cut ∷ []) more)
     ∙ ap (λ (l : List Cut). l ++ more) (sym (take_more_set cuts count cut lt))))
-
-pub left_is : (o : Option NextCut) (rs : List Region) (runs : List Run) (all : List Cut) →
-    MatchOption o (all ≡ []) (λ x. all ≡ x.cut ∷ cuts_behind x.from x.run rs runs) →
-    all ≡ cuts_left rs runs o
-left_is None rs runs all e = e
-left_is (Some x) rs runs all e = e
 
 -- ---- discards
 

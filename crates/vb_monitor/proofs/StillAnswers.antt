@@ -13,7 +13,8 @@ use Rattle.std.proofs.Common.{◌≡◌, ◌∙◌, ap, sym, subst, refl, inl, i
 use Rattle.std.proofs.Common.{Option, Some, None, Result, Ok, Err}
 use Rattle.std.specs.Prelude.{◌&&◌}
 use Rattle.vb_chain.{specs.declared.pieces.Piece.Piece, specs.declared.fault.ChainFault.ChainFault}
-use Rattle.vb_chain.{specs.Chain.{ChainGives, FaultGives}, proofs.Unique.{chain_is_one, chain_or_fault, fault_is_one}}
+use Rattle.vb_monitor.specs.Within.{ChainWithin, FaultWithin}
+use Rattle.vb_monitor.proofs.WithinLemmas.{chain_is_within, chain_or_fault_within, fault_is_within}
 use Rattle.vb_ring.specs.declared.device.Taken.{Taken}
 
 -- ---- what is done
@@ -68,16 +69,16 @@ one_fault byte end r f g (inl h) (inl k) = cc
 one_fault byte end r f g (inl h) (inr k) = let e = k.is_next in absurd cc
 one_fault byte end r f g (inr h) (inl k) = let e = h.is_next in absurd cc
 one_fault byte end r f g (inr h) (inr k) =
-    fault_is_one (in_memory byte r.table) r.size end h.head f g h.gives
-    (subst (λ (n : ℕ). FaultGives (in_memory byte r.table) r.size end n g)
+    fault_is_within (in_memory byte r.table) r.size end h.head f g h.gives
+    (subst (λ (n : ℕ). FaultWithin (in_memory byte r.table) r.size end n g)
     (one_of k.head h.head (head_in byte r) k.is_next h.is_next) k.gives)
 
 no_chain_breaks : (byte : ℕ → ℕ) (end : ℕ) (r : Virtqueue) (taken : Taken) (f : ChainFault) →
     HasNext byte end r (Ok (Some taken)) → HasNext byte end r (Err f) → ⊥
 no_chain_breaks byte end r taken f h (inl k) = let e = h.0 in cc
 no_chain_breaks byte end r taken f h (inr k) =
-    chain_or_fault (in_memory byte r.table) r.size end taken.head taken.chain f h.1
-    (subst (λ (n : ℕ). FaultGives (in_memory byte r.table) r.size end n f)
+    chain_or_fault_within (in_memory byte r.table) r.size end taken.head taken.chain f h.1
+    (subst (λ (n : ℕ). FaultWithin (in_memory byte r.table) r.size end n f)
     (one_of k.head taken.head (head_in byte r) k.is_next h.0) k.gives)
 
 none_breaks : (byte : ℕ → ℕ) (end : ℕ) (r : Virtqueue) (f : ChainFault) →
@@ -90,8 +91,8 @@ same_chain : (byte : ℕ → ℕ) (end : ℕ) (r : Virtqueue) (one other : Taken
 same_chain byte end r one other h k =
     let head : other.head ≡ one.head = one_of other.head one.head (head_in byte r) k.0 h.0 in
     let chain : one.chain ≡ other.chain =
-    chain_is_one (in_memory byte r.table) r.size end one.head one.chain other.chain h.1
-    (subst (λ (n : ℕ). ChainGives (in_memory byte r.table) r.size end n other.chain) head k.1) in
+    chain_is_within (in_memory byte r.table) r.size end one.head one.chain other.chain h.1
+    (subst (λ (n : ℕ). ChainWithin (in_memory byte r.table) r.size end n other.chain) head k.1) in
     ap (λ (n : ℕ). record { head = n; chain = one.chain }) (sym head)
     ∙ ap (λ (ps : List Piece). record { head = other.head; chain = ps }) chain
 

@@ -1,5 +1,5 @@
 -- What a notice does by what is found, where memory stays as it is.
-use Rattle.std.proofs.Common.{◌≡◌, ◌∙◌, ap, subst, [], refl, arith, ℕ, ◌+◌, ◌*◌, ◌%◌, ◌≤◌, Bool, true}
+use Rattle.std.proofs.Common.{◌≡◌, ◌∙◌, ap, subst, [], refl, arith, ℕ, ◌+◌, ◌*◌, ◌%◌, ◌<◌, Bool, true}
 use Rattle.std.proofs.Common.{false, List, ◌∷◌, Option, Some, None, Result, Ok, Err}
 use Rattle.std.specs.Prelude.{if◌then◌else◌}
 use Rattle.std.proofs.lemmas.Bool.Decides.{nat_tests}
@@ -65,5 +65,5 @@ tests_alike true fits head = refl
 tests_alike false true head = refl
 tests_alike false false head = refl
 
-pub offset_so : (r : Virtqueue) → 2 ≤ r.size → entry_offset r ≡ 4 + 2 * (r.next_avail % r.size)
+pub offset_so : (r : Virtqueue) → 0 < r.size → entry_offset r ≡ 4 + 2 * (r.next_avail % r.size)
 offset_so r least = grind (arith, nat_tests)

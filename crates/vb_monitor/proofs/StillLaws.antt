@@ -5,9 +5,8 @@ use Rattle.std.proofs.Common.{Option, Some, None, Result, Ok, Err}
 use Rattle.std.specs.{Prelude.{◌==◌, nat_lt, nat_le}, Int.{w16, from_le_bytes}}
 use Rattle.std.proofs.lemmas.{Bool.Decides.nat_tests}
 use Rattle.vb_chain.specs.declared.fault.ChainFault.{ChainFault, TheVariants.{BadHead, IndexJump}}
-use Rattle.vb_chain.{specs.Chain.FaultGives, proofs.Walking.walked_init}
+use Rattle.vb_chain.{proofs.Walking.walked_init}
 use Rattle.vb_ring.specs.Entries.{ahead, next_by}
-use Rattle.vb_ring.{specs.Layout.IsSize}
 use Rattle.vb_core.{specs.declared.kinds.Kind.Kind, specs.declared.ring.Virtqueue.Virtqueue}
 use Rattle.vb_core.specs.declared.device.{Denial.Denial, Device.Device, Denial.TheVariants.Broken}
 use Rattle.vb_core.specs.Devices.{ring_of, needing_reset, queue_denial}
@@ -15,7 +14,7 @@ use Rattle.vb_core.proofs.{DenialLemmas.open_call, RingLemmas.placed_size}
 use Rattle.vb_monitor.specs.declared.{regions.Region.Region, regions.Spot.Spot, outcome.Tally.Tally}
 use Rattle.vb_monitor.specs.declared.outcome.{Budget.Budget, Outcome.Outcome}
 use Rattle.vb_monitor.specs.{Regions.spot, Accesses.{Access, ReadWord, Acquire}, Ends.{Whole, Breaks}}
-use Rattle.vb_monitor.specs.Chains.{descriptors, memory_end, no_row, Follows}
+use Rattle.vb_monitor.specs.Chains.{longest, memory_end, no_row}
 use Rattle.vb_monitor.specs.Notices.{entry_offset, stands}
 use Rattle.vb_monitor.specs.Notices.{HeadBy, EntryAt, TakesChain, AfterIndex, IndexAt, LooksBy}
 use Rattle.vb_monitor.specs.Notices.{TakesUnlessSpent, TakesNext, with_chains, fresh, Serves}
@@ -23,7 +22,7 @@ use Rattle.vb_monitor.specs.Notices.{with_published, ServesPublished}
 use Rattle.vb_monitor.specs.{Machine.{whole, next_chain, serves}, Giving.Then}
 use Rattle.vb_monitor.specs.Still.{IsMapped, index_in, entry_in, in_memory, head_in, Finds}
 use Rattle.vb_monitor.specs.Still.{StaysUntil, EndsSo, DoesNext, is_read, bytes_from}
-use Rattle.vb_monitor.specs.Still.{as_read}
+use Rattle.vb_monitor.specs.{Still.as_read, Within.FaultWithin}
 use Rattle.vb_monitor.proofs.StillWalk.{Walk, walks, none_shows}
 use Rattle.vb_monitor.proofs.StillFound.{ByFound, one_more, ends_so, found_by, tests_alike, offset_so}
 use Rattle.vb_monitor.proofs.StillAnswers.{by_found}
@@ -32,20 +31,17 @@ use Rattle.vb_monitor.proofs.StillAnswers.{by_found}
 
 -- the queue is one, and lies in memory
 pub record IsShown (w : Whole) (d : Device) : Type 0 where
-  pub size : IsSize (ring_of w.kind d).size
+  pub some : 0 < (ring_of w.kind d).size
   pub mapped : IsMapped w.regions (ring_of w.kind d)
 
 -- memory has this next, and the notice does it
 abbrev pub Does : (List Access → Type 0) → (ℕ → ℕ) → Whole → Device → Tally → List Access → Type 0
 Does still byte w d t log = Finds byte w.kind d (λ found. ByFound still found w d t log)
 
-size_so : (r : Virtqueue) → IsSize r.size → r.size ≡ descriptors r
-size_so r is = let most = is.most in grind (arith, nat_tests)
-
 broken : (still : List Access → Type 0) (byte : ℕ → ℕ) (w : Whole) (d : Device) (t : Tally)
     (head : ℕ) (f : ChainFault) (rest log : List Access) → t.given ≡ false →
     head_in byte (ring_of w.kind d) ≡ Ok (Some head) →
-    FaultGives (in_memory byte (ring_of w.kind d).table) (ring_of w.kind d).size (memory_end d) head
+    FaultWithin (in_memory byte (ring_of w.kind d).table) (ring_of w.kind d).size (memory_end d) head
     f → still rest → Breaks w d t f rest → Does still byte w d t log
 broken still byte w d t head f rest log none e gives stays h = record {
   found = Err f;
@@ -84,31 +80,28 @@ lt_false a b e = grind (arith, nat_tests)
 lt_true : (a b : ℕ) → nat_lt a b ≡ true → a < b
 lt_true a b e = grind (arith, nat_tests)
 
+pub some_long : (q n : ℕ) → n < q → 0 < longest q
+some_long q n lt = grind arith
+
 by_head : (onward : List Access → Type 0) (byte : ℕ → ℕ) (w : Whole) (d : Device) (t : Tally)
     (head : ℕ) (below : Bool) (log : List Access) →
     IsShown w d → t.given ≡ false → head_in byte (ring_of w.kind d) ≡ Ok (Some head) →
-    nat_lt head (descriptors (ring_of w.kind d)) ≡ below → StaysUntil onward byte w.regions log →
+    nat_lt head (ring_of w.kind d).size ≡ below → StaysUntil onward byte w.regions log →
     HeadBy below w (next_chain w t) d t head log → Does (StaysUntil onward byte w.regions) byte w d t
     log
 by_head onward byte w d t head false log is none e f stays h =
-    let past : (ring_of w.kind d).size ≤ head =
-    let far : descriptors (ring_of w.kind d) ≤ head = lt_false head _ f in
-    omega (arith, far, size_so (ring_of w.kind d) is.size) in
+    let past : (ring_of w.kind d).size ≤ head = lt_false head _ f in
     broken (StaysUntil onward byte w.regions) byte w d t head BadHead log log none e
     (inl (record { past = past; is = refl })) stays h
 by_head onward byte w d t head true log is none e f stays h =
     let r = ring_of w.kind d in
-    let same : r.size ≡ descriptors r = size_so r is.size in
-    let below : head < r.size =
-    let near : head < descriptors r = lt_true head _ f in omega (arith, near, same) in
-    let some : 0 < r.size = omega (arith, below) in
+    let below : head < r.size = lt_true head _ f in
+    let some : 0 < longest r.size = some_long r.size head below in
     walked (StaysUntil onward byte w.regions) byte w d t head log none e
-    (walks r.size onward byte w d t (serves w t d head) r.size head
+    (walks (longest r.size) onward byte w d t (serves w t d head) r.size head
     (head ∷ []) 0 head no_row false [] log
-    (none_shows byte r.table) same is.mapped.descriptors (omega arith) some below
-    (walked_init (in_memory byte r.table) r.size (memory_end d) head below) stays
-    (subst (λ (n : ℕ). Follows n w d t (serves w t d head) no_row head false [] log)
-    (sym same) h))
+    (none_shows byte r.table) refl is.mapped.descriptors (omega arith) some below
+    (walked_init (in_memory byte r.table) r.size (memory_end d) head below) stays h)
 
 -- ---- the entry and the index
 
@@ -128,11 +121,11 @@ by_entry onward byte w d t (Some at) log is none next e mapped stays h =
     subst (λ (l : List Access). StaysUntil onward byte w.regions l) h.asks stays in
     let head : h.head ≡ entry_in byte r =
     all.1.0 (r.avail + entry_offset r) e
-    ∙ ap (λ (o : ℕ). from_le_bytes w16 (bytes_from byte (r.avail + o) 2)) (offset_so r is.size.least) in
+    ∙ ap (λ (o : ℕ). from_le_bytes w16 (bytes_from byte (r.avail + o) 2)) (offset_so r is.some) in
     one_before still byte w d t Acquire (ReadWord at h.head ∷ h.rest) log h.asks
     (one_before still byte w d t (ReadWord at h.head) h.rest
     (ReadWord at h.head ∷ h.rest) refl
-    (by_head onward byte w d t h.head (nat_lt h.head (descriptors r)) h.rest is none
+    (by_head onward byte w d t h.head (nat_lt h.head r.size) h.rest is none
     (next h.head head) refl all.1.1 h.goes_on))
 
 next_is : (byte : ℕ → ℕ) (r : Virtqueue) (index : ℕ) → index ≡ index_in byte r →
@@ -207,7 +200,7 @@ looks_so onward byte w d t n None log mapped none some e f stays h =
     let r = ring_of w.kind d in
     let open_so = open_call w.kind true true d e in
     by_place onward byte w d t n (spot w.regions (r.avail + 2) 2) log
-    (record { size = placed_size d.settings.memory_end r open_so.place; mapped = mapped })
+    (record { some = placed_size d.settings.memory_end r open_so.place; mapped = mapped })
     none some refl mapped.index stays h
 
 -- a notice finds what memory has next

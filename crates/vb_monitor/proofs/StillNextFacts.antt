@@ -63,7 +63,10 @@ one_piece d end x e last sound =
 
 -- the chain that is next, in memory that has its page
 a_chain : HasNext (memory 17 3) 262144 ring (Ok (Some (record { head = 3; chain = readable ∷ [] })))
-a_chain = (refl, one_piece (in_memory (memory 17 3) 0) 262144 _ descriptor_is refl refl)
+a_chain = (
+  refl,
+  record { gives = one_piece (in_memory (memory 17 3) 0) 262144 _ descriptor_is refl refl; few = omega arith },
+)
 
 none_next : HasNext (memory 9 3) 262144 ring (Ok None)
 none_next = refl

@@ -139,7 +139,7 @@ reports_of still byte rs d2 out d t (Ok None) log none lt unrefused next h = h
 reports_of still byte rs d2 out d t (Ok (Some taken)) log none lt unrefused next h =
     let w = of_reports rs d2 out in
     let denial : pieces_denial taken.chain 256 d ≡ None =
-    refused_alike taken.chain d (none_beyond _ _ _ taken.head taken.chain next.1 lt) ∙ unrefused in
+    refused_alike taken.chain d (none_beyond _ _ _ taken.head taken.chain next.1.gives lt) ∙ unrefused in
     let o = report_request taken.chain d.settings.reserved_pages in
     after_as still taken o w t d log (NamesReport w (next_chain w t) d t taken.head taken.chain)
     (λ l stays x. served_as still w (next_chain w t) d t taken o l refl none refl denial refl stays x)

@@ -1,22 +1,23 @@
 -- The walk along a chain, where memory stays as it is.
 use Rattle.std.proofs.Common.{◌≡◌, ◌≢◌, ◌⊎◌, ◌∙◌, ap, sym, subst, refl, arith, inl, inr, ℕ, zero}
 use Rattle.std.proofs.Common.{suc, ◌+◌, ◌-◌, ◌*◌, ◌<◌, ◌≤◌, Bool, true, false, List, [], ◌∷◌, ◌++◌}
-use Rattle.std.{proofs.Common.{length, take, drop, Option, Some, None}, specs.Prelude.{◌||◌, ◌&&◌}}
-use Rattle.std.proofs.lemmas.{Bool.Decides.nat_tests, List.{length-map, length-take-le}}
+use Rattle.std.{proofs.Common.{length, take, drop, Option, Some, None}, specs.Prelude.{◌||◌}}
+use Rattle.std.proofs.lemmas.{Bool.Decides.nat_tests}
 use Rattle.std.proofs.lemmas.List.FromFn.{take-map-range_with_len, length-map-range_with_len}
-use Rattle.vb_chain.proofs.Walking.{Walked, walked_fault, walked_more, walked_chain}
-use Rattle.vb_chain.specs.{Chain.{ChainGives, FaultGives}, Rules.{has_next, is_writable, piece_of}}
-use Rattle.vb_chain.specs.{Rules.first_fault, declared.descriptor.Descriptor.Descriptor}
+use Rattle.vb_chain.proofs.Walking.{Walked, walked_more}
+use Rattle.vb_chain.specs.{Rules.{has_next, is_writable, piece_of}, declared.descriptor.Descriptor.Descriptor}
 use Rattle.vb_chain.specs.declared.{fault.ChainFault.ChainFault, pieces.Piece.Piece}
 use Rattle.vb_core.{specs.declared.device.Device.Device, specs.Devices.ring_of}
 use Rattle.vb_monitor.specs.declared.{regions.Region.Region, regions.Spot.Spot, outcome.Tally.Tally}
 use Rattle.vb_monitor.specs.{Accesses.{Access, CopyBytes}, Ends.{Whole, Breaks}, Regions.spot}
-use Rattle.vb_monitor.specs.Chains.{descriptor_of, descriptors, memory_end, table_fault, Follows}
+use Rattle.vb_monitor.specs.Chains.{descriptor_of, longest, memory_end, chain_fault, table_fault, Follows}
 use Rattle.vb_monitor.specs.Chains.{TableRow, row_of, no_row, in_row, unless_apart, so_many_behind}
 use Rattle.vb_monitor.specs.Chains.{DescriptorBy, GoesOn, AfterDescriptor, RowAt, FollowsBy}
 use Rattle.vb_monitor.proofs.TableRowLemmas.{first_in_row, in_row_is, none_in_none}
 use Rattle.vb_monitor.specs.Still.{bytes_from, Holds, in_memory}
-use Rattle.vb_monitor.specs.Still.{StaysUntil}
+use Rattle.vb_monitor.specs.{Still.StaysUntil, Within.{ChainWithin, FaultWithin}}
+use Rattle.vb_monitor.proofs.TableRowLemmas.{room_for}
+use Rattle.vb_monitor.proofs.WithinLemmas.{chain_within, fault_within, no_first, next_below, visited}
 
 -- the whole chain is served, after what was read
 pub record IsWhole (still : List Access → Type 0) (whole : List Piece → List Access →
@@ -26,7 +27,7 @@ pub record IsWhole (still : List Access → Type 0) (whole : List Piece → List
   pub read : List Access
   pub rest : List Access
   pub all : log ≡ read ++ rest
-  pub gives : ChainGives d q end head pieces
+  pub gives : ChainWithin d q end head pieces
   pub serves : whole pieces rest
   pub still_so : still rest
 
@@ -36,7 +37,7 @@ pub record IsBroken (still : List Access → Type 0) (w : Whole) (d : Device) (t
     Type 0 where
   pub fault : ChainFault
   pub rest : List Access
-  pub gives : FaultGives ds q end head fault
+  pub gives : FaultWithin ds q end head fault
   pub breaks : Breaks w d t fault rest
   pub still_so : still rest
 
@@ -63,28 +64,9 @@ further still w d t whole ds q end head x rest log e (inr h) = inr h
 
 -- ---- a step
 
-both : (a b : Bool) → (a && b) ≡ false → a ≡ true → b ≡ false
-both true b e f = e
-both false b e f = absurd cc
-
--- a descriptor that breaks no rule and goes on names one of the table, and there is room for it
-next_below : (q end : ℕ) (writing : Bool) (k : ℕ) (x : Descriptor) →
-    first_fault q end writing k x ≡ None → has_next x ≡ true → (x.next < q) × (k + 1 < q)
-next_below q end writing k x e more = (
-  grind (arith, nat_tests, both),
-  grind
-      (arith, nat_tests, both),
-)
-
-first_alone : (q end : ℕ) (writing : Bool) (k : ℕ) (x : Descriptor) → k < q →
-    table_fault q end writing k x ≡ first_fault q end writing k x
+first_alone : (q end : ℕ) (writing : Bool) (k : ℕ) (x : Descriptor) → k < longest q →
+    table_fault q end writing k x ≡ chain_fault q end writing k x
 first_alone q end writing k x lt = grind (arith, nat_tests)
-
-visited : (ds : ℕ → Descriptor) (q end head : ℕ) (path : List ℕ) (i index : ℕ) (writing : Bool)
-    (pieces : List Piece) → Walked ds q end head path i index writing pieces → length pieces ≡ i
-visited ds q end head path i index writing pieces w = ap (λ (ps : List Piece). length ps) w.read
-    ∙ (length-map (take i path) (λ (j : ℕ). piece_of (ds j))
-    ∙ length-take-le i path (omega (arith, w.count)))
 
 -- what was copied is what memory has there
 pub copied_as : (byte : ℕ → ℕ) (regions : List Region) (a len : ℕ) (at : Spot) (bytes : List ℕ) →
@@ -144,8 +126,8 @@ abbrev Onward : (List Access → Type 0) → (ℕ → ℕ) → Whole → Device 
     List Access → Type 0) →
     (ℕ → Bool → List Piece → List Access → Type 0) → (ℕ → Descriptor) → ℕ → ℕ → ℕ → ℕ → Type 0
 Onward onward byte w d t whole follows ds q end head i =
-    (path : List ℕ) (index : ℕ) (writing : Bool) (pieces : List Piece) (log : List Access) → i < q
-    → index < q → Walked ds q end head path i index writing pieces →
+    (path : List ℕ) (index : ℕ) (writing : Bool) (pieces : List Piece) (log : List Access) →
+    i < longest q → index < q → Walked ds q end head path i index writing pieces →
     StaysUntil onward byte w.regions log
     → follows index writing pieces log → Walk (StaysUntil onward byte w.regions) w d t whole ds q
     end head log
@@ -154,18 +136,20 @@ goes : (onward : List Access → Type 0) (byte : ℕ → ℕ) (w : Whole) (d : D
     (whole : List Piece → List Access → Type 0)
     (follows : ℕ → Bool → List Piece → List Access → Type 0) (ds : ℕ → Descriptor) (q end head : ℕ)
     (path : List ℕ) (i index : ℕ) (writing : Bool) (pieces : List Piece) (log : List Access)
-    (on : Onward onward byte w d t whole follows ds q end head (i + 1)) (more : Bool) → i < q
-    → Walked ds q end head path i index writing pieces → first_fault q end writing i (ds index)
+    (on : Onward onward byte w d t whole follows ds q end head (i + 1)) (more : Bool) → i < longest q
+    → Walked ds q end head path i index writing pieces → chain_fault q end writing i (ds index)
     ≡ None → has_next (ds index) ≡ more → StaysUntil onward byte w.regions log
     → GoesOn more follows whole writing (ds index) pieces log →
     Walk (StaysUntil onward byte w.regions) w d t whole ds q end head log
 goes onward byte w d t whole follows ds q end head path i index writing pieces log on true lt walked
     e f
     stays h =
-    let below = next_below q end writing i (ds index) e f in
+    let none = no_first q end writing i (ds index) e in
+    let below = next_below q end writing i (ds index) none f in
+    let room = room_for q end writing i (ds index) e f in
     on (path ++ (ds index).next ∷ []) (ds index).next (writing || is_writable (ds index))
-    (pieces ++ piece_of (ds index) ∷ []) log below.1 below.0
-    (walked_more ds q end head path i index writing pieces walked e f) stays h
+    (pieces ++ piece_of (ds index) ∷ []) log room below
+    (walked_more ds q end head path i index writing pieces walked none f) stays h
 goes onward byte w d t whole follows ds q end head path i index writing pieces log on false lt
     walked e f
     stays h = inl (record {
@@ -173,7 +157,7 @@ goes onward byte w d t whole follows ds q end head path i index writing pieces l
       read = [];
       rest = log;
       all = refl;
-      gives = walked_chain ds q end head path i index writing pieces walked lt e f;
+      gives = chain_within ds q end head path i index writing pieces walked lt e f;
       serves = h;
       still_so = stays;
     })
@@ -183,8 +167,8 @@ by_fault : (onward : List Access → Type 0) (byte : ℕ → ℕ) (w : Whole) (d
     (follows : ℕ → Bool → List Piece → List Access → Type 0) (ds : ℕ → Descriptor) (q end head : ℕ)
     (path : List ℕ) (i index : ℕ) (writing : Bool) (pieces : List Piece) (log : List Access)
     (on : Onward onward byte w d t whole follows ds q end head (i + 1)) (o : Option ChainFault) →
-    i < q
-    → Walked ds q end head path i index writing pieces → first_fault q end writing i (ds index) ≡ o
+    i < longest q
+    → Walked ds q end head path i index writing pieces → chain_fault q end writing i (ds index) ≡ o
     → StaysUntil onward byte w.regions log → DescriptorBy o w d t follows whole writing
     (ds index) pieces log
     → Walk (StaysUntil onward byte w.regions) w d t whole ds q end head log
@@ -193,7 +177,7 @@ by_fault onward byte w d t whole follows ds q end head path i index writing piec
     walked e stays h = inr (record {
       fault = f;
       rest = log;
-      gives = walked_fault ds q end head path i index writing pieces f walked e;
+      gives = fault_within ds q end head path i index writing pieces f walked lt e;
       breaks = h;
       still_so = stays;
     })
@@ -208,7 +192,7 @@ after : (onward : List Access → Type 0) (byte : ℕ → ℕ) (w : Whole) (d : 
     (follows : ℕ → Bool → List Piece → List Access → Type 0) (q head : ℕ) (path : List ℕ)
     (i index : ℕ) (writing : Bool) (pieces : List Piece) (bytes : List ℕ) (log : List Access)
     (on : Onward onward byte w d t whole follows (in_memory byte (ring_of w.kind d).table) q
-    (memory_end d) head (i + 1)) → q ≡ descriptors (ring_of w.kind d) → i < q →
+    (memory_end d) head (i + 1)) → q ≡ (ring_of w.kind d).size → i < longest q →
     descriptor_of bytes ≡ in_memory byte (ring_of w.kind d).table index →
     Walked (in_memory byte (ring_of w.kind d).table) q (memory_end d) head path i index writing
     pieces → StaysUntil onward byte w.regions log →
@@ -221,15 +205,15 @@ after onward byte w d t whole follows q head path i index writing pieces bytes l
     let ds = in_memory byte (ring_of w.kind d).table in
     let end = memory_end d in
     let k : length pieces ≡ i = visited ds q end head path i index writing pieces walked in
-    let fault : table_fault (descriptors (ring_of w.kind d)) end writing (length pieces)
-    (descriptor_of bytes) ≡ first_fault q end writing i (ds index) =
+    let fault : table_fault (ring_of w.kind d).size end writing (length pieces)
+    (descriptor_of bytes) ≡ chain_fault q end writing i (ds index) =
     ap (λ (n : ℕ). table_fault n end writing (length pieces) (descriptor_of bytes)) (sym is)
     ∙ (ap (λ (n : ℕ). table_fault q end writing n (descriptor_of bytes)) k
     ∙ (ap (λ (x : Descriptor). table_fault q end writing i x) same
     ∙ first_alone q end writing i (ds index) lt)) in
     by_fault onward byte w d t whole follows ds q end head path i index writing pieces log on
     _ lt walked refl stays
-    (subst (λ (x : Descriptor). DescriptorBy (first_fault q end writing i (ds index)) w d t follows
+    (subst (λ (x : Descriptor). DescriptorBy (chain_fault q end writing i (ds index)) w d t follows
     whole writing x pieces log) same
     (subst (λ (o : Option ChainFault). DescriptorBy o w d t follows whole writing
     (descriptor_of bytes) pieces log) fault h))
@@ -249,9 +233,9 @@ row_at : (onward : List Access → Type 0) (byte : ℕ → ℕ) (w : Whole) (d :
     (path : List ℕ) (i index behind : ℕ) (writing : Bool) (pieces : List Piece)
     (log : List Access) (on : Rows onward byte w d t whole follows q head (i + 1))
     (o : Option Spot) →
-    q ≡ descriptors (ring_of w.kind d) →
+    q ≡ (ring_of w.kind d).size →
     spot w.regions ((ring_of w.kind d).table + 16 * index) (16 * (behind + 1)) ≡ o → o ≢ None →
-    i < q →
+    i < longest q →
     Walked (in_memory byte (ring_of w.kind d).table) q (memory_end d) head path i index writing
     pieces → StaysUntil onward byte w.regions log →
     RowAt w d t follows whole index behind writing pieces o log →
@@ -296,8 +280,8 @@ row_by : (onward : List Access → Type 0) (byte : ℕ → ℕ) (w : Whole) (d :
     (path : List ℕ) (i index : ℕ) (row : TableRow) (writing : Bool) (pieces : List Piece)
     (log : List Access) (on : Rows onward byte w d t whole follows q head (i + 1))
     (o : Option (List ℕ)) → in_row row index ≡ o → Shows byte (ring_of w.kind d).table row →
-    q ≡ descriptors (ring_of w.kind d) →
-    spot w.regions ((ring_of w.kind d).table + 16 * index) 16 ≢ None → i < q →
+    q ≡ (ring_of w.kind d).size →
+    spot w.regions ((ring_of w.kind d).table + 16 * index) 16 ≢ None → i < longest q →
     Walked (in_memory byte (ring_of w.kind d).table) q (memory_end d) head path i index writing
     pieces → StaysUntil onward byte w.regions log →
     FollowsBy o w d t follows whole row index writing pieces log →
@@ -306,7 +290,7 @@ row_by : (onward : List Access → Type 0) (byte : ℕ → ℕ) (w : Whole) (d :
 row_by onward byte w d t whole follows q head path i index row writing pieces log on None e shows is
     mapped lt walked stays h =
     row_at onward byte w d t whole follows q head path i index _ writing pieces log on _ is refl
-    (row_mapped w.regions _ (so_many_behind (descriptors (ring_of w.kind d)) index pieces) _ refl
+    (row_mapped w.regions _ (so_many_behind (ring_of w.kind d).size index pieces) _ refl
     mapped) lt walked stays h
 row_by onward byte w d t whole follows q head path i index row writing pieces log on
     (Some bytes) e shows
@@ -314,14 +298,14 @@ row_by onward byte w d t whole follows q head path i index row writing pieces lo
     after onward byte w d t whole (follows row) q head path i index writing pieces bytes log
     (on row shows) is lt (shows.alike index bytes e) walked stays h
 
--- where n more descriptors fit the table, i were visited, and this one is next
+-- where the chain may have n more descriptors, i were visited, and this one is next
 pub walks : (n : ℕ) (onward : List Access → Type 0) (byte : ℕ →
     ℕ) (w : Whole) (d : Device) (t : Tally)
     (whole : List Piece → List Access → Type 0) (q head : ℕ) (path : List ℕ) (i index : ℕ)
     (row : TableRow) (writing : Bool) (pieces : List Piece) (log : List Access) →
-    Shows byte (ring_of w.kind d).table row → q ≡ descriptors (ring_of w.kind d)
+    Shows byte (ring_of w.kind d).table row → q ≡ (ring_of w.kind d).size
     → ((k : ℕ) → k < q → spot w.regions ((ring_of w.kind d).table + 16 * k) 16 ≢ None)
-    → n + i ≡ q → i < q → index < q
+    → n + i ≡ longest q → i < longest q → index < q
     → Walked (in_memory byte (ring_of w.kind d).table) q (memory_end d) head path i index writing
     pieces → StaysUntil onward byte w.regions log → Follows n w d t whole row index writing pieces
     log

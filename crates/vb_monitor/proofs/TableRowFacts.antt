@@ -87,9 +87,12 @@ behind_the_first = refl
 over_by_the_last : behind_in_row halves (record ring { table = 0xf90 }) 1 (piece ∷ []) ≡ 0
 over_by_the_last = refl
 
--- no queue has more than 256: five come after number 250, to the end of the first region
-no_more_than_256 : behind_in_row halves (record ring { size = 512 }) 250 (piece ∷ []) ≡ 5
-no_more_than_256 = refl
+-- in a larger table a row goes on past number 255, up to the table's end
+past_255 : behind_in_row two (record ring { size = 512 }) 250 (piece ∷ []) ≡ 31
+past_255 = refl
+
+up_to_1023 : so_many_behind 1024 1000 (piece ∷ []) ≡ 23
+up_to_1023 = refl
 
 -- ---- a chain is followed
 
@@ -176,6 +179,22 @@ alone_before_an_end = record { bytes = last_descriptor; rest = []; asks = refl; 
 a_ninth : AfterDescriptor (broken_by TooLong) ready tally (λ n writing pieces log. ⊥) (λ pieces log. ⊥) false
     (replicate 8 piece) last_descriptor []
 a_ninth = record { nothing = refl; device = refl; outcome = refl }
+
+-- of the largest ring none has more than 256, of which the last one is there
+abbrev large : Device
+large = record ready { report = record ring { size = 1024 } }
+
+a_256th : AfterDescriptor (record whole { device = large }) large tally (λ n writing pieces log. ⊥) (Ended 256) false
+    (replicate 255 piece) last_descriptor []
+a_256th = (refl, refl)
+
+a_257th : AfterDescriptor (record (broken_by TooLong) { device = record large { status = 79 } }) large tally
+    (λ n writing pieces log. ⊥) (Ended 257) false (replicate 256 piece) last_descriptor []
+a_257th = record { nothing = refl; device = refl; outcome = refl }
+
+to_a_257th : AfterDescriptor (record (broken_by TooLong) { device = record large { status = 79 } }) large tally
+    (λ n writing pieces log. ⊥) (Ended 256) false (replicate 255 piece) (naming 7) []
+to_a_257th = record { nothing = refl; device = refl; outcome = refl }
 
 -- a jump back to one that the row has asks for nothing
 jumps_in_it : Follows 8 whole ready tally (Ended 4) no_row 3 false []

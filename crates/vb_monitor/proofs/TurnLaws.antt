@@ -14,8 +14,8 @@ use Rattle.vb_monitor.{proofs.TouchLemmas.within, specs.Counts.others, specs.Tou
 use Rattle.vb_monitor.specs.Order.{is_word, is_read, Row, MayFollow}
 use Rattle.vb_monitor.specs.{Accesses.{Acquire, WriteWord}}
 use Rattle.vb_monitor.specs.Chains.{no_row}
-use Rattle.vb_monitor.{specs.Ends.Whole, specs.Chains.descriptors}
-use Rattle.vb_monitor.proofs.TableRowLemmas.{none_of_none}
+use Rattle.vb_monitor.{specs.Ends.Whole, specs.Chains.longest}
+use Rattle.vb_monitor.proofs.TableRowLemmas.{none_of_none, longest_few}
 use Rattle.vb_monitor.specs.{Giving.Then, Notices.{HeadBy, EntryAt, entry_offset, stands}}
 use Rattle.vb_monitor.specs.Notices.{AfterIndex, IndexAt, LooksBy, AfterGiven, AfterGivenBy}
 use Rattle.vb_monitor.specs.Notices.{TakesUnlessSpent}
@@ -30,10 +30,6 @@ use Rattle.vb_monitor.proofs.TurnWalks.{Behind, walk_room, walked_out, follows_f
 
 -- ---- a look
 
--- no more descriptors than a queue has
-a_table : (r : Virtqueue) → descriptors r ≤ 256
-a_table r = grind arith
-
 -- after a word another chain's entry may be read
 pub record Between (w : Whole) (d0 d : Device) (n : ℕ) (b : List Access) : Type 0 where
   pub agrees : Agrees w d0 n b d
@@ -47,8 +43,8 @@ head_by : (w : Whole) (d0 : Device) (m : ℕ) (next : Then) (on : After w d0 m n
 head_by w d0 m next on d t head false b log is known_is read h =
     breaks_go w d0 d t _ _ b log (omega arith) (flags_of w d0 _ b d is) h
 head_by w d0 m next on d t head true b log is known_is read h =
-    let few = a_table (ring_of w.kind d) in
-    let n = descriptors (ring_of w.kind d) in
+    let few = longest_few (ring_of w.kind d).size in
+    let n = longest (ring_of w.kind d).size in
     more_room w d0 t.keeps (walk_room n 0 m) _ b log (omega (arith, few))
     (follows_from n MAX_QUEUE_SIZE w d0 d t m head _ (λ ps b2 rest begun.
     pieces_go w d0 m w.kind refl next on d t head ps b2 rest begun) few few no_row head false [] b log is

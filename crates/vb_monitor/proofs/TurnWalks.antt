@@ -53,7 +53,7 @@ pub record Walking (w : Whole) (d0 d : Device) (n : ℕ) (known_so : Known) (b :
   pub copied : is_copied (newest b) ≡ true
   pub read : is_read (newest b) ≡ true
 
--- at most n after n pieces, where m descriptors more fit the table
+-- at most n after n pieces, where m descriptors more may be there
 abbrev pub walk_room : ℕ → ℕ → ℕ → ℕ
 walk_room n k m = n + (2 * (n + k) + (5 + m))
 

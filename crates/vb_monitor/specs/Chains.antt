@@ -116,9 +116,10 @@ descriptor_of bytes = record {
   next = from_le_bytes w16 (take 2 (drop 14 bytes));
 }
 
--- The descriptors of a ring: never more than a queue has.
-abbrev pub descriptors : Virtqueue → ℕ
-descriptors r = min r.size MAX_QUEUE_SIZE
+-- How many descriptors a chain has at most, by how many the table has: no more than that (VIRTIO
+-- 1.1, 2.6.5), and no more than the device takes of the largest ring.
+abbrev pub longest : ℕ → ℕ
+longest q = min q MAX_QUEUE_SIZE
 
 -- Where guest memory ends.
 abbrev pub memory_end : Device → ℕ
@@ -166,8 +167,8 @@ abbrev pub behind_in_row : List Region → Virtqueue → ℕ → List Piece → 
 behind_in_row regions r number pieces =
     unless_apart
     (spot regions (r.table + 16 * number)
-    (16 * (so_many_behind (descriptors r) number pieces + 1)))
-    (so_many_behind (descriptors r) number pieces)
+    (16 * (so_many_behind r.size number pieces + 1)))
+    (so_many_behind r.size number pieces)
 
 -- ---- from one descriptor to the next
 
@@ -185,10 +186,21 @@ DescriptorBy (Some fault) w d tally on whole writing x pieces log = Breaks w d t
 DescriptorBy None w d tally on whole writing x pieces log =
     GoesOn (has_next x) on whole writing x pieces log
 
--- The first rule that a descriptor breaks, after k others; no more may be there than the table has.
+-- Where no rule of a table is broken, the chain may be too long by this descriptor.
+abbrev pub or_too_long : Bool → Option ChainFault → Option ChainFault
+or_too_long past (Some fault) = Some fault
+or_too_long past None = if past then Some TooLong else None
+
+-- The first rule that a descriptor breaks, after k others of its chain, in a table of q: the last
+-- one that a chain may have doesn't go on.
+abbrev pub chain_fault : ℕ → ℕ → Bool → ℕ → Descriptor → Option ChainFault
+chain_fault q end writing k x =
+    or_too_long (has_next x && nat_le (longest q) (k + 1)) (first_fault q end writing k x)
+
+-- The same, where as many may be there already as a chain may have.
 abbrev pub table_fault : ℕ → ℕ → Bool → ℕ → Descriptor → Option ChainFault
 table_fault q end writing k x =
-    if nat_lt k q then first_fault q end writing k x else Some TooLong
+    if nat_lt k (longest q) then chain_fault q end writing k x else Some TooLong
 
 -- What a descriptor that comes after these pieces says; `writing` where one of them is the device's
 -- to write.
@@ -196,7 +208,7 @@ abbrev pub AfterDescriptor : Whole → Device → Tally →
     (ℕ → Bool → List Piece → List Access → Type 0) → (List Piece → List Access → Type 0) →
     Bool → List Piece → List ℕ → List Access → Type 0
 AfterDescriptor w d tally on whole writing pieces bytes log =
-    DescriptorBy (table_fault (descriptors (ring_of w.kind d)) (memory_end d) writing
+    DescriptorBy (table_fault (ring_of w.kind d).size (memory_end d) writing
     (length pieces) (descriptor_of bytes)) w d tally on whole writing (descriptor_of bytes) pieces
     log
 
@@ -239,8 +251,8 @@ FollowsBy None w d tally on whole row number writing pieces log =
     TakesRow w d tally on whole number
     (behind_in_row w.regions (ring_of w.kind d) number pieces) writing pieces log
 
--- From a descriptor of this number on the chain is followed, where n more fit its table, and this
--- row was copied last.
+-- From a descriptor of this number on the chain is followed, which may have n more, and this row
+-- was copied last.
 abbrev pub Follows : ℕ → Whole → Device → Tally → (List Piece → List Access → Type 0) → TableRow →
     ℕ → Bool → List Piece → List Access → Type 0
 Follows zero w d tally whole row number writing pieces log = Breaks w d tally TooLong log

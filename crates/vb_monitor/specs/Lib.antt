@@ -23,4 +23,5 @@ pub mod Turns
 pub mod HeldBack
 pub mod PartsOfRuns
 pub mod Large
+pub mod Within
 pub mod Still

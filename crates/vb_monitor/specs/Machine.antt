@@ -33,7 +33,7 @@ use Rattle.vb_monitor.specs.Giving.{TellsThen}
 use Rattle.vb_monitor.specs.Pieces.{second_part, unless_empty, all_parts, AsksPart}
 use Rattle.vb_core.specs.Pieces.{pieces_in}
 use Rattle.vb_monitor.specs.Pieces.{CopiesParts}
-use Rattle.vb_monitor.specs.Chains.{descriptors, TableRow, row_of, AsksRow, Follows, ServesPieces}
+use Rattle.vb_monitor.specs.Chains.{longest, TableRow, row_of, AsksRow, Follows, ServesPieces}
 use Rattle.vb_monitor.specs.Chains.{AfterBytes, TellsThenEnds}
 use Rattle.vb_monitor.specs.Notices.{AsksIndex, AsksEntry, ServesPublished, AfterGiven}
 
@@ -171,7 +171,7 @@ AheadAt (AwaitsIndex at) w tally d room log =
 AheadAt (AwaitsEntry at) w tally d room log = AsksEntry w (next_chain w tally) d tally at log
 AheadAt (AwaitsDescriptor at walk) w tally d room log =
     AsksRow w d tally
-    (Follows (descriptors (ring_of w.kind d) - (walk.count + 1)) w d tally
+    (Follows (longest (ring_of w.kind d).size - (walk.count + 1)) w d tally
     (serves w tally d walk.head)) (serves w tally d walk.head) walk.first walk.behind walk.writing
     (pieces_in (take walk.count room.pieces)) at log
 AheadAt (AwaitsPart at place) w tally d room log =

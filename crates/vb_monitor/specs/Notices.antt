@@ -20,7 +20,7 @@ use Rattle.vb_monitor.specs.Accesses.{Access, ReadWord, Acquire}
 use Rattle.vb_monitor.specs.Regions.{spot}
 use Rattle.vb_monitor.specs.Ends.{Whole, Ends, Breaks}
 use Rattle.vb_monitor.specs.Giving.{Then, GivesBack, with_held}
-use Rattle.vb_monitor.specs.Chains.{descriptors, no_row, Follows, ServesPieces}
+use Rattle.vb_monitor.specs.Chains.{longest, no_row, Follows, ServesPieces}
 
 -- ---- the chain that is next
 
@@ -31,13 +31,13 @@ entry_offset r = if r.size == 0 then 4 else 4 + 2 * (r.next_avail % r.size)
 -- The chain from this head is followed and served.
 abbrev pub HeadBy : Bool → Whole → Then → Device → Tally → ℕ → List Access → Type 0
 HeadBy true w next d tally head log =
-    Follows (descriptors (ring_of w.kind d)) w d tally
+    Follows (longest (ring_of w.kind d).size) w d tally
     (λ pieces rest. ServesPieces w.kind w next d tally head pieces rest) no_row head false [] log
 HeadBy false w next d tally head log = Breaks w d tally BadHead log
 
 abbrev pub AfterEntry : Whole → Then → Device → Tally → ℕ → List Access → Type 0
 AfterEntry w next d tally head log =
-    HeadBy (nat_lt head (descriptors (ring_of w.kind d))) w next d tally head log
+    HeadBy (nat_lt head (ring_of w.kind d).size) w next d tally head log
 
 -- After a fence the entry is read, once.
 pub record AsksEntry (w : Whole) (next : Then) (d : Device) (tally : Tally) (at : Spot)

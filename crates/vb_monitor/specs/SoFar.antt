@@ -58,7 +58,7 @@ walked_in zero kind head row number pieces = Walks head number pieces
 walked_in (suc n) kind head row number pieces =
     walked_by (in_row row number) (walked_in n kind head row) kind head number pieces
 
--- What is known once these bytes were copied: of no chain more descriptors are than a queue has.
+-- What is known once these bytes were copied: of no chain more descriptors are than one may have.
 abbrev pub with_copied : Kind → List ℕ → Known → Known
 with_copied kind bytes Unknown = Unknown
 with_copied kind bytes (Walks head number pieces) =

@@ -8,7 +8,6 @@ use Rattle.vb_chain.specs.declared.descriptor.Descriptor.{Descriptor}
 use Rattle.vb_chain.specs.declared.pieces.Piece.{Piece}
 use Rattle.vb_chain.specs.declared.fault.ChainFault.{ChainFault}
 use Rattle.vb_chain.specs.declared.fault.ChainFault.TheVariants.{IndexJump}
-use Rattle.vb_chain.specs.Chain.{ChainGives, FaultGives}
 use Rattle.vb_ring.specs.declared.device.Taken.{Taken}
 use Rattle.vb_ring.specs.Entries.{ahead, next_by}
 use Rattle.vb_request.specs.Request.{request_length}
@@ -29,6 +28,7 @@ use Rattle.vb_monitor.specs.Accesses.{Access, ReadWord, CopyBytes, Acquire, Rele
 use Rattle.vb_monitor.specs.Accesses.{TellPages, TellFigures, Discard, WriteNumber, WriteWord}
 use Rattle.vb_monitor.specs.Regions.{spot}
 use Rattle.vb_monitor.specs.Chains.{descriptor_of, memory_end}
+use Rattle.vb_monitor.specs.Within.{ChainWithin, FaultWithin}
 use Rattle.vb_monitor.specs.Ends.{Whole}
 use Rattle.vb_monitor.specs.Notices.{entry_offset, fresh, with_chains, with_published}
 use Rattle.vb_monitor.specs.Machine.{next_chain, serves}
@@ -109,7 +109,7 @@ pub record IsBrokenNext (byte : ℕ → ℕ) (end : ℕ) (r : Virtqueue) (fault 
     Type 0 where
   pub head : ℕ
   pub is_next : head_in byte r ≡ Ok (Some head)
-  pub gives : FaultGives (in_memory byte r.table) r.size end head fault
+  pub gives : FaultWithin (in_memory byte r.table) r.size end head fault
 
 -- Memory of n bytes has this next on a queue: no chain; the chain of a head, with its pieces; or
 -- the rule that is broken.
@@ -117,7 +117,7 @@ abbrev pub HasNext : (ℕ → ℕ) → ℕ → Virtqueue → Result (Option Take
 HasNext byte end r (Ok None) = head_in byte r ≡ Ok None
 HasNext byte end r (Ok (Some taken)) =
     (head_in byte r ≡ Ok (Some taken.head)) ×
-    ChainGives (in_memory byte r.table) r.size end taken.head taken.chain
+    ChainWithin (in_memory byte r.table) r.size end taken.head taken.chain
 HasNext byte end r (Err fault) = (head_in byte r ≡ Err fault) ⊎ IsBrokenNext byte end r fault
 
 -- Memory has something next on a kind's queue, of which `does` holds.

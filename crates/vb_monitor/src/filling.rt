@@ -29,23 +29,21 @@ pub fn fill(regions: &[Region], runs: &[Run], first: &NextCut, cuts: &mut [Cut; 
     ensures parts { first.now.cut ∷ cuts_behind first.now.from first.now.run regions.now runs.now ≡
         take result.count cuts.new ++ cuts_left regions.now runs.now result.left }
 {
-    let mut left = Some(*first);
+    let mut found = *first;
     for number in 0..MAX_CUTS {
-        match left {
+        cuts[number] = found.cut;
+        match cut_behind(regions, runs, found.run, found.from) {
             None => {
                 return Filled {
-                    count: number as u32,
+                    count: number as u32 + 1,
                     left: None,
                 };
             }
-            Some(found) => {
-                cuts[number] = found.cut;
-                left = cut_behind(regions, runs, found.run, found.from);
-            }
+            Some(next) => found = next,
         }
     }
     Filled {
         count: MAX_CUTS as u32,
-        left,
+        left: Some(found),
     }
 }

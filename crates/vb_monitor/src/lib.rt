@@ -51,10 +51,10 @@ pub use laws::{
     only_named_pages_are_discarded, only_used_elements_are_written, what_counts_is_read_once,
 };
 pub use memory::LiveMemory;
-pub use orders::{Asked, MAX_CUTS, Orders, Told, Used, at_once};
+pub use orders::{Asked, MAX_CUTS, NoticeRoom, Orders, Told, Used, at_once};
 pub use outcome::{Budget, HeldChain, Outcome, Tally};
 pub use parts::Part;
-pub use placing::{RestoreDenial, are_memory, memory_end_of};
+pub use placing::{QueuePlace, RestoreDenial, are_memory, memory_end_of};
 pub use progress::{ENDED, Progress};
 pub use regions::{FILE_LIMIT, Region, Spot, find};
 pub use room::{MAX_BYTES, MAX_FIGURES, MAX_PIECES, MAX_RUNS, ROW_DESCRIPTORS, Room};

@@ -14,7 +14,7 @@ ghost use Rattle.std.specs.Prelude.{◌≤◌};
 
 use crate::ends::{end, fail};
 use crate::regions::find_from;
-use crate::walk::{ask_first, descriptors};
+use crate::walk::ask_first;
 use crate::{Progress, Region};
 use vb_chain::ChainFault;
 use vb_core::{Device, Kind, Virtqueue, place_in_ring};
@@ -172,7 +172,7 @@ pub(crate) fn after_entry(
     ensures left { left regions.now (step_of step.new) ≤
         of_chains regions.now (tally_of step.old).chains + (once_copied regions.now 0 + 1) }
 {
-    if head >= descriptors(&device.ring(kind)) {
+    if head >= device.ring(kind).size {
         return fail(step, device, regions, kind, ChainFault::BadHead);
     }
     ask_first(step, device, regions, kind, head)

@@ -68,6 +68,15 @@ pub struct Orders {
     pub used: Used,
 }
 
+/// The room that a notice needs.
+#[repr(C)]
+pub struct NoticeRoom {
+    /// For what is copied of a chain, and made of it.
+    pub copied: Room,
+    /// For the parts that are discarded at once.
+    pub cuts: [Cut; MAX_CUTS],
+}
+
 /// Which of these are asked for; parts are where there are some.
 #[derive(Clone, Copy, Debug)]
 pub struct Asked {
@@ -243,15 +252,17 @@ pub fn at_once(
     device: &mut Device,
     regions: &[Region],
     kind: Kind,
-    room: &Room,
-    cuts: &mut [Cut; MAX_CUTS],
+    room: &mut NoticeRoom,
     orders: &mut Orders,
 ) -> Asked
     requires { Fits (phase_of step.old) }
     ensures step { (after : Device) (outcome : Outcome) (rest : List Access) →
-        Ahead (whole regions.now kind after outcome) (step_of step.new) device.new room.now rest →
-        Ahead (whole regions.now kind after outcome) (step_of step.old) device.old room.now
-        (at_once result kind orders.new cuts.new room.now.runs room.now.figures rest) }
+        Ahead (whole regions.now kind after outcome) (step_of step.new) device.new
+        room.old.copied rest →
+        Ahead (whole regions.now kind after outcome) (step_of step.old) device.old
+        room.old.copied (at_once result kind orders.new room.new.cuts room.old.copied.runs
+        room.old.copied.figures rest) }
+    ensures stays { room.new ≡ record room.old { cuts = room.new.cuts } }
     ensures fits { Fits (phase_of step.new) }
     ensures room { HasRoom result orders.new }
     ensures kept { result.told ≡ Pages → orders.new.kept ≡ kept_pages
@@ -266,8 +277,9 @@ pub fn at_once(
             gives: false,
         };
     }
-    let told = tell(step, device, regions, kind, room, orders);
-    orders.cuts = discard(step, device, regions, kind, room, cuts);
+    let (copied, cuts) = (&room.copied, &mut room.cuts);
+    let told = tell(step, device, regions, kind, copied, orders);
+    orders.cuts = discard(step, device, regions, kind, copied, cuts);
     let gives = give(step, device, regions, kind, &mut orders.used);
     Asked { told, gives }
 }

@@ -1,7 +1,7 @@
 //! The pieces of a chain, as they are in the room for them.
 
 ghost use Rattle.std.specs.Prelude.{◌≡◌, ◌+◌, ◌<◌, ◌≤◌, ◌++◌, ◌∷◌, [], ◌==◌, not, length};
-ghost use Rattle.std.specs.Prelude.{take, sum_by};
+ghost use Rattle.std.specs.Prelude.{take, sum_by, MatchOption, true, false};
 ghost use Rattle.std.specs.List.{list_any};
 ghost use Rattle.vb_chain.specs.Rules.{piece_of};
 ghost use Rattle.vb_virtio.specs.declared.limits.TheConstants.{MAX_QUEUE_SIZE, MAX_REQUEST_PAGES};
@@ -43,38 +43,33 @@ pub(crate) fn push_piece(pieces: &mut [ChainPiece; MAX_PIECES], count: u16, desc
     pieces[usize::from(count)] = buffer_of(descriptor);
 }
 
-/// Whether one of the buffers is the device's to write.
-fn any_writable(buffers: &[ChainPiece]) -> bool
-    ensures { result ≡ list_any (λ buffer. not (buffer.writable == 0)) buffers.now }
-{
-    buffers.iter().any(|buffer| buffer.writable != 0)
-}
-
-/// Whether a piece is the device's to write.
-fn has_writable(pieces: &[ChainPiece]) -> bool
-    ensures { result ≡ list_any (λ piece. piece.writable) (pieces_in pieces.now) }
-{
-    any_writable(pieces)
-}
-
-/// How many bytes the buffers have together.
-fn sum_lengths(buffers: &[ChainPiece]) -> u64
+/// How many bytes the buffers have together; none where one of them is the device's to write.
+fn readable_bytes(buffers: &[ChainPiece]) -> Option<u64>
     requires { length buffers.now ≤ MAX_QUEUE_SIZE }
-    ensures { result ≡ sum_by (λ buffer. buffer.length) buffers.now }
+    ensures { MatchOption result
+        (list_any (λ buffer. not (buffer.writable == 0)) buffers.now ≡ true)
+        (λ total. (list_any (λ buffer. not (buffer.writable == 0)) buffers.now ≡ false) ×
+        (total ≡ sum_by (λ buffer. buffer.length) buffers.now)) }
 {
     let mut total: u64 = 0;
     for buffer in buffers {
+        if buffer.writable != 0 {
+            return None;
+        }
         total += u64::from(buffer.length);
     }
-    total
+    Some(total)
 }
 
-/// How many bytes the pieces have together.
-fn total_length(pieces: &[ChainPiece]) -> u64
+/// How many bytes the pieces have together; none where one of them is the device's to write.
+fn readable_length(pieces: &[ChainPiece]) -> Option<u64>
     requires { length pieces.now ≤ MAX_QUEUE_SIZE }
-    ensures { result ≡ total_length (pieces_in pieces.now) }
+    ensures { MatchOption result
+        (list_any (λ piece. piece.writable) (pieces_in pieces.now) ≡ true)
+        (λ total. (list_any (λ piece. piece.writable) (pieces_in pieces.now) ≡ false) ×
+        (total ≡ total_length (pieces_in pieces.now))) }
 {
-    sum_lengths(pieces)
+    readable_bytes(pieces)
 }
 
 /// How many bytes a request of these pieces has, or the rule that they break.
@@ -82,14 +77,15 @@ pub(crate) fn request_length(pieces: &[ChainPiece]) -> Result<u32, ChainFault>
     requires { length pieces.now ≤ MAX_QUEUE_SIZE }
     ensures { result ≡ request_length (pieces_in pieces.now) }
 {
-    if has_writable(pieces) {
-        return Err(ChainFault::WrongDirection);
+    match readable_length(pieces) {
+        None => Err(ChainFault::WrongDirection),
+        Some(total) => {
+            if !is_request_length(total) {
+                return Err(ChainFault::BadLength);
+            }
+            Ok(total as u32)
+        }
     }
-    let total = total_length(pieces);
-    if !is_request_length(total) {
-        return Err(ChainFault::BadLength);
-    }
-    Ok(total as u32)
 }
 
 /// How many bytes a buffer of statistics of these pieces has, or the rule that they break.
@@ -97,14 +93,15 @@ pub(crate) fn statistics_length(pieces: &[ChainPiece]) -> Result<u32, ChainFault
     requires { length pieces.now ≤ MAX_QUEUE_SIZE }
     ensures { result ≡ statistics_length (pieces_in pieces.now) }
 {
-    if has_writable(pieces) {
-        return Err(ChainFault::WrongDirection);
+    match readable_length(pieces) {
+        None => Err(ChainFault::WrongDirection),
+        Some(total) => {
+            if !is_statistics_length(total) {
+                return Err(ChainFault::BadLength);
+            }
+            Ok(total as u32)
+        }
     }
-    let total = total_length(pieces);
-    if !is_statistics_length(total) {
-        return Err(ChainFault::BadLength);
-    }
-    Ok(total as u32)
 }
 
 /// Names the pages of a report of these pieces.

@@ -17,6 +17,21 @@ use vb_chain::DESCRIPTOR_SIZE;
 use vb_core::{Denial, Device, Held, Kind, MEMORY_LIMIT, Saved, Settings, StateDenial, Virtqueue};
 use vb_ring::{AVAIL_ENTRY_SIZE, RING_META_SIZE, USED_ELEMENT_SIZE};
 
+/// The place of a queue: where its parts lie, by addresses of guest memory, and how many
+/// descriptors it has.
+#[repr(C)]
+#[derive(Clone, Copy, Debug)]
+pub struct QueuePlace {
+    /// Where the descriptor table begins.
+    pub table: u64,
+    /// Where the available ring begins.
+    pub avail: u64,
+    /// Where the used ring begins.
+    pub used: u64,
+    /// How many descriptors there are.
+    pub size: u16,
+}
+
 /// Why a balloon isn't restored over regions.
 #[derive(Clone, Copy, Debug, PartialEq, Eq)]
 pub enum RestoreDenial {
@@ -179,37 +194,31 @@ impl Balloon {
     /// Refused as by `Device::place`, and then `Misplaced` where a part of the queue lies in a
     /// hole.
     /// Then nothing is changed.
-    pub fn place(
-        &mut self,
-        regions: &[Region],
-        kind: Kind,
-        table: u64,
-        avail: u64,
-        used: u64,
-        size: u16,
-    ) -> Result<(), Denial>
+    pub fn place(&mut self, regions: &[Region], kind: Kind, at: QueuePlace) -> Result<(), Denial>
         ensures denied { (why : Denial) →
-            place_denial kind (placed table avail used size) self.old.device ≡ Some why →
-            (result ≡ Err why) × (self.new ≡ self.old) }
-        ensures hole { place_denial kind (placed table avail used size) self.old.device ≡ None →
-            (¬ Lies regions.now (placed table avail used size)) →
+            place_denial kind (placed at.table at.avail at.used at.size) self.old.device
+            ≡ Some why → (result ≡ Err why) × (self.new ≡ self.old) }
+        ensures hole { place_denial kind (placed at.table at.avail at.used at.size) self.old.device
+            ≡ None →
+            (¬ Lies regions.now (placed at.table at.avail at.used at.size)) →
             (result ≡ Err Misplaced) × (self.new ≡ self.old) }
-        ensures placed { place_denial kind (placed table avail used size) self.old.device ≡ None →
-            Lies regions.now (placed table avail used size) →
+        ensures placed { place_denial kind (placed at.table at.avail at.used at.size)
+            self.old.device ≡ None →
+            Lies regions.now (placed at.table at.avail at.used at.size) →
             (result ≡ Ok tt) × (self.new ≡ record self.old {
-              device = with_ring kind (placed table avail used size) self.old.device;
+              device = with_ring kind (placed at.table at.avail at.used at.size) self.old.device;
             }) }
     {
         let ring = Virtqueue {
-            table,
-            avail,
-            used,
-            size,
+            table: at.table,
+            avail: at.avail,
+            used: at.used,
+            size: at.size,
             next_avail: 0,
             next_used: 0,
         };
         let mut device = self.device;
-        device.place(kind, table, avail, used, size)?;
+        device.place(kind, at.table, at.avail, at.used, at.size)?;
         if !lies(regions, &ring) {
             return Err(Denial::Misplaced);
         }

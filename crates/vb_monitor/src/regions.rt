@@ -48,8 +48,7 @@ impl Region {
     pub fn is_possible(&self) -> bool
         ensures { result ≡ is_region self.now }
     {
-        self.guest % PAGE_BYTES == 0
-            && self.length % PAGE_BYTES == 0
+        self.guest % PAGE_BYTES + self.length % PAGE_BYTES == 0
             && self.guest <= MEMORY_LIMIT
             && self.length <= MEMORY_LIMIT - self.guest
             && self.in_file <= FILE_LIMIT

@@ -11,8 +11,8 @@ ghost use Rattle.vb_virtio.specs.declared.limits.TheConstants.{MAX_QUEUE_SIZE};
 ghost use Rattle.vb_monitor.specs.declared.outcome.Tally.{Tally};
 ghost use Rattle.vb_monitor.specs.Accesses.{Access};
 ghost use Rattle.vb_monitor.specs.Ends.{Whole};
-ghost use Rattle.vb_monitor.specs.Chains.{row_of, in_row, descriptor_of, descriptors, memory_end};
-ghost use Rattle.vb_monitor.specs.Chains.{AfterDescriptor, Follows, table_fault};
+ghost use Rattle.vb_monitor.specs.Chains.{row_of, in_row, descriptor_of, longest, memory_end};
+ghost use Rattle.vb_monitor.specs.Chains.{AfterDescriptor, Follows, chain_fault};
 ghost use Rattle.vb_monitor.specs.declared.rows.RowEnd.TheVariants.{Leaves};
 ghost use Rattle.vb_monitor.specs.Machine.{serves, row_bytes};
 ghost use Rattle.vb_monitor.specs.Rows.{EndsRow};
@@ -23,6 +23,7 @@ use crate::room::MAX_PIECES;
 use byteorder::{ByteOrder, LittleEndian};
 use vb_chain::{ChainFault, DESCRIPTOR_SIZE, Descriptor, descriptor_fault};
 use vb_core::ChainPiece;
+use vb_virtio::limits::MAX_QUEUE_SIZE;
 
 /// The descriptor of these bytes.
 pub(crate) fn descriptor_of(bytes: &[u8]) -> Descriptor
@@ -53,21 +54,32 @@ fn is_writing(writing: bool, descriptor: &Descriptor) -> bool
     writing || descriptor.is_writable()
 }
 
-/// The first rule that a descriptor of a table of `size` breaks, after `visited` others.
-pub(crate) fn ring_fault(
+/// How many descriptors a chain has at most in a table of `size`: the device takes no more than
+/// 256.
+pub(crate) fn longest(size: u16) -> u16
+    ensures { result ≡ longest size }
+{
+    size.min(MAX_QUEUE_SIZE as u16)
+}
+
+/// The first rule that a descriptor of a table of `size` breaks, after `visited` others of its
+/// chain.
+pub(crate) fn chain_fault(
     size: u16,
     end: u64,
     writing: bool,
     visited: u16,
     descriptor: &Descriptor,
 ) -> Option<ChainFault>
-    ensures fault { result ≡ table_fault size end writing visited descriptor.now }
-    ensures within { result ≡ None → visited < size }
+    ensures { result ≡ chain_fault size end writing visited descriptor.now }
 {
-    if visited >= size {
+    if let Some(fault) = descriptor_fault(size, end, writing, visited, descriptor) {
+        return Some(fault);
+    }
+    if descriptor.has_next() && u32::from(visited) + 1 >= u32::from(longest(size)) {
         return Some(ChainFault::TooLong);
     }
-    descriptor_fault(size, end, writing, visited, descriptor)
+    None
 }
 
 /// How many bytes are copied of the row that a walk waits for.
@@ -127,21 +139,20 @@ pub(crate) fn walk_row(
     pieces: &mut [ChainPiece; MAX_PIECES],
 ) -> RowWalk
     requires row { DESCRIPTOR_SIZE ≤ length row.now }
-    requires size { size ≤ MAX_QUEUE_SIZE }
     ensures goes { (w : Whole) (d : Device) (tally : Tally) (log : List Access) →
-        descriptors (ring_of w.kind d) ≡ size → memory_end d ≡ end →
+        (ring_of w.kind d).size ≡ size → memory_end d ≡ end →
         EndsRow result.end w d tally
-        (Follows (size - (result.count + 1)) w d tally (serves w tally d walk.head))
+        (Follows (longest size - (result.count + 1)) w d tally (serves w tally d walk.head))
         (serves w tally d walk.head) result.writing (pieces_in (take result.count pieces.new)) log →
         AfterDescriptor w d tally
-        (Follows (size - (walk.count + 1)) w d tally (serves w tally d walk.head)
+        (Follows (longest size - (walk.count + 1)) w d tally (serves w tally d walk.head)
         (row_of walk.first row.now)) (serves w tally d walk.head) walk.writing
         (pieces_in (take walk.count pieces.old)) (take DESCRIPTOR_SIZE row.now) log }
     ensures further { (number : ℕ) → result.end ≡ Leaves number →
         (MAX_QUEUE_SIZE - result.count) + 1 ≤ MAX_QUEUE_SIZE - walk.count }
 {
     let visited = first_pieces(pieces, walk.count).len();
-    if visited >= usize::from(size) {
+    if visited >= usize::from(longest(size)) {
         return RowWalk {
             count: walk.count,
             writing: walk.writing,
@@ -153,7 +164,7 @@ pub(crate) fn walk_row(
     let mut into = 0;
     loop {
         let descriptor = descriptor_at(row, into);
-        if let Some(fault) = descriptor_fault(size, end, writing, count, &descriptor) {
+        if let Some(fault) = chain_fault(size, end, writing, count, &descriptor) {
             return RowWalk {
                 count,
                 writing,

@@ -6,8 +6,8 @@ ghost use Rattle.vb_core.specs.declared.device.Device.{Device};
 ghost use Rattle.vb_core.specs.Devices.{ring_of};
 ghost use Rattle.vb_monitor.specs.declared.outcome.Outcome.{Outcome};
 ghost use Rattle.vb_monitor.specs.Accesses.{Access};
-ghost use Rattle.vb_monitor.specs.Chains.{descriptors, memory_end, AfterDescriptor, Follows};
-ghost use Rattle.vb_monitor.specs.Chains.{TakesRow, behind_in_row, unless_apart, table_fault};
+ghost use Rattle.vb_monitor.specs.Chains.{longest, memory_end, AfterDescriptor, Follows};
+ghost use Rattle.vb_monitor.specs.Chains.{TakesRow, behind_in_row, unless_apart};
 ghost use Rattle.vb_monitor.specs.Notices.{AfterEntry};
 ghost use Rattle.vb_monitor.specs.declared.room.TheConstants.{ROW_DESCRIPTORS};
 ghost use Rattle.vb_core.specs.Pieces.{pieces_in};
@@ -23,18 +23,10 @@ use crate::ends::fail;
 use crate::naming::serve_pieces;
 use crate::regions::{PAGE_BYTES, find_from};
 use crate::room::ROW_DESCRIPTORS;
-use crate::rows::{RowEnd, RowWalk, ring_fault, row_bytes, walk_row};
+use crate::rows::{RowEnd, RowWalk, row_bytes, walk_row};
 use crate::{Progress, Region, Room, Walk};
-use vb_chain::{ChainFault, DESCRIPTOR_SIZE, Descriptor};
-use vb_core::{Device, Kind, Virtqueue};
-use vb_virtio::limits::MAX_QUEUE_SIZE;
-
-/// How many descriptors a ring has: never more than a queue may have.
-pub(crate) fn descriptors(ring: &Virtqueue) -> u16
-    ensures { result ≡ descriptors ring.now }
-{
-    ring.size.min(MAX_QUEUE_SIZE as u16)
-}
+use vb_chain::{ChainFault, DESCRIPTOR_SIZE};
+use vb_core::{Device, Kind};
 
 /// Where guest memory ends.
 pub(crate) fn memory_end(device: &Device) -> u64
@@ -45,12 +37,13 @@ pub(crate) fn memory_end(device: &Device) -> u64
 
 /// Asks for a row: of the descriptors after its first one, unless they lie apart from it.
 #[tactic(auto, using(crate::proofs::TableRowLemmas::row_steps))]
+#[inline(always)]
 fn ask_row(step: &mut Progress, device: &mut Device, regions: &[Region], kind: Kind, walk: Walk)
     requires { walk.behind < ROW_DESCRIPTORS }
     ensures step { (after : Device) (outcome : Outcome) (room : Room) (log : List Access) →
         Ahead (whole regions.now kind after outcome) (step_of step.new) device.new room log →
         TakesRow (whole regions.now kind after outcome) device.old (tally_of step.old)
-        (Follows (descriptors (ring_of kind device.old) - (walk.count + 1))
+        (Follows (longest (ring_of kind device.old).size - (walk.count + 1))
         (whole regions.now kind after outcome) device.old (tally_of step.old)
         (serves (whole regions.now kind after outcome) (tally_of step.old) device.old walk.head))
         (serves (whole regions.now kind after outcome) (tally_of step.old) device.old walk.head)
@@ -85,7 +78,7 @@ pub(crate) fn ask_first(
     kind: Kind,
     head: u16,
 )
-    requires { head < descriptors (ring_of kind device.old) }
+    requires { head < (ring_of kind device.old).size }
     ensures step { (after : Device) (outcome : Outcome) (room : Room) (log : List Access) →
         Ahead (whole regions.now kind after outcome) (step_of step.new) device.new room log →
         AfterEntry (whole regions.now kind after outcome)
@@ -105,28 +98,6 @@ pub(crate) fn ask_first(
     ask_row(step, device, regions, kind, walk)
 }
 
-/// The first rule that a descriptor breaks, after `visited` others.
-pub(crate) fn table_fault(
-    device: &Device,
-    kind: Kind,
-    writing: bool,
-    visited: u16,
-    descriptor: &Descriptor,
-) -> Option<ChainFault>
-    ensures fault { result ≡ table_fault (descriptors (ring_of kind device.now))
-        (memory_end device.now) writing visited descriptor.now }
-    ensures within { result ≡ None → visited < descriptors (ring_of kind device.now) }
-{
-    let ring = device.ring(kind);
-    ring_fault(
-        descriptors(&ring),
-        memory_end(device),
-        writing,
-        visited,
-        descriptor,
-    )
-}
-
 /// Asks for the row from a descriptor on that is not the chain's first.
 #[tactic(auto, using(crate::proofs::TableRowLemmas::next_steps))]
 fn ask_next(
@@ -141,7 +112,7 @@ fn ask_next(
         0 < length (pieces_in (take walk.count room.pieces)) →
         Ahead (whole regions.now kind after outcome) (step_of step.new) device.new room log →
         TakesRow (whole regions.now kind after outcome) device.old (tally_of step.old)
-        (Follows (descriptors (ring_of kind device.old) - (walk.count + 1))
+        (Follows (longest (ring_of kind device.old).size - (walk.count + 1))
         (whole regions.now kind after outcome) device.old (tally_of step.old)
         (serves (whole regions.now kind after outcome) (tally_of step.old) device.old walk.head))
         (serves (whole regions.now kind after outcome) (tally_of step.old) device.old walk.head)
@@ -154,7 +125,7 @@ fn ask_next(
         of_chains regions.now (tally_of step.old).chains
         + (once_copied regions.now walk.count + 1) }
 {
-    let size = descriptors(&device.ring(kind));
+    let size = device.ring(kind).size;
     let left = u32::from(size).saturating_sub(u32::from(number) + 1);
     let behind = left.min(ROW_DESCRIPTORS as u32 - 1) as u16;
     let walk = Walk {
@@ -178,7 +149,7 @@ pub(crate) fn after_descriptor(
     ensures step { (after : Device) (outcome : Outcome) (log : List Access) →
         Ahead (whole regions.now kind after outcome) (step_of step.new) device.new room.new log →
         AfterDescriptor (whole regions.now kind after outcome) device.old (tally_of step.old)
-        (Follows (descriptors (ring_of kind device.old) - (walk.count + 1))
+        (Follows (longest (ring_of kind device.old).size - (walk.count + 1))
         (whole regions.now kind after outcome) device.old (tally_of step.old)
         (serves (whole regions.now kind after outcome) (tally_of step.old) device.old walk.head)
         (row_in walk room.old.bytes))
@@ -190,7 +161,7 @@ pub(crate) fn after_descriptor(
     ensures left { left regions.now (step_of step.new) ≤
         of_chains regions.now (tally_of step.old).chains + once_copied regions.now walk.count }
 {
-    let size = descriptors(&device.ring(kind));
+    let size = device.ring(kind).size;
     let end = memory_end(device);
     let row = first_bytes(&room.bytes, row_bytes(&walk));
     let walked = walk_row(size, end, walk, row, &mut room.pieces);

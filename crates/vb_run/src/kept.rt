@@ -35,6 +35,17 @@ use vb_ram::Config;
 use vb_slot::GuestSlot;
 use vb_virtio::negotiation::OFFERED_FEATURES;
 
+/// Which guest of a run one is.
+#[derive(Clone, Copy)]
+pub(crate) struct GuestOfRun {
+    /// Its number.
+    pub number: u32,
+    /// Whether its device is paced.
+    pub paced: bool,
+    /// The free pages that a balance leaves to it.
+    pub floor: u32,
+}
+
 /// A guest with its history, and the scripts of its processors.
 #[derive(Drop)]
 pub(crate) struct Kept<S: GuestSlot, L: AsSlice<Call> + Drop> {
@@ -257,11 +268,11 @@ impl<S: GuestSlot, L: AsSlice<Call> + Drop> Kept<S, L> {
     }
 
     /// Whether it is the guest of this number and size, on a device of this pace.
-    fn is_guest(&self, guest: u32, paced: bool, sizes: Config) -> bool
-        ensures { (result ≡ true) ↔ ((self.now.guest ≡ guest) × (self.now.paced ≡ paced)
+    fn is_guest(&self, of: GuestOfRun, sizes: Config) -> bool
+        ensures { (result ≡ true) ↔ ((self.now.guest ≡ of.number) × (self.now.paced ≡ of.paced)
             × (self.now.sizes ≡ sizes)) }
     {
-        self.guest == guest && self.paced == paced && self.sizes == sizes
+        self.guest == of.number && self.paced == of.paced && self.sizes == sizes
     }
 
     /// Whether this is kept of the plan's guest, and the balancer's entries are those of these
@@ -269,23 +280,21 @@ impl<S: GuestSlot, L: AsSlice<Call> + Drop> Kept<S, L> {
     fn is_planned(
         &self,
         alloc: Global,
-        guest: u32,
-        paced: bool,
+        of: GuestOfRun,
         plan: &GuestPlan,
-        floor: u32,
         rounds: &[Round],
     ) -> Result<bool, AllocError>
         ensures { IfOk result (λ is. (is ≡ true)
-            ↔ IsPlanned floor guest plan.now paced rounds.now self.now) }
+            ↔ IsPlanned of.floor of.number plan.now of.paced rounds.now self.now) }
     {
-        if !self.is_guest(guest, paced, plan.config) {
+        if !self.is_guest(of, plan.config) {
             return Ok(false);
         }
         if !are_of(self.scripts.as_slice(), plan.scripts.as_slice()) {
             return Ok(false);
         }
-        let expected = expected_of(alloc, floor, guest, rounds)?;
-        Ok(has_made(guest, self.history.as_slice(), expected.as_slice()))
+        let expected = expected_of(alloc, of.floor, of.number, rounds)?;
+        Ok(has_made(of.number, self.history.as_slice(), expected.as_slice()))
     }
 
     /// Ends the run of a guest: its report, if what its lock kept is the plan's and the rounds', or
@@ -294,23 +303,22 @@ impl<S: GuestSlot, L: AsSlice<Call> + Drop> Kept<S, L> {
         self,
         rt: &R,
         alloc: Global,
-        guest: u32,
-        paced: bool,
+        of: GuestOfRun,
         plan: &GuestPlan,
-        floor: u32,
         rounds: &[Round],
     ) -> Result<GuestReport, Stop>
-        ensures report { IfOk result (IsGuestReport floor guest plan.now paced rounds.now) }
+        ensures report { IfOk result
+            (IsGuestReport of.floor of.number plan.now of.paced rounds.now) }
         ensures whole { IfOk result (λ _. self.short ≡ false) }
         ensures audit { result ≡ Err Stop.Audit → (self.short ≡ false)
-            × (IsPlanned floor guest plan.now paced rounds.now self → ⊥) }
+            × (IsPlanned of.floor of.number plan.now of.paced rounds.now self → ⊥) }
     {
         let mut kept = self;
         kept.drain(rt, alloc)?;
         if kept.short || !all_ended(kept.scripts.as_slice()) {
             return Err(Stop::Memory);
         }
-        if !kept.is_planned(alloc, guest, paced, plan, floor, rounds)? {
+        if !kept.is_planned(alloc, of, plan, rounds)? {
             return Err(Stop::Audit);
         }
         let frames = frames_of(alloc, &kept.slot)?;

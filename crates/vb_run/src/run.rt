@@ -12,7 +12,7 @@ use crate::apart::are_apart;
 use crate::audit::are_rounds;
 use crate::bell::Bell;
 use crate::gate::Gate;
-use crate::kept::Kept;
+use crate::kept::{GuestOfRun, Kept};
 use crate::plan::{GuestPlan, Plan, is_plan};
 use crate::report::{GuestReport, Report, RunFault, Stop};
 use crate::round::Round;
@@ -113,17 +113,14 @@ fn seats_of<'p, P: GuestPort>(
 fn report_of<S: GuestSlot, L: AsSlice<Call> + Drop, R: Wait>(
     rt: &R,
     alloc: Global,
-    guest: u32,
+    of: GuestOfRun,
     plan: &GuestPlan,
-    floor: u32,
     rounds: &[Round],
-    seat: Seat<S, L>,
+    lock: Mutex<Kept<S, L>>,
 ) -> Result<GuestReport, Stop>
-    ensures { IfOk result (IsGuestReport floor guest plan.now seat.paced rounds.now) }
+    ensures { IfOk result (IsGuestReport of.floor of.number plan.now of.paced rounds.now) }
 {
-    let Seat { paced, lock, .. } = seat;
-    lock.into_inner()
-        .close(rt, alloc, guest, paced, plan, floor, rounds)
+    lock.into_inner().close(rt, alloc, of, plan, rounds)
 }
 
 /// The report of each guest.
@@ -150,7 +147,12 @@ fn reports_of<S: GuestSlot, L: AsSlice<Call> + Drop, R: Wait>(
         let Ok(number) = u32::try_from(guest) else {
             return Err(Stop::Audit);
         };
-        let report = report_of(rt, alloc, number, &plan[guest], floor, rounds, seat)?;
+        let of = GuestOfRun {
+            number,
+            paced: seat.paced,
+            floor,
+        };
+        let report = report_of(rt, alloc, of, &plan[guest], rounds, seat.lock)?;
         if reports.push(report).is_err() {
             return Err(Stop::Memory);
         }

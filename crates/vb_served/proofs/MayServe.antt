@@ -153,7 +153,7 @@ lt_so a b lt = grind (arith, nat_tests)
 
 lies_taken : (end : ℕ) (r : Virtqueue) → Lies end r → Lies end (with_taken r)
 lies_taken end r at =
-    record { size = at.size; table = at.table; avail = at.avail; used = at.used }
+    record { some = at.some; table = at.table; avail = at.avail; used = at.used }
 
 -- an entry that is available is ahead, and no further than the queue has
 stands_by_so : (z fits : Bool) →

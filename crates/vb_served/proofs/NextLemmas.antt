@@ -5,26 +5,22 @@ use Rattle.std.proofs.Common.{None, Result, Ok, Err}
 use Rattle.std.specs.Prelude.{◌==◌, nat_lt}
 use Rattle.std.proofs.lemmas.Bool.Decides.{nat_tests}
 use Rattle.vb_chain.specs.declared.fault.ChainFault.{ChainFault, TheVariants.BadHead}
-use Rattle.vb_chain.specs.Chain.{ChainGives, FaultGives}
 use Rattle.vb_chain.proofs.Walking.{walked_init}
-use Rattle.vb_ring.specs.Layout.{IsSize}
 use Rattle.vb_core.specs.declared.kinds.Kind.{Kind}
-use Rattle.vb_core.specs.declared.ring.Virtqueue.{Virtqueue}
 use Rattle.vb_core.specs.declared.device.{Denial.Denial, Device.Device, Denial.TheVariants.Broken}
 use Rattle.vb_core.specs.Devices.{ring_of, needing_reset, queue_denial}
-use Rattle.vb_core.proofs.{DenialLemmas.open_call, RingLemmas.placed_size}
 use Rattle.vb_monitor.specs.declared.{regions.Spot.Spot}
 use Rattle.vb_monitor.specs.declared.outcome.{Budget.Budget, Tally.Tally, Outcome.Outcome}
 use Rattle.vb_monitor.specs.Accesses.{Access, ReadWord, Acquire, Makes}
 use Rattle.vb_monitor.specs.Regions.{spot}
 use Rattle.vb_monitor.specs.Ends.{Whole, Breaks}
-use Rattle.vb_monitor.specs.Chains.{descriptors, memory_end, no_row, Follows}
+use Rattle.vb_monitor.specs.Chains.{longest, memory_end, no_row}
 use Rattle.vb_monitor.specs.Machine.{next_chain, serves}
 use Rattle.vb_monitor.specs.Notices.{entry_offset, stands, HeadBy, EntryAt, TakesChain, AfterIndex}
 use Rattle.vb_monitor.specs.Notices.{IndexAt, LooksBy, TakesUnlessSpent, TakesNext, with_chains}
 use Rattle.vb_monitor.specs.Notices.{fresh, with_published, ServesPublished, Serves}
-use Rattle.vb_monitor.specs.Still.{StaysUntil, index_in}
-use Rattle.vb_monitor.proofs.{StillFound.ends_so, StillWalk.{Walk, walks, none_shows}}
+use Rattle.vb_monitor.specs.{Still.{StaysUntil, index_in}, Within.{ChainWithin, FaultWithin}}
+use Rattle.vb_monitor.proofs.{StillFound.ends_so, StillLaws.some_long, StillWalk.{Walk, walks, none_shows}}
 use Rattle.vb_served.specs.Store.{Store, After}
 use Rattle.vb_served.specs.One.{byte, all_of, head_in, descriptor_in, BreaksRule}
 use Rattle.vb_served.specs.One.{ServesNext, Denied, Jumped, NoneThere, Broke, Found}
@@ -45,18 +41,11 @@ record IsOpen (kind : Kind) (d1 : Device) (t : Tally) (s : Store) : Type 0 where
 abbrev Still : Store → Store → List Access → Type 0
 Still s u log = StaysUntil (Between s u) (byte s) (all_of (length s.mem)) log
 
-size_so : (r : Virtqueue) → IsSize r.size → r.size ≡ descriptors r
-size_so r is = let most = is.most in grind (arith, nat_tests)
-
 lt_false : (a b : ℕ) → nat_lt a b ≡ false → b ≤ a
 lt_false a b e = grind (arith, nat_tests)
 
 lt_true : (a b : ℕ) → nat_lt a b ≡ true → a < b
 lt_true a b e = grind (arith, nat_tests)
-
-ring_size : (kind : Kind) (d : Device) → queue_denial kind d ≡ None → IsSize (ring_of kind d).size
-ring_size kind d e =
-    placed_size d.settings.memory_end (ring_of kind d) (open_call kind true true d e).place
 
 breaks_so : (kind : Kind) (d1 d2 : Device) (outcome : Outcome) (t : Tally) (s u : Store)
     (fault : ChainFault) (log : List Access) → t.given ≡ false → Still s u log →
@@ -81,7 +70,7 @@ walked : (kind : Kind) (d1 d2 : Device) (outcome : Outcome) (t : Tally) (s u : S
 walked kind d1 d2 outcome t s u head log is none index there same (inl h) =
     let r = ring_of kind d1 in
     let n = length s.mem in
-    let gives = subst (λ (x : ℕ). ChainGives (descriptor_in (byte s) r)
+    let gives = subst (λ (x : ℕ). ChainWithin (descriptor_in (byte s) r)
     r.size (memory_end d1) x h.pieces) same h.gives in
     Found h.pieces is.open_so there gives
     (by_kind kind d1 d2 outcome t (head_in (byte s) r) h.pieces s u h.rest (record {
@@ -94,16 +83,16 @@ walked kind d1 d2 outcome t s u head log is none index there same (inl h) =
       plain = record { place = plain_all n };
       may = subst (λ (i : ℕ). MayServe (all_of n) kind d1
           (head_in (byte s) r) i) (sym index)
-          (may_give n kind d1 (head_in (byte s) r) (index_in (byte s) r) is.of gives.chain.inside
+          (may_give n kind d1 (head_in (byte s) r) (index_in (byte s) r) is.of gives.gives.chain.inside
           is.next_avail there is.open_so);
       parts = parts_mapped n r.size (head_in (byte s) r) kind d1 (descriptor_in (byte s) r) h.pieces
-          is.of is.open_so gives;
+          is.of is.open_so gives.gives;
     }) h.still_so
     (subst (λ (x : ℕ). serves (over n kind d2 outcome) t d1 x h.pieces h.rest) same h.serves))
 walked kind d1 d2 outcome t s u head log is none index there same (inr h) =
     let r = ring_of kind d1 in
     Broke h.fault is.open_so there
-    (subst (λ (x : ℕ). FaultGives (descriptor_in (byte s) r) r.size
+    (subst (λ (x : ℕ). FaultWithin (descriptor_in (byte s) r) r.size
     (memory_end d1) x h.fault) same h.gives)
     (breaks_so kind d1 d2 outcome t s u h.fault h.rest is.given h.still_so h.breaks)
 
@@ -112,34 +101,28 @@ by_head : (kind : Kind) (d1 d2 : Device) (outcome : Outcome) (t : Tally) (s u : 
     t.published ≡ index_in (byte s) (ring_of kind d1) →
     stands (ring_of kind d1) (index_in (byte s) (ring_of kind d1)) ≡ Ok true →
     head ≡ head_in (byte s) (ring_of kind d1) →
-    nat_lt head (descriptors (ring_of kind d1)) ≡ below → Still s u log →
+    nat_lt head (ring_of kind d1).size ≡ below → Still s u log →
     HeadBy below (over (length s.mem) kind d2 outcome)
     (next_chain (over (length s.mem) kind d2 outcome) t) d1 t head log →
     ServesNext kind d1 d2 outcome s u
 by_head kind d1 d2 outcome t s u head false log is none index there same e stays h =
     let r = ring_of kind d1 in
-    let size = ring_size kind d1 is.open_so in
-    let past : r.size ≤ head =
-    let far : descriptors r ≤ head = lt_false head _ e in omega (arith, far, size_so r size) in
+    let past : r.size ≤ head = lt_false head _ e in
     Broke BadHead is.open_so there
-    (subst (λ (x : ℕ). FaultGives (descriptor_in (byte s) r) r.size
+    (subst (λ (x : ℕ). FaultWithin (descriptor_in (byte s) r) r.size
     (memory_end d1) x BadHead) same (inl (record { past = past; is = refl })))
     (breaks_so kind d1 d2 outcome t s u BadHead log is.given stays h)
 by_head kind d1 d2 outcome t s u head true log is none index there same e stays h =
     let r = ring_of kind d1 in
     let n = length s.mem in
     let w = over n kind d2 outcome in
-    let long : r.size ≡ descriptors r = size_so r (ring_size kind d1 is.open_so) in
-    let below : head < r.size =
-    let near : head < descriptors r = lt_true head _ e in omega (arith, near, long) in
-    let some : 0 < r.size = omega (arith, below) in
+    let below : head < r.size = lt_true head _ e in
+    let some : 0 < longest r.size = some_long r.size head below in
     let map = ring_mapped n kind d1 is.of is.open_so in
     walked kind d1 d2 outcome t s u head log is none index there same
-    (walks r.size (Between s u) (byte s) w d1 t (serves w t d1 head) r.size head (head ∷ []) 0 head
-    no_row false [] log (none_shows (byte s) r.table) long map.descriptors (omega arith) some below
-    (walked_init (descriptor_in (byte s) r) r.size (memory_end d1) head below) stays
-    (subst (λ (m : ℕ). Follows m w d1 t (serves w t d1 head) no_row head false [] log) (sym long)
-    h))
+    (walks (longest r.size) (Between s u) (byte s) w d1 t (serves w t d1 head) r.size head (head ∷ []) 0 head
+    no_row false [] log (none_shows (byte s) r.table) refl map.descriptors (omega arith) some below
+    (walked_init (descriptor_in (byte s) r) r.size (memory_end d1) head below) stays h)
 
 -- ---- the entry and the index
 
@@ -158,7 +141,7 @@ by_entry kind d1 d2 outcome t s u (Some at) log is none index there e mapped sta
     let r = ring_of kind d1 in
     let all : Still s u (Acquire ∷ ReadWord at h.head ∷ h.rest) =
     subst (λ (l : List Access). Still s u l) h.asks stays in
-    by_head kind d1 d2 outcome t s u h.head (nat_lt h.head (descriptors r)) h.rest is none index
+    by_head kind d1 d2 outcome t s u h.head (nat_lt h.head r.size) h.rest is none index
     there (all.1.0 (r.avail + entry_offset r) e) refl all.1.1 h.goes_on
 
 -- the budget has room for the chain that is available

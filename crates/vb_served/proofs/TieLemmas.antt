@@ -1,5 +1,5 @@
 -- A notice in which nothing is served is a take that finds nothing, or a broken rule.
-use Rattle.std.proofs.Common.{◌≡◌, ◌∙◌, ap, sym, subst, refl, arith, ℕ, ◌*◌, ◌/◌}
+use Rattle.std.proofs.Common.{◌≡◌, ◌∙◌, ap, sym, subst, refl, arith, ℕ, ◌*◌, ◌/◌, ◌≤◌}
 use Rattle.std.proofs.Common.{Bool, List, [], ◌∷◌, ◌++◌, length, Option, Some, None}
 use Rattle.std.proofs.Common.{Result, Ok, Err}
 use Rattle.std.specs.Prelude.{slice_get}
@@ -22,6 +22,7 @@ use Rattle.vb_device.specs.{Conditions.take_refusal, Queues.{queue_part, next_av
 use Rattle.vb_device.specs.Faults.{needing_reset as part_needing_reset}
 use Rattle.vb_monitor.specs.declared.outcome.Outcome.{Outcome}
 use Rattle.vb_monitor.specs.Chains.{memory_end}
+use Rattle.vb_monitor.proofs.WithinLemmas.{fault_of_small}
 use Rattle.vb_monitor.specs.Notices.{stands}
 use Rattle.vb_monitor.specs.Still.{index_in}
 use Rattle.vb_served.specs.{Store.Store, Alike.{IsAlike}, Tied.{IsServedAlike, held_by}}
@@ -83,7 +84,13 @@ chain_so kind d p s pieces tie gives =
     (subst (λ (n : ℕ). ChainGives (descriptor_in (byte s) r) n (end_of s.mem) h pieces)
     tie.alike.ring.size
     (subst (λ (n : ℕ). ChainGives (descriptor_in (byte s) r) r.size n h pieces)
-    (end_is kind d p s tie.alike) gives))
+    (end_is kind d p s tie.alike) gives.gives))
+
+-- a queue of the guest has 256 descriptors at most
+few_so : (kind : Kind) (d : Device) (p : Part) (s : Store) → IsTie kind d p s →
+    (ring_of kind d).size ≤ 256
+few_so kind d p s tie =
+    let size = tie.alike.ring.size in let most = tie.ready.size.most in omega (arith, size, most)
 
 pub fault_so : (kind : Kind) (d : Device) (p : Part) (s : Store) (fault : ChainFault) →
     IsTie kind d p s → NextFault (byte s) (ring_of kind d) (memory_end d) fault →
@@ -97,7 +104,9 @@ fault_so kind d p s fault tie gives =
     (subst (λ (n : ℕ). FaultGives (descriptor_in (byte s) r) n (end_of s.mem) h fault)
     tie.alike.ring.size
     (subst (λ (n : ℕ). FaultGives (descriptor_in (byte s) r) r.size n h fault)
-    (end_is kind d p s tie.alike) gives))
+    (end_is kind d p s tie.alike)
+    (fault_of_small (descriptor_in (byte s) r) r.size (memory_end d) h fault
+    (few_so kind d p s tie) gives)))
 
 -- the head that a notice used is the next one
 pub heads_so : {E F : Type 0} (o : Result (Option ℕ) F) (h k : ℕ) → o ≡ Ok (Some h) →

@@ -287,12 +287,12 @@ tie_report d1 d2 outcome s t p1 pieces tie next small gives did =
     let end : memory_end d1 ≡ 4096 * length s.mem =
     ap (λ (n : ℕ). 4096 * n) (pages_so Report d1 p1 s tie.alike) in
     let fits = subst (λ (n : ℕ). All (λ p. p.addr + p.len ≤ n) pieces) end
-    (chain_fits (descriptor_in (byte s) d1.report) d1.report.size (memory_end d1) h pieces gives) in
+    (chain_fits (descriptor_in (byte s) d1.report) d1.report.size (memory_end d1) h pieces gives.gives) in
     let open_so = report_open (4096 * length s.mem) pieces d1 fits small tie.open_so in
     let reserved = ap (λ (n : ℕ). report_request pieces n) tie.alike.reserved in
     by_request h d1 d2 did.device outcome s t p1 pieces did.runs did.answer
     (report_request pieces (reserved_pages p1.queue_size)) tie
-    (few_heads h p1.queue_size d1.report.size gives.chain.inside tie.alike.ring.size
+    (few_heads h p1.queue_size d1.report.size gives.gives.chain.inside tie.alike.ring.size
     tie.ready.size.most) next (chain_so Report d1 p1 s pieces tie gives) fits refl
     (did.names.answer open_so
     ∙ ap (λ (o : Result (List ℕ) ChainFault). told (named_by (length pieces) o)) reserved)

@@ -129,7 +129,7 @@ tie_inflate d1 d2 outcome s t p1 pieces (Ok n) tie next gives e did =
     let reserved = reserved_pages p1.queue_size in
     let chain = chain_so Inflate d1 p1 s pieces tie gives in
     let below : h < 65536 =
-    few_heads h p1.queue_size d1.inflate.size gives.chain.inside tie.alike.ring.size
+    few_heads h p1.queue_size d1.inflate.size gives.gives.chain.inside tie.alike.ring.size
     tie.ready.size.most in
     by chain below (request_does Inflate h reserved pieces d1 d2 outcome.why s t n refl tie.open_so
     (strict_so Inflate d1 p1 s tie.alike) e did)
@@ -234,7 +234,7 @@ tie_deflate d1 d2 outcome s t p1 pieces (Ok n) tie next gives e did =
     let reserved = reserved_pages p1.queue_size in
     let chain = chain_so Deflate d1 p1 s pieces tie gives in
     let below : h < 65536 =
-    few_heads h p1.queue_size d1.deflate.size gives.chain.inside tie.alike.ring.size
+    few_heads h p1.queue_size d1.deflate.size gives.gives.chain.inside tie.alike.ring.size
     tie.ready.size.most in
     by chain below (request_does Deflate h reserved pieces d1 d2 outcome.why s t n refl tie.open_so
     (strict_so Deflate d1 p1 s tie.alike) e did)

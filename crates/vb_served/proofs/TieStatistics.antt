@@ -179,7 +179,7 @@ tie_statistics d1 d2 outcome s t p1 pieces (Ok n) tie next gives e did =
       taken = alike.ring.next_avail ∙ sym (ap (λ (n : ℕ). (n + 1) % 65536) tie.alike.ring.next_avail);
       pages = ap (λ (x : Store). length x.mem) did.told;
       head = λ k same. heads_so _ h k next same;
-      below = λ k is same. below_so h k same (subst (λ (n : ℕ). h < n) tie.alike.ring.size gives.chain.inside);
+      below = λ k is same. below_so h k same (subst (λ (n : ℕ). h < n) tie.alike.ring.size gives.gives.chain.inside);
     }
   where
     held_so : {E : Type 0} (h k : ℕ) → outcome.tally.held ≡ Some (record { head = h; pages = 0 }) →

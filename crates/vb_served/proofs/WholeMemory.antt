@@ -4,7 +4,6 @@ use Rattle.std.proofs.Common.{suc, Bool, true, false, List, [], ◌∷◌, ◌++
 use Rattle.std.specs.Prelude.{All, ◌&&◌, ◌==◌, if◌then◌else◌}
 use Rattle.std.proofs.lemmas.Bool.Decides.{nat_tests}
 use Rattle.vb_chain.specs.declared.pieces.Piece.{Piece}
-use Rattle.vb_ring.specs.Layout.{IsSize}
 use Rattle.vb_core.specs.declared.ring.Virtqueue.{Virtqueue}
 use Rattle.vb_core.specs.declared.settings.TheConstants.{MEMORY_LIMIT}
 use Rattle.vb_core.specs.Rings.{has_place, used_entry}
@@ -20,9 +19,9 @@ use Rattle.vb_monitor.proofs.StillFound.{offset_so}
 use Rattle.vb_served.specs.One.{all_of}
 
 -- the next entry is one of the ring's
-offset_fits : (r : Virtqueue) → 2 ≤ r.size → entry_offset r + 2 ≤ 4 + 2 * r.size
-offset_fits r least =
-    let at : entry_offset r ≡ 4 + 2 * (r.next_avail % r.size) = offset_so r least in
+offset_fits : (r : Virtqueue) → 0 < r.size → entry_offset r + 2 ≤ 4 + 2 * r.size
+offset_fits r some =
+    let at : entry_offset r ≡ 4 + 2 * (r.next_avail % r.size) = offset_so r some in
     let below : r.next_avail % r.size < r.size = grind arith in
     omega (arith, at, below)
 
@@ -62,7 +61,7 @@ plain_all n a len at e = at_offset a at (holds (region n) a len) e
 -- ---- a ring
 
 pub record Lies (end : ℕ) (r : Virtqueue) : Type 0 where
-  pub size : IsSize r.size
+  pub some : 0 < r.size
   pub table : r.table + 16 * r.size ≤ end
   pub avail : r.avail + (6 + 2 * r.size) ≤ end
   pub used : r.used + (6 + 8 * r.size) ≤ end
@@ -83,7 +82,7 @@ used_lies end r e = grind (arith, both, nat_tests)
 
 pub lies : (end : ℕ) (r : Virtqueue) → has_place end r ≡ true → Lies end r
 lies end r e = record {
-  size = placed_size end r e;
+  some = placed_size end r e;
   table = table_lies end r e;
   avail = avail_lies end r e;
   used = used_lies end r e;
@@ -92,9 +91,9 @@ lies end r e = record {
 pub mapped : (n : ℕ) (r : Virtqueue) → 4096 * n ≤ MEMORY_LIMIT → Lies (4096 * n) r →
     IsMapped (all_of n) r
 mapped n r few at = record {
-  index = there n (r.avail + 2) 2 few (omega (arith, at.avail, at.size.least));
+  index = there n (r.avail + 2) 2 few (omega (arith, at.avail, at.some));
   entry = there n (r.avail + entry_offset r) 2 few
-      (omega (arith, at.avail, offset_fits r at.size.least));
+      (omega (arith, at.avail, offset_fits r at.some));
   descriptors = λ k lt. there n (r.table + 16 * k) 16 few (omega (arith, at.table, lt));
 }
 
@@ -105,14 +104,14 @@ three None b c x y z ea eb ec = absurd cc
 three (Some a) None c x y z ea eb ec = absurd cc
 three (Some a) (Some b) None x y z ea eb ec = absurd cc
 
-place_below : (r : Virtqueue) → 2 ≤ r.size → r.next_used % r.size < r.size
-place_below r least = grind arith
+place_below : (r : Virtqueue) → 0 < r.size → r.next_used % r.size < r.size
+place_below r some = grind arith
 
 pub used_there : (n head : ℕ) (r : Virtqueue) → 4096 * n ≤ MEMORY_LIMIT → Lies (4096 * n) r →
     used_spots (all_of n) (used_entry r head) ≢ None
 used_there n head r few at =
     let e = used_entry r head in
-    let below : r.next_used % r.size < r.size = place_below r at.size.least in
+    let below : r.next_used % r.size < r.size = place_below r at.some in
     three _ _ _ _ _ _
     (inside n e.element_at 4 few (omega (arith, at.used, below)))
     (inside n (e.element_at + 4) 4 few (omega (arith, at.used, below)))

@@ -101,8 +101,8 @@ same_index mem r q part size alike =
 place_so : (r : Virtqueue) (q : ℕ) (part : Part) → IsSize part.queue_size → AreRings r q part →
     entry_offset r ≡ 4 + 2 * ((queue_part q part).next_avail % part.queue_size)
 place_so r q part size alike =
-    let least : 2 ≤ r.size = omega (arith, alike.size, size.least) in
-    offset_so r least
+    let some : 0 < r.size = omega (arith, alike.size, size.least) in
+    offset_so r some
     ∙ (ap (λ (n : ℕ). 4 + 2 * (n % r.size)) alike.next_avail
     ∙ ap (λ (n : ℕ). 4 + 2 * ((queue_part q part).next_avail % n)) alike.size)
 

@@ -8,7 +8,6 @@ use Rattle.vb_virtio.specs.Limits.{page_size}
 use Rattle.vb_chain.specs.declared.descriptor.Descriptor.{Descriptor}
 use Rattle.vb_chain.specs.declared.fault.ChainFault.{ChainFault}
 use Rattle.vb_chain.specs.declared.pieces.Piece.{Piece}
-use Rattle.vb_chain.specs.Chain.{ChainGives, FaultGives}
 use Rattle.vb_request.specs.Request.{byte_of_address, request_length}
 use Rattle.vb_request.specs.Statistics.{statistics_length}
 use Rattle.vb_core.specs.declared.kinds.Kind.{Kind}
@@ -31,6 +30,7 @@ use Rattle.vb_monitor.specs.declared.regions.Region.{Region}
 use Rattle.vb_monitor.specs.declared.cuts.Cut.{Cut}
 use Rattle.vb_monitor.specs.declared.outcome.Outcome.{Outcome}
 use Rattle.vb_monitor.specs.Chains.{descriptor_of, memory_end}
+use Rattle.vb_monitor.specs.Within.{ChainWithin, FaultWithin}
 use Rattle.vb_monitor.specs.Giving.{after_use, cuts_for, is_kept}
 use Rattle.vb_monitor.specs.Notices.{entry_offset, stands}
 use Rattle.vb_monitor.specs.Still.{bytes_from, bytes_of, index_in}
@@ -53,11 +53,11 @@ descriptor_in byte r i = descriptor_of (bytes_from byte (r.table + 16 * i) 16)
 
 -- The chain from the next head has these pieces.
 abbrev pub NextGives : (ℕ → ℕ) → Virtqueue → ℕ → List Piece → Type 0
-NextGives byte r end pieces = ChainGives (descriptor_in byte r) r.size end (head_in byte r) pieces
+NextGives byte r end pieces = ChainWithin (descriptor_in byte r) r.size end (head_in byte r) pieces
 
 -- The first fault on the way from there.
 abbrev pub NextFault : (ℕ → ℕ) → Virtqueue → ℕ → ChainFault → Type 0
-NextFault byte r end fault = FaultGives (descriptor_in byte r) r.size end (head_in byte r) fault
+NextFault byte r end fault = FaultWithin (descriptor_in byte r) r.size end (head_in byte r) fault
 
 -- All of a memory of this many pages, as one region in which a place is an address.
 abbrev pub all_of : ℕ → List Region

@@ -24,7 +24,7 @@ use std::alloc::Global;
 use std::mem;
 use vb_bits::BitSet;
 use vb_core::{Denial, Device, Kind, Settings, Virtqueue};
-use vb_device::{QueueRegisters, ServedChain, ServesChains};
+use vb_device::{OpenQueue, QueueRegisters, ServedChain, ServesChains};
 use vb_monitor::{Outcome, Room};
 use vb_ram::{Frame, GuestBytes, Ram, Shape};
 use vb_request::{Statistics, broken};
@@ -220,8 +220,7 @@ impl ServesChains for Notices {
         loose: &mut Vec<Frame>,
         ballooned: &mut BitSet,
         last: &mut Statistics,
-        registers: QueueRegisters,
-        queue: u32,
+        queue: OpenQueue,
     ) -> ServedChain {
         let mut memory = LooseRam::new(
             mem::replace(ram, Ram::empty(self.alloc)),
@@ -229,7 +228,7 @@ impl ServesChains for Notices {
             mem::replace(ballooned, BitSet::empty(self.alloc)),
             *last,
         );
-        let served = serve_over(&mut memory, registers, queue);
+        let served = serve_over(&mut memory, queue.registers, queue.number);
         let (pages, frames, flags, figures) = memory.into_parts();
         *ram = pages;
         *loose = frames;

@@ -122,6 +122,8 @@ static int once(void *what)
         lent->look = lent_now() + LOOK_EVERY;
         if (lent->notes.channel < 0)
             backend_look(&lent->backend);
+        else
+            lent_watch(lent);
     }
     return 1;
 }

@@ -6,8 +6,9 @@
 #include <time.h>
 #include <unistd.h>
 
-/* Milliseconds between two reports that nobody asked for; orders that are obeyed in one turn. */
-enum { NEWS_EVERY = 10, ORDERS = 16 };
+/* Milliseconds between two reports that nobody asked for, and between two looks at what the memory's files hold, which are news where they
+ * have changed by more than this part; orders that are obeyed in one turn. */
+enum { NEWS_EVERY = 10, WATCH_EVERY = 500, LITTLE_PART = 256, ORDERS = 16 };
 
 int64_t lent_now(void)
 {
@@ -59,7 +60,21 @@ void lent_report(struct lent *lent, uint64_t number, bool asked)
         kept_save(lent);
     send_to_lender(lent, &message);
     lent->news = false;
-    lent->report_at = lent_now() + NEWS_EVERY;
+    lent->held_told = message.held_kib;
+    if (number == 0)
+        lent->report_at = lent_now() + NEWS_EVERY;
+    if (lent->notes.channel >= 0)
+        lent->look = lent_now() + WATCH_EVERY;
+}
+
+void lent_watch(struct lent *lent)
+{
+    uint64_t held = memory_held(&lent->backend.memory), told = lent->held_told;
+    uint64_t change = held > told ? held - told : told - held;
+    if (change * LITTLE_PART * 1024 > (uint64_t)lent->notes.pages * BALLOON_PAGE)
+        lent_report(lent, 0, false);
+    else
+        lent->look = lent_now() + WATCH_EVERY;
 }
 
 void lent_note(struct lent *lent)

@@ -123,7 +123,7 @@ static void forget(struct virtio_pci *pci)
 {
     memset(pci->queues, 0, sizeof pci->queues);
     for (unsigned i = 0; i < PCI_QUEUES; i++)
-        pci->queues[i].size = VB_MAX_QUEUE_SIZE;
+        pci->queues[i].size = OFFERED_SIZE;
     memset(pci->accepted, 0, sizeof pci->accepted);
     pci->backend->pending = 0;
 }

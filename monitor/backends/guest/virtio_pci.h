@@ -4,7 +4,7 @@
 #include "backend.h"
 
 /* A driver is shown a queue of each kind. */
-enum { BAR_SIZE = 0x4000, PCI_CONFIGURATION = 256, PCI_QUEUES = VB_NO_KIND };
+enum { BAR_SIZE = 0x4000, PCI_CONFIGURATION = 256, PCI_QUEUES = VB_NO_KIND, OFFERED_SIZE = 256 };
 
 struct pci_queue {
     uint64_t place[3];          /* table, available ring, used ring */

@@ -17,7 +17,7 @@
 enum {
     MOST_PLACES = 2 * MOST_GUESTS,      /* of loans: also of guests that are leaving */
     MOST_PATH = 108,            /* of a socket's */
-    SILENT_AFTER = 3,           /* periods without statistics, and a guest counts as one that doesn't answer */
+    SILENT_AFTER = 3,           /* questions without statistics, and a guest counts as one that doesn't answer */
     PAGES_PER_MIB = 256,
     LATER_MARK = '+',           /* before a guest's name: the socket where a later lender finds its process */
 };
@@ -31,6 +31,12 @@ struct limit_writer {
     uint64_t allowed;           /* the kernel allows no fewer than these, whatever is being written; 0: it isn't known */
     uint64_t failures;
     int64_t again_at;           /* before this nothing is written, as something couldn't be */
+};
+
+/* What is looked at of a guest to tell whether it rests, in pages. */
+struct stillness {
+    uint32_t pages, ballooned, available;
+    uint64_t held;
 };
 
 /* A guest's place on the host, which it may leave and come back to. */
@@ -50,6 +56,7 @@ struct seat {
     bool gone;                  /* its client has gone; the process hasn't ended yet */
     bool refused;               /* its client isn't served any longer, as it broke a rule or found no room */
     bool adopts;                /* the first report of a process that an earlier lender has started is still to come */
+    int64_t adopts_until;       /* and isn't waited for any longer from then on */
     int64_t comes_at;           /* before this no client is taken */
     int64_t asked_at;           /* when the first order to look that isn't answered was given; 0: all are answered */
     uint64_t number, answered;  /* of the last order to look; of the last one that is answered */
@@ -60,7 +67,10 @@ struct seat {
     uint32_t pages;             /* of its memory that has room */
     uint32_t free, available, ballooned_then;
     bool known, tells_available;
-    unsigned silent;            /* periods since its last statistics */
+    unsigned silent;            /* questions for statistics since its last ones */
+    struct stillness still;     /* as it was when it last changed, and when that was */
+    int64_t moved_at;
+    unsigned passed_over;       /* periods in which it rested and wasn't asked */
     int64_t heard_at;
     uint64_t heard, taken;      /* its counters when they were last looked at */
     int64_t paused_until;       /* it has taken pages itself: until then it is asked for no more than it has given */
@@ -126,6 +136,7 @@ struct host {
     int64_t refills_at;         /* when messages are read again of processes that have sent too many */
     int64_t decides_at;         /* what guests do isn't decided on before this */
     int64_t stepped_at;         /* when targets were last let grow */
+    bool looked;                /* this turn is the first one after a look */
     int end;                    /* has something to read once a signal tells the host to end */
     bool upgrades;              /* it is to become the program that is there now */
     bool leaves;                /* it ends alone, and guests' processes live on */
@@ -200,6 +211,9 @@ void seat_start(struct seat *seat);
 /* Takes over the process of an earlier lender, if there is one. */
 void seat_take_over(struct seat *seat);
 
+/* Whether a guest of an earlier lender is still to tell what it has: until then nothing is lent, admitted or decided. */
+bool host_awaits(const struct host *host);
+
 /* Its process has ended. */
 void seat_ended(struct seat *seat);
 
@@ -212,8 +226,9 @@ void seat_remind(struct seat *seat);
 /* Decides how many pages the host wants in its balloon, and tells it as many as a step allows. */
 void seat_set_target(struct seat *seat, uint32_t pages);
 
-/* Lets what it is asked for grow by what `milliseconds` allow, and says again what it hasn't heard. */
+/* Lets what it is asked for grow by what `milliseconds` allow, and says again what it hasn't heard; whether there is any of that. */
 void seat_step(struct seat *seat, int64_t milliseconds);
+bool seat_is_behind(const struct seat *seat);
 
 /* Has its process keep its terms for a later lender. */
 void seat_keep_terms(struct seat *seat);
@@ -236,6 +251,17 @@ bool seat_repeat(struct seat *seat);
 
 /* Reads what its process has sent, at most `most` messages, and notes what came of it; returns how many it read. */
 unsigned seat_read(struct seat *seat, unsigned most);
+
+/* ---- rest.c */
+
+/* Whether a guest rests: nothing has changed of it for a while, and nobody wants anything. */
+bool seat_rests(const struct seat *seat);
+
+/* Whether it is to be asked in this period: one that rests isn't in each. */
+bool seat_is_due(struct seat *seat);
+
+/* Follows what its last report says; whether it has rested until now. */
+bool seat_moves(struct seat *seat);
 
 /* ---- policy.c */
 

@@ -229,6 +229,8 @@ static struct seat *seat_at(const struct host *host, size_t place)
 
 void loans_grant(struct host *host)
 {
+    if (host_awaits(host))
+        return;
     uint64_t owed = vb_loan_owed(host->loans, MOST_PLACES);
     for (VbGrant next; (next = vb_loan_grant(host->frames, host->loans, MOST_PLACES)).code == VB_OK;) {
         struct seat *seat = seat_at(host, next.guest);

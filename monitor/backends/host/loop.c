@@ -38,6 +38,7 @@ static void look(struct host *host)
 {
     struct host_counters *counters = &host->counters;
     uint64_t held = host_held(host);
+    host->looked = true;
     counters->looks++;
     counters->above += held > host->frames * UINT64_C(4);
     measure_above(held > host->frames * UINT64_C(4) ? (double)host->period / 1000 : 0);
@@ -48,6 +49,8 @@ static void look(struct host *host)
     for (unsigned i = 0; i < host->leaving_count; i++)
         seat_leave(host->leaving[i]);
     for (unsigned i = 0; i < host->count; i++) {
+        if (!seat_is_due(host->seats[i]))
+            continue;
         host->seats[i]->silent++;
         seat_look(host->seats[i], true);
     }
@@ -57,13 +60,25 @@ static void look(struct host *host)
 static void remind(struct host *host)
 {
     for (unsigned i = 0; i < host->count; i++) {
+        if (seat_rests(host->seats[i]))
+            continue;
         seat_remind(host->seats[i]);
         seat_look(host->seats[i], false);
     }
 }
 
+/* Whether there is a guest that isn't asked yet for what was decided, or hasn't heard it. */
+static bool is_behind(const struct host *host)
+{
+    for (unsigned i = 0; i < host->count; i++)
+        if (seat_is_behind(host->seats[i]))
+            return true;
+    return false;
+}
+
 /* What is waited for: lines, room for answers, the signals that end it; of each seat its clients, its channel, its process and the
- * writer of its limit, and of each that was taken away all but the first and the last. */
+ * writer of its limit, and of each that was taken away all but the first and the last. A process that ends closes its channel: whether one has
+ * ended and has not is looked at once a period. */
 enum { LINES, ROOM, END, SEATS };
 enum { CLIENT, CHANNEL, PROCESS, WRITER, OF_SEAT };
 enum { MOST_FILES_OF_ALL = SEATS + 2 * MOST_GUESTS * OF_SEAT + MOST_EXTRAS * MOST_EXTRA_FILES };
@@ -102,7 +117,7 @@ static void wait_for_seat(struct turn *turn, struct seat *seat, int64_t now)
     bool waits = !seat->here && seat->listener >= 0;
     its[CLIENT] = (struct pollfd){waits && comes_at <= now ? seat->listener : -1, POLLIN, 0};
     its[CHANNEL] = (struct pollfd){seat->read < MESSAGES ? seat->channel : -1, POLLIN, 0};
-    its[PROCESS] = (struct pollfd){seat->process_file, POLLIN, 0};
+    its[PROCESS] = (struct pollfd){seat->channel < 0 || seat->host->looked ? seat->process_file : -1, POLLIN, 0};
     its[WRITER] = (struct pollfd){seat->writer.channel, POLLIN, 0};
     if (waits && comes_at > now)
         wait_until(turn, comes_at);
@@ -136,6 +151,7 @@ bool host_add_extra(struct host *host, struct host_extra extra)
 static void wait_for(struct host *host, struct turn *turn, int64_t next)
 {
     int64_t now = host_now();
+    bool steps = is_behind(host);
     turn->until = next;
     turn->seat_count = 0;
     wait_for_lines(host, turn);
@@ -143,12 +159,15 @@ static void wait_for(struct host *host, struct turn *turn, int64_t next)
         wait_for_seat(turn, host->seats[i], now);
     for (unsigned i = 0; i < host->leaving_count; i++)
         wait_for_seat(turn, host->leaving[i], now);
+    host->looked = false;
     wait_for_extras(host, turn);
     if (host->news)
         wait_until(turn, host->decides_at);
-    if (host->step > 0)
+    if (host->step > 0 && steps)
         wait_until(turn, host->stepped_at + STEP_EVERY);
     poll_some(turn->files, turn->count, turn->until > now ? (int)(turn->until - now) : 0);
+    if (!steps)
+        host->stepped_at = host_now();
 }
 
 /* Serves each guest once: a client that comes, what its process has sent, and that it has ended. */

@@ -70,6 +70,11 @@ void seat_set_target(struct seat *seat, uint32_t pages)
     tell_target(seat);
 }
 
+bool seat_is_behind(const struct seat *seat)
+{
+    return seat_is_taken(seat) && (seat->told != seat->target || seat->report.target != seat->told);
+}
+
 void seat_step(struct seat *seat, int64_t milliseconds)
 {
     uint32_t left = seat->target - seat->told;

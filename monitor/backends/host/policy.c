@@ -226,6 +226,8 @@ static unsigned tell(const struct guests *guests)
 static void decide(struct host *host)
 {
     static struct guests guests;
+    if (host_awaits(host))
+        return;
     host->news = false;
     collect(host, NULL, &guests);
     if (!host->anew && old_serve(&guests, host)) {

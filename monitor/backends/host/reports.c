@@ -11,6 +11,8 @@ static void answer_wait(struct seat *seat)
     uint32_t wanted = seat->report.wanted;
     if (seat->report.holds && (seat->report.waits == WAIT_RESET || wanted <= host->frames))
         return;
+    if (host_awaits(host))
+        return; /* it reports again */
     uint64_t missing = seat->report.holds ? wanted - host->frames : wanted > seat->pages ? policy_lacks(host, seat, wanted) : 0;
     if (missing > 0) {
         refuse("no room for %u pages: %llu are missing", wanted, (unsigned long long)missing);
@@ -92,6 +94,8 @@ static void take_report(struct seat *seat, const struct lending_message *message
     take_note(seat);
     if (!seat_repeat(seat) && message->waits != WAIT_NOTHING)
         answer_wait(seat);
+    if (seat_moves(seat))
+        seat_look(seat, true);
     loan_follow(seat);
     loans_grant(seat->host);
 }

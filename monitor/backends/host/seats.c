@@ -43,6 +43,8 @@ void seat_clear(struct seat *seat)
     seat->heard = seat->taken = seat->number = seat->answered = seat->lost = 0;
     seat->heard_at = seat->paused_until = seat->asked_at = seat->waits_since = 0;
     seat->serving = 0;
+    seat->still = (struct stillness){0};
+    seat->moved_at = seat->passed_over = 0;
     seat->waits_for = WAITS_FOR_NOTHING;
     seat->wait_answered = seat->held_granted = seat->granted_pages = 0;
     seat->granted = seat->ahead = seat->ahead_until = 0;

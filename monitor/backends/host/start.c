@@ -16,6 +16,9 @@ extern char **environ;
 /* Milliseconds without new clients, once there was no file or no process left for one; between two clients of one guest. */
 enum { REST = 1000, PACE = 20 };
 
+/* Milliseconds in which the guests of an earlier lender tell what they have. */
+enum { TOLD_IN = 5000 };
+
 /* The lowest number of a file that is handed on, so that none is written over as they are put in their places. */
 enum { ABOVE_ALL = 16, FILES_HANDED = 3 };
 
@@ -183,8 +186,17 @@ void seat_take_over(struct seat *seat)
     seat->process_file = pidfd_open(its.pid, 0);
     seat->here = seat->adopts = seat->adopted = true;
     seat->heard_at = host_now();
+    seat->adopts_until = host_now() + TOLD_IN;
     seat->clients++;
     seat_look(seat, false);
+}
+
+bool host_awaits(const struct host *host)
+{
+    for (unsigned i = 0; i < host->count; i++)
+        if (host->seats[i]->adopts && host_now() < host->seats[i]->adopts_until)
+            return true;
+    return false;
 }
 
 /* Says how a process ended that hasn't said itself why. */

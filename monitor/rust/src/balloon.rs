@@ -54,7 +54,7 @@ impl Balloon {
             regions: Vec::new(),
             notice: raw::Notice::default(),
             room: Box::default(),
-            most_chains: raw::MAX_QUEUE_SIZE,
+            most_chains: 256,
             most_pages: u32::MAX,
             keeps_pages: false,
             ballooned: Vec::new(),
@@ -200,9 +200,9 @@ impl Balloon {
         size: u16,
     ) -> Result<(), Refusal> {
         let (state, regions) = self.look_at(memory);
-        let (kind, count) = (kind as u32, regions.len());
+        let (kind, count, at) = (kind as u32, regions.len(), raw::QueuePlace { table, avail, used, size });
         // SAFETY: the pointers are of a `&mut` and of a slice with its length.
-        match unsafe { raw::vb_place_over(state, regions.as_ptr(), count, kind, table, avail, used, size) } {
+        match unsafe { raw::vb_place_over(state, regions.as_ptr(), count, kind, at) } {
             raw::OK => Ok(()),
             code => Err(refusal(code, 0)),
         }

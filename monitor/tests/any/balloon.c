@@ -53,6 +53,7 @@ void call_over(void)
     uint16_t size = (uint16_t)(once_in(2) ? any_number() : 2u << any() % 8);
     uint64_t table = any() % (24 << 20) & ~UINT64_C(15), avail = any() % (24 << 20) & ~UINT64_C(1);
     uint64_t used = any() % (24 << 20) & ~UINT64_C(3);
+    const VbQueuePlace at = { table, avail, used, size };
     settings.memory_end = once_in(2) ? 0 : any_number();
     uint32_t code = vb_new_over(&balloon, settings, regions, count);
     EXPECT(code == reference_new_over(&twin, settings, regions, count));
@@ -63,8 +64,8 @@ void call_over(void)
     EXPECT(code == VB_OK || same_balloon(&balloon, &before));
     balloon.device.status = twin.device.status = before.device.status = once_in(8) ? (uint8_t)any() : 11;
     before = balloon;
-    code = vb_place_over(&balloon, regions, count, kind % 5, table, avail, used, size);
-    EXPECT(code == reference_place_over(&twin, regions, count, kind % 5, table, avail, used, size));
+    code = vb_place_over(&balloon, regions, count, kind % 5, at);
+    EXPECT(code == reference_place_over(&twin, regions, count, kind % 5, at));
     EXPECT(same_balloon(&balloon, &twin));
     EXPECT(code == VB_OK || same_balloon(&balloon, &before));
     answers[code]++;

@@ -17,7 +17,7 @@ bool once_in(uint32_t times) { return any() % times == 0; }
 /* A number at a bound, or any. */
 uint64_t any_number(void)
 {
-    const uint64_t bounds[] = { 0, 1, 2, 3, 4, 8, 15, 16, 255, 256, 257, 4095, 4096, 8192, 65535, 65536, 1ull << 32,
+    const uint64_t bounds[] = { 0, 1, 2, 3, 4, 8, 15, 16, 255, 256, 257, 512, 1023, 1024, 1025, 2048, 4095, 4096, 8192, 65535, 65536, 1ull << 32,
                                 UINT32_MAX, 1ull << 43, (1ull << 44) + 4096, UINT64_MAX };
     uint64_t number = once_in(4) ? any() : bounds[any() % (sizeof bounds / 8)];
     return once_in(4) ? number + any() % 3 - 1 : number;

@@ -90,8 +90,7 @@ uint32_t vb_new_over(VbBalloon *of, VbSettings settings, const VbRegion *places,
 
 uint32_t vb_set_regions(VbBalloon *of, const VbRegion *places, size_t count) { return any_answer(places, count); }
 
-uint32_t vb_place_over(VbBalloon *of, const VbRegion *places, size_t count, uint32_t kind, uint64_t table, uint64_t avail,
-                       uint64_t used, uint16_t size)
+uint32_t vb_place_over(VbBalloon *of, const VbRegion *places, size_t count, uint32_t kind, VbQueuePlace at)
 {
     return any_answer(places, count);
 }

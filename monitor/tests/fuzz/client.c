@@ -146,7 +146,7 @@ static const uint64_t words[][4] = {
 
 /* The second word of a message that names a queue. */
 static const uint32_t states[][4] = {
-    [SET_VRING_NUM] = {8, 256, 3, 257}, [SET_VRING_BASE] = {0, 1, 8, 0x10000}, [GET_VRING_BASE] = {0, 0, 0, 0},
+    [SET_VRING_NUM] = {8, 1024, 3, 1025}, [SET_VRING_BASE] = {0, 1, 8, 0x10000}, [GET_VRING_BASE] = {0, 0, 0, 0},
     [SET_VRING_ENABLE] = {1, 0, 1, 2}, [VRING_KICK] = {0, 0, 0, 0},
 };
 

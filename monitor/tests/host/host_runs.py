@@ -18,6 +18,11 @@ QEMU there are two guests at a time, on a host with 360 MiB. The runs:
     rest      what the targets are once nothing moves, and once a guest has gone
     lives     a guest that is killed while its balloon is filled, and comes back; one that doesn't answer
     anew      guests at work whose processes are killed a hundred times, amid inflates and deflates
+    killed    a strict day on which the lender is killed every 5 seconds
+    reboots   a guest that reboots and panics, beside two at work
+    wants     four guests that all want 150 MiB at once, on a strict host that can't give it
+    cache     three guests that can let go page cache alone
+    rogue-X   a guest that reads all its memory past its driver, beside two at work: within a tmpfs, and within a cgroup
     full      a guest for whom there is no room; a budget that is too small for a while
     trash     clients that break rules, hang in mid-message, or cut their memory off, beside guests at work
 
@@ -36,12 +41,16 @@ from host_anew import anew_run
 from host_checks import (
     REST_LIMIT, WRONG_LIMIT, await_rest, check_excess, check_given, check_spares, eventually, finish, growth, names, pages_moved,
 )
+from host_killed import killed_run
+from host_limits import ROGUE_RUNS
 from host_queues import queues_run
+from host_reboots import reboots_run
 from host_seats import seats_run, spares_run
 from host_small import lines_run, many_run, worked_run
 from host_strict import strict_run
 from host_tenants import files_run, marks_run, tells_run
 from host_trash import ENDED, end_one, hang_one
+from host_wants import cache_run, wants_run
 from linux_guest import PAGES_PER_MIB
 from linux_kit import Fault, demand
 from linux_vmms import vmm_of
@@ -254,7 +263,8 @@ RUNS = {
     "shift-1": functools.partial(shift_run, seed=1), "shift-2": functools.partial(shift_run, seed=2),
     "shift-3": functools.partial(shift_run, seed=3),
     "greedy": greedy_run, "strict": strict_run, "bare": bare_run,
-    "rest": rest_run, "lives": lives_run, "anew": anew_run, "full": full_run, "trash": trash_run,
+    "rest": rest_run, "lives": lives_run, "anew": anew_run, "killed": killed_run, "reboots": reboots_run,
+    "wants": wants_run, "cache": cache_run, **ROGUE_RUNS, "full": full_run, "trash": trash_run,
 }
 
 
@@ -271,9 +281,9 @@ class Bench:
         """Returns the names of `count` guests, and their budget; those of a pair, where the VMM has no more at a time."""
         return (names(count), budget) if count <= self.vmm.most_guests else (names(2), OF_A_PAIR)
 
-    def town(self, budget, options=(), checked=False, uncounted=False):
-        """Returns a host without guests: with the compiler's checks, or one that ends where it counts a guest's whole set."""
+    def town(self, budget, options=(), checked=False, uncounted=False, kind=linux_host.Town):
+        """Returns a host without guests: with the compiler's checks, or one that ends where it counts a guest's whole set; a town of this kind."""
         self.count += 1
         program = self.programs["wrong" if self.wrong else "checked" if checked else "uncounted" if uncounted else "plain"]
         options = ("--step", "0", *options)
-        return linux_host.Town(self.vmm, program, f"{self.folder}/{self.count}", budget, options, {"HOST_WRONG": self.wrong or "0"})
+        return kind(self.vmm, program, f"{self.folder}/{self.count}", budget, options, {"HOST_WRONG": self.wrong or "0"})

@@ -10,8 +10,9 @@ from tenants import process_of
 # KiB that a guest's process may have for itself, and a part of one processor for all.
 MOST_KIB, MOST_SHARE = 1536, 0.02
 
-# Guests, each asked five times a second; and the part of the answers without which the machine is too busy to say what they take.
-GUESTS, ASKED, SECONDS, MOST_ANSWERS = 64, 5, 10, 0.9
+# Guests, each asked once a second as it rests, which it does after two seconds; and the part of the answers without which the machine is too
+# busy to say what they take.
+GUESTS, ASKED, RESTED, SECONDS, MOST_ANSWERS = 64, 1, 4, 10, 0.9
 
 
 def private_kib(process):
@@ -41,7 +42,7 @@ def test_sixty_four_idle_guests(lend):
     lender = lend(64)
     guests = [Talker(lender.add(f"guest-{it}"), lambda: "", 60) for it in range(GUESTS)]
     processes = [process_of(lender, it.name) for it in guests]
-    answer_all(guests, 1)
+    answer_all(guests, RESTED)
     before, begin = [seconds_of(it) for it in (lender.process.pid, *processes)], time.monotonic()
     answered = answer_all(guests, SECONDS)
     took = time.monotonic() - begin

@@ -2,12 +2,16 @@
 
 import os
 import threading
+import time
 
 import pytest
-from tenants import FREE, PAGES, eventually, has_ended, process_of
-from vhost_client import Client
+from tenants import FREE, PAGES, PAGES_OF_ALL, eventually, go_on, has_ended, process_of, stop
+from vhost_client import DEFLATE, Client
 
 QUICK = ("--floor", "0", "--period", "100", "--step", "0")
+
+# Seconds in which the guests of an earlier lender tell what they have, less those that a busy machine takes.
+TOLD_IN = 4
 
 
 def leave(lender):
@@ -100,3 +104,49 @@ def test_a_process_that_ends_while_no_lender_is_there_leaves_its_seat(lend, come
     second.become("a", here=0)
     come(second, "a", {FREE: 50})
     second.become("a", here=1, ready=1)
+
+
+@pytest.fixture
+def stuck(lend, come):
+    """A later lender of a full strict host, one of whose guests can't tell what it has, as its process stands still; and the other guests. Of 256
+    frames a has 68, b, which stands still, 60, and c 128."""
+    first = lend(1, *QUICK, "--strict")
+    a, b = (come(first, it, {FREE: 100}) for it in "ab")
+    a.give(list(range(PAGES, PAGES + 60))), b.give(list(range(PAGES, PAGES + 64)))
+    b.give([PAGES_OF_ALL + it for it in range(20, 24)])
+    come(first, "c", {FREE: 0})
+    assert first.counters()["lent"] == 256
+    process = process_of(first, "b")
+    stop(process)
+    begin = time.monotonic()
+    first.kill()
+    try:
+        yield lend(1, *QUICK, "--strict", folder=first.folder), (a, b), process, begin
+    finally:
+        go_on(process)
+
+
+def test_a_later_lender_lends_nothing_before_all_have_told_what_they_have(stuck):
+    second, (a, b), process, begin = stuck
+    second.become("a", ready=1)
+    a.take(list(range(PAGES, PAGES + 10)))
+    second.become("a", waits="deflate")
+    time.sleep(1)
+    used, passed = a.client.used(DEFLATE)[0], time.monotonic() - begin
+    go_on(process)
+    if passed > TOLD_IN:
+        pytest.skip("the machine is too busy")
+    assert used == 0
+    second.become("b", ready=1, ballooned=68, lent=60)
+    assert (second.guests()["a"]["waits"], second.counters()["lent"]) == ("deflate", 256)
+    b.give([PAGES_OF_ALL + it for it in range(30, 40)])
+    eventually(lambda: a.client.used(DEFLATE)[0] == 1)
+    assert second.counters()["lent"] == 256
+
+
+def test_a_later_lender_waits_for_no_process_for_good(stuck):
+    second, (a, _), _, _ = stuck
+    second.become("a", ready=1)
+    a.take(list(range(PAGES, PAGES + 10)))
+    eventually(lambda: a.client.used(DEFLATE)[0] == 1)
+    second.become("a", waits="nothing", lent=78)

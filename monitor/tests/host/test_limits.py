@@ -10,11 +10,10 @@ import subprocess
 import time
 
 import pytest
+from host_places import CGROUPS, Cgroup, Mount, has_cgroups, run
 from tenants import FREE, eventually, go_on, stop
 from test_strict import GIVEN, STRICT, used, waits_of
 from vhost_client import DEFLATE, PAGE, Client
-
-CGROUPS = "/sys/fs/cgroup/memory"
 
 # Pages of a guest.
 ALL = 128
@@ -22,57 +21,11 @@ ALL = 128
 pytestmark = pytest.mark.skipif(os.geteuid() != 0, reason="mounts and cgroups are for root")
 
 
-def run(*words):
-    """Runs a program that has to succeed."""
-    subprocess.run(words, check=True, stdin=subprocess.DEVNULL, capture_output=True)
-
-
-class Mount:
-    """A tmpfs of its own."""
-
-    def __init__(self, path, mib=1):
-        self.path, self.term = path, f"tmpfs:{path}"
-        os.makedirs(path)
-        self.mount(mib)
-
-    def mount(self, mib=1):
-        """Mounts it."""
-        run("mount", "-t", "tmpfs", "-o", f"size={mib}m,mode=700,nosuid,noexec", "limits", self.path)
-
-    def pages(self):
-        """Returns how many pages it may have."""
-        its = os.statvfs(self.path)
-        return its.f_blocks * its.f_frsize // PAGE
-
-    def end(self):
-        """Unmounts it, if it is mounted."""
-        subprocess.run(["umount", "-l", self.path], stdin=subprocess.DEVNULL, capture_output=True)
-
-
-class Cgroup:
-    """A cgroup of its own, which nobody is in."""
-
-    def __init__(self, name):
-        self.path = f"{CGROUPS}/{name}"
-        self.term = f"cgroup:{self.path}"
-        os.mkdir(self.path)
-
-    def pages(self):
-        """Returns how many pages it may have."""
-        with open(f"{self.path}/memory.limit_in_bytes", encoding="ascii") as its:
-            return int(its.read()) // PAGE
-
-    def end(self):
-        """Removes it."""
-        with contextlib.suppress(FileNotFoundError):
-            os.rmdir(self.path)
-
-
 @pytest.fixture(params=["tmpfs", "cgroup"])
 def limits(request, tmp_path):
     """Makes limits of one kind, which are gone at the end."""
     made = []
-    if request.param == "cgroup" and not os.path.exists(f"{CGROUPS}/memory.limit_in_bytes"):
+    if request.param == "cgroup" and not has_cgroups():
         pytest.skip("this machine has no cgroups of memory of the first version")
 
     def make(name):

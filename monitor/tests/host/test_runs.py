@@ -1,6 +1,7 @@
 """The runs of a host (host_runs.py says which they are), and hosts that are wrong on purpose (tests/mutants/wrong_host.c)."""
 
 import pytest
+from host_killed import hours_run
 from host_runs import RUNS, WRONG_HOSTS, Bench
 from linux_kit import Fault, Missing
 
@@ -23,6 +24,13 @@ def bench(tmp_path_factory, request):
 @pytest.mark.timeout(LIMIT)
 def test_run(bench, run):
     print(RUNS[run](bench))
+
+
+@pytest.mark.hours
+@pytest.mark.timeout(0)
+def test_hours(bench, request):
+    """It ends by itself: each wait in it has a limit."""
+    print(hours_run(bench, request.config.getoption("--hours") * 3600))
 
 
 @pytest.mark.timeout(LIMIT)

@@ -100,6 +100,21 @@ def test_a_deflate_waits_for_its_grant(two):
     assert lender.counters()["grants"] == 3
 
 
+def test_what_was_lent_ahead_stays_for_a_moment(two):
+    """A driver may just take pages that it was told to, and hears meanwhile that it is to take none: they stay lent for half a second, and no
+    longer."""
+    lender, (a, _) = two
+    lender.demand("budget 0")
+    lender.become("a", target=100)
+    a.give(GIVEN[:100])
+    lender.become("a", ballooned=100, lent=28)
+    begin = time.monotonic()
+    lender.demand("budget 1")  # of 256 frames it and the other one have 156: all 100 are lent
+    lender.demand("budget 0")
+    lender.become("a", target=128, lent=28)
+    assert 0.5 <= time.monotonic() - begin < 10
+
+
 def test_a_deflate_waits_until_another_guest_gives(two):
     lender, (a, b) = two
     a.give(GIVEN[:50])

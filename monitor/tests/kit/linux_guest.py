@@ -163,8 +163,14 @@ class Guest:
         raise Fault("the guest's memory file isn't there")
 
     def held_mib(self):
-        """Returns the MiB that its memory file holds on the host."""
-        return os.fstat(self.held).st_blocks / 2048
+        """Returns the MiB that its memory file holds on the host; 0 where it has none yet."""
+        return 0.0 if self.held is None else os.fstat(self.held).st_blocks / 2048
+
+    def let_go(self):
+        """Closes the file of its memory, which lives on while that is open."""
+        if self.held is not None:
+            os.close(self.held)
+            self.held = None
 
     def begin(self, line):
         """Has it start to obey a line."""
@@ -206,9 +212,7 @@ class Guest:
 
     def close(self):
         """Has it power off; kills its processes where it doesn't. Returns whether it powered off itself."""
-        if self.held is not None:
-            os.close(self.held)
-            self.held = None
+        self.let_go()
         try:
             self.begin("exit")
             self.process.wait(10)

@@ -3,16 +3,15 @@ and what the host holds meanwhile."""
 
 import os
 import random
-import signal
 import sys
 import threading
 import time
 from typing import NamedTuple
 
 import linux_kit
-from linux_guest import ANSWER_LIMIT, PAGES_PER_MIB, Backend, Guest
+from linux_guest import ANSWER_LIMIT, PAGES_PER_MIB, Backend
 from linux_kit import Fault
-from linux_vmms import Shape
+from linux_member import Member
 from programs import CHECKS
 
 sys.path.append(os.path.join(linux_kit.ROOT, "client"))
@@ -24,17 +23,14 @@ MIB = 1 << 20
 # Seconds between two looks at what the host holds.
 LOOK_EVERY = 0.05
 
-# MiB that a guest keeps all the time, those that it fills at random and frees, and those that Linux takes of it.
-KEPT, LEAST_FILL, MOST_FILL, LINUX = 10, 20, 160, 56
+# MiB that a guest fills at random and frees, and those that Linux takes of it.
+LEAST_FILL, MOST_FILL, LINUX = 20, 160, 56
 
 # MiB for each guest that the guests leave of the budget, where they use no more than there is.
 LEFT = 15
 
 # Seconds for which a guest keeps what it filled, and for which it rests, at most.
 MOST_KEEP, MOST_REST = 2.5, 1.0
-
-# A guest that fills its memory has to be done some time, however full the host is.
-FILL_LIMIT = 120
 
 
 def pairs(words):
@@ -120,74 +116,6 @@ class Host(Backend):
             said = pairs(words[: words.index("why")]) | dict(zip(("why", "who"), words[words.index("why") + 1 :]))
             found.append((said, {it.split()[0]: pairs(it.split()[1:]) for it in shares}))
         return found
-
-
-class Member:
-    """A guest of a host: Linux with a balloon, and the bytes that it keeps; its memory may be in a folder of its own."""
-
-    def __init__(self, host, vmm, name, memory, terms="", place=None):
-        self.host, self.vmm, self.name, self.memory, self.place = host, vmm, name, memory, place
-        self.socket = host.add(f"{name} {terms}".strip())
-        self.guest, self.sums, self.checked = None, {}, 0
-
-    def boot(self):
-        """Boots it, and has it keep some bytes."""
-        folder = os.path.join(self.host.folder, f"{self.name}.files")
-        os.makedirs(folder, exist_ok=True)
-        self.sums = {}
-        words = self.vmm.words(folder, Shape(self.memory), self.socket)
-        self.guest = Guest(words, self.environment(), (), folder, self.memory)
-        try:
-            self.guest.boot()
-            if not self.host.guests()[self.name]["ready"]:
-                raise Fault("the guest has no balloon")
-        except Fault as fault:
-            raise Fault(f"{self.name}: {fault}; the host said: {self.host.why_of(self.name)}") from None
-        self.fill("keep", KEPT)
-
-    def environment(self):
-        """Returns its process's environment, which says where its memory is."""
-        return self.vmm.environment() | ({"TMPDIR": self.place} if self.place else {})
-
-    def fill(self, name, mib):
-        """Has it fill a file with random bytes, in its memory."""
-        self.guest.do(f"fill {name} {mib}", FILL_LIMIT)
-        self.sums[name] = self.guest.do(f"sums {name}", FILL_LIMIT)
-
-    def drop(self, name):
-        """Has it free a file, whose sum has to be right."""
-        self.check(name)
-        self.guest.do(f"drop {name}")
-        del self.sums[name]
-
-    def check(self, *names):
-        """Demands that files have their sums; all that there are, where none is named."""
-        for name in names or tuple(self.sums):
-            said = self.guest.do(f"sums {name}", FILL_LIMIT)
-            if said != self.sums[name]:
-                raise Fault(f"{self.name}: kept bytes have changed: {said} was {self.sums[name]}")
-            self.checked += 1
-
-    def free_mib(self):
-        """Returns the MiB that it calls free."""
-        return self.guest.memory_mib()[1]
-
-    def killed(self):
-        """Returns what its kernel said of processes that it killed, and of itself."""
-        return self.guest.do("trouble")
-
-    def kill(self):
-        """Ends its processes at once."""
-        os.killpg(self.guest.process.pid, signal.SIGKILL)
-        self.guest.process.wait()
-        self.guest.close()
-        self.guest = None
-
-    def close(self):
-        """Has it power off."""
-        if self.guest:
-            self.guest.close()
-            self.guest = None
 
 
 class Ledger:
@@ -279,7 +207,7 @@ class Town:
 
     def sample(self):
         """Takes a sample."""
-        held = tuple(it.guest.held_mib() if it.guest else 0.0 for it in self.members)
+        held = tuple(it.held_mib() for it in self.members)
         status = self.host.status()
         seen = {it["name"]: it for it in status["guests"]}
         targets, spare, loans = (tuple(seen[it.name][name] / MIB for it in self.members) for name in ("target", "spare", "loan"))
@@ -298,12 +226,12 @@ class Town:
                 line = time.monotonic() + 1
             self.ended.wait(LOOK_EVERY)
 
-    def live(self, seconds, seed, limit=None, every=None):
-        """Lets all guests work for `seconds` seconds, by this seed, and use no more than `limit` MiB together."""
+    def live(self, seconds, seed, limit=None, every=None, workers=None):
+        """Lets all guests, or these, work for `seconds` seconds, by this seed, and use no more than `limit` MiB together."""
         ledger, end = Ledger(limit), time.monotonic() + seconds
         if limit is not None:
             ledger.take(self.used_mib())
-        words = [(it, random.Random(f"{seed} {it.name}"), ledger, end) for it in self.members]
+        words = [(it, random.Random(f"{seed} {it.name}"), ledger, end) for it in workers or self.members]
         threads = [threading.Thread(target=self.work, args=it, daemon=True) for it in words]
         for it in threads:
             it.start()

@@ -24,7 +24,7 @@ VHOST_PARTS = tuple(
 )
 HOST_PARTS = (
     "folder", "input", "journal", "limit", "limit_writer", "limits", "lines", "loans", "loop", "measures", "message", "orders", "policy",
-    "reports", "seats", "start", "upgrade", "view",
+    "reports", "rest", "seats", "start", "upgrade", "view",
 )
 LENT_PARTS = tuple(f"guest/{it}" for it in ("keeper", "kept", "lent", "lent_channel", "marks", "outbox", "sandbox")) + ("host/message",)
 CLIENT_PARTS = {
@@ -59,7 +59,7 @@ WRONG_WRAPPED = {
     "vhost_user_balloon": (
         "event_signal", "ring_end", "message_answer", "message_wants_answer", "message_tell", "memory_remove", "rings_forget",
         "memory_of_user", "statistics_room", "memory_clear", "backend_tell_change", "backend_serve_pending", "slots_forget",
-        "event_take_kick", "backend_start", "stream_fill", "file_number", "fsync",
+        "event_take_kick", "backend_start", "stream_fill", "file_number", "fsync", "vb_start_queue",
     ),
     "vhost_user_host": (
         "vb_guest_targets", "vb_guest_need", "vb_needs_guest_targets", "host_changed",

@@ -23,7 +23,7 @@ MIB = 1 << 20
 DIMM = 128
 
 # The descriptors of the largest queue.
-MOST_DESCRIPTORS = 256
+MOST_DESCRIPTORS = 1024
 
 # MiB of a guest whose memory goes on above 4 GiB, and the part of what is free that goes into its balloon: Linux keeps some of each zone.
 LARGE, MOST = 4096, 0.9
@@ -198,6 +198,7 @@ MACHINE_RUNS = {
     "written": Run(written_run), "pause": Run(pause_run), "dimm": Run(dimm_run, guest={"pluggable": DIMM}),
     # A queue more than has a kind, as Linux 7.2 asks for.
     "plug": Run(plug_run, guest={"queues": 5}),
-    "reset": Run(reset_run), "reboot": Run(reboot_run), "pair": Run(churn_run, guest={"processors": 2, "queue_size": MOST_DESCRIPTORS}),
+    "reset": Run(reset_run), "reboot": Run(reboot_run),
+    "pair": Run(churn_run, guest={"processors": 2, "queues": 5, "queue_size": MOST_DESCRIPTORS}),
     "large": Run(large_run, sizes=(LARGE,)),
 }

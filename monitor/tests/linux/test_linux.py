@@ -16,7 +16,7 @@ Under QEMU also:
     dimm      memory is plugged in, and goes into the balloon
     reset     the machine is reset with pages in the balloon
     reboot    the guest reboots itself with pages in the balloon
-    pair      random targets, with two processors, and queues of 256 descriptors
+    pair      random targets, with two processors, and five queues of 1,024 descriptors
     large     4 GiB, of which the part above the hole below 4 GiB goes into the balloon, too
 
 What is demanded: at each kick, used index and ids are those of what was taken; pages are discarded before their request is used, and

@@ -18,6 +18,7 @@
  *     keeps-kick        the file of a kick that another one follows stays open
  *     long-turn         a notice serves as many pages as its chains name
  *     no-ctrunc         files for which a message had no room aren't missed
+ *     small-rings       a ring of more than 256 entries is refused
  *
  * Two are right, but for their machine:
  *
@@ -144,6 +145,11 @@ WRAPPED(enum stream_state, stream_fill, int socket, void *to, size_t length, siz
     enum stream_state state = __real_stream_fill(socket, to, length, got, files);
     files->lost = files->lost && !is("no-ctrunc");
     return state;
+}
+
+WRAPPED(uint32_t, vb_start_queue, VbBalloon *balloon, const VbRegion *regions, size_t count, uint32_t kind, VbQueueStart at)
+{
+    return is("small-rings") && at.size > 256 ? VB_MISPLACED : __real_vb_start_queue(balloon, regions, count, kind, at);
 }
 
 WRAPPED(int, file_number, int file, const char *name)

@@ -111,7 +111,7 @@ static void starts_are_refused_in_their_order(void)
     is_refused(&guest, VB_STATISTICS, there(VB_STATISTICS, 8, 3), VB_NO_QUEUE);
     is_refused(&guest, VB_REPORT, nowhere, VB_MISPLACED);
     EXPECT(balloon_stop_queue(&guest.balloon, VB_NO_KIND, &next) == VB_NO_QUEUE && next == 0);
-    const uint16_t sizes[] = { 0, 1, 3, 255, 257, 512, 65535 };
+    const uint16_t sizes[] = { 0, 3, 255, 257, 768, 2048, 65535 };
     for (size_t i = 0; i < sizeof sizes / sizeof *sizes; i++)
         is_refused(&guest, VB_INFLATE, there(VB_INFLATE, sizes[i], 3), VB_MISPLACED);
     const uint64_t end = HIGH_ADDRESS + HIGH_MIB * MIB, hole = LOW_MIB * MIB;

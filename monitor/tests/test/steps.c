@@ -187,7 +187,7 @@ static void places_are_refused(void)
     EXPECT(vb_place(&device, VB_NO_KIND, 0, 0, 0, 0) == VB_NO_QUEUE);
     EXPECT(vb_place(&device, VB_STATISTICS, 0x1000, 0x2000, 0x3000, 8) == VB_NO_QUEUE);
     EXPECT(vb_place(&device, VB_REPORT, 0x1000, 0x2000, 0x3000, 8) == VB_NO_QUEUE);
-    const uint16_t sizes[] = { 0, 1, 3, 5, 6, 255, 257, 512, 32768, 65535 };
+    const uint16_t sizes[] = { 0, 3, 5, 6, 255, 257, 768, 1025, 2048, 32768, 65535 };
     for (size_t i = 0; i < sizeof sizes / 2; i++)
         EXPECT(vb_place(&device, VB_INFLATE, 0x1000, 0x2000, 0x3000, sizes[i]) == VB_MISPLACED);
     EXPECT(vb_place(&device, VB_INFLATE, 0x1008, 0x2000, 0x3000, 8) == VB_MISPLACED);

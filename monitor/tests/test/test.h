@@ -26,6 +26,7 @@ int fail_at_700(void *context, const struct balloon_region *region, uint64_t fro
 void test_steps(void);
 void test_settings(void);
 void test_queues(void);
+void test_sizes(void);
 void test_requests(void);
 void test_notices(void);
 void test_discards(void);

@@ -25,6 +25,7 @@ WRONG = {
     "keeps-kick": "test_tenants.py::test_an_old_kick_s_file_is_closed",
     "long-turn": "test_tenants.py::test_a_turn_of_many_pages",
     "no-ctrunc": "test_refuses.py::test_messages",
+    "small-rings": "test_sizes.py::test_a_ring_is_served_whole",
 }
 
 HERE = os.path.dirname(os.path.realpath(__file__))

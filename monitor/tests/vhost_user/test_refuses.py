@@ -91,7 +91,7 @@ def test_features(serve):
 
 
 @pytest.mark.parametrize("words, how", (
-    ("has 257 entries", {"size": 257}),
+    ("answered 6", {"size": 257}),
     ("answered 6", {"size": 6}),
     ("answered 6", {"shift": 8}),
     ("goes on at 9, and its used index is 0", {"base": 9}),

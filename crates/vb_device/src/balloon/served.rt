@@ -11,7 +11,7 @@ ghost use Rattle.vb_virtio.specs.Queues.{has_chains};
 use crate::balloon::{BalloonDevice, note_fault};
 use crate::pace::Pace;
 use crate::queues::index_of;
-use crate::serving::{QueueRegisters, ServesChains};
+use crate::serving::{OpenQueue, QueueRegisters, ServesChains};
 use vb_virtio::Refusal;
 
 impl<P: Pace> BalloonDevice<P> {
@@ -52,8 +52,10 @@ impl<P: Pace> BalloonDevice<P> {
             &mut self.loose,
             &mut self.ballooned,
             &mut self.last,
-            registers,
-            queue,
+            OpenQueue {
+                number: queue,
+                registers,
+            },
         );
         self.queues[index_of(queue)].go_on(served.next_avail, served.next_used, served.held);
         note_fault(&mut self.status, &served.answer);

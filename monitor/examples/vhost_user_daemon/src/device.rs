@@ -122,7 +122,7 @@ impl VhostUserBackendMut for Device {
     }
 
     fn max_queue_size(&self) -> usize {
-        256
+        1024
     }
 
     fn features(&self) -> u64 {

@@ -4,7 +4,7 @@ use Rattle.vb_run.proofs.kept.Kept.is_planned.Goals as goal
 
 pub returns : goal.returns
 returns g c =
-    is_planned c.has_made.result c.args.floor c.args.guest c.args.plan.now c.args.paced
+    is_planned c.has_made.result c.args.of.floor c.args.of.number c.args.plan.now c.args.of.paced
     c.args.rounds.now c.in_ok-expected.expected.items (scripts_in c.self.inside.scripts.items)
     c.self.inside.history.items c.args.self.now (c.is_guest.ensures.0 (search rules))
     (subst (λ (p : Past). AreScripts p.scripts c.args.plan.now.scripts.items) c.self.view_is

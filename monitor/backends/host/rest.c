@@ -1,0 +1,54 @@
+/* Guests at rest: nobody wants anything of them, and what their reports say stays as it is, but for a little. They are asked at a slow pace;
+ * their processes tell by themselves what changes. */
+#include "host.h"
+
+/* Periods in which a guest stays as it is, and rests from then on; periods of which one that rests is asked in one. What changes by more than
+ * this part of its pages counts as a change. */
+enum { RESTS_AFTER = 10, ASKED_ONCE_IN = 5, LITTLE_PART = 256 };
+
+static bool is_near(uint64_t one, uint64_t other, uint64_t most)
+{
+    return (one > other ? one - other : other - one) <= most;
+}
+
+static struct stillness stillness_of(const struct seat *seat)
+{
+    return (struct stillness){.pages = seat->pages, .ballooned = seat->report.ballooned, .held = seat->report.held_kib / (BALLOON_PAGE / 1024),
+                              .available = seat->tells_available ? seat->available : seat->free};
+}
+
+/* Nothing is wanted of it that it hasn't done, and it wants nothing. */
+static bool is_at_peace(const struct seat *seat)
+{
+    const struct lending_message *report = &seat->report;
+    bool obeyed = seat->told == seat->target && report->target == seat->target && report->ballooned == seat->target;
+    bool answered = seat->known && seat->silent == 0 && seat->asked_at == 0;
+    return seat_is_ready(seat) && answered && obeyed && seat->waits_for == WAITS_FOR_NOTHING;
+}
+
+bool seat_rests(const struct seat *seat)
+{
+    return is_at_peace(seat) && host_now() - seat->moved_at >= RESTS_AFTER * seat->host->period;
+}
+
+bool seat_is_due(struct seat *seat)
+{
+    if (seat_rests(seat) && ++seat->passed_over < ASKED_ONCE_IN)
+        return false;
+    seat->passed_over = 0;
+    return true;
+}
+
+bool seat_moves(struct seat *seat)
+{
+    struct stillness now = stillness_of(seat), then = seat->still;
+    uint64_t little = seat->pages / LITTLE_PART;
+    bool stays = now.pages == then.pages && now.ballooned == then.ballooned && is_near(now.held, then.held, little)
+        && is_near(now.available, then.available, little);
+    if (stays)
+        return false;
+    bool rested = seat_rests(seat);
+    seat->still = now;
+    seat->moved_at = host_now();
+    return rested;
+}
