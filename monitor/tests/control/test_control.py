@@ -248,8 +248,9 @@ def test_twenty_clients_of_which_some_never_read_and_one_sends_trash(host, arriv
     for it in mute:
         it.socket.setblocking(False)
     looks, slowest, sent = host.status()["counters"]["looks"], 0.0, 0
-    end = time.monotonic() + 5
-    while time.monotonic() < end:
+    begun = time.monotonic()
+    # On a machine with other work it takes longer until they have left as much unread as they may.
+    while time.monotonic() < begun + 5 or (time.monotonic() < begun + 40 and host.status()["control"]["dropped"] < 6):
         for it in mute:
             try:
                 sent += it.socket.send((say(request="status") + b"\n") * 50)

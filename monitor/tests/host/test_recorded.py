@@ -67,6 +67,20 @@ class Day:
             pair = self.series[metric, guest][look]
             pair[1] = str(int(pair[1]) + difference)
 
+    def looks(self, guest):
+        """Returns the looks before the budget is raised at which a guest waits for what it is granted then."""
+        granted = self.number(GRANTED, guest, self.raised - 1)
+        return [it for it in range(self.raised) if self.number(GRANTED, guest, it) == granted and self.number(ASKED, guest, it) > 0]
+
+    def waited(self, guest):
+        """Returns for how many looks a guest has waited as the budget is raised, and for how many seconds."""
+        return len(self.looks(guest)), self.number(WAITING, guest, self.raised - 1)
+
+    def wait_longer(self, guest):
+        """Has a guest wait a little longer: two may begin to wait in one millisecond."""
+        for pair in (self.series[WAITING, guest][it] for it in self.looks(guest)):
+            pair[1] = repr(float(pair[1]) + 0.05)
+
     def wait(self, guest, looks):
         """Has a guest wait from when the budget is raised on, for this number of looks, as it did until then."""
         for values in (self.series[metric, guest] for metric in LENDING):
@@ -101,12 +115,13 @@ def demand_order(path, library):
     """Demands that a budget which has room for one of two guests that wait is for the one who has waited longest, and for no other."""
     day = Day(path)
     last = day.raised - 1
-    waiting, asked = ({it: day.number(metric, it, last) for it in "ab"} for metric in (WAITING, ASKED))
-    room = sum(int(day.number(LOAN, it, last)) for it in "ab") + int(max(asked.values()))
-    first, second = sorted("ab", key=waiting.get, reverse=True)
+    first, second = sorted("ab", key=day.waited, reverse=True)
+    room = sum(int(day.number(LOAN, it, last)) for it in "ab") + int(max(day.number(ASKED, it, last) for it in "ab"))
+    day.wait_longer(first)
     day.grant(first, room)
     assert apart(library, day.write(path.with_name("first.json"))) == {}
     day = Day(path)
+    day.wait_longer(first)
     day.grant(second, room)
     found = apart(library, day.write(path.with_name("second.json")))
     assert found.keys() == {first, second} and min(found.values()) >= EARLY, found
