@@ -75,7 +75,7 @@ static const struct { unsigned state; size_t at; int bytes; uint64_t value; } IM
     { 7, 58, 1, 13 }, { 7, 58, 1, 14 }, { 7, 58, 1, 31 }, { 7, 58, 1, 47 }, { 5, 58, 1, 75 }, { 5, 58, 1, 0 },
     { 7, RINGS_AT, 8, 0x10008 }, { 7, RINGS_AT + 8, 8, 0x11001 }, { 7, RINGS_AT + 16, 8, 0x12002 },
     { 7, RINGS_AT, 8, 0xfffff0 + (8ull << 20) }, { 7, RINGS_AT, 8, UINT64_MAX - 15 }, { 7, RINGS_AT + 24, 2, 0 },
-    { 7, RINGS_AT + 24, 2, 1 }, { 7, RINGS_AT + 24, 2, 63 }, { 7, RINGS_AT + 24, 2, 512 },
+    { 7, RINGS_AT + 24, 2, 3 }, { 7, RINGS_AT + 24, 2, 63 }, { 7, RINGS_AT + 24, 2, 768 }, { 7, RINGS_AT + 24, 2, 2048 },
     { 7, RINGS_AT + RING_BYTES, 8, 1 }, { 7, RINGS_AT + 2 * RING_BYTES, 8, 1 }, { 7, RINGS_AT + 3 * RING_BYTES, 8, 1 },
     { 2, RINGS_AT + 26, 2, 1 }, { 2, RINGS_AT + 28, 2, 1 }, { 5, 54, 4, 1 }, { 0, RINGS_AT + 26, 2, 1 },
     { 7, 24, 8, 1ull << 32 | 0x27 },            /* poison_val where PAGE_POISON isn't offered */
