@@ -4,7 +4,8 @@
 #include "sandbox.h"
 #include "vhost_user.h"
 
-enum { LOOK_EVERY = 1000, POLL_EVERY = 10 };
+/* Milliseconds between two looks of a process without a lender; between two of a ring that nobody kicks; without anything to do. */
+enum { LOOK_EVERY = 1000, POLL_EVERY = 10, IDLE = 60000 };
 
 /* The hook for the memory that a client hands over: whether the lender has room for it, and a set for its pages. */
 static bool admit(struct backend *backend)
@@ -79,11 +80,13 @@ enum { CHANNEL, LATER, END, CLIENT, KICKS, FILES = KICKS + QUEUES };
 /* How long to wait for something to do, in milliseconds. */
 static int patience(const struct lent *lent)
 {
-    int64_t now = lent_now(), left = lent->look - now;
+    int64_t now = lent_now(), left = lent->notes.channel < 0 ? lent->look - now : IDLE;
     if (lent->backend.pending)
         return 0;
     if (lent->news && lent->report_at - now < left)
         left = lent->report_at - now;
+    if (lent->answers && lent->answers_until - now < left)
+        left = lent->answers_until - now;
     if (rings_polled(&lent->backend) && left > POLL_EVERY)
         left = POLL_EVERY;
     return left < 0 ? 0 : (int)left;
@@ -118,12 +121,9 @@ static int once(void *what)
     kept_save(lent);
     lent->kept->turns++;
     lent_note(lent);
-    if (lent_now() >= lent->look) {
+    if (lent->notes.channel < 0 && lent_now() >= lent->look) {
         lent->look = lent_now() + LOOK_EVERY;
-        if (lent->notes.channel < 0)
-            backend_look(&lent->backend);
-        else
-            lent_watch(lent);
+        backend_look(&lent->backend);
     }
     return 1;
 }
