@@ -6,6 +6,7 @@
 
 #include "../loop/loop.h"
 
+/* Milliseconds between two looks of a process without a lender, and between two of a ring that nobody kicks. */
 enum { LOOK_EVERY = 1000, POLL_EVERY = 10 };
 
 /* The hook for the memory that a client hands over: whether the lender has room for it, and a set for its pages. */
@@ -117,11 +118,14 @@ static void waits(void *context, struct loop *loop)
     loop_wait_for(loop, lent->notes.end, POLLIN, take_signal, lent);
     loop_wait_for(loop, lent->backend.socket, POLLIN, take_message, lent);
     rings_wait(&lent->backend, loop);
-    loop_wait_until(loop, lent->look);
+    if (lent->notes.channel < 0)
+        loop_wait_until(loop, lent->look);
     if (lent->backend.pending)
         loop_wait_until(loop, loop_now());
     if (lent->news)
         loop_wait_until(loop, lent->report_at);
+    if (lent->answers)
+        loop_wait_until(loop, lent->answers_until);
     if (rings_polled(&lent->backend))
         loop_wait_until(loop, loop_now() + POLL_EVERY);
 }
@@ -134,12 +138,9 @@ static int turn(void *context)
     kept_save(lent);
     lent->kept->turns++;
     lent_note(lent);
-    if (loop_now() >= lent->look) {
+    if (lent->notes.channel < 0 && loop_now() >= lent->look) {
         lent->look = loop_now() + LOOK_EVERY;
-        if (lent->notes.channel < 0)
-            backend_look(&lent->backend);
-        else
-            lent_watch(lent);
+        backend_look(&lent->backend);
     }
     return lent->ends_anew ? LOOP_ENDS : LOOP_GOES_ON;
 }

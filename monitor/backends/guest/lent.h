@@ -12,7 +12,8 @@ struct lent {
     uint64_t messages, bytes;   /* of its client that were served */
     int64_t look;               /* when it looks after itself the next time, in milliseconds */
     int64_t report_at;          /* news aren't told before this */
-    uint64_t held_told;         /* what the memory's files held as the last report said, in KiB */
+    uint64_t answers;           /* the order whose report waits for the guest's statistics, and until when; 0: none */
+    int64_t answers_until;
     bool news;                  /* something has changed since the last report */
     bool leaves;                /* the lender has said so */
     bool ends_anew;             /* another process is to go on */
@@ -34,11 +35,8 @@ int lent_run(const struct options *options, struct kept *kept);
 /* Reports at once; `number` is that of the order which asks for it. */
 void lent_report(struct lent *lent, uint64_t number, bool asked);
 
-/* Notes what was served since the last time, and reports news where it is time. */
+/* Notes what was served since the last time, and reports news, or to a question, where it is time. */
 void lent_note(struct lent *lent);
-
-/* Looks at what the memory's files hold, and reports where that isn't what was told, but for a little. */
-void lent_watch(struct lent *lent);
 
 /* Obeys what the lender has sent; false where the client can't be served any longer. */
 bool lent_obey(struct lent *lent);

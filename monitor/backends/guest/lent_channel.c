@@ -6,9 +6,9 @@
 #include <sys/socket.h>
 #include <unistd.h>
 
-/* Milliseconds between two reports that nobody asked for, of a turn in which the lender is waited for, and between two looks at what the memory's
- * files hold, which are news where they have changed by more than this part; orders that are obeyed in one turn. */
-enum { NEWS_EVERY = 10, AWAIT_EVERY = 1000, WATCH_EVERY = 500, LITTLE_PART = 256, ORDERS = 16 };
+/* Milliseconds between two reports that nobody asked for; those in which a report waits for the statistics for which the guest was asked with
+ * it; of a turn in which the lender is waited for; orders that are obeyed in one turn. */
+enum { NEWS_EVERY = 10, ANSWERS_IN = 100, AWAIT_EVERY = 1000, ORDERS = 16 };
 
 /* Whose words go to the lender. */
 static struct lent *speaks;
@@ -53,21 +53,18 @@ void lent_report(struct lent *lent, uint64_t number, bool asked)
         kept_save(lent);
     send_to_lender(lent, &message);
     lent->news = false;
-    lent->held_told = message.held_kib;
     if (number == 0)
         lent->report_at = loop_now() + NEWS_EVERY;
-    if (lent->notes.channel >= 0)
-        lent->look = loop_now() + WATCH_EVERY;
 }
 
-void lent_watch(struct lent *lent)
+/* Reports to the question whose report has waited, if there is one; whether there was. */
+static bool answer_question(struct lent *lent)
 {
-    uint64_t held = memory_held(&lent->backend.memory), told = lent->held_told;
-    uint64_t change = held > told ? held - told : told - held;
-    if (change * LITTLE_PART * 1024 > (uint64_t)lent->notes.pages * BALLOON_PAGE)
-        lent_report(lent, 0, false);
-    else
-        lent->look = loop_now() + WATCH_EVERY;
+    uint64_t number = lent->answers;
+    lent->answers = 0;
+    if (number != 0)
+        lent_report(lent, number, true);
+    return number != 0;
 }
 
 void lent_note(struct lent *lent)
@@ -91,6 +88,8 @@ void lent_note(struct lent *lent)
     lent->notes.heard = counters->statistics;
     lent->notes.taken = counters->taken;
     lent->notes.ready_then = ready;
+    if ((heard || loop_now() >= lent->answers_until) && answer_question(lent))
+        return;
     if (lent->news && loop_now() >= lent->report_at)
         lent_report(lent, 0, false);
 }
@@ -159,15 +158,26 @@ static bool give(struct lent *lent, const struct lending_message *order)
     return lent_give(lent);
 }
 
+/* Reports to the lender; where the guest could be asked, once it has answered, or hasn't for a while. */
+static bool look(struct lent *lent, const struct lending_message *order)
+{
+    int asked = order->asks ? ask(lent) : 0;
+    answer_question(lent);
+    if (asked > 0) {
+        lent->answers = order->number;
+        lent->answers_until = loop_now() + ANSWERS_IN;
+    } else {
+        lent_report(lent, order->number, false);
+    }
+    return asked >= 0;
+}
+
 /* Obeys one order; false where the client can't be served any longer. */
 static bool obey(struct lent *lent, const struct lending_message *order)
 {
-    int asked = 0;
     switch (order->kind) {
     case ORDER_LOOK:
-        asked = order->asks ? ask(lent) : 0;
-        lent_report(lent, order->number, asked > 0);
-        return asked >= 0;
+        return look(lent, order);
     case ORDER_REMIND:
         remind(lent);
         return true;
@@ -220,6 +230,7 @@ void lent_take_lender(struct lent *lent)
     if (lent->notes.channel >= 0)
         file_close(lent->notes.channel);
     lent->notes.channel = channel;
+    lent->answers = 0; /* the order was the former one's */
     lent_report(lent, 0, false);
 }
 

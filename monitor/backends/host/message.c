@@ -31,7 +31,8 @@ bool lending_names_senders(int channel)
     return !setsockopt(channel, SOL_SOCKET, SO_PASSCRED, &(int){1}, sizeof(int));
 }
 
-/* There is room for the sender's number alone: a file that came beside would be dropped by the kernel. */
+/* There is room for the sender's number alone: a file that came beside would be dropped by the kernel. What comes beside a message of such a
+ * socket is of SOL_SOCKET. */
 int lending_read_from(int channel, struct lending_message *message, pid_t *sender)
 {
     union {
@@ -43,7 +44,7 @@ int lending_read_from(int channel, struct lending_message *message, pid_t *sende
     int got = take(recvmsg(channel, &header, MSG_DONTWAIT | MSG_TRUNC), message);
     const struct cmsghdr *its = got > 0 ? CMSG_FIRSTHDR(&header) : NULL;
     struct ucred credentials = {0};
-    if (its && its->cmsg_level == SOL_SOCKET && its->cmsg_type == SCM_CREDENTIALS)
+    if (its && its->cmsg_type == SCM_CREDENTIALS)
         memcpy(&credentials, CMSG_DATA(its), sizeof credentials);
     *sender = credentials.pid;
     return got;

@@ -1,5 +1,5 @@
 /* Guests at rest: nobody wants anything of them, and what their reports say stays as it is, but for a little. They are asked at a slow pace;
- * their processes tell by themselves what changes. */
+ * their processes tell by themselves what they do. */
 #include "host.h"
 
 /* Periods in which a guest stays as it is, and rests from then on; periods of which one that rests is asked in one. What changes by more than

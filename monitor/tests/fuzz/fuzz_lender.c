@@ -9,7 +9,7 @@
 #include <sys/socket.h>
 #include <unistd.h>
 
-enum { SEATS = 3, FRAMES = 512, PERIOD = 200, MOST_READ = 8, STEP_MS = 50 };
+enum { SEATS = 3, FRAMES = 512, PERIOD = 200, MOST_READ = 8, STEP_MS = 50, TELLS_IN = 500 };
 
 struct script script;
 
@@ -44,12 +44,13 @@ static void process_begins(unsigned number, bool adopted)
     int ends[2];
     if (seat->here)
         return;
-    demand(!socketpair(AF_UNIX, SOCK_SEQPACKET | SOCK_CLOEXEC | SOCK_NONBLOCK, 0, ends));
+    demand(!socketpair(AF_UNIX, SOCK_SEQPACKET | SOCK_CLOEXEC | SOCK_NONBLOCK, 0, ends) && lending_names_senders(ends[0]));
     seat_clear(seat);
     seat->channel = ends[0];
     processes[number] = ends[1];
     seat->here = true;
     seat->adopts = seat->adopted = adopted;
+    seat->adopts_until = loop_now() + TELLS_IN;
     reports[number] = (struct lending_message){.kind = TELL_REPORT, .holds = seat->terms.strict};
 }
 
@@ -135,10 +136,17 @@ static void operator_says(void)
 
 static void look(unsigned number)
 {
-    seat_look(host.seats[number], true);
-    host.seats[number]->silent += next_byte() % 2;
-    seat_step(host.seats[number], STEP_MS);
-    seat_remind(host.seats[number]);
+    struct seat *seat = host.seats[number];
+    unsigned seconds = next_byte();
+    now.tv_sec += seconds > 240 ? seconds - 240 : 0;
+    if (seat_is_due(seat)) {
+        seat_look(seat, true);
+        seat->silent += seconds % 2;
+    }
+    demand(!seat_is_taken(seat) || seat_is_behind(seat) || seat->target == seat->told);
+    seat_step(seat, STEP_MS);
+    if (!seat_rests(seat))
+        seat_remind(seat);
 }
 
 /* What a turn of the lender's does. */

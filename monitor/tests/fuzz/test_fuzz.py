@@ -26,7 +26,7 @@ FUZZERS = {
     ),
     "lender": (
         ("fuzz_lender.c",), (*linux_kit.COMMON_PARTS, *(f"host/{it}" for it in linux_kit.HOST_PARTS)), ("clock_gettime",), (),
-        ("host/reports", "host/message", "host/orders", "host/policy"),
+        ("host/reports", "host/message", "host/orders", "host/policy", "host/rest"),
     ),
 }
 

@@ -164,7 +164,7 @@ def longest_path(bench):
     with tempfile.TemporaryDirectory() as folder:
         deep = os.path.join(folder, (99 - len(folder)) * "x")
         os.mkdir(deep)
-        words = [bench.programs["checked"], deep, "--budget", "5", "--control", f"{folder}/.control"]
+        words = [bench.programs["checked"], deep, "--budget", "5", "--control", f"{folder}/.control", "--status", f"{folder}/.status"]
         ran = subprocess.run(words, input="add fives\nadd sixsix\nquit\n", capture_output=True,
                              text=True, timeout=LIMIT)
     said = f"ready\nlistening {deep}/fives\nerror: sixsix: File name too long\n"

@@ -149,4 +149,4 @@ def test_a_later_lender_waits_for_no_process_for_good(stuck):
     second.become("a", ready=1)
     a.take(list(range(PAGES, PAGES + 10)))
     eventually(lambda: a.client.used(DEFLATE)[0] == 1)
-    second.become("a", waits="nothing", lent=78)
+    second.become("a", waits="nothing")

@@ -1,0 +1,73 @@
+"""Guests at rest: they are asked in one period of five, and nothing is missed by that."""
+
+import time
+
+import pytest
+from tenants import FREE, PAGES, go_on, process_of, stop
+
+# Seconds of a period, those in which a guest that does nothing has come to rest, and those of a look at one that rests.
+PERIOD, RESTED, LOOK = 0.05, 1.5, 4
+
+
+@pytest.fixture
+def resting(lend, come):
+    """A lender, and a guest that has come to rest."""
+    lender = lend(5, "--floor", "0", "--step", "0", "--period", str(int(PERIOD * 1000)))
+    guest = come(lender, "a", {FREE: 60})
+    time.sleep(RESTED)
+    return lender, guest
+
+
+def test_a_guest_at_rest_is_asked_in_one_period_of_five(resting):
+    lender, _ = resting
+    before, begin = lender.guests()["a"]["statistics"], time.monotonic()
+    time.sleep(LOOK)
+    asked, most = lender.guests()["a"]["statistics"] - before, (time.monotonic() - begin) / PERIOD / 5 + 2
+    assert 0 < asked <= most, f"{asked} times in {LOOK} s, and {most:.0f} are most"
+
+
+def test_what_changes_of_a_guest_at_rest_is_heard(resting):
+    lender, guest = resting
+    guest.figures[FREE] = 30
+    lender.become("a", free=30, spare=30)
+    time.sleep(RESTED)
+    lender.demand("a target 10")
+    guest.give(list(range(PAGES, PAGES + 10)))
+    lender.become("a", ballooned=10)
+    time.sleep(RESTED)
+    guest.take(list(range(PAGES, PAGES + 4)))
+    lender.become("a", ballooned=6, taken=4)
+
+
+def test_a_guest_at_rest_that_falls_silent_is_told_from_its_process(resting, come):
+    lender, guest = resting
+    come(lender, "b", {FREE: 60})
+    time.sleep(RESTED)
+    guest.answers, process = False, process_of(lender, "b")
+    stop(process)
+    try:
+        lender.become("a", answers=0, reports=1)
+        lender.become("b", reports=0)
+    finally:
+        go_on(process)
+    guest.answers = True
+    guest.tell()
+    lender.become("a", answers=1), lender.become("b", answers=1, reports=1)
+
+
+def follows(lender, budget, target):
+    """Sets a budget; returns the seconds until the guest's process has told that it has heard its new target."""
+    begin = time.monotonic()
+    lender.demand(f"budget {budget}")
+    lender.become("a", asked=target, target=target)
+    return time.monotonic() - begin
+
+
+def test_budgets_are_followed_at_once_by_a_guest_at_rest(resting):
+    lender, _ = resting
+    took = []
+    for _ in range(5):
+        took.append(follows(lender, 0, 60))
+        took.append(follows(lender, 5, 0))
+        time.sleep(RESTED)
+    assert min(took) < 0.3, took
