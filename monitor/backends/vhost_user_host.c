@@ -139,13 +139,13 @@ static bool can_offer(uint64_t features)
 /* Ends all guests' processes, which have a moment for it. */
 static void end_all(struct host *host)
 {
-    int64_t end = host_now() + LEAVES_IN;
+    int64_t end = loop_now() + LEAVES_IN;
     while (host->count > 0 && !seat_remove(host, host->seats[0]))
         continue;
     for (unsigned i = 0; i < host->leaving_count; i++) {
         struct seat *seat = host->leaving[i];
         struct pollfd its = {seat->process_file >= 0 ? seat->process_file : seat->channel, POLLIN, 0};
-        int64_t left = end - host_now();
+        int64_t left = end - loop_now();
         if (seat->process_file < 0 || poll(&its, 1, left > 0 ? (int)left : 0) > 0)
             continue;
         complain("%s doesn't end, and is killed", seat->name);
@@ -185,11 +185,11 @@ int main(int count, char **words)
         return 2;
     fputs("ready\n", host.answers.out);
     answers_send(&host.answers);
-    int status = host_run(&host);
+    host_run(&host);
     if (host.upgrades)
         return become(&host, &service, words);
     service_end(&service);
     if (!host.leaves)
         end_all(&host);
-    return status;
+    return 0;
 }

@@ -1,11 +1,7 @@
 /* What wakes a ring: its kick, or the time. */
 #include "backend.h"
 
-void rings_wait(const struct backend *backend, struct pollfd files[QUEUES])
-{
-    for (unsigned number = 0; number < QUEUES; number++)
-        files[number] = (struct pollfd){ring_runs(backend, number) ? backend->rings[number].kick.file : -1, POLLIN, 0};
-}
+#include "../loop/loop.h"
 
 /* Takes a kick, and serves its queue. */
 static bool take_kick(struct backend *backend, unsigned number)
@@ -20,12 +16,21 @@ static bool take_kick(struct backend *backend, unsigned number)
     return backend_serve(backend, number);
 }
 
-bool rings_kicked(struct backend *backend, const struct pollfd files[QUEUES])
+/* Serves the queue whose kick has come, unless it has another kick by now, or the process is to end. */
+static int kicked(void *context, int file)
+{
+    struct backend *backend = context;
+    for (unsigned number = 0; number < QUEUES && !backend->ended; number++)
+        if (backend->rings[number].kick.file == file && !take_kick(backend, number))
+            return LOOP_FAULT;
+    return LOOP_GOES_ON;
+}
+
+void rings_wait(struct backend *backend, struct loop *loop)
 {
     for (unsigned number = 0; number < QUEUES; number++)
-        if (files[number].revents && files[number].fd == backend->rings[number].kick.file && !take_kick(backend, number))
-            return false;
-    return true;
+        if (ring_runs(backend, number))
+            loop_wait_for(loop, backend->rings[number].kick.file, POLLIN, kicked, backend);
 }
 
 bool rings_polled(const struct backend *backend)

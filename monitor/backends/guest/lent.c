@@ -4,8 +4,10 @@
 #include "sandbox.h"
 #include "vhost_user.h"
 
-/* Milliseconds between two looks of a process without a lender; between two of a ring that nobody kicks; without anything to do. */
-enum { LOOK_EVERY = 1000, POLL_EVERY = 10, IDLE = 60000 };
+#include "../loop/loop.h"
+
+/* Milliseconds between two looks of a process without a lender, and between two of a ring that nobody kicks. */
+enum { LOOK_EVERY = 1000, POLL_EVERY = 10 };
 
 /* The hook for the memory that a client hands over: whether the lender has room for it, and a set for its pages. */
 static bool admit(struct backend *backend)
@@ -75,57 +77,72 @@ static int serve_client(struct lent *lent)
     return backend->gone ? 0 : -1;
 }
 
-enum { CHANNEL, LATER, END, CLIENT, KICKS, FILES = KICKS + QUEUES };
-
-/* How long to wait for something to do, in milliseconds. */
-static int patience(const struct lent *lent)
+static int take_lender(void *context, int file)
 {
-    int64_t now = lent_now(), left = lent->notes.channel < 0 ? lent->look - now : IDLE;
+    (void)file;
+    lent_take_lender(context);
+    return LOOP_GOES_ON;
+}
+
+/* What the lender says comes first: it was said before the kicks that come with it. */
+static int obey_lender(void *context, int file)
+{
+    struct lent *lent = context;
+    (void)file;
+    if (!lent_obey(lent))
+        return LOOP_FAULT;
+    return lent->leaves || lent->ends_anew ? LOOP_ENDS : LOOP_GOES_ON;
+}
+
+static int take_signal(void *context, int file)
+{
+    (void)context, (void)file;
+    return LOOP_ENDS;
+}
+
+static int take_message(void *context, int file)
+{
+    struct lent *lent = context;
+    int served = serve_client(lent);
+    (void)file;
+    if (served < 0)
+        return LOOP_FAULT;
+    return served == 0 || lent->leaves ? LOOP_ENDS : LOOP_GOES_ON;
+}
+
+static void waits(void *context, struct loop *loop)
+{
+    struct lent *lent = context;
+    loop_wait_for(loop, lent->notes.later, POLLIN, take_lender, lent);
+    loop_wait_for(loop, lent->notes.channel, POLLIN, obey_lender, lent);
+    loop_wait_for(loop, lent->notes.end, POLLIN, take_signal, lent);
+    loop_wait_for(loop, lent->backend.socket, POLLIN, take_message, lent);
+    rings_wait(&lent->backend, loop);
+    if (lent->notes.channel < 0)
+        loop_wait_until(loop, lent->look);
     if (lent->backend.pending)
-        return 0;
-    if (lent->news && lent->report_at - now < left)
-        left = lent->report_at - now;
-    if (lent->answers && lent->answers_until - now < left)
-        left = lent->answers_until - now;
-    if (rings_polled(&lent->backend) && left > POLL_EVERY)
-        left = POLL_EVERY;
-    return left < 0 ? 0 : (int)left;
+        loop_wait_until(loop, loop_now());
+    if (lent->news)
+        loop_wait_until(loop, lent->report_at);
+    if (lent->answers)
+        loop_wait_until(loop, lent->answers_until);
+    if (rings_polled(&lent->backend))
+        loop_wait_until(loop, loop_now() + POLL_EVERY);
 }
 
-/* Serves what has come. The lender comes first: what it says was said before the kicks that come with it. */
-static int serve(struct lent *lent, const struct pollfd files[FILES])
+static int turn(void *context)
 {
-    struct backend *backend = &lent->backend;
-    if (files[LATER].revents)
-        lent_take_lender(lent);
-    if (files[CHANNEL].revents && !lent_obey(lent))
-        return -1;
-    if (files[END].revents || lent->leaves || lent->ends_anew)
-        return 0;
-    int served = files[CLIENT].revents ? serve_client(lent) : 1;
-    if (served <= 0 || lent->leaves)
-        return served < 0 ? -1 : 0;
-    return rings_kicked(backend, files + KICKS) && rings_look(backend) && backend_serve_pending(backend) ? 1 : -1;
-}
-
-static int once(void *what)
-{
-    struct lent *lent = what;
-    struct pollfd files[FILES] = {[CHANNEL] = {lent->notes.channel, POLLIN, 0}, [LATER] = {lent->notes.later, POLLIN, 0},
-                                  [END] = {lent->notes.end, POLLIN, 0}, [CLIENT] = {lent->backend.socket, POLLIN, 0}};
-    rings_wait(&lent->backend, files + KICKS);
-    poll_some(files, FILES, patience(lent));
-    int served = serve(lent, files);
-    if (served <= 0)
-        return served;
+    struct lent *lent = context;
+    if (!rings_look(&lent->backend) || !backend_serve_pending(&lent->backend))
+        return LOOP_FAULT;
     kept_save(lent);
     lent->kept->turns++;
     lent_note(lent);
-    if (lent->notes.channel < 0 && lent_now() >= lent->look) {
-        lent->look = lent_now() + LOOK_EVERY;
+    if (lent->notes.channel < 0 && loop_now() >= lent->look) {
+        lent->look = loop_now() + LOOK_EVERY;
         backend_look(&lent->backend);
     }
-    return 1;
+    return lent->ends_anew ? LOOP_ENDS : LOOP_GOES_ON;
 }
 
 static void set_hooks(struct lent *lent)
@@ -195,7 +212,7 @@ static bool begin(struct lent *lent, const struct options *options, struct kept 
     if (!backend_start(&lent->backend, options))
         return false;
     lent->notes.channel = notes->channel;
-    lent->look = lent_now() + LOOK_EVERY;
+    lent->look = loop_now() + LOOK_EVERY;
     set_hooks(lent);
     if (kept->ended_by > 0)
         complain("its process has ended by signal %u: another one goes on", kept->ended_by);
@@ -220,11 +237,12 @@ static void end(struct lent *lent)
 int lent_run(const struct options *options, struct kept *kept)
 {
     static struct lent lent;
+    static struct loop loop;
     int served = begin(&lent, options, kept) ? guard(go_on, &lent) : -1;
-    if (lent.backend.socket < 0)
+    if (lent.backend.socket < 0 || !loop_add(&loop, (struct loop_part){&lent, waits, turn}))
         served = -1;
-    while (served > 0)
-        served = guard(once, &lent);
+    if (served > 0)
+        served = loop_run(&loop, guard);
     if (served == 0 && lent.ends_anew)
         return ENDS_ANEW;
     end(&lent);

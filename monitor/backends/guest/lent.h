@@ -57,7 +57,4 @@ bool lent_give(struct lent *lent);
 /* Words go to the lender from now on. */
 void lent_speaks(struct lent *lent);
 
-/* The monotonic clock, in milliseconds. */
-int64_t lent_now(void);
-
 #endif

@@ -1,21 +1,14 @@
 /* What a guest's process says to the lender, and how it obeys. */
 #include "lent.h"
 
-#include <poll.h>
+#include "../loop/loop.h"
+
 #include <sys/socket.h>
-#include <time.h>
 #include <unistd.h>
 
 /* Milliseconds between two reports that nobody asked for; those in which a report waits for the statistics for which the guest was asked with
- * it; orders that are obeyed in one turn. */
-enum { NEWS_EVERY = 10, ANSWERS_IN = 100, ORDERS = 16 };
-
-int64_t lent_now(void)
-{
-    struct timespec time;
-    clock_gettime(CLOCK_MONOTONIC, &time);
-    return time.tv_sec * INT64_C(1000) + time.tv_nsec / 1000000;
-}
+ * it; of a turn in which the lender is waited for; orders that are obeyed in one turn. */
+enum { NEWS_EVERY = 10, ANSWERS_IN = 100, AWAIT_EVERY = 1000, ORDERS = 16 };
 
 /* Whose words go to the lender. */
 static struct lent *speaks;
@@ -61,7 +54,7 @@ void lent_report(struct lent *lent, uint64_t number, bool asked)
     send_to_lender(lent, &message);
     lent->news = false;
     if (number == 0)
-        lent->report_at = lent_now() + NEWS_EVERY;
+        lent->report_at = loop_now() + NEWS_EVERY;
 }
 
 /* Reports to the question whose report has waited, if there is one; whether there was. */
@@ -95,9 +88,9 @@ void lent_note(struct lent *lent)
     lent->notes.heard = counters->statistics;
     lent->notes.taken = counters->taken;
     lent->notes.ready_then = ready;
-    if ((heard || lent_now() >= lent->answers_until) && answer_question(lent))
+    if ((heard || loop_now() >= lent->answers_until) && answer_question(lent))
         return;
-    if (lent->news && lent_now() >= lent->report_at)
+    if (lent->news && loop_now() >= lent->report_at)
         lent_report(lent, 0, false);
 }
 
@@ -172,7 +165,7 @@ static bool look(struct lent *lent, const struct lending_message *order)
     answer_question(lent);
     if (asked > 0) {
         lent->answers = order->number;
-        lent->answers_until = lent_now() + ANSWERS_IN;
+        lent->answers_until = loop_now() + ANSWERS_IN;
     } else {
         lent_report(lent, order->number, false);
     }
@@ -241,33 +234,69 @@ void lent_take_lender(struct lent *lent)
     lent_report(lent, 0, false);
 }
 
-/* Waits for a moment for the lender, or until the client goes; false where it has. */
-static bool wait_once(struct lent *lent)
+static int take_lender(void *context, int file)
 {
-    enum { CLIENT, CHANNEL, LATER, END, FILES };
-    struct pollfd files[FILES] = {[CLIENT] = {lent->backend.socket, POLLRDHUP, 0}, [CHANNEL] = {lent->notes.channel, POLLIN, 0},
-                                  [LATER] = {lent->notes.later, POLLIN, 0}, [END] = {lent->notes.end, POLLIN, 0}};
-    poll_some(files, FILES, NEWS_EVERY * 100);
-    if (files[LATER].revents)
-        lent_take_lender(lent);
-    if (files[CHANNEL].revents)
-        lent_obey(lent);
-    lent->leaves |= files[END].revents != 0;
-    lent->backend.gone |= files[CLIENT].revents != 0;
+    (void)file;
+    lent_take_lender(context);
+    return LOOP_GOES_ON;
+}
+
+static int obey_lender(void *context, int file)
+{
+    (void)file;
+    lent_obey(context);
+    return LOOP_GOES_ON;
+}
+
+static int take_signal(void *context, int file)
+{
+    struct lent *lent = context;
+    (void)file;
+    lent->leaves = true;
+    return LOOP_GOES_ON;
+}
+
+static int take_end_of_client(void *context, int file)
+{
+    struct lent *lent = context;
+    (void)file;
+    lent->backend.gone = true;
+    return LOOP_GOES_ON;
+}
+
+/* What is waited for until the lender has answered. */
+static void waits(void *context, struct loop *loop)
+{
+    struct lent *lent = context;
+    loop_wait_for(loop, lent->notes.later, POLLIN, take_lender, lent);
+    loop_wait_for(loop, lent->notes.channel, POLLIN, obey_lender, lent);
+    loop_wait_for(loop, lent->notes.end, POLLIN, take_signal, lent);
+    loop_wait_for(loop, lent->backend.socket, POLLRDHUP, take_end_of_client, lent);
+    loop_wait_until(loop, loop_now() + AWAIT_EVERY);
+}
+
+static int turn(void *context)
+{
+    struct lent *lent = context;
     lent->backend.gone |= lent->leaves;
-    return !lent->backend.gone;
+    if (lent->backend.gone || lent->answered != 0)
+        return LOOP_ENDS;
+    if (loop_now() >= lent->report_at)
+        lent_report(lent, 0, false);
+    return LOOP_GOES_ON;
 }
 
 bool lent_await(struct lent *lent, enum lending_wait what, uint32_t pages)
 {
+    static struct loop loop;
     lent->waits = what;
     lent->wanted = pages;
     lent->notes.wait++;
     lent->answered = 0;
     lent_report(lent, 0, false);
-    while (lent->answered == 0 && wait_once(lent))
-        if (lent->answered == 0 && lent_now() >= lent->report_at)
-            lent_report(lent, 0, false);
+    loop.part_count = 0;
+    loop_add(&loop, (struct loop_part){lent, waits, turn});
+    loop_run(&loop, NULL);
     lent->waits = WAIT_NOTHING;
     lent->news = true;
     return lent->answered > 0;

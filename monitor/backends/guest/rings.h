@@ -77,9 +77,9 @@ bool rings_regain(struct backend *backend, const struct told *told, const struct
 /* The end of a driver's life without another one that goes on: nothing is in the balloon any longer. */
 bool rings_reset(struct backend *backend);
 
-/* The files of kicks to wait for, one of each queue; and serves the queues whose kick has come. */
-void rings_wait(const struct backend *backend, struct pollfd files[QUEUES]);
-bool rings_kicked(struct backend *backend, const struct pollfd files[QUEUES]);
+/* Has a loop wait for the kicks of the queues that run, each of which is served when it has come. */
+struct loop;
+void rings_wait(struct backend *backend, struct loop *loop);
 
 /* Whether a ring is looked at now and then; and looks. */
 bool rings_polled(const struct backend *backend);

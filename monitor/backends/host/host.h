@@ -4,13 +4,13 @@
 #define HOST_H
 #include "message.h"
 
-#include "extra.h"
 #include "journal.h"
 #include "vb_lending.h"
 #include "view.h"
 
 #include "../guest/process.h"
 #include "../guest/say.h"
+#include "../loop/loop.h"
 
 #include <stdio.h>
 
@@ -136,7 +136,7 @@ struct host {
     int64_t refills_at;         /* when messages are read again of processes that have sent too many */
     int64_t decides_at;         /* what guests do isn't decided on before this */
     int64_t stepped_at;         /* when targets were last let grow */
-    bool looked;                /* this turn is the first one after a look */
+    bool looked, steps;         /* this turn is the first one after a look; as it began, a guest wasn't asked yet for what was decided */
     int end;                    /* has something to read once a signal tells the host to end */
     bool upgrades;              /* it is to become the program that is there now */
     bool leaves;                /* it ends alone, and guests' processes live on */
@@ -151,15 +151,17 @@ struct host {
     struct input input;
     struct answers answers;
     struct question question;
-    struct host_extra extras[MOST_EXTRAS];
-    unsigned extra_count;
+    struct loop loop;
+    struct loop_part service;   /* what is between the guests' turn and that of lines; zeros: nothing */
+    int64_t looks_at;           /* when the next look is, or the reminder between two */
+    bool reminds, ends;         /* it is the reminder; a signal has told the host to end */
 };
 
 /* The guests, the budget or the floor have changed: targets are decided anew at the next look. */
 void host_changed(struct host *host, enum reason reason);
 
-/* Serves until a line or a signal says to quit or to leave; returns the program's status. */
-int host_run(struct host *host);
+/* Serves until a line or a signal says to quit or to leave. */
+void host_run(struct host *host);
 
 /* ---- folder.c */
 
@@ -275,7 +277,7 @@ void policy_sees_taken(struct seat *seat);
 /* By how many frames a guest of `pages` pages, which gives none at first, finds too few; 0 where there are enough. */
 uint64_t policy_lacks(struct host *host, const struct seat *newcomer, uint32_t pages);
 
-/* Sets targets where those that there are no longer serve. */
+/* Sets targets where the old ones no longer serve. */
 void policy_decide(struct host *host);
 
 /* What all guests hold, in KiB. */

@@ -96,7 +96,7 @@ static void note_failure(struct seat *seat, const char *why)
              writer->asked * (BALLOON_PAGE / 1024), why);
     writer->failures++;
     writer->asked = writer->allowed = 0;
-    writer->again_at = host_now() + TRY_AGAIN;
+    writer->again_at = loop_now() + TRY_AGAIN;
 }
 
 /* Asks the writer for these frames. Until it has answered, no more than these are sure. */
@@ -111,7 +111,7 @@ static void ask_writer(struct seat *seat, uint64_t frames)
     if (!writer->waits) {
         limit_end(seat);
         writer->failures++;
-        writer->again_at = host_now() + TRY_AGAIN;
+        writer->again_at = loop_now() + TRY_AGAIN;
     }
 }
 
@@ -120,7 +120,7 @@ void limits_follow(struct host *host)
     for (unsigned i = 0; i < host->count; i++) {
         struct seat *seat = host->seats[i];
         uint64_t frames = frames_wanted(seat);
-        if (!is_limited(seat) || seat->writer.waits || seat->writer.asked == frames || host_now() < seat->writer.again_at)
+        if (!is_limited(seat) || seat->writer.waits || seat->writer.asked == frames || loop_now() < seat->writer.again_at)
             continue;
         speaker_begins(&seat->speaker);
         ask_writer(seat, frames);

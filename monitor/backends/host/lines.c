@@ -241,7 +241,7 @@ static bool wants_reports(struct host *host, const char *line)
 static bool reports_are_new(const struct host *host)
 {
     const struct question *question = &host->question;
-    if (host_now() >= question->until)
+    if (loop_now() >= question->until)
         return true;
     for (unsigned i = 0; i < host->count; i++) {
         const struct seat *seat = host->seats[i];
@@ -275,7 +275,7 @@ bool host_line(struct host *host, const char *line)
         return true;
     }
     host->question.number = number;
-    host->question.until = host_now() + NEW_REPORTS;
+    host->question.until = loop_now() + NEW_REPORTS;
     strcpy(host->question.line, line);
     question_answer(host);
     return true;

@@ -48,7 +48,7 @@ static void trim(struct seat *seat)
 {
     VbLoan *loan = loan_of(seat);
     uint32_t taken = seat->told < loan->ballooned ? loan->ballooned - seat->told : 0;
-    uint32_t most = host_now() < seat->ahead_until && taken < PAGES_OF_REQUEST ? PAGES_OF_REQUEST : taken;
+    uint32_t most = loop_now() < seat->ahead_until && taken < PAGES_OF_REQUEST ? PAGES_OF_REQUEST : taken;
     seat->ahead = smaller(seat->ahead, smaller(most, loan->ballooned));
     uint32_t lent = loan->pages - loan->ballooned + seat->ahead;
     withdraw(loan);
@@ -260,7 +260,7 @@ uint32_t loan_ahead(struct seat *seat, uint32_t pages)
         return 0;
     }
     seat->ahead += lent;
-    seat->ahead_until = host_now() + LINGERS;
+    seat->ahead_until = loop_now() + LINGERS;
     return lent;
 }
 

@@ -1,21 +1,16 @@
-/* The loop of a lender: all sockets where clients come, the channels of their processes, its lines, and a look each period. */
+/* What a lender does in its loop: all sockets where clients come, the channels of their processes, its lines, and a look each period. */
 #include "host.h"
 #include "measures.h"
 
-#include <poll.h>
-#include <time.h>
 #include <unistd.h>
 
 /* Milliseconds between two decisions on what guests do; messages of a process that are read in REFILL milliseconds; milliseconds
  * between two steps of targets. */
 enum { DECIDE_EVERY = 10, MESSAGES = 40, REFILL = 50, STEP_EVERY = 50, MESSAGES_A_TURN = 8 };
 
-int64_t host_now(void)
-{
-    struct timespec time;
-    clock_gettime(CLOCK_MONOTONIC, &time);
-    return time.tv_sec * INT64_C(1000) + time.tv_nsec / 1000000;
-}
+/* Files that are waited for: of each guest and of each that leaves, of the service, and of lines. */
+enum { OF_SEAT = 4, OF_SERVICE = 2, OF_LINES = 3 };
+_Static_assert(2 * MOST_GUESTS * OF_SEAT + OF_SERVICE + OF_LINES <= (int)MOST_POLLED, "files of a lender");
 
 void host_changed(struct host *host, enum reason reason)
 {
@@ -76,117 +71,90 @@ static bool is_behind(const struct host *host)
     return false;
 }
 
-/* What is waited for: lines, room for answers, the signals that end it; of each seat its clients, its channel, its process and the
- * writer of its limit, and of each that was taken away all but the first and the last. A process that ends closes its channel: whether one has
- * ended and has not is looked at once a period. */
-enum { LINES, ROOM, END, SEATS };
-enum { CLIENT, CHANNEL, PROCESS, WRITER, OF_SEAT };
-enum { MOST_FILES_OF_ALL = SEATS + 2 * MOST_GUESTS * OF_SEAT + MOST_EXTRAS * MOST_EXTRA_FILES };
-_Static_assert((int)MOST_FILES_OF_ALL <= (int)MOST_POLLED, "files of a lender");
-
-/* A turn: what is waited for. */
-struct turn {
-    struct pollfd files[MOST_FILES_OF_ALL];
-    nfds_t count;
-    nfds_t begins[MOST_EXTRAS + 1];     /* where the files of each extra begin */
-    struct seat *seats[2 * MOST_GUESTS];
-    unsigned seat_count;
-    int64_t until;
-};
-
-static void wait_until(struct turn *turn, int64_t when)
+/* Has something be done with each guest, and with each that is leaving. */
+static void each_seat(struct host *host, void (*act)(struct seat *seat))
 {
-    turn->until = when < turn->until ? when : turn->until;
+    for (unsigned i = 0; i < host->count + host->leaving_count; i++)
+        act(i < host->count ? host->seats[i] : host->leaving[i - host->count]);
 }
 
-static void wait_for_lines(struct host *host, struct turn *turn)
+static int take_limit(void *seat, int file)
 {
-    bool asks = *host->question.line, were_read = answers_were_read(&host->answers);
-    turn->files[LINES] = (struct pollfd){host->input.ended || asks || !were_read ? -1 : STDIN_FILENO, POLLIN, 0};
-    turn->files[ROOM] = (struct pollfd){were_read ? -1 : file_of_output(), POLLOUT, 0};
-    turn->files[END] = (struct pollfd){host->end, POLLIN, 0};
-    turn->count = SEATS;
-    if (asks)
-        wait_until(turn, host->question.until);
+    (void)file;
+    limit_take(seat);
+    return LOOP_GOES_ON;
 }
 
-static void wait_for_seat(struct turn *turn, struct seat *seat, int64_t now)
+static int take_client(void *seat, int file)
 {
-    struct pollfd *its = turn->files + turn->count;
+    (void)file;
+    seat_start(seat);
+    return LOOP_GOES_ON;
+}
+
+static int take_end(void *seat, int file)
+{
+    (void)file;
+    seat_ended(seat);
+    return LOOP_GOES_ON;
+}
+
+/* Reads what a guest's process has sent, unless that has ended meanwhile. */
+static int take_messages(void *context, int file)
+{
+    struct seat *seat = context;
+    if (file == seat->channel)
+        seat->read += seat_read(seat, MESSAGES_A_TURN);
+    return LOOP_GOES_ON;
+}
+
+/* Waits for a guest's client or process, and for the writer of its limit. A process that ends closes its channel: whether one has ended and has not
+ * is looked at once a period. */
+static void wait_for_seat(struct seat *seat)
+{
+    struct loop *loop = &seat->host->loop;
     int64_t comes_at = seat->comes_at > seat->host->rests_until ? seat->comes_at : seat->host->rests_until;
-    bool waits = !seat->here && seat->listener >= 0;
-    its[CLIENT] = (struct pollfd){waits && comes_at <= now ? seat->listener : -1, POLLIN, 0};
-    its[CHANNEL] = (struct pollfd){seat->read < MESSAGES ? seat->channel : -1, POLLIN, 0};
-    its[PROCESS] = (struct pollfd){seat->channel < 0 || seat->host->looked ? seat->process_file : -1, POLLIN, 0};
-    its[WRITER] = (struct pollfd){seat->writer.channel, POLLIN, 0};
-    if (waits && comes_at > now)
-        wait_until(turn, comes_at);
+    bool waits = !seat->here && seat->listener >= 0, comes = comes_at <= loop_now();
+    loop_wait_for(loop, seat->writer.channel, POLLIN, take_limit, seat);
+    loop_wait_for(loop, waits && comes ? seat->listener : -1, POLLIN, take_client, seat);
+    loop_wait_for(loop, seat->channel < 0 || seat->host->looked ? seat->process_file : -1, POLLIN, take_end, seat);
+    loop_wait_for(loop, seat->read < MESSAGES ? seat->channel : -1, POLLIN, take_messages, seat);
+    if (waits && !comes)
+        loop_wait_until(loop, comes_at);
     if (seat->read >= MESSAGES)
-        wait_until(turn, seat->host->refills_at);
-    turn->seats[turn->seat_count++] = seat;
-    turn->count += OF_SEAT;
+        loop_wait_until(loop, seat->host->refills_at);
 }
 
-static void wait_for_extras(struct host *host, struct turn *turn)
+static void forget_messages(struct seat *seat)
 {
-    for (unsigned i = 0; i < host->extra_count; i++) {
-        const struct host_extra *extra = &host->extras[i];
-        if (extra->next)
-            wait_until(turn, extra->next(extra->context));
-        turn->begins[i] = turn->count;
-        turn->count += extra->files(extra->context, turn->files + turn->count, MOST_EXTRA_FILES);
-    }
-    turn->begins[host->extra_count] = turn->count;
+    seat->read = 0;
 }
 
-bool host_add_extra(struct host *host, struct host_extra extra)
+/* Lets processes that have sent too many messages be read again. */
+static void refill(struct host *host)
 {
-    if (host->extra_count == MOST_EXTRAS)
-        return false;
-    host->extras[host->extra_count++] = extra;
-    return true;
+    if (loop_now() < host->refills_at)
+        return;
+    host->refills_at = loop_now() + REFILL;
+    each_seat(host, forget_messages);
 }
 
-/* Waits until something has come, at most until `next`. */
-static void wait_for(struct host *host, struct turn *turn, int64_t next)
+static void wait_for_seats(void *context, struct loop *loop)
 {
-    int64_t now = host_now();
-    bool steps = is_behind(host);
-    turn->until = next;
-    turn->seat_count = 0;
-    wait_for_lines(host, turn);
-    for (unsigned i = 0; i < host->count; i++)
-        wait_for_seat(turn, host->seats[i], now);
-    for (unsigned i = 0; i < host->leaving_count; i++)
-        wait_for_seat(turn, host->leaving[i], now);
+    struct host *host = context;
+    refill(host);
+    if (loop->woke_at > 0)
+        measure_turn(loop_seconds() - loop->woke_at);
+    limits_follow(host);
+    each_seat(host, wait_for_seat);
     host->looked = false;
-    wait_for_extras(host, turn);
-    if (host->news)
-        wait_until(turn, host->decides_at);
-    if (host->step > 0 && steps)
-        wait_until(turn, host->stepped_at + STEP_EVERY);
-    poll_some(turn->files, turn->count, turn->until > now ? (int)(turn->until - now) : 0);
-    if (!steps)
-        host->stepped_at = host_now();
 }
 
-/* Serves each guest once: a client that comes, what its process has sent, and that it has ended. */
-static void serve(struct turn *turn)
+/* A process that can't be waited for has ended once its channel has. */
+static void end_silently(struct seat *seat)
 {
-    for (unsigned i = 0; i < turn->seat_count; i++) {
-        struct seat *seat = turn->seats[i];
-        const struct pollfd *its = turn->files + SEATS + i * OF_SEAT;
-        if (its[WRITER].revents)
-            limit_take(seat);
-        if (its[CLIENT].revents)
-            seat_start(seat);
-        else if (its[PROCESS].revents)
-            seat_ended(seat);
-        else if (its[CHANNEL].revents)
-            seat->read += seat_read(seat, MESSAGES_A_TURN);
-        if (seat->here && seat->channel < 0 && seat->process_file < 0)
-            seat_ended(seat);
-    }
+    if (seat->here && seat->channel < 0 && seat->process_file < 0)
+        seat_ended(seat);
 }
 
 /* Frees the seats that were taken away, once their processes have ended. */
@@ -201,16 +169,11 @@ static void bury(struct host *host)
     host->leaving_count = kept;
 }
 
-/* Lets processes that have sent too many messages be read again. */
-static void refill(struct host *host, int64_t now)
+static int turn_of_seats(void *context)
 {
-    if (now < host->refills_at)
-        return;
-    host->refills_at = now + REFILL;
-    for (unsigned i = 0; i < host->count; i++)
-        host->seats[i]->read = 0;
-    for (unsigned i = 0; i < host->leaving_count; i++)
-        host->leaving[i]->read = 0;
+    each_seat(context, end_silently);
+    bury(context);
+    return LOOP_GOES_ON;
 }
 
 /* Lets what guests are asked for grow. */
@@ -225,22 +188,46 @@ static void step(struct host *host, int64_t now)
             seat_step(host->seats[i], passed);
 }
 
-static void serve_extras(struct host *host, const struct turn *turn)
+static int take_signal(void *context, int file)
 {
-    for (unsigned i = 0; i < host->extra_count; i++)
-        host->extras[i].serve(host->extras[i].context, host, turn->files + turn->begins[i],
-                              (unsigned)(turn->begins[i + 1] - turn->begins[i]));
+    struct host *host = context;
+    (void)file;
+    host->ends = true;
+    return LOOP_GOES_ON;
 }
 
-/* Obeys lines, and answers those whose answers have waited; false where one says to quit. */
-static bool serve_lines(struct host *host, const struct turn *turn)
+static int take_room(void *context, int file)
 {
-    if (turn->files[ROOM].revents)
-        answers_send(&host->answers);
-    if (turn->files[LINES].revents)
-        input_read(&host->input);
-    question_answer(host);
-    return input_obey(host);
+    struct host *host = context;
+    (void)file;
+    answers_send(&host->answers);
+    return LOOP_GOES_ON;
+}
+
+static int take_lines(void *context, int file)
+{
+    struct host *host = context;
+    (void)file;
+    input_read(&host->input);
+    return LOOP_GOES_ON;
+}
+
+/* Waits for lines, room for answers, the signals that end it, and what is to be done at its time. */
+static void wait_for_lines(void *context, struct loop *loop)
+{
+    struct host *host = context;
+    bool asks = *host->question.line, were_read = answers_were_read(&host->answers);
+    loop_wait_for(loop, host->end, POLLIN, take_signal, host);
+    loop_wait_for(loop, were_read ? -1 : file_of_output(), POLLOUT, take_room, host);
+    loop_wait_for(loop, host->input.ended || asks || !were_read ? -1 : STDIN_FILENO, POLLIN, take_lines, host);
+    loop_wait_until(loop, host->looks_at);
+    if (asks)
+        loop_wait_until(loop, host->question.until);
+    if (host->news)
+        loop_wait_until(loop, host->decides_at);
+    host->steps = is_behind(host);
+    if (host->step > 0 && host->steps)
+        loop_wait_until(loop, host->stepped_at + STEP_EVERY);
 }
 
 /* Decides on what guests have done; not too often, whatever they do. */
@@ -253,32 +240,38 @@ static void decide(struct host *host, int64_t now)
     host->decides_at = now + DECIDE_EVERY;
 }
 
-int host_run(struct host *host)
+/* A look each period, and a reminder between two. */
+static void look_or_remind(struct host *host, int64_t now)
 {
-    static struct turn turn;
-    int64_t next = host_now() + host->period;
-    double begin = 0;
-    for (bool asks = true;;) {
-        refill(host, host_now());
-        if (begin > 0)
-            measure_turn(measure_now() - begin);
-        limits_follow(host);
-        wait_for(host, &turn, next);
-        begin = measure_now();
-        serve(&turn);
-        bury(host);
-        serve_extras(host, &turn);
-        if (turn.files[END].revents || !serve_lines(host, &turn))
-            return 0;
-        if (host->upgrades)
-            return 0;
-        int64_t now = host_now();
-        step(host, now);
-        decide(host, now);
-        if (now < next)
-            continue;
-        asks ? look(host) : remind(host);
-        asks = !asks;
-        next = now + host->period / 2;
-    }
+    host->reminds ? remind(host) : look(host);
+    host->reminds = !host->reminds;
+    host->looks_at = now + host->period / 2;
+}
+
+/* Obeys lines, answers those whose answers have waited, and decides. */
+static int turn_of_lines(void *context)
+{
+    struct host *host = context;
+    if (host->ends)
+        return LOOP_ENDS;
+    question_answer(host);
+    if (!input_obey(host) || host->upgrades)
+        return LOOP_ENDS;
+    int64_t now = loop_now();
+    host->stepped_at = host->steps ? host->stepped_at : now;
+    step(host, now);
+    decide(host, now);
+    if (now >= host->looks_at)
+        look_or_remind(host, now);
+    return LOOP_GOES_ON;
+}
+
+void host_run(struct host *host)
+{
+    host->looks_at = loop_now() + host->period;
+    loop_add(&host->loop, (struct loop_part){host, wait_for_seats, turn_of_seats});
+    if (host->service.waits)
+        loop_add(&host->loop, host->service);
+    loop_add(&host->loop, (struct loop_part){host, wait_for_lines, turn_of_lines});
+    loop_run(&host->loop, NULL);
 }

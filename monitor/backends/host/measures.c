@@ -1,7 +1,4 @@
-#define _GNU_SOURCE
 #include "measures.h"
-
-#include <time.h>
 
 const double duration_bounds[DURATION_BOUNDS] = {0.001, 0.005, 0.02, 0.1, 0.5, 2, 10};
 
@@ -51,11 +48,4 @@ void measure_above(double seconds)
 void measure_gone(enum gone_reason reason)
 {
     measures.gone[reason]++;
-}
-
-double measure_now(void)
-{
-    struct timespec time;
-    clock_gettime(CLOCK_MONOTONIC, &time);
-    return (double)time.tv_sec + (double)time.tv_nsec / 1e9;
 }

@@ -34,7 +34,4 @@ void measure_turn(double seconds);
 void measure_above(double seconds);
 void measure_gone(enum gone_reason reason);
 
-/* The monotonic clock, in seconds. */
-double measure_now(void);
-
 #endif

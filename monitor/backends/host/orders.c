@@ -15,7 +15,7 @@ void seat_look(struct seat *seat, bool asks)
         return;
     seat->number = message.number;
     if (seat->asked_at == 0)
-        seat->asked_at = host_now();
+        seat->asked_at = loop_now();
     order(seat, &message);
 }
 

@@ -33,7 +33,7 @@ static bool is_heard(const struct seat *seat)
 
 static bool is_paused(const struct seat *seat)
 {
-    return host_now() < seat->paused_until;
+    return loop_now() < seat->paused_until;
 }
 
 static uint16_t contact_of(const struct seat *seat)
@@ -100,7 +100,7 @@ void policy_sees_taken(struct seat *seat)
     seat->known = true;
     seat->free = seat->available = 0;
     seat->ballooned_then = seat->report.ballooned_then;
-    seat->paused_until = host_now() + PAUSE;
+    seat->paused_until = loop_now() + PAUSE;
     seat->host->news = true;
 }
 
@@ -193,7 +193,7 @@ static void explain(const struct host *host, const struct guests *guests, struct
 static void note(struct host *host, const struct guests *guests, uint64_t missing)
 {
     static struct decision decision;
-    decision = (struct decision){.at = host_now(), .frames = host->frames, .floor = host->floor,
+    decision = (struct decision){.at = loop_now(), .frames = host->frames, .floor = host->floor,
                                  .missing = missing, .count = guests->count};
     explain(host, guests, &decision);
     for (unsigned i = 0; i < guests->count; i++) {
@@ -245,7 +245,7 @@ static void decide(struct host *host)
 
 void policy_decide(struct host *host)
 {
-    double begin = measure_now();
+    double begin = loop_seconds();
     decide(host);
-    measure_decision(measure_now() - begin);
+    measure_decision(loop_seconds() - begin);
 }

@@ -33,7 +33,7 @@ static void take_note(struct seat *seat)
     if (counters->statistics != seat->heard) {
         seat->heard = counters->statistics;
         seat->silent = 0;
-        seat->heard_at = host_now();
+        seat->heard_at = loop_now();
         policy_hears(seat);
     }
     if (counters->taken != seat->taken && seat->report.taken_since)
@@ -61,7 +61,7 @@ static void note_wait(struct seat *seat)
     if (report->waits == WAIT_ROOM || report->waits == WAIT_RESET)
         now = report->waits == WAIT_ROOM ? WAITS_FOR_ROOM : WAITS_FOR_RESET;
     if (now != seat->waits_for)
-        seat->waits_since = host_now();
+        seat->waits_since = loop_now();
     seat->waits_for = now;
 }
 

@@ -28,7 +28,7 @@ static bool is_at_peace(const struct seat *seat)
 
 bool seat_rests(const struct seat *seat)
 {
-    return is_at_peace(seat) && host_now() - seat->moved_at >= RESTS_AFTER * seat->host->period;
+    return is_at_peace(seat) && loop_now() - seat->moved_at >= RESTS_AFTER * seat->host->period;
 }
 
 bool seat_is_due(struct seat *seat)
@@ -49,6 +49,6 @@ bool seat_moves(struct seat *seat)
         return false;
     bool rested = seat_rests(seat);
     seat->still = now;
-    seat->moved_at = host_now();
+    seat->moved_at = loop_now();
     return rested;
 }

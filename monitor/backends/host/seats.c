@@ -24,7 +24,7 @@ bool seat_answers(const struct seat *seat)
 
 bool seat_reports(const struct seat *seat)
 {
-    return !seat_is_taken(seat) || seat->asked_at == 0 || host_now() - seat->asked_at <= SILENT_AFTER * seat->host->period;
+    return !seat_is_taken(seat) || seat->asked_at == 0 || loop_now() - seat->asked_at <= SILENT_AFTER * seat->host->period;
 }
 
 struct seat *seat_of(const struct host *host, const char *name)

@@ -118,14 +118,14 @@ static void close_files(const int files[FILES_HANDED])
 static void rest(struct seat *seat, int why)
 {
     complain("%s can't come: %s", seat->name, strerror(why));
-    seat->host->rests_until = host_now() + REST;
+    seat->host->rests_until = loop_now() + REST;
 }
 
 void seat_start(struct seat *seat)
 {
     int files[FILES_HANDED] = {-1, -1, -1};
     seat_clear(seat);
-    seat->comes_at = host_now() + PACE;
+    seat->comes_at = loop_now() + PACE;
     int why = open_files(seat, files);
     why = why == 0 ? spawn(seat, files, &seat->process) : why;
     close_files(files);
@@ -137,7 +137,7 @@ void seat_start(struct seat *seat)
     if (why == 0) {
         seat->clients++;
         seat->here = true;
-        seat->heard_at = host_now();
+        seat->heard_at = loop_now();
         seat_keep_terms(seat);
         return;
     }
@@ -185,8 +185,8 @@ void seat_take_over(struct seat *seat)
     seat->process = its.pid;
     seat->process_file = pidfd_open(its.pid, 0);
     seat->here = seat->adopts = seat->adopted = true;
-    seat->heard_at = host_now();
-    seat->adopts_until = host_now() + TOLD_IN;
+    seat->heard_at = loop_now();
+    seat->adopts_until = loop_now() + TOLD_IN;
     seat->clients++;
     seat_look(seat, false);
 }
@@ -194,7 +194,7 @@ void seat_take_over(struct seat *seat)
 bool host_awaits(const struct host *host)
 {
     for (unsigned i = 0; i < host->count; i++)
-        if (host->seats[i]->adopts && host_now() < host->seats[i]->adopts_until)
+        if (host->seats[i]->adopts && loop_now() < host->seats[i]->adopts_until)
             return true;
     return false;
 }

@@ -80,7 +80,7 @@ static void see_counters(const struct counters *its, struct guest_view *view)
 /* Seconds since then; 0 where there is no then. */
 static double seconds_since(int64_t then)
 {
-    return then == 0 ? 0 : (double)(host_now() - then) / 1000;
+    return then == 0 ? 0 : (double)(loop_now() - then) / 1000;
 }
 
 void host_see_guest(const struct host *host, unsigned number, struct guest_view *view)

@@ -7,7 +7,7 @@
 #include "../guest/levels.h"
 #include "../guest/process.h"
 #include "../guest/say.h"
-#include "../host/extra.h"
+#include "../host/host.h"
 
 #include <errno.h>
 #include <grp.h>
@@ -19,8 +19,6 @@
 
 /* Milliseconds between two looks for what followers of events are told; and between two words for the service manager's status at most. */
 enum { LOOK_EVERY = 100, STATUS_EVERY = 5000 };
-
-enum { CONTROL, HANGUP, SERVICE_FILES };
 
 void service_defaults(struct service *service)
 {
@@ -167,39 +165,53 @@ static void tell_manager(struct service *service, const struct host *host)
     snprintf(status, sizeof status, "%u guests, %" PRIu64 " of %" PRIu32 " MiB held, %u wait", view.guests, view.held_kib / 1024,
              view.budget / 256, view.waiting);
     notify_lives(status);
-    service->word = host_now() + service->every;
+    service->word = loop_now() + service->every;
 }
 
-static unsigned files(void *context, struct pollfd *files, unsigned room)
+/* A look that is due is before what clients ask for, however late this turn is: so followers hear of what was before it. */
+static void look(struct service *service)
 {
-    const struct service *service = context;
-    (void)room;
-    files[CONTROL] = (struct pollfd){service->control.waits, POLLIN, 0};
-    files[HANGUP] = (struct pollfd){service->hangup, POLLIN, 0};
-    return SERVICE_FILES;
+    if (loop_now() < service->look)
+        return;
+    control_look(&service->control, service->host);
+    service->look = loop_now() + LOOK_EVERY;
 }
 
-static void serve(void *context, struct host *host, const struct pollfd *files, unsigned count)
+static int serve_clients(void *context, int file)
 {
     struct service *service = context;
-    (void)count;
-    /* A look that is due is before what clients ask for, however late this turn is: so followers hear of what was before it. */
-    if (host_now() >= service->look) {
-        control_look(&service->control, host);
-        service->look = host_now() + LOOK_EVERY;
-    }
-    if (files[CONTROL].revents)
-        control_serve(&service->control, host);
-    if (files[HANGUP].revents && process_took_reload(service->hangup))
-        reload(service, host);
-    if (service->every > 0 && host_now() >= service->word)
-        tell_manager(service, host);
+    (void)file;
+    look(service);
+    control_serve(&service->control, service->host);
+    return LOOP_GOES_ON;
 }
 
-static int64_t next(void *context)
+static int take_hangup(void *context, int file)
 {
-    const struct service *service = context;
-    return service->every > 0 && service->word < service->look ? service->word : service->look;
+    struct service *service = context;
+    look(service);
+    if (process_took_reload(file))
+        reload(service, service->host);
+    return LOOP_GOES_ON;
+}
+
+static void waits(void *context, struct loop *loop)
+{
+    struct service *service = context;
+    loop_wait_for(loop, service->control.waits, POLLIN, serve_clients, service);
+    loop_wait_for(loop, service->hangup, POLLIN, take_hangup, service);
+    loop_wait_until(loop, service->look);
+    if (service->every > 0)
+        loop_wait_until(loop, service->word);
+}
+
+static int turn(void *context)
+{
+    struct service *service = context;
+    look(service);
+    if (service->every > 0 && loop_now() >= service->word)
+        tell_manager(service, service->host);
+    return LOOP_GOES_ON;
 }
 
 /* Where a control socket is, unless that was said: in the host's folder, by its word; and whether a service manager has kept it. */
@@ -227,8 +239,8 @@ bool service_begin(struct service *service, struct host *host, const char *folde
         notify_keep(control_socket_word(i), service->control.sockets[i].listener);
     int64_t wanted = notify_every();
     service->every = wanted > 0 && wanted < STATUS_EVERY ? wanted : getenv("NOTIFY_SOCKET") ? STATUS_EVERY : 0;
-    if (!host_add_extra(host, (struct host_extra){service, files, serve, next}))
-        return false;
+    service->host = host;
+    host->service = (struct loop_part){service, waits, turn};
     notify_ready();
     return true;
 }

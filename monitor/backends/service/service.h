@@ -8,11 +8,12 @@
 struct service {
     const char *file;           /* of the configuration; NULL: none */
     struct config config;
+    struct host *host;
     struct control control;
     struct control_options sockets[CONTROL_SOCKETS];
     char paths[CONTROL_SOCKETS][MOST_CONFIG_WORD];
     int hangup;                 /* has something to read once SIGHUP has come; -1: none */
-    int64_t look, word;         /* when the control sockets and the service manager want their next turn, by host_now() */
+    int64_t look, word;         /* when the control sockets and the service manager want their next turn, by loop_now() */
     int64_t every;              /* milliseconds between two words for the service manager; 0: it wants none */
 };
 

@@ -17,6 +17,7 @@
 struct script script;
 
 static struct lent fuzzed;
+static struct loop turns;       /* of the process */
 static struct kept kept;
 static struct options options;
 static bool ends;               /* the process is to end after this turn */
@@ -243,6 +244,7 @@ static void listen_once(void)
     demand(!bind(later, (struct sockaddr *)&address, sizeof address.sun_family) && !listen(later, 8));
     process_is_shut = true;
     signal(SIGPIPE, SIG_IGN);
+    demand(loop_add(&turns, (struct loop_part){&fuzzed, waits, turn}));
 }
 
 int LLVMFuzzerTestOneInput(const uint8_t *data, size_t size)
@@ -253,7 +255,7 @@ int LLVMFuzzerTestOneInput(const uint8_t *data, size_t size)
     volatile int served = comes();
     while (served > 0 && script_goes_on()) {
         act();
-        served = setjmp(ended) == 0 ? guard(once, &fuzzed) : 1;
+        served = setjmp(ended) == 0 ? guard(loop_turn, &turns) : 1;
         check_balloon();
         if (served > 0 && ends)
             served = another_goes_on();
@@ -262,7 +264,7 @@ int LLVMFuzzerTestOneInput(const uint8_t *data, size_t size)
     if (served > 0)
         client_ends();
     for (unsigned i = 0; served > 0 && i < MOST_LEFT; i++)
-        served = guard(once, &fuzzed);
+        served = guard(loop_turn, &turns);
     demand(served <= 0);
     goes();
     for (int it; (it = accept(later, NULL, NULL)) >= 0;)

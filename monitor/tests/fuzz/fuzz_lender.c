@@ -50,7 +50,7 @@ static void process_begins(unsigned number, bool adopted)
     processes[number] = ends[1];
     seat->here = true;
     seat->adopts = seat->adopted = adopted;
-    seat->adopts_until = host_now() + TELLS_IN;
+    seat->adopts_until = loop_now() + TELLS_IN;
     reports[number] = (struct lending_message){.kind = TELL_REPORT, .holds = seat->terms.strict};
 }
 

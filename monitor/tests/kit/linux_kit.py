@@ -14,7 +14,7 @@ HEADERS = os.path.join(ROOT, "crates/vb_c")
 LIBRARY = os.path.join(ROOT, "crates", "vb_c", "out", "libvb_c.a")
 
 # The backends' files, from monitor/backends: of all, of one guest's, of each, and what a build for tests has besides.
-COMMON_PARTS = tuple(f"guest/{it}" for it in ("levels", "numbers", "options", "process", "say", "tags"))
+COMMON_PARTS = (*(f"guest/{it}" for it in ("levels", "numbers", "options", "process", "say", "tags")), "loop/loop")
 PARTS = (
     *(f"guest/{it}" for it in ("backend", "control", "counters", "events", "guard", "guest_memory", "kicks", "rings", "statistics", "stream")),
     *COMMON_PARTS,
