@@ -206,7 +206,8 @@ uint32_t vb_kind(const VbDevice *device, uint32_t number);
 uint32_t vb_kind_of(uint64_t features, uint32_t number);
 /* Gives a queue its place, after vb_negotiate: VB_OK; VB_NO_QUEUE for no kind; VB_BAD_ARGUMENT once DRIVER_OK is set;
  * VB_NO_QUEUE where the negotiated features leave it out; VB_MISPLACED where size is no power of two from 1 to 1024, or a
- * part isn't aligned (16, 2, 4) or doesn't end within memory. */
+ * part isn't aligned (16, 2, 4) or doesn't end within memory. A chain has at most VB_MAX_PIECES descriptors, however many
+ * its queue has: a longer one is refused as longer than the queue (3). */
 uint32_t vb_place(VbDevice *device, uint32_t kind, uint64_t table, uint64_t avail, uint64_t used, uint16_t size);
 /* Reads or writes bytes of the configuration space (VIRTIO 1.1, 5.5.4), little-endian: num_pages at 0, actual at 4, and
  * poison_val at 12 where PAGE_POISON is offered (VIRTIO 1.2, 5.5.4). All other bytes read as 0. A write of any length at any

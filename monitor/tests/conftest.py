@@ -19,7 +19,7 @@ def pytest_addoption(parser):
     """The options of all suites."""
     parser.addoption("--wrong", metavar="NAME", help="a program that is wrong on purpose, or all: what is for it has to refuse it")
     parser.addoption("--times", type=count, default=1, metavar="K", help="each run of a Linux k times")
-    parser.addoption("--hours", type=float, metavar="H", help="the run of a host for so many hours alone")
+    parser.addoption("--hours", type=float, metavar="H", help="the run of a host for H hours alone")
     parser.addoption("--vmm", default="uml", choices=VMMS, help="what runs a Linux")
 
 

@@ -197,7 +197,8 @@ abbrev pub chain_fault : ℕ → ℕ → Bool → ℕ → Descriptor → Option 
 chain_fault q end writing k x =
     or_too_long (has_next x && nat_le (longest q) (k + 1)) (first_fault q end writing k x)
 
--- The same, where as many may be there already as a chain may have.
+-- The first rule that is broken by a descriptor after k others, where k may be as many as a chain
+-- may have: it is too long then.
 abbrev pub table_fault : ℕ → ℕ → Bool → ℕ → Descriptor → Option ChainFault
 table_fault q end writing k x =
     if nat_lt k (longest q) then chain_fault q end writing k x else Some TooLong

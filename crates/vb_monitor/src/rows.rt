@@ -54,8 +54,8 @@ fn is_writing(writing: bool, descriptor: &Descriptor) -> bool
     writing || descriptor.is_writable()
 }
 
-/// How many descriptors a chain has at most in a table of `size`: the device takes no more than
-/// 256.
+/// How many descriptors a chain has at most in a table of `size`: as many as the table, and no
+/// more than there is room for (`MAX_PIECES`).
 pub(crate) fn longest(size: u16) -> u16
     ensures { result ≡ longest size }
 {
