@@ -35,7 +35,7 @@ LISTED = tuple((re.compile(rf"\b{pattern}", re.IGNORECASE), instead) for pattern
 READ = ("*.md", "*.rt", "*.antt", "*.[ch]", "*.rs", "*.py", "tools", "monitor/Makefile", ".ci/run")
 OWNERS = ("docs/TERMS.md", "tools/lib/words.py", "tools/tests/test_words.py")
 # Commits from this day on have to have right subjects.
-SINCE = "2026-11-28T14:30:00Z"
+SINCE = "2026-11-29T03:00:00Z"
 
 # What is code in a text.
 CODE = re.compile(r"`[^`]*`|\]\([^)]*\)|\"[^\"]*\"")
