@@ -83,7 +83,7 @@ def lines_of(path, text):
     ending = path.rpartition(".")[2]
     if ending == "md":
         return page(text)
-    if ending == "py" or text.startswith("#!/usr/bin/env python3"):
+    if ending == "py" or re.match(r"#!/usr/bin/(?:env )?python3\n", text):
         return described(text)
     kind = {"antt": "antt", "rt": "rt", "rs": "rt", "c": "rt", "h": "rt"}.get(ending, "sh")
     return commented(text, kind)
