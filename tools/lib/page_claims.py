@@ -193,7 +193,7 @@ def sanitized():
     run = {it for names in re.findall(r"(?m)^(?:C_TESTS \+?=|EXPLAINED =) (.*)$", makefile) for it in names.split()}
     said = re.search(r"(?m)^.* run without the address sanitizer alone.*$", page)
     named = set(re.findall(r"`(\w+)\.c`", said[0])) if said else set()
-    return [f"monitor/README.md: of tests without the sanitizer, {it}.c isn't rightly said" for it in sorted(named ^ (tests - run))]
+    return [f"monitor/README.md: of tests without the sanitizer, {it}.c isn't said correctly" for it in sorted(named ^ (tests - run))]
 
 
 def claims():

@@ -32,7 +32,7 @@ WORDS = (
 LISTED = tuple((re.compile(rf"\b{pattern}", re.IGNORECASE), instead) for pattern, instead in WORDS)
 
 # What is read: prose of all kinds. The page of terms and this file's test name the words that aren't used.
-READ = ("*.md", "*.rt", "*.antt", "*.[ch]", "*.rs", "*.py", "tools", "monitor/Makefile", ".ci/run")
+READ = ("*.md", "*.rt", "*.antt", "*.[ch]", "*.rs", "*.py", "tools", "client", "monitor/bench", "monitor/rust/bind", "monitor/Makefile", ".ci/run")
 OWNERS = ("docs/TERMS.md", "tools/lib/words.py", "tools/tests/test_words.py")
 # Commits from this day on have to have right subjects.
 SINCE = "2026-11-28T14:30:00Z"

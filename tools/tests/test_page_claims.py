@@ -24,7 +24,7 @@ CHANGES = (
     ("order", "docs/MAP.md", r"(?ms)^(\| `vb_ram` \|[^\n]*\n)(.*?)(^\| `vb_chain` \|[^\n]*\n)", r"\3\2\1", "is listed before"),
     ("named_tools", "docs/MAP.md", r"`conform`, ", "", "its tools aren't those of tools: conform"),
     ("named_tools", "docs/MAP.md", r"`conform`, ", "`conform`, `conforms`, ", "its tools aren't those of tools: conforms"),
-    ("sanitized", "monitor/README.md", r"`order\.c`, `fences\.c`", "`fences.c`", "order.c isn't rightly said"),
+    ("sanitized", "monitor/README.md", r"`order\.c`, `fences\.c`", "`fences.c`", "order.c isn't said correctly"),
 )
 
 TRUE = page_claims.read
