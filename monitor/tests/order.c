@@ -300,7 +300,7 @@ int main(void)
     a_chain_in_a_row_is_copied_at_once();
     a_jump_out_of_a_row_is_copied_again();
     a_row_over_two_regions_is_copied_one_by_one();
-    puts("ok  each access, fence, word to the monitor and discard stands in its order, once");
+    puts("ok  each access, fence, word to the monitor and discard comes in its order, once");
     return 0;
 }
 #else

@@ -99,16 +99,16 @@ def counts():
 PACKAGES = (
     (
         ("monitor/Makefile", r"(?m)^PACKAGES = (.*)$"),
-        ("README.md", r"`make -C monitor test` \|[^|]*\(`([^`]*)`\)"),
+        ("CONTRIBUTING.md", r"`make -C monitor test` \|[^|]*\(`([^`]*)`\)"),
         ("monitor/README.md", r"`apt-get install ([^`]*librust-vm-memory-dev)`"),
     ),
     (
-        ("README.md", r"`tools/boot-linux` \|[^|]*\(`([^`]*)`\)"),
+        ("CONTRIBUTING.md", r"`tools/boot-linux` \|[^|]*\(`([^`]*)`\)"),
         ("docs/LINUX.md", r"on amd64, with `apt-get install ([^`]*)`"),
         ("tools/host-linux", r"what tools/boot-linux does: apt-get install ([^,]*),"),
     ),
     (
-        ("README.md", r"`tools/release` \|[^|]*\(`([^`]*)`\)"),
+        ("CONTRIBUTING.md", r"`tools/release` \|[^|]*\(`([^`]*)`\)"),
         ("tools/release", r"`apt-get install ([^`]*)`"),
     ),
 )
@@ -129,7 +129,7 @@ def packages():
     return found
 
 
-TABLES = ("README.md", "docs/LINUX.md")
+TABLES = ("CONTRIBUTING.md", "docs/LINUX.md")
 DURATION = r"\b(?:minutes?|hours?)\b"
 
 
@@ -193,7 +193,7 @@ def sanitized():
     run = {it for names in re.findall(r"(?m)^(?:C_TESTS \+?=|EXPLAINED =) (.*)$", makefile) for it in names.split()}
     said = re.search(r"(?m)^.* run without the address sanitizer alone.*$", page)
     named = set(re.findall(r"`(\w+)\.c`", said[0])) if said else set()
-    return [f"monitor/README.md: of tests without the sanitizer, {it}.c isn't rightly said" for it in sorted(named ^ (tests - run))]
+    return [f"monitor/README.md: of tests without the sanitizer, {it}.c isn't said correctly" for it in sorted(named ^ (tests - run))]
 
 
 def claims():

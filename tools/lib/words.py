@@ -32,7 +32,7 @@ WORDS = (
 LISTED = tuple((re.compile(rf"\b{pattern}", re.IGNORECASE), instead) for pattern, instead in WORDS)
 
 # What is read: prose of all kinds. The page of terms and this file's test name the words that aren't used.
-READ = ("*.md", "*.rt", "*.antt", "*.[ch]", "*.rs", "*.py", "tools", "monitor/Makefile", ".ci/run")
+READ = ("*.md", "*.rt", "*.antt", "*.[ch]", "*.rs", "*.py", "tools", "client", "monitor/bench", "monitor/rust/bind", "monitor/Makefile", ".ci/run")
 OWNERS = ("docs/TERMS.md", "tools/lib/words.py", "tools/tests/test_words.py")
 # Commits from this day on have to have right subjects.
 SINCE = "2026-11-29T03:00:00Z"
@@ -83,7 +83,7 @@ def lines_of(path, text):
     ending = path.rpartition(".")[2]
     if ending == "md":
         return page(text)
-    if ending == "py" or text.startswith("#!/usr/bin/env python3"):
+    if ending == "py" or re.match(r"#!/usr/bin/(?:env )?python3\n", text):
         return described(text)
     kind = {"antt": "antt", "rt": "rt", "rs": "rt", "c": "rt", "h": "rt"}.get(ending, "sh")
     return commented(text, kind)

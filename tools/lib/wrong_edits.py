@@ -100,7 +100,7 @@ WRONG = [
     ("another queue's interrupt forgotten", CALLS, "    all->interrupts |= one->interrupts;\n", "    all->interrupts = one->interrupts;\n"),
     ("a later queue's chains hide a fault", CALLS, "(one->code == VB_OK && all->code == VB_NOTHING)", "one->code == VB_OK"),
     ("a rule that another queue's chains clear", CALLS, "    if (one->code == VB_BROKEN)\n        all->rule", "    if (one->code != VB_NOTHING)\n        all->rule"),
-    ("what stood in a balloon's place stays", CALLS, "    memset(balloon, 0, sizeof *balloon);\n", ""),
+    ("what was in a balloon's place stays", CALLS, "    memset(balloon, 0, sizeof *balloon);\n", ""),
     ("no budget of pages", CALLS, "balloon->most_chains, balloon->most_pages,", "balloon->most_chains, UINT32_MAX,"),
     ("no budget of chains", CALLS, "             balloon->most_chains, balloon->most_pages,", "             UINT32_MAX, balloon->most_pages,"),
 
@@ -135,7 +135,7 @@ WRONG = [
     ("another queue's held deflate forgotten", CALLS, "    all->held |= one->held;\n", "    all->held = one->held;\n"),
     ("a chain of another queue forgotten", CALLS, "return vb_forget_held(&balloon->state, kind);", "return vb_forget_held(&balloon->state, VB_STATISTICS + 0 * kind);"),
     ("any status empties the set", CALLS, "if (then & VB_EMPTY && balloon->ballooned)", "if (answer == 0 && balloon->ballooned)"),
-    ("a target passed by is no matter", CALLS, "device.actual != balloon->state.device.target;", "device.actual < balloon->state.device.target;"),
+    ("a target passed by doesn't count", CALLS, "device.actual != balloon->state.device.target;", "device.actual < balloon->state.device.target;"),
     ("room to save taken for granted", CALLS, "balloon->state.held, out, room);", "balloon->state.held, out, VB_STATE_BYTES);"),
     ("a queue that starts in a hole", CALLS, "vb_start_queue(&balloon->state, balloon->places, balloon->region_count, kind, at)", "vb_start_queue(&balloon->state, &(VbRegion){ 0, 1ull << 40, 0 }, 1, kind, at)"),
     ("a queue that starts at 0", CALLS, "vb_start_queue(&balloon->state, balloon->places, balloon->region_count, kind, at)", "vb_start_queue(&balloon->state, balloon->places, balloon->region_count, kind, (VbQueueStart){ at.table, at.avail, at.used, at.size, 0 })"),

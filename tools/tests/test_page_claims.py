@@ -12,9 +12,9 @@ CHANGES = (
     ("counts", "README.md", r"the shims \(\d+ lines of C", "the shims (1 lines of C", "'1' in place of"),
     ("counts", "README.md", r"the shims \(", "the code (", "0 texts"),
     ("counts", "docs/LINUX.md", r"`tools/test linux` \| \w+ runs", "`tools/test linux` | no runs", "'no' in place of"),
-    ("packages", "README.md", r"make gcc g\+\+ clang", "make gcc clang", "README.md: packages"),
+    ("packages", "CONTRIBUTING.md", r"make gcc g\+\+ clang", "make gcc clang", "CONTRIBUTING.md: packages"),
     ("packages", "tools/release", r"binutils", "binutils zip", "tools/release: packages"),
-    ("times", "README.md", r"\| 20 seconds \|", "| 30 seconds |", "takes"),
+    ("times", "CONTRIBUTING.md", r"\| 20 seconds \|", "| 30 seconds |", "takes"),
     ("times", "monitor/README.md", r"## Tests\n", "## Tests\n\nThey take two minutes.\n", "a time belongs into"),
     ("listings", "README.md", r"if \(result\.interrupts\)", "if (result.interrupt)", "README.md: a listing isn't in"),
     ("listings", "docs/examples/noting/src/lib.rt.in", r"self\.broken\.saturating_add", "self.broken.wrapping_add", "docs/INTEGRATION.md: a listing isn't in"),
@@ -24,7 +24,7 @@ CHANGES = (
     ("order", "docs/MAP.md", r"(?ms)^(\| `vb_ram` \|[^\n]*\n)(.*?)(^\| `vb_chain` \|[^\n]*\n)", r"\3\2\1", "is listed before"),
     ("named_tools", "docs/MAP.md", r"`conform`, ", "", "its tools aren't those of tools: conform"),
     ("named_tools", "docs/MAP.md", r"`conform`, ", "`conform`, `conforms`, ", "its tools aren't those of tools: conforms"),
-    ("sanitized", "monitor/README.md", r"`order\.c`, `fences\.c`", "`fences.c`", "order.c isn't rightly said"),
+    ("sanitized", "monitor/README.md", r"`order\.c`, `fences\.c`", "`fences.c`", "order.c isn't said correctly"),
 )
 
 TRUE = page_claims.read

@@ -54,6 +54,8 @@ FILES = (
     ("a.md", "stands\n\n```\nstands\n```\n\n    stands\n\nbehind\n", [1, 9]),
     ("a.py", '"""What stands.\n\nAnyhow."""\nstands = "behind"  # by chance\n\n\ndef f():\n    """Rightly."""\n', [1, 3, 4, 8]),
     ("run", "#!/usr/bin/env bash\n# what stands\nstands behind\n", [2]),
+    ("boot", '#!/usr/bin/python3\n"""What stands."""\nstands = "behind"\n', [2]),
+    ("draw", '#!/usr/bin/env python3\n"""What\nstands."""\n', [3]),
 )
 
 

@@ -80,7 +80,10 @@ def run(asked):
 
 def add(commands, common):
     """Adds the subcommand."""
-    words = commands.add_parser("log", parents=[common], help="what the host decided, and why")
+    words = commands.add_parser(
+        "log", parents=[common], help="what the host decided, and why",
+        description="Prints what the host decided, and why: the targets in MiB, OLD>NEW where one changed.",
+    )
     words.add_argument("-f", "--follow", action="store_true", help="and what happens from now on: guests that come, go, wait, ..")
     words.add_argument("--since", type=int, default=0, metavar="N", help="from this decision on")
     words.set_defaults(run=run)

@@ -56,6 +56,8 @@ def run(asked):
 
 def add(commands, common):
     """Adds the subcommand."""
-    words = commands.add_parser("status", parents=[common], help="the host and its guests, in MiB")
+    words = commands.add_parser(
+        "status", parents=[common], help="the host and its guests, in MiB", description="Shows the host and its guests. Columns are in MiB.",
+    )
     words.add_argument("--names", action="store_true", help="print the names of the guests alone, one a line")
     words.set_defaults(run=run)

@@ -83,5 +83,9 @@ def run(asked):
 
 def add(commands, common):
     """Adds the subcommand."""
-    words = commands.add_parser("upgrade", parents=[common], help="the host and its guests' processes become the programs that are installed now")
+    words = commands.add_parser(
+        "upgrade", parents=[common], help="the host and its guests' processes become the programs that are installed now",
+        description="Has the host and its guests' processes become the programs that are installed now, while guests live on. Prints the versions "
+        "before and after.",
+    )
     words.set_defaults(run=run, changes=lambda asked: True)

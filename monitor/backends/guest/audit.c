@@ -97,9 +97,9 @@ static void check_entry(struct backend *backend, unsigned number, const VbQueue 
     read_guest(backend, queue->used + RING_HEADER_SIZE + USED_ELEMENT_SIZE * at, entry, sizeof entry);
     audit.entries++;
     if (entry[0] != head)
-        fault("queue %u: used entry %u has id %" PRIu32 ", and %u was taken", number, position, entry[0], head);
+        fault("queue %u: used element %u has id %" PRIu32 ", and %u was taken", number, position, entry[0], head);
     if (entry[1] != 0)
-        fault("queue %u: used entry %u has length %" PRIu32, number, position, entry[1]);
+        fault("queue %u: used element %u has length %" PRIu32, number, position, entry[1]);
 }
 
 void audit_after(struct backend *backend, unsigned number)

@@ -16,7 +16,7 @@ static bool admit(struct backend *backend)
     uint64_t end = backend->balloon.state.device.settings.memory_end / BALLOON_PAGE;
     uint64_t pages = memory_pages(&backend->memory);
     if (end > MOST_SET || pages > UINT32_MAX)
-        return refuse("its memory ends too far up for a host of many");
+        return refuse("its memory ends above %llu GiB", (unsigned long long)MOST_SET * BALLOON_PAGE >> 30);
     if (pages > lent->notes.pages && !lent_await(lent, WAIT_ROOM, (uint32_t)pages))
         return false;
     if (!marks_follow(backend, &lent->marks, end))

@@ -61,7 +61,7 @@ def test_by_a_socket_that_listens(backend, tmp_path_factory, option):
         it = Running(backend, *option.format(listener.fileno()).split(), files=[listener.fileno()])
     serve(Client(path))
     assert it.end() == (0, "")
-    assert os.path.exists(path), "whoever made the socket removes it"
+    assert os.path.exists(path), "the maker of the socket removes it"
 
 
 class Connected(Client):

@@ -110,7 +110,7 @@ def memory_far_up(town):
         client.leave()
         becomes(town, {"here": 0}, "half")
     said = town.host.why_of("half")
-    demand(said == "refused half: its memory ends too far up for a host of many", said)
+    demand(said == "refused half: its memory ends above 64 GiB", said)
 
 
 def channel_that_nobody_reads(town):

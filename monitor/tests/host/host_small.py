@@ -174,7 +174,7 @@ def worked_run(bench):
         targets_become(town, clients, (0, 28, 100))
         # A guest that takes pages back has none free, whatever it has told before.
         clients[1].post_pages(DEFLATE, list(range(PAGES, PAGES + 8)))
-        eventually(lambda: targets_of(town) == (8, 20, 100), lambda: f"behind a deflate the targets are {targets_of(town)}", 0.4)
+        eventually(lambda: targets_of(town) == (8, 20, 100), lambda: f"after a deflate the targets are {targets_of(town)}", 0.4)
         clients[1].free = 0
         targets_become(town, clients, (8, 20, 100))
         demand(town.host.guests()["b"]["taken"] == 8, f"8 pages were taken back: {town.host.guests()['b']}")

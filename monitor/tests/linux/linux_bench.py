@@ -45,7 +45,7 @@ class Bench:
             demand(status == 0, f"the backend ends with status {status}")
             demand(not machine.backend.why(), "the backend isn't silent")
             demand(not machine.guest.why(), f"the guest's VMM says: {machine.guest.why()}")
-        words = [f"{counters['inflated']} pages inflated", f"{counters['reported']} reported", f"{entries} used entries"]
+        words = [f"{counters['inflated']} pages inflated", f"{counters['reported']} reported", f"{entries} used elements"]
         return ", ".join([*words, *([said] if said else []), f"memory ends at page {counters['end']}"])
 
     def boot_unbound(self):

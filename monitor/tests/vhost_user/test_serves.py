@@ -212,7 +212,7 @@ def test_what_is_left_as_the_driver_gets_ready_is_served(serve_well):
 def test_what_is_left_of_two_queues_is_served(serve_well):
     client = serve_well()
     client.start(size=MOST_CHAINS)
-    assert client.are_served([INFLATE, DEFLATE], MOST_CHAINS), "one queue's chains are left behind another's"
+    assert client.are_served([INFLATE, DEFLATE], MOST_CHAINS), "one queue's chains are left after another's"
     assert client.is_at_rest(), "nothing is left, and the backend looks again and again"
 
 
