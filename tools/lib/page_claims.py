@@ -99,16 +99,16 @@ def counts():
 PACKAGES = (
     (
         ("monitor/Makefile", r"(?m)^PACKAGES = (.*)$"),
-        ("CONTRIBUTING.md", r"`make -C monitor test` \|[^|]*\(`([^`]*)`\)"),
+        ("README.md", r"`make -C monitor test` \|[^|]*\(`([^`]*)`\)"),
         ("monitor/README.md", r"`apt-get install ([^`]*librust-vm-memory-dev)`"),
     ),
     (
-        ("CONTRIBUTING.md", r"`tools/boot-linux` \|[^|]*\(`([^`]*)`\)"),
+        ("README.md", r"`tools/boot-linux` \|[^|]*\(`([^`]*)`\)"),
         ("docs/LINUX.md", r"on amd64, with `apt-get install ([^`]*)`"),
         ("tools/host-linux", r"what tools/boot-linux does: apt-get install ([^,]*),"),
     ),
     (
-        ("CONTRIBUTING.md", r"`tools/release` \|[^|]*\(`([^`]*)`\)"),
+        ("README.md", r"`tools/release` \|[^|]*\(`([^`]*)`\)"),
         ("tools/release", r"`apt-get install ([^`]*)`"),
     ),
 )
@@ -129,7 +129,7 @@ def packages():
     return found
 
 
-TABLES = ("CONTRIBUTING.md", "docs/LINUX.md")
+TABLES = ("README.md", "docs/LINUX.md")
 DURATION = r"\b(?:minutes?|hours?)\b"
 
 
