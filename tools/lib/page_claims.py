@@ -178,6 +178,15 @@ def order():
     return [f"docs/MAP.md: crate {it} is listed before {low}, which it needs" for it, low in late]
 
 
+def named_files():
+    """Returns the files that the map's table of crates names, or CONTRIBUTING by its crate, and that aren't there."""
+    section = read("docs/MAP.md").partition("\n## The crates\n")[2].partition("\n## ")[0]
+    named = [("docs/MAP.md", crate, it) for crate, last in re.findall(r"(?m)^\| `(vb_\w+)` \|.*\|([^|]*)\|$", section) for it in re.findall(r"`([^`]+)`", last)]
+    named = [(page, f"{crate}/{'' if it.startswith(('proofs/', 'data/')) else 'specs/' if it.endswith('.antt') else 'src/'}{it}") for page, crate, it in named]
+    named += [("CONTRIBUTING.md", it) for it in re.findall(r"`(vb_\w+/[\w./]+)`", read("CONTRIBUTING.md"))]
+    return [f"{page}: no file crates/{it}" for page, it in named if not glob.glob(f"{ROOT}/crates/{it}")]
+
+
 def named_tools():
     """Returns the tools that the map doesn't name, and those that it names and that aren't there."""
     section = read("docs/MAP.md").partition("\n## The tools\n")[2]
@@ -198,4 +207,4 @@ def sanitized():
 
 def claims():
     """Returns all that pages claim falsely."""
-    return [*counts(), *packages(), *times(), *listings(), *order(), *named_tools(), *sanitized()]
+    return [*counts(), *packages(), *times(), *listings(), *order(), *named_files(), *named_tools(), *sanitized()]
