@@ -151,7 +151,7 @@ another_order h = let e : Same 1 0 = ap (λ (o : Orders). o.cuts) h.orders in om
 
 -- 16 bytes of each descriptor, in front
 abbrev walk : ℕ → Walk
-walk behind = record { head = 11; count = 12; writing = true; first = 5; behind = behind }
+walk further = record { head = 11; count = 12; writing = true; first = 5; further = further }
 
 seven_descriptors : Says (record notice { step = record (notice.step) { length = 112; into = 0 } }) (tally_of (notice.step)) (AwaitsDescriptor spot (walk 6))
 seven_descriptors = (refl, refl)

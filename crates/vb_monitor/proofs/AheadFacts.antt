@@ -114,13 +114,13 @@ abbrev pieces : List ChainPiece → Room
 pieces found = room_of found [] [] []
 
 abbrev walk : ℕ → ℕ → Walk
-walk count behind = record { head = 3; count = count; writing = false; first = 5; behind = behind }
+walk count further = record { head = 3; count = count; writing = false; first = 5; further = further }
 
 -- of what is in the room the found ones alone count
-behind_one : AheadAt (AwaitsDescriptor (at 0x50) (walk 1 0)) (breaks OutOfRam) tally ready (pieces (in_the_hole ∷ short ∷ []))
+after_one : AheadAt (AwaitsDescriptor (at 0x50) (walk 1 0)) (breaks OutOfRam) tally ready (pieces (in_the_hole ∷ short ∷ []))
     (CopyBytes (at 0x50) last_descriptor ∷ [])
 unfolding pieces_in
-behind_one = record {
+after_one = record {
   bytes = last_descriptor;
   rest = [];
   asks = refl;
@@ -164,10 +164,10 @@ one_more = record {
 }
 
 -- after one that the device may write none is read
-read_behind : AheadAt (AwaitsDescriptor (at 0x50) (record (walk 1 0) { writing = true })) (breaks WrongDirection) tally ready
+read_after : AheadAt (AwaitsDescriptor (at 0x50) (record (walk 1 0) { writing = true })) (breaks WrongDirection) tally ready
     (pieces (in_the_hole ∷ [])) (CopyBytes (at 0x50) last_descriptor ∷ [])
 unfolding pieces_in
-read_behind = record {
+read_after = record {
   bytes = last_descriptor;
   rest = [];
   asks = refl;

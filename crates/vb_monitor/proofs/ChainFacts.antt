@@ -9,7 +9,7 @@ use Rattle.vb_monitor.specs.declared.parts.Part.{Part}
 use Rattle.vb_monitor.specs.declared.outcome.Outcome.{Outcome}
 use Rattle.vb_monitor.specs.Accesses.{Access, ReadWord, CopyBytes, Full}
 use Rattle.vb_monitor.specs.Ends.{Whole, wants_interrupt, Ends, Breaks}
-use Rattle.vb_monitor.specs.Pieces.{parts_of, all_parts, CopiesParts, PartBy, fits_behind}
+use Rattle.vb_monitor.specs.Pieces.{parts_of, all_parts, CopiesParts, PartBy, fits_after}
 use Rattle.vb_core.specs.Pieces.{pieces_in}
 use Rattle.vb_monitor.specs.Giving.{Then}
 use Rattle.vb_monitor.specs.Chains.{descriptor_of, memory_end, longest, table_fault, GoesOn, no_row, Follows, ServesPieces}
@@ -235,10 +235,10 @@ buffers = refl
 -- ---- copies
 
 -- a chain has room for 1,024 bytes
-last_that_fits : fits_behind (5 ∷ []) (record { address = 0; plus = 0; length = 1023 }) ≡ true
+last_that_fits : fits_after (5 ∷ []) (record { address = 0; plus = 0; length = 1023 }) ≡ true
 last_that_fits = refl
 
-one_past_it : fits_behind (5 ∷ []) (record { address = 0; plus = 0; length = 1024 }) ≡ false
+one_past_it : fits_after (5 ∷ []) (record { address = 0; plus = 0; length = 1024 }) ≡ false
 one_past_it = refl
 
 -- the parts in their order, and their bytes in a row

@@ -195,8 +195,8 @@ abbrev cut_at : List Access → ℕ
 cut_at (Discard cut ∷ xs) = cut.offset
 cut_at xs = 0
 
-discarded_behind : Cuts (cut_5 ∷ []) (id ∷ used_length ∷ Release ∷ used_index ∷ discard ∷ []) → ⊥
-discarded_behind h = let e = h.asks in absurd cc
+discarded_after : Cuts (cut_5 ∷ []) (id ∷ used_length ∷ Release ∷ used_index ∷ discard ∷ []) → ⊥
+discarded_after h = let e = h.asks in absurd cc
 
 not_discarded : Cuts (cut_20 ∷ cut_5 ∷ []) (Discard cut_20 ∷ id ∷ used_length ∷ Release ∷ used_index ∷ []) → ⊥
 not_discarded h = let e = h.asks in absurd cc
@@ -208,9 +208,9 @@ exchanged h = let e : Same 0x5000 0x14000 = ap cut_at h.asks in omega arith
 untold : TellsThen whole last ready tally 3 (page_5 ∷ []) one_page (discard ∷ id ∷ used_length ∷ Release ∷ used_index ∷ []) → ⊥
 untold h = let e = h.asks in absurd cc
 
-told_behind : TellsThen whole last ready tally 3 (page_5 ∷ []) one_page
+told_after : TellsThen whole last ready tally 3 (page_5 ∷ []) one_page
     (discard ∷ pages ∷ id ∷ used_length ∷ Release ∷ used_index ∷ []) → ⊥
-told_behind h = let e = h.asks in absurd cc
+told_after h = let e = h.asks in absurd cc
 
 told_as_a_deflate : TellsThen whole last ready tally 3 (page_5 ∷ []) one_page (TellPages Deflate (page_5 ∷ []) one_page ∷ []) → ⊥
 told_as_a_deflate h = let e = h.asks in absurd cc

@@ -80,10 +80,10 @@ last_entry = record {
   goes_on = record { nothing = refl; device = refl; outcome = refl };
 }
 
-abbrev behind : Virtqueue
-behind = record eighth { avail = 0x14fee }
+abbrev further : Virtqueue
+further = record eighth { avail = 0x14fee }
 
-no_entry : TakesChain (broken (with behind) OutOfRam) none (with behind) tally []
+no_entry : TakesChain (broken (with further) OutOfRam) none (with further) tally []
 no_entry = record { nothing = refl; device = refl; outcome = refl }
 
 entry_all_the_same : (w : Whole) (next : Then) (x : Access) (rest : List Access) →
@@ -195,10 +195,10 @@ part_of_another_rule h = let e = ap (λ (o : Outcome). o.why) h.outcome in absur
 
 -- ---- used elements: the chain was used up, though nothing is written
 
-abbrev used_behind : Device
-used_behind = with (record ring { used = 0x14ff8 })
+abbrev used_after : Device
+used_after = with (record ring { used = 0x14ff8 })
 
-not_given : GivesBack (broken (after_use Inflate used_behind) OutOfRam) none used_behind tally 3 []
+not_given : GivesBack (broken (after_use Inflate used_after) OutOfRam) none used_after tally 3 []
 unfolding lib.Count.ones
 not_given = record { nothing = refl; device = refl; outcome = refl }
 

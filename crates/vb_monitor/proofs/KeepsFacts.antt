@@ -36,8 +36,8 @@ by_none : each_kept false false ≡ false ∷ false ∷ false ∷ false ∷ []
 by_none = refl
 
 -- each page or none
-so_many : kept_pages true 7 ≡ 7
-so_many = refl
+count_so : kept_pages true 7 ≡ 7
+count_so = refl
 
 none_of_them : kept_pages false 7 ≡ 0
 none_of_them = refl

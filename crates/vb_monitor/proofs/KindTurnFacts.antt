@@ -144,8 +144,8 @@ of_an_unread_one h = h
 over_the_end : CopiesFrom two 0x14ffe 4 (at 0x14ffe) number → ⊥
 over_the_end h = let e = h.place in absurd cc
 
-bytes_behind_the_flags : is_over (part ∷ flags ∷ Full ∷ []) ≡ false
-bytes_behind_the_flags = refl
+bytes_after_the_flags : is_over (part ∷ flags ∷ Full ∷ []) ≡ false
+bytes_after_the_flags = refl
 
 no_number_at_first : ends_in_number [] ≡ false
 no_number_at_first = refl

@@ -24,9 +24,9 @@ parts_within l from run f a b c d =
     omega (arith, more, c, d)
 
 -- those of the runs after one are left with its own
-pub parts_behind : (l run f : ℕ) → (MAX_RUNS - (run + 1)) * l ≤ parts_left l run f
+pub parts_after : (l run f : ℕ) → (MAX_RUNS - (run + 1)) * l ≤ parts_left l run f
 unfolding parts_left
-parts_behind l run f = omega arith
+parts_after l run f = omega arith
 
 -- a part of the same run
 pub parts_fewer : (l run f g : ℕ) → f < g → g ≤ l → parts_left l run g < parts_left l run f
@@ -47,13 +47,13 @@ unfolding of_chains
 one_taken rs n lt = one_less n (of_chain rs) lt
 
 -- the first part of the runs after one
-pub fewer_behind : (o : Option NextCut) (l n run from : ℕ) →
+pub fewer_after : (o : Option NextCut) (l n run from : ℕ) →
     IfSome o (λ x. (run + 1 ≤ x.run) × (x.run < n) × (1 ≤ x.from) × (x.from ≤ l)) →
     n ≤ MAX_RUNS → IfSome o (λ x. parts_left l x.run x.from < parts_left l run from)
-fewer_behind None l n run from h few = tt
-fewer_behind (Some x) l n run from (on, below, some, to) few =
+fewer_after None l n run from h few = tt
+fewer_after (Some x) l n run from (on, below, some, to) few =
     let less = parts_within l (run + 1) x.run x.from on (omega (arith, below, few)) some to in
-    let all = parts_behind l run from in
+    let all = parts_after l run from in
     omega (arith, less, all)
 
 pub few_taken : (n : ℕ) (runs first : List Run) → first ≡ take n runs → length runs ≡ MAX_RUNS →

@@ -29,8 +29,8 @@ at_the_wrap = refl
 none_at_the_wrap : stands (record ring { next_avail = 65535 }) 65535 ≡ Ok false
 none_at_the_wrap = refl
 
-one_behind : stands (record ring { next_avail = 0 }) 65535 ≡ Err IndexJump
-one_behind = refl
+one_after : stands (record ring { next_avail = 0 }) 65535 ≡ Err IndexJump
+one_after = refl
 
 first_entry : entry_offset ring ≡ 4
 first_entry = refl

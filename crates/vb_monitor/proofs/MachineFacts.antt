@@ -16,7 +16,7 @@ use Rattle.vb_monitor.specs.declared.step.Phase.{Phase}
 use Rattle.vb_monitor.specs.declared.step.Phase.TheVariants.{AwaitsIndex, AwaitsEntry, AwaitsDescriptor, AwaitsPart}
 use Rattle.vb_monitor.specs.declared.step.Phase.TheVariants.{TellsPages, TellsFigures, Discards, GivesBack, AwaitsFlags, Ended}
 use Rattle.vb_monitor.specs.Accesses.{Access, Steps, Makes, ReadWord, CopyBytes, Acquire, Release, Full, TellPages, TellFigures}
-use Rattle.vb_monitor.specs.Machine.{behind_part, cuts_behind, is_ended, stage, waits, outcome_at, Fits, Does, GoesOn}
+use Rattle.vb_monitor.specs.Machine.{parts_after, cuts_after, is_ended, stage, waits, outcome_at, Fits, Does, GoesOn}
 use Rattle.vb_monitor.specs.{declared.cuts.NextCut.NextCut, Orders.cuts_left}
 use Rattle.vb_monitor.specs.Left.{parts_left, of_chains, left_of, left}
 use Rattle.vb_monitor.proofs.Samples.{Same, two, at, tally, ring, page_5, one_page, over_the_hole, cut_5, cut_20, cut_22, last_descriptor, number, index, entry, discard, id, used_length, used_index, flags}
@@ -24,7 +24,7 @@ use Rattle.vb_monitor.proofs.Samples.{Same, two, at, tally, ring, page_5, one_pa
 -- ---- the phases
 
 abbrev walk : Walk
-walk = record { head = 3; count = 0; writing = false; first = 3; behind = 0 }
+walk = record { head = 3; count = 0; writing = false; first = 3; further = 0 }
 
 abbrev place : Place
 place = record { head = 3; count = 1; piece = 0; is_second = false; into = 0; length = 4 }
@@ -105,7 +105,7 @@ past_the_end : Fits (AwaitsPart (at 0x400) (record place { into = 1021 })) → �
 past_the_end h = let e : 1025 ≤ 1024 = h in omega (arith, e)
 
 -- a row has as much, though it is in front; of runs there are 256 at most, and of figures 102
-rows_fit : Fits (AwaitsDescriptor (at 0x30) (record walk { behind = 63 }))
+rows_fit : Fits (AwaitsDescriptor (at 0x30) (record walk { further = 63 }))
 rows_fit = omega arith
 
 as_many_runs : Fits (TellsPages 3 (record named { runs = 256; pages = 300; skipped = 300 }))
@@ -132,41 +132,41 @@ second = record { address = 4090; plus = 6; length = 4 }
 abbrev other : Part
 other = record { address = 16; plus = 0; length = 8 }
 
-behind_the_first : behind_part false 0 pieces ≡ second ∷ other ∷ []
-behind_the_first = refl
+after_the_first : parts_after false 0 pieces ≡ second ∷ other ∷ []
+after_the_first = refl
 
-behind_the_second : behind_part true 0 pieces ≡ other ∷ []
-behind_the_second = refl
+after_the_second : parts_after true 0 pieces ≡ other ∷ []
+after_the_second = refl
 
 -- the other one has no second part
-behind_the_last : behind_part false 1 pieces ≡ []
-behind_the_last = refl
+after_the_last : parts_after false 1 pieces ≡ []
+after_the_last = refl
 
-behind_no_piece : behind_part false 2 pieces ≡ []
-behind_no_piece = refl
+after_no_piece : parts_after false 2 pieces ≡ []
+after_no_piece = refl
 
 -- ---- the discards that are left
 
 abbrev runs : List Run
 runs = over_the_hole ∷ page_5 ∷ []
 
-behind_the_first_region : cuts_behind 1 0 two runs ≡ cut_22 ∷ cut_5 ∷ []
-behind_the_first_region = refl
+after_the_first_region : cuts_after 1 0 two runs ≡ cut_22 ∷ cut_5 ∷ []
+after_the_first_region = refl
 
-from_the_first_on : cuts_behind 0 0 two runs ≡ cut_20 ∷ cut_22 ∷ cut_5 ∷ []
+from_the_first_on : cuts_after 0 0 two runs ≡ cut_20 ∷ cut_22 ∷ cut_5 ∷ []
 from_the_first_on = refl
 
-behind_both_regions : cuts_behind 2 0 two runs ≡ cut_5 ∷ []
-behind_both_regions = refl
+after_both_regions : cuts_after 2 0 two runs ≡ cut_5 ∷ []
+after_both_regions = refl
 
-of_the_second_run : cuts_behind 0 1 two runs ≡ cut_5 ∷ []
+of_the_second_run : cuts_after 0 1 two runs ≡ cut_5 ∷ []
 of_the_second_run = refl
 
-behind_the_second_run : cuts_behind 1 1 two runs ≡ []
-behind_the_second_run = refl
+after_the_second_run : cuts_after 1 1 two runs ≡ []
+after_the_second_run = refl
 
-behind_all_runs : cuts_behind 0 2 two runs ≡ []
-behind_all_runs = refl
+after_all_runs : cuts_after 0 2 two runs ≡ []
+after_all_runs = refl
 
 -- the next part that is left comes before these, whichever it is
 abbrev next_cut : ℕ → ℕ → NextCut
@@ -215,19 +215,19 @@ does_nothing = refl
 -- bytes are copied to their place, and what is in front of it stays
 copies : Does (AwaitsPart (at 0x400) (record place { into = 2 })) Inflate 0 (8 ∷ 9 ∷ 7 ∷ 7 ∷ 7 ∷ 7 ∷ 6 ∷ [])
     (room (8 ∷ 9 ∷ 5 ∷ 0 ∷ 0 ∷ 0 ∷ 6 ∷ [])) (CopyBytes (at 0x400) number ∷ [])
-copies = record { bytes = number; asks = refl; long = refl; behind = refl }
+copies = record { bytes = number; asks = refl; long = refl; joined = refl }
 
 copies_a_descriptor : Does (AwaitsDescriptor (at 0x30) walk) Inflate 0 [] (room last_descriptor)
     (CopyBytes (at 0x30) last_descriptor ∷ [])
-copies_a_descriptor = record { bytes = last_descriptor; asks = refl; long = refl; behind = refl }
+copies_a_descriptor = record { bytes = last_descriptor; asks = refl; long = refl; joined = refl }
 
 -- ---- what wasn't
 
 no_fence : Does (AwaitsEntry (at 0x104)) Inflate 3 [] (room []) (entry ∷ []) → ⊥
 no_fence h = absurd cc
 
-fence_behind : Does (AwaitsEntry (at 0x104)) Inflate 3 [] (room []) (entry ∷ Acquire ∷ []) → ⊥
-fence_behind h = absurd cc
+fence_after : Does (AwaitsEntry (at 0x104)) Inflate 3 [] (room []) (entry ∷ Acquire ∷ []) → ⊥
+fence_after h = absurd cc
 
 no_full_fence : Does (AwaitsFlags (at 0x100) None false) Inflate 0 [] (room []) (flags ∷ []) → ⊥
 no_full_fence h = absurd cc
@@ -291,12 +291,12 @@ not_in_the_room : Does (AwaitsPart (at 0x400) place) Inflate 0 [] (room (6 ∷ 0
     (CopyBytes (at 0x400) number ∷ []) → ⊥
 not_in_the_room h =
     let e : Same 5 (head_of h.bytes) = ap (λ (xs : List Access). head_of (copied xs)) h.asks in
-    let stands : Same 6 (head_of h.bytes) = ap head_of h.behind in
+    let stands : Same 6 (head_of h.bytes) = ap head_of h.joined in
     omega (arith, e, stands)
 
 on_others : Does (AwaitsPart (at 0x400) (record place { into = 1; length = 1 })) Inflate 0 (8 ∷ []) (room (9 ∷ 5 ∷ []))
     (CopyBytes (at 0x400) (5 ∷ []) ∷ []) → ⊥
-on_others h = let e : Same 9 8 = ap head_of h.behind in omega arith
+on_others h = let e : Same 9 8 = ap head_of h.joined in omega arith
 
 -- ---- steps from one memory to another
 

@@ -115,11 +115,11 @@ pieces_answered : (pieces : List Piece) (room : ℕ) (runs : List Run) (d d2 : D
     → take (length pieces) runs ≡ map run_of pieces → Pieces pieces runs d d2 named
 pieces_answered pieces room runs d d2 named (Err fault) is e after are = absurd cc
 pieces_answered pieces room runs d d2 named (Ok pages) is e after are =
-    let so_many : named.runs ≡ length pieces = cc in (
+    let count_so : named.runs ≡ length pieces = cc in (
       record {
         free = pages;
         sound = is;
-        are = ap (λ (n : ℕ). take n runs) so_many ∙ are;
+        are = ap (λ (n : ℕ). take n runs) count_so ∙ are;
         pages = cc;
         skipped = cc;
       },

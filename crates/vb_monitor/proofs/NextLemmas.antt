@@ -5,8 +5,8 @@ use Rattle.vb_core.specs.declared.device.Device.{Device}
 use Rattle.vb_monitor.specs.Notices.{TakesChain, TakesNext, TakesUnlessSpent, AfterGiven}
 use Rattle.vb_monitor.specs.{Notices.{with_chains, ServesPublished}, declared.outcome.Tally.Tally}
 use Rattle.vb_monitor.specs.{declared.parts.Part.Part, Accesses.Access, Machine.next_chain}
-use Rattle.vb_monitor.specs.{Ends.{Whole, Ends}, Pieces.{PartBy, fits_behind, CopiesParts}}
-use Rattle.vb_monitor.proofs.BufferLemmas.{second_in, no_second_in, behind_in}
+use Rattle.vb_monitor.specs.{Ends.{Whole, Ends}, Pieces.{PartBy, fits_after, CopiesParts}}
+use Rattle.vb_monitor.proofs.BufferLemmas.{second_in, no_second_in, after_in}
 
 -- the budget, one chain less
 takes_by : (m : ℕ) (w : Whole) (d : Device) (t : Tally) (log : List Access) (spent : Bool) →
@@ -40,7 +40,7 @@ copies_none w served d t parts so_far log e h =
 
 pub copies_more : (w : Whole) (served : List ℕ → List Access → Type 0) (d : Device) (t : Tally)
     (parts rest : List Part) (part : Part) (so_far : List ℕ) (log : List Access) → parts ≡ part
-    ∷ rest → PartBy (fits_behind so_far part) w (CopiesParts w served d t rest) d t part so_far log
+    ∷ rest → PartBy (fits_after so_far part) w (CopiesParts w served d t rest) d t part so_far log
     → CopiesParts w served d t parts so_far log
 copies_more w served d t parts rest part so_far log e h =
     subst (λ (ps : List Part). CopiesParts w served d t ps so_far log) (sym e) h
@@ -53,4 +53,4 @@ pub ruleset copy_steps = (copies_none, copies_more)
 
 pub ruleset second_steps = (second_in, no_second_in, copies_more)
 
-pub ruleset end_steps = (behind_in, copies_none)
+pub ruleset end_steps = (after_in, copies_none)

@@ -33,8 +33,8 @@ one_more = refl
 around : stands (record ring { next_avail = 65535 }) 1 ≡ Ok true
 around = refl
 
-behind : stands (record ring { next_avail = 1 }) 0 ≡ Err IndexJump
-behind = refl
+further : stands (record ring { next_avail = 1 }) 0 ≡ Err IndexJump
+further = refl
 
 tenth_entry : entry_offset (record ring { next_avail = 9 }) ≡ 6
 tenth_entry = refl

@@ -26,10 +26,10 @@ stage_waits (GivesBack spots entry) e = absurd (grind arith)
 
 -- ---- parts in a list
 
-pub one_more : (all cuts behind more : List Cut) (count : ℕ) (cut : Cut) → count < length cuts →
-    all ≡ take count cuts ++ cut ∷ behind → behind ≡ more →
+pub one_more : (all cuts further more : List Cut) (count : ℕ) (cut : Cut) → count < length cuts →
+    all ≡ take count cuts ++ cut ∷ further → further ≡ more →
     all ≡ take (count + 1) (slice_set cuts count cut) ++ more
-one_more all cuts behind more count cut lt e f =
+one_more all cuts further more count cut lt e f =
     e ∙ (ap (λ (l : List Cut). take count cuts ++ cut ∷ l) f
     ∙ (sym (append_assoc (take count cuts) (cut ∷ []) more)
     ∙ ap (λ (l : List Cut). l ++ more) (sym (take_more_set cuts count cut lt))))

@@ -4,7 +4,7 @@ use Rattle.std.proofs.Common.{Bool, true, false, List, [], ◌∷◌, ◌++◌, 
 use Rattle.std.{specs.Prelude.{if◌then◌else◌, ◌==◌}, proofs.lemmas.List.{drop_more, drop_all}}
 use Rattle.std.proofs.lemmas.Bool.Decides.{nat_tests}
 use Rattle.vb_chain.specs.declared.pieces.Piece.{Piece}
-use Rattle.vb_monitor.specs.Machine.{seconds, behind_part}
+use Rattle.vb_monitor.specs.Machine.{seconds, parts_after}
 use Rattle.vb_monitor.specs.Pieces.{first_part, second_part, unless_empty, all_parts}
 
 some_first : (p : Piece) → 0 < p.len → ((first_part p).length == 0) ≡ false
@@ -17,7 +17,7 @@ no_second : (p : Piece) → p.len ≡ 0 → ((second_part p).length == 0) ≡ tr
 no_second p h = grind (arith, nat_tests)
 
 pub part_here : (ps : List Piece) (n : ℕ) (d : Piece) → n < length ps → 0 < (get_or ps n d).len →
-    all_parts (drop n ps) ≡ first_part (get_or ps n d) ∷ behind_part false n ps
+    all_parts (drop n ps) ≡ first_part (get_or ps n d) ∷ parts_after false n ps
 part_here ps n d lt h =
     let p = get_or ps n d in
     ap (λ (l : List Piece). all_parts l) (drop_more ps n d lt)
@@ -49,7 +49,7 @@ is_none n h = grind (arith, nat_tests)
 
 pub second_here : (ps : List Piece) (n : ℕ) (d : Piece) → n < length ps →
     0 < (second_part (get_or ps n d)).length →
-    behind_part false n ps ≡ second_part (get_or ps n d) ∷ behind_part true n ps
+    parts_after false n ps ≡ second_part (get_or ps n d) ∷ parts_after true n ps
 second_here ps n d lt h =
     let p = get_or ps n d in
     ap (λ (l : List Piece). seconds l ++ all_parts (drop (n + 1) ps)) (drop_more ps n d lt)
@@ -57,14 +57,14 @@ second_here ps n d lt h =
     (is_some (second_part p).length h)
 
 pub second_none : (ps : List Piece) (n : ℕ) (d : Piece) → n < length ps →
-    (second_part (get_or ps n d)).length ≡ 0 → behind_part false n ps ≡ all_parts (drop (n + 1) ps)
+    (second_part (get_or ps n d)).length ≡ 0 → parts_after false n ps ≡ all_parts (drop (n + 1) ps)
 second_none ps n d lt h =
     let p = get_or ps n d in
     ap (λ (l : List Piece). seconds l ++ all_parts (drop (n + 1) ps)) (drop_more ps n d lt)
     ∙ ap (λ (b : Bool). (if b then [] else second_part p ∷ []) ++ all_parts (drop (n + 1) ps))
     (is_none (second_part p).length h)
 
-pub behind_end : (b : Bool) (ps : List Piece) (n : ℕ) → length ps ≤ n → behind_part b n ps ≡ []
-behind_end true ps n le = part_end ps (n + 1) (omega (arith, le))
-behind_end false ps n le = ap (λ (l : List Piece). seconds l ++ all_parts (drop (n + 1) ps))
+pub after_end : (b : Bool) (ps : List Piece) (n : ℕ) → length ps ≤ n → parts_after b n ps ≡ []
+after_end true ps n le = part_end ps (n + 1) (omega (arith, le))
+after_end false ps n le = ap (λ (l : List Piece). seconds l ++ all_parts (drop (n + 1) ps))
     (drop_all n ps le) ∙ part_end ps (n + 1) (omega (arith, le))

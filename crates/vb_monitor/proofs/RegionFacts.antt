@@ -25,8 +25,8 @@ second = refl
 last_byte : spot two 0x1ffff 1 ≡ Some (record { region = 1; offset = 0x9fff })
 last_byte = refl
 
-behind_all : spot two 0x1ffff 2 ≡ None
-behind_all = refl
+after_all : spot two 0x1ffff 2 ≡ None
+after_all = refl
 
 over_an_end : spot two 0x14fff 2 ≡ None
 over_an_end = refl

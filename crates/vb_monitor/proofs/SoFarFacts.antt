@@ -34,8 +34,8 @@ of_the_entry = refl
 unfenced : known Inflate (entry ∷ index ∷ []) ≡ Unknown
 unfenced = refl
 
-behind_another_fence : known Inflate (entry ∷ Full ∷ index ∷ []) ≡ Unknown
-behind_another_fence = refl
+after_another_fence : known Inflate (entry ∷ Full ∷ index ∷ []) ≡ Unknown
+after_another_fence = refl
 
 -- its pieces are in their order
 abbrev other : Piece
@@ -71,9 +71,9 @@ of_a_deflate = refl
 of_the_part : known Inflate (part ∷ descriptor ∷ taken) ≡ Has 3 (piece ∷ []) [] number
 of_the_part = refl
 
-behind_others : with_copied Inflate (7 ∷ 8 ∷ []) (Has 3 [] (of_piece ∷ of_piece ∷ []) (5 ∷ 6 ∷ [])) ≡
+after_others : with_copied Inflate (7 ∷ 8 ∷ []) (Has 3 [] (of_piece ∷ of_piece ∷ []) (5 ∷ 6 ∷ [])) ≡
     Has 3 [] (of_piece ∷ []) (5 ∷ 6 ∷ 7 ∷ 8 ∷ [])
-behind_others = refl
+after_others = refl
 
 past_all_parts : with_copied Inflate (7 ∷ []) (Has 3 [] [] (5 ∷ [])) ≡ Has 3 [] [] (5 ∷ [])
 past_all_parts = refl
@@ -85,10 +85,10 @@ copied_of_no_chain = refl
 abbrev whole : List Access
 whole = part ∷ descriptor ∷ taken
 
-abbrev kept_behind : Access → Known
-kept_behind x = known Inflate (x ∷ whole)
+abbrev kept_after : Access → Known
+kept_after x = known Inflate (x ∷ whole)
 
-kept : map kept_behind (Acquire ∷ Release ∷ Full ∷ pages ∷ figures ∷ discard ∷ id ∷ []) ≡
+kept : map kept_after (Acquire ∷ Release ∷ Full ∷ pages ∷ figures ∷ discard ∷ id ∷ []) ≡
     Has 3 (piece ∷ []) [] number ∷ Has 3 (piece ∷ []) [] number ∷ Has 3 (piece ∷ []) [] number
     ∷ Has 3 (piece ∷ []) [] number ∷ Has 3 (piece ∷ []) [] number ∷ Has 3 (piece ∷ []) [] number
     ∷ Has 3 (piece ∷ []) [] number ∷ []
@@ -113,19 +113,19 @@ nothing_last = refl
 
 -- ---- how far the queue is
 
-abbrev taken_behind : Access → ℕ
-taken_behind x = (ring_after ring (x ∷ [])).next_avail
+abbrev taken_after : Access → ℕ
+taken_after x = (ring_after ring (x ∷ [])).next_avail
 
-abbrev used_behind : Access → ℕ
-used_behind x = (ring_after ring (x ∷ [])).next_used
+abbrev used_after : Access → ℕ
+used_after x = (ring_after ring (x ∷ [])).next_used
 
 -- an entry is taken where pages or figures are told
-one_taken : map taken_behind (index ∷ part ∷ Acquire ∷ Release ∷ Full
+one_taken : map taken_after (index ∷ part ∷ Acquire ∷ Release ∷ Full
     ∷ pages ∷ figures ∷ discard ∷ id ∷ used_index ∷ []) ≡ 0 ∷ 0 ∷ 0 ∷ 0 ∷ 0 ∷ 1 ∷ 1 ∷ 0 ∷ 0 ∷ 0 ∷ []
 one_taken = refl
 
 -- an element is used where an index is written
-one_used : map used_behind (index ∷ part ∷ Acquire ∷ Release ∷ Full
+one_used : map used_after (index ∷ part ∷ Acquire ∷ Release ∷ Full
     ∷ pages ∷ figures ∷ discard ∷ id ∷ used_index ∷ []) ≡ 0 ∷ 0 ∷ 0 ∷ 0 ∷ 0 ∷ 0 ∷ 0 ∷ 0 ∷ 0 ∷ 1 ∷ []
 one_used = refl
 
@@ -188,10 +188,10 @@ of_the_last_told : left_of (pages ∷ hole_told ∷ whole) ≡ cut_5 ∷ []
 of_the_last_told = refl
 
 -- other accesses keep them
-abbrev left_behind : Access → List Cut
-left_behind x = left_of (x ∷ pages ∷ whole)
+abbrev left_after : Access → List Cut
+left_after x = left_of (x ∷ pages ∷ whole)
 
-still_left : map left_behind (index ∷ part ∷ Acquire ∷ Release ∷ Full ∷ figures ∷ id ∷ used_index ∷ []) ≡
+still_left : map left_after (index ∷ part ∷ Acquire ∷ Release ∷ Full ∷ figures ∷ id ∷ used_index ∷ []) ≡
     (cut_5 ∷ []) ∷ (cut_5 ∷ []) ∷ (cut_5 ∷ []) ∷ (cut_5 ∷ []) ∷ (cut_5 ∷ []) ∷ (cut_5 ∷ []) ∷ (cut_5 ∷ [])
     ∷ (cut_5 ∷ []) ∷ []
 still_left = refl
@@ -199,7 +199,7 @@ still_left = refl
 -- ---- by all those before
 
 abbrev Stand : List Access → Access → Type 0
-Stand before x = Each (λ behind y. behind ≡ index ∷ before) (index ∷ before) (x ∷ [])
+Stand before x = Each (λ further y. further ≡ index ∷ before) (index ∷ before) (x ∷ [])
 
 -- each access sees all those before it, of which the last one is first
 sees_all : Stand (Acquire ∷ flags ∷ []) entry

@@ -59,7 +59,7 @@ each_phase : map (λ n. phase_at n numbers) (0 ∷ 1 ∷ 2 ∷ 3 ∷ 4 ∷ 5 ∷
     Ended (Some (Broken TooLong)) true false
     ∷ AwaitsIndex spot
     ∷ AwaitsEntry spot
-    ∷ AwaitsDescriptor spot (record { head = 11; count = 12; writing = true; first = 5; behind = 6 })
+    ∷ AwaitsDescriptor spot (record { head = 11; count = 12; writing = true; first = 5; further = 6 })
     ∷ AwaitsPart spot (record { head = 11; count = 12; piece = 5; is_second = true; into = 3; length = 4 })
     ∷ AwaitsFlags spot (Some (Broken TooLong)) false
     ∷ Discards (record { region = 1; offset = 0x102; in_file = 7; length = 8 })
@@ -96,7 +96,7 @@ last_that_fits = refl
 one_past_it : may_go_on (phase_at 4 (record numbers { into = 1021 })) ≡ false
 one_past_it = refl
 
-row_too_long : may_go_on (AwaitsDescriptor spot (record { head = 0; count = 0; writing = false; first = 0; behind = 64 })) ≡ false
+row_too_long : may_go_on (AwaitsDescriptor spot (record { head = 0; count = 0; writing = false; first = 0; further = 64 })) ≡ false
 row_too_long = refl
 
 -- ---- what was done
@@ -120,7 +120,7 @@ none_taken = refl
 
 -- a row that has no room is read as one that just has, and its first number has 16 bits
 abbrev walk : ℕ → Walk
-walk behind = record { head = 11; count = 12; writing = true; first = 5; behind = behind }
+walk further = record { head = 11; count = 12; writing = true; first = 5; further = further }
 
 as_many_as_fit : walk_of (record numbers { from = 64 }) ≡ walk 63
 as_many_as_fit = refl

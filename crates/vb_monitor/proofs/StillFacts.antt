@@ -34,9 +34,9 @@ last_descriptor_too h = h.descriptors 7 (omega arith) refl
 there : ArePartsMapped two (record { address = 0x400; plus = 4; length = 4 } ∷ [])
 there = (λ e. absurd cc, tt)
 
-behind_it_a_hole : ArePartsMapped two
+after_it_a_hole : ArePartsMapped two
     (record { address = 0x400; plus = 4; length = 4 } ∷ record { address = 0x14ffc; plus = 4; length = 4 } ∷ []) → ⊥
-behind_it_a_hole h = h.1.0 refl
+after_it_a_hole h = h.1.0 refl
 
 -- all of eight descriptors, the last one of which ends where the hole begins
 each_there : (k : ℕ) → k < 8 → spot two (0x14f80 + 16 * k) 16 ≢ None

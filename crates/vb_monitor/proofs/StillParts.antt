@@ -11,7 +11,7 @@ use Rattle.vb_core.{specs.declared.kinds.Kind.Kind, specs.declared.device.Device
 use Rattle.vb_monitor.specs.declared.{parts.Part.Part, regions.Spot.Spot, outcome.Tally.Tally}
 use Rattle.vb_monitor.specs.{declared.room.TheConstants.MAX_BYTES, Regions.spot, Accesses.Access}
 use Rattle.vb_monitor.specs.{Accesses.CopyBytes, Ends.Whole, Pieces.{first_part, second_part}}
-use Rattle.vb_monitor.specs.Pieces.{unless_empty, parts_of, all_parts, fits_behind, PartAt, PartBy}
+use Rattle.vb_monitor.specs.Pieces.{unless_empty, parts_of, all_parts, fits_after, PartAt, PartBy}
 use Rattle.vb_monitor.specs.{Pieces.CopiesParts, Chains.{AfterBytes, ServesPieces, CopiesBy}}
 use Rattle.vb_monitor.specs.{Giving.Then, Machine.{next_chain, serves, served}, Still.bytes_from}
 use Rattle.vb_monitor.specs.Still.{bytes_of, ArePartsMapped, Holds, is_read, length_of}
@@ -80,7 +80,7 @@ all_bytes byte (p ∷ ps) = flat_map-append (part_bytes byte) (parts_of p) (all_
 -- ---- the copies
 
 fits : (so_far here rest : List ℕ) (part : Part) → length here ≡ part.length →
-    length (so_far ++ (here ++ rest)) ≤ MAX_BYTES → fits_behind so_far part ≡ true
+    length (so_far ++ (here ++ rest)) ≤ MAX_BYTES → fits_after so_far part ≡ true
 fits so_far here rest part long room =
     let all : length (so_far ++ (here ++ rest)) ≡ length so_far + length (here ++ rest) =
     length-append so_far (here ++ rest) in
@@ -111,15 +111,15 @@ copied onward byte w does d t part parts so_far (Some at) log on e mapped room s
     let joined : (so_far ++ part_bytes byte part) ++ parts_bytes byte parts ≡
     so_far ++ (part_bytes byte part ++ parts_bytes byte parts) =
     append_assoc so_far (part_bytes byte part) (parts_bytes byte parts) in
-    let behind = on (so_far ++ part_bytes byte part) h.rest
+    let further = on (so_far ++ part_bytes byte part) h.rest
     (subst (λ (l : List ℕ). length l ≤ MAX_BYTES) (sym joined) room) all.1
     (subst (λ (l : List ℕ). CopiesParts w does d t parts (so_far ++ l) h.rest) same h.goes_on) in
     record {
-      read = CopyBytes at h.bytes ∷ behind.read;
-      rest = behind.rest;
-      all = h.asks ∙ ap (λ (l : List Access). CopyBytes at h.bytes ∷ l) behind.all;
-      is = subst (λ (l : List ℕ). does l behind.rest) joined behind.is;
-      still_so = behind.still_so;
+      read = CopyBytes at h.bytes ∷ further.read;
+      rest = further.rest;
+      all = h.asks ∙ ap (λ (l : List Access). CopyBytes at h.bytes ∷ l) further.all;
+      is = subst (λ (l : List ℕ). does l further.rest) joined further.is;
+      still_so = further.still_so;
     }
 
 copies : (onward : List Access → Type 0) (byte : ℕ → ℕ) (w : Whole) (does : List ℕ → List Access →
@@ -138,7 +138,7 @@ copies onward byte w does d t [] so_far log mapped room stays h = record {
 copies onward byte w does d t (part ∷ parts) so_far log mapped room stays h =
     let long : length (part_bytes byte part) ≡ part.length =
     length-map-range_with_len byte (part.address + part.plus) part.length in
-    let room_so : fits_behind so_far part ≡ true =
+    let room_so : fits_after so_far part ≡ true =
     fits so_far (part_bytes byte part) (parts_bytes byte parts) part long room in
     copied onward byte w does d t part parts so_far _ log
     (λ now l. copies onward byte w does d t parts now l mapped.1) refl mapped.0 room stays

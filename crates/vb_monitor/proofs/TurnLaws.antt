@@ -26,7 +26,7 @@ use Rattle.vb_monitor.specs.Turns.{IsPublished, ReadsInTurn, TellsInTurn, Writes
 use Rattle.vb_monitor.specs.declared.outcome.{Budget.Budget, HeldChain.HeldChain, Outcome.Outcome, Tally.Tally}
 use Rattle.vb_monitor.specs.Holding.{HoldsTold}
 use Rattle.vb_monitor.specs.declared.regions.{Region.Region, Spot.Spot}
-use Rattle.vb_monitor.proofs.TurnWalks.{Behind, walk_room, walked_out, follows_from}
+use Rattle.vb_monitor.proofs.TurnWalks.{ReadBefore, walk_room, walked_out, follows_from}
 
 -- ---- a look
 
@@ -49,7 +49,7 @@ head_by w d0 m next on d t head true b log is known_is read h =
     (follows_from n MAX_QUEUE_SIZE w d0 d t m head _ (λ ps b2 rest begun.
     pieces_go w d0 m w.kind refl next on d t head ps b2 rest begun) few few no_row head false [] b log is
     (known_is ∙ sym (walked_out MAX_QUEUE_SIZE w.kind head no_row head [] (none_of_none head)))
-    (subst (λ (o : Option (List ℕ)). Behind o b) (sym (none_of_none head)) read) h)
+    (subst (λ (o : Option (List ℕ)). ReadBefore o b) (sym (none_of_none head)) read) h)
 
 entry_at : (w : Whole) (d0 : Device) (m : ℕ) (next : Then) (on : After w d0 m next) (d : Device)
     (t : Tally) (o : Option Spot) (b log : List Access) → Between w d0 d t.published b →

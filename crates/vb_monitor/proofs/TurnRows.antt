@@ -97,7 +97,7 @@ figures_go w d0 d m t head pieces bytes None b log e is h =
       tells = (
         e,
         subst (λ (k : Known). FiguresOf k told) (sym is.known_so)
-            (record { figures = h.figures; are = h.are; so_many = refl }),
+            (record { figures = h.figures; are = h.are; count_so = refl }),
       );
       writes = tt;
       follows = is.copied;

@@ -13,7 +13,7 @@ use Rattle.vb_monitor.proofs.{TurnEnds.{one_on, flags_of, breaks_go}}
 use Rattle.vb_monitor.{proofs.TurnRows.{Begun}, specs.Accesses.{Access}}
 use Rattle.vb_monitor.specs.Order.{is_read, is_copied}
 use Rattle.vb_monitor.specs.{Accesses.{CopyBytes}}
-use Rattle.vb_monitor.specs.Chains.{TableRow, row_of, in_row, behind_in_row, descriptor_of}
+use Rattle.vb_monitor.specs.Chains.{TableRow, row_of, in_row, further_in_row, descriptor_of}
 use Rattle.vb_monitor.specs.Chains.{GoesOn, DescriptorBy, RowAt, FollowsBy, Follows}
 use Rattle.vb_monitor.{specs.Ends.Whole}
 use Rattle.vb_monitor.proofs.TableRowLemmas.{first_in_row}
@@ -34,14 +34,14 @@ walked_out (suc n) kind head row number pieces e =
     ap (λ (o : Option (List ℕ)). walked_by o (walked_in n kind head row) kind head number pieces) e
 
 -- after one that the row has
-abbrev Known_behind : ℕ → Kind → ℕ → TableRow → List Piece → Descriptor → Known
-Known_behind n kind head row pieces x = with_descriptor (has_next x) (walked_in n kind head row)
+abbrev Known_after : ℕ → Kind → ℕ → TableRow → List Piece → Descriptor → Known
+Known_after n kind head row pieces x = with_descriptor (has_next x) (walked_in n kind head row)
     kind head (pieces ++ piece_of x ∷ []) x.next
 
 walked_on : (n : ℕ) (kind : Kind) (head : ℕ) (row : TableRow) (number : ℕ) (pieces : List Piece)
     (bytes : List ℕ) → in_row row number ≡ Some bytes →
     walked_in (suc n) kind head row number pieces ≡
-    Known_behind n kind head row pieces (descriptor_of bytes)
+    Known_after n kind head row pieces (descriptor_of bytes)
 walked_on n kind head row number pieces bytes e =
     ap (λ (o : Option (List ℕ)). walked_by o (walked_in n kind head row) kind head number pieces) e
 
@@ -95,7 +95,7 @@ descriptor_by : (w : Whole) (d0 d : Device) (t : Tally) (m n head fuel : ℕ) (r
     (more : On w d0 d t m n head fuel row on) (last : Last w d0 d t m head done)
     (fault : Option ChainFault) (writing : Bool) (x : Descriptor) (pieces : List Piece)
     (b log : List Access) →
-    Walking w d0 d t.published (Known_behind fuel w.kind head row pieces x) b
+    Walking w d0 d t.published (Known_after fuel w.kind head row pieces x) b
     → DescriptorBy fault w d t on done writing x pieces log →
     Goes w d0 t.keeps (walk_room n (suc (length pieces)) m) b log
 descriptor_by w d0 d t m n head fuel row on done more last (Some fault) writing x pieces b log is h =
@@ -115,8 +115,8 @@ row_at : (w : Whole) (d0 d : Device) (t : Tally) (m n head number : ℕ)
     (b log : List Access) → Agrees w d0 t.published b d →
     known w.kind b ≡ Walks head number pieces → is_read (newest b) ≡ true →
     spot w.regions ((ring_of w.kind d).table + 16 * number)
-    (16 * (behind_in_row w.regions (ring_of w.kind d) number pieces + 1)) ≡ o →
-    RowAt w d t on done number (behind_in_row w.regions (ring_of w.kind d) number pieces) writing
+    (16 * (further_in_row w.regions (ring_of w.kind d) number pieces + 1)) ≡ o →
+    RowAt w d t on done number (further_in_row w.regions (ring_of w.kind d) number pieces) writing
     pieces o log → Goes w d0 t.keeps (walk_room (suc n) (length pieces) m) b log
 row_at w d0 d t m n head number on done more last writing pieces None b log is known_is read e h =
     breaks_go w d0 d t _ _ b log (omega arith) (flags_of w d0 _ b d is) h
@@ -129,7 +129,7 @@ row_at w d0 d t m n head number on done more last writing pieces (Some at) b log
     asked w d0 t.keeps _ b log _ h.asks
     (one_more w d0 t.keeps (walk_room n (suc (length pieces)) m) _ x b _ (omega arith)
     (copy_comes w d0 t.keeps (r.table + 16 * number)
-    (16 * (behind_in_row w.regions r number pieces + 1)) at h.bytes b
+    (16 * (further_in_row w.regions r number pieces + 1)) at h.bytes b
     (subst (λ (k : Known). CopiesNext w.regions (ring_after (ring_of w.kind d0) b) k at h.bytes)
     (sym known_is) (subst (λ (q : Virtqueue). CopiesNext w.regions q (Walks head number pieces) at
     h.bytes) is.ring next)) read e h.long)
@@ -144,14 +144,14 @@ row_at w d0 d t m n head number on done more last writing pieces (Some at) b log
     }) h.goes_on))
 
 -- after what was read, which bytes are where the row that was copied last has the descriptor
-abbrev pub Behind : Option (List ℕ) → List Access → Type 0
-Behind None b = is_read (newest b) ≡ true
-Behind (Some bytes) b = (is_copied (newest b) ≡ true) × (is_read (newest b) ≡ true)
+abbrev pub ReadBefore : Option (List ℕ) → List Access → Type 0
+ReadBefore None b = is_read (newest b) ≡ true
+ReadBefore (Some bytes) b = (is_copied (newest b) ≡ true) × (is_read (newest b) ≡ true)
 
-behind : (o : Option (List ℕ)) (b : List Access) → is_copied (newest b) ≡ true →
-    is_read (newest b) ≡ true → Behind o b
-behind None b copied read = read
-behind (Some bytes) b copied read = (copied, read)
+may_read : (o : Option (List ℕ)) (b : List Access) → is_copied (newest b) ≡ true →
+    is_read (newest b) ≡ true → ReadBefore o b
+may_read None b copied read = read
+may_read (Some bytes) b copied read = (copied, read)
 
 row_by : (w : Whole) (d0 d : Device) (t : Tally) (m n head fuel : ℕ) (row : TableRow) (number : ℕ)
     (on : TableRow → ℕ → Bool → List Piece → List Access → Type 0)
@@ -159,7 +159,7 @@ row_by : (w : Whole) (d0 d : Device) (t : Tally) (m n head fuel : ℕ) (row : Ta
     (rows : Rows w d0 d t m n head on) (last : Last w d0 d t m head done) (writing : Bool)
     (pieces : List Piece) (o : Option (List ℕ)) (b log : List Access) →
     Agrees w d0 t.published b d →
-    known w.kind b ≡ walked_in (suc fuel) w.kind head row number pieces → Behind o b →
+    known w.kind b ≡ walked_in (suc fuel) w.kind head row number pieces → ReadBefore o b →
     in_row row number ≡ o → FollowsBy o w d t on done row number writing pieces log →
     Goes w d0 t.keeps (walk_room (suc n) (length pieces) m) b log
 row_by w d0 d t m n head fuel row number on done more rows last writing pieces None b log is known_is was e h =
@@ -179,7 +179,7 @@ pub follows_from : (n fuel : ℕ) (w : Whole) (d0 d : Device) (t : Tally) (m hea
     (done : List Piece → List Access → Type 0) (last : Last w d0 d t m head done) → n ≤ fuel →
     n ≤ MAX_QUEUE_SIZE → (row : TableRow) (number : ℕ) (writing : Bool) (pieces : List Piece)
     (b log : List Access) → Agrees w d0 t.published b d →
-    known w.kind b ≡ walked_in fuel w.kind head row number pieces → Behind (in_row row number) b →
+    known w.kind b ≡ walked_in fuel w.kind head row number pieces → ReadBefore (in_row row number) b →
     Follows n w d t done row number writing pieces log →
     Goes w d0 t.keeps (walk_room n (length pieces) m) b log
 follows_from zero fuel w d0 d t m head done last less most row number writing pieces b log is known_is was h =
@@ -191,6 +191,6 @@ follows_from (suc n) (suc fuel) w d0 d t m head done last less most row number w
     (ps : List Piece) (b rest : List Access) (x : Walking w d0 d t.published (walked_in k w.kind head row number ps) b)
     (h : Follows n w d t done row number writing ps rest).
     follows_from n k w d0 d t m head done last fits (omega (arith, most)) row number writing ps b rest
-    x.agrees x.known_is (behind (in_row row number) b x.copied x.read) h in
+    x.agrees x.known_is (may_read (in_row row number) b x.copied x.read) h in
     row_by w d0 d t m n head fuel row number (Follows n w d t done) done (on fuel (omega (arith, less)) row)
     (on (MAX_QUEUE_SIZE - 1) (omega (arith, most))) last writing pieces _ b log is known_is was refl h

@@ -117,9 +117,9 @@ untold : IsServed (index ∷ Acquire ∷ entry ∷ descriptor ∷ part ∷ disca
 untold (d, (o, h)) = let e : false ≡ true = (in_order two Inflate budget ready d o _ h).1.1.1.1.1.0 in absurd cc
 
 -- discarded after its used element, twice, before it is told, or not at all
-discarded_behind : IsServed (index ∷ Acquire ∷ entry ∷ descriptor ∷ part ∷ pages ∷ id
+discarded_after : IsServed (index ∷ Acquire ∷ entry ∷ descriptor ∷ part ∷ pages ∷ id
     ∷ used_length ∷ Release ∷ used_index ∷ discard ∷ Full ∷ flags ∷ []) → ⊥
-discarded_behind (d, (o, h)) = let e = (tells_in_turn two Inflate budget ready d o _ h).1.1.1.1.1.1.0 in absurd cc
+discarded_after (d, (o, h)) = let e = (tells_in_turn two Inflate budget ready d o _ h).1.1.1.1.1.1.0 in absurd cc
 
 discarded_twice : IsServed (index ∷ Acquire ∷ entry ∷ descriptor ∷ part ∷ pages ∷ discard
     ∷ discard ∷ given) → ⊥

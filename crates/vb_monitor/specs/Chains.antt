@@ -154,21 +154,21 @@ in_row row number =
 -- How many descriptors are copied together with one, after which they are in the table, once these
 -- pieces are known: none with a chain's first, and with others as many as a row may have, up to the
 -- end of the table.
-abbrev pub so_many_behind : ℕ → ℕ → List Piece → ℕ
-so_many_behind q number [] = 0
-so_many_behind q number (p ∷ ps) = min (ROW_DESCRIPTORS - 1) (q - (number + 1))
+abbrev pub most_further : ℕ → ℕ → List Piece → ℕ
+most_further q number [] = 0
+most_further q number (p ∷ ps) = min (ROW_DESCRIPTORS - 1) (q - (number + 1))
 
 -- All of them where they lie in one region with it, and else none.
 abbrev pub unless_apart : Option Spot → ℕ → ℕ
-unless_apart (Some at) behind = behind
-unless_apart None behind = 0
+unless_apart (Some at) further = further
+unless_apart None further = 0
 
-abbrev pub behind_in_row : List Region → Virtqueue → ℕ → List Piece → ℕ
-behind_in_row regions r number pieces =
+abbrev pub further_in_row : List Region → Virtqueue → ℕ → List Piece → ℕ
+further_in_row regions r number pieces =
     unless_apart
     (spot regions (r.table + 16 * number)
-    (16 * (so_many_behind r.size number pieces + 1)))
-    (so_many_behind r.size number pieces)
+    (16 * (most_further r.size number pieces + 1)))
+    (most_further r.size number pieces)
 
 -- ---- from one descriptor to the next
 
@@ -217,12 +217,12 @@ AfterDescriptor w d tally on whole writing pieces bytes log =
 -- goes on in this copy.
 pub record AsksRow (w : Whole) (d : Device) (tally : Tally)
     (on : TableRow → ℕ → Bool → List Piece → List Access → Type 0)
-    (whole : List Piece → List Access → Type 0) (number behind : ℕ) (writing : Bool)
+    (whole : List Piece → List Access → Type 0) (number further : ℕ) (writing : Bool)
     (pieces : List Piece) (at : Spot) (log : List Access) : Type 0 where
   pub bytes : List ℕ
   pub rest : List Access
   pub asks : log ≡ CopyBytes at bytes ∷ rest
-  pub long : length bytes ≡ 16 * (behind + 1)
+  pub long : length bytes ≡ 16 * (further + 1)
   pub goes_on : AfterDescriptor w d tally (on (row_of number bytes)) whole writing pieces
       (take 16 bytes) rest
 
@@ -230,17 +230,17 @@ abbrev pub RowAt : Whole → Device → Tally →
     (TableRow → ℕ → Bool → List Piece → List Access → Type 0) →
     (List Piece → List Access → Type 0) → ℕ → ℕ → Bool → List Piece → Option Spot → List Access →
     Type 0
-RowAt w d tally on whole number behind writing pieces None log = Breaks w d tally OutOfRam log
-RowAt w d tally on whole number behind writing pieces (Some at) log =
-    AsksRow w d tally on whole number behind writing pieces at log
+RowAt w d tally on whole number further writing pieces None log = Breaks w d tally OutOfRam log
+RowAt w d tally on whole number further writing pieces (Some at) log =
+    AsksRow w d tally on whole number further writing pieces at log
 
 -- A row is asked for that begins with this descriptor, and has n after it.
 abbrev pub TakesRow : Whole → Device → Tally →
     (TableRow → ℕ → Bool → List Piece → List Access → Type 0) →
     (List Piece → List Access → Type 0) → ℕ → ℕ → Bool → List Piece → List Access → Type 0
-TakesRow w d tally on whole number behind writing pieces log =
-    RowAt w d tally on whole number behind writing pieces
-    (spot w.regions ((ring_of w.kind d).table + 16 * number) (16 * (behind + 1))) log
+TakesRow w d tally on whole number further writing pieces log =
+    RowAt w d tally on whole number further writing pieces
+    (spot w.regions ((ring_of w.kind d).table + 16 * number) (16 * (further + 1))) log
 
 -- Where the row that was copied last has the descriptor, nothing is asked.
 abbrev pub FollowsBy : Option (List ℕ) → Whole → Device → Tally →
@@ -250,7 +250,7 @@ FollowsBy (Some bytes) w d tally on whole row number writing pieces log =
     AfterDescriptor w d tally (on row) whole writing pieces bytes log
 FollowsBy None w d tally on whole row number writing pieces log =
     TakesRow w d tally on whole number
-    (behind_in_row w.regions (ring_of w.kind d) number pieces) writing pieces log
+    (further_in_row w.regions (ring_of w.kind d) number pieces) writing pieces log
 
 -- From a descriptor of this number on the chain is followed, which may have n more, and this row
 -- was copied last.

@@ -43,7 +43,7 @@ whole regions kind after outcome =
 
 -- How many bytes are copied of the row that a walk waits for, 16 for each descriptor.
 abbrev pub row_bytes : Walk → ℕ
-row_bytes walk = DESCRIPTOR_SIZE * (walk.behind + 1)
+row_bytes walk = DESCRIPTOR_SIZE * (walk.further + 1)
 
 -- The row in which a walk goes on, once these bytes are in the room.
 abbrev pub row_in : Walk → List ℕ → TableRow
@@ -57,8 +57,8 @@ seconds [] = []
 seconds (p ∷ ps) = unless_empty (second_part p)
 
 -- The parts after one of a piece's two: those after its second one, or after its first.
-abbrev pub behind_part : Bool → ℕ → List Piece → List Part
-behind_part is_second piece pieces =
+abbrev pub parts_after : Bool → ℕ → List Piece → List Part
+parts_after is_second piece pieces =
     (if is_second then [] else seconds (drop piece pieces)) ++ all_parts (drop (piece + 1) pieces)
 
 -- The parts of the first of these runs in the regions from this number on.
@@ -67,8 +67,8 @@ cuts_on regions from [] = []
 cuts_on regions from (run ∷ runs) = cuts_from from (drop from regions) run
 
 -- The parts of one run in the regions from this number on, and those of the runs after it.
-abbrev pub cuts_behind : ℕ → ℕ → List Region → List Run → List Cut
-cuts_behind from run regions runs =
+abbrev pub cuts_after : ℕ → ℕ → List Region → List Run → List Cut
+cuts_after from run regions runs =
     cuts_on regions from (drop run runs) ++ cuts_of regions (drop (run + 1) runs)
 
 -- Nothing is to be done.
@@ -172,11 +172,11 @@ AheadAt (AwaitsEntry at) w tally d room log = AsksEntry w (next_chain w tally) d
 AheadAt (AwaitsDescriptor at walk) w tally d room log =
     AsksRow w d tally
     (Follows (longest (ring_of w.kind d).size - (walk.count + 1)) w d tally
-    (serves w tally d walk.head)) (serves w tally d walk.head) walk.first walk.behind walk.writing
+    (serves w tally d walk.head)) (serves w tally d walk.head) walk.first walk.further walk.writing
     (pieces_in (take walk.count room.pieces)) at log
 AheadAt (AwaitsPart at place) w tally d room log =
     AsksPart (CopiesParts w (served w tally d place.head) d tally
-    (behind_part place.is_second place.piece (pieces_in (take place.count room.pieces))))
+    (parts_after place.is_second place.piece (pieces_in (take place.count room.pieces))))
     place.length
     (take place.into room.bytes) at log
 AheadAt (TellsPages head named) w tally d room log =
@@ -185,7 +185,7 @@ AheadAt (TellsFigures head count) w tally d room log =
     TellsThenEnds w d tally (take count room.figures) log
 AheadAt (Discards cut x) w tally d room log =
     DiscardsThen w (next_chain w tally) d tally x.head
-    (cut ∷ cuts_behind x.from x.run w.regions (take x.runs room.runs)) log
+    (cut ∷ cuts_after x.from x.run w.regions (take x.runs room.runs)) log
 AheadAt (GivesBack spots entry) w tally d room log =
     WritesUsed (next_chain w tally d (with_given tally)) spots entry log
 AheadAt (AwaitsFlags at why more) w tally d room log = AsksFlags w d tally why more at log
@@ -202,7 +202,7 @@ pub record Copies (at : Spot) (from len : ℕ) (before now : List ℕ) (done : L
   pub bytes : List ℕ
   pub asks : done ≡ CopyBytes at bytes ∷ []
   pub long : length bytes ≡ len
-  pub behind : take (from + len) now ≡ take from before ++ bytes
+  pub joined : take (from + len) now ≡ take from before ++ bytes
 
 -- These accesses are what was to be done, with this answer; the room had these bytes before.
 abbrev pub Does : Phase → Kind → ℕ → List ℕ → Room → List Access → Type 0

@@ -62,8 +62,8 @@ PartBy true w on d tally part so_far log =
     (spot w.regions (part.address + part.plus) part.length) log
 PartBy false w on d tally part so_far log = Breaks w d tally BadLength log
 
-abbrev pub fits_behind : List ℕ → Part → Bool
-fits_behind so_far part = nat_le (length so_far + part.length) MAX_BYTES
+abbrev pub fits_after : List ℕ → Part → Bool
+fits_after so_far part = nat_le (length so_far + part.length) MAX_BYTES
 
 -- All parts are copied, in order, up to one that isn't guest memory; then all their bytes are
 -- served.
@@ -71,4 +71,4 @@ abbrev pub CopiesParts : Whole → (List ℕ → List Access → Type 0) → Dev
     List ℕ → List Access → Type 0
 CopiesParts w served d tally [] so_far log = served so_far log
 CopiesParts w served d tally (part ∷ parts) so_far log =
-    PartBy (fits_behind so_far part) w (CopiesParts w served d tally parts) d tally part so_far log
+    PartBy (fits_after so_far part) w (CopiesParts w served d tally parts) d tally part so_far log

@@ -46,7 +46,7 @@ walk_of c = record {
   count = c.count;
   writing = says_yes c.flag;
   first = min c.number 0xffff;
-  behind = min c.from (MAX_BYTES / DESCRIPTOR_SIZE - 1);
+  further = min c.from (MAX_BYTES / DESCRIPTOR_SIZE - 1);
 }
 
 abbrev pub place_of : Progress → Place

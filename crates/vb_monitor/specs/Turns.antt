@@ -28,7 +28,7 @@ use Rattle.vb_monitor.specs.declared.cuts.Cut.{Cut}
 use Rattle.vb_monitor.specs.Accesses.{Access, ReadWord, CopyBytes, Acquire, Release, Full}
 use Rattle.vb_monitor.specs.Accesses.{TellPages, TellFigures, Discard, WriteNumber, WriteWord}
 use Rattle.vb_monitor.specs.Regions.{spot}
-use Rattle.vb_monitor.specs.Chains.{behind_in_row}
+use Rattle.vb_monitor.specs.Chains.{further_in_row}
 use Rattle.vb_monitor.specs.Giving.{is_kept}
 use Rattle.vb_monitor.specs.Notices.{entry_offset, stands}
 use Rattle.vb_monitor.specs.SoFar.{Known, Unknown, Walks, Has, known, ring_after, index_read, left}
@@ -91,7 +91,7 @@ abbrev pub CopiesNext : List Region → Virtqueue → Known → Spot → List �
 CopiesNext regions r Unknown at bytes = ⊥
 CopiesNext regions r (Walks head number pieces) at bytes =
     CopiesFrom regions (r.table + 16 * number)
-    (16 * (behind_in_row regions r number pieces + 1)) at bytes
+    (16 * (further_in_row regions r number pieces + 1)) at bytes
 CopiesNext regions r (Has head pieces [] so_far) at bytes = ⊥
 CopiesNext regions r (Has head pieces (part ∷ parts) so_far) at bytes =
     CopiesFrom regions (part.address + part.plus) part.length at bytes
@@ -160,7 +160,7 @@ TellsOf kind s (Has head pieces (part ∷ parts) bytes) runs named = ⊥
 pub record TellFiguresOf (bytes : List ℕ) (told : List Statistic) : Type 0 where
   pub figures : List Statistic
   pub are : AreFigures bytes figures
-  pub so_many : told ≡ take (length bytes / STATISTIC_SIZE) figures
+  pub count_so : told ≡ take (length bytes / STATISTIC_SIZE) figures
 
 abbrev pub FiguresOf : Known → List Statistic → Type 0
 FiguresOf Unknown figures = ⊥

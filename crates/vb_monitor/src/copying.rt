@@ -6,9 +6,9 @@ ghost use Rattle.vb_monitor.specs.declared.outcome.Outcome.{Outcome};
 ghost use Rattle.vb_monitor.specs.declared.room.Room.{Room};
 ghost use Rattle.vb_monitor.specs.Accesses.{Access};
 ghost use Rattle.vb_monitor.specs.declared.room.TheConstants.{MAX_BYTES};
-ghost use Rattle.vb_monitor.specs.Pieces.{PartBy, fits_behind, CopiesParts, all_parts};
+ghost use Rattle.vb_monitor.specs.Pieces.{PartBy, fits_after, CopiesParts, all_parts};
 ghost use Rattle.vb_core.specs.Pieces.{pieces_in};
-ghost use Rattle.vb_monitor.specs.Machine.{Fits, Ahead, whole, served, behind_part};
+ghost use Rattle.vb_monitor.specs.Machine.{Fits, Ahead, whole, served, parts_after};
 ghost use Rattle.vb_monitor.specs.Left.{left, of_chains, once_named};
 ghost use Rattle.vb_monitor.specs.Steps.{phase_of, step_of, tally_of};
 ghost use Rattle.vb_virtio.specs.declared.limits.TheConstants.{MAX_QUEUE_SIZE};
@@ -38,11 +38,11 @@ fn ask_part(
     ensures step { (after : Device) (outcome : Outcome) (room : Room) (log : List Access) →
         length room.bytes ≡ MAX_BYTES →
         Ahead (whole regions.now kind after outcome) (step_of step.new) device.new room log →
-        PartBy (fits_behind (take place.into room.bytes) part)
+        PartBy (fits_after (take place.into room.bytes) part)
         (whole regions.now kind after outcome) (CopiesParts (whole regions.now kind after outcome)
         (served (whole regions.now kind after outcome) (tally_of step.old) device.old place.head)
         device.old (tally_of step.old)
-        (behind_part place.is_second place.piece (pieces_in (take place.count room.pieces))))
+        (parts_after place.is_second place.piece (pieces_in (take place.count room.pieces))))
         device.old (tally_of step.old)
         part (take place.into room.bytes) log }
     ensures fits { Fits (phase_of step.new) }
@@ -132,7 +132,7 @@ fn copy_second(
         CopiesParts (whole regions.now kind after outcome)
         (served (whole regions.now kind after outcome) (tally_of step.old) device.old place.head)
         device.old (tally_of step.old)
-        (behind_part false place.piece (pieces_in (take place.count room.old.pieces)))
+        (parts_after false place.piece (pieces_in (take place.count room.old.pieces)))
         (take place.into room.old.bytes) log }
     ensures fits { Fits (phase_of step.new) }
     ensures left { left regions.now (step_of step.new) ≤
@@ -170,7 +170,7 @@ pub(crate) fn after_part(
         CopiesParts (whole regions.now kind after outcome)
         (served (whole regions.now kind after outcome) (tally_of step.old) device.old place.head)
         device.old (tally_of step.old)
-        (behind_part place.is_second place.piece (pieces_in (take place.count room.old.pieces)))
+        (parts_after place.is_second place.piece (pieces_in (take place.count room.old.pieces)))
         (take (place.into + place.length) room.old.bytes) log }
     ensures fits { Fits (phase_of step.new) }
     ensures left { left regions.now (step_of step.new) ≤

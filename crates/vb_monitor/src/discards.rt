@@ -15,12 +15,12 @@ ghost use Rattle.vb_monitor.specs.Machine.{Fits, stage, Ahead, AheadAt, whole, n
 ghost use Rattle.vb_monitor.specs.Steps.{phase_of, step_of, tally_of};
 ghost use Rattle.vb_monitor.specs.declared.room.Room.{Room};
 ghost use Rattle.vb_monitor.specs.Ends.{Whole};
-ghost use Rattle.vb_monitor.specs.Machine.{cuts_behind};
+ghost use Rattle.vb_monitor.specs.Machine.{cuts_after};
 ghost use Rattle.vb_monitor.specs.Left.{left, of_chains, parts_left};
 ghost use Rattle.vb_monitor.specs.declared.room.TheConstants.{MAX_RUNS};
 ghost use Rattle.std.specs.Prelude.{◌-◌, ◌*◌, ◌+◌, length};
 
-use crate::cuts::{NextCut, cut_behind, first_cut};
+use crate::cuts::{NextCut, cut_after, first_cut};
 use crate::ends::end;
 use crate::giving::give_back;
 use crate::room::MAX_RUNS;
@@ -174,7 +174,7 @@ pub(crate) fn after_discard(
         DiscardsThen (whole regions.now kind after outcome)
         (next_chain (whole regions.now kind after outcome) (tally_of step.old)) device.old
         (tally_of step.old) discarding.head
-        (cuts_behind discarding.from discarding.run regions.now
+        (cuts_after discarding.from discarding.run regions.now
         (take discarding.runs room.now.runs)) log }
     ensures fits { Fits (phase_of step.new) }
     ensures left { left regions.now (step_of step.new) ≤
@@ -182,7 +182,7 @@ pub(crate) fn after_discard(
         + (2 + parts_left (length regions.now) discarding.run discarding.from) }
 {
     let named = first_runs(&room.runs, discarding.runs as usize);
-    match cut_behind(regions, named, discarding.run, discarding.from) {
+    match cut_after(regions, named, discarding.run, discarding.from) {
         None => give_back(step, device, regions, kind, discarding.head),
         Some(found) => discard_next(step, discarding, &found),
     }

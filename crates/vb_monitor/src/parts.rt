@@ -3,7 +3,7 @@
 ghost use Rattle.std.specs.Prelude.{◌≡◌, ◌∷◌, [], false, drop, MatchOption};
 ghost use Rattle.vb_monitor.specs.Pieces.{first_part, second_part, all_parts};
 ghost use Rattle.vb_core.specs.Pieces.{piece_in, pieces_in};
-ghost use Rattle.vb_monitor.specs.Machine.{behind_part};
+ghost use Rattle.vb_monitor.specs.Machine.{parts_after};
 ghost use Rattle.std.specs.Prelude.{◌≤◌, ◌<◌, IfSome, length};
 
 use crate::regions::PAGE_BYTES;
@@ -58,7 +58,7 @@ pub(crate) struct NextPart {
 pub(crate) fn next_part(pieces: &[ChainPiece], from: usize) -> Option<NextPart>
     ensures parts { MatchOption result (all_parts (drop from (pieces_in pieces.now)) ≡ [])
         (λ x. all_parts (drop from (pieces_in pieces.now)) ≡
-        x.part ∷ behind_part false x.piece (pieces_in pieces.now)) }
+        x.part ∷ parts_after false x.piece (pieces_in pieces.now)) }
     ensures within { IfSome result (λ x. (from ≤ x.piece) × (x.piece < length pieces.now)) }
 {
     for number in from..pieces.len() {

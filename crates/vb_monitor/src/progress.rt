@@ -187,7 +187,7 @@ impl Progress {
             count: self.count,
             writing: self.flag != 0,
             first: self.number.min(usize::from(u16::MAX)) as u16,
-            behind: self.from.min(MAX_BYTES / DESCRIPTOR_SIZE - 1) as u16,
+            further: self.from.min(MAX_BYTES / DESCRIPTOR_SIZE - 1) as u16,
         }
     }
 

@@ -79,7 +79,7 @@ impl Progress {
         self.phase = DESCRIPTOR;
         self.at = at;
         self.number = usize::from(walk.first);
-        self.from = usize::from(walk.behind);
+        self.from = usize::from(walk.further);
         self.head = walk.head;
         self.count = walk.count;
         self.flag = u8::from(walk.writing);

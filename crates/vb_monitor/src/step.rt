@@ -18,7 +18,7 @@ pub struct Walk {
     /// The number of the first descriptor of the row that is copied.
     pub first: u16,
     /// How many descriptors are copied after it.
-    pub behind: u16,
+    pub further: u16,
 }
 
 /// Which part of a chain's pieces is copied.
