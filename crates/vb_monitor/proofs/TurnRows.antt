@@ -11,7 +11,7 @@ use Rattle.vb_core.specs.declared.kinds.Kind.TheVariants.{Inflate, Deflate, Stat
 use Rattle.vb_core.specs.{Devices.{ring_of, with_one_taken}, declared.device.Denial.Denial}
 use Rattle.vb_core.specs.{declared.device.Device.Device, Statistics.statistics_denial}
 use Rattle.vb_core.specs.declared.{name.Named.Named, kinds.Kind.Kind, runs.Run.Run}
-use Rattle.vb_core.specs.{Report.NamesPiecesBy, Name.NamesBy}
+use Rattle.vb_core.specs.{Report.NamesPiecesBy, Name.NamesNumbersBy}
 use Rattle.vb_monitor.specs.Chains.{FiguresBy, AfterBytes, NamesBytes, CopiesBy, ServesPieces}
 use Rattle.vb_monitor.specs.SoFar.{Known, Has, known, ring_after, parts_read, with_copied}
 use Rattle.vb_monitor.specs.Order.{is_copied, is_read}
@@ -22,7 +22,7 @@ use Rattle.vb_monitor.proofs.NamedLemmas.{pieces_avail, named_numbers, no_report
 use Rattle.vb_monitor.specs.{Accesses.{Access, CopyBytes, TellFigures}, Pieces.{PartAt, PartBy}}
 use Rattle.vb_monitor.specs.{Pieces.{CopiesParts, all_parts}, Turns.CopiesNext}
 use Rattle.vb_monitor.specs.{Turns.{TellNamed, TellNumbers, FiguresOf}, Regions.spot, Giving.Then}
-use Rattle.vb_monitor.specs.Giving.{AfterName, TellsThen, spent, held_if, with_held, with_named}
+use Rattle.vb_monitor.specs.Giving.{AfterName, after_last, TellsThen, spent, held_if, with_held, with_named}
 use Rattle.vb_monitor.specs.Holding.{HoldsChain}
 use Rattle.vb_core.specs.{Settings.holds_chains, declared.settings.Settings.Settings}
 use Rattle.vb_monitor.specs.declared.{room.TheConstants.MAX_FIGURES, parts.Part.Part}
@@ -120,14 +120,16 @@ right_of w d pieces bytes runs d2 kind named e x y =
 
 numbers_right : (w : Whole) (kind : Kind) (d d2 : Device) (pieces : List Piece) (bytes : List ℕ)
     (room : ℕ) (runs : List Run) (answer : Result Named Denial) → w.kind ≡ kind →
-    NamesBy w.kind bytes room runs d d2 answer →
+    NamesNumbersBy w.kind bytes room runs d d2 answer →
     ((named : Named) → TellNumbers d.settings bytes (take named.runs runs) named →
     answer ≡ Ok named → TellNamed kind d.settings pieces bytes (take named.runs runs) named) →
-    Right w d d2 pieces bytes runs answer
+    Right w d (after_last w.kind answer d2) pieces bytes runs answer
 numbers_right w kind d d2 pieces bytes room runs answer e h so named is =
     let x = named_numbers w.kind bytes room runs d d2 named
-    (subst (λ (a : Result Named Denial). NamesBy w.kind bytes room runs d d2 a) is h) in
-    right_of w d pieces bytes runs d2 kind named e (so named x.0 is) x.1
+    (subst (λ (a : Result Named Denial). NamesNumbersBy w.kind bytes room runs d d2 a) is h) in
+    right_of w d pieces bytes runs (after_last w.kind answer d2) kind named e (so named x.0 is)
+    (ap (λ (a : Result Named Denial). after_last w.kind a d2) is
+    ∙ ap (λ (y : Device). with_one_taken w.kind y) x.1)
 
 bytes_named : (w : Whole) (d0 : Device) (m : ℕ) (kind : Kind) (e : w.kind ≡ kind) (next : Then)
     (on : After w d0 m next) (d : Device) (t : Tally) (head : ℕ) (pieces : List Piece)
@@ -137,7 +139,7 @@ bytes_named : (w : Whole) (d0 : Device) (m : ℕ) (kind : Kind) (e : w.kind ≡ 
     h.answer ≡ Ok named → TellNamed kind d.settings pieces bytes (take named.runs h.runs) named) →
     Goes w d0 t.keeps (5 + m) b log
 bytes_named w d0 m kind e next on d t head pieces bytes b log is h so = names_go w d0 m next on
-    d h.device t head pieces bytes h.runs h.answer b log is
+    d (after_last w.kind h.answer h.device) t head pieces bytes h.runs h.answer b log is
     (names_avail w.kind bytes _ h.runs d h.device h.answer h.names)
     (numbers_right w kind d h.device pieces bytes _ h.runs h.answer e h.names so) h.goes_on
 
@@ -153,9 +155,9 @@ bytes_go w d0 m Statistics e next on d t head pieces bytes b log is h = figures_
     w d0 d m t head pieces bytes (statistics_denial (length bytes) MAX_FIGURES d) b log e is h
 bytes_go w d0 m Report e next on d t head pieces bytes b log is h =
     bytes_named w d0 m Report e next on d t head pieces bytes b log is h (λ named x ok.
-    let names : NamesBy Report bytes MAX_REQUEST_PAGES h.runs d h.device (Ok named) =
-    subst (λ (a : Result Named Denial). NamesBy Report bytes MAX_REQUEST_PAGES h.runs d h.device a) ok
-    (subst (λ (k : Kind). NamesBy k bytes MAX_REQUEST_PAGES h.runs d h.device h.answer) e h.names) in
+    let names : NamesNumbersBy Report bytes MAX_REQUEST_PAGES h.runs d h.device (Ok named) =
+    subst (λ (a : Result Named Denial). NamesNumbersBy Report bytes MAX_REQUEST_PAGES h.runs d h.device a) ok
+    (subst (λ (k : Kind). NamesNumbersBy k bytes MAX_REQUEST_PAGES h.runs d h.device h.answer) e h.names) in
     let none : ⊥ = no_report bytes MAX_REQUEST_PAGES h.runs d h.device named names in absurd none)
 
 -- ---- parts

@@ -4,7 +4,7 @@ use Rattle.vb_request.specs.Request.{numbers_of}
 use Rattle.vb_chain.specs.declared.fault.ChainFault.TheVariants.{IndexJump}
 use Rattle.vb_core.specs.declared.device.Denial.TheVariants.{Broken}
 use Rattle.vb_core.{specs.declared.kinds.Kind.TheVariants.Inflate, specs.Devices.with_one_taken}
-use Rattle.vb_core.{specs.declared.device.Device.Device, specs.Name.NamesBy, specs.Runs.Tell}
+use Rattle.vb_core.{specs.declared.device.Device.Device, specs.Name.NamesNumbersBy, specs.Runs.Tell}
 use Rattle.vb_monitor.proofs.Samples.{Same, two, at, ready, page_5, last_descriptor, number, entry}
 use Rattle.vb_monitor.proofs.Samples.{descriptor, part, pages, discard, id, used_length, used_index}
 use Rattle.vb_monitor.proofs.Samples.{flags_are_read, flags, budget, outcome, one_page}
@@ -25,7 +25,7 @@ used d = after_use Inflate (taken d)
 abbrev tells_5 : Tell (page_5 ∷ []) (5 ∷ [])
 tells_5 = (5 ∷ [], ([], (record { whole = refl; grows = (5, ([], (refl, refl))) }, (tt, refl))))
 
-names_first : NamesBy Inflate number 256 (page_5 ∷ []) ready (taken ready) (Ok one_page)
+names_first : NamesNumbersBy Inflate number 256 (page_5 ∷ []) ready ready (Ok one_page)
 unfolding numbers_of lib.Count.ones
 names_first = record {
   denied = λ why e. absurd cc;
@@ -40,7 +40,7 @@ names_first = record {
   );
 }
 
-names_second : NamesBy Inflate number 256 (page_5 ∷ []) (used ready) (taken (used ready)) (Ok one_page)
+names_second : NamesNumbersBy Inflate number 256 (page_5 ∷ []) (used ready) (used ready) (Ok one_page)
 unfolding numbers_of lib.Count.ones
 names_second = record {
   denied = λ why e. absurd cc;
@@ -106,7 +106,7 @@ serves_second = record {
       goes_on = record {
         answer = Ok one_page;
         runs = page_5 ∷ [];
-        device = taken (used ready);
+        device = used ready;
         names = names_second;
         goes_on = record {
           rest = discard ∷ given_then;
@@ -146,7 +146,7 @@ serves_two = record {
         goes_on = record {
           answer = Ok one_page;
           runs = page_5 ∷ [];
-          device = taken ready;
+          device = ready;
           names = names_first;
           goes_on = record {
             rest = discard ∷ id ∷ used_length ∷ Release ∷ used_index ∷ of_the_second;

@@ -25,7 +25,7 @@ use Rattle.vb_core.specs.declared.device.Denial.{Denial}
 use Rattle.vb_core.specs.declared.device.Device.{Device}
 use Rattle.vb_core.specs.Settings.{memory_pages}
 use Rattle.vb_core.specs.Devices.{ring_of, with_one_taken}
-use Rattle.vb_core.specs.Name.{NamesBy}
+use Rattle.vb_core.specs.Name.{NamesNumbersBy}
 use Rattle.vb_core.specs.Report.{NamesPiecesBy}
 use Rattle.vb_core.specs.Statistics.{AreFigures, statistics_denial}
 use Rattle.vb_monitor.specs.declared.room.TheConstants.{MAX_FIGURES, ROW_DESCRIPTORS}
@@ -35,7 +35,7 @@ use Rattle.vb_monitor.specs.declared.outcome.Tally.{Tally}
 use Rattle.vb_monitor.specs.Accesses.{Access, CopyBytes, TellFigures}
 use Rattle.vb_monitor.specs.Regions.{spot}
 use Rattle.vb_monitor.specs.Ends.{Whole, Ends, Breaks}
-use Rattle.vb_monitor.specs.Giving.{Then, AfterName, with_held}
+use Rattle.vb_monitor.specs.Giving.{Then, AfterName, after_last, with_held}
 use Rattle.vb_monitor.specs.Pieces.{CopiesParts, all_parts}
 
 -- ---- what the bytes come to
@@ -46,8 +46,8 @@ pub record NamesBytes (w : Whole) (next : Then) (d : Device) (tally : Tally) (he
   pub answer : Result Named Denial
   pub runs : List Run
   pub device : Device
-  pub names : NamesBy w.kind bytes MAX_REQUEST_PAGES runs d device answer
-  pub goes_on : AfterName w next device tally head runs answer log
+  pub names : NamesNumbersBy w.kind bytes MAX_REQUEST_PAGES runs d device answer
+  pub goes_on : AfterName w next (after_last w.kind answer device) tally head runs answer log
 
 -- The pages of a report are named, by its pieces alone: their bytes aren't read.
 pub record NamesReport (w : Whole) (next : Then) (d : Device) (tally : Tally) (head : ℕ)

@@ -14,7 +14,7 @@ use Rattle.vb_core.specs.declared.device.Device.{Device}
 use Rattle.vb_core.specs.declared.settings.Settings.{Settings}
 use Rattle.vb_core.specs.Settings.{holds_chains}
 use Rattle.vb_core.specs.Rings.{used_entry, with_used}
-use Rattle.vb_core.specs.Devices.{ring_of, with_ring}
+use Rattle.vb_core.specs.Devices.{ring_of, with_ring, with_one_taken}
 use Rattle.vb_core.specs.Config.{keeps_reports}
 use Rattle.vb_core.specs.Using.{use_denial}
 use Rattle.vb_monitor.specs.declared.regions.Region.{Region}
@@ -144,6 +144,12 @@ held_if false head pages tally = tally
 -- The pages of a chain were named, n: it is held where the settings say so of its kind.
 abbrev pub with_named : Kind → Settings → ℕ → ℕ → Tally → Tally
 with_named kind s head pages tally = held_if (holds_chains kind s) head pages (spent pages tally)
+
+-- The device once this was answered to the last numbers of a request: its entry is taken where they
+-- were named.
+abbrev pub after_last : Kind → Result Named Denial → Device → Device
+after_last kind (Err why) d = d
+after_last kind (Ok named) d = with_one_taken kind d
 
 -- What was named is served, or the notice ends.
 abbrev pub AfterName : Whole → Then → Device → Tally → ℕ → List Run → Result Named Denial →

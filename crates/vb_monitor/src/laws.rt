@@ -227,7 +227,7 @@ pub fn memory_has_one_chain_next()
 
 /// Where memory stays as it is while a chain's bytes are read, a chain of pieces that lie in it is
 /// served by the bytes that they have there: what a request names, or a buffer of statistics tells,
-/// is what `Device::name` and `Device::statistics` say of them.
+/// is what `Device::name_numbers` and `Device::statistics` say of them.
 pub fn a_chain_is_served_by_its_bytes()
     ensures { (rest : List Access) (byte : ℕ → ℕ) (w : Whole) (t : Tally) (d : Device)
         (head : ℕ) (pieces : List Piece) (n : ℕ) (log : List Access) → is_read w.kind ≡ true →

@@ -50,7 +50,7 @@ fn tell_pages(step: &mut Progress, settings: &Settings, kind: Kind, head: u16, n
     step.await_pages(head, named);
 }
 
-/// Names the pages of a request whose bytes were copied up to this place.
+/// Names the pages of a request whose bytes were copied up to this place, and takes its entry.
 #[tactic(auto, using(crate::proofs::RoomLemmas::few_named))]
 #[inline(always)]
 fn name_bytes(
@@ -71,9 +71,12 @@ fn name_bytes(
         of_chains regions.now (tally_of step.old).chains + once_named regions.now }
 {
     let bytes = first_bytes(&room.bytes, place.into);
-    match device.name(kind, bytes, &mut room.runs) {
+    match device.name_numbers(kind, bytes, &mut room.runs) {
         Err(why) => end(step, device, regions, kind, Some(why), false),
-        Ok(named) => tell_pages(step, &device.settings, kind, place.head, named),
+        Ok(named) => {
+            device.take_request(kind);
+            tell_pages(step, &device.settings, kind, place.head, named);
+        }
     }
 }
 

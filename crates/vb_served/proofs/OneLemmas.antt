@@ -11,7 +11,6 @@ use Rattle.vb_core.specs.declared.kinds.Kind.{Kind}
 use Rattle.vb_core.specs.declared.kinds.Kind.TheVariants.{Inflate, Deflate, Statistics, Report}
 use Rattle.vb_core.specs.declared.{runs.Run.Run, name.Named.Named}
 use Rattle.vb_core.specs.declared.device.{Denial.Denial, Device.Device, Denial.TheVariants.Broken}
-use Rattle.vb_core.specs.Name.{NamesBy}
 use Rattle.vb_core.specs.Report.{NamesPiecesBy}
 use Rattle.vb_core.specs.Rings.{used_entry}
 use Rattle.vb_core.specs.Devices.{ring_of, needing_reset, queue_denial, with_one_taken, call_denial}
@@ -24,7 +23,7 @@ use Rattle.vb_monitor.specs.Accesses.{Access, Discard, Steps}
 use Rattle.vb_monitor.specs.Regions.{spot}
 use Rattle.vb_monitor.specs.Ends.{Whole, Breaks, EndsWhere}
 use Rattle.vb_monitor.specs.Giving.{GivesBackBy, AfterName, after_use, cuts_for, is_kept, spent}
-use Rattle.vb_monitor.specs.Giving.{used_spots, TellsThen, OnceTold, with_held, with_named, held_if, DiscardsThen}
+use Rattle.vb_monitor.specs.Giving.{after_last, used_spots, TellsThen, OnceTold, with_held, with_named, held_if, DiscardsThen}
 use Rattle.vb_monitor.specs.Notices.{stands}
 use Rattle.vb_monitor.specs.Chains.{CopiesBy, FiguresBy, TellsFigures, NamesReport}
 use Rattle.vb_monitor.specs.{Pieces.all_parts}
@@ -170,11 +169,9 @@ by_inflate d1 d2 outcome t head pieces s u (Ok n) log is e stays h =
       device = x.device;
       answer = x.answer;
       names = x.names;
-      serves = by_name w d1 x.device t head x.runs s u x.answer on.rest refl is.held is.none is.given
+      serves = by_name w d1 (after_last Inflate x.answer x.device) t head x.runs s u x.answer on.rest refl is.held is.none is.given
           is.keeps is.plain refl is.may (λ named same. named_device Inflate
-          (bytes_of (byte s) pieces) x.runs d1 x.device named
-          (subst (λ (r : Result Named Denial). NamesBy Inflate (bytes_of (byte s) pieces) 256 x.runs
-          d1 x.device r) same x.names)) on.still_so x.goes_on;
+          (bytes_of (byte s) pieces) x.runs d1 x.device x.answer named same x.names) on.still_so x.goes_on;
     }
 
 held_not : (d : Device) → d.settings.holds_deflates ≡ 0 → holds_chains Deflate d.settings ≡ false
@@ -200,11 +197,9 @@ by_deflate d1 d2 outcome t head pieces s u (Ok n) log is e stays h =
       device = x.device;
       answer = x.answer;
       names = x.names;
-      serves = by_name w d1 x.device t head x.runs s u x.answer on.rest (held_not d1 is.holds) is.held is.none is.given
+      serves = by_name w d1 (after_last Deflate x.answer x.device) t head x.runs s u x.answer on.rest (held_not d1 is.holds) is.held is.none is.given
           is.keeps is.plain refl is.may (λ named same. named_device Deflate
-          (bytes_of (byte s) pieces) x.runs d1 x.device named
-          (subst (λ (r : Result Named Denial). NamesBy Deflate (bytes_of (byte s) pieces) 256 x.runs
-          d1 x.device r) same x.names)) on.still_so x.goes_on;
+          (bytes_of (byte s) pieces) x.runs d1 x.device x.answer named same x.names) on.still_so x.goes_on;
     }
 
 by_report : (d1 d2 : Device) (outcome : Outcome) (t : Tally) (head : ℕ) (pieces : List Piece)
