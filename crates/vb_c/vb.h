@@ -48,7 +48,7 @@ enum { VB_INFLATE = 0, VB_DEFLATE = 1, VB_STATISTICS = 2, VB_REPORT = 3, VB_NO_K
  * guest memory; 7 the available index has jumped; 8 a length that the queue doesn't take; 9 no such page; 10 a reserved
  * page. */
 enum { VB_MAX_QUEUE_SIZE = 1024, VB_MAX_PIECES = 256, VB_MAX_RUNS = 256, VB_MAX_BYTES = 1024, VB_MAX_FIGURES = 102,
-       VB_MAX_CUTS = 256, VB_STATE_BYTES = 200 };
+       VB_MAX_CUTS = 256, VB_LONGEST_REQUEST = 1048576, VB_STATE_BYTES = 200 };
 enum {                          /* what is to be done: `what` of a notice, in this order; other bits are the library's */
     VB_TELL_PAGES = 1,          /* the first `runs` of the room were given up, are requested back, or are free */
     VB_TELL_FIGURES = 2,        /* the first `figures` of the room are what the guest says */
@@ -280,7 +280,7 @@ uint32_t vb_may_tell(const VbDevice *device);
  * format with a version, a length and a checksum (docs/INTEGRATION.md has it). `held` is the balloon's, or zeros. VB_OK;
  * VB_BAD_LENGTH where there is less room; VB_IMPOSSIBLE where no calls lead to such a device: a struct that was written to,
  * memory_end set below a queue's place, or a held chain that is none of its queue, or a deflate without holds_deflates or of more
- * than 256 pages. Then nothing is changed. */
+ * pages than memory has and than VB_LONGEST_REQUEST. Then nothing is changed. */
 uint32_t vb_save(const VbDevice *device, VbHeld held, uint8_t *out, size_t room);
 /* Makes `device` and `held` those that were saved as these bytes. VB_OK, or, tested in this order, VB_BAD_LENGTH where
  * there are fewer than 16; VB_NOT_A_STATE; VB_OTHER_VERSION; VB_BAD_LENGTH; VB_BAD_SUM; VB_IMPOSSIBLE. Then nothing is

@@ -13,6 +13,12 @@ uint64_t little(const uint8_t *bytes, int count)
 
 uint64_t page_count(const VbDevice *device) { return device->settings.memory_end / PAGE; }
 
+/* How many page numbers a request has at most. */
+uint64_t longest_request(const VbDevice *device)
+{
+    return page_count(device) > VB_LONGEST_REQUEST ? page_count(device) : VB_LONGEST_REQUEST;
+}
+
 bool are_impossible(const VbSettings *settings)
 {
     return settings->memory_end >= MOST_MEMORY || (settings->offered & ~KNOWN) || !(settings->offered & VERSION_1);

@@ -24,6 +24,7 @@ static const uint64_t MOST_MEMORY = 1ull << 44;
 uint64_t little(const uint8_t *bytes, int count);
 uint64_t page_count(const VbDevice *device);
 bool are_impossible(const VbSettings *settings);
+uint64_t longest_request(const VbDevice *device);
 
 /* queues.c: where queues are, and what calls are refused for */
 VbQueue *queue_of(VbDevice *device, uint32_t kind);

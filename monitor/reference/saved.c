@@ -99,7 +99,7 @@ static bool may_be_held(const VbDevice *device, uint32_t kind, uint32_t held, ui
     if (!held)
         return pages == 0;
     return holds_chains(device, kind) && (device->status & DRIVER_OK) && !lacks_feature(device, kind)
-        && held <= queue_of(&copy, kind)->size && pages <= VB_MAX_RUNS;
+        && held <= queue_of(&copy, kind)->size && pages <= longest_request(device);
 }
 
 /* Whether calls lead to this device, which holds this. */

@@ -69,7 +69,7 @@ static const struct { unsigned state; size_t at; int bytes; uint64_t value; } IM
     { 7, 24, 8, 0x37 }, { 7, 24, 8, 1ull << 32 | 0x3f },                         /* offered */
     { 7, 38, 8, 1ull << 32 | 0x40 }, { 7, 38, 8, 0x27 }, { 7, 24, 8, 1ull << 32 }, /* features */
     { 7, HOLD_AT + 1, 4, 65 }, { 7, HOLD_AT + 5, 4, 1 }, { 8, HOLD_AT, 1, 0 }, { 8, HOLD_AT + 1, 4, 0 },      /* a deflate that is held */
-    { 8, HOLD_AT + 1, 4, 65 }, { 8, HOLD_AT + 5, 4, 257 }, { 5, HOLD_AT + 1, 4, 1 },
+    { 8, HOLD_AT + 1, 4, 65 }, { 8, HOLD_AT + 5, 4, VB_LONGEST_REQUEST + 1 }, { 5, HOLD_AT + 1, 4, 1 },
     { 7, 54, 4, 65 }, { 7, 54, 4, UINT32_MAX }, { 7, 38, 8, 1ull << 32 | 0x25 },  /* held; moved without STATS_VQ */
     { 7, 58, 1, 0 }, { 7, 58, 1, 2 }, { 7, 58, 1, 3 }, { 7, 58, 1, 5 }, { 7, 58, 1, 7 }, { 7, 58, 1, 11 },
     { 7, 58, 1, 13 }, { 7, 58, 1, 14 }, { 7, 58, 1, 31 }, { 7, 58, 1, 47 }, { 5, 58, 1, 75 }, { 5, 58, 1, 0 },

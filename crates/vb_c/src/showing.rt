@@ -99,7 +99,7 @@ impl VbNotice {
         ensures length { self.new.step.length ≡ row_bytes walk }
         ensures rest { IsElse self.old self.new }
     {
-        self.step.length = DESCRIPTOR_SIZE as u32 * (u32::from(walk.behind) + 1);
+        self.step.length = DESCRIPTOR_SIZE as u32 * (u32::from(walk.further) + 1);
         self.step.into = 0;
     }
 

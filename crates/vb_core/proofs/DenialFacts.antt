@@ -6,18 +6,18 @@ use Rattle.vb_core.specs.declared.device.{Denial.{Denial, TheVariants.{NotReady,
 use Rattle.vb_core.specs.declared.{name.Named.Named}
 use Rattle.vb_core.specs.declared.{runs.Run.Run}
 use Rattle.vb_core.{proofs.Examples.{fresh, ready}, specs.Report.NamesPiecesBy}
-use Rattle.vb_core.specs.{Name.NamesBy, Ballooned.MarksBy}
+use Rattle.vb_core.specs.{Name.NamesNumbersBy, Ballooned.MarksBy}
 
 abbrev other : Device
 other = record fresh { target = 1 }
 
-name_denied_but_changed : NamesBy Inflate (20 ∷ 0 ∷ 0 ∷ 0 ∷ []) 1 [] fresh other (Err NotReady) → ⊥
+name_denied_but_changed : NamesNumbersBy Inflate (20 ∷ 0 ∷ 0 ∷ 0 ∷ []) 1 [] fresh other (Err NotReady) → ⊥
 name_denied_but_changed n = omega (arith, ap (λ (d : Device). d.target) (n.denied NotReady refl).1)
 
--- a queue of statistics has no numbers, and no set has a page of it; a report wants room for 32 runs
+-- a queue of statistics has no numbers, a byte is none, and no set has a page of it; a report wants room for 32 runs
 no_numbers : (runs : List Run) (d : Device) (result : Result Named Denial)
-    → (NamesBy Statistics (20 ∷ 0 ∷ 0 ∷ 0 ∷ []) 1 runs ready d result → (result ≡ Err NoQueue) × (d ≡ ready))
-    × (NamesBy Inflate [] 1 runs ready d result → (result ≡ Err BadArgument) × (d ≡ ready))
+    → (NamesNumbersBy Statistics (20 ∷ 0 ∷ 0 ∷ 0 ∷ []) 1 runs ready d result → (result ≡ Err NoQueue) × (d ≡ ready))
+    × (NamesNumbersBy Inflate (20 ∷ []) 1 runs ready d result → (result ≡ Err BadArgument) × (d ≡ ready))
 no_numbers runs d result = (λ n. n.denied NoQueue refl, λ n. n.denied BadArgument refl)
 
 no_room : (runs : List Run) (d : Device) (named : Result Named Denial)

@@ -118,7 +118,7 @@ abbrev six : Virtqueue
 six = ring 0x10000 0x11000 0x12000 6 0 0
 
 impossible : map can_be (
-    saved ∷ holding 65 100 200 ∷ holding 64 129 200 ∷ holding 64 100 257 ∷ holding 64 0 1 ∷ without_setting ∷ with_device (λ d. record d { inflate = six })
+    saved ∷ holding 65 100 200 ∷ holding 64 129 200 ∷ holding 64 100 0x100001 ∷ holding 64 0 1 ∷ without_setting ∷ with_device (λ d. record d { inflate = six })
     ∷ with_device (λ d. record d { deflate = six })
     ∷ with_device (λ d. record d { statistics = record d.statistics { table = 1 } })
     ∷ with_device (λ d. record d { report = six }) ∷ with_device (λ d. record d { status = 31 })

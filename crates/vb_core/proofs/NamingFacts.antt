@@ -3,7 +3,7 @@ use Rattle.std.proofs.Common.{◌≡◌, refl, ap, arith, ℕ, true, false, List
 use Rattle.std.proofs.Common.{Some, None, Ok, Err, map}
 use Rattle.vb_core.specs.{Runs.{Tell, pages_of_runs}, declared.kinds.Kind.TheVariants.Deflate}
 use Rattle.vb_core.{proofs.{Examples.fresh, OneTelling.told_once}, specs.declared.runs.Run.Run}
-use Rattle.vb_core.specs.Name.{AreNamed, right_numbers, fault_in, after_request}
+use Rattle.vb_core.specs.Name.{AreNamed, right_numbers, fault_in, after_numbers, after_chain}
 use Rattle.vb_chain.specs.declared.fault.ChainFault.TheVariants.{BadPage, ReservedPage}
 
 -- ---- runs
@@ -112,9 +112,16 @@ skipped = refl
 
 -- ---- the device after it
 
-taken : after_request Deflate (Ok (record { runs = 0; pages = 0; skipped = 0 })) fresh ≡
+taken : after_chain Deflate (Ok (record { runs = 0; pages = 0; skipped = 0 })) fresh ≡
     record fresh { deflate = record (fresh.deflate) { next_avail = 1 } }
 taken = refl
 
-broken : after_request Deflate (Err BadPage) fresh ≡ record fresh { status = 64 }
+broken : after_chain Deflate (Err BadPage) fresh ≡ record fresh { status = 64 }
 broken = refl
+
+-- numbers alone take nothing
+untaken : after_numbers (Ok (record { runs = 0; pages = 0; skipped = 0 })) fresh ≡ fresh
+untaken = refl
+
+broken_by_numbers : after_numbers (Err BadPage) fresh ≡ record fresh { status = 64 }
+broken_by_numbers = refl

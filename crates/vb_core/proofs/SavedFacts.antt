@@ -173,13 +173,21 @@ asking status held pages = record {
   held = record { statistics = 0; deflate = held; pages = pages };
 }
 
-held_deflates : map (is_held Deflate) (asking 3 0 0 ∷ asking 15 1 0 ∷ asking 15 64 256 ∷ asking 79 1 1 ∷ [])
-    ≡ true ∷ true ∷ true ∷ true ∷ []
+held_deflates : map (is_held Deflate) (asking 3 0 0 ∷ asking 15 1 0 ∷ asking 15 64 256 ∷ asking 15 64 0x100000 ∷ asking 79 1 1 ∷ [])
+    ≡ true ∷ true ∷ true ∷ true ∷ true ∷ []
 held_deflates = refl
 
--- not before the driver is done, of no head of the queue, of more pages than a request has, pages
+-- of a larger memory, as many pages as it has
+abbrev of_memory : ℕ → Saved → Saved
+of_memory end s = record s { device = record s.device { settings = record settings { memory_end = end } } }
+
+held_of_all : map (λ pages. is_held Deflate (of_memory 0x200000000 (asking 15 1 pages)))
+    (0x100001 ∷ 0x200000 ∷ 0x200001 ∷ []) ≡ true ∷ true ∷ false ∷ []
+held_of_all = refl
+
+-- not before the driver is done, of no head of the queue, of more pages than a request names, pages
 -- of none, and where deflates aren't held
-not_held_deflates : map (is_held Deflate) (asking 11 1 1 ∷ asking 15 65 1 ∷ asking 15 1 257 ∷ asking 15 0 1
+not_held_deflates : map (is_held Deflate) (asking 11 1 1 ∷ asking 15 65 1 ∷ asking 15 1 0x100001 ∷ asking 15 0 1
     ∷ record (asking 15 1 1) {
       device = record (asking 15 1 1).device { settings = record settings { holds_deflates = 0 } };
     } ∷ []) ≡ false ∷ false ∷ false ∷ false ∷ false ∷ []
@@ -203,7 +211,7 @@ poisoned = record { device = record (at_step 3 0) { poison = 7 }; held = nothing
 
 saved_or_not : save_denial (holding 15 0x100000003 64) 200
     ∷ save_denial (holding 15 0x100000003 64) 199 ∷ save_denial (holding 15 0x100000003 65) 200
-    ∷ save_denial (asking 15 1 257) 200 ∷ save_denial poisoned 200 ∷ []
+    ∷ save_denial (asking 15 1 0x100001) 200 ∷ save_denial poisoned 200 ∷ []
     ≡ None ∷ Some BadLength ∷ Some Impossible ∷ Some Impossible ∷ Some Impossible ∷ []
 unfolding lib.Count.ones
 saved_or_not = refl

@@ -1,7 +1,7 @@
 -- The limits of settings, as plain numbers.
 use Rattle.std.proofs.Common.{◌≡◌, ℕ, true, false, [], ◌∷◌, map, refl}
 use Rattle.vb_core.{proofs.Examples.offering, specs.declared.settings.Settings.Settings}
-use Rattle.vb_core.specs.Settings.{are_settings, memory_pages, needs_must_tell, skips, holds_chains}
+use Rattle.vb_core.specs.Settings.{are_settings, memory_pages, needs_must_tell, skips, holds_chains, longest_request}
 use Rattle.vb_core.specs.declared.kinds.Kind.TheVariants.{Inflate, Deflate, Statistics, Report}
 use Rattle.vb_core.specs.declared.settings.TheConstants.{MEMORY_LIMIT}
 use Rattle.vb_core.specs.declared.report.TheConstants.{MAX_REPORT_RUNS}
@@ -24,6 +24,12 @@ ends = refl
 -- whole pages, and what isn't 0
 settled : memory_pages (ending 12287) ∷ memory_pages (ending 12288) ∷ [] ≡ 2 ∷ 3 ∷ []
 settled = refl
+
+-- numbers of a request: 2^20 at least, and as many as memory has pages
+longest : map (λ memory_end. longest_request (ending memory_end))
+    (0 ∷ 0x100000000 ∷ 0x100000fff ∷ 0x100001000 ∷ 0xfffffffffff ∷ 0x100000000000 ∷ [])
+    ≡ 0x100000 ∷ 0x100000 ∷ 0x100000 ∷ 0x100001 ∷ 0xffffffff ∷ 0xffffffff ∷ []
+longest = refl
 
 switches : needs_must_tell (record (ending 8192) { needs_must_tell = 7 }) ∷ needs_must_tell (ending 8192)
     ∷ skips (record (ending 8192) { skips_bad_pages = 7 }) ∷ skips (ending 8192) ∷ []

@@ -1,10 +1,11 @@
 -- The pages that a request names, by its bytes (VIRTIO 1.1, 5.5.6).
-use Rattle.std.specs.Prelude.{◌≡◌, ℕ, ◌+◌, ◌/◌, ◌≤◌, Bool, true, false, ◌&&◌, nat_le, List, length}
-use Rattle.std.specs.Prelude.{take, filter, if◌then◌else◌, Option, Some, None, is_none, Result, Ok}
+use Rattle.std.specs.Prelude.{◌≡◌, ℕ, ◌+◌, ◌/◌, ◌%◌, ◌==◌, ◌≤◌, Bool, true, false, ◌&&◌, nat_le}
+use Rattle.std.specs.Prelude.{List, length, take, filter, if◌then◌else◌}
+use Rattle.std.specs.Prelude.{Option, Some, None, is_none, Result, Ok}
 use Rattle.std.specs.Prelude.{Err, IsOkAnd}
+use Rattle.vb_virtio.specs.declared.layout.TheConstants.{REQUEST_BUFFER_SIZE}
 use Rattle.vb_chain.specs.declared.fault.ChainFault.{ChainFault}
-use Rattle.vb_request.specs.Request.{number_fault, first_number_fault, is_request_length}
-use Rattle.vb_request.specs.Request.{numbers_of}
+use Rattle.vb_request.specs.Request.{numbers_of, number_fault, first_number_fault}
 use Rattle.vb_core.specs.declared.kinds.Kind.{Kind}
 use Rattle.vb_core.specs.declared.kinds.Kind.TheVariants.{Inflate, Deflate, Statistics, Report}
 use Rattle.vb_core.specs.declared.runs.Run.{Run}
@@ -52,23 +53,32 @@ pub record NamesRuns (skipping : Bool) (reserved count : ℕ) (ns : List ℕ) (r
   pub named : fault_in skipping reserved count ns ≡ None →
       IsOkAnd result (AreNamed (right_numbers reserved count ns) (length ns) runs)
 
--- What a request is refused for, with this much room and n bytes.
+-- A length that numbers may have which are named at once: a request's, or of a part of one.
+abbrev pub is_length_of_numbers : ℕ → Bool
+is_length_of_numbers len = nat_le len REQUEST_BUFFER_SIZE && (len % 4 == 0)
+
+-- What numbers of n bytes are refused for, with room for this many runs.
 abbrev pub name_denial : Kind → ℕ → ℕ → Device → Option Denial
 name_denial kind len room d =
-    call_denial kind (is_request kind) (is_request_length len && nat_le (len / 4) room) d
+    call_denial kind (is_request kind) (is_length_of_numbers len && nat_le (len / 4) room) d
 
--- The device after a request: taken, or broken.
-abbrev pub after_request : Kind → Result Named ChainFault → Device → Device
-after_request kind (Ok named) d = with_one_taken kind d
-after_request kind (Err fault) d = needing_reset d
+-- The device once numbers were named: as it was, or broken.
+abbrev pub after_numbers : Result Named ChainFault → Device → Device
+after_numbers (Ok named) d = d
+after_numbers (Err fault) d = needing_reset d
 
--- A request of these bytes, whatever they are.
-pub record NamesBy (kind : Kind) (bytes : List ℕ) (room : ℕ) (runs : List Run) (d1 d2 : Device)
-    (result : Result Named Denial) : Type 0 where
+-- The device once a whole chain was named: its entry is taken, or the device is broken.
+abbrev pub after_chain : Kind → Result Named ChainFault → Device → Device
+after_chain kind (Ok named) d = with_one_taken kind d
+after_chain kind (Err fault) d = needing_reset d
+
+-- Numbers of these bytes, whatever they are.
+pub record NamesNumbersBy (kind : Kind) (bytes : List ℕ) (room : ℕ) (runs : List Run)
+    (d1 d2 : Device) (result : Result Named Denial) : Type 0 where
   pub denied : (why : Denial) → name_denial kind (length bytes) room d1 ≡ Some why →
       (result ≡ Err why) × (d2 ≡ d1)
   pub names : name_denial kind (length bytes) room d1 ≡ None →
       (answer : Result Named ChainFault) ×
       NamesRuns (skips d1.settings) d1.settings.reserved_pages (memory_pages d1.settings)
       (numbers_of bytes) runs answer ×
-      (result ≡ told answer) × (d2 ≡ after_request kind answer d1)
+      (result ≡ told answer) × (d2 ≡ after_numbers answer d1)

@@ -14,7 +14,7 @@ use Rattle.vb_core.specs.declared.kinds.Kind.TheVariants.{Report}
 use Rattle.vb_core.specs.declared.device.Denial.{Denial}
 use Rattle.vb_core.specs.declared.device.Device.{Device}
 use Rattle.vb_core.specs.Devices.{call_denial}
-use Rattle.vb_core.specs.Name.{after_request, told}
+use Rattle.vb_core.specs.Name.{after_chain, told}
 
 -- The pages of a piece of whole pages.
 abbrev pub run_of : Piece → Run
@@ -46,5 +46,5 @@ pub record NamesPiecesBy (pieces : List Piece) (room : ℕ) (runs : List Run) (d
   pub answer : pieces_denial pieces room d1 ≡ None →
       result ≡ told (report_named pieces d1.settings.reserved_pages)
   pub device : pieces_denial pieces room d1 ≡ None →
-      d2 ≡ after_request Report (report_named pieces d1.settings.reserved_pages) d1
+      d2 ≡ after_chain Report (report_named pieces d1.settings.reserved_pages) d1
   pub runs_are : IsOk result → take (length pieces) runs ≡ map run_of pieces

@@ -4,7 +4,6 @@ use Rattle.std.specs.Prelude.{if◌then◌else◌, Option, Some, None, Result, O
 use Rattle.vb_virtio.specs.Features.{version_1, must_tell_host}
 use Rattle.vb_virtio.specs.Status.{contains, acknowledge, driver, driver_ok, features_ok}
 use Rattle.vb_virtio.specs.Status.{needs_reset}
-use Rattle.vb_virtio.specs.declared.limits.TheConstants.{MAX_REQUEST_PAGES}
 use Rattle.vb_virtio.specs.Queues.{lacks_feature}
 use Rattle.vb_core.specs.declared.ring.Virtqueue.{Virtqueue}
 use Rattle.vb_core.specs.declared.kinds.Kind.{Kind}
@@ -17,7 +16,7 @@ use Rattle.vb_core.specs.declared.saved.StateDenial.TheVariants.{OtherVersion, B
 use Rattle.vb_core.specs.declared.format.TheConstants.{MAGIC, FORMAT_VERSION, HEADER_LENGTH}
 use Rattle.vb_core.specs.declared.format.TheConstants.{VERSION_AT, LENGTH_AT, CHECKSUM_LENGTH}
 use Rattle.vb_core.specs.declared.format.TheConstants.{SAVED_LENGTH, OLDER_VERSION, OLDER_LENGTH}
-use Rattle.vb_core.specs.Settings.{are_settings, needs_must_tell, page_poison, holds_chains}
+use Rattle.vb_core.specs.Settings.{longest_request, are_settings, needs_must_tell, page_poison, holds_chains}
 use Rattle.vb_core.specs.Held.{held_of, held_pages}
 use Rattle.vb_core.specs.Rings.{has_place}
 use Rattle.vb_core.specs.Kinds.{queue_of}
@@ -72,7 +71,7 @@ is_ring kind d =
     || contains d.status features_ok && not (lacks_feature d.features (queue_of kind)))
 
 -- Nothing is held of the kind's queue; or it is one of the queue's chains, which the device holds
--- since the driver was done, and which names no more pages than a request may.
+-- since the driver was done, and which names no more pages than a request has numbers.
 abbrev pub is_held : Kind → Saved → Bool
 is_held kind s =
     if held_of kind s.held == 0 then held_pages kind s.held == 0
@@ -80,7 +79,7 @@ is_held kind s =
     contains s.device.status driver_ok && not (lacks_feature s.device.features (queue_of kind))
     && holds_chains kind s.device.settings
     && nat_le (held_of kind s.held) (ring_of kind s.device).size
-    && nat_le (held_pages kind s.held) MAX_REQUEST_PAGES
+    && nat_le (held_pages kind s.held) (longest_request s.device.settings)
 
 -- poison_val is written only where PAGE_POISON is offered.
 abbrev pub is_poison : Device → Bool

@@ -1,5 +1,5 @@
 -- What a monitor settles for a device.
-use Rattle.std.specs.Prelude.{ℕ, ◌/◌, Bool, true, false, not, ◌==◌, ◌&&◌, nat_lt, bit_and}
+use Rattle.std.specs.Prelude.{ℕ, ◌/◌, ◌^◌, ◌-◌, min, max, Bool, true, false, not, ◌==◌, ◌&&◌, nat_lt, bit_and}
 use Rattle.std.specs.Prelude.{bit_or}
 use Rattle.vb_virtio.specs.declared.negotiation.TheConstants.{OFFERED_FEATURES}
 use Rattle.vb_virtio.specs.Limits.{page_size}
@@ -8,7 +8,7 @@ use Rattle.vb_virtio.specs.Status.{contains}
 use Rattle.vb_core.specs.declared.kinds.Kind.{Kind}
 use Rattle.vb_core.specs.declared.kinds.Kind.TheVariants.{Inflate, Deflate, Statistics, Report}
 use Rattle.vb_core.specs.declared.settings.Settings.{Settings}
-use Rattle.vb_core.specs.declared.settings.TheConstants.{MEMORY_LIMIT, PAGE_POISON}
+use Rattle.vb_core.specs.declared.settings.TheConstants.{MEMORY_LIMIT, PAGE_POISON, LONGEST_REQUEST}
 
 -- The features that a device may offer: those of the definitions, and PAGE_POISON (VIRTIO 1.2,
 -- 5.5.3).
@@ -32,6 +32,11 @@ are_settings s =
 -- The whole pages of memory.
 abbrev pub memory_pages : Settings → ℕ
 memory_pages s = s.memory_end / page_size
+
+-- How many page numbers a request has at most: as many as memory has pages, and no fewer than each may
+-- have; 32 bits say it.
+abbrev pub longest_request : Settings → ℕ
+longest_request s = min (max (memory_pages s) LONGEST_REQUEST) (2 ^ 32 - 1)
 
 abbrev pub needs_must_tell : Settings → Bool
 needs_must_tell s = not (s.needs_must_tell == 0)

@@ -104,7 +104,7 @@ fn mark_runs(set: &mut [u64], runs: &[Run], inside: bool) -> u64
     changed
 }
 
-/// Puts the pages of the runs that `Device::name` answered into the set, where they are an
+/// Puts the pages of the runs that `Device::name_numbers` answered into the set, where they are an
 /// inflate's, or takes them out, where they are a deflate's (VIRTIO 1.1, 5.5.6), and answers how
 /// many pages changed: one that is named twice, or was there already, counts no more than once.
 /// Page p is bit p % 64 of word p / 64. An empty set is zeros; so it is again where the driver

@@ -42,6 +42,6 @@ pub use saved::{Saved, StateDenial};
 pub use saved_laws::{
     an_older_state_is_restored, only_what_was_saved_is_restored, what_was_saved_is_restored,
 };
-pub use settings::{MEMORY_LIMIT, PAGE_POISON, Settings};
+pub use settings::{LONGEST_REQUEST, MEMORY_LIMIT, PAGE_POISON, Settings};
 pub use starting::QueueStart;
 pub use statistics::Statistic;

@@ -3,12 +3,14 @@
 ghost use Rattle.std.specs.Prelude.{◌≡◌, ◌≤◌, ◌<◌, ◌/◌, length};
 ghost use Rattle.vb_virtio.specs.declared.layout.TheConstants.{REQUEST_BUFFER_SIZE};
 ghost use Rattle.vb_request.specs.Request.{numbers_of, number_fault};
-ghost use Rattle.vb_core.specs.Name.{is_request, NamesRuns, NamesBy};
+ghost use Rattle.vb_core.specs.Devices.{with_one_taken};
+ghost use Rattle.vb_core.specs.Name.{is_request, is_length_of_numbers, NamesRuns, NamesNumbersBy};
 
 use crate::runs::{Ends, add_page};
 use crate::{Denial, Device, Kind, Run};
 use vb_chain::ChainFault;
-use vb_request::{is_request_length, number_at, number_fault as fault_of_number};
+use vb_request::{number_at, number_fault as fault_of_number};
+use vb_virtio::layout::REQUEST_BUFFER_SIZE;
 
 /// What a request names: runs of pages.
 #[repr(C)]
@@ -89,21 +91,36 @@ impl Kind {
     }
 }
 
+/// Whether bytes of this length are numbers that may be named at once: whole ones, and at most as
+/// many as `REQUEST_BUFFER_SIZE` has.
+fn is_length_of_numbers(len: usize) -> bool
+    ensures { result ≡ is_length_of_numbers len }
+{
+    len <= REQUEST_BUFFER_SIZE as usize && len % 4 == 0
+}
+
 impl Device {
-    /// Takes the chain that was next on the queue of inflates or deflates, whose pieces' bytes are
-    /// these, in a row: the pages that it names, as runs in the front of `runs` (VIRTIO 1.1,
-    /// 5.5.6). A number that follows the last run, or is right before it, joins it. A page that is
-    /// named again is there again.
+    /// The pages that these numbers name, of 4 bytes each, in a row: those of the chain that is
+    /// next on the queue of inflates or deflates, or of a part of it (VIRTIO 1.1, 5.5.6). They are
+    /// answered as runs in the front of `runs`. A number that follows the last run, or is right
+    /// before it, joins it. A page that is named again is there again. The chain isn't taken:
+    /// `take_request` takes it, once all its numbers were named.
     ///
     /// Refused, tested in this order: `NoQueue` for a kind that the call isn't for; `BadArgument`
-    /// where a request has no such length, or `runs` has less room than a quarter of it;
-    /// `NotReady`; `NeedsReset`; `Misplaced`. Then `Broken` where a number is no page of memory or
-    /// a reserved one, unless the settings skip such numbers: the chain isn't taken, and
-    /// DEVICE_NEEDS_RESET is set.
-    pub fn name(&mut self, kind: Kind, bytes: &[u8], runs: &mut [Run]) -> Result<Named, Denial>
-        ensures { NamesBy kind bytes.now (length runs.old) runs.new self.old self.new result }
+    /// where the bytes are no multiple of 4 or more than `REQUEST_BUFFER_SIZE`, or `runs` has less
+    /// room than a quarter of them; `NotReady`; `NeedsReset`; `Misplaced`. Then nothing is changed.
+    /// `Broken` where a number is no page of memory or a reserved one, unless the settings skip
+    /// such numbers: DEVICE_NEEDS_RESET is set.
+    pub fn name_numbers(
+        &mut self,
+        kind: Kind,
+        bytes: &[u8],
+        runs: &mut [Run],
+    ) -> Result<Named, Denial>
+        ensures { NamesNumbersBy kind bytes.now (length runs.old) runs.new
+            self.old self.new result }
     {
-        let fits = is_request_length(bytes.len() as u64) && runs.len() >= bytes.len() / 4;
+        let fits = is_length_of_numbers(bytes.len()) && runs.len() >= bytes.len() / 4;
         if let Some(why) = self.call_denial(kind, kind.is_request(), fits) {
             return Err(why);
         }
@@ -113,14 +130,20 @@ impl Device {
             skips: self.settings.skips_bad_pages(),
         };
         match name_runs(limits, bytes, runs) {
-            Ok(named) => {
-                self.count_taken(kind);
-                Ok(named)
-            }
+            Ok(named) => Ok(named),
             Err(fault) => {
                 self.note_fault();
                 Err(Denial::Broken(fault))
             }
         }
+    }
+
+    /// Takes the chain that is next on a kind's queue, all of whose numbers `name_numbers` named:
+    /// once for each chain, and for none that had a refusal.
+    #[inline(always)]
+    pub fn take_request(&mut self, kind: Kind)
+        ensures { self.new ≡ with_one_taken kind self.old }
+    {
+        self.count_taken(kind);
     }
 }

@@ -12,7 +12,6 @@ use crate::{Device, Kind, Virtqueue};
 use bitflags::Flags;
 use vb_request::lacks_feature;
 use vb_status::{Features, Status};
-use vb_virtio::limits::MAX_REQUEST_PAGES;
 
 /// Whether a bit of the status is only with the one that comes before it.
 fn comes_after(status: Status, bit: Status, before: Status) -> bool
@@ -110,7 +109,7 @@ impl Device {
 
 impl Saved {
     /// Whether what is held of a kind's queue is nothing, or one of its chains, which the device
-    /// holds and which may name n pages.
+    /// holds, and which names no more pages than a request has numbers.
     fn is_held(&self, kind: Kind) -> bool
         ensures { result ≡ is_held kind self.now }
     {
@@ -124,7 +123,8 @@ impl Saved {
         let may_take = device.has(Status::DRIVER_OK)
             && !lacks
             && device.settings.holds_chains(kind);
-        may_take && held <= u32::from(device.ring(kind).size) && pages <= MAX_REQUEST_PAGES
+        let some = held <= u32::from(device.ring(kind).size);
+        may_take && some && pages <= device.settings.longest_request()
     }
 
     /// Whether calls of a device lead to this state.

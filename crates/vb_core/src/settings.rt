@@ -3,6 +3,7 @@
 ghost use Rattle.std.specs.Prelude.{◌≡◌, ◌<◌, ◌^◌, ◌==◌, true};
 ghost use Rattle.vb_core.specs.Settings.{are_settings, memory_pages, needs_must_tell, skips};
 ghost use Rattle.vb_core.specs.Settings.{page_poison, without_poison, holds_chains};
+ghost use Rattle.vb_core.specs.Settings.{longest_request};
 
 use crate::Kind;
 use bitflags::Flags;
@@ -12,6 +13,9 @@ use vb_virtio::negotiation::OFFERED_FEATURES;
 
 /// Guest memory ends before this address, so that 32 bits number its pages.
 pub const MEMORY_LIMIT: u64 = 1 << 44;
+
+/// How many page numbers each request may have, however small memory is.
+pub const LONGEST_REQUEST: u32 = 1 << 20;
 
 /// The feature PAGE_POISON: the driver says in `poison_val` what its free pages hold (VIRTIO 1.2,
 /// 5.5.3).
@@ -77,6 +81,17 @@ impl Settings {
         ensures { result ≡ memory_pages self.now }
     {
         (self.memory_end / u64::from(PAGE_SIZE)) as u32
+    }
+
+    /// How many page numbers a request of such a memory may have at most: as many as memory has
+    /// pages, and `LONGEST_REQUEST` where that is more.
+    pub fn longest_request(&self) -> u32
+        ensures { result ≡ longest_request self.now }
+    {
+        let pages = self.memory_end / u64::from(PAGE_SIZE);
+        pages
+            .max(u64::from(LONGEST_REQUEST))
+            .min(u64::from(u32::MAX)) as u32
     }
 
     /// Whether FEATURES_OK asks for MUST_TELL_HOST.

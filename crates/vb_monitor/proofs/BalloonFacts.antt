@@ -60,37 +60,37 @@ came taken given = record {
   more = false;
 }
 
-abbrev held_behind : Held → Outcome → List Held
-held_behind held outcome = map (λ kind. held_after kind outcome (record { device = ready; held = held })) kinds
+abbrev held_next : Held → Outcome → List Held
+held_next held outcome = map (λ kind. held_after kind outcome (record { device = ready; held = held })) kinds
 
 -- the chain that was taken is held of its kind's queue, with a deflate's pages
-taken : held_behind nothing_held (came (chain_of 6 2) false)
+taken : held_next nothing_held (came (chain_of 6 2) false)
     ≡ nothing_held ∷ record nothing_held { deflate = 7; pages = 2 } ∷ a_buffer 7 ∷ nothing_held ∷ []
 taken = refl
 
-first_one_taken : held_behind nothing_held (came (chain_of 0 0) false)
+first_one_taken : held_next nothing_held (came (chain_of 0 0) false)
     ≡ nothing_held ∷ record nothing_held { deflate = 1 } ∷ a_buffer 1 ∷ nothing_held ∷ []
 first_one_taken = refl
 
 -- what is held stays so until it is given back: no second one of its kind is
-still_held : held_behind both (came (chain_of 6 2) false) ≡ both ∷ both ∷ both ∷ both ∷ []
+still_held : held_next both (came (chain_of 6 2) false) ≡ both ∷ both ∷ both ∷ both ∷ []
 still_held = refl
 
 -- once it was, nothing of its kind is held; a deflate's pages go with it, and the other kind's
 -- stays
-given_back : held_behind both (came (chain_of 6 2) true)
+given_back : held_next both (came (chain_of 6 2) true)
     ≡ both ∷ a_buffer 4 ∷ record both { statistics = 0 } ∷ both ∷ []
 given_back = refl
 
-given_back_of_others : held_behind both (came None true)
+given_back_of_others : held_next both (came None true)
     ≡ both ∷ a_buffer 4 ∷ record both { statistics = 0 } ∷ both ∷ []
 given_back_of_others = refl
 
-neither : held_behind both (came None false) ≡ both ∷ both ∷ both ∷ both ∷ []
+neither : held_next both (came None false) ≡ both ∷ both ∷ both ∷ both ∷ []
 neither = refl
 
 -- a notice that was refused leaves it too
-refused : held_behind both (record (came (chain_of 8 3) false) { why = Some NotReady })
+refused : held_next both (record (came (chain_of 8 3) false) { why = Some NotReady })
     ≡ both ∷ both ∷ both ∷ both ∷ []
 refused = refl
 

@@ -54,8 +54,8 @@ given_back_alone = inr (record {
 unfenced : AsksForFlags two ring (flags ∷ []) → ⊥
 unfenced h = let e = h.asks in absurd cc
 
-behind_a_weaker_fence : AsksForFlags two ring (Release ∷ flags ∷ []) → ⊥
-behind_a_weaker_fence h = let e = h.asks in absurd cc
+after_a_weaker_fence : AsksForFlags two ring (Release ∷ flags ∷ []) → ⊥
+after_a_weaker_fence h = let e = h.asks in absurd cc
 
 abbrev read_at : List Access → ℕ
 read_at (Full ∷ ReadWord at answer ∷ xs) = at.offset
@@ -120,13 +120,13 @@ fifth xs = None
 
 given_twice : GivesHeldAlone two 3 ring (id ∷ used_length ∷ Release ∷ used_index ∷ id ∷ []) → ⊥
 given_twice (inl e) = absurd cc
-given_twice (inr h) = behind h.rest h.asks h.then_flags where
-  behind : (rest : List Access) → id ∷ used_length ∷ Release ∷ used_index ∷ id ∷ [] ≡
+given_twice (inr h) = further h.rest h.asks h.then_flags where
+  further : (rest : List Access) → id ∷ used_length ∷ Release ∷ used_index ∷ id ∷ [] ≡
       used_accesses h.spots (used_entry ring 3) ++ rest →
       (rest ≡ []) ⊎ AsksForFlags two ring rest → ⊥
-  behind [] e f = absurd cc
-  behind (x ∷ xs) e (inl f) = absurd cc
-  behind (x ∷ xs) e (inr f) =
+  further [] e f = absurd cc
+  further (x ∷ xs) e (inl f) = absurd cc
+  further (x ∷ xs) e (inr f) =
       let same : Some id ≡ Some x = ap fifth e in
       let asks = f.asks in
       absurd cc

@@ -40,17 +40,17 @@ held = record { rest = []; asks = refl; goes_on = record { nothing = refl; devic
 -- it isn't given back at once, nor discarded, nor is another chain looked for
 given_at_once : (d : Device) (o : Outcome) →
     Names holder d o (told ∷ id ∷ used_length ∷ Release ∷ used_index ∷ []) → ⊥
-given_at_once d o h = behind h.rest h.asks h.goes_on.nothing where
-  behind : (rest : List Access) →
+given_at_once d o h = further h.rest h.asks h.goes_on.nothing where
+  further : (rest : List Access) →
       told ∷ id ∷ used_length ∷ Release ∷ used_index ∷ [] ≡ told ∷ rest → rest ≡ [] → ⊥
-  behind [] e f = absurd cc
-  behind (x ∷ xs) e f = absurd cc
+  further [] e f = absurd cc
+  further (x ∷ xs) e f = absurd cc
 
 another_one : (d : Device) (o : Outcome) → Names holder d o (told ∷ Acquire ∷ []) → ⊥
-another_one d o h = behind h.rest h.asks h.goes_on.nothing where
-  behind : (rest : List Access) → told ∷ Acquire ∷ [] ≡ told ∷ rest → rest ≡ [] → ⊥
-  behind [] e f = absurd cc
-  behind (x ∷ xs) e f = absurd cc
+another_one d o h = further h.rest h.asks h.goes_on.nothing where
+  further : (rest : List Access) → told ∷ Acquire ∷ [] ≡ told ∷ rest → rest ≡ [] → ⊥
+  further [] e f = absurd cc
+  further (x ∷ xs) e f = absurd cc
 
 untold : (d : Device) (o : Outcome) → Names holder d o [] → ⊥
 untold d o h = let e = h.asks in absurd cc

@@ -36,8 +36,8 @@ by_none : each_kept false false ≡ false ∷ false ∷ false ∷ false ∷ []
 by_none = refl
 
 -- each page or none
-so_many : kept_pages true 7 ≡ 7
-so_many = refl
+count_so : kept_pages true 7 ≡ 7
+count_so = refl
 
 none_of_them : kept_pages false 7 ≡ 0
 none_of_them = refl
@@ -58,7 +58,7 @@ keeps = record tally { keeps = true }
 
 -- whatever is counted
 carried : with_given (spent 2 (with_chains 5 keeps)) ≡
-    record keeps { chains = 5; pages = 1; given = true }
+    record keeps { chains = 5; pages = 1; told = 2; given = true }
 carried = refl
 
 -- ---- the end of a chain
@@ -93,7 +93,7 @@ inflated = record {
   goes_on = record {
     rest = back;
     asks = refl;
-    gives_back = record { rest = []; asks = refl; goes_on = (refl, (refl, refl)) };
+    goes_on = record { rest = []; asks = refl; goes_on = (refl, (refl, refl)) };
   };
 }
 
@@ -105,7 +105,7 @@ reported = record {
   goes_on = record {
     rest = back;
     asks = refl;
-    gives_back = record { rest = []; asks = refl; goes_on = (refl, (refl, refl)) };
+    goes_on = record { rest = []; asks = refl; goes_on = (refl, (refl, refl)) };
   };
 }
 
@@ -117,7 +117,7 @@ deflated = record {
   goes_on = record {
     rest = back;
     asks = refl;
-    gives_back = record { rest = []; asks = refl; goes_on = (refl, (refl, refl)) };
+    goes_on = record { rest = []; asks = refl; goes_on = (refl, (refl, refl)) };
   };
 }
 
@@ -157,7 +157,7 @@ stays = record {
         goes_on = record {
           answer = Ok one_page;
           runs = page_5 ∷ [];
-          device = taken;
+          device = ready;
           names = names_5;
           goes_on = record {
             rest = given;
@@ -165,7 +165,7 @@ stays = record {
             goes_on = record {
               rest = given;
               asks = refl;
-              gives_back = record { rest = Full ∷ flags ∷ []; asks = refl; goes_on = flags_are_read refl refl };
+              goes_on = record { rest = Full ∷ flags ∷ []; asks = refl; goes_on = flags_are_read refl refl };
             };
           };
         };

@@ -66,7 +66,7 @@ abbrev told : Access
 told = TellPages Report (page_5 ∷ []) one_page
 
 report_told : TellsInTurn two Report false (only Report) (of_page_5 ∷ taken) told
-report_told = (refl, record { free = 5 ∷ []; sound = refl; are = refl; pages = refl; skipped = refl })
+report_told = (refl, record { free = 5 ∷ []; sound = refl; are = refl; pages = refl; skipped = refl }, refl)
 
 report_given_back : WritesUsedAlone two Report (only Report) (of_page_5 ∷ taken) id
 report_given_back = (refl, refl)
@@ -144,8 +144,8 @@ of_an_unread_one h = h
 over_the_end : CopiesFrom two 0x14ffe 4 (at 0x14ffe) number → ⊥
 over_the_end h = let e = h.place in absurd cc
 
-bytes_behind_the_flags : is_over (part ∷ flags ∷ Full ∷ []) ≡ false
-bytes_behind_the_flags = refl
+bytes_after_the_flags : is_over (part ∷ flags ∷ Full ∷ []) ≡ false
+bytes_after_the_flags = refl
 
 no_number_at_first : ends_in_number [] ≡ false
 no_number_at_first = refl

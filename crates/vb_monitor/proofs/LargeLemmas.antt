@@ -7,7 +7,7 @@ use Rattle.std.proofs.lemmas.Bool.{cases_lt, and_parts, and_from, or_left, or_ri
 use Rattle.vb_virtio.specs.Tests.{one_if}
 use Rattle.vb_virtio.proofs.Tables.{count_by-cons}
 use Rattle.vb_core.specs.Ballooned.{is_ballooned}
-use Rattle.vb_monitor.specs.Large.{is_between, is_of_large, AllGiven, GoesWith, Begins, Here, After, Stops, Behind, Before, RowGoes, NoneGoes, outside}
+use Rattle.vb_monitor.specs.Large.{is_between, is_of_large, AllGiven, GoesWith, Begins, Here, After, Stops, Past, Before, RowGoes, NoneGoes, outside}
 
 -- ---- pages in a row
 
@@ -27,9 +27,9 @@ before_part first end p b l given = elim (or_cases (is_between first end p) b gi
   | inr there ↦ there
 ]
 
-behind_part : (first end p : ℕ) (b : Bool) → end ≤ p → (is_between first end p || b) ≡ true →
+parts_after : (first end p : ℕ) (b : Bool) → end ≤ p → (is_between first end p || b) ≡ true →
     b ≡ true
-behind_part first end p b l given = elim (or_cases (is_between first end p) b given) [
+parts_after first end p b l given = elim (or_cases (is_between first end p) b given) [
   | inl there ↦ absurd (omega (arith, l, (between_says first end p there).1))
   | inr there ↦ there
 ]
@@ -41,12 +41,12 @@ InSet set from end = (p : ℕ) → from ≤ p → p < end → is_ballooned set p
 
 pub all_given : (small first end n : ℕ) (set : List ℕ) → InSet set (small * n) first →
     InSet set end (small * (n + 1)) → AllGiven small first end set n
-all_given small first end n set before behind p there =
+all_given small first end n set before further p there =
     let says = between_says (small * n) (small * (n + 1)) p there in elim (cases_lt p first) [
       | inl l ↦ or_right (is_between first end p) (is_ballooned set p) (before p says.0 l)
       | inr l ↦ elim (cases_lt p end) [
         | inl m ↦ or_left (is_between first end p) (is_ballooned set p) (between_is first end p l m)
-        | inr m ↦ or_right (is_between first end p) (is_ballooned set p) (behind p m says.1)
+        | inr m ↦ or_right (is_between first end p) (is_ballooned set p) (further p m says.1)
       ]
     ]
 
@@ -55,12 +55,12 @@ pub given_before : (small first end n : ℕ) (set : List ℕ) → first ≤ smal
 given_before small first end n set starts given p l m = before_part first end p (is_ballooned set p)
     m (given p (between_is (small * n) (small * (n + 1)) p l (omega (arith, m, starts))))
 
-pub given_behind : (small first end n : ℕ) (set : List ℕ) → small * n ≤ end →
+pub given_after : (small first end n : ℕ) (set : List ℕ) → small * n ≤ end →
     AllGiven small first end set n → InSet set end (small * (n + 1))
-given_behind small first end n set stops given p l m = behind_part first end p (is_ballooned set p)
+given_after small first end n set stops given p l m = parts_after first end p (is_ballooned set p)
     l (given p (between_is (small * n) (small * (n + 1)) p (omega (arith, l, stops)) m))
 
-pub ruleset given_steps = (all_given, given_before, given_behind)
+pub ruleset given_steps = (all_given, given_before, given_after)
 
 -- ---- the row that goes
 
@@ -71,7 +71,7 @@ pub record Ends (small first end low last : ℕ) : Type 0 where
   pub from : small * low ≤ first
   pub before : first < small * (low + 1)
   pub to : small * last < end
-  pub behind : end ≤ small * (last + 1)
+  pub further : end ≤ small * (last + 1)
 
 pub ends_of : (small first end : ℕ) → 0 < small → first < end →
     Ends small first end (first / small) ((end - 1) / small)
@@ -84,7 +84,7 @@ ends_of small first end positive some =
       from = mul-div-le first small;
       before = lt-mul-div-succ first positive;
       to = omega (arith, le, some);
-      behind = omega (arith, lt, some);
+      further = omega (arith, lt, some);
     }
 
 -- a large page with a page of the part is one of those from the first on and to the last
@@ -102,7 +102,7 @@ enters_to : (small first end low last n p : ℕ) → Ends small first end low la
 enters_to small first end low last n p is l f = elim (cases_lt last n) [
   | inl lt ↦
       let step : small * (last + 1) ≤ small * n = mul-le-mul_left small (omega (arith, lt)) in
-      absurd (omega (arith, step, l, f, is.behind))
+      absurd (omega (arith, step, l, f, is.further))
   | inr le ↦ le
 ]
 
@@ -179,7 +179,7 @@ begin_is small first end low a n set (After e none) from it = elim (cases_lt low
 stop_is : (small first end last b n : ℕ) (set : List ℕ) →
     Stops (AllGiven small first end set last) last b → n ≤ last → AllGiven small first end set n →
     n < b
-stop_is small first end last b n set (Behind e given) to it = omega (arith, e, to)
+stop_is small first end last b n set (Past e given) to it = omega (arith, e, to)
 stop_is small first end last b n set (Before e none) to it = elim (cases_lt n last) [
   | inl l ↦ omega (arith, e, l)
   | inr l ↦
@@ -205,7 +205,7 @@ from_low goes low a n (Here e given) l = omega (arith, e, l)
 from_low goes low a n (After e none) l = omega (arith, e, l)
 
 to_last : (goes : Type 0) (last b n : ℕ) → Stops goes last b → n < b → n ≤ last
-to_last goes last b n (Behind e given) l = omega (arith, e, l)
+to_last goes last b n (Past e given) l = omega (arith, e, l)
 to_last goes last b n (Before e none) l = omega (arith, e, l)
 
 at_low : (small first end low a n : ℕ) (set : List ℕ) →
@@ -218,7 +218,7 @@ at_low small first end low a n set (After e none) l same = absurd (omega (arith,
 at_last : (small first end last b n : ℕ) (set : List ℕ) →
     Stops (AllGiven small first end set last) last b → n < b → n ≡ last →
     AllGiven small first end set n
-at_last small first end last b n set (Behind e given) l same =
+at_last small first end last b n set (Past e given) l same =
     subst (λ (k : ℕ). AllGiven small first end set k) (sym same) given
 at_last small first end last b n set (Before e none) l same = absurd (omega (arith, e, l, same))
 
@@ -270,8 +270,8 @@ count_outside a b f (suc c) l =
       ]
     ]
 
-pub outside_is : (first end from behind : ℕ) → first ≤ end → from ≤ behind → from ≤ end →
-    first ≤ behind → outside first end from behind ≡ (from - first) + (end - behind)
-outside_is first end from behind order row starts stops =
-    let count = count_outside from behind first (end - first) row in
+pub outside_is : (first end from further : ℕ) → first ≤ end → from ≤ further → from ≤ end →
+    first ≤ further → outside first end from further ≡ (from - first) + (end - further)
+outside_is first end from further order row starts stops =
+    let count = count_outside from further first (end - first) row in
     omega (arith, count, order, row, starts, stops)

@@ -5,7 +5,7 @@ use Rattle.std.specs.Prelude.{◌||◌}
 use Rattle.std.proofs.lemmas.Bool.{cases_order}
 use Rattle.vb_core.specs.Ballooned.{is_ballooned}
 use Rattle.vb_monitor.specs.declared.{large.Large.Large, cuts.Cut.Cut, regions.Region.Region}
-use Rattle.vb_monitor.specs.Large.{Begins, Here, After, Stops, Behind, Before, GoesWith, RowGoes, outside, all_wait, LargeBy, AreWholePages}
+use Rattle.vb_monitor.specs.Large.{Begins, Here, After, Stops, Past, Before, GoesWith, RowGoes, outside, all_wait, LargeBy, AreWholePages}
 use Rattle.vb_monitor.proofs.{Samples.Same, LargeLemmas.{between_is, between_says}}
 
 -- four large pages of 16 KiB from page 16 on
@@ -72,8 +72,8 @@ of_six_too : RowGoes 4 18 24 [] 5 7 → ⊥
 of_six_too h = six_waits (h.go 6 (omega arith) (omega arith))
 
 -- and none leaves out one that goes, at either end
-begins_behind : (end : ℕ) → RowGoes 4 18 24 [] 6 end → ⊥
-begins_behind end h = let e = h.others 5 five_goes in omega (arith, e.0)
+begins_past : (end : ℕ) → RowGoes 4 18 24 [] 6 end → ⊥
+begins_past end h = let e = h.others 5 five_goes in omega (arith, e.0)
 
 ends_before : RowGoes 4 18 24 [] 3 5 → ⊥
 ends_before h = let e = h.others 5 five_goes in omega (arith, e.1)
@@ -207,16 +207,16 @@ not_at_one_that_waits : Begins ⊥ 5 5 → ⊥
 not_at_one_that_waits (Here e goes) = goes
 not_at_one_that_waits (After e none) = let is : Same 5 6 = e in omega arith
 
-stops_behind : Stops (Unit {0}) 5 6
-stops_behind = Behind refl tt
+stops_after : Stops (Unit {0}) 5 6
+stops_after = Past refl tt
 
 stops_before : Stops ⊥ 5 5
 stops_before = Before refl (λ goes. goes)
 
 not_before_one_that_goes : Stops (Unit {0}) 5 5 → ⊥
-not_before_one_that_goes (Behind e goes) = let other : Same 5 6 = e in omega arith
+not_before_one_that_goes (Past e goes) = let other : Same 5 6 = e in omega arith
 not_before_one_that_goes (Before e none) = none tt
 
-not_behind_one_that_waits : Stops ⊥ 5 6 → ⊥
-not_behind_one_that_waits (Behind e goes) = goes
-not_behind_one_that_waits (Before e none) = let is : Same 6 5 = e in omega arith
+not_after_one_that_waits : Stops ⊥ 5 6 → ⊥
+not_after_one_that_waits (Past e goes) = goes
+not_after_one_that_waits (Before e none) = let is : Same 6 5 = e in omega arith

@@ -6,15 +6,15 @@ use Rattle.vb_chain.specs.declared.fault.ChainFault.TheVariants.{WrongDirection,
 use Rattle.vb_core.specs.declared.kinds.Kind.{Kind}
 use Rattle.vb_core.specs.declared.kinds.Kind.TheVariants.{Inflate, Deflate, Statistics, Report}
 use Rattle.vb_core.specs.declared.{name.Named.Named, runs.Run.Run, device.{Device.Device, Denial.{Denial, TheVariants.{Broken, BadArgument, NoQueue}}}}
-use Rattle.vb_core.specs.{Devices.with_one_taken, Name.NamesBy, Report.NamesPiecesBy, Runs.Tell}
+use Rattle.vb_core.specs.{Devices.with_one_taken, Name.NamesNumbersBy, Report.NamesPiecesBy, Runs.Tell}
 use Rattle.vb_monitor.specs.declared.outcome.{Outcome.Outcome}
 use Rattle.vb_monitor.specs.Accesses.{Access, CopyBytes, Release, TellPages, Discard}
-use Rattle.vb_monitor.specs.{Ends.{Whole, Stops}, Giving.{Then, after_use, with_given, spent, AfterName}}
+use Rattle.vb_monitor.specs.{Ends.{Whole, Stops}, Giving.{Then, after_use, with_given, spent, AfterName, after_last}}
 use Rattle.vb_monitor.specs.Chains.{AfterBytes, CopiesBy, ServesPieces}
 use Rattle.vb_monitor.proofs.Samples.{Same, two, at, ready, tally, piece, page_5, cut_5, one_page, number, part, id, used_length, used_index}
 use Rattle.vb_monitor.proofs.AheadFacts.{over, ends, needs_reset}
 
--- ---- a request of no number, and bytes of a report, which name none at all
+-- ---- a byte, which is no number, and bytes of a report, which name none at all
 
 abbrev none : Then
 none = λ d t log. ⊥
@@ -32,7 +32,10 @@ abbrev refusal : Option Denial → Result Named Denial
 refusal (Some why) = Err why
 refusal None = Ok one_page
 
-no_number : (kind : Kind) → NamesBy kind [] 256 [] ready ready (Err (denied_for kind))
+abbrev byte : List ℕ
+byte = 5 ∷ []
+
+no_number : (kind : Kind) → NamesNumbersBy kind byte 256 [] ready ready (Err (denied_for kind))
 unfolding lib.Count.ones
 no_number Inflate = record { denied = λ why e. (ap refusal e, refl); names = λ e. absurd cc }
 no_number Deflate = record { denied = λ why e. (ap refusal e, refl); names = λ e. absurd cc }
@@ -40,7 +43,7 @@ no_number Statistics = record { denied = λ why e. (ap refusal e, refl); names =
 no_number Report = record { denied = λ why e. (ap refusal e, refl); names = λ e. absurd cc }
 
 abbrev Refused : Kind → Device → Option Denial → List Access → Type 0
-Refused kind d why log = AfterBytes kind (over kind d (refuses why)) none ready tally 3 [] log
+Refused kind d why log = AfterBytes kind (over kind d (refuses why)) none ready tally 3 byte log
 
 inflates_refused : Refused Inflate ready (Some BadArgument) []
 inflates_refused = record {
@@ -74,36 +77,42 @@ stops : (w : Whole) (d : Device) (runs : List Run) (answer : Result Named Denial
     answer ≡ Err why → AfterName w none d tally 3 runs answer log → Stops w d tally (Some why) false false log
 stops w d runs answer why log e h = subst (λ (a : Result Named Denial). AfterName w none d tally 3 runs a log) e h
 
+stops_last : (w : Whole) (d : Device) (runs : List Run) (answer : Result Named Denial) (why : Denial) (log : List Access) →
+    answer ≡ Err why → AfterName w none (after_last w.kind answer d) tally 3 runs answer log →
+    Stops w d tally (Some why) false false log
+stops_last w d runs answer why log e h =
+    subst (λ (a : Result Named Denial). AfterName w none (after_last w.kind a d) tally 3 runs a log) e h
+
 inflates_told : (d : Device) (why : Option Denial) (x : Access) (rest : List Access) → Refused Inflate d why (x ∷ rest) → ⊥
 unfolding lib.Count.ones
 inflates_told d why x rest h =
     let says = h.names.denied BadArgument refl in
-    let e = (stops _ h.device h.runs h.answer BadArgument _ says.0 h.goes_on).nothing in absurd cc
+    let e = (stops_last _ h.device h.runs h.answer BadArgument _ says.0 h.goes_on).nothing in absurd cc
 
 deflates_told : (d : Device) (why : Option Denial) (x : Access) (rest : List Access) → Refused Deflate d why (x ∷ rest) → ⊥
 unfolding lib.Count.ones
 deflates_told d why x rest h =
     let says = h.names.denied BadArgument refl in
-    let e = (stops _ h.device h.runs h.answer BadArgument _ says.0 h.goes_on).nothing in absurd cc
+    let e = (stops_last _ h.device h.runs h.answer BadArgument _ says.0 h.goes_on).nothing in absurd cc
 
 bytes_told : (d : Device) (why : Option Denial) (x : Access) (rest : List Access) → Refused Report d why (x ∷ rest) → ⊥
 unfolding lib.Count.ones
 bytes_told d why x rest h =
     let says = h.names.denied NoQueue refl in
-    let e = (stops _ h.device h.runs h.answer NoQueue _ says.0 h.goes_on).nothing in absurd cc
+    let e = (stops_last _ h.device h.runs h.answer NoQueue _ says.0 h.goes_on).nothing in absurd cc
 
 for_no_reason : (d : Device) → Refused Inflate d None [] → ⊥
 unfolding lib.Count.ones
 for_no_reason d h =
     let says = h.names.denied BadArgument refl in
-    let stop = stops _ h.device h.runs h.answer BadArgument _ says.0 h.goes_on in
+    let stop = stops_last _ h.device h.runs h.answer BadArgument _ says.0 h.goes_on in
     let e = ap (λ (o : Outcome). o.why) stop.outcome in absurd cc
 
 broken_by_it : (why : Option Denial) → Refused Deflate needs_reset why [] → ⊥
 unfolding lib.Count.ones
 broken_by_it why h =
     let says = h.names.denied BadArgument refl in
-    let stop = stops _ h.device h.runs h.answer BadArgument _ says.0 h.goes_on in
+    let stop = stops_last _ h.device h.runs h.answer BadArgument _ says.0 h.goes_on in
     let e : Same 79 h.device.status = ap (λ (d : Device). d.status) stop.device in
     let f : Same h.device.status 15 = ap (λ (d : Device). d.status) says.1 in omega (arith, e, f)
 
@@ -115,7 +124,7 @@ taken = with_one_taken Deflate ready
 abbrev tells_5 : Tell (page_5 ∷ []) (5 ∷ [])
 tells_5 = (5 ∷ [], ([], (record { whole = refl; grows = (5, ([], (refl, refl))) }, (tt, refl))))
 
-names_5 : NamesBy Deflate number 256 (page_5 ∷ []) ready taken (Ok one_page)
+names_5 : NamesNumbersBy Deflate number 256 (page_5 ∷ []) ready ready (Ok one_page)
 unfolding numbers_of lib.Count.ones
 names_5 = record {
   denied = λ why e. absurd cc;
@@ -143,7 +152,7 @@ unfolding lib.Count.ones
 asked_back o = record {
   answer = Ok one_page;
   runs = page_5 ∷ [];
-  device = taken;
+  device = ready;
   names = names_5;
   goes_on = record {
     rest = back;
@@ -151,7 +160,7 @@ asked_back o = record {
     goes_on = record {
       rest = back;
       asks = refl;
-      gives_back = record { rest = []; asks = refl; goes_on = (refl, refl, refl) };
+      goes_on = record { rest = []; asks = refl; goes_on = (refl, refl, refl) };
     };
   };
 }
@@ -171,7 +180,7 @@ tells_both : Tell (run_of_both ∷ []) (5 ∷ 6 ∷ [])
 tells_both =
     (5 ∷ 6 ∷ [], ([], (record { whole = refl; grows = (5, (6 ∷ [], (refl, (run_of_both, (refl, refl))))) }, (tt, refl))))
 
-names_both : NamesBy Inflate both 256 (run_of_both ∷ []) ready (with_one_taken Inflate ready) (Ok both_named)
+names_both : NamesNumbersBy Inflate both 256 (run_of_both ∷ []) ready ready (Ok both_named)
 unfolding numbers_of lib.Count.ones
 names_both = record {
   denied = λ why e. absurd cc;
@@ -198,7 +207,7 @@ both_told o = record {
   goes_on = record {
     answer = Ok both_named;
     runs = run_of_both ∷ [];
-    device = with_one_taken Inflate ready;
+    device = ready;
     names = names_both;
     goes_on = record {
       rest = Discard (record cut_5 { length = 0x2000 }) ∷ back;
@@ -206,7 +215,7 @@ both_told o = record {
       goes_on = record {
         rest = back;
         asks = refl;
-        gives_back = record { rest = []; asks = refl; goes_on = tt };
+        goes_on = record { rest = []; asks = refl; goes_on = tt };
       };
     };
   };

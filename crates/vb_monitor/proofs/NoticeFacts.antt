@@ -33,8 +33,8 @@ one_more = refl
 around : stands (record ring { next_avail = 65535 }) 1 ≡ Ok true
 around = refl
 
-behind : stands (record ring { next_avail = 1 }) 0 ≡ Err IndexJump
-behind = refl
+further : stands (record ring { next_avail = 1 }) 0 ≡ Err IndexJump
+further = refl
 
 tenth_entry : entry_offset (record ring { next_avail = 9 }) ≡ 6
 tenth_entry = refl
@@ -81,7 +81,7 @@ other_bits : wants_interrupt 0xfffe ≡ true
 other_bits = refl
 
 abbrev tally : Tally
-tally = record { chains = 8; pages = 3; keeps = false; given = false; held = None; published = 0 }
+tally = record { chains = 8; pages = 3; keeps = false; given = false; held = None; published = 0; longest = 9; told = 0 }
 
 all_spent : (spent 4 tally).pages ≡ 0
 all_spent = refl

@@ -36,16 +36,16 @@ why_back None = refl
 min_same : (a b n : ℕ) → b ≡ a → a ≤ n → min b n ≡ a
 min_same a b n e le = omega (arith, e, le)
 
-pub row_back : (walk : Walk) (first behind : ℕ) (writing : Bool) → first ≡ walk.first →
-    behind ≡ walk.behind → writing ≡ walk.writing → walk.first < 65536 →
+pub row_back : (walk : Walk) (first further : ℕ) (writing : Bool) → first ≡ walk.first →
+    further ≡ walk.further → writing ≡ walk.writing → walk.first < 65536 →
     row_bytes walk ≤ MAX_BYTES → (record walk {
       writing = writing;
       first = min first 0xffff;
-      behind = min behind 63;
+      further = min further 63;
     }) ≡ walk
-row_back walk first behind writing e f g lt fits =
+row_back walk first further writing e f g lt fits =
     let few = min_same walk.first first 0xffff e (omega (arith, lt)) in
-    let after = min_same walk.behind behind 63 f (omega (arith, fits)) in
-    ap (λ (b : Bool). record walk { writing = b; first = min first 0xffff; behind = min behind 63 }) g
-    ∙ (ap (λ (n : ℕ). record walk { first = n; behind = min behind 63 }) few
-    ∙ ap (λ (n : ℕ). record walk { behind = n }) after)
+    let after = min_same walk.further further 63 f (omega (arith, fits)) in
+    ap (λ (b : Bool). record walk { writing = b; first = min first 0xffff; further = min further 63 }) g
+    ∙ (ap (λ (n : ℕ). record walk { first = n; further = min further 63 }) few
+    ∙ ap (λ (n : ℕ). record walk { further = n }) after)

@@ -5,7 +5,7 @@ use Rattle.std.{proofs.Common.None, specs.Prelude.if◌then◌else◌}
 use Rattle.std.proofs.lemmas.{List.{drop_more, drop_all}, Bool.Decides.nat_tests}
 use Rattle.vb_core.{specs.declared.settings.TheConstants.MEMORY_LIMIT, specs.declared.runs.Run.Run}
 use Rattle.vb_monitor.specs.declared.regions.Region.{Region}
-use Rattle.vb_monitor.specs.{declared.cuts.Cut.Cut, Machine.{cuts_on, cuts_behind}}
+use Rattle.vb_monitor.specs.{declared.cuts.Cut.Cut, Machine.{cuts_on, cuts_after}}
 use Rattle.vb_monitor.specs.Regions.{holds, spot_from, meets, cut_of, cuts_from, cuts_of}
 
 -- ---- places
@@ -62,7 +62,7 @@ cut_end rs n run le = ap (λ (l : List Region). cuts_from n l run) (drop_all n r
 
 pub run_cut : (rs : List Region) (runs : List Run) (n k : ℕ) (cut : Cut) (d : Run) → n < length runs
     → cuts_from 0 (drop 0 rs) (get_or runs n d) ≡ cut ∷ cuts_from k (drop k rs) (get_or runs n d)
-    → cuts_of rs (drop n runs) ≡ cut ∷ cuts_behind k n rs runs
+    → cuts_of rs (drop n runs) ≡ cut ∷ cuts_after k n rs runs
 run_cut rs runs n k cut d lt h = ap (λ (l : List Run). cuts_of rs l) (drop_more runs n d lt)
     ∙ (ap (λ (l : List Cut). l ++ cuts_of rs (drop (n + 1) runs)) h
     ∙ ap (λ (l : List Run). cut ∷ (cuts_on rs k l ++ cuts_of rs (drop (n + 1) runs)))

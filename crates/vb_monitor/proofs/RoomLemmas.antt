@@ -1,7 +1,7 @@
 -- As many runs as are told have room.
 use Rattle.vb_core.{specs.{Pieces.pieces_in, Name.told}, proofs.PieceLemmas.length_in}
-use Rattle.vb_core.specs.Name.{NamesBy, NamesRuns, AreNamed, fault_in, right_numbers, name_denial}
-use Rattle.vb_core.{specs.Name.is_request, specs.Report.{NamesPiecesBy, pieces_denial, named_by}}
+use Rattle.vb_core.specs.Name.{NamesNumbersBy, NamesRuns, AreNamed, fault_in, right_numbers, name_denial}
+use Rattle.vb_core.{specs.Name.{is_request, is_length_of_numbers}, specs.Report.{NamesPiecesBy, pieces_denial, named_by}}
 use Rattle.vb_core.{specs.declared.kinds.Kind.Kind, specs.declared.name.Named.Named}
 use Rattle.vb_core.{specs.declared.runs.Run.Run, specs.Devices.call_denial}
 use Rattle.vb_core.{specs.declared.device.Denial.Denial, specs.declared.device.Device.Device}
@@ -10,7 +10,7 @@ use Rattle.std.proofs.Common.{◌≡◌, sym, subst, ap, arith, ℕ, ◌≤◌, 
 use Rattle.std.proofs.Common.{length, Option, Some, None, Result, Ok, Err, refl}
 use Rattle.std.{specs.Prelude.{nat_le, ◌&&◌}, proofs.lemmas.Bool.Decides.nat_tests}
 use Rattle.vb_chain.{specs.declared.fault.ChainFault.ChainFault, specs.declared.pieces.Piece.Piece}
-use Rattle.vb_request.{specs.Request.{numbers_of, is_request_length}, proofs.Once.numbers_of-length}
+use Rattle.vb_request.{specs.Request.numbers_of, proofs.Once.numbers_of-length}
 use Rattle.vb_request.specs.Report.{report_request}
 use Rattle.vb_virtio.specs.declared.limits.TheConstants.{MAX_QUEUE_SIZE}
 use Rattle.vb_monitor.specs.declared.room.TheConstants.{MAX_RUNS}
@@ -29,8 +29,8 @@ has_room : (kind : Kind) (len room : ℕ) (d : Device) → name_denial kind len 
     len / 4 ≤ room
 has_room kind len room d e =
     let both : nat_le (len / 4) room ≡ true =
-    both_true (is_request_length len) (nat_le (len / 4) room)
-    (fits_then kind (is_request kind) (is_request_length len && nat_le (len / 4) room) d e) in
+    both_true (is_length_of_numbers len) (nat_le (len / 4) room)
+    (fits_then kind (is_request kind) (is_length_of_numbers len && nat_le (len / 4) room) d e) in
     grind (arith, nat_tests)
 
 few_runs : (o : Option ChainFault) (skipping : Bool) (reserved count : ℕ) (ns : List ℕ)
@@ -55,7 +55,7 @@ few_told (Ok x) skipping reserved count ns runs named e n =
 
 few_by : (o : Option Denial) (kind : Kind) (bytes : List ℕ) (room : ℕ) (runs : List Run)
     (d1 d2 : Device) (named : Named) → name_denial kind (length bytes) room d1 ≡ o →
-    NamesBy kind bytes room runs d1 d2 (Ok named) → named.runs ≤ room
+    NamesNumbersBy kind bytes room runs d1 d2 (Ok named) → named.runs ≤ room
 few_by (Some why) kind bytes room runs d1 d2 named e n =
     let wrong : Ok named ≡ Err why = (n.denied why e).0 in cc
 few_by None kind bytes room runs d1 d2 named e n =
@@ -67,7 +67,7 @@ few_by None kind bytes room runs d1 d2 named e n =
     omega (arith, few, long, fits)
 
 pub few_named : (kind : Kind) (bytes : List ℕ) (room : ℕ) (runs : List Run) (d1 d2 : Device)
-    (named : Named) → NamesBy kind bytes room runs d1 d2 (Ok named) → named.runs ≤ room
+    (named : Named) → NamesNumbersBy kind bytes room runs d1 d2 (Ok named) → named.runs ≤ room
 few_named kind bytes room runs d1 d2 named n =
     few_by (name_denial kind (length bytes) room d1) kind bytes room runs d1 d2 named refl n
 

@@ -61,18 +61,22 @@ fence_first h = let e : false ≡ true = h in absurd cc
 fence_twice : MayFollow (Some Acquire) Acquire → ⊥
 fence_twice h = let e : false ≡ true = h in absurd cc
 
-fence_behind_bytes : MayFollow (Some part) Acquire → ⊥
-fence_behind_bytes h = let e : false ≡ true = h in absurd cc
+fence_after_bytes : MayFollow (Some part) Acquire → ⊥
+fence_after_bytes h = let e : false ≡ true = h in absurd cc
 
 fence_before_the_index : MayFollow (Some used_length) Acquire → ⊥
 fence_before_the_index h = let e : false ≡ true = h in absurd cc
 
--- bytes after a fence, after what was told, and after an index
-bytes_behind_a_fence : MayFollow (Some Acquire) descriptor → ⊥
-bytes_behind_a_fence h = let e : false ≡ true = h in absurd cc
+-- bytes after a fence, after figures that were told, and after an index
+bytes_after_a_fence : MayFollow (Some Acquire) descriptor → ⊥
+bytes_after_a_fence h = let e : false ≡ true = h in absurd cc
 
-bytes_once_told : MayFollow (Some pages) part → ⊥
+bytes_once_told : MayFollow (Some figures) part → ⊥
 bytes_once_told h = let e : false ≡ true = h in absurd cc
+
+-- those of the next portion after pages that were told or discarded
+further_bytes : MayFollow (Some pages) part × MayFollow (Some discard) part
+further_bytes = (refl, refl)
 
 bytes_once_used : MayFollow (Some used_index) part → ⊥
 bytes_once_used h = let e : false ≡ true = h in absurd cc
@@ -105,8 +109,8 @@ discarded_once_used h = let e : false ≡ true = h in absurd cc
 given_back_untold : MayFollow (Some part) id → ⊥
 given_back_untold h = let e : false ≡ true = h in absurd cc
 
-number_behind_a_fence : MayFollow (Some Release) used_length → ⊥
-number_behind_a_fence h = let e : false ≡ true = h in absurd cc
+number_after_a_fence : MayFollow (Some Release) used_length → ⊥
+number_after_a_fence h = let e : false ≡ true = h in absurd cc
 
 -- a release fence before its element, and after the index
 fence_too_early : MayFollow (Some discard) Release → ⊥
@@ -119,8 +123,8 @@ fence_too_late h = let e : false ≡ true = h in absurd cc
 index_unfenced : MayFollow (Some used_length) used_index → ⊥
 index_unfenced h = absurd cc
 
-index_behind_a_full_fence : MayFollow (Some Full) used_index → ⊥
-index_behind_a_full_fence h = absurd cc
+index_after_a_full_fence : MayFollow (Some Full) used_index → ⊥
+index_after_a_full_fence h = absurd cc
 
 index_first : MayFollow None used_index → ⊥
 index_first h = absurd cc

@@ -5,7 +5,7 @@ use Rattle.vb_core.specs.declared.kinds.Kind.TheVariants.{Inflate, Deflate, Stat
 use Rattle.vb_monitor.specs.declared.cuts.Cut.{Cut}
 use Rattle.vb_monitor.specs.declared.parts.Part.{Part}
 use Rattle.vb_monitor.specs.Accesses.{Access, CopyBytes, Acquire, Release, Full, TellPages}
-use Rattle.vb_monitor.specs.SoFar.{Each, Known, Unknown, Walks, Has, parts_read, walked_by, with_copied, is_fenced, known, ring_after, index_read, left}
+use Rattle.vb_monitor.specs.SoFar.{Each, Known, Unknown, Walks, Has, parts_read, walked_by, with_copied, is_fenced, known, ring_after, index_read, left, with_told, is_whole, pages_told}
 use Rattle.vb_monitor.proofs.Samples.{two, ring, page_5, one_page, over_the_hole, cut_5, cut_20, cut_22, piece, first_descriptor, last_descriptor, number, index, entry, descriptor, part, pages, figures, discard, id, used_length, used_index, flags}
 
 -- ---- what is known of a chain
@@ -34,8 +34,8 @@ of_the_entry = refl
 unfenced : known Inflate (entry ∷ index ∷ []) ≡ Unknown
 unfenced = refl
 
-behind_another_fence : known Inflate (entry ∷ Full ∷ index ∷ []) ≡ Unknown
-behind_another_fence = refl
+after_another_fence : known Inflate (entry ∷ Full ∷ index ∷ []) ≡ Unknown
+after_another_fence = refl
 
 -- its pieces are in their order
 abbrev other : Piece
@@ -71,9 +71,9 @@ of_a_deflate = refl
 of_the_part : known Inflate (part ∷ descriptor ∷ taken) ≡ Has 3 (piece ∷ []) [] number
 of_the_part = refl
 
-behind_others : with_copied Inflate (7 ∷ 8 ∷ []) (Has 3 [] (of_piece ∷ of_piece ∷ []) (5 ∷ 6 ∷ [])) ≡
+after_others : with_copied Inflate (7 ∷ 8 ∷ []) (Has 3 [] (of_piece ∷ of_piece ∷ []) (5 ∷ 6 ∷ [])) ≡
     Has 3 [] (of_piece ∷ []) (5 ∷ 6 ∷ 7 ∷ 8 ∷ [])
-behind_others = refl
+after_others = refl
 
 past_all_parts : with_copied Inflate (7 ∷ []) (Has 3 [] [] (5 ∷ [])) ≡ Has 3 [] [] (5 ∷ [])
 past_all_parts = refl
@@ -85,12 +85,12 @@ copied_of_no_chain = refl
 abbrev whole : List Access
 whole = part ∷ descriptor ∷ taken
 
-abbrev kept_behind : Access → Known
-kept_behind x = known Inflate (x ∷ whole)
+abbrev kept_after : Access → Known
+kept_after x = known Inflate (x ∷ whole)
 
-kept : map kept_behind (Acquire ∷ Release ∷ Full ∷ pages ∷ figures ∷ discard ∷ id ∷ []) ≡
+kept : map kept_after (Acquire ∷ Release ∷ Full ∷ pages ∷ figures ∷ discard ∷ id ∷ []) ≡
     Has 3 (piece ∷ []) [] number ∷ Has 3 (piece ∷ []) [] number ∷ Has 3 (piece ∷ []) [] number
-    ∷ Has 3 (piece ∷ []) [] number ∷ Has 3 (piece ∷ []) [] number ∷ Has 3 (piece ∷ []) [] number
+    ∷ Has 3 (piece ∷ []) [] [] ∷ Has 3 (piece ∷ []) [] number ∷ Has 3 (piece ∷ []) [] number
     ∷ Has 3 (piece ∷ []) [] number ∷ []
 kept = refl
 
@@ -113,25 +113,53 @@ nothing_last = refl
 
 -- ---- how far the queue is
 
-abbrev taken_behind : Access → ℕ
-taken_behind x = (ring_after ring (x ∷ [])).next_avail
+abbrev taken_after : Access → ℕ
+taken_after x = (ring_after Inflate ring (x ∷ whole)).next_avail
 
-abbrev used_behind : Access → ℕ
-used_behind x = (ring_after ring (x ∷ [])).next_used
+abbrev used_after : Access → ℕ
+used_after x = (ring_after Inflate ring (x ∷ whole)).next_used
 
--- an entry is taken where pages or figures are told
-one_taken : map taken_behind (index ∷ part ∷ Acquire ∷ Release ∷ Full
+-- an entry is taken where the last pages of a chain or figures are told
+one_taken : map taken_after (index ∷ part ∷ Acquire ∷ Release ∷ Full
     ∷ pages ∷ figures ∷ discard ∷ id ∷ used_index ∷ []) ≡ 0 ∷ 0 ∷ 0 ∷ 0 ∷ 0 ∷ 1 ∷ 1 ∷ 0 ∷ 0 ∷ 0 ∷ []
 one_taken = refl
 
 -- an element is used where an index is written
-one_used : map used_behind (index ∷ part ∷ Acquire ∷ Release ∷ Full
+one_used : map used_after (index ∷ part ∷ Acquire ∷ Release ∷ Full
     ∷ pages ∷ figures ∷ discard ∷ id ∷ used_index ∷ []) ≡ 0 ∷ 0 ∷ 0 ∷ 0 ∷ 0 ∷ 0 ∷ 0 ∷ 0 ∷ 0 ∷ 1 ∷ []
 one_used = refl
 
-twice : ring_after ring (used_index ∷ pages ∷ entry ∷ used_index ∷ pages ∷ index ∷ []) ≡
+twice : ring_after Inflate ring (used_index ∷ pages ∷ part ∷ descriptor ∷ entry ∷ Acquire ∷ used_index ∷ pages ∷ whole) ≡
     record ring { next_avail = 2; next_used = 2 }
 twice = refl
+
+-- none is where a portion is told, of which more is to be read
+abbrev amid : List Access
+amid = pages ∷ descriptor ∷ taken
+
+not_taken_yet : (ring_after Inflate ring amid).next_avail ≡ 0
+not_taken_yet = refl
+
+-- its bytes are told, and no others; what is to be read stays
+of_a_portion : known Inflate amid ≡ Has 3 (piece ∷ []) (of_piece ∷ []) []
+of_a_portion = refl
+
+told_of_it : with_told (Has 3 [] (of_piece ∷ []) (5 ∷ [])) ≡ Has 3 [] (of_piece ∷ []) []
+told_of_it = refl
+
+told_of_none : with_told Unknown ∷ with_told (Walks 3 4 []) ∷ [] ≡ Unknown ∷ Walks 3 4 [] ∷ []
+told_of_none = refl
+
+whole_then : is_whole Unknown ∷ is_whole (Walks 3 4 []) ∷ is_whole (Has 3 [] [] []) ∷ is_whole (Has 3 [] (of_piece ∷ []) [])
+    ∷ [] ≡ false ∷ false ∷ true ∷ false ∷ []
+whole_then = refl
+
+-- pages of all portions count since the entry, and no others
+pages_of_all : pages_told (TellPages Inflate [] (record one_page { pages = 256 }) ∷ part ∷ discard ∷ amid) ≡ 257
+pages_of_all = refl
+
+pages_of_another : pages_told (part ∷ descriptor ∷ entry ∷ Acquire ∷ used_index ∷ amid) ≡ 0
+pages_of_another = refl
 
 -- ---- the index that was read
 
@@ -188,10 +216,10 @@ of_the_last_told : left_of (pages ∷ hole_told ∷ whole) ≡ cut_5 ∷ []
 of_the_last_told = refl
 
 -- other accesses keep them
-abbrev left_behind : Access → List Cut
-left_behind x = left_of (x ∷ pages ∷ whole)
+abbrev left_after : Access → List Cut
+left_after x = left_of (x ∷ pages ∷ whole)
 
-still_left : map left_behind (index ∷ part ∷ Acquire ∷ Release ∷ Full ∷ figures ∷ id ∷ used_index ∷ []) ≡
+still_left : map left_after (index ∷ part ∷ Acquire ∷ Release ∷ Full ∷ figures ∷ id ∷ used_index ∷ []) ≡
     (cut_5 ∷ []) ∷ (cut_5 ∷ []) ∷ (cut_5 ∷ []) ∷ (cut_5 ∷ []) ∷ (cut_5 ∷ []) ∷ (cut_5 ∷ []) ∷ (cut_5 ∷ [])
     ∷ (cut_5 ∷ []) ∷ []
 still_left = refl
@@ -199,7 +227,7 @@ still_left = refl
 -- ---- by all those before
 
 abbrev Stand : List Access → Access → Type 0
-Stand before x = Each (λ behind y. behind ≡ index ∷ before) (index ∷ before) (x ∷ [])
+Stand before x = Each (λ further y. further ≡ index ∷ before) (index ∷ before) (x ∷ [])
 
 -- each access sees all those before it, of which the last one is first
 sees_all : Stand (Acquire ∷ flags ∷ []) entry

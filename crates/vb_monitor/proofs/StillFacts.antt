@@ -34,9 +34,9 @@ last_descriptor_too h = h.descriptors 7 (omega arith) refl
 there : ArePartsMapped two (record { address = 0x400; plus = 4; length = 4 } ∷ [])
 there = (λ e. absurd cc, tt)
 
-behind_it_a_hole : ArePartsMapped two
+after_it_a_hole : ArePartsMapped two
     (record { address = 0x400; plus = 4; length = 4 } ∷ record { address = 0x14ffc; plus = 4; length = 4 } ∷ []) → ⊥
-behind_it_a_hole h = h.1.0 refl
+after_it_a_hole h = h.1.0 refl
 
 -- all of eight descriptors, the last one of which ends where the hole begins
 each_there : (k : ℕ) → k < 8 → spot two (0x14f80 + 16 * k) 16 ≢ None
@@ -166,9 +166,10 @@ of_another_head h = let e : Same 4 3 = ap head_of h.is.tells.ends.outcome in ome
 reads : map is_read (Inflate ∷ Deflate ∷ Statistics ∷ Report ∷ []) ≡ true ∷ true ∷ true ∷ false ∷ []
 reads = refl
 
-lengths : length_of Statistics (record piece { len = 8 } ∷ []) ∷ length_of Statistics (record piece { len = 10 } ∷ [])
-    ∷ length_of Inflate (record piece { writable = true } ∷ []) ∷ []
-    ≡ Err BadLength ∷ Ok 10 ∷ Err WrongDirection ∷ []
+lengths : length_of Statistics 256 (record piece { len = 8 } ∷ []) ∷ length_of Statistics 256 (record piece { len = 10 } ∷ [])
+    ∷ length_of Inflate 256 (record piece { writable = true } ∷ []) ∷ length_of Deflate 257 (record piece { len = 1028 } ∷ [])
+    ∷ length_of Inflate 256 (record piece { len = 1028 } ∷ []) ∷ []
+    ≡ Err BadLength ∷ Ok 10 ∷ Err WrongDirection ∷ Ok 1028 ∷ Err BadLength ∷ []
 lengths = refl
 
 -- ---- reports

@@ -14,10 +14,10 @@ use Rattle.vb_monitor.{specs.Accesses.Access, specs.Machine.serves}
 use Rattle.vb_monitor.specs.Still.{AfterReads}
 use Rattle.vb_monitor.{specs.Ends.{Whole, EndsWhere}, specs.Notices.entry_offset}
 
-pub one_behind : (still : List Access → Type 0) (does : List Access →
+pub one_after : (still : List Access → Type 0) (does : List Access →
     Type 0) (x : Access) (rest log : List Access) → log ≡ x ∷ rest →
     AfterReads still does rest → AfterReads still does log
-one_behind still does x rest log e h = record {
+one_after still does x rest log e h = record {
   read = x ∷ h.read;
   rest = h.rest;
   all = e ∙ ap (λ (l : List Access). x ∷ l) h.all;
@@ -40,7 +40,7 @@ pub one_more : (still : List Access → Type 0) (found : Result (Option Taken) C
 one_more still (Err f) w d t x rest log e h = h
 one_more still (Ok None) w d t x rest log e h = h
 one_more still (Ok (Some taken)) w d t x rest log e h =
-    one_behind still (serves w t d taken.head taken.chain) x rest log e h
+    one_after still (serves w t d taken.head taken.chain) x rest log e h
 
 -- nothing was given back before
 pub ends_so : (still : List Access → Type 0) (given : Bool) (w : Whole) (d : Device) (t : Tally)

@@ -22,9 +22,9 @@ three = refl
 none : bytes_from own 5 0 ≡ []
 none = refl
 
-one_behind_the_other : bytes_of own (record { addr = 5; len = 2; writable = false }
+one_after_the_other : bytes_of own (record { addr = 5; len = 2; writable = false }
     ∷ record { addr = 9; len = 1; writable = true } ∷ []) ≡ 5 ∷ 6 ∷ 9 ∷ []
-one_behind_the_other = refl
+one_after_the_other = refl
 
 -- ---- what is read
 

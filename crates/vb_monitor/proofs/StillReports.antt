@@ -12,7 +12,7 @@ use Rattle.vb_ring.specs.declared.device.Taken.{Taken}
 use Rattle.vb_request.specs.Report.{report_request}
 use Rattle.vb_core.proofs.{DenialLemmas.open_call}
 use Rattle.vb_core.specs.Devices.{ring_of, needing_reset, with_one_taken, queue_denial, call_denial}
-use Rattle.vb_core.specs.{Name.{after_request, told}, Report.{run_of, is_beyond}}
+use Rattle.vb_core.specs.{Name.{after_chain, told}, Report.{run_of, is_beyond}}
 use Rattle.vb_core.specs.{Report.{pieces_denial, named_by}, Settings.{memory_pages, are_settings}}
 use Rattle.vb_core.specs.declared.device.{Denial.Denial, Denial.TheVariants.Broken, Device.Device}
 use Rattle.vb_core.specs.declared.{kinds.Kind.{Kind, TheVariants.Report}, name.Named.Named}
@@ -79,7 +79,7 @@ served_as still w next d t taken (Err f) log kind none same unrefused e stays h 
     let answer : h.answer ≡ Err (Broken f) =
     h.names.answer unrefused ∙ ap (λ (r : Result (List ℕ) ChainFault). told (named_by count r)) e in
     let device : h.device ≡ needing_reset d = h.names.device unrefused
-    ∙ ap (λ (r : Result (List ℕ) ChainFault). after_request Report (named_by count r) d) e in
+    ∙ ap (λ (r : Result (List ℕ) ChainFault). after_chain Report (named_by count r) d) e in
     let ends = ends_so still t.given w h.device t (Some (Broken f)) false log none stays
     (subst (λ (r : Result Named Denial). AfterName w next h.device t taken.head h.runs r log)
     answer h.goes_on) in
@@ -90,7 +90,7 @@ served_as still w next d t taken (Ok pages) log kind none same unrefused e stays
     let answer : h.answer ≡ Ok named =
     h.names.answer unrefused ∙ ap (λ (r : Result (List ℕ) ChainFault). told (named_by count r)) e in
     let device : h.device ≡ with_one_taken Report d = h.names.device unrefused
-    ∙ ap (λ (r : Result (List ℕ) ChainFault). after_request Report (named_by count r) d) e in
+    ∙ ap (λ (r : Result (List ℕ) ChainFault). after_chain Report (named_by count r) d) e in
     let theirs : take count h.runs ≡ map run_of taken.chain =
     h.names.runs_are (subst (λ (r : Result Named Denial). IsOk r) (sym answer) refl) in
     record {

@@ -11,7 +11,7 @@ use Rattle.vb_core.{specs.declared.device.Device.Device, specs.Devices.ring_of}
 use Rattle.vb_monitor.specs.declared.{regions.Region.Region, regions.Spot.Spot, outcome.Tally.Tally}
 use Rattle.vb_monitor.specs.{Accesses.{Access, CopyBytes}, Ends.{Whole, Breaks}, Regions.spot}
 use Rattle.vb_monitor.specs.Chains.{descriptor_of, longest, memory_end, chain_fault, table_fault, Follows}
-use Rattle.vb_monitor.specs.Chains.{TableRow, row_of, no_row, in_row, unless_apart, so_many_behind}
+use Rattle.vb_monitor.specs.Chains.{TableRow, row_of, no_row, in_row, unless_apart, most_further}
 use Rattle.vb_monitor.specs.Chains.{DescriptorBy, GoesOn, AfterDescriptor, RowAt, FollowsBy}
 use Rattle.vb_monitor.proofs.TableRowLemmas.{first_in_row, in_row_is, none_in_none}
 use Rattle.vb_monitor.specs.Still.{bytes_from, Holds, in_memory}
@@ -47,11 +47,11 @@ Walk still w d t whole ds q end head log =
     IsWhole still whole ds q end head log ⊎ IsBroken still w d t ds q end head
 
 -- after one more access
-further : (still : List Access → Type 0) (w : Whole) (d : Device) (t : Tally) (whole : List Piece →
+read_first : (still : List Access → Type 0) (w : Whole) (d : Device) (t : Tally) (whole : List Piece →
     List Access → Type 0)
     (ds : ℕ → Descriptor) (q end head : ℕ) (x : Access) (rest log : List Access) → log ≡ x ∷ rest →
     Walk still w d t whole ds q end head rest → Walk still w d t whole ds q end head log
-further still w d t whole ds q end head x rest log e (inl h) = inl (record {
+read_first still w d t whole ds q end head x rest log e (inl h) = inl (record {
   pieces = h.pieces;
   read = x ∷ h.read;
   rest = h.rest;
@@ -60,7 +60,7 @@ further still w d t whole ds q end head x rest log e (inl h) = inl (record {
   serves = h.serves;
   still_so = h.still_so;
 })
-further still w d t whole ds q end head x rest log e (inr h) = inr h
+read_first still w d t whole ds q end head x rest log e (inr h) = inr h
 
 -- ---- a step
 
@@ -105,17 +105,17 @@ pub record Shows (byte : ℕ → ℕ) (table : ℕ) (row : TableRow) : Type 0 wh
 pub none_shows : (byte : ℕ → ℕ) (table : ℕ) → Shows byte table no_row
 none_shows byte table = record { alike = λ k bytes e. absurd (none_in_none k bytes e) }
 
-pub row_shows : (byte : ℕ → ℕ) (table number behind : ℕ) (bytes : List ℕ) →
-    bytes ≡ bytes_from byte (table + 16 * number) (16 * (behind + 1)) →
+pub row_shows : (byte : ℕ → ℕ) (table number further : ℕ) (bytes : List ℕ) →
+    bytes ≡ bytes_from byte (table + 16 * number) (16 * (further + 1)) →
     Shows byte table (row_of number bytes)
-row_shows byte table number behind bytes e = record {
+row_shows byte table number further bytes e = record {
   alike = λ k found is.
       let (le, fits, same) = in_row_is (row_of number bytes) k found is in
-      let long : length bytes ≡ 16 * (behind + 1) = ap (λ (l : List ℕ). length l) e
-      ∙ length-map-range_with_len byte (table + 16 * number) (16 * (behind + 1)) in
+      let long : length bytes ≡ 16 * (further + 1) = ap (λ (l : List ℕ). length l) e
+      ∙ length-map-range_with_len byte (table + 16 * number) (16 * (further + 1)) in
       let place : table + 16 * number + 16 * (k - number) ≡ table + 16 * k = omega (arith, le) in
       ap descriptor_of (same ∙ (ap (λ (l : List ℕ). take 16 (drop (16 * (k - number)) l)) e
-      ∙ (part_of byte (table + 16 * number) (16 * (k - number)) 16 (16 * (behind + 1))
+      ∙ (part_of byte (table + 16 * number) (16 * (k - number)) 16 (16 * (further + 1))
       (omega (arith, fits, long)) ∙ ap (λ (a : ℕ). bytes_from byte a 16) place)));
 }
 
@@ -230,37 +230,37 @@ Rows onward byte w d t whole follows q head i =
 row_at : (onward : List Access → Type 0) (byte : ℕ → ℕ) (w : Whole) (d : Device) (t : Tally)
     (whole : List Piece → List Access → Type 0)
     (follows : TableRow → ℕ → Bool → List Piece → List Access → Type 0) (q head : ℕ)
-    (path : List ℕ) (i index behind : ℕ) (writing : Bool) (pieces : List Piece)
+    (path : List ℕ) (i index further : ℕ) (writing : Bool) (pieces : List Piece)
     (log : List Access) (on : Rows onward byte w d t whole follows q head (i + 1))
     (o : Option Spot) →
     q ≡ (ring_of w.kind d).size →
-    spot w.regions ((ring_of w.kind d).table + 16 * index) (16 * (behind + 1)) ≡ o → o ≢ None →
+    spot w.regions ((ring_of w.kind d).table + 16 * index) (16 * (further + 1)) ≡ o → o ≢ None →
     i < longest q →
     Walked (in_memory byte (ring_of w.kind d).table) q (memory_end d) head path i index writing
     pieces → StaysUntil onward byte w.regions log →
-    RowAt w d t follows whole index behind writing pieces o log →
+    RowAt w d t follows whole index further writing pieces o log →
     Walk (StaysUntil onward byte w.regions) w d t whole (in_memory byte
     (ring_of w.kind d).table) q (memory_end d) head log
-row_at onward byte w d t whole follows q head path i index behind writing pieces log on None is e
+row_at onward byte w d t whole follows q head path i index further writing pieces log on None is e
     mapped
     lt walked stays h = absurd (mapped refl)
-row_at onward byte w d t whole follows q head path i index behind writing pieces log on
+row_at onward byte w d t whole follows q head path i index further writing pieces log on
     (Some at) is e mapped lt walked stays h =
     let table = (ring_of w.kind d).table in
     let row = row_of index h.bytes in
     let both : Holds byte w.regions (CopyBytes at h.bytes) × StaysUntil onward byte w.regions h.rest
     =
     subst (λ (l : List Access). StaysUntil onward byte w.regions l) h.asks stays in
-    let shows : Shows byte table row = row_shows byte table index behind h.bytes
+    let shows : Shows byte table row = row_shows byte table index further h.bytes
     (copied_as byte w.regions (table + 16 * index) (16 *
-    (behind + 1)) at h.bytes both.0 e h.long) in
-    further (StaysUntil onward byte w.regions) w d t whole (in_memory byte table) q
+    (further + 1)) at h.bytes both.0 e h.long) in
+    read_first (StaysUntil onward byte w.regions) w d t whole (in_memory byte table) q
     (memory_end d) head (CopyBytes at h.bytes) h.rest
     log h.asks
     (after onward byte w d t whole (follows row) q head path i index writing pieces
     (take 16 h.bytes)
     h.rest (on row shows) is lt
-    (shows.alike index (take 16 h.bytes) (first_in_row index h.bytes behind h.long)) walked both.1
+    (shows.alike index (take 16 h.bytes) (first_in_row index h.bytes further h.long)) walked both.1
     h.goes_on)
 
 is_some : (at : Spot) → Some at ≡ None → ⊥
@@ -290,7 +290,7 @@ row_by : (onward : List Access → Type 0) (byte : ℕ → ℕ) (w : Whole) (d :
 row_by onward byte w d t whole follows q head path i index row writing pieces log on None e shows is
     mapped lt walked stays h =
     row_at onward byte w d t whole follows q head path i index _ writing pieces log on _ is refl
-    (row_mapped w.regions _ (so_many_behind (ring_of w.kind d).size index pieces) _ refl
+    (row_mapped w.regions _ (most_further (ring_of w.kind d).size index pieces) _ refl
     mapped) lt walked stays h
 row_by onward byte w d t whole follows q head path i index row writing pieces log on
     (Some bytes) e shows

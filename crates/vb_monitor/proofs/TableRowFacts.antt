@@ -13,8 +13,8 @@ use Rattle.vb_monitor.specs.declared.outcome.Outcome.{Outcome}
 use Rattle.vb_monitor.specs.declared.rows.RowEnd.TheVariants.{Leaves, Last, Broken as Faulty}
 use Rattle.vb_monitor.specs.declared.step.Phase.TheVariants.{AwaitsDescriptor}
 use Rattle.vb_monitor.specs.{Accesses.{Access, CopyBytes}, Ends.{Whole}, Rows.EndsRow}
-use Rattle.vb_monitor.specs.Chains.{TableRow, row_of, no_row, in_row, so_many_behind}
-use Rattle.vb_monitor.specs.Chains.{behind_in_row, AfterDescriptor, TakesRow, FollowsBy, Follows}
+use Rattle.vb_monitor.specs.Chains.{TableRow, row_of, no_row, in_row, most_further}
+use Rattle.vb_monitor.specs.Chains.{further_in_row, AfterDescriptor, TakesRow, FollowsBy, Follows}
 use Rattle.vb_monitor.specs.{Machine.{Fits, row_bytes, row_in}, SoFar.{Walks, Has, walked_in}}
 use Rattle.vb_monitor.proofs.Samples.{Same, two, low, at, ring, ready, tally, piece, naming}
 use Rattle.vb_monitor.proofs.Samples.{last_descriptor, zeros, with_two, discard}
@@ -34,8 +34,8 @@ last_of_it = refl
 one_before : in_row three 4 ≡ None
 one_before = refl
 
-one_behind : in_row three 8 ≡ None
-one_behind = refl
+one_after : in_row three 8 ≡ None
+one_after = refl
 
 -- of its 16 bytes one is left out
 part_of_one : in_row (row_of 5 (naming 6 ++ take 15 (naming 7))) 6 ≡ None
@@ -46,19 +46,19 @@ of_none = refl
 
 -- ---- how many are copied together
 
-first_alone : so_many_behind 256 3 [] ≡ 0
+first_alone : most_further 256 3 [] ≡ 0
 first_alone = refl
 
-as_many_as_a_row_has : so_many_behind 256 3 (piece ∷ []) ≡ 31
+as_many_as_a_row_has : most_further 256 3 (piece ∷ []) ≡ 31
 as_many_as_a_row_has = refl
 
-just_a_row_left : so_many_behind 256 224 (piece ∷ []) ≡ 31
+just_a_row_left : most_further 256 224 (piece ∷ []) ≡ 31
 just_a_row_left = refl
 
-up_to_the_end : so_many_behind 256 225 (piece ∷ piece ∷ []) ≡ 30
+up_to_the_end : most_further 256 225 (piece ∷ piece ∷ []) ≡ 30
 up_to_the_end = refl
 
-last_of_the_table : so_many_behind 8 7 (piece ∷ []) ≡ 0
+last_of_the_table : most_further 8 7 (piece ∷ []) ≡ 0
 last_of_the_table = refl
 
 -- a table that lies in two regions, four descriptors in each
@@ -68,30 +68,30 @@ halves = record low { length = 0x1000 } ∷ record low { guest = 0x1000; length 
 abbrev over_both : Virtqueue
 over_both = record ring { table = 0xfc0 }
 
-apart : behind_in_row halves over_both 1 (piece ∷ []) ≡ 0
+apart : further_in_row halves over_both 1 (piece ∷ []) ≡ 0
 apart = refl
 
-one_of_two_regions : behind_in_row halves over_both 3 (piece ∷ []) ≡ 0
+one_of_two_regions : further_in_row halves over_both 3 (piece ∷ []) ≡ 0
 one_of_two_regions = refl
 
-in_the_second : behind_in_row halves over_both 4 (piece ∷ []) ≡ 3
+in_the_second : further_in_row halves over_both 4 (piece ∷ []) ≡ 3
 in_the_second = refl
 
-in_one_region : behind_in_row two over_both 1 (piece ∷ []) ≡ 6
+in_one_region : further_in_row two over_both 1 (piece ∷ []) ≡ 6
 in_one_region = refl
 
 -- the first descriptor, or just the last one, lies in another region than the row
-behind_the_first : behind_in_row halves (record ring { table = 0xff0 }) 1 (piece ∷ []) ≡ 6
-behind_the_first = refl
+after_the_first : further_in_row halves (record ring { table = 0xff0 }) 1 (piece ∷ []) ≡ 6
+after_the_first = refl
 
-over_by_the_last : behind_in_row halves (record ring { table = 0xf90 }) 1 (piece ∷ []) ≡ 0
+over_by_the_last : further_in_row halves (record ring { table = 0xf90 }) 1 (piece ∷ []) ≡ 0
 over_by_the_last = refl
 
 -- in a larger table a row goes on past number 255, up to the table's end
-past_255 : behind_in_row two (record ring { size = 512 }) 250 (piece ∷ []) ≡ 31
+past_255 : further_in_row two (record ring { size = 512 }) 250 (piece ∷ []) ≡ 31
 past_255 = refl
 
-up_to_1023 : so_many_behind 1024 1000 (piece ∷ []) ≡ 23
+up_to_1023 : most_further 1024 1000 (piece ∷ []) ≡ 23
 up_to_1023 = refl
 
 -- ---- a chain is followed
@@ -112,11 +112,11 @@ abbrev Ended : ℕ → List Piece → List Access → Type 0
 Ended n pieces log = (length pieces ≡ n) × (log ≡ [])
 
 -- by two copies: of its first descriptor, and of the row from the next one on
-abbrev behind_3 : List ℕ → List Access
-behind_3 bytes = CopyBytes (at 0x30) (naming 5) ∷ CopyBytes (at 0x50) bytes ∷ []
+abbrev after_3 : List ℕ → List Access
+after_3 bytes = CopyBytes (at 0x30) (naming 5) ∷ CopyBytes (at 0x50) bytes ∷ []
 
 in_a_row : Follows 8 whole ready tally (Ended 4) no_row 3 false []
-    (behind_3 (naming 6 ++ naming 7 ++ last_descriptor))
+    (after_3 (naming 6 ++ naming 7 ++ last_descriptor))
 in_a_row = record {
   bytes = naming 5;
   rest = CopyBytes (at 0x50) (naming 6 ++ naming 7 ++ last_descriptor) ∷ [];
@@ -136,7 +136,7 @@ abbrev writes : ℕ → List ℕ
 writes next = 0 ∷ 4 ∷ 0 ∷ 0 ∷ 0 ∷ 0 ∷ 0 ∷ 0 ∷ 4 ∷ 0 ∷ 0 ∷ 0 ∷ 3 ∷ 0 ∷ next ∷ 0 ∷ []
 
 read_in_it : Follows 8 (broken_by WrongDirection) ready tally (λ pieces log. ⊥) no_row 3 false []
-    (behind_3 (writes 6 ++ naming 7 ++ last_descriptor))
+    (after_3 (writes 6 ++ naming 7 ++ last_descriptor))
 read_in_it = record {
   bytes = naming 5;
   rest = CopyBytes (at 0x50) (writes 6 ++ naming 7 ++ last_descriptor) ∷ [];
@@ -198,7 +198,7 @@ to_a_257th = record { nothing = refl; device = refl; outcome = refl }
 
 -- a jump back to one that the row has asks for nothing
 jumps_in_it : Follows 8 whole ready tally (Ended 4) no_row 3 false []
-    (behind_3 (naming 7 ++ last_descriptor ++ naming 6))
+    (after_3 (naming 7 ++ last_descriptor ++ naming 6))
 jumps_in_it = record {
   bytes = naming 5;
   rest = CopyBytes (at 0x50) (naming 7 ++ last_descriptor ++ naming 6) ∷ [];
@@ -215,7 +215,7 @@ jumps_in_it = record {
 
 -- a loop in a row ends with the table
 loops : Follows 8 (broken_by TooLong) ready tally (Ended 4) no_row 3 false []
-    (behind_3 (naming 6 ++ naming 5 ++ zeros))
+    (after_3 (naming 6 ++ naming 5 ++ zeros))
 loops = record {
   bytes = naming 5;
   rest = CopyBytes (at 0x50) (naming 6 ++ naming 5 ++ zeros) ∷ [];
@@ -271,9 +271,9 @@ in_the_hole = record { nothing = refl; device = refl; outcome = refl }
 known_in_a_row : walked_in 8 Report 3 three 5 [] ≡ Has 3 (piece ∷ piece ∷ piece ∷ []) [] []
 known_in_a_row = refl
 
-known_behind_it : walked_in 8 Report 3 (row_of 5 (naming 6 ++ naming 2)) 5 (piece ∷ []) ≡
+known_after_it : walked_in 8 Report 3 (row_of 5 (naming 6 ++ naming 2)) 5 (piece ∷ []) ≡
     Walks 3 2 (piece ∷ piece ∷ piece ∷ [])
-known_behind_it = refl
+known_after_it = refl
 
 known_so_far : walked_in 2 Report 3 (row_of 5 (naming 6 ++ naming 5)) 5 [] ≡
     Walks 3 5 (piece ∷ piece ∷ [])
@@ -282,18 +282,18 @@ known_so_far = refl
 -- ---- the walk that waits for it
 
 abbrev walk : Walk
-walk = record { head = 3; count = 1; writing = false; first = 5; behind = 2 }
+walk = record { head = 3; count = 1; writing = false; first = 5; further = 2 }
 
-so_many_bytes : row_bytes walk ≡ 48
-so_many_bytes = refl
+bytes_so : row_bytes walk ≡ 48
+bytes_so = refl
 
 its_row : row_in walk (naming 6 ++ naming 7 ++ last_descriptor ++ zeros) ≡ three
 its_row = refl
 
-all_of_the_room : Fits (AwaitsDescriptor (at 0x50) (record walk { behind = 63 }))
+all_of_the_room : Fits (AwaitsDescriptor (at 0x50) (record walk { further = 63 }))
 all_of_the_room = omega arith
 
-one_past_the_room : Fits (AwaitsDescriptor (at 0x50) (record walk { behind = 64 })) → ⊥
+one_past_the_room : Fits (AwaitsDescriptor (at 0x50) (record walk { further = 64 })) → ⊥
 one_past_the_room h = omega (arith, h)
 
 -- ---- how the walk within a row ends

@@ -14,8 +14,8 @@ use Rattle.vb_monitor.specs.declared.{regions.Spot.Spot, outcome.Tally.Tally}
 use Rattle.vb_monitor.specs.{Accesses.Access, Ends.{Whole, Breaks}, Regions.spot}
 use Rattle.vb_monitor.specs.{Notices.{HeadBy, AfterEntry}, Machine.{next_chain, serves, row_bytes}}
 use Rattle.vb_monitor.specs.declared.step.Walk.{Walk}
-use Rattle.vb_monitor.specs.Chains.{TableRow, row_of, no_row, has_descriptor, in_row, so_many_behind}
-use Rattle.vb_monitor.specs.Chains.{unless_apart, behind_in_row, descriptor_of, longest, memory_end}
+use Rattle.vb_monitor.specs.Chains.{TableRow, row_of, no_row, has_descriptor, in_row, most_further}
+use Rattle.vb_monitor.specs.Chains.{unless_apart, further_in_row, descriptor_of, longest, memory_end}
 use Rattle.vb_monitor.specs.Chains.{or_too_long, chain_fault, table_fault, DescriptorBy, GoesOn, AfterDescriptor, AsksRow}
 use Rattle.vb_monitor.specs.Chains.{RowAt, TakesRow, FollowsBy, Follows}
 
@@ -30,42 +30,42 @@ Served = List Piece → List Access → Type 0
 
 -- all of it, where it lies in one region
 pub takes_all : (w : Whole) (d : Device) (t : Tally) (on : Onward) (whole : Served)
-    (first behind : ℕ) (writing : Bool) (pieces : List Piece) (at : Spot) (log : List Access) →
-    spot w.regions ((ring_of w.kind d).table + 16 * first) (16 * (behind + 1)) ≡ Some at →
-    AsksRow w d t on whole first behind writing pieces at log →
+    (first further : ℕ) (writing : Bool) (pieces : List Piece) (at : Spot) (log : List Access) →
+    spot w.regions ((ring_of w.kind d).table + 16 * first) (16 * (further + 1)) ≡ Some at →
+    AsksRow w d t on whole first further writing pieces at log →
     TakesRow w d t on whole first (unless_apart
-    (spot w.regions ((ring_of w.kind d).table + 16 * first) (16 * (behind + 1))) behind) writing
+    (spot w.regions ((ring_of w.kind d).table + 16 * first) (16 * (further + 1))) further) writing
     pieces log
-takes_all w d t on whole first behind writing pieces at log e h =
+takes_all w d t on whole first further writing pieces at log e h =
     subst (λ (n : ℕ). TakesRow w d t on whole first n writing pieces log)
-    (sym (ap (λ (o : Option Spot). unless_apart o behind) e))
-    (subst (λ (o : Option Spot). RowAt w d t on whole first behind writing pieces o log) (sym e) h)
+    (sym (ap (λ (o : Option Spot). unless_apart o further) e))
+    (subst (λ (o : Option Spot). RowAt w d t on whole first further writing pieces o log) (sym e) h)
 
 -- else its first descriptor alone
 takes_by : (w : Whole) (d : Device) (t : Tally) (on : Onward) (whole : Served)
-    (first behind : ℕ) (writing : Bool) (pieces : List Piece) (o : Option Spot)
+    (first further : ℕ) (writing : Bool) (pieces : List Piece) (o : Option Spot)
     (log : List Access) →
-    spot w.regions ((ring_of w.kind d).table + 16 * first) (16 * (behind + 1)) ≡ None →
+    spot w.regions ((ring_of w.kind d).table + 16 * first) (16 * (further + 1)) ≡ None →
     spot w.regions ((ring_of w.kind d).table + 16 * first) 16 ≡ o →
     RowAt w d t on whole first 0 writing pieces o log →
     TakesRow w d t on whole first (unless_apart
-    (spot w.regions ((ring_of w.kind d).table + 16 * first) (16 * (behind + 1))) behind) writing
+    (spot w.regions ((ring_of w.kind d).table + 16 * first) (16 * (further + 1))) further) writing
     pieces log
-takes_by w d t on whole first behind writing pieces o log e f h =
+takes_by w d t on whole first further writing pieces o log e f h =
     subst (λ (n : ℕ). TakesRow w d t on whole first n writing pieces log)
-    (sym (ap (λ (o : Option Spot). unless_apart o behind) e))
+    (sym (ap (λ (o : Option Spot). unless_apart o further) e))
     (subst (λ (o : Option Spot). RowAt w d t on whole first 0 writing pieces o log) (sym f) h)
 
 pub takes_one : (w : Whole) (d : Device) (t : Tally) (on : Onward) (whole : Served)
-    (first behind : ℕ) (writing : Bool) (pieces : List Piece) (at : Spot) (log : List Access) →
-    spot w.regions ((ring_of w.kind d).table + 16 * first) (16 * (behind + 1)) ≡ None →
+    (first further : ℕ) (writing : Bool) (pieces : List Piece) (at : Spot) (log : List Access) →
+    spot w.regions ((ring_of w.kind d).table + 16 * first) (16 * (further + 1)) ≡ None →
     spot w.regions ((ring_of w.kind d).table + 16 * first) 16 ≡ Some at →
     AsksRow w d t on whole first 0 writing pieces at log →
     TakesRow w d t on whole first (unless_apart
-    (spot w.regions ((ring_of w.kind d).table + 16 * first) (16 * (behind + 1))) behind) writing
+    (spot w.regions ((ring_of w.kind d).table + 16 * first) (16 * (further + 1))) further) writing
     pieces log
-takes_one w d t on whole first behind writing pieces at log e f h =
-    takes_by w d t on whole first behind writing pieces (Some at) log e f h
+takes_one w d t on whole first further writing pieces at log e f h =
+    takes_by w d t on whole first further writing pieces (Some at) log e f h
 
 -- a chain's first one is
 pub none_of_none : (n : ℕ) → in_row no_row n ≡ None
@@ -105,25 +105,25 @@ first_goes w d t head pieces log lt none h =
     (spot w.regions ((ring_of w.kind d).table + 16 * head) 16) 0) false ps log) none h)))
 
 -- another one, with those after it
-behind_some : (q number : ℕ) (pieces : List Piece) → 0 < length pieces →
-    so_many_behind q number pieces ≡ min 31 (q - (number + 1))
-behind_some q number [] lt = absurd (omega (arith, lt))
-behind_some q number (p ∷ ps) lt = refl
+after_some : (q number : ℕ) (pieces : List Piece) → 0 < length pieces →
+    most_further q number pieces ≡ min 31 (q - (number + 1))
+after_some q number [] lt = absurd (omega (arith, lt))
+after_some q number (p ∷ ps) lt = refl
 
 pub next_goes : (w : Whole) (d : Device) (t : Tally) (on : Onward) (whole : Served)
-    (number behind : ℕ) (writing : Bool) (pieces : List Piece) (log : List Access) →
-    0 < length pieces → behind ≡ min 31 ((ring_of w.kind d).size - (number + 1)) →
+    (number further : ℕ) (writing : Bool) (pieces : List Piece) (log : List Access) →
+    0 < length pieces → further ≡ min 31 ((ring_of w.kind d).size - (number + 1)) →
     TakesRow w d t on whole number (unless_apart
-    (spot w.regions ((ring_of w.kind d).table + 16 * number) (16 * (behind + 1))) behind) writing
+    (spot w.regions ((ring_of w.kind d).table + 16 * number) (16 * (further + 1))) further) writing
     pieces log →
-    TakesRow w d t on whole number (behind_in_row w.regions (ring_of w.kind d) number pieces)
+    TakesRow w d t on whole number (further_in_row w.regions (ring_of w.kind d) number pieces)
     writing pieces log
-next_goes w d t on whole number behind writing pieces log some is =
+next_goes w d t on whole number further writing pieces log some is =
     subst (λ (n : ℕ). TakesRow w d t on whole number (unless_apart
     (spot w.regions ((ring_of w.kind d).table + 16 * number) (16 * (n + 1))) n) writing
     pieces log → TakesRow w d t on whole number
-    (behind_in_row w.regions (ring_of w.kind d) number pieces) writing pieces log)
-    (behind_some (ring_of w.kind d).size number pieces some ∙ sym is) (λ h. h)
+    (further_in_row w.regions (ring_of w.kind d) number pieces) writing pieces log)
+    (after_some (ring_of w.kind d).size number pieces some ∙ sym is) (λ h. h)
 
 -- ---- a row is walked along
 
@@ -264,9 +264,9 @@ within_by : (there : Bool) (o : Option ChainFault) → (if there then o else Som
 within_by true o e = e
 within_by false o e = absurd cc
 
-room_behind : (q end : ℕ) (writing : Bool) (k : ℕ) (x : Descriptor) →
+room_after : (q end : ℕ) (writing : Bool) (k : ℕ) (x : Descriptor) →
     table_fault q end writing k x ≡ None → has_next x ≡ true → k + 1 < longest q
-room_behind q end writing k x e more = room_for q end writing k x
+room_after q end writing k x e more = room_for q end writing k x
     (within_by (nat_lt k (longest q)) (chain_fault q end writing k x) e) more
 
 pub goes_in_row : (q end : ℕ) (w : Whole) (d : Device) (t : Tally) (head : ℕ) (row : TableRow)
@@ -282,7 +282,7 @@ goes_in_row q end w d t head row writing now k ps more bytes x o log tested next
     h =
     let on = Follows (longest q - (k + 1)) w d t (serves w t d head) row in
     let room : length (take k ps) + 1 < longest q =
-    room_behind q end writing (length (take k ps)) x tested.is next in
+    room_after q end writing (length (take k ps)) x tested.is next in
     let one : suc (longest q - (k + 1 + 1)) ≡ longest q - (k + 1) = omega (arith, room, all) in
     by_fault q end w d t on (serves w t d head) writing k ps bytes x None log tested e f
     (subst (λ (b : Bool). GoesOn b on (serves w t d head) writing x (pieces_in (take k ps)) log)

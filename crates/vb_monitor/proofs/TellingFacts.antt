@@ -95,9 +95,9 @@ one_of_two : TellPieces settings (pages_2_and_3 ∷ []) (record { first = 2; cou
 one_of_two h =
     let e : report_request (pages_2_and_3 ∷ []) settings.reserved_pages ≡ Ok (2 ∷ 3 ∷ []) = refl in
     let same : h.free ≡ 2 ∷ 3 ∷ [] = ap (pages_or []) (sym h.sound ∙ e) in
-    let so_many : length h.free ≡ 2 = ap (λ (ns : List ℕ). length ns) same in
+    let count_so : length h.free ≡ 2 = ap (λ (ns : List ℕ). length ns) same in
     let one : 1 ≡ length h.free = h.pages in
-    omega (arith, so_many, one)
+    omega (arith, count_so, one)
 
 reported_and_skipped : TellPieces settings (page_2 ∷ []) (record { first = 2; count = 1 } ∷ [])
     (record one_page { skipped = 1 }) → ⊥
@@ -117,7 +117,7 @@ no_chain : TellsOf Inflate settings Unknown (page_5 ∷ []) one_page → ⊥
 no_chain h = absurd h
 
 half_read : TellsOf Inflate settings (Has 3 (piece ∷ []) (record { address = 0x400; plus = 0; length = 4 } ∷ []) number) (page_5 ∷ []) one_page → ⊥
-half_read h = absurd h
+half_read h = let e : Same 4 1024 = h.0 in omega arith
 
 of_an_inflate : TellsOf Inflate settings (Has 3 (piece ∷ []) [] number) (page_5 ∷ []) one_page
 of_an_inflate = named
@@ -146,7 +146,7 @@ is_the_figure zero d below = refl
 is_the_figure (suc k) d below = absurd (omega (arith, below))
 
 figure_told : FiguresOf (Has 3 (piece ∷ []) [] figure_bytes) (figure ∷ [])
-figure_told = record { figures = figure ∷ []; are = is_the_figure; so_many = refl }
+figure_told = record { figures = figure ∷ []; are = is_the_figure; count_so = refl }
 
 abbrev value_of : List Statistic → ℕ
 value_of [] = 0
@@ -159,16 +159,16 @@ told_alone (f ∷ fs) are = ap (λ (x : Statistic). x ∷ []) (are f)
 
 another_value : FiguresOf (Has 3 (piece ∷ []) [] figure_bytes) (record figure { value = 8 } ∷ []) → ⊥
 another_value h =
-    let e : Same 8 9 = ap value_of (h.so_many ∙ told_alone h.figures (λ d. h.are 0 d (omega arith))) in omega arith
+    let e : Same 8 9 = ap value_of (h.count_so ∙ told_alone h.figures (λ d. h.are 0 d (omega arith))) in omega arith
 
 more_than_one : FiguresOf (Has 3 (piece ∷ []) [] figure_bytes) (figure ∷ figure ∷ []) → ⊥
 more_than_one h =
-    let e : Same 2 1 = ap (λ (fs : List Statistic). length fs) (h.so_many ∙ told_alone h.figures (λ d. h.are 0 d (omega arith))) in
+    let e : Same 2 1 = ap (λ (fs : List Statistic). length fs) (h.count_so ∙ told_alone h.figures (λ d. h.are 0 d (omega arith))) in
     omega arith
 
 none_of_one : FiguresOf (Has 3 (piece ∷ []) [] figure_bytes) [] → ⊥
 none_of_one h =
-    let e : Same 0 1 = ap (λ (fs : List Statistic). length fs) (h.so_many ∙ told_alone h.figures (λ d. h.are 0 d (omega arith))) in
+    let e : Same 0 1 = ap (λ (fs : List Statistic). length fs) (h.count_so ∙ told_alone h.figures (λ d. h.are 0 d (omega arith))) in
     omega arith
 
 figures_unread : FiguresOf (Walks 3 3 []) [] → ⊥
@@ -177,7 +177,7 @@ figures_unread h = absurd h
 -- ---- in their turn
 
 pages_told : TellsInTurn two Inflate false ready read pages
-pages_told = (refl, named)
+pages_told = (refl, named, refl)
 
 -- with other counts than those of the bytes
 one_too_many : TellsInTurn two Inflate false ready read (TellPages Inflate (page_5 ∷ []) (record one_page { pages = 2 })) → ⊥

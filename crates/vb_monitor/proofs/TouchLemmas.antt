@@ -23,17 +23,17 @@ is_held : (r : Region) (a len : ℕ) → holds r a len ≡ true →
 is_held r a len h = (grind (arith, nat_tests), grind (arith, nat_tests))
 
 found_by : (r : Region) (rs : List Region) (n a len : ℕ) (at : Spot)
-    (behind : spot_from (n + 1) rs a len ≡ Some at → Found rs (n + 1) len at) (b : Bool) →
+    (further : spot_from (n + 1) rs a len ≡ Some at → Found rs (n + 1) len at) (b : Bool) →
     holds r a len ≡ b →
     (if b then Some (record { region = n; offset = a - r.guest }) else spot_from (n + 1) rs a len) ≡
     Some at → Found (r ∷ rs) n len at
-found_by r rs n a len at behind true e h =
+found_by r rs n a len at further true e h =
     let is : record { region = n; offset = a - r.guest } ≡ at = cc in
     let held = is_held r a len e in
     subst (λ (s : Spot). Found (r ∷ rs) n len s) is
     (0, (omega arith, record { region = r; there = refl; possible = held.0; inside = held.1 }))
-found_by r rs n a len at behind false e h =
-    let (k, (is, x)) = behind h in
+found_by r rs n a len at further false e h =
+    let (k, (is, x)) = further h in
     let on : IsIn (r ∷ rs) (suc k) at.offset len =
     record { region = x.region; there = x.there; possible = x.possible; inside = x.inside } in
     (suc k, (omega (arith, is), on))

@@ -27,8 +27,8 @@ index_again : ReadsWord two ring (used_index ∷ []) (at 0x102) → ⊥
 index_again h = absurd h
 
 -- after an acquire fence the entry that is taken next, after the index or a chain
-entry_behind_a_chain : ReadsWord two (record ring { next_avail = 9 }) (Acquire ∷ used_index ∷ []) (at 0x106)
-entry_behind_a_chain = refl
+entry_after_a_chain : ReadsWord two (record ring { next_avail = 9 }) (Acquire ∷ used_index ∷ []) (at 0x106)
+entry_after_a_chain = refl
 
 entry_next : ReadsWord two (record ring { next_avail = 9 }) (Acquire ∷ index ∷ []) (at 0x106)
 entry_next = refl
@@ -57,23 +57,23 @@ flags_once_used h = absurd h
 index_twice : ReadsWord two ring (index ∷ []) (at 0x102) → ⊥
 index_twice h = absurd h
 
-word_behind_bytes : ReadsWord two ring (part ∷ []) (at 0x102) → ⊥
-word_behind_bytes h = absurd h
+word_after_bytes : ReadsWord two ring (part ∷ []) (at 0x102) → ⊥
+word_after_bytes h = absurd h
 
-word_behind_a_release_fence : ReadsWord two ring (Release ∷ []) (at 0x102) → ⊥
-word_behind_a_release_fence h = absurd h
+word_after_a_release_fence : ReadsWord two ring (Release ∷ []) (at 0x102) → ⊥
+word_after_a_release_fence h = absurd h
 
 word_once_told : ReadsWord two ring (pages ∷ []) (at 0x102) → ⊥
 word_once_told h = absurd h
 
-word_behind_figures : ReadsWord two ring (figures ∷ []) (at 0x102) → ⊥
-word_behind_figures h = absurd h
+word_after_figures : ReadsWord two ring (figures ∷ []) (at 0x102) → ⊥
+word_after_figures h = absurd h
 
 word_once_discarded : ReadsWord two ring (discard ∷ []) (at 0x102) → ⊥
 word_once_discarded h = absurd h
 
-word_behind_a_number : ReadsWord two ring (id ∷ []) (at 0x102) → ⊥
-word_behind_a_number h = absurd h
+word_after_a_number : ReadsWord two ring (id ∷ []) (at 0x102) → ⊥
+word_after_a_number h = absurd h
 
 -- ---- the end
 
@@ -88,10 +88,10 @@ not_over : map is_over_by (flags ∷ part ∷ Acquire ∷ Release ∷ Full ∷ p
     true ∷ false ∷ false ∷ false ∷ false ∷ false ∷ false ∷ false ∷ false ∷ false ∷ []
 not_over = refl
 
-abbrev is_over_behind : Access → Bool
-is_over_behind x = is_over (flags ∷ x ∷ [])
+abbrev is_over_after : Access → Bool
+is_over_after x = is_over (flags ∷ x ∷ [])
 
-no_other_fence : map is_over_behind (index ∷ part ∷ Acquire ∷ Release ∷ Full ∷ pages ∷ figures ∷ discard ∷ id ∷ used_index ∷ []) ≡
+no_other_fence : map is_over_after (index ∷ part ∷ Acquire ∷ Release ∷ Full ∷ pages ∷ figures ∷ discard ∷ id ∷ used_index ∷ []) ≡
     false ∷ false ∷ false ∷ false ∷ true ∷ false ∷ false ∷ false ∷ false ∷ false ∷ []
 no_other_fence = refl
 
@@ -186,8 +186,8 @@ once_used h = absurd h
 
 -- ---- fences, and the rest
 
-fence_behind_the_index : ReadsInTurn two Inflate ready (index ∷ []) Acquire
-fence_behind_the_index = (refl, refl, refl)
+fence_after_the_index : ReadsInTurn two Inflate ready (index ∷ []) Acquire
+fence_after_the_index = (refl, refl, refl)
 
 -- none before the index was read, nor where it publishes none, or more than the queue has
 fence_first : ReadsInTurn two Inflate ready [] Acquire → ⊥
@@ -219,8 +219,8 @@ not_anew h = let e : false ≡ true = ap is_there h.2 in absurd cc
 second_entry : ReadsInTurn two Inflate ready chained Acquire → ⊥
 second_entry h = let e = h.0 in absurd cc
 
-entry_behind_the_flags : ReadsInTurn two Inflate ready (flags ∷ Full ∷ index ∷ []) Acquire → ⊥
-entry_behind_the_flags h = let e : true ≡ false = h.1 in absurd cc
+entry_after_the_flags : ReadsInTurn two Inflate ready (flags ∷ Full ∷ index ∷ []) Acquire → ⊥
+entry_after_the_flags h = let e : true ≡ false = h.1 in absurd cc
 
 fence_before_the_flags : ReadsInTurn two Inflate ready (index ∷ []) Full
 fence_before_the_flags = refl
@@ -236,8 +236,8 @@ served_of n = used_index ∷ Release ∷ used_length ∷ id ∷ discard ∷ page
 abbrev served : List Access
 served = served_of 2
 
-fence_behind_a_chain : ReadsInTurn two Inflate ready served Acquire
-fence_behind_a_chain = (refl, refl, refl)
+fence_after_a_chain : ReadsInTurn two Inflate ready served Acquire
+fence_after_a_chain = (refl, refl, refl)
 
 -- where it publishes that one
 all_were_taken : ReadsInTurn two Inflate ready (served_of 1) Acquire → ⊥
@@ -253,5 +253,5 @@ first_entry_again : ReadsInTurn two Inflate ready (Acquire ∷ served) entry →
 first_entry_again h = let e : Same 0x106 0x104 = ap offset_in h in omega arith
 
 -- nor with an acquire fence before it
-index_behind_its_fence : ReadsInTurn two Inflate ready (Acquire ∷ served) index → ⊥
-index_behind_its_fence h = let e : Same 0x106 0x102 = ap offset_in h in omega arith
+index_after_its_fence : ReadsInTurn two Inflate ready (Acquire ∷ served) index → ⊥
+index_after_its_fence h = let e : Same 0x106 0x102 = ap offset_in h in omega arith

@@ -4,7 +4,7 @@ use Rattle.vb_request.specs.Request.{numbers_of}
 use Rattle.vb_chain.specs.declared.fault.ChainFault.TheVariants.{IndexJump}
 use Rattle.vb_core.specs.declared.device.Denial.TheVariants.{Broken}
 use Rattle.vb_core.{specs.declared.kinds.Kind.TheVariants.Inflate, specs.Devices.with_one_taken}
-use Rattle.vb_core.{specs.declared.device.Device.Device, specs.Name.NamesBy, specs.Runs.Tell}
+use Rattle.vb_core.{specs.declared.device.Device.Device, specs.Name.NamesNumbersBy, specs.Runs.Tell}
 use Rattle.vb_monitor.proofs.Samples.{Same, two, at, ready, page_5, last_descriptor, number, entry}
 use Rattle.vb_monitor.proofs.Samples.{descriptor, part, pages, discard, id, used_length, used_index}
 use Rattle.vb_monitor.proofs.Samples.{flags_are_read, flags, budget, outcome, one_page}
@@ -25,7 +25,7 @@ used d = after_use Inflate (taken d)
 abbrev tells_5 : Tell (page_5 ∷ []) (5 ∷ [])
 tells_5 = (5 ∷ [], ([], (record { whole = refl; grows = (5, ([], (refl, refl))) }, (tt, refl))))
 
-names_first : NamesBy Inflate number 256 (page_5 ∷ []) ready (taken ready) (Ok one_page)
+names_first : NamesNumbersBy Inflate number 256 (page_5 ∷ []) ready ready (Ok one_page)
 unfolding numbers_of lib.Count.ones
 names_first = record {
   denied = λ why e. absurd cc;
@@ -40,7 +40,7 @@ names_first = record {
   );
 }
 
-names_second : NamesBy Inflate number 256 (page_5 ∷ []) (used ready) (taken (used ready)) (Ok one_page)
+names_second : NamesNumbersBy Inflate number 256 (page_5 ∷ []) (used ready) (used ready) (Ok one_page)
 unfolding numbers_of lib.Count.ones
 names_second = record {
   denied = λ why e. absurd cc;
@@ -77,7 +77,7 @@ of_the_second = Acquire ∷ second_entry ∷ CopyBytes (at 0x40) last_descriptor
 
 abbrev served_both : Outcome
 served_both = record outcome {
-  tally = record { chains = 6; pages = 254; keeps = false; given = true; held = None; published = 2 };
+  tally = record { chains = 6; pages = 254; keeps = false; given = true; held = None; published = 2; longest = 256; told = 1 };
 }
 
 abbrev whole : Device → Outcome → Whole
@@ -85,7 +85,7 @@ whole d o = record { regions = two; kind = Inflate; device = d; outcome = o }
 
 -- after the first chain
 abbrev one_given : Tally
-one_given = record { chains = 7; pages = 255; keeps = false; given = true; held = None; published = 2 }
+one_given = record { chains = 7; pages = 255; keeps = false; given = true; held = None; published = 2; longest = 256; told = 1 }
 
 serves_second : ServesPublished 7 (whole (used (used ready)) served_both) (used ready) one_given of_the_second
 unfolding lib.Count.ones
@@ -106,7 +106,7 @@ serves_second = record {
       goes_on = record {
         answer = Ok one_page;
         runs = page_5 ∷ [];
-        device = taken (used ready);
+        device = used ready;
         names = names_second;
         goes_on = record {
           rest = discard ∷ given_then;
@@ -114,7 +114,7 @@ serves_second = record {
           goes_on = record {
             rest = given_then;
             asks = refl;
-            gives_back = record { rest = Full ∷ flags ∷ []; asks = refl; goes_on = flags_are_read refl refl };
+            goes_on = record { rest = Full ∷ flags ∷ []; asks = refl; goes_on = flags_are_read refl refl };
           };
         };
       };
@@ -146,7 +146,7 @@ serves_two = record {
         goes_on = record {
           answer = Ok one_page;
           runs = page_5 ∷ [];
-          device = taken ready;
+          device = ready;
           names = names_first;
           goes_on = record {
             rest = discard ∷ id ∷ used_length ∷ Release ∷ used_index ∷ of_the_second;
@@ -154,7 +154,7 @@ serves_two = record {
             goes_on = record {
               rest = id ∷ used_length ∷ Release ∷ used_index ∷ of_the_second;
               asks = refl;
-              gives_back = record { rest = of_the_second; asks = refl; goes_on = serves_second };
+              goes_on = record { rest = of_the_second; asks = refl; goes_on = serves_second };
             };
           };
         };

@@ -3,7 +3,7 @@ use Rattle.std.proofs.Common.{◌≡◌, refl, arith, true, false, List, [], ◌
 use Rattle.vb_request.specs.Request.{numbers_of}
 use Rattle.vb_core.{specs.declared.kinds.Kind.TheVariants.Inflate}
 use Rattle.vb_core.{specs.declared.device.Denial.TheVariants.NotReady, specs.Devices.with_one_taken}
-use Rattle.vb_core.{specs.declared.device.Device.Device, specs.Name.NamesBy, specs.Runs.Tell}
+use Rattle.vb_core.{specs.declared.device.Device.Device, specs.Name.NamesNumbersBy, specs.Runs.Tell}
 use Rattle.vb_monitor.proofs.Samples.{Same, two, ready, page_5, last_descriptor, number, index}
 use Rattle.vb_monitor.proofs.Samples.{entry, descriptor, part, pages, discard, id, used_length}
 use Rattle.vb_monitor.{specs.declared.outcome.Outcome.Outcome}
@@ -27,7 +27,7 @@ log = index ∷ Acquire ∷ entry ∷ descriptor ∷ part ∷ pages ∷ discard 
 abbrev tells_5 : Tell (page_5 ∷ []) (5 ∷ [])
 tells_5 = (5 ∷ [], ([], (record { whole = refl; grows = (5, ([], (refl, refl))) }, (tt, refl))))
 
-pub names_5 : NamesBy Inflate number 256 (page_5 ∷ []) ready taken (Ok one_page)
+pub names_5 : NamesNumbersBy Inflate number 256 (page_5 ∷ []) ready ready (Ok one_page)
 unfolding numbers_of lib.Count.ones
 names_5 = record {
   denied = λ why e. absurd cc;
@@ -65,7 +65,7 @@ serves = record {
         goes_on = record {
           answer = Ok one_page;
           runs = page_5 ∷ [];
-          device = taken;
+          device = ready;
           names = names_5;
           goes_on = record {
             rest = discard ∷ given;
@@ -73,7 +73,7 @@ serves = record {
             goes_on = record {
               rest = given;
               asks = refl;
-              gives_back = record { rest = Full ∷ flags ∷ []; asks = refl; goes_on = flags_are_read refl refl };
+              goes_on = record { rest = Full ∷ flags ∷ []; asks = refl; goes_on = flags_are_read refl refl };
             };
           };
         };
@@ -106,7 +106,8 @@ bytes_twice : IsServed (index ∷ Acquire ∷ entry ∷ descriptor ∷ part ∷ 
 bytes_twice (d, (o, h)) = absurd (reads_in_turn two Inflate budget ready d o _ h).1.1.1.1.1.0
 
 bytes_unread : IsServed (index ∷ Acquire ∷ entry ∷ descriptor ∷ pages ∷ discard ∷ given) → ⊥
-bytes_unread (d, (o, h)) = absurd (tells_in_turn two Inflate budget ready d o _ h).1.1.1.1.0.1
+bytes_unread (d, (o, h)) =
+    let e : Same 0 1024 = (tells_in_turn two Inflate budget ready d o _ h).1.1.1.1.0.1.0 in omega arith
 
 -- the page told twice, or not at all
 told_twice : IsServed (index ∷ Acquire ∷ entry ∷ descriptor ∷ part ∷ pages ∷ pages ∷ discard
@@ -117,9 +118,9 @@ untold : IsServed (index ∷ Acquire ∷ entry ∷ descriptor ∷ part ∷ disca
 untold (d, (o, h)) = let e : false ≡ true = (in_order two Inflate budget ready d o _ h).1.1.1.1.1.0 in absurd cc
 
 -- discarded after its used element, twice, before it is told, or not at all
-discarded_behind : IsServed (index ∷ Acquire ∷ entry ∷ descriptor ∷ part ∷ pages ∷ id
+discarded_after : IsServed (index ∷ Acquire ∷ entry ∷ descriptor ∷ part ∷ pages ∷ id
     ∷ used_length ∷ Release ∷ used_index ∷ discard ∷ Full ∷ flags ∷ []) → ⊥
-discarded_behind (d, (o, h)) = let e = (tells_in_turn two Inflate budget ready d o _ h).1.1.1.1.1.1.0 in absurd cc
+discarded_after (d, (o, h)) = let e = (tells_in_turn two Inflate budget ready d o _ h).1.1.1.1.1.1.0 in absurd cc
 
 discarded_twice : IsServed (index ∷ Acquire ∷ entry ∷ descriptor ∷ part ∷ pages ∷ discard
     ∷ discard ∷ given) → ⊥

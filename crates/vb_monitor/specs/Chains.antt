@@ -1,9 +1,10 @@
 -- The walk along a chain, one descriptor after the other (VIRTIO 1.1, 2.6.5), and what its pieces
 -- come to.
-use Rattle.std.specs.Prelude.{◌≡◌, ℕ, zero, suc, ◌+◌, ◌-◌, ◌*◌, ◌/◌, Bool, true, false, ◌||◌, ◌&&◌}
-use Rattle.std.specs.Prelude.{min, nat_le, nat_lt}
+use Rattle.std.specs.Prelude.{◌≡◌, ℕ, zero, suc, ◌+◌, ◌-◌, ◌*◌, ◌/◌, ◌%◌, ◌==◌, Bool, true, false}
+use Rattle.std.specs.Prelude.{◌||◌, ◌&&◌, not, min, nat_le, nat_lt}
 use Rattle.std.specs.Prelude.{List, [], ◌∷◌, ◌++◌, length, take, drop, Option, Some, None}
 use Rattle.std.specs.Prelude.{if◌then◌else◌, Result, Ok, Err}
+use Rattle.std.specs.List.{list_any}
 use Rattle.std.specs.Int.{w16, w32, w64, from_le_bytes}
 use Rattle.vb_virtio.specs.declared.limits.TheConstants.{MAX_QUEUE_SIZE, MAX_REQUEST_PAGES}
 use Rattle.vb_virtio.specs.declared.layout.TheConstants.{STATISTIC_SIZE}
@@ -11,9 +12,10 @@ use Rattle.vb_virtio.specs.Limits.{page_size}
 use Rattle.vb_chain.specs.declared.descriptor.Descriptor.{Descriptor}
 use Rattle.vb_chain.specs.declared.pieces.Piece.{Piece}
 use Rattle.vb_chain.specs.declared.fault.ChainFault.{ChainFault}
-use Rattle.vb_chain.specs.declared.fault.ChainFault.TheVariants.{OutOfRam, TooLong}
+use Rattle.vb_chain.specs.declared.fault.ChainFault.TheVariants.{OutOfRam, TooLong, BadLength}
+use Rattle.vb_chain.specs.declared.fault.ChainFault.TheVariants.{WrongDirection}
 use Rattle.vb_chain.specs.Rules.{has_next, is_writable, piece_of, first_fault}
-use Rattle.vb_request.specs.Request.{request_length}
+use Rattle.vb_request.specs.Request.{total_length}
 use Rattle.vb_request.specs.Statistics.{statistics_length}
 use Rattle.vb_core.specs.declared.kinds.Kind.{Kind}
 use Rattle.vb_core.specs.declared.kinds.Kind.TheVariants.{Inflate, Deflate, Statistics, Report}
@@ -25,7 +27,7 @@ use Rattle.vb_core.specs.declared.device.Denial.{Denial}
 use Rattle.vb_core.specs.declared.device.Device.{Device}
 use Rattle.vb_core.specs.Settings.{memory_pages}
 use Rattle.vb_core.specs.Devices.{ring_of, with_one_taken}
-use Rattle.vb_core.specs.Name.{NamesBy}
+use Rattle.vb_core.specs.Name.{NamesNumbersBy}
 use Rattle.vb_core.specs.Report.{NamesPiecesBy}
 use Rattle.vb_core.specs.Statistics.{AreFigures, statistics_denial}
 use Rattle.vb_monitor.specs.declared.room.TheConstants.{MAX_FIGURES, ROW_DESCRIPTORS}
@@ -35,19 +37,20 @@ use Rattle.vb_monitor.specs.declared.outcome.Tally.{Tally}
 use Rattle.vb_monitor.specs.Accesses.{Access, CopyBytes, TellFigures}
 use Rattle.vb_monitor.specs.Regions.{spot}
 use Rattle.vb_monitor.specs.Ends.{Whole, Ends, Breaks}
-use Rattle.vb_monitor.specs.Giving.{Then, AfterName, with_held}
-use Rattle.vb_monitor.specs.Pieces.{CopiesParts, all_parts}
+use Rattle.vb_monitor.specs.Giving.{Then, AfterName, after_last, with_held}
+use Rattle.vb_monitor.specs.Pieces.{all_parts}
+use Rattle.vb_monitor.specs.Portions.{CopiesParts}
 
 -- ---- what the bytes come to
 
--- The pages of a request are named.
+-- The pages of a request's last portion are named.
 pub record NamesBytes (w : Whole) (next : Then) (d : Device) (tally : Tally) (head : ℕ)
     (bytes : List ℕ) (log : List Access) : Type 0 where
   pub answer : Result Named Denial
   pub runs : List Run
   pub device : Device
-  pub names : NamesBy w.kind bytes MAX_REQUEST_PAGES runs d device answer
-  pub goes_on : AfterName w next device tally head runs answer log
+  pub names : NamesNumbersBy w.kind bytes MAX_REQUEST_PAGES runs d device answer
+  pub goes_on : AfterName w next (after_last w.kind answer device) tally head runs answer log
 
 -- The pages of a report are named, by its pieces alone: their bytes aren't read.
 pub record NamesReport (w : Whole) (next : Then) (d : Device) (tally : Tally) (head : ℕ)
@@ -77,7 +80,7 @@ abbrev pub FiguresBy : Option Denial → Whole → Device → Tally → ℕ → 
 FiguresBy (Some why) w d tally head bytes log = Ends w d tally (Some why) false log
 FiguresBy None w d tally head bytes log = TellsFigures w d tally head bytes log
 
--- What these bytes of a chain's pieces come to.
+-- What the bytes of a chain's last portion come to.
 abbrev pub AfterBytes : Kind → Whole → Then → Device → Tally → ℕ → List ℕ → List Access → Type 0
 AfterBytes Inflate w next d tally head bytes log = NamesBytes w next d tally head bytes log
 AfterBytes Deflate w next d tally head bytes log = NamesBytes w next d tally head bytes log
@@ -87,20 +90,34 @@ AfterBytes Report w next d tally head bytes log = NamesBytes w next d tally head
 
 -- ---- what the pieces come to
 
+-- A length that a request may have which names at most this many pages.
+abbrev pub is_length_within : ℕ → ℕ → Bool
+is_length_within most len = nat_lt 0 len && (nat_le len (4 * most) && (len % 4 == 0))
+
+-- How many bytes such a request of these pieces has, or what is wrong with them.
+abbrev pub request_length_within : ℕ → List Piece → Result ℕ ChainFault
+request_length_within most pieces =
+    if list_any (λ piece. piece.writable) pieces then Err WrongDirection
+    else (if not (is_length_within most (total_length pieces)) then Err BadLength
+    else Ok (total_length pieces))
+
+-- What the bytes of the last portion come to, of a chain of this head.
+abbrev pub ServesBytes : Whole → Then → ℕ → Device → Tally → List ℕ → List Access → Type 0
+ServesBytes w next head d tally bytes log = AfterBytes w.kind w next d tally head bytes log
+
 abbrev pub CopiesBy : Result ℕ ChainFault → Whole → Then → Device → Tally → ℕ → List Piece →
     List Access → Type 0
 CopiesBy (Err fault) w next d tally head pieces log = Breaks w d tally fault log
 CopiesBy (Ok bytes) w next d tally head pieces log =
-    CopiesParts w (λ bytes rest. AfterBytes w.kind w next d tally head bytes rest) d tally
-    (all_parts pieces) [] log
+    CopiesParts w (ServesBytes w next head) d tally (all_parts pieces) [] log
 
 -- A chain of these pieces is served: the bytes of a report aren't read.
 abbrev pub ServesPieces : Kind → Whole → Then → Device → Tally → ℕ → List Piece → List Access →
     Type 0
 ServesPieces Inflate w next d tally head pieces log =
-    CopiesBy (request_length pieces) w next d tally head pieces log
+    CopiesBy (request_length_within tally.longest pieces) w next d tally head pieces log
 ServesPieces Deflate w next d tally head pieces log =
-    CopiesBy (request_length pieces) w next d tally head pieces log
+    CopiesBy (request_length_within tally.longest pieces) w next d tally head pieces log
 ServesPieces Statistics w next d tally head pieces log =
     CopiesBy (statistics_length pieces) w next d tally head pieces log
 ServesPieces Report w next d tally head pieces log = NamesReport w next d tally head pieces log
@@ -154,21 +171,21 @@ in_row row number =
 -- How many descriptors are copied together with one, after which they are in the table, once these
 -- pieces are known: none with a chain's first, and with others as many as a row may have, up to the
 -- end of the table.
-abbrev pub so_many_behind : ℕ → ℕ → List Piece → ℕ
-so_many_behind q number [] = 0
-so_many_behind q number (p ∷ ps) = min (ROW_DESCRIPTORS - 1) (q - (number + 1))
+abbrev pub most_further : ℕ → ℕ → List Piece → ℕ
+most_further q number [] = 0
+most_further q number (p ∷ ps) = min (ROW_DESCRIPTORS - 1) (q - (number + 1))
 
 -- All of them where they lie in one region with it, and else none.
 abbrev pub unless_apart : Option Spot → ℕ → ℕ
-unless_apart (Some at) behind = behind
-unless_apart None behind = 0
+unless_apart (Some at) further = further
+unless_apart None further = 0
 
-abbrev pub behind_in_row : List Region → Virtqueue → ℕ → List Piece → ℕ
-behind_in_row regions r number pieces =
+abbrev pub further_in_row : List Region → Virtqueue → ℕ → List Piece → ℕ
+further_in_row regions r number pieces =
     unless_apart
     (spot regions (r.table + 16 * number)
-    (16 * (so_many_behind r.size number pieces + 1)))
-    (so_many_behind r.size number pieces)
+    (16 * (most_further r.size number pieces + 1)))
+    (most_further r.size number pieces)
 
 -- ---- from one descriptor to the next
 
@@ -217,12 +234,12 @@ AfterDescriptor w d tally on whole writing pieces bytes log =
 -- goes on in this copy.
 pub record AsksRow (w : Whole) (d : Device) (tally : Tally)
     (on : TableRow → ℕ → Bool → List Piece → List Access → Type 0)
-    (whole : List Piece → List Access → Type 0) (number behind : ℕ) (writing : Bool)
+    (whole : List Piece → List Access → Type 0) (number further : ℕ) (writing : Bool)
     (pieces : List Piece) (at : Spot) (log : List Access) : Type 0 where
   pub bytes : List ℕ
   pub rest : List Access
   pub asks : log ≡ CopyBytes at bytes ∷ rest
-  pub long : length bytes ≡ 16 * (behind + 1)
+  pub long : length bytes ≡ 16 * (further + 1)
   pub goes_on : AfterDescriptor w d tally (on (row_of number bytes)) whole writing pieces
       (take 16 bytes) rest
 
@@ -230,17 +247,17 @@ abbrev pub RowAt : Whole → Device → Tally →
     (TableRow → ℕ → Bool → List Piece → List Access → Type 0) →
     (List Piece → List Access → Type 0) → ℕ → ℕ → Bool → List Piece → Option Spot → List Access →
     Type 0
-RowAt w d tally on whole number behind writing pieces None log = Breaks w d tally OutOfRam log
-RowAt w d tally on whole number behind writing pieces (Some at) log =
-    AsksRow w d tally on whole number behind writing pieces at log
+RowAt w d tally on whole number further writing pieces None log = Breaks w d tally OutOfRam log
+RowAt w d tally on whole number further writing pieces (Some at) log =
+    AsksRow w d tally on whole number further writing pieces at log
 
 -- A row is asked for that begins with this descriptor, and has n after it.
 abbrev pub TakesRow : Whole → Device → Tally →
     (TableRow → ℕ → Bool → List Piece → List Access → Type 0) →
     (List Piece → List Access → Type 0) → ℕ → ℕ → Bool → List Piece → List Access → Type 0
-TakesRow w d tally on whole number behind writing pieces log =
-    RowAt w d tally on whole number behind writing pieces
-    (spot w.regions ((ring_of w.kind d).table + 16 * number) (16 * (behind + 1))) log
+TakesRow w d tally on whole number further writing pieces log =
+    RowAt w d tally on whole number further writing pieces
+    (spot w.regions ((ring_of w.kind d).table + 16 * number) (16 * (further + 1))) log
 
 -- Where the row that was copied last has the descriptor, nothing is asked.
 abbrev pub FollowsBy : Option (List ℕ) → Whole → Device → Tally →
@@ -250,7 +267,7 @@ FollowsBy (Some bytes) w d tally on whole row number writing pieces log =
     AfterDescriptor w d tally (on row) whole writing pieces bytes log
 FollowsBy None w d tally on whole row number writing pieces log =
     TakesRow w d tally on whole number
-    (behind_in_row w.regions (ring_of w.kind d) number pieces) writing pieces log
+    (further_in_row w.regions (ring_of w.kind d) number pieces) writing pieces log
 
 -- From a descriptor of this number on the chain is followed, which may have n more, and this row
 -- was copied last.

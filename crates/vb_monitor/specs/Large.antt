@@ -66,7 +66,7 @@ pub data Begins (goes : Type 0) (first low : ℕ) : Type 0 where
   After : low ≡ first + 1 → (goes → ⊥) → Begins goes first low
 
 pub data Stops (goes : Type 0) (last high : ℕ) : Type 0 where
-  Behind : high ≡ last + 1 → goes → Stops goes last high
+  Past : high ≡ last + 1 → goes → Stops goes last high
   Before : high ≡ last → (goes → ⊥) → Stops goes last high
 
 -- Just the large pages of a row go.
@@ -80,8 +80,8 @@ NoneGoes small first end set = (n : ℕ) → GoesWith small first end set n → 
 
 -- How many pages of a part aren't in a row of pages.
 abbrev pub outside : ℕ → ℕ → ℕ → ℕ → ℕ
-outside first end from behind =
-    count_by (λ p. not (is_between from behind p)) (range_with_len first (end - first))
+outside first end from further =
+    count_by (λ p. not (is_between from further p)) (range_with_len first (end - first))
 
 -- ---- parts of regions
 

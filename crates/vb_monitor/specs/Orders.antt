@@ -18,12 +18,12 @@ use Rattle.vb_monitor.specs.declared.orders.Orders.{Orders}
 use Rattle.vb_monitor.specs.Accesses.{Access, Release, TellPages, TellFigures, Discard, WriteNumber}
 use Rattle.vb_monitor.specs.Accesses.{WriteWord}
 use Rattle.vb_monitor.specs.declared.step.Phase.{Phase}
-use Rattle.vb_monitor.specs.Machine.{cuts_behind, stage}
+use Rattle.vb_monitor.specs.Machine.{cuts_after, stage}
 
 -- The part that is left, and all after it.
 abbrev pub cuts_left : List Region → List Run → Option NextCut → List Cut
 cuts_left regions runs None = []
-cuts_left regions runs (Some x) = x.cut ∷ cuts_behind x.from x.run regions runs
+cuts_left regions runs (Some x) = x.cut ∷ cuts_after x.from x.run regions runs
 
 -- What is told: the first runs, or the first figures.
 abbrev pub telling : Told → Kind → Named → ℕ → List Run → List Statistic → List Access

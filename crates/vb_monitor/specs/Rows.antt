@@ -8,7 +8,7 @@ use Rattle.vb_monitor.specs.declared.rows.RowEnd.{RowEnd}
 use Rattle.vb_monitor.specs.declared.rows.RowEnd.TheVariants.{Broken, Last, Leaves}
 use Rattle.vb_monitor.specs.Accesses.{Access}
 use Rattle.vb_monitor.specs.Ends.{Whole, Breaks}
-use Rattle.vb_monitor.specs.Chains.{TableRow, behind_in_row, TakesRow}
+use Rattle.vb_monitor.specs.Chains.{TableRow, further_in_row, TakesRow}
 
 -- A rule is broken; or the chain is whole; or another row is asked for, which isn't the chain's
 -- first.
@@ -19,4 +19,4 @@ EndsRow (Broken fault) w d tally on whole writing pieces log = Breaks w d tally 
 EndsRow Last w d tally on whole writing pieces log = whole pieces log
 EndsRow (Leaves number) w d tally on whole writing pieces log = 0 < length pieces →
     TakesRow w d tally on whole number
-    (behind_in_row w.regions (ring_of w.kind d) number pieces) writing pieces log
+    (further_in_row w.regions (ring_of w.kind d) number pieces) writing pieces log

@@ -2,7 +2,7 @@
 
 ghost use Rattle.std.specs.Prelude.{◌≡◌, ◌+◌, ◌<◌, ◌∷◌, [], true, drop, length, MatchOption};
 ghost use Rattle.vb_monitor.specs.Regions.{cut_of, meets, cuts_from, cuts_of};
-ghost use Rattle.vb_monitor.specs.Machine.{cuts_behind};
+ghost use Rattle.vb_monitor.specs.Machine.{cuts_after};
 ghost use Rattle.vb_monitor.specs.Left.{parts_left};
 ghost use Rattle.vb_monitor.specs.declared.room.TheConstants.{MAX_RUNS};
 ghost use Rattle.std.specs.Prelude.{◌≤◌, IfSome, ◌-◌, ◌*◌};
@@ -36,8 +36,8 @@ fn meets(region: &Region, run: Run) -> bool
         return false;
     }
     let first = (region.guest / PAGE_BYTES).max(u64::from(run.first));
-    let behind = u64::from(run.first) + u64::from(run.count);
-    let end = ((region.guest + region.length) / PAGE_BYTES).min(behind);
+    let past = u64::from(run.first) + u64::from(run.count);
+    let end = ((region.guest + region.length) / PAGE_BYTES).min(past);
     first < end
 }
 
@@ -48,8 +48,8 @@ fn cut_of(number: usize, region: &Region, run: Run) -> Cut
     ensures { result ≡ cut_of number region.now run }
 {
     let first = (region.guest / PAGE_BYTES).max(u64::from(run.first));
-    let behind = u64::from(run.first) + u64::from(run.count);
-    let end = ((region.guest + region.length) / PAGE_BYTES).min(behind);
+    let past = u64::from(run.first) + u64::from(run.count);
+    let end = ((region.guest + region.length) / PAGE_BYTES).min(past);
     let offset = PAGE_BYTES * first - region.guest;
     Cut {
         region: number,
@@ -94,7 +94,7 @@ pub struct NextCut {
 pub(crate) fn first_cut(regions: &[Region], runs: &[Run], from: usize) -> Option<NextCut>
     ensures parts { MatchOption result (cuts_of regions.now (drop from runs.now) ≡ [])
         (λ x. cuts_of regions.now (drop from runs.now) ≡
-        x.cut ∷ cuts_behind x.from x.run regions.now runs.now) }
+        x.cut ∷ cuts_after x.from x.run regions.now runs.now) }
     ensures within { IfSome result (λ x. (from ≤ x.run) × (x.run < length runs.now) ×
         (1 ≤ x.from) × (x.from ≤ length regions.now)) }
 {
@@ -109,15 +109,15 @@ pub(crate) fn first_cut(regions: &[Region], runs: &[Run], from: usize) -> Option
 
 /// The first part after those of a run in the regions below this number.
 #[inline(always)]
-pub(crate) fn cut_behind(
+pub(crate) fn cut_after(
     regions: &[Region],
     runs: &[Run],
     run: usize,
     from: usize,
 ) -> Option<NextCut>
-    ensures parts { MatchOption result (cuts_behind from run regions.now runs.now ≡ [])
-        (λ x. cuts_behind from run regions.now runs.now ≡
-        x.cut ∷ cuts_behind x.from x.run regions.now runs.now) }
+    ensures parts { MatchOption result (cuts_after from run regions.now runs.now ≡ [])
+        (λ x. cuts_after from run regions.now runs.now ≡
+        x.cut ∷ cuts_after x.from x.run regions.now runs.now) }
     ensures fewer { length runs.now ≤ MAX_RUNS → IfSome result (λ x.
         parts_left (length regions.now) x.run x.from < parts_left (length regions.now) run from) }
 {

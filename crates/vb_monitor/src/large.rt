@@ -157,14 +157,14 @@ fn row_of(set: &[u64], span: Span, small: u64) -> Option<Row>
 }
 
 /// How many pages of a span aren't in a row that it meets.
-fn left_of(span: Span, from: u64, behind: u64) -> u64
+fn left_of(span: Span, from: u64, further: u64) -> u64
     requires order { span.first ≤ span.end }
-    requires row { from ≤ behind }
+    requires row { from ≤ further }
     requires starts { from ≤ span.end }
-    requires stops { span.first ≤ behind }
-    ensures { result ≡ outside span.first span.end from behind }
+    requires stops { span.first ≤ further }
+    ensures { result ≡ outside span.first span.end from further }
 {
-    from.saturating_sub(span.first) + span.end.saturating_sub(behind)
+    from.saturating_sub(span.first) + span.end.saturating_sub(further)
 }
 
 /// What the set says of pages that were given up before: nothing, unless the driver agreed to tell

@@ -86,7 +86,7 @@ pub(crate) fn chain_fault(
 pub(crate) fn row_bytes(walk: &Walk) -> usize
     ensures { result ≡ row_bytes walk.now }
 {
-    DESCRIPTOR_SIZE * (usize::from(walk.behind) + 1)
+    DESCRIPTOR_SIZE * (usize::from(walk.further) + 1)
 }
 
 /// Where the bytes of a descriptor are in a row, if the row has it.

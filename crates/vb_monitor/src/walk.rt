@@ -7,7 +7,7 @@ ghost use Rattle.vb_core.specs.Devices.{ring_of};
 ghost use Rattle.vb_monitor.specs.declared.outcome.Outcome.{Outcome};
 ghost use Rattle.vb_monitor.specs.Accesses.{Access};
 ghost use Rattle.vb_monitor.specs.Chains.{longest, memory_end, AfterDescriptor, Follows};
-ghost use Rattle.vb_monitor.specs.Chains.{TakesRow, behind_in_row, unless_apart};
+ghost use Rattle.vb_monitor.specs.Chains.{TakesRow, further_in_row, unless_apart};
 ghost use Rattle.vb_monitor.specs.Notices.{AfterEntry};
 ghost use Rattle.vb_monitor.specs.declared.room.TheConstants.{ROW_DESCRIPTORS};
 ghost use Rattle.vb_core.specs.Pieces.{pieces_in};
@@ -39,7 +39,7 @@ pub(crate) fn memory_end(device: &Device) -> u64
 #[tactic(auto, using(crate::proofs::TableRowLemmas::row_steps))]
 #[inline(always)]
 fn ask_row(step: &mut Progress, device: &mut Device, regions: &[Region], kind: Kind, walk: Walk)
-    requires { walk.behind < ROW_DESCRIPTORS }
+    requires { walk.further < ROW_DESCRIPTORS }
     ensures step { (after : Device) (outcome : Outcome) (room : Room) (log : List Access) →
         Ahead (whole regions.now kind after outcome) (step_of step.new) device.new room log →
         TakesRow (whole regions.now kind after outcome) device.old (tally_of step.old)
@@ -49,7 +49,7 @@ fn ask_row(step: &mut Progress, device: &mut Device, regions: &[Region], kind: K
         (serves (whole regions.now kind after outcome) (tally_of step.old) device.old walk.head)
         walk.first
         (unless_apart (spot regions.now ((ring_of kind device.old).table + 16 * walk.first)
-        (16 * (walk.behind + 1))) walk.behind) walk.writing
+        (16 * (walk.further + 1))) walk.further) walk.writing
         (pieces_in (take walk.count room.pieces)) log }
     ensures fits { Fits (phase_of step.new) }
     ensures left { left regions.now (step_of step.new) ≤
@@ -59,12 +59,17 @@ fn ask_row(step: &mut Progress, device: &mut Device, regions: &[Region], kind: K
     let table = device.ring(kind).table;
     let length = DESCRIPTOR_SIZE as u64;
     let start = length * u64::from(walk.first);
-    if let Some(at) = find_from(regions, table, start, length * (u64::from(walk.behind) + 1)) {
+    if let Some(at) = find_from(
+        regions,
+        table,
+        start,
+        length * (u64::from(walk.further) + 1),
+    ) {
         return step.await_row(at, walk);
     }
     match find_from(regions, table, start, length) {
         None => fail(step, device, regions, kind, ChainFault::OutOfRam),
-        Some(at) => step.await_row(at, Walk { behind: 0, ..walk }),
+        Some(at) => step.await_row(at, Walk { further: 0, ..walk }),
     }
 }
 
@@ -93,7 +98,7 @@ pub(crate) fn ask_first(
         count: 0,
         writing: false,
         first: head,
-        behind: 0,
+        further: 0,
     };
     ask_row(step, device, regions, kind, walk)
 }
@@ -117,7 +122,7 @@ fn ask_next(
         (serves (whole regions.now kind after outcome) (tally_of step.old) device.old walk.head))
         (serves (whole regions.now kind after outcome) (tally_of step.old) device.old walk.head)
         number
-        (behind_in_row regions.now (ring_of kind device.old) number
+        (further_in_row regions.now (ring_of kind device.old) number
         (pieces_in (take walk.count room.pieces))) walk.writing
         (pieces_in (take walk.count room.pieces)) log }
     ensures fits { Fits (phase_of step.new) }
@@ -127,10 +132,10 @@ fn ask_next(
 {
     let size = device.ring(kind).size;
     let left = u32::from(size).saturating_sub(u32::from(number) + 1);
-    let behind = left.min(ROW_DESCRIPTORS as u32 - 1) as u16;
+    let further = left.min(ROW_DESCRIPTORS as u32 - 1) as u16;
     let walk = Walk {
         first: number,
-        behind,
+        further,
         ..walk
     };
     ask_row(step, device, regions, kind, walk)

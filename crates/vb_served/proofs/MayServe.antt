@@ -15,7 +15,7 @@ use Rattle.vb_chain.specs.Chain.{ChainGives}
 use Rattle.vb_request.proofs.Chains.{chain_fits}
 use Rattle.vb_core.specs.declared.device.{Denial.Denial, Device.Device}
 use Rattle.vb_core.specs.declared.settings.{Settings.Settings, TheConstants.MEMORY_LIMIT}
-use Rattle.vb_core.specs.Name.{NamesBy, name_denial, after_request}
+use Rattle.vb_core.specs.Name.{NamesNumbersBy, name_denial, after_chain, after_numbers}
 use Rattle.vb_core.specs.Name.{told}
 use Rattle.vb_core.specs.Report.{NamesPiecesBy, pieces_denial, report_named}
 use Rattle.vb_core.specs.Rings.{used_entry, has_place, with_taken, with_used}
@@ -24,7 +24,7 @@ use Rattle.vb_core.specs.Settings.{memory_pages, are_settings}
 use Rattle.vb_core.specs.Using.{use_denial}
 use Rattle.vb_core.proofs.DenialLemmas.{open_call}
 use Rattle.vb_monitor.specs.declared.regions.Region.{Region}
-use Rattle.vb_monitor.specs.Giving.{used_spots, after_use}
+use Rattle.vb_monitor.specs.Giving.{used_spots, after_use, after_last}
 use Rattle.vb_monitor.specs.Notices.{stands}
 use Rattle.vb_monitor.specs.Pieces.{all_parts}
 use Rattle.vb_monitor.specs.Still.{IsMapped, ArePartsMapped}
@@ -49,24 +49,33 @@ pub record MayServe (regions : List Region) (kind : Kind) (d : Device)
 -- ---- the device that named pages
 
 named_by : (kind : Kind) (runs : List Run) (d1 d : Device) (named : Named)
-    (answer : Result Named ChainFault) → Ok named ≡ told answer → d ≡ after_request kind answer d1 →
+    (answer : Result Named ChainFault) → Ok named ≡ told answer → d ≡ after_chain kind answer d1 →
     d ≡ with_one_taken kind d1
 named_by kind runs d1 d named (Err f) e same = absurd cc
 named_by kind runs d1 d named (Ok x) e same = same
 
+numbered_by : (d1 d : Device) (named : Named) (answer : Result Named ChainFault) →
+    Ok named ≡ told answer → d ≡ after_numbers answer d1 → d ≡ d1
+numbered_by d1 d named (Err f) e same = absurd cc
+numbered_by d1 d named (Ok x) e same = same
+
 named_or : (kind : Kind) (bytes : List ℕ) (runs : List Run) (d1 d : Device) (named : Named)
     (o : Option Denial) → name_denial kind (length bytes) 256 d1 ≡ o →
-    NamesBy kind bytes 256 runs d1 d (Ok named) → d ≡ with_one_taken kind d1
+    NamesNumbersBy kind bytes 256 runs d1 d (Ok named) → d ≡ d1
 named_or kind bytes runs d1 d named (Some why) e names =
     let refused : Ok named ≡ Err why = (names.denied why e).0 in absurd cc
 named_or kind bytes runs d1 d named None e names =
     let (answer, is, same, device) = names.names e in
-    named_by kind runs d1 d named answer same device
+    numbered_by d1 d named answer same device
 
-pub named_device : (kind : Kind) (bytes : List ℕ) (runs : List Run) (d1 d : Device) (named : Named)
-    → NamesBy kind bytes 256 runs d1 d (Ok named) → d ≡ with_one_taken kind d1
-named_device kind bytes runs d1 d named names =
-    named_or kind bytes runs d1 d named _ refl names
+pub named_device : (kind : Kind) (bytes : List ℕ) (runs : List Run) (d1 d : Device)
+    (answer : Result Named Denial) (named : Named) → answer ≡ Ok named →
+    NamesNumbersBy kind bytes 256 runs d1 d answer →
+    after_last kind answer d ≡ with_one_taken kind d1
+named_device kind bytes runs d1 d answer named is names =
+    ap (λ (a : Result Named Denial). after_last kind a d) is
+    ∙ ap (λ (x : Device). with_one_taken kind x) (named_or kind bytes runs d1 d named _ refl
+    (subst (λ (a : Result Named Denial). NamesNumbersBy kind bytes 256 runs d1 d a) is names))
 
 reported_or : (pieces : List Piece) (runs : List Run) (d1 d : Device) (named : Named)
     (o : Option Denial) → pieces_denial pieces 256 d1 ≡ o →

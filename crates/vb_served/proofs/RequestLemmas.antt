@@ -2,7 +2,7 @@
 use Rattle.std.proofs.Common.{◌≡◌, ◌∙◌, ap, sym, subst, refl, arith, ℕ, ◌/◌, ◌<◌}
 use Rattle.std.proofs.Common.{Bool, true, false, List, length, take, Option, Some, None}
 use Rattle.std.proofs.Common.{Result, Ok, Err}
-use Rattle.std.specs.Prelude.{◌&&◌, not, nat_le, if◌then◌else◌, IsOkAnd}
+use Rattle.std.specs.Prelude.{◌&&◌, not, nat_le, nat_lt, if◌then◌else◌, IsOkAnd}
 use Rattle.std.specs.List.{list_any}
 use Rattle.std.proofs.lemmas.Bool.Decides.{nat_tests}
 use Rattle.vb_virtio.specs.Tests.{is_in}
@@ -17,12 +17,12 @@ use Rattle.vb_core.specs.declared.kinds.Kind.{Kind}
 use Rattle.vb_core.specs.declared.{runs.Run.Run, name.Named.Named}
 use Rattle.vb_core.specs.declared.device.{Denial.Denial, Device.Device, Denial.TheVariants.Broken}
 use Rattle.vb_core.specs.Devices.{queue_denial, call_denial, needing_reset, with_one_taken}
-use Rattle.vb_core.specs.Name.{right_numbers, is_request, name_denial, after_request, NamesRuns, AreNamed}
-use Rattle.vb_core.specs.Name.{told}
+use Rattle.vb_core.specs.Name.{right_numbers, is_request, name_denial, NamesRuns, AreNamed}
+use Rattle.vb_core.specs.Name.{told, after_chain, after_numbers, is_length_of_numbers}
 use Rattle.vb_core.specs.Runs.{pages_of_runs}
 use Rattle.vb_core.specs.Settings.{memory_pages, skips}
 use Rattle.vb_core.proofs.NamedLaws.{named_fault, named_members}
-use Rattle.vb_monitor.specs.Still.{bytes_of as read_bytes}
+use Rattle.vb_monitor.specs.{Giving.after_last, Still.{bytes_of as read_bytes}}
 use Rattle.vb_served.specs.{Store.Store, One.{byte, BreaksRule, NamesOne, ServesRequest, Settles}}
 use Rattle.vb_served.proofs.RoomLemmas.{request_bytes}
 use Rattle.vb_served.proofs.RunPages.{in_all, are_inside, tells_some}
@@ -58,6 +58,14 @@ length_ok pieces n e = grind (arith, nat_tests)
 few_numbers : (n : ℕ) → is_request_length n ≡ true → nat_le (n / 4) 256 ≡ true
 few_numbers n e = grind (arith, nat_tests)
 
+second : (a b : Bool) → (a && b) ≡ true → b ≡ true
+second true b e = e
+second false b e = absurd cc
+
+-- a request's bytes may be named at once
+numbers_fit : (n : ℕ) → is_request_length n ≡ true → is_length_of_numbers n ≡ true
+numbers_fit n e = second (nat_lt 0 n) (is_length_of_numbers n) e
+
 pub same_bytes : (s : Store) (pieces : List Piece) → read_bytes (byte s) pieces ≡ bytes_of s.mem pieces
 unfolding bytes_of
 same_bytes s pieces = refl
@@ -72,8 +80,8 @@ pub name_open : (kind : Kind) (d : Device) (bytes : List ℕ) (n : ℕ) → is_r
     name_denial kind (length bytes) 256 d ≡ None
 name_open kind d bytes n is long fits open_so =
     ap (λ (m : ℕ). name_denial kind m 256 d) long
-    ∙ (known_so kind is (is_request_length n && nat_le (n / 4) 256) d
-    ∙ (ap (λ (b : Bool). call_denial kind true (b && nat_le (n / 4) 256) d) fits
+    ∙ (known_so kind is (is_length_of_numbers n && nat_le (n / 4) 256) d
+    ∙ (ap (λ (b : Bool). call_denial kind true (b && nat_le (n / 4) 256) d) (numbers_fit n fits)
     ∙ (ap (λ (b : Bool). call_denial kind true (true && b) d) (few_numbers n fits) ∙ open_so)))
 
 -- ---- what is made of a request
@@ -101,7 +109,7 @@ right_so : (kind : Kind) (head reserved : ℕ) (pieces : List Piece) (d1 d2 devi
     IsOkAnd o (λ named. (AreNamed (right_numbers reserved (length s.mem)
     (numbers_of (bytes_of s.mem pieces))) (length (numbers_of (bytes_of s.mem pieces))) runs named)
     × ((p : ℕ) → is_in p (pages_of_runs (take named.runs runs)) ≡ is_in p pages)) →
-    answer ≡ told o → device ≡ after_request kind o d1 →
+    answer ≡ told o → device ≡ after_chain kind o d1 →
     NamesOne kind head runs device d2 why s t answer →
     RequestDoes kind head reserved pieces d1 d2 why s t
 right_so kind head reserved pieces d1 d2 device why s t runs pages answer (Err f) e is same after did
@@ -131,7 +139,7 @@ by_pages : (kind : Kind) (head reserved n : ℕ) (pieces : List Piece) (d1 d2 de
     (o : Result Named ChainFault) (found : Result (List ℕ) ChainFault) →
     request_length pieces ≡ Ok n → page_request s.mem pieces reserved ≡ found →
     NamesRuns false reserved (length s.mem) (numbers_of (bytes_of s.mem pieces)) runs o →
-    answer ≡ told o → device ≡ after_request kind o d1 →
+    answer ≡ told o → device ≡ after_chain kind o d1 →
     NamesOne kind head runs device d2 why s t answer →
     RequestDoes kind head reserved pieces d1 d2 why s t
 by_pages kind head reserved n pieces d1 d2 device why s t runs answer o (Err f) e found names same
@@ -139,7 +147,7 @@ by_pages kind head reserved n pieces d1 d2 device why s t runs answer o (Err f) 
     let broken : o ≡ Err f = named_fault s.mem pieces reserved n runs o f e names found in
     Wrong f found (wrong_so kind head d1 d2 device why s t runs answer f
     (same ∙ ap (λ (x : Result Named ChainFault). told x) broken)
-    (after ∙ ap (λ (x : Result Named ChainFault). after_request kind x d1) broken) did)
+    (after ∙ ap (λ (x : Result Named ChainFault). after_chain kind x d1) broken) did)
 by_pages kind head reserved n pieces d1 d2 device why s t runs answer o (Ok pages) e found names same
     after did =
     right_so kind head reserved pieces d1 d2 device why s t runs pages answer o found
@@ -165,6 +173,16 @@ by_pages kind head reserved n pieces d1 d2 device why s t runs answer o (Ok page
     numbers_so mem pieces reserved n pages e found =
         sym (read_numbers mem pieces reserved n e) ∙ found
 
+-- the device once a request's numbers were named, all at once, and its entry was taken
+all_taken : (kind : Kind) (d1 d : Device) (answer : Result Named Denial)
+    (o : Result Named ChainFault) → answer ≡ told o → d ≡ after_numbers o d1 →
+    after_last kind answer d ≡ after_chain kind o d1
+all_taken kind d1 d answer (Ok named) same after =
+    ap (λ (a : Result Named Denial). after_last kind a d) same
+    ∙ ap (λ (x : Device). with_one_taken kind x) after
+all_taken kind d1 d answer (Err f) same after =
+    ap (λ (a : Result Named Denial). after_last kind a d) same ∙ after
+
 -- what is known of the device beside the queue
 pub record IsStrict (d : Device) (s : Store) (reserved : ℕ) : Type 0 where
   pub skipping : skips d.settings ≡ false
@@ -180,7 +198,7 @@ request_does kind head reserved pieces d1 d2 why s t n is open_so strict e did =
     let bytes = read_bytes (byte s) pieces in
     let (o, names, same, after) = did.names.names (name_open kind d1 bytes n is
     (request_bytes (byte s) pieces n e) (length_ok pieces n e) open_so) in
-    by_pages kind head reserved n pieces d1 d2 did.device why s t did.runs did.answer o
+    by_pages kind head reserved n pieces d1 d2 (after_last kind did.answer did.device) why s t did.runs did.answer o
     (page_request s.mem pieces reserved) e refl
     (subst (λ (bs : List ℕ). NamesRuns false reserved (length s.mem) (numbers_of bs) did.runs o)
     (same_bytes s pieces)
@@ -188,4 +206,5 @@ request_does kind head reserved pieces d1 d2 why s t n is open_so strict e did =
     (subst (λ (m : ℕ). NamesRuns false m (memory_pages d1.settings) (numbers_of bytes) did.runs o)
     strict.reserved_so
     (subst (λ (b : Bool). NamesRuns b d1.settings.reserved_pages (memory_pages d1.settings)
-    (numbers_of bytes) did.runs o) strict.skipping names)))) same after did.serves
+    (numbers_of bytes) did.runs o) strict.skipping names)))) same
+    (all_taken kind d1 did.device did.answer o same after) did.serves

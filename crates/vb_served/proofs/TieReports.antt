@@ -20,7 +20,7 @@ use Rattle.vb_core.specs.declared.{runs.Run.Run, name.Named.Named}
 use Rattle.vb_core.specs.declared.settings.TheConstants.{MEMORY_LIMIT}
 use Rattle.vb_core.specs.Devices.{ring_of, with_one_taken, queue_denial, call_denial}
 use Rattle.vb_core.specs.Report.{pieces_denial, named_by, is_beyond, run_of}
-use Rattle.vb_core.specs.{Runs.pages_of_runs, Name.{after_request, told}}
+use Rattle.vb_core.specs.{Runs.pages_of_runs, Name.{after_chain, told}}
 use Rattle.vb_core.specs.Config.{keeps_reports}
 use Rattle.vb_core.proofs.RunLemmas.{runs_of_pieces}
 use Rattle.vb_device.specs.{Calls.{HasChain, taking}, Discards.discarded}
@@ -252,7 +252,7 @@ by_request : (h : ℕ) (d1 d2 device : Device) (outcome : Outcome) (s t : Store)
     All (λ p. p.addr + p.len ≤ 4096 * length s.mem) pieces →
     report_request pieces (reserved_pages p1.queue_size) ≡ o →
     answer ≡ told (named_by (length pieces) o) →
-    device ≡ after_request Report (named_by (length pieces) o) d1 →
+    device ≡ after_chain Report (named_by (length pieces) o) d1 →
     (IsOk answer → take (length pieces) runs ≡ map run_of pieces) →
     NamesOne Report h runs device d2 outcome.why s t answer →
     IsServedAlike Report d1 d2 outcome s t p1
@@ -297,5 +297,5 @@ tie_report d1 d2 outcome s t p1 pieces tie next small gives did =
     (did.names.answer open_so
     ∙ ap (λ (o : Result (List ℕ) ChainFault). told (named_by (length pieces) o)) reserved)
     (did.names.device open_so
-    ∙ ap (λ (o : Result (List ℕ) ChainFault). after_request Report (named_by (length pieces) o) d1)
+    ∙ ap (λ (o : Result (List ℕ) ChainFault). after_chain Report (named_by (length pieces) o) d1)
     reserved) did.names.runs_are did.serves

@@ -23,7 +23,7 @@ use Rattle.vb_core.specs.declared.device.Device.{Device}
 use Rattle.vb_core.specs.Config.{keeps_reports}
 use Rattle.vb_core.specs.Rings.{used_entry}
 use Rattle.vb_core.specs.Devices.{ring_of, needing_reset, queue_denial, with_one_taken}
-use Rattle.vb_core.specs.Name.{NamesBy}
+use Rattle.vb_core.specs.Name.{NamesNumbersBy}
 use Rattle.vb_core.specs.Report.{NamesPiecesBy}
 use Rattle.vb_core.specs.Statistics.{AreFigures}
 use Rattle.vb_monitor.specs.declared.regions.Region.{Region}
@@ -31,7 +31,7 @@ use Rattle.vb_monitor.specs.declared.cuts.Cut.{Cut}
 use Rattle.vb_monitor.specs.declared.outcome.Outcome.{Outcome}
 use Rattle.vb_monitor.specs.Chains.{descriptor_of, memory_end}
 use Rattle.vb_monitor.specs.Within.{ChainWithin, FaultWithin}
-use Rattle.vb_monitor.specs.Giving.{after_use, cuts_for, is_kept}
+use Rattle.vb_monitor.specs.Giving.{after_use, after_last, cuts_for, is_kept}
 use Rattle.vb_monitor.specs.Notices.{entry_offset, stands}
 use Rattle.vb_monitor.specs.Still.{bytes_from, bytes_of, index_in}
 use Rattle.vb_monitor.specs.Accesses.{Discard}
@@ -114,8 +114,8 @@ pub record ServesRequest (kind : Kind) (head : ℕ) (bytes : List ℕ) (d1 d2 : 
   pub runs : List Run
   pub device : Device
   pub answer : Result Named Denial
-  pub names : NamesBy kind bytes MAX_REQUEST_PAGES runs d1 device answer
-  pub serves : NamesOne kind head runs device d2 why s t answer
+  pub names : NamesNumbersBy kind bytes MAX_REQUEST_PAGES runs d1 device answer
+  pub serves : NamesOne kind head runs (after_last kind answer device) d2 why s t answer
 
 -- A report of these pieces is served.
 pub record ServesReport (head : ℕ) (pieces : List Piece) (d1 d2 : Device) (why : Option Denial)

@@ -167,9 +167,12 @@ fn is_named_so(request: &Request) -> bool {
     };
     let mut device = ready(settings, Kind::Inflate, SMALL);
     let mut runs = [Run::NONE; 4];
-    match device.name(Kind::Inflate, &bytes_of(&request.numbers), &mut runs) {
+    match device.name_numbers(Kind::Inflate, &bytes_of(&request.numbers), &mut runs) {
         Ok(named) => {
-            request.answer == Ok(named.skipped)
+            let before = device.inflate.next_avail;
+            device.take_request(Kind::Inflate);
+            before == 65_535
+                && request.answer == Ok(named.skipped)
                 && runs_are(request, named.runs, &runs)
                 && device.inflate.next_avail == 0
         }

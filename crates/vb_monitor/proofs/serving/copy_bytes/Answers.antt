@@ -7,5 +7,5 @@ pub returns : goal.returns
 returns g c = record {
   log = CopyBytes c.args.at c.copy.new.out ∷ [];
   steps = (c.copy.new.self, c.copy.ensures, refl);
-  is = record { bytes = c.copy.new.out; asks = refl; long = search rules; behind = grind (arith, common_steps) };
+  is = record { bytes = c.copy.new.out; asks = refl; long = search rules; joined = grind (arith, common_steps) };
 }

@@ -14,16 +14,16 @@ returns-clause-step c after outcome room log some h =
     let walk = c.args.walk in
     let q = (ring_of c.args.kind d).size in
     let size : c.ring-size.result.size ≡ q = ap (λ (r : Virtqueue). r.size) c.ring-size.ensures in
-    let most : c.min-behind.result ≡ min 31 (q - (c.args.number + 1)) =
+    let most : c.min-further.result ≡ min 31 (q - (c.args.number + 1)) =
     omega (
       arith,
       size,
       c.from.ensures,
       c.from-2.ensures,
       c.saturating_sub-left.ensures,
-      c.min-behind.ensures,
+      c.min-further.ensures,
     ) in
     next_goes w d t (Follows (longest q - (walk.count + 1)) w d t (serves w t d walk.head))
-    (serves w t d walk.head) c.args.number c.min-behind.result walk.writing
+    (serves w t d walk.head) c.args.number c.min-further.result walk.writing
     (pieces_in (take walk.count room.pieces)) log some most
     (c.ask_row.ensures.step after outcome room log h)

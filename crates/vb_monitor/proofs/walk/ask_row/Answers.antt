@@ -12,9 +12,9 @@ returns-in-Some-find_from-clause-step c after outcome room log h =
     let t = (tally_of c.args.step.now) in
     let walk = c.args.walk in
     let a = (ring_of c.args.kind d).table + 16 * walk.first in
-    let apart : spot c.args.regions.now a (16 * (walk.behind + 1)) ≡ None = search rules in
+    let apart : spot c.args.regions.now a (16 * (walk.further + 1)) ≡ None = search rules in
     let place : spot c.args.regions.now a 16 ≡ Some c.in-Some-find_from.at = search rules in
     takes_one w d t (Follows (longest (ring_of c.args.kind d).size - (walk.count + 1)) w d t
-    (serves w t d walk.head)) (serves w t d walk.head) walk.first walk.behind walk.writing
+    (serves w t d walk.head)) (serves w t d walk.head) walk.first walk.further walk.writing
     (pieces_in (take walk.count room.pieces)) c.in-Some-find_from.at log apart place
     (c.await_row-in-Some-find_from.ensures.step w d room log h)

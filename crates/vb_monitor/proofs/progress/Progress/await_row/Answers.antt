@@ -14,7 +14,7 @@ returns c =
     let same : (record walk {
       writing = says_yes c.from-self-3.result;
       first = min c.from-self.result 0xffff;
-      behind = min c.from-self-2.result 63;
+      further = min c.from-self-2.result 63;
     }) ≡ walk = row_back walk c.from-self.result c.from-self-2.result (says_yes c.from-self-3.result)
     (search rules) (search rules) (search rules) (omega arith) c.requires in
     record {

@@ -1,10 +1,10 @@
 use Rattle.std.proofs.Common.{arith, ◌+◌, length}
-use Rattle.vb_monitor.proofs.LeftLemmas.{parts_fewer, fewer_behind}
-use Rattle.vb_monitor.proofs.cuts.cut_behind.Goals as goal
+use Rattle.vb_monitor.proofs.LeftLemmas.{parts_fewer, fewer_after}
+use Rattle.vb_monitor.proofs.cuts.cut_after.Goals as goal
 
 pub returns-in-None-clause-fewer : goal.returns-in-None-clause-fewer
 returns-in-None-clause-fewer c few =
-    fewer_behind c.first_cut.result (length c.args.regions.now) (length c.args.runs.now) c.args.run
+    fewer_after c.first_cut.result (length c.args.regions.now) (length c.args.runs.now) c.args.run
     c.args.from c.first_cut.ensures.within few
 
 pub returns-in-Some-clause-fewer : goal.returns-in-Some-clause-fewer
