@@ -1,5 +1,6 @@
 /* A client of vhost-user that sends random messages: well-formed ones, and ones that are short, long, or with too many
- * files or none; and writes into its rings at random. It is a test of backends, not a part of them.
+ * files or none; and writes into its rings at random. It is a test of backends, not a part of them. In three of four
+ * connections it is careful, so that what is wrong comes a hundred messages later, and most messages meet running queues.
  *
  *     vhost_user_chance SOCKET MESSAGES SEED
  *
@@ -13,7 +14,6 @@
 #include <fcntl.h>
 #include <linux/sockios.h>
 #include <poll.h>
-#include <sched.h>
 #include <stdio.h>
 #include <stdlib.h>
 #include <string.h>
@@ -22,9 +22,12 @@
 #include <sys/mman.h>
 #include <sys/socket.h>
 #include <sys/un.h>
+#include <time.h>
 #include <unistd.h>
 
 enum { REGIONS = 2, REGION_BYTES = 1 << 18, PAGE = 4096, MOST_SENT = 20, MOST_OF_LIFE = 400, HEAD = 12, TRIES = 2000 };
+/* How much less often a careful client is wrong; nanoseconds of the longest rest of one whose message isn't read yet. */
+enum { CARE = 8, MOST_REST = 1000000 };
 enum { MEMORY, OTHER_MEMORY, EVENT, PIPE, SOCKET, NOTHING, KINDS };
 
 static const uint64_t guest_at[REGIONS] = {0x100000, 0x180000}, user_at[REGIONS] = {0x7f0000000000, 0x7f1000000000};
@@ -34,6 +37,7 @@ static struct {
     int files[KINDS], other_ends[2];
     uint8_t *memory[REGIONS];
     uint64_t protocol;          /* the features that it negotiates */
+    bool careful;
     uint64_t state;             /* what chance is made of */
 } client;
 
@@ -49,6 +53,12 @@ static uint64_t chance(uint64_t most)
 static bool one_in(unsigned number)
 {
     return chance(number) == 0;
+}
+
+/* Whether something is wrong, which it is once in `number` times where the client isn't careful. */
+static bool is_wrong(unsigned number)
+{
+    return one_in(client.careful ? CARE * number : number);
 }
 
 static int fail(const char *what)
@@ -104,15 +114,14 @@ static void come(const char *path)
     fail(path);
 }
 
-/* Waits until the backend has read all that was sent; false where it has gone. */
+/* Waits until the backend has read all that was sent, and leaves it the processor meanwhile; false where it has gone. */
 static bool is_read(void)
 {
     struct pollfd end = {client.socket, POLLRDHUP, 0};
-    for (int left = 1; left > 0;) {
-        if (poll(&end, 1, 0) > 0 || ioctl(client.socket, SIOCOUTQ, &left))
+    struct timespec rest = {0, 0};
+    for (int left = 1; left > 0; rest.tv_nsec = rest.tv_nsec < MOST_REST ? 2 * rest.tv_nsec + 1000 : MOST_REST)
+        if (ppoll(&end, 1, &rest, NULL) > 0 || ioctl(client.socket, SIOCOUTQ, &left))
             return false;
-        sched_yield();
-    }
     return true;
 }
 
@@ -171,7 +180,7 @@ static struct good good_message(uint32_t request, uint64_t number)
     case SET_VRING_BASE: return (struct good){request, 8, {two(number, one_in(8) ? chance(9) : 0)}, {0}, 0};
     case GET_VRING_BASE: return (struct good){request, 8, {number}, {0}, 0};
     case SET_VRING_ADDR: return (struct good){request, 40, {number, at, at + 2 * PAGE, at + PAGE, 0}, {0}, 0};
-    case SET_VRING_KICK: return (struct good){request, 8, {number}, {one_in(64) ? PIPE : EVENT}, 1};
+    case SET_VRING_KICK: return (struct good){request, 8, {number}, {is_wrong(64) ? PIPE : EVENT}, 1};
     case SET_VRING_CALL:
     case SET_VRING_ERR: return (struct good){request, 8, {number}, {(unsigned)(EVENT + chance(3))}, 1};
     case SET_VRING_ENABLE: return (struct good){request, 8, {two(number, !one_in(8))}, {0}, 0};
@@ -204,25 +213,40 @@ static bool send_nearly(struct good good, bool well)
     return send_message(good.request, flags, body, good.size, files, count);
 }
 
-/* Writes into a ring, usually nearly what would be right. */
-static void scribble(void)
+/* A length that this queue takes, of page numbers, statistics or pages. */
+static uint32_t good_length(uint64_t number)
 {
-    uint64_t number = chance(4);
-    uint8_t *ring = client.memory[number % REGIONS] + 3 * number * PAGE;
+    static const uint32_t units[] = {4, 4, 10, PAGE};
+    return units[number] * (uint32_t)(1 + chance(3));
+}
+
+/* Writes the descriptors of a queue, some of which are wrong. Pages that are reported have no rings. */
+static void describe(uint8_t *ring, uint64_t number)
+{
+    bool wrong = is_wrong(2), reports = number == 3;
     for (unsigned i = 0; i < 8; i++) {
-        uint64_t address = one_in(8) ? chance(UINT64_MAX) : guest_at[chance(2)] + PAGE * chance(64);
-        uint32_t length = one_in(4) ? (uint32_t)chance(UINT32_MAX) : 4 * (uint32_t)chance(3) + 4;
-        uint16_t flags = one_in(8) ? (uint16_t)chance(8) : number == 3 ? 2 : 0, next = (uint16_t)chance(9);
+        uint64_t page = reports ? 16 + chance(46) : chance(64);
+        uint64_t address = wrong && one_in(4) ? chance(UINT64_MAX) : guest_at[chance(2)] + PAGE * page;
+        uint32_t length = wrong && one_in(2) ? (uint32_t)chance(UINT32_MAX) : good_length(number);
+        uint16_t flags = wrong && one_in(4) ? (uint16_t)chance(8) : reports ? 2 : 0, next = (uint16_t)chance(9);
         memcpy(ring + 16 * i, &address, 8);
         memcpy(ring + 16 * i + 8, &length, 4);
         memcpy(ring + 16 * i + 12, &flags, 2);
         memcpy(ring + 16 * i + 14, &next, 2);
     }
+}
+
+/* Writes into a ring, usually nearly what would be right. */
+static void scribble(void)
+{
+    uint64_t number = chance(4);
+    uint8_t *ring = client.memory[number % REGIONS] + 3 * number * PAGE;
     uint16_t index, heads[8];
+    describe(ring, number);
     memcpy(&index, ring + 2 * PAGE + 2, 2);
     index = (uint16_t)(index + chance(9));
     for (unsigned i = 0; i < 8; i++)
-        heads[i] = (uint16_t)chance(one_in(64) ? 9 : 8);
+        heads[i] = (uint16_t)chance(is_wrong(64) ? 9 : 8);
     memcpy(ring + PAGE + 4, heads, sizeof heads);
     memcpy(ring + PAGE + 2, &index, 2);
     uint64_t one = 1;
@@ -247,20 +271,21 @@ static unsigned start(void)
     return sent + (most == 30 && send_nearly(good_message(SET_STATUS, 0), true));
 }
 
-/* What a message asks for: usually something that there is. */
+/* What a message asks for: usually something that there is; where the client is careful, something that no queue's state forbids. */
 static uint32_t any_request(void)
 {
     static const uint32_t known[] = {
-        GET_FEATURES, SET_FEATURES, SET_OWNER, RESET_OWNER, SET_MEM_TABLE, SET_VRING_NUM, SET_VRING_ADDR, SET_VRING_BASE,
-        GET_VRING_BASE, SET_VRING_KICK, SET_VRING_CALL, SET_VRING_ERR, GET_PROTOCOL_FEATURES, SET_PROTOCOL_FEATURES,
-        GET_QUEUE_NUM, SET_VRING_ENABLE, SET_BACKEND_REQ_FD, GET_CONFIG, SET_CONFIG, RESET_DEVICE, VRING_KICK,
-        GET_MAX_MEM_SLOTS, ADD_MEM_REG, REM_MEM_REG, SET_STATUS, GET_STATUS,
+        GET_FEATURES, GET_PROTOCOL_FEATURES, GET_QUEUE_NUM, GET_MAX_MEM_SLOTS, GET_STATUS, GET_CONFIG, SET_CONFIG, SET_PROTOCOL_FEATURES,
+        SET_BACKEND_REQ_FD, SET_VRING_ENABLE, SET_VRING_CALL, SET_VRING_ERR, SET_VRING_KICK,
+        SET_FEATURES, SET_OWNER, RESET_OWNER, SET_MEM_TABLE, SET_VRING_NUM, SET_VRING_ADDR, SET_VRING_BASE, GET_VRING_BASE, SET_STATUS,
+        RESET_DEVICE, VRING_KICK, ADD_MEM_REG, REM_MEM_REG,
     };
-    if (one_in(100))
+    enum { KNOWN = sizeof known / sizeof known[0], ALWAYS_ALLOWED = 13 };
+    if (is_wrong(100))
         return (uint32_t)chance(64);
     if (one_in(2) && (client.protocol & IN_BAND_FEATURE))
         return VRING_KICK;
-    return known[chance(sizeof known / sizeof known[0])];
+    return known[chance(is_wrong(2) ? KNOWN : ALWAYS_ALLOWED)];
 }
 
 /* One connection, which lasts until the backend ends it or chance does; how many messages it was. */
@@ -268,13 +293,14 @@ static unsigned live(void)
 {
     for (int i = 0; i < REGIONS; i++)
         memset(client.memory[i], 0, 16 * PAGE);
+    client.careful = !one_in(4);
     client.protocol = one_in(2) ? 0x1e229 : 0x1e229 & ~IN_BAND_FEATURE;
     unsigned sent = start();
     for (unsigned i = 0; i < MOST_OF_LIFE; i++) {
         while (one_in(3))
             scribble();
         sent++;
-        if (!send_nearly(good_message(any_request(), chance(one_in(64) ? 6 : 4)), !one_in(20)))
+        if (!send_nearly(good_message(any_request(), chance(is_wrong(64) ? 6 : 4)), !is_wrong(20)))
             return sent;
     }
     return sent;

@@ -15,8 +15,6 @@ from linux_guest import Lines
 from linux_kit import ROOT
 from vhost_client import BUFFERS, PAGE, STATISTICS, Client
 
-CLIENT = os.path.join(ROOT, "client")
-
 # Seconds of a wait.
 LIMIT = 20
 
@@ -38,14 +36,6 @@ def eventually(condition, what=""):
             return found
         assert time.monotonic() < end, what() if callable(what) else what
         time.sleep(0.02)
-
-
-def bigvasta(control, *words, **options):
-    """Runs the client program; returns what came of it."""
-    return subprocess.run(
-        ["/usr/bin/python3", "-B", "-m", "bigvasta", *words], capture_output=True, text=True, timeout=LIMIT,
-        env={**os.environ, "PYTHONPATH": CLIENT, "BIGVASTA_CONTROL": control, "LC_ALL": "C.UTF-8", **options},
-    )
 
 
 def say(**fields):

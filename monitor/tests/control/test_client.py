@@ -13,7 +13,8 @@ from bigvasta.picture import PLAIN, Shown
 from bigvasta.sizes import mebibytes, parse_size, seconds
 from bigvasta.statuses import Usage
 from bigvasta.waits import wait_of
-from hosts import CLIENT, bigvasta, eventually
+from hosts import eventually
+from installed import CLIENT, bigvasta
 
 MIB = 1 << 20
 

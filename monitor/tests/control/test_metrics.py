@@ -12,7 +12,8 @@ import urllib.request
 
 import pytest
 from bigvasta.plan import lending, reading
-from hosts import CLIENT, ROOT, bigvasta, eventually
+from hosts import ROOT, eventually
+from installed import CLIENT, bigvasta
 from vhost_client import DEFLATE, INFLATE, REGIONS
 
 RULES = os.path.join(ROOT, "packaging", "prometheus")

@@ -9,7 +9,8 @@ import subprocess
 
 import pytest
 from bigvasta.cli import parser
-from hosts import CLIENT, ROOT, Host, eventually, limit_from_now
+from hosts import ROOT, Host, eventually, limit_from_now
+from installed import CLIENT
 
 MAN = os.path.join(ROOT, "docs", "man")
 PAGES = ("bigvasta.1", "bigvasta-host.conf.5", "vhost_user_host.1", "vhost_user_balloon.1")

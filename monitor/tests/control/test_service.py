@@ -12,7 +12,8 @@ import time
 
 import pytest
 from bigvasta.connection import Connection
-from hosts import ROOT, Answering, Host, bigvasta, eventually, limit_from_now
+from hosts import ROOT, Answering, Host, eventually, limit_from_now
+from installed import bigvasta
 
 SYSTEMD = os.path.join(ROOT, "packaging", "systemd")
 UNITS = ("bigvasta-host.service", "bigvasta-metrics.service")

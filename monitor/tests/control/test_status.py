@@ -6,7 +6,8 @@ import stat
 
 import pytest
 from bigvasta.connection import Connection
-from hosts import Host, Raw, bigvasta, eventually, limit_from_now, say
+from hosts import Host, Raw, eventually, limit_from_now, say
+from installed import bigvasta
 
 PAGE, MIB = 4096, 1 << 20
 

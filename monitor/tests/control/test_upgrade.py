@@ -2,26 +2,9 @@
 version."""
 
 import os
-import shutil
 
-import linux_kit
-from hosts import Answering, Host, bigvasta, eventually, limit_from_now
-
-OLDER = "0.1.9"
-
-
-def older_program(folder):
-    """Builds the programs of a host as they were in an older version."""
-    with open(os.path.join(linux_kit.HEADERS, "vb.h"), encoding="utf-8") as header, open(folder / "vb.h", "w", encoding="utf-8") as copy:
-        text = header.read()
-        copy.write(text.replace(f'#define VB_VERSION "{version()}"', f'#define VB_VERSION "{OLDER}"'))
-    return linux_kit.build(str(folder), linux_kit.core_of(), "vhost_user_host", flags=("-I", str(folder)))
-
-
-def version():
-    """Returns the version of this tree."""
-    with open(os.path.join(linux_kit.ROOT, "VERSION"), encoding="utf-8") as file:
-        return file.read().strip()
+from hosts import Answering, Host, eventually, limit_from_now
+from installed import OLDER, bigvasta, install, older_program, version
 
 
 def begin(program, folder):
@@ -57,15 +40,6 @@ def test_guests_live_through_an_upgrade(program, folder, tmp_path):
     for name in ("old", "new"):
         second.ask("remove", name=name)
     assert second.end() == 0
-
-
-def install(program, folder):
-    """Puts the programs of a host in the place of those that are there; returns the path of the host's."""
-    folder.mkdir(exist_ok=True)
-    for name in ("vhost_user_host", "vhost_user_balloon"):
-        shutil.copy(os.path.join(os.path.dirname(program), name), folder / f"{name}.new")
-        os.rename(folder / f"{name}.new", folder / name)
-    return str(folder / "vhost_user_host")
 
 
 def test_one_command_upgrades_the_host_and_its_guests(program, folder, tmp_path):

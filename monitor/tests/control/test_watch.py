@@ -6,7 +6,8 @@ import shutil
 import subprocess
 
 import pytest
-from hosts import CLIENT, Host, eventually, limit_from_now
+from hosts import Host, eventually, limit_from_now
+from installed import CLIENT
 
 PAGE, MIB = 4096, 1 << 20
 ENVIRONMENT = {**os.environ, "TERM": "screen-256color", "LC_ALL": "C.UTF-8"}

@@ -1,9 +1,12 @@
 """What a host delays a guest at work by. The guest's rounds are made by a process of their own. Of the time that each took, the time is taken
 away in which the guest or the process that serves it was ready to run, and other programs had the processors (/proc/PID/schedstat), or other
-machines had them (/proc/stat). So a delay that a host makes, by work for another guest or by a call that blocks, shows on a machine that is
-busy, too."""
+machines had them (/proc/stat). Both have one processor: one that wakes the other on another processor, which other machines have at that moment, waits
+for it uncounted. So a delay that a host makes, by work for another guest or by a call that blocks, shows on a machine that is busy, too."""
 
+import contextlib
 import os
+import random
+import select
 import time
 
 from aside import Aside
@@ -44,25 +47,40 @@ def delay_of(client, files, limit):
     return took - taken - TICK if taken > 0 else took
 
 
-def longest_delay(client, process, seconds, begins, limit=LIMIT):
-    """Has a client's requests served one after the other for so long by this process; returns the milliseconds of the longest delay."""
-    with open(f"/proc/{process}/schedstat", "rb") as its, open("/proc/thread-self/schedstat", "rb") as own:
+@contextlib.contextmanager
+def one_processor(process):
+    """Has this process and another one the same processor meanwhile."""
+    before = os.sched_getaffinity(process)
+    one = {random.choice(sorted(before))}
+    os.sched_setaffinity(0, one), os.sched_setaffinity(process, one)
+    yield
+    os.sched_setaffinity(process, before)
+
+
+def longest_delay(client, process, seconds, ended, begins):
+    """Has a client's requests served one after the other by this process, for so long, or until a file can be read; returns the milliseconds
+    of the longest delay, and how many requests its queue has had."""
+    with one_processor(process), open(f"/proc/{process}/schedstat", "rb") as its, open("/proc/thread-self/schedstat", "rb") as own:
         files, longest = (its.fileno(), own.fileno()), 0.0
         for _ in range(FIRST_ROUNDS):
-            delay_of(client, files, limit)
-        end = time.monotonic() + seconds
+            delay_of(client, files, LIMIT)
+        end = seconds and time.monotonic() + seconds
         begins()
-        while time.monotonic() < end:
-            longest = max(longest, delay_of(client, files, limit))
-    return longest
+        while time.monotonic() < end if end else not select.select([ended], [], [], 0)[0]:
+            longest = max(longest, delay_of(client, files, LIMIT))
+    return longest, client.available[INFLATE]
 
 
 def delay_beside(act, client, process, seconds=SECONDS):
-    """Returns the milliseconds by which a client's rounds were delayed at most, while something was done that is given their end."""
-    files = (client.socket.fileno(), client.own.fileno(), *client.files)
-    rounds = Aside(lambda begins: [longest_delay(client, process, seconds, begins)], files)
+    """Returns the milliseconds by which a client's rounds were delayed at most, while something was done that is given their end. They last as
+    long as that where no number of seconds is given."""
+    ended = os.eventfd(0, os.EFD_CLOEXEC)
+    files = (client.socket.fileno(), client.own.fileno(), *client.files, ended)
+    rounds = Aside(lambda begins: longest_delay(client, process, seconds, ended, begins), files)
     try:
         act(rounds)
     finally:
-        (longest,) = rounds.numbers()
+        os.eventfd_write(ended, 1)
+        longest, client.available[INFLATE] = rounds.numbers()
+        os.close(ended)
     return longest

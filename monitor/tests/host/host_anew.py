@@ -5,7 +5,7 @@ import signal
 import threading
 
 import linux_host
-from host_checks import eventually, finish, names, pages_moved
+from host_checks import eventually, finish, pages_moved
 from linux_kit import demand
 
 MEMORY, BUDGET = 256, 480
@@ -47,15 +47,18 @@ class Killer(threading.Thread):
 
 def anew_run(bench):
     """Guests at work, whose processes are killed amid inflates and deflates."""
-    with bench.town(BUDGET) as town:
-        town.settle_in(names(3), MEMORY)
-        killer = Killer(town)
-        town.live(LONGEST_DAY, "anew", BUDGET - linux_host.LEFT * 3, lambda _: killer.killed >= KILLS and town.ended.set())
+    guests, budget = bench.crowd(3, BUDGET)
+    with bench.town(budget) as town:
+        town.settle_in(guests, MEMORY)
+        said, killer = [it.guest.why() for it in town.members], Killer(town)
+        town.live(LONGEST_DAY, "anew", budget - linux_host.LEFT * len(guests), lambda _: killer.killed >= KILLS and town.ended.set())
         killer.join()
         demand(killer.fault is None, f"a killed process: {killer.fault}")
         demand(killer.killed >= KILLS, f"only {killer.killed} processes were killed while a balloon moved")
+        demand(0 < killer.inflates < killer.killed, f"{killer.inflates} of {killer.killed} processes were killed amid inflates, and the others amid deflates")
         town.ended.clear()
         finish(town)
         gone, checked = town.host.counters()["gone"], sum(it.checked for it in town.members)
         demand(gone == 0, f"{gone} guests went")
+        demand([it.guest.why() for it in town.members] == said, f"a VMM says {[it.guest.why() for it in town.members]}")
         return f"{killer.killed} processes killed, {killer.inflates} amid inflates; {checked} sums right, {pages_moved(town)} pages moved"

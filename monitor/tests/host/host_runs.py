@@ -19,6 +19,7 @@ QEMU there are two guests at a time, on a host with 360 MiB. The runs:
     lives     a guest that is killed while its balloon is filled, and comes back; one that doesn't answer
     anew      guests at work whose processes are killed a hundred times, amid inflates and deflates
     killed    a strict day on which the lender is killed every 5 seconds
+    upgrades  a strict day on which the lender and guests' processes become programs of another version, ten times
     reboots   a guest that reboots and panics, beside two at work
     wants     four guests that all want 150 MiB at once, on a strict host that can't give it
     cache     three guests that can let go page cache alone
@@ -50,6 +51,7 @@ from host_small import lines_run, many_run, worked_run
 from host_strict import strict_run
 from host_tenants import files_run, marks_run, tells_run
 from host_trash import ENDED, end_one, hang_one
+from host_upgrades import upgrades_run
 from host_wants import cache_run, wants_run
 from linux_guest import PAGES_PER_MIB
 from linux_kit import Fault, demand
@@ -263,7 +265,8 @@ RUNS = {
     "shift-1": functools.partial(shift_run, seed=1), "shift-2": functools.partial(shift_run, seed=2),
     "shift-3": functools.partial(shift_run, seed=3),
     "greedy": greedy_run, "strict": strict_run, "bare": bare_run,
-    "rest": rest_run, "lives": lives_run, "anew": anew_run, "killed": killed_run, "reboots": reboots_run,
+    "rest": rest_run, "lives": lives_run, "anew": anew_run, "killed": killed_run, "upgrades": upgrades_run,
+    "reboots": reboots_run,
     "wants": wants_run, "cache": cache_run, **ROGUE_RUNS, "full": full_run, "trash": trash_run,
 }
 

@@ -9,6 +9,8 @@ import time
 import pytest
 import linux_host
 import linux_kit
+from delays import MOST_DELAY, delay_beside
+from tenants import process_of
 from vhost_client import (
     ADD_MEM_REG, Client, FEATURES, GET_CONFIG, GET_FEATURES, GET_MAX_MEM_SLOTS, GET_PROTOCOL_FEATURES, GET_QUEUE_NUM,
     GET_STATUS, GET_VRING_BASE, HAS_PROTOCOL, INFLATE, LIMIT, OFFERED, PAGE, PAGES_OF_REGION, REGIONS, REM_MEM_REG,
@@ -17,7 +19,8 @@ from vhost_client import (
     VRING_KICK,
 )
 
-MESSAGES, SEATS = int(os.environ.get("MESSAGES", 10**6)), 2
+# Messages at random, and the seats whose clients send them.
+MESSAGES, SEATS = int(os.environ.get("MESSAGES", 10**6)), 8
 
 # MiB that the host's process may grow by while it serves a million messages.
 GROWTH = 24
@@ -149,10 +152,9 @@ class Seats:
             for it, path in enumerate(self.paths)
         ]
         try:
-            while any(it.poll() is None for it in running):
-                self.serves()
+            said = [it.communicate()[0].strip() for it in running]
             assert [it.returncode for it in running] == [0] * SEATS, self.host.why()
-            return "; ".join(it.communicate()[0].strip() for it in running)
+            return "; ".join(said)
         finally:
             for it in running:
                 it.kill()
@@ -237,7 +239,9 @@ def test_a_million_random_messages(seats):
     words = [linux_kit.need("cc", "gcc libc6-dev"), *linux_kit.FLAGS, "-I", linux_kit.SHIM, "-o", program, source]
     subprocess.run(words, check=True)
     seats.chance(program, MESSAGES // 10, 1)
-    before = seats.memory()
-    said = seats.chance(program, MESSAGES, 2)
+    before, said = seats.memory(), []
+    send = lambda rounds: said.append(seats.chance(program, MESSAGES, 2))
+    delay = delay_beside(send, seats.well, process_of(seats.host, "well"), seconds=None)
+    print(f"{said[0]}; a guest beside them is delayed by {delay:.2f} ms at most")
     assert seats.memory() - before < GROWTH, "the host's process has grown"
-    print(said)
+    assert delay < MOST_DELAY

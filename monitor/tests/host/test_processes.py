@@ -60,6 +60,21 @@ def test_a_keeper_that_is_killed_ends_its_guest_alone(lend, come):
     assert lender.said()[-2:] == ["a: its process has ended by signal 9", "gone a"]
 
 
+def test_who_comes_once_another_has_gone_is_heard_by_files_of_the_same_numbers(lend, come):
+    lender = lend(5)
+    files = lambda: set(os.listdir(f"/proc/{lender.process.pid}/fd"))
+    numbers = set()
+    for name in ("a", "b", "c"):
+        lender.demand(f"add {name}")
+        before = files()
+        guest = come(lender, name, {FREE: 60})
+        numbers |= files() - before
+        guest.leave()
+        lender.become(name, here=0)
+        eventually(lambda: files() == before, f"the lender has more files open than before {name} came")
+    assert len(numbers) < 6, f"files of {numbers} have come by three guests"
+
+
 def test_a_process_that_stands_still_is_told_apart_from_a_silent_guest(lend, come):
     lender = lend(5, "--floor", "0", "--period", "50")
     silent, stuck = come(lender, "silent", {FREE: 60}), come(lender, "stuck", {FREE: 60})

@@ -54,6 +54,7 @@ WRONG_PARTS = {
     "vhost_user_host": ("../tests/mutants/wrong_host", "../tests/mutants/wrong_control"),
     "lent": ("../tests/mutants/wrong_lent",),
     "cut": ("../tests/mutants/cut_lent",),
+    "loop": ("../tests/mutants/wrong_loop",),
 }
 WRONG_WRAPPED = {
     "vhost_user_balloon": (
@@ -67,6 +68,7 @@ WRONG_WRAPPED = {
         "socket_listen", "word_read", "config_read", "config_stays", "process_took_reload", "notify_ready", "notify_lives", "notify_keep",
     ),
     "lent": ("counters_taken", "marks_follow"),
+    "loop": ("poll_some", "loop_wait_for", "loop_wait_until"),
     "cut": (
         "vb_go_on", "vb_mark", "recvmsg", "write", "splice", "fallocate", "lending_send", "lending_read", "rings_settle", "kept_save",
         "inbox_next", "kept_regain", "lent_run", "memory_word", "marks_regain", "outbox_regain", "inbox_regain", "files_take", "lent_holds", "client_tell",
@@ -131,7 +133,7 @@ def build(folder, core, name="vhost_user_balloon", audited=False, wrong=False, f
     the program of its guests' processes."""
     program = os.path.join(folder, name)
     if name == "vhost_user_host":
-        build(folder, core, wrong="lent" if wrong else False, flags=flags)
+        build(folder, core, wrong="lent" if wrong is True else wrong, flags=flags)
     which = name if wrong is True else wrong
     names = (name, *CLIENT_PARTS[name], *(AUDIT_PARTS if audited else ()), *(WRONG_PARTS[which] if wrong else ()))
     parts = [os.path.join(MONITOR, "backends", f"{it}.c") for it in names]

@@ -11,7 +11,7 @@ import sys
 from typing import NamedTuple
 
 from linux_initramfs import make_initramfs
-from linux_packages import Fault, Missing, busybox_of, fetch_kernel, fetch_qemu, fetch_uml, last_line, libc_of, one_of
+from linux_packages import Fault, Missing, busybox_of, fetch_kernel, fetch_qemu, fetch_uml, last_line, libc_of, need, one_of
 from qmp import Qmp
 
 # A guest's command line, whatever it runs under.
@@ -28,6 +28,9 @@ EMULATED = 5
 
 # The guests that are emulated beside each other in a run of a host: each takes a processor.
 MOST_EMULATED = 2
+
+# The first User Mode Linux that has room for all registers of a processor.
+KEEPS_ALL_REGISTERS = (6, 13)
 
 # The last QEMU whose PCI proxy works.
 LAST_PROXY = 10
@@ -58,6 +61,21 @@ def takes_any_kernel():
     with open("/proc/cpuinfo", encoding="utf-8") as file:
         flags = next((it.split() for it in file if it.startswith("flags")), ())
     return "vmx" in flags or "svm" in flags
+
+
+def has_more_registers():
+    """Whether the processor has registers for which User Mode Linux before 6.13 has no room."""
+    with open("/proc/cpuinfo", encoding="utf-8") as file:
+        return any(it.startswith("flags") and "amx_tile" in it.split() for it in file)
+
+
+def build_more_registers(folder):
+    """Compiles what lets User Mode Linux leave such registers as they are; returns its path."""
+    path, source = os.path.join(folder, "more_registers.so"), os.path.join(os.path.dirname(__file__), "more_registers.c")
+    ran = subprocess.run([need("cc", "gcc libc6-dev"), "-O2", "-shared", "-fPIC", "-o", path, source], capture_output=True, text=True)
+    if ran.returncode != 0:
+        raise Fault(f"{source} doesn't build: {last_line(ran.stderr)}")
+    return path
 
 
 def accelerator():
@@ -92,6 +110,9 @@ class Uml(OverSocket):
         self.program = [sys.executable, with_libc, *libc_of(self.root), kernel] if suite else [kernel]
         module = one_of(self.root, "usr/lib/uml/modules/*/kernel/drivers/virtio/virtio_balloon.ko")
         self.initramfs = make_initramfs(folder, busybox_of(self.root), [module])
+        version = tuple(map(int, re.search(r"/modules/(\d+)\.(\d+)", module).groups()))
+        lacks = version < KEEPS_ALL_REGISTERS and has_more_registers()
+        self.preloaded = {"LD_PRELOAD": build_more_registers(folder)} if lacks else {}
 
     def demand_room(self, memory):
         """Says where the host has no room for the memory of guests."""
@@ -106,7 +127,7 @@ class Uml(OverSocket):
 
     def environment(self):
         """Returns the guest's environment: its memory is in /dev/shm, but where one of these names another folder."""
-        return {name: it for name, it in os.environ.items() if name not in ("TMPDIR", "TMP", "TEMP")}
+        return {name: it for name, it in os.environ.items() if name not in ("TMPDIR", "TMP", "TEMP")} | self.preloaded
 
     def control(self, _):
         """Nobody tells it to act."""

@@ -10,7 +10,7 @@ CHECKS = ("-g", "-fsanitize=address,undefined", "-fno-sanitize-recover=all")
 
 def built_once(folder, name, flags=CHECKS, **how):
     """Returns the path of a daemon, which the first of several processes builds in this folder; `how` is `linux_kit.build`'s."""
-    kind = "-".join([name, *sorted(it for it, on in how.items() if on), *("checked",) * (flags == CHECKS)])
+    kind = "-".join([name, *sorted(it if on is True else f"{it}-{on}" for it, on in how.items() if on), *("checked",) * (flags == CHECKS)])
     place = os.path.join(folder, kind)
     os.makedirs(place, exist_ok=True)
     path = os.path.join(place, name)

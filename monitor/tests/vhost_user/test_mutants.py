@@ -1,10 +1,10 @@
-"""Backends that are wrong on purpose (tests/mutants/wrong_backend.c): each is refused by the test that is for it, and that alone is run."""
+"""Backends that are wrong on purpose (tests/mutants/wrong_backend.c, and by their event loop wrong_loop.c): each is refused by the test that is for
+it, and that alone is run."""
 
 import os
-import subprocess
-import sys
 
 import pytest
+from mutants import demand_refused
 
 # Each wrong backend, and the test that has to refuse it.
 WRONG = {
@@ -28,17 +28,28 @@ WRONG = {
     "small-rings": "test_sizes.py::test_a_ring_is_served_whole",
 }
 
+# Each wrong event loop, and the test that has to refuse it; tests/host has others, by a lender.
+LOOPS = {
+    "no-hang-up": "test_refuses.py::test_nobody_comes",
+    "one-moment": "test_serves.py::test_a_target_is_told_again",
+    "last-first": "test_events.py::test_a_kick_as_its_ring_is_disabled",
+}
+
 HERE = os.path.dirname(os.path.realpath(__file__))
 
-# How a fault begins that a test has found, and not the machine.
-FOUND = ("E   AssertionError", "E   assert ", "E   TimeoutError", "E   linux_kit.Fault", "E   linux_packages.Fault", "E   Failed: ")
+
+def each(names):
+    """Returns the names, each with its mark."""
+    return [pytest.param(it, marks=pytest.mark.wrong(it)) for it in names]
 
 
-@pytest.mark.parametrize("name", [pytest.param(it, marks=pytest.mark.wrong(it)) for it in WRONG])
+@pytest.mark.parametrize("name", each(WRONG))
 def test_a_wrong_backend_is_refused(wrong_program, name):
-    words = [sys.executable, "-m", "pytest", "-q", "-n", "0", "--tb=short", os.path.join(HERE, WRONG[name])]
-    environment = {**os.environ, "BACKEND_WRONG": name, "BACKEND_PROGRAM": wrong_program}
-    ran = subprocess.run(words, env=environment, capture_output=True, text=True, timeout=280)
-    faults = [it for it in ran.stdout.splitlines() if it.startswith(FOUND)]
-    assert ran.returncode == 1 and faults, f"{WRONG[name]} passes: {ran.stdout[-500:]}{ran.stderr[-200:]}"
-    print(f"{name} is refused by {WRONG[name]}: {faults[0][4:]}")
+    fault = demand_refused(f"{HERE}/{WRONG[name]}", BACKEND_WRONG=name, BACKEND_PROGRAM=wrong_program)
+    print(f"{name} is refused by {WRONG[name]}: {fault}")
+
+
+@pytest.mark.parametrize("name", each(LOOPS))
+def test_a_wrong_loop_is_refused(programs, name):
+    fault = demand_refused(f"{HERE}/{LOOPS[name]}", LOOP_WRONG=name, BACKEND_PROGRAM=programs("vhost_user_balloon", wrong="loop"))
+    print(f"{name} is refused by {LOOPS[name]}: {fault}")

@@ -294,9 +294,8 @@ def test_a_file_in_the_socket_s_place_stays(program):
 def test_nobody_comes(program):
     with tempfile.TemporaryDirectory() as folder:
         words = [program, f"{folder}/socket"]
-        backend = subprocess.Popen(words, stdin=subprocess.PIPE, stdout=subprocess.PIPE, stderr=subprocess.PIPE, text=True)
-        _, said = backend.communicate(timeout=LIMIT)
-        assert (backend.returncode, said) == (2, f"vhost_user_balloon: {words[1]}: Operation canceled\n")
+        ran = subprocess.run(words, input="", capture_output=True, text=True, timeout=LIMIT)
+        assert (ran.returncode, ran.stderr) == (2, f"vhost_user_balloon: {words[1]}: Operation canceled\n")
         assert os.listdir(folder) == []
 
 

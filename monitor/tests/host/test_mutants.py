@@ -1,0 +1,21 @@
+"""Hosts whose event loop is wrong on purpose (tests/mutants/wrong_loop.c): each is refused by the test that is for it, and that alone is run."""
+
+import os
+
+import pytest
+from mutants import demand_refused
+
+# Each wrong event loop, and the test that has to refuse it; tests/vhost_user has others, by the backend of one guest.
+LOOPS = {
+    "late-removal": "test_processes.py::test_the_lender_has_no_file_of_a_client",
+    "old-number": "test_processes.py::test_who_comes_once_another_has_gone_is_heard_by_files_of_the_same_numbers",
+    "no-hang-up": "test_strict.py::test_who_waits_and_goes_is_forgotten",
+}
+
+HERE = os.path.dirname(os.path.realpath(__file__))
+
+
+@pytest.mark.parametrize("name", [pytest.param(it, marks=pytest.mark.wrong(it)) for it in LOOPS])
+def test_a_wrong_loop_is_refused(programs, name):
+    fault = demand_refused(f"{HERE}/{LOOPS[name]}", LOOP_WRONG=name, HOST_PROGRAM=programs("vhost_user_host", flags=(), wrong="loop"))
+    print(f"{name} is refused by {LOOPS[name]}: {fault}")

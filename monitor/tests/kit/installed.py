@@ -1,0 +1,43 @@
+"""The programs of a host as they are installed, in two versions, and the operator's command."""
+
+import os
+import shutil
+import subprocess
+
+import linux_kit
+
+CLIENT = os.path.join(linux_kit.ROOT, "client")
+
+# The version of the older programs; seconds of a command.
+OLDER, LIMIT = "0.1.9", 20
+
+
+def version():
+    """Returns the version of this tree."""
+    with open(os.path.join(linux_kit.ROOT, "VERSION"), encoding="utf-8") as file:
+        return file.read().strip()
+
+
+def older_program(folder):
+    """Builds the programs of a host as they were in an older version; returns the path of the host's."""
+    with open(os.path.join(linux_kit.HEADERS, "vb.h"), encoding="utf-8") as header, open(f"{folder}/vb.h", "w", encoding="utf-8") as copy:
+        text = header.read()
+        copy.write(text.replace(f'#define VB_VERSION "{version()}"', f'#define VB_VERSION "{OLDER}"'))
+    return linux_kit.build(str(folder), linux_kit.core_of(), "vhost_user_host", flags=("-I", str(folder)))
+
+
+def install(program, folder):
+    """Puts the programs of a host in the place of those that are there; returns the path of the host's."""
+    os.makedirs(folder, exist_ok=True)
+    for name in ("vhost_user_host", "vhost_user_balloon"):
+        shutil.copy(os.path.join(os.path.dirname(program), name), f"{folder}/{name}.new")
+        os.rename(f"{folder}/{name}.new", f"{folder}/{name}")
+    return f"{folder}/vhost_user_host"
+
+
+def bigvasta(control, *words, limit=LIMIT, **options):
+    """Runs the client program; returns what came of it."""
+    return subprocess.run(
+        ["/usr/bin/python3", "-B", "-m", "bigvasta", *words], capture_output=True, text=True, timeout=limit,
+        env={**os.environ, "PYTHONPATH": CLIENT, "BIGVASTA_CONTROL": control, "LC_ALL": "C.UTF-8", **options},
+    )
