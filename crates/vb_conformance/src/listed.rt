@@ -3,6 +3,7 @@
 ghost use Rattle.std.specs.Prelude.{◌≡◌, ◌≤◌, ◌<◌, ◌+◌, ◌++◌, ◌∷◌, [], ⊤, MatchOption, IfOk};
 ghost use Rattle.std.specs.Prelude.{length, vec_len, vec_capacity, true, false, if◌then◌else◌};
 ghost use Rattle.vb_virtio.specs.Tests.{is_in, pages_where};
+ghost use Rattle.vb_model.specs.Guest.{is_ballooned};
 ghost use Rattle.vb_device.specs.Calls.{IsUnused};
 
 use std::alloc::{AllocError, Global};
@@ -32,15 +33,15 @@ fn put_last(numbers: &mut Vec<u32>, page: u32)
     }
 }
 
-/// Puts a page after the others if it is ballooned.
-fn put_if(numbers: &mut Vec<u32>, page: u32, ballooned: bool)
+/// Puts a page after the others if it is ballooned on the device.
+fn put_ballooned(numbers: &mut Vec<u32>, device: &PacedDevice, page: u32)
     requires room { vec_len numbers.old < vec_capacity numbers.old }
-    ensures items { numbers.new.items ≡ (if ballooned then numbers.old.items ++ page ∷ []
-        else numbers.old.items) }
+    ensures items { numbers.new.items ≡ (if is_ballooned device.now.part.ballooned page
+        then numbers.old.items ++ page ∷ [] else numbers.old.items) }
     ensures len { vec_len numbers.new ≤ vec_len numbers.old + 1 }
     ensures capacity { vec_capacity numbers.old ≤ vec_capacity numbers.new }
 {
-    if ballooned {
+    if device.ballooned(page) {
         put_last(numbers, page);
     }
 }
@@ -80,7 +81,7 @@ impl PageList {
     {
         self.numbers.clear();
         for page in 0..self.pages {
-            put_if(&mut self.numbers, page, device.ballooned(page));
+            put_ballooned(&mut self.numbers, device, page);
         }
     }
 }

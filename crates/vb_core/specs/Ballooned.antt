@@ -8,6 +8,8 @@ use Rattle.vb_bits.specs.declared.word.TheConstants.{WORD_BITS}
 use Rattle.vb_bits.specs.Words.{in_words}
 use Rattle.vb_core.specs.declared.kinds.Kind.{Kind}
 use Rattle.vb_core.specs.declared.kinds.Kind.TheVariants.{Inflate, Deflate, Statistics, Report}
+use Rattle.vb_core.specs.declared.ballooned.Marking.{Marking}
+use Rattle.vb_core.specs.declared.ballooned.Marking.TheVariants.{Enter, Leave}
 use Rattle.vb_core.specs.declared.runs.Run.{Run}
 use Rattle.vb_core.specs.declared.device.Denial.{Denial}
 use Rattle.vb_core.specs.declared.device.Denial.TheVariants.{NoQueue, BadArgument}
@@ -31,6 +33,11 @@ ballooned_count set = count_by (is_ballooned set) (pages_with_bits (length set))
 abbrev pub is_changed : List ℕ → List ℕ → ℕ → Bool
 is_changed old new page =
     if is_ballooned old page then not (is_ballooned new page) else is_ballooned new page
+
+-- Marked pages enter the set; else they leave it.
+abbrev pub is_entering : Marking → Bool
+is_entering Enter = true
+is_entering Leave = false
 
 -- Pages that pass a test are in the new set, or none of them is; all others are in it where they
 -- are in the old one; and n pages are in just one of both.

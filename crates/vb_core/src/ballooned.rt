@@ -6,10 +6,33 @@ ghost use Rattle.std.specs.List.{list_any};
 ghost use Rattle.vb_virtio.specs.Tests.{has_bit, is_in};
 ghost use Rattle.vb_bits.specs.declared.word.TheConstants.{WORD_BITS};
 ghost use Rattle.vb_core.specs.Runs.{pages_of_run, pages_of_runs};
-ghost use Rattle.vb_core.specs.Ballooned.{is_ballooned, ballooned_count, Puts, MarksBy};
+ghost use Rattle.vb_core.specs.Ballooned.{is_ballooned, ballooned_count, is_entering, puts_in};
+ghost use Rattle.vb_core.specs.Ballooned.{Puts, MarksBy};
 
 use crate::{Denial, Kind, Run};
 use vb_bits::{WORD_BITS, is_in_words, low_ones};
+
+/// What marking does with pages.
+#[derive(Clone, Copy, Debug, PartialEq, Eq)]
+pub enum Marking {
+    /// They enter the set.
+    Enter,
+    /// They leave it.
+    Leave,
+}
+
+impl Marking {
+    /// What is done with the pages of a request: an inflate's enter the set, and others leave it.
+    fn of(kind: Kind) -> Marking
+        ensures { is_entering result ≡ puts_in kind }
+    {
+        if kind == Kind::Inflate {
+            Marking::Enter
+        } else {
+            Marking::Leave
+        }
+    }
+}
 
 /// Pages of a word of the set.
 const PAGES: u64 = WORD_BITS as u64;
@@ -26,23 +49,25 @@ fn bits_of_run(run: Run, word: u64) -> u64
     low_ones(end.saturating_sub(start)) & !low_ones(first.saturating_sub(start))
 }
 
-/// The word with the bits of a mask made 1, or 0.
-fn with_bits(word: u64, mask: u64, ones: bool) -> u64
+/// The word with these bits made 1 where their pages enter the set, and 0 where they leave it.
+fn with_bits(word: u64, bits: u64, marking: Marking) -> u64
     ensures { (b : ℕ) → b < WORD_BITS →
-        has_bit result b ≡ (if has_bit mask b then ones else has_bit word b) }
+        has_bit result b ≡ (if has_bit bits b then is_entering marking else has_bit word b) }
 {
-    if ones { word | mask } else { word & !mask }
+    match marking {
+        Marking::Enter => word | bits,
+        Marking::Leave => word & !bits,
+    }
 }
 
-/// Puts the pages of a word that a mask has into the set, or takes them out, and answers how many
-/// changed.
-fn mark_word(set: &mut [u64], place: usize, mask: u64, inside: bool) -> u32
+/// Has the pages of these bits of a word enter the set, or leave it, and answers how many changed.
+fn mark_word(set: &mut [u64], place: usize, bits: u64, marking: Marking) -> u32
     requires { place < length set.old }
-    ensures { Puts (λ p. p / WORD_BITS == place && has_bit mask (p % WORD_BITS)) inside
-        set.old set.new result }
+    ensures { Puts (λ p. p / WORD_BITS == place && has_bit bits (p % WORD_BITS))
+        (is_entering marking) set.old set.new result }
 {
     let old = set[place];
-    let new = with_bits(old, mask, inside);
+    let new = with_bits(old, bits, marking);
     set[place] = new;
     (old ^ new).count_ones()
 }
@@ -71,11 +96,12 @@ fn have_bits(runs: &[Run], words: usize) -> bool
     true
 }
 
-/// Puts the pages of a run into the set, or takes them out, a word at a time, and answers how many
+/// Has the pages of a run enter the set, or leave it, a word at a time, and answers how many
 /// changed.
-fn mark_run(set: &mut [u64], run: Run, inside: bool) -> u64
+fn mark_run(set: &mut [u64], run: Run, marking: Marking) -> u64
     requires { list_any (λ p. nat_le (WORD_BITS * length set.old) p) (pages_of_run run) ≡ false }
-    ensures put { Puts (λ p. is_in p (pages_of_run run)) inside set.old set.new result }
+    ensures put { Puts (λ p. is_in p (pages_of_run run)) (is_entering marking)
+        set.old set.new result }
     ensures small { (p : ℕ) → 2 ^ 33 ≤ p → is_in p (pages_of_run run) ≡ false }
 {
     if run.count == 0 {
@@ -85,21 +111,22 @@ fn mark_run(set: &mut [u64], run: Run, inside: bool) -> u64
     let last = first + u64::from(run.count) - 1;
     let mut changed = 0;
     for word in first / PAGES..last / PAGES + 1 {
-        let mask = bits_of_run(run, word);
-        changed += u64::from(mark_word(set, word as usize, mask, inside));
+        let bits = bits_of_run(run, word);
+        changed += u64::from(mark_word(set, word as usize, bits, marking));
     }
     changed
 }
 
-/// Puts the pages of all runs into the set, or takes them out, and answers how many changed.
-fn mark_runs(set: &mut [u64], runs: &[Run], inside: bool) -> u64
+/// Has the pages of all runs enter the set, or leave it, and answers how many changed.
+fn mark_runs(set: &mut [u64], runs: &[Run], marking: Marking) -> u64
     requires { list_any (λ p. nat_le (WORD_BITS * length set.old) p) (pages_of_runs runs.now)
         ≡ false }
-    ensures { Puts (λ p. is_in p (pages_of_runs runs.now)) inside set.old set.new result }
+    ensures { Puts (λ p. is_in p (pages_of_runs runs.now)) (is_entering marking)
+        set.old set.new result }
 {
     let mut changed = 0;
     for run in runs {
-        changed += mark_run(set, *run, inside);
+        changed += mark_run(set, *run, marking);
     }
     changed
 }
@@ -121,7 +148,7 @@ pub fn mark(kind: Kind, runs: &[Run], set: &mut [u64]) -> Result<u64, Denial>
     if !have_bits(runs, set.len()) {
         return Err(Denial::BadArgument);
     }
-    Ok(mark_runs(set, runs, kind == Kind::Inflate))
+    Ok(mark_runs(set, runs, Marking::of(kind)))
 }
 
 /// Whether a page is in the set; none after the words is.

@@ -16,7 +16,7 @@ use crate::marking::mark_runs;
 use crate::reading::{PAGE_BYTES, read_across};
 use std::marker::Model;
 use vb_bits::BitSet;
-use vb_core::{Kind, Named, Run, Statistic};
+use vb_core::{Kind, Marking, Named, Run, Statistic};
 use vb_device::discard_page;
 use vb_monitor::{Cut, LiveMemory, Spot};
 use vb_ram::{Frame, GuestBytes, Ram};
@@ -172,8 +172,8 @@ impl LiveMemory for LooseRam {
 
     fn tell_pages(&mut self, kind: Kind, runs: &[Run], _named: Named) {
         match kind {
-            Kind::Inflate => mark_runs(&mut self.ballooned, runs, true),
-            Kind::Deflate => mark_runs(&mut self.ballooned, runs, false),
+            Kind::Inflate => mark_runs(&mut self.ballooned, runs, Marking::Enter),
+            Kind::Deflate => mark_runs(&mut self.ballooned, runs, Marking::Leave),
             Kind::Statistics | Kind::Report => {}
         }
     }

@@ -1,11 +1,14 @@
-use Rattle.std.proofs.Common.{ap, sym, ◌∙◌, Bool, cond, arith}
+use Rattle.std.proofs.Common.{ap, sym, ◌∙◌, cond, arith}
 use Rattle.vb_virtio.specs.Tests.{has_bit}
+use Rattle.vb_core.specs.Ballooned.{is_entering}
+use Rattle.vb_core.specs.declared.ballooned.Marking.{Marking}
 use Rattle.vb_core.proofs.MarkLemmas.{or_bit, without_bit}
 use Rattle.vb_core.proofs.ballooned.with_bits.Goals as goal
 
-pub returns-then-ones : goal.returns-then-ones
-returns-then-ones c = λ b l. or_bit c.args.word c.args.mask b
-    ∙ ap (λ (x : Bool). cond (has_bit c.args.mask b) x (has_bit c.args.word b)) (sym c.if-ones.true)
+pub returns-in-Enter : goal.returns-in-Enter
+returns-in-Enter c = λ b l. or_bit c.args.word c.args.bits b
+    ∙ ap (λ (m : Marking). cond (has_bit c.args.bits b) (is_entering m) (has_bit c.args.word b))
+    (sym c.in-Enter.is)
 
-pub returns-else-ones : goal.returns-else-ones
-returns-else-ones c = grind (arith, without_bit)
+pub returns-in-Leave : goal.returns-in-Leave
+returns-in-Leave c = grind (arith, without_bit)

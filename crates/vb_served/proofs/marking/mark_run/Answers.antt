@@ -1,12 +1,13 @@
 use Rattle.std.proofs.Common.{◌≡◌, ◌<◌, ◌+◌, ◌∙◌, ℕ, List, ap, arith, get_or, length}
 use Rattle.std.proofs.lemmas.List.{take_all, FromFn.{length-range_with_len, get_or-range_with_len}}
+use Rattle.vb_core.specs.Ballooned.{is_entering}
 use Rattle.vb_core.specs.Runs.{pages_of_run}
 use Rattle.vb_device.specs.Discards.{flagged}
 use Rattle.vb_device.proofs.Marks.{flagged_none, flag_more}
 use Rattle.vb_served.proofs.marking.mark_run.Goals as goal
 
 pub loop-k-init : goal.loop-k-init
-loop-k-init c = flagged_none c.args.member c.args.ballooned.now
+loop-k-init c = flagged_none (is_entering c.args.marking) c.args.ballooned.now
 
 pub loop-k-preserved : goal.loop-k-preserved
 loop-k-preserved c =
@@ -22,10 +23,11 @@ loop-k-preserved c =
       c.from-in-loop-k.ensures,
     ) in
     c.mark_page.ensures ∙ flag_more c.args.ballooned.now c.loop-k.ballooned pages c.loop-k.k
-    page c.args.member lt at c.loop-k.invariant
+    page (is_entering c.args.marking) lt at c.loop-k.invariant
 
 pub returns : goal.returns
-returns c = c.loop-k.invariant ∙ ap (λ (ps : List ℕ). flagged ps c.args.member c.args.ballooned.now)
+returns c = c.loop-k.invariant
+    ∙ ap (λ (ps : List ℕ). flagged ps (is_entering c.args.marking) c.args.ballooned.now)
     (take_all c.loop-k.k (pages_of_run c.args.run) (omega (
       arith,
       c.loop-k-test.false,

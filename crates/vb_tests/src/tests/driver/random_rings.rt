@@ -17,11 +17,28 @@ fn below(numbers: &mut Pcg32, end: u32) -> u32 {
     numbers.next_u32().checked_rem(end).unwrap_or(0)
 }
 
+/// Who owns a head's descriptors.
+#[derive(Clone, Copy, PartialEq, Eq)]
+enum Owner {
+    /// The driver, which may make a request of them.
+    Driver,
+    /// The device: the request is out.
+    Device,
+}
+
+/// Who owns a head of a queue on which nothing is asked: the device has the statistics buffer.
+fn owner_at_rest(queue: u32) -> Owner {
+    if queue == 2 {
+        Owner::Device
+    } else {
+        Owner::Driver
+    }
+}
+
 /// The requests of a queue of 8 as the test remembers them.
 #[derive(Drop)]
 struct Outstanding {
-    /// Which heads are out.
-    heads: [bool; 8],
+    heads: [Owner; 8],
     /// How many used elements were taken back.
     seen: u16,
 }
@@ -29,7 +46,7 @@ struct Outstanding {
 impl Outstanding {
     fn none() -> Outstanding {
         Outstanding {
-            heads: [false; 8],
+            heads: [Owner::Driver; 8],
             seen: 0,
         }
     }
@@ -37,16 +54,16 @@ impl Outstanding {
     fn count(&self) -> u32 {
         let mut count: u32 = 0;
         for head in 0..8 {
-            if self.heads[head] {
+            if self.heads[head] == Owner::Device {
                 count = count.saturating_add(1);
             }
         }
         count
     }
 
-    fn set(&mut self, head: u16, is_out: bool) {
+    fn give(&mut self, head: u16, owner: Owner) {
         if let Some(there) = self.heads.get_mut(usize::from(head)) {
-            *there = is_out;
+            *there = owner;
         }
     }
 
@@ -62,7 +79,7 @@ impl Outstanding {
         let place = usize::from(self.seen % 8);
         let id = LittleEndian::read_u32(&used[4 + 8 * place..]);
         match self.heads.get(id as usize) {
-            Some(true) => Ok(Some((id % 8) as u16)),
+            Some(Owner::Device) => Ok(Some((id % 8) as u16)),
             _ => Err(Refusal::RingBroken),
         }
     }
@@ -119,7 +136,7 @@ impl Played<'_> {
             let _ = self.guest.answer(Step::Use(0, 0, 1));
             let _ = self.guest.answer(Step::Reap(0));
         }
-        self.outstanding.set(0, self.queue == 2);
+        self.outstanding.give(0, owner_at_rest(self.queue));
     }
 
     fn post(&mut self) -> Result<Answer, Refusal> {
@@ -135,7 +152,7 @@ impl Played<'_> {
     fn post_some(&mut self, count: u32) {
         for _request in 0..count {
             if let Ok(Answer::Posted(head, _)) = self.post() {
-                self.outstanding.set(head, true);
+                self.outstanding.give(head, Owner::Device);
             }
         }
     }
@@ -162,7 +179,7 @@ impl Played<'_> {
                 return false;
             }
             match expected {
-                Ok(Some(head)) => self.outstanding.set(head, self.queue == 2),
+                Ok(Some(head)) => self.outstanding.give(head, owner_at_rest(self.queue)),
                 Ok(None) => return true,
                 Err(_) => return self.guest.port.status().bits() == 143,
             }

@@ -64,14 +64,23 @@ fn put_available(bytes: &mut RingBytes, size: u16, offset: usize, number: u16)
     LittleEndian::write_u16(&mut bytes[16 * usize::from(size) + offset..], number);
 }
 
-/// Writes a place of the available ring and a descriptor anew, of a ring with long chains or not.
-fn put_place(numbers: &mut Pcg32, bytes: &mut RingBytes, size: u16, index: u16, is_long: bool)
+/// Which chains come about.
+#[derive(Clone, Copy, PartialEq, Eq)]
+enum Chains {
+    /// Of few descriptors, mostly, and of bytes that mean nothing.
+    Short,
+    /// Of many.
+    Long,
+}
+
+/// Writes a place of the available ring and a descriptor anew, so that such chains come about.
+fn put_place(numbers: &mut Pcg32, bytes: &mut RingBytes, size: u16, index: u16, chains: Chains)
     requires size { size ≤ 256 }
     requires index { index < size }
 {
     let head = below_16(numbers, u32::from(size) + 1);
     put_available(bytes, size, 4 + 2 * usize::from(index), head);
-    if is_long {
+    if chains == Chains::Long {
         put_link(numbers, bytes, size, index);
     } else if below(numbers, 8) > 0 {
         put_descriptor(numbers, bytes, size, index);
@@ -93,10 +102,24 @@ fn put_some(numbers: &mut Pcg32, bytes: &mut RingBytes, size: u16, round: u16)
         65_536
     };
     put_available(bytes, size, 2, below_16(numbers, jump));
+    let chains = if round / 64 % 4 == 0 {
+        Chains::Long
+    } else {
+        Chains::Short
+    };
     for k in 0..8 {
         let index = (8 * (round % 32) + k) % size;
-        put_place(numbers, bytes, size, index, round / 64 % 4 == 0);
+        put_place(numbers, bytes, size, index, chains);
     }
+}
+
+/// Where in a chain a descriptor is: those that a device may write come last.
+#[derive(Clone, Copy, PartialEq, Eq)]
+enum Part {
+    /// None before it is writable.
+    Readable,
+    /// One before it is.
+    Writable,
 }
 
 /// A descriptor as the second reading sees it.
@@ -127,15 +150,15 @@ impl Link {
         piece.addr == self.addr && piece.len == self.len && piece.writable == self.has(2)
     }
 
-    /// The first rule that the descriptor breaks in a ring of n, as number `at` of its chain, after
-    /// writable ones or after none.
-    fn broken(&self, size: u16, at: u16, is_after_writable: bool) -> Option<ChainFault> {
+    /// The first rule that the descriptor breaks in a ring of n, as number `at` of its chain, in
+    /// this part of it.
+    fn broken(&self, size: u16, at: u16, part: Part) -> Option<ChainFault> {
         let end = self.addr.saturating_add(u64::from(self.len));
         if self.has(4) {
             Some(ChainFault::Indirect)
         } else if end > 64 * 4096 {
             Some(ChainFault::OutOfRam)
-        } else if is_after_writable && !self.has(2) {
+        } else if part == Part::Writable && !self.has(2) {
             Some(ChainFault::WrongDirection)
         } else if self.has(1) && self.next >= size {
             Some(ChainFault::BadNext)
@@ -153,14 +176,16 @@ fn first_fault(bytes: &RingBytes, size: u16, head: u16) -> Option<ChainFault> {
         return Some(ChainFault::BadHead);
     }
     let mut index = head;
-    let mut is_after_writable = false;
+    let mut part = Part::Readable;
     for at in 0..size {
         let link = Link::at(bytes, index);
-        let broken = link.broken(size, at, is_after_writable);
+        let broken = link.broken(size, at, part);
         if broken.is_some() || !link.has(1) {
             return broken;
         }
-        is_after_writable |= link.has(2);
+        if link.has(2) {
+            part = Part::Writable;
+        }
         index = link.next;
     }
     None
