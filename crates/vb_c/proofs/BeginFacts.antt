@@ -102,7 +102,7 @@ of_nothing h =
 -- ---- of a queue that may be looked at, all that its notice may do may come
 
 abbrev eight : Budget
-eight = record { chains = 8; pages = 256; keeps = false }
+eight = record { chains = 8; pages = 256; keeps = false; longest = 256 }
 
 abbrev driven : Balloon
 driven = record { device = ready; held = a_buffer 0 }
@@ -120,6 +120,7 @@ handed_of_none = record {
   step = λ after outcome rest h. h;
   has_room = record { runs = λ e. cc; figures = λ e. cc; cuts = omega arith };
   kept = λ e. absurd cc;
+  held_back = λ e. absurd cc;
   waits_now = refl;
   fills = record { full = λ e. absurd (grind arith) };
   fits = tt;
@@ -202,6 +203,7 @@ handed_over = record {
   step = λ after outcome rest h. h;
   has_room = record { runs = λ e. cc; figures = λ e. cc; cuts = omega arith };
   kept = λ e. absurd cc;
+  held_back = λ e. absurd cc;
   waits_now = refl;
   fills = record { full = λ e. absurd (grind arith) };
   fits = tt;

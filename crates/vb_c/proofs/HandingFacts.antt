@@ -27,6 +27,7 @@ none_asked = record {
   figures = 0;
   cuts = 0;
   kept = 0;
+  waits = 0;
   used = record { spots = record { id = spot; length = spot; index = spot }; id = 0; length = 0; index = 0 };
 }
 
@@ -42,6 +43,8 @@ shown = record {
     into = 0;
     number = 0;
     from = 0;
+    piece = 0;
+    done = 0;
     in_file = 0;
     cut_length = 4096;
     code = 0;
@@ -51,6 +54,8 @@ shown = record {
     more = 0;
     chains_left = 8;
     pages_left = 256;
+    longest = 256;
+    told = 0;
     head = 0;
     count = 0;
     taken_head = 0;
@@ -83,6 +88,7 @@ handed = record {
   step = λ after outcome rest h. h;
   has_room = record { runs = λ e. cc; figures = λ e. cc; cuts = omega arith };
   kept = λ e. absurd cc;
+  held_back = λ e. absurd cc;
   waits_now = refl;
   fills = record { full = λ e. absurd (grind arith) };
   fits = tt;
@@ -119,16 +125,16 @@ abbrev copying : ℕ → VbNotice
 copying into = record shown { what = 128; step = record (shown.step) { phase = 4; length = 4; into = into } }
 
 abbrev ends_in : Phase → ℕ
-ends_in (AwaitsPart at place) = place.into + place.length
+ends_in (AwaitsPart at place into len) = into + len
 ends_in (AwaitsDescriptor at walk) = row_bytes walk
 ends_in phase = 0
 
 at_most : (phase : Phase) → Fits phase → ends_in phase ≤ 1024
-at_most (AwaitsPart at place) fits = fits
+at_most (AwaitsPart at place into len) fits = fits
 at_most (AwaitsDescriptor at walk) fits = fits
 at_most (AwaitsIndex at) fits = omega arith
 at_most (AwaitsEntry at) fits = omega arith
-at_most (TellsPages head named) fits = omega arith
+at_most (TellsPages place named further) fits = omega arith
 at_most (TellsFigures head count) fits = omega arith
 at_most (Discards cut x) fits = omega arith
 at_most (GivesBack spots entry) fits = omega arith
@@ -165,7 +171,7 @@ two_pages = record { runs = 1; pages = 2; skipped = 0 }
 abbrev telling : Kind → Bool → Notice
 telling kind keeps = record {
   kind = kind;
-  step = record { tally = record (tally_of (shown.step)) { keeps = keeps }; phase = TellsPages 3 two_pages };
+  step = record { tally = record (tally_of (shown.step)) { keeps = keeps }; phase = TellsPages (record { head = 3; count = 1; piece = 1; done = 0 }) two_pages false };
 }
 
 -- they are told, their chain is given back, and the index is awaited
@@ -214,6 +220,14 @@ unfolding lib.Count.ones
 uncounted_of_a_report b2 h =
     let e : Same 0 2 = h.kept (is_told (telling Report false) 0 keeping b2 h) in omega arith
 
+-- whether they wait for a grant is said: those of a deflate do where it is held, and no others
+abbrev holding : Balloon
+holding = record balloon { device = record begun { settings = record (begun.settings) { holds_deflates = 1 } } }
+
+waiting_unsaid : (b2 : Balloon) → HandsOver (telling Deflate false) two nothing_copied holding b2 [] (told 0) → ⊥
+waiting_unsaid b2 h =
+    let e : Same 0 1 = h.held_back (is_told (telling Deflate false) 0 holding b2 h) in omega arith
+
 -- ---- what is held: a chain where a notice has ended that took one of a kind that is held
 
 abbrev taking : Kind → Phase → Notice
@@ -249,12 +263,12 @@ ended_by (Ended why interrupt more) a cuts w f e = refl
 ended_by (AwaitsIndex at) a cuts w f e = absurd (omega (arith, e))
 ended_by (AwaitsEntry at) a cuts w f e = absurd (omega (arith, e))
 ended_by (AwaitsDescriptor at walk) a cuts w f e = absurd (omega (arith, e))
-ended_by (AwaitsPart at place) a cuts w f e = absurd (omega (arith, e))
+ended_by (AwaitsPart at place into len) a cuts w f e = absurd (omega (arith, e))
 ended_by (AwaitsFlags at why more) a cuts w f e = absurd (omega (arith, e))
 ended_by (Discards cut x) a cuts w f e =
     let some : asked_bits a 256 + 0 ≡ 0 = ap (λ (n : ℕ). asked_bits a n + 0) (sym (f refl)) ∙ e in
     absurd (omega (arith, some))
-ended_by (TellsPages head named) a cuts w f e = absurd cc
+ended_by (TellsPages place named further) a cuts w f e = absurd cc
 ended_by (TellsFigures head count) a cuts w f e = absurd cc
 ended_by (GivesBack spots entry) a cuts w f e = absurd cc
 

@@ -26,8 +26,8 @@ pub goes_fits : (p : Phase) → may_go_on p ≡ true → Fits p
 goes_fits (AwaitsIndex at) e = tt
 goes_fits (AwaitsEntry at) e = tt
 goes_fits (AwaitsDescriptor at walk) e = at_most (row_bytes walk) MAX_BYTES e
-goes_fits (AwaitsPart at place) e = at_most (place.into + place.length) MAX_BYTES e
-goes_fits (TellsPages head named) e = absurd (grind arith)
+goes_fits (AwaitsPart at place into len) e = at_most (into + len) MAX_BYTES e
+goes_fits (TellsPages place named further) e = absurd (grind arith)
 goes_fits (TellsFigures head count) e = absurd (grind arith)
 goes_fits (Discards cut x) e = tt
 goes_fits (GivesBack spots entry) e = tt
@@ -38,8 +38,8 @@ awaits : (p : Phase) → waits p ≡ true → Fits p → may_go_on p ≡ true
 awaits (AwaitsIndex at) e fits = refl
 awaits (AwaitsEntry at) e fits = refl
 awaits (AwaitsDescriptor at walk) e fits = is_most (row_bytes walk) MAX_BYTES fits
-awaits (AwaitsPart at place) e fits = is_most (place.into + place.length) MAX_BYTES fits
-awaits (TellsPages head named) e fits = absurd (grind arith)
+awaits (AwaitsPart at place into len) e fits = is_most (into + len) MAX_BYTES fits
+awaits (TellsPages place named further) e fits = absurd (grind arith)
 awaits (TellsFigures head count) e fits = absurd (grind arith)
 awaits (Discards cut x) e fits = refl
 awaits (GivesBack spots entry) e fits = absurd (grind arith)
@@ -92,18 +92,18 @@ row_by : (c : Progress) (n m : ℕ) (at : Spot) (walk : Walk)
     (is0 is1 is2 is3 is4 is5 is6 is7 is8 : Bool) →
     (if is0 then Ended (why_of c.code c.rule) (says_yes c.interrupt) (says_yes c.more)
     else if is1 then AwaitsIndex c.at else if is2 then AwaitsEntry c.at
-    else if is3 then AwaitsDescriptor c.at (walk_of c) else if is4 then AwaitsPart c.at (place_of c)
+    else if is3 then AwaitsDescriptor c.at (walk_of c) else if is4 then AwaitsPart c.at (place_of c) c.into c.length
     else if is5 then AwaitsFlags c.at (why_of c.code c.rule) (says_yes c.more)
     else if is6 then Discards (part_of c) (discarding_of c)
-    else if is7 then TellsPages c.head c.named else if is8 then TellsFigures c.head c.length
+    else if is7 then TellsPages (place_of c) c.named (says_yes c.flag) else if is8 then TellsFigures c.head c.length
     else GivesBack c.spots c.entry) ≡ AwaitsDescriptor at walk →
     (if is0 then Ended (why_of c.code c.rule) (says_yes c.interrupt) (says_yes c.more)
     else if is1 then AwaitsIndex c.at else if is2 then AwaitsEntry c.at
     else if is3 then AwaitsDescriptor c.at (walk_of c)
-    else if is4 then AwaitsPart c.at (place_of (record c { length = n; into = m }))
+    else if is4 then AwaitsPart c.at (place_of c) m n
     else if is5 then AwaitsFlags c.at (why_of c.code c.rule) (says_yes c.more)
     else if is6 then Discards (part_of c) (discarding_of (record c { length = n; into = m }))
-    else if is7 then TellsPages c.head c.named else if is8 then TellsFigures c.head n
+    else if is7 then TellsPages (place_of c) c.named (says_yes c.flag) else if is8 then TellsFigures c.head n
     else GivesBack c.spots c.entry) ≡ AwaitsDescriptor at walk
 row_by c n m at walk true is1 is2 is3 is4 is5 is6 is7 is8 e = absurd (grind arith)
 row_by c n m at walk false true is2 is3 is4 is5 is6 is7 is8 e = absurd (grind arith)

@@ -32,6 +32,7 @@ orders = record {
   figures = 0;
   cuts = 0;
   kept = 0;
+  waits = 0;
   used = record { spots = record { id = none_at; length = none_at; index = none_at }; id = 0; length = 0; index = 0 };
 }
 
@@ -47,6 +48,8 @@ notice = record {
     into = 3;
     number = 5;
     from = 6;
+    piece = 16;
+    done = 17;
     in_file = 7;
     cut_length = 8;
     code = 2;
@@ -56,6 +59,8 @@ notice = record {
     more = 0;
     chains_left = 9;
     pages_left = 10;
+    longest = 18;
+    told = 19;
     head = 11;
     count = 12;
     taken_head = 13;
@@ -97,7 +102,7 @@ used = record { element_at = 0x204; index_at = 0x202; id = 3; length = 0; index 
 -- a word is read, after an acquire fence, or after a full one; bytes are copied; or nothing is
 -- answered
 answered : answer_bits (AwaitsIndex spot) ∷ answer_bits (AwaitsEntry spot) ∷ answer_bits (AwaitsDescriptor spot (walk_of (notice.step)))
-    ∷ answer_bits (AwaitsPart spot (place_of (notice.step))) ∷ answer_bits (AwaitsFlags spot None false)
+    ∷ answer_bits (AwaitsPart spot (place_of (notice.step)) 3 4) ∷ answer_bits (AwaitsFlags spot None false)
     ∷ answer_bits (Discards (part_of (notice.step)) (discarding_of (notice.step))) ∷ answer_bits (GivesBack (orders.used.spots) used)
     ∷ answer_bits (Ended None false false) ∷ [] ≡ 64 ∷ 80 ∷ 128 ∷ 128 ∷ 96 ∷ 0 ∷ 0 ∷ 0 ∷ []
 answered = refl
@@ -168,7 +173,7 @@ one_too_few h = let e : Same 96 112 = h.1 in omega arith
 -- ---- its end
 
 abbrev tally : Bool → Option HeldChain → Tally
-tally given held = record { chains = 0; pages = 0; keeps = false; given = given; held = held; published = 0 }
+tally given held = record { chains = 0; pages = 0; keeps = false; given = given; held = held; published = 0; longest = 0; told = 0 }
 
 served : end_code None (tally true None) ≡ 0
 served = refl

@@ -18,7 +18,7 @@ abbrev changed : Balloon
 changed = record balloon { held = a_buffer 5 }
 
 abbrev one_page : Budget
-one_page = record { chains = 1; pages = 1; keeps = false }
+one_page = record { chains = 1; pages = 1; keeps = false; longest = 256 }
 
 -- a queue that isn't there has code 5, one of which a chain is held 1, none to give back 1, no notice
 -- 7; each time the balloon stays

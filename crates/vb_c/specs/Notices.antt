@@ -72,8 +72,8 @@ abbrev pub Says : VbNotice → Tally → Phase → Type 0
 Says c tally (AwaitsIndex at) = Unit {0}
 Says c tally (AwaitsEntry at) = Unit {0}
 Says c tally (AwaitsDescriptor at walk) = (c.step.into ≡ 0) × (c.step.length ≡ row_bytes walk)
-Says c tally (AwaitsPart at place) = Unit {0}
-Says c tally (TellsPages head named) = Unit {0}
+Says c tally (AwaitsPart at place into len) = Unit {0}
+Says c tally (TellsPages place named further) = Unit {0}
 Says c tally (TellsFigures head count) = Unit {0}
 Says c tally (Discards cut x) = Unit {0}
 Says c tally (GivesBack spots entry) = Unit {0}
@@ -96,9 +96,9 @@ abbrev pub answer_bits : Phase → ℕ
 answer_bits (AwaitsIndex at) = 64
 answer_bits (AwaitsEntry at) = 16 + 64
 answer_bits (AwaitsDescriptor at walk) = 128
-answer_bits (AwaitsPart at place) = 128
+answer_bits (AwaitsPart at place into len) = 128
 answer_bits (AwaitsFlags at why more) = 32 + 64
-answer_bits (TellsPages head named) = 0
+answer_bits (TellsPages place named further) = 0
 answer_bits (TellsFigures head count) = 0
 answer_bits (Discards cut x) = 0
 answer_bits (GivesBack spots entry) = 0

@@ -13,6 +13,8 @@ use Rattle.vb_monitor.specs.declared.balloon.Balloon.{Balloon}
 use Rattle.vb_monitor.specs.declared.outcome.Budget.{Budget}
 use Rattle.vb_monitor.specs.declared.outcome.Outcome.{Outcome}
 use Rattle.vb_core.specs.Config.{keeps_reports}
+use Rattle.vb_core.specs.Settings.{holds_chains}
+use Rattle.vb_virtio.specs.Tests.{one_if}
 use Rattle.vb_monitor.specs.Accesses.{Access}
 use Rattle.vb_monitor.specs.Giving.{is_kept, kept_pages}
 use Rattle.vb_monitor.specs.declared.outcome.HeldChain.{HeldChain}
@@ -42,7 +44,8 @@ pub record Refuses (code : ℕ) (b1 b2 : Balloon) (r1 r2 : NoticeRoom) (c : VbNo
 
 -- A notice is handed over, with all that is done before it waits: after that, whatever may still
 -- come then, all that could come may come. Parts are left to discard only where the list of those
--- that are discarded now is full. With the pages that are told it says how many of them are kept.
+-- that are discarded now is full. With the pages that are told it says how many of them are kept,
+-- and whether they wait for a grant.
 pub record HandsOver (n : Notice) (regions : List Region) (room : Room) (b1 b2 : Balloon)
     (cuts : List Cut) (c : VbNotice) : Type 0 where
   pub asked : Asked
@@ -56,6 +59,8 @@ pub record HandsOver (n : Notice) (regions : List Region) (room : Room) (b1 b2 :
   pub has_room : HasRoom asked c.orders
   pub kept : asked.told ≡ Pages → c.orders.kept ≡
       kept_pages (is_kept n.kind n.step.tally.keeps (keeps_reports b1.device)) c.orders.named.pages
+  pub held_back : asked.told ≡ Pages →
+      c.orders.waits ≡ one_if (holds_chains n.kind b1.device.settings)
   pub waits_now : waits notice.step.phase ≡ true
   pub fills : FillsList notice.step.phase c.orders
   pub fits : Fits notice.step.phase

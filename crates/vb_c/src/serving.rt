@@ -8,6 +8,7 @@ ghost use Rattle.vb_monitor.specs.Steps.{phase_of, step_of, says_yes};
 ghost use Rattle.vb_c.specs.Notices.{HasEnded, notice_of};
 ghost use Rattle.vb_monitor.specs.Notices.{Serves};
 ghost use Rattle.vb_c.specs.Serving.{HandsOver, Begins, BeginsFor, GivesHeldFor, GoesOnBy};
+ghost use Rattle.vb_core.specs.Settings.{longest_request};
 
 use crate::kinds::kind_of_code;
 use crate::notice::VbNotice;
@@ -67,8 +68,13 @@ pub extern "C" fn vb_begin(
     keeps: u32,
 ) -> u32
     ensures begins { BeginsFor (kind_of_code kind) regions.now
-        (record { chains = chains; pages = pages; keeps = says_yes keeps }) balloon.old balloon.new
-        room.old room.new notice.new }
+        (record {
+          chains = chains;
+          pages = pages;
+          keeps = says_yes keeps;
+          longest = longest_request balloon.old.device.settings;
+        }) balloon.old balloon.new room.old room.new
+        notice.new }
     ensures what { result ≡ notice.new.what }
 {
     match kind_of_code(kind) {
@@ -81,6 +87,7 @@ pub extern "C" fn vb_begin(
                 chains,
                 pages,
                 keeps: keeps != 0,
+                longest: balloon.device.settings.longest_request(),
             };
             notice
                 .step

@@ -197,9 +197,8 @@ another_row w rest h = let e : Same 0x60 0x50 = ap copied_at h.asks in omega ari
 abbrev over_an_end : ChainPiece
 over_an_end = record { address = 4095; length = 3; writable = 0 }
 
-abbrev place : ℕ → Bool → ℕ → ℕ → Place
-place count is_second into len =
-    record { head = 3; count = count; piece = 0; is_second = is_second; into = into; length = len }
+abbrev place : ℕ → ℕ → Place
+place count done = record { head = 3; count = count; piece = 0; done = done }
 
 abbrev no_statistics : Whole
 no_statistics = over Statistics ready (ends tally (Some BadArgument) false false)
@@ -208,7 +207,7 @@ abbrev with_bytes : List ℕ → Room
 with_bytes bytes = room_of (over_an_end ∷ in_the_hole ∷ []) bytes [] []
 
 -- after the first part comes the second one, and then the chain's next piece, if it has one
-both_parts : AheadAt (AwaitsPart (at 4095) (place 1 false 0 1)) no_statistics tally ready (with_bytes [])
+both_parts : AheadAt (AwaitsPart (at 4095) (place 1 1) 0 1) no_statistics tally ready (with_bytes [])
     (CopyBytes (at 4095) (9 ∷ []) ∷ CopyBytes (at 4096) (8 ∷ 7 ∷ []) ∷ [])
 unfolding pieces_in lib.Count.ones
 both_parts = record {
@@ -225,7 +224,7 @@ both_parts = record {
   };
 }
 
-next_piece : AheadAt (AwaitsPart (at 4096) (place 2 true 1 2))
+next_piece : AheadAt (AwaitsPart (at 4096) (place 2 3) 1 2)
     (over Statistics needs_reset (ends tally (Some (Broken OutOfRam)) false false)) tally ready (with_bytes (9 ∷ 0 ∷ []))
     (CopyBytes (at 4096) (8 ∷ 7 ∷ []) ∷ [])
 unfolding pieces_in
@@ -238,7 +237,7 @@ next_piece = record {
 }
 
 -- what was copied before it is in front, and no more than that
-one_before : AheadAt (AwaitsPart (at 4096) (place 1 true 1 2)) no_statistics tally ready
+one_before : AheadAt (AwaitsPart (at 4096) (place 1 3) 1 2) no_statistics tally ready
     (with_bytes (9 ∷ 1 ∷ 2 ∷ 3 ∷ 4 ∷ 5 ∷ 6 ∷ 7 ∷ [])) (CopyBytes (at 4096) (8 ∷ 7 ∷ []) ∷ [])
 unfolding pieces_in lib.Count.ones
 one_before = record {
@@ -249,10 +248,10 @@ one_before = record {
   goes_on = record { nothing = refl; device = refl; outcome = refl };
 }
 
-not_all_of_it : (w : Whole) (rest : List Access) → AheadAt (AwaitsPart (at 4096) (place 1 true 1 2)) w tally ready
+not_all_of_it : (w : Whole) (rest : List Access) → AheadAt (AwaitsPart (at 4096) (place 1 3) 1 2) w tally ready
     (with_bytes (9 ∷ [])) (CopyBytes (at 4096) (8 ∷ []) ∷ rest) → ⊥
 not_all_of_it w rest h = let e : Same 1 (length h.bytes) = ap copied h.asks in omega (arith, e, h.long)
 
-another_part : (w : Whole) (rest : List Access) → AheadAt (AwaitsPart (at 4096) (place 1 true 1 2)) w tally ready
+another_part : (w : Whole) (rest : List Access) → AheadAt (AwaitsPart (at 4096) (place 1 3) 1 2) w tally ready
     (with_bytes (9 ∷ [])) (CopyBytes (at 4095) (8 ∷ 7 ∷ []) ∷ rest) → ⊥
 another_part w rest h = let e : Same 4095 4096 = ap copied_at h.asks in omega arith

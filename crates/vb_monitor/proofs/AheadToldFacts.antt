@@ -9,7 +9,7 @@ use Rattle.vb_core.specs.declared.{statistics.Statistic.Statistic, device.Device
 use Rattle.vb_core.specs.declared.device.Denial.TheVariants.{Broken, NotReady, NeedsReset}
 use Rattle.vb_core.specs.{Rings.used_entry, Devices.needing_reset}
 use Rattle.vb_monitor.specs.declared.outcome.Outcome.{Outcome}
-use Rattle.vb_monitor.specs.declared.step.{Discarding.Discarding, Phase.Phase}
+use Rattle.vb_monitor.specs.declared.step.{Discarding.Discarding, Place.Place, Phase.Phase}
 use Rattle.vb_monitor.specs.declared.step.Phase.TheVariants.{AwaitsIndex, TellsPages, TellsFigures, Discards, GivesBack, AwaitsFlags, Ended}
 use Rattle.vb_monitor.specs.declared.giving.UsedSpots.{UsedSpots}
 use Rattle.vb_monitor.specs.Accesses.{Access, ReadWord, Acquire, Release, Full, TellPages, TellFigures, Discard}
@@ -30,8 +30,11 @@ used = after_use Inflate ready
 abbrev last : Whole
 last = over Inflate used (ends (with_given tally) None true false)
 
+abbrev place : Place
+place = record { head = 3; count = 1; piece = 1; done = 0 }
+
 -- the first run alone, however many pages it is said to have
-told : (n : ℕ) → AheadAt (TellsPages 3 (record one_page { pages = n })) last tally ready two_runs
+told : (n : ℕ) → AheadAt (TellsPages place (record one_page { pages = n }) false) last tally ready two_runs
     (TellPages Inflate (page_5 ∷ []) (record one_page { pages = n }) ∷ discard ∷ given)
 unfolding lib.Count.ones
 told n = record {
@@ -40,18 +43,18 @@ told n = record {
   goes_on = record {
     rest = given;
     asks = refl;
-    gives_back = record { rest = Full ∷ flags ∷ []; asks = refl; goes_on = flags_are_read refl refl };
+    goes_on = record { rest = Full ∷ flags ∷ []; asks = refl; goes_on = flags_are_read refl refl };
   };
 }
 
-untold : (w : Whole) (rest : List Access) → AheadAt (TellsPages 3 one_page) w tally ready two_runs (discard ∷ rest) → ⊥
+untold : (w : Whole) (rest : List Access) → AheadAt (TellsPages place one_page false) w tally ready two_runs (discard ∷ rest) → ⊥
 untold w rest h = let e = h.asks in absurd cc
 
 abbrev runs_told : List Access → ℕ
 runs_told (TellPages kind runs named ∷ xs) = length runs
 runs_told xs = 0
 
-both_told : (w : Whole) (rest : List Access) → AheadAt (TellsPages 3 one_page) w tally ready two_runs
+both_told : (w : Whole) (rest : List Access) → AheadAt (TellsPages place one_page false) w tally ready two_runs
     (TellPages w.kind (page_5 ∷ over_the_hole ∷ []) one_page ∷ rest) → ⊥
 both_told w rest h = let e : Same 2 1 = ap runs_told h.asks in omega arith
 
@@ -82,7 +85,7 @@ both_figures w rest h = let e : Same 2 1 = ap figures_told h.asks in omega arith
 -- one
 
 abbrev discarding : ℕ → Discarding
-discarding runs = record { head = 3; runs = runs; run = 0; from = 1 }
+discarding runs = record { place = place; further = false; runs = runs; run = 0; from = 1 }
 
 abbrev over_then_5 : Room
 over_then_5 = room_of [] [] (over_the_hole ∷ page_5 ∷ []) []
@@ -92,7 +95,7 @@ unfolding lib.Count.ones
 both_parts = record {
   rest = given;
   asks = refl;
-  gives_back = record { rest = Full ∷ flags ∷ []; asks = refl; goes_on = flags_are_read refl refl };
+  goes_on = record { rest = Full ∷ flags ∷ []; asks = refl; goes_on = flags_are_read refl refl };
 }
 
 both_runs : AheadAt (Discards cut_20 (discarding 2)) last tally ready over_then_5
@@ -101,7 +104,7 @@ unfolding lib.Count.ones
 both_runs = record {
   rest = given;
   asks = refl;
-  gives_back = record { rest = Full ∷ flags ∷ []; asks = refl; goes_on = flags_are_read refl refl };
+  goes_on = record { rest = Full ∷ flags ∷ []; asks = refl; goes_on = flags_are_read refl refl };
 }
 
 first_part_alone : (w : Whole) (rest : List Access) → AheadAt (Discards cut_20 (discarding 1)) (record w { regions = two }) tally
@@ -221,7 +224,7 @@ done_at_once : AwaitedBy false discards Inflate 0 [] empty [] → ⊥
 done_at_once h = absurd cc
 
 -- of two runs or figures that are in the room the first one is told
-one_run_told : Awaited (TellsPages 3 (record one_page { pages = 2 })) Inflate 0 [] two_runs
+one_run_told : Awaited (TellsPages place (record one_page { pages = 2 }) false) Inflate 0 [] two_runs
     (TellPages Inflate (page_5 ∷ []) (record one_page { pages = 2 }) ∷ [])
 one_run_told = refl
 

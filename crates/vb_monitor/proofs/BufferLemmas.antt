@@ -8,9 +8,6 @@ use Rattle.std.{specs.List.list_any, proofs.Common.{Option, Some, None}}
 use Rattle.vb_core.proofs.PieceLemmas.{any_in}
 use Rattle.vb_chain.specs.declared.pieces.Piece.{Piece}
 use Rattle.vb_request.specs.Request.{total_length}
-use Rattle.vb_monitor.{specs.Pieces.{first_part, second_part, all_parts}, specs.Machine.parts_after}
-use Rattle.vb_monitor.proofs.PartLemmas.{part_here, part_on, part_end, second_here, second_none}
-use Rattle.vb_monitor.proofs.PartLemmas.{after_end}
 pub use Rattle.vb_core.proofs.PieceLemmas.{none_in, length_in}
 
 -- ---- all of them
@@ -37,54 +34,6 @@ pub readable_in : (bs : List ChainPiece) (o : Option ℕ) →
 readable_in bs None e = any_in (λ (p : Piece). p.writable) bs ∙ e
 readable_in bs (Some n) e =
     (any_in (λ (p : Piece). p.writable) bs ∙ e.0, e.1 ∙ sym (total_in bs))
-
--- ---- one buffer of a list
-
-less_in : (bs : List ChainPiece) (n : ℕ) → n < length bs → n < length (pieces_in bs)
-less_in bs n lt = subst (λ (m : ℕ). n < m) (sym (length_in bs)) lt
-
-more_in : (bs : List ChainPiece) (n : ℕ) → length bs ≤ n → length (pieces_in bs) ≤ n
-more_in bs n le = subst (λ (m : ℕ). m ≤ n) (sym (length_in bs)) le
-
-pub here_in : (bs : List ChainPiece) (n : ℕ) (d : ChainPiece) → n < length bs → 0 < (get_or bs n d).length →
-    all_parts (drop n (pieces_in bs)) ≡
-    first_part (piece_in (get_or bs n d)) ∷ parts_after false n (pieces_in bs)
-here_in bs n d lt = subst (λ (p : Piece). 0 < p.len → all_parts (drop n (pieces_in bs)) ≡
-    first_part p ∷ parts_after false n (pieces_in bs)) (get_in bs n d lt)
-    (part_here (pieces_in bs) n (piece_in d) (less_in bs n lt))
-
-pub on_in : (bs : List ChainPiece) (n : ℕ) (d : ChainPiece) → n < length bs → (get_or bs n d).length ≡ 0 →
-    all_parts (drop n (pieces_in bs)) ≡ all_parts (drop (n + 1) (pieces_in bs))
-on_in bs n d lt = subst (λ (p : Piece). p.len ≡ 0 → all_parts (drop n (pieces_in bs)) ≡
-    all_parts (drop (n + 1) (pieces_in bs))) (get_in bs n d lt)
-    (part_on (pieces_in bs) n (piece_in d) (less_in bs n lt))
-
-pub end_in : (bs : List ChainPiece) (n : ℕ) → length bs ≤ n → all_parts (drop n (pieces_in bs)) ≡ []
-end_in bs n le = part_end (pieces_in bs) n (more_in bs n le)
-
--- ---- the second part of a piece
-
-pub second_in : (bs : List ChainPiece) (n : ℕ) (d : ChainPiece) → n < length bs
-    → 0 < (second_part (piece_in (get_or bs n d))).length → parts_after false n (pieces_in bs)
-    ≡ second_part (piece_in (get_or bs n d)) ∷ parts_after true n (pieces_in bs)
-second_in bs n d lt =
-    subst (λ (p : Piece). 0 < (second_part p).length → parts_after false n (pieces_in bs) ≡
-    second_part p ∷ parts_after true n (pieces_in bs)) (get_in bs n d lt)
-    (second_here (pieces_in bs) n (piece_in d) (less_in bs n lt))
-
-pub no_second_in : (bs : List ChainPiece) (n : ℕ) (d : ChainPiece) → n < length bs →
-    (second_part (piece_in (get_or bs n d))).length ≡ 0 →
-    parts_after false n (pieces_in bs) ≡ all_parts (drop (n + 1) (pieces_in bs))
-no_second_in bs n d lt =
-    subst (λ (p : Piece). (second_part p).length ≡ 0 → parts_after false n (pieces_in bs) ≡
-    all_parts (drop (n + 1) (pieces_in bs))) (get_in bs n d lt)
-    (second_none (pieces_in bs) n (piece_in d) (less_in bs n lt))
-
-pub after_in : (b : Bool) (bs : List ChainPiece) (n : ℕ) → length bs ≤ n →
-    parts_after b n (pieces_in bs) ≡ []
-after_in b bs n le = after_end b (pieces_in bs) n (more_in bs n le)
-
-pub ruleset part_steps = (here_in, on_in, end_in)
 
 -- ---- one more
 

@@ -1,5 +1,5 @@
 -- How a notice ends, how a chain is followed, and how its pieces are copied, worked out.
-use Rattle.std.proofs.Common.{◌≡◌, refl, sym, ap, arith, ℕ, Bool, true, false, List, [], ◌∷◌, length, map, Some, None}
+use Rattle.std.proofs.Common.{◌≡◌, refl, sym, ap, arith, ℕ, Bool, true, false, List, [], ◌∷◌, length, map, replicate, Some, None}
 use Rattle.vb_chain.specs.declared.descriptor.Descriptor.{Descriptor}
 use Rattle.vb_chain.specs.declared.pieces.Piece.{Piece}
 use Rattle.vb_chain.specs.declared.fault.ChainFault.TheVariants.{BadNext, TooLong, Indirect, WrongDirection, OutOfRam, BadLength}
@@ -9,7 +9,8 @@ use Rattle.vb_monitor.specs.declared.parts.Part.{Part}
 use Rattle.vb_monitor.specs.declared.outcome.Outcome.{Outcome}
 use Rattle.vb_monitor.specs.Accesses.{Access, ReadWord, CopyBytes, Full}
 use Rattle.vb_monitor.specs.Ends.{Whole, wants_interrupt, Ends, Breaks}
-use Rattle.vb_monitor.specs.Pieces.{parts_of, all_parts, CopiesParts, PartBy, fits_after}
+use Rattle.vb_monitor.specs.{Pieces.{all_parts, PartAt}, Portions.{CopiesParts, is_full}, Regions.spot}
+use Rattle.vb_monitor.specs.declared.outcome.Tally.{Tally}
 use Rattle.vb_core.specs.Pieces.{pieces_in}
 use Rattle.vb_monitor.specs.Giving.{Then}
 use Rattle.vb_monitor.specs.Chains.{descriptor_of, memory_end, longest, table_fault, GoesOn, no_row, Follows, ServesPieces}
@@ -205,23 +206,37 @@ too_many h = let e = h.nothing in absurd cc
 abbrev of_address : ℕ → ℕ → Piece
 of_address addr len = record { addr = addr; len = len; writable = false }
 
+abbrev part_of : ℕ → ℕ → ℕ → Part
+part_of address plus len = record { address = address; plus = plus; length = len }
+
 -- up to the end of a page, and over it by one
-up_to_the_end : parts_of (of_address 4080 16) ≡ record { address = 4080; plus = 0; length = 16 } ∷ []
+up_to_the_end : all_parts (of_address 4080 16 ∷ []) ≡ part_of 4080 0 16 ∷ []
 up_to_the_end = refl
 
-one_over : parts_of (of_address 4080 17) ≡
-    record { address = 4080; plus = 0; length = 16 } ∷ record { address = 4080; plus = 16; length = 1 } ∷ []
+one_over : all_parts (of_address 4080 17 ∷ []) ≡ part_of 4080 0 16 ∷ part_of 4080 16 1 ∷ []
 one_over = refl
 
-begun_at_a_page : parts_of (of_address 4096 4096) ≡ record { address = 4096; plus = 0; length = 4096 } ∷ []
-begun_at_a_page = refl
+-- up to the end of a portion, and over it by one
+a_portion : all_parts (of_address 4096 1024 ∷ []) ≡ part_of 4096 0 1024 ∷ []
+a_portion = refl
 
--- more than a page after it is one part still
-two_pages : parts_of (of_address 4095 8192) ≡
-    record { address = 4095; plus = 0; length = 1 } ∷ record { address = 4095; plus = 1; length = 8191 } ∷ []
-two_pages = refl
+one_more : all_parts (of_address 4096 1025 ∷ []) ≡ part_of 4096 0 1024 ∷ part_of 4096 1024 1 ∷ []
+one_more = refl
 
-no_byte : parts_of (of_address 4095 0) ≡ []
+-- 257 numbers over two pages: a part ends with its page and another one with its portion
+both_ends : all_parts (of_address 4000 1028 ∷ []) ≡ part_of 4000 0 96 ∷ part_of 4000 96 928 ∷ part_of 4000 1024 4 ∷ []
+both_ends = refl
+
+-- a portion goes over pieces, and a number over their border
+over_a_border : all_parts (of_address 0 1022 ∷ of_address 4096 6 ∷ []) ≡
+    part_of 0 0 1022 ∷ part_of 4096 0 2 ∷ part_of 4096 2 4 ∷ []
+over_a_border = refl
+
+-- the next portion begins with the next piece
+with_a_piece : all_parts (of_address 0 1024 ∷ of_address 4096 4 ∷ []) ≡ part_of 0 0 1024 ∷ part_of 4096 0 4 ∷ []
+with_a_piece = refl
+
+no_byte : all_parts (of_address 4095 0 ∷ []) ≡ []
 no_byte = refl
 
 none_of_empty_ones : all_parts (of_address 0 0 ∷ of_address 4095 0 ∷ []) ≡ []
@@ -234,16 +249,16 @@ buffers = refl
 
 -- ---- copies
 
--- a chain has room for 1,024 bytes
-last_that_fits : fits_after (5 ∷ []) (record { address = 0; plus = 0; length = 1023 }) ≡ true
-last_that_fits = refl
+-- a portion has 1,024 bytes
+not_full_yet : is_full (replicate 1023 5) ≡ false
+not_full_yet = refl
 
-one_past_it : fits_after (5 ∷ []) (record { address = 0; plus = 0; length = 1024 }) ≡ false
-one_past_it = refl
+full_then : is_full (replicate 1024 5) ≡ true
+full_then = refl
 
 -- the parts in their order, and their bytes in a row
-abbrev Four : List ℕ → List Access → Type 0
-Four bytes log = (bytes ≡ 9 ∷ 8 ∷ 7 ∷ []) × (log ≡ [])
+abbrev Four : Device → Tally → List ℕ → List Access → Type 0
+Four d t bytes log = (bytes ≡ 9 ∷ 8 ∷ 7 ∷ []) × (log ≡ [])
 
 abbrev over_an_end : List Part
 over_an_end = all_parts (of_address 4095 3 ∷ [])
@@ -280,34 +295,19 @@ in_the_hole = record { nothing = refl; device = refl; outcome = refl }
 abbrev second_part : Part
 second_part = record { address = 4095; plus = 1; length = 2 }
 
-its_bytes : PartBy true (whole ready (ends_so false false)) Four ready tally second_part (9 ∷ [])
-    (CopyBytes (at 4096) (8 ∷ 7 ∷ []) ∷ [])
+abbrev of_it : Whole → List Access → Type 0
+of_it w log = PartAt w (Four ready tally) ready tally second_part (9 ∷ []) (spot two 4096 2) log
+
+its_bytes : of_it (whole ready (ends_so false false)) (CopyBytes (at 4096) (8 ∷ 7 ∷ []) ∷ [])
 its_bytes = record { bytes = 8 ∷ 7 ∷ []; rest = []; asks = refl; long = refl; goes_on = (refl, refl) }
 
-those_of_the_first : PartBy true (whole ready (ends_so false false)) Four ready tally second_part (9 ∷ [])
-    (CopyBytes (at 4095) (8 ∷ 7 ∷ []) ∷ []) → ⊥
+those_of_the_first : of_it (whole ready (ends_so false false)) (CopyBytes (at 4095) (8 ∷ 7 ∷ []) ∷ []) → ⊥
 those_of_the_first h = let e : Same 4095 4096 = ap copied_at h.asks in omega arith
 
-one_byte_more : PartBy true (whole ready (ends_so false false)) Four ready tally second_part (9 ∷ [])
-    (CopyBytes (at 4096) (8 ∷ 7 ∷ 6 ∷ []) ∷ []) → ⊥
+one_byte_more : of_it (whole ready (ends_so false false)) (CopyBytes (at 4096) (8 ∷ 7 ∷ 6 ∷ []) ∷ []) → ⊥
 one_byte_more h =
     let e : Same 3 (length h.bytes) = ap copied_bytes h.asks in
     omega (arith, e, h.long)
-
--- without room nothing is copied, and a rule is broken: the chain is too long, though it is memory
-no_room : PartBy false (whole (record ready { status = 79 })
-    (record { tally = tally; why = Some (Broken BadLength); interrupt = false; more = false })) Four ready tally
-    second_part (9 ∷ []) []
-no_room = record { nothing = refl; device = refl; outcome = refl }
-
-no_memory : PartBy false (whole (record ready { status = 79 })
-    (record { tally = tally; why = Some (Broken OutOfRam); interrupt = false; more = false })) Four ready tally
-    second_part (9 ∷ []) [] → ⊥
-no_memory h = let e = ap (λ (o : Outcome). o.why) h.outcome in absurd cc
-
-copied_without_room : (d : Device) (o : Outcome) (rest : List Access) →
-    PartBy false (whole d o) Four ready tally second_part (9 ∷ []) (CopyBytes (at 4096) (8 ∷ 7 ∷ []) ∷ rest) → ⊥
-copied_without_room d o rest h = let e = h.nothing in absurd cc
 
 -- ---- what is copied of which kind
 

@@ -84,18 +84,27 @@ abbrev of_kind : ℕ → Kind → Tally
 of_kind setting kind = with_named kind (record settings { holds_deflates = setting }) 3 2 tally
 
 named_and_held : map (of_kind 1) (Inflate ∷ Deflate ∷ Statistics ∷ Report ∷ []) ≡
-    record tally { pages = 1 } ∷ record tally { pages = 1; held = chain_of 3 2 }
-    ∷ record tally { pages = 1; held = chain_of 3 2 } ∷ record tally { pages = 1 } ∷ []
+    record tally { pages = 1; told = 2 } ∷ record tally { pages = 1; told = 2; held = chain_of 3 2 }
+    ∷ record tally { pages = 1; told = 2; held = chain_of 3 2 } ∷ record tally { pages = 1; told = 2 } ∷ []
 named_and_held = refl
 
-named_alone : of_kind 0 Deflate ≡ record tally { pages = 1 }
+named_alone : of_kind 0 Deflate ≡ record tally { pages = 1; told = 2 }
 named_alone = refl
 
-one_spent : spent 1 tally ≡ record tally { pages = 2 }
+-- with the pages of its portions that were told before
+with_all_pages : with_named Deflate (record settings { holds_deflates = 1 }) 3 2 (record tally { told = 256 }) ≡
+    record tally { pages = 1; told = 258; held = chain_of 3 258 }
+with_all_pages = refl
+
+one_spent : spent 1 tally ≡ record tally { pages = 2; told = 1 }
 one_spent = refl
 
-no_less_than_none : spent 300 tally ≡ record tally { pages = 0 }
+no_less_than_none : spent 300 tally ≡ record tally { pages = 0; told = 300 }
 no_less_than_none = refl
+
+-- 32 bits count them
+no_more_than_all : (spent 3 (record tally { told = 0xfffffffe })).told ≡ 0xffffffff
+no_more_than_all = refl
 
 -- ---- what is discarded
 
@@ -138,7 +147,7 @@ told_discarded_given = record {
   goes_on = record {
     rest = id ∷ used_length ∷ Release ∷ used_index ∷ [];
     asks = refl;
-    gives_back = gives_back;
+    goes_on = gives_back;
   };
 }
 
@@ -189,7 +198,7 @@ id_alone h = let e = h.asks in absurd cc
 
 -- discards after giving back, one left out, two exchanged, one of another page
 abbrev Cuts : List Cut → List Access → Type 0
-Cuts cuts log = DiscardsThen whole last ready tally 3 cuts log
+Cuts cuts log = DiscardsThen (GivesBack whole last ready tally 3) cuts log
 
 abbrev cut_at : List Access → ℕ
 cut_at (Discard cut ∷ xs) = cut.offset
@@ -248,7 +257,7 @@ refused_and_told h = let e = h.nothing in absurd cc
 abbrev two_skipped : Named
 two_skipped = record { runs = 1; pages = 2; skipped = 2 }
 
-first_run : AfterName whole (λ d t log. (t ≡ with_given (record tally { pages = 1 })) × (log ≡ [])) ready tally 3 (page_5 ∷ over_the_hole ∷ [])
+first_run : AfterName whole (λ d t log. (t ≡ with_given (record tally { pages = 1; told = 2 })) × (log ≡ [])) ready tally 3 (page_5 ∷ over_the_hole ∷ [])
     (Ok two_skipped) (TellPages Inflate (page_5 ∷ []) two_skipped ∷ discard ∷ id ∷ used_length ∷ Release ∷ used_index ∷ [])
 unfolding lib.Count.ones
 first_run = record {
@@ -257,6 +266,6 @@ first_run = record {
   goes_on = record {
     rest = id ∷ used_length ∷ Release ∷ used_index ∷ [];
     asks = refl;
-    gives_back = record { rest = []; asks = refl; goes_on = (refl, refl) };
+    goes_on = record { rest = []; asks = refl; goes_on = (refl, refl) };
   };
 }

@@ -1,18 +1,17 @@
 -- Parts of a ring that lie in a hole of memory, worked out: what is there isn't read or written,
 -- and the guest broke a rule.
 use Rattle.std.proofs.Common.{◌≡◌, refl, ℕ, ap, arith, true, false, List, [], ◌∷◌, None, Some, Bool}
-use Rattle.std.specs.Prelude.{replicate}
 use Rattle.vb_chain.specs.declared.fault.ChainFault.{ChainFault}
 use Rattle.vb_chain.specs.declared.fault.ChainFault.TheVariants.{BadHead, BadNext, BadLength, TooLong, OutOfRam}
 use Rattle.vb_chain.specs.declared.pieces.Piece.{Piece}
-use Rattle.vb_core.specs.declared.kinds.Kind.TheVariants.{Inflate}
+use Rattle.vb_core.specs.declared.kinds.Kind.TheVariants.{Inflate, Statistics}
 use Rattle.vb_core.specs.declared.ring.Virtqueue.{Virtqueue}
 use Rattle.vb_core.specs.declared.device.{Device.Device, Denial.TheVariants.{Broken, BadArgument, NotReady}}
 use Rattle.vb_core.specs.{Rings.used_entry, Devices.needing_reset}
 use Rattle.vb_monitor.specs.declared.parts.Part.{Part}
 use Rattle.vb_monitor.specs.declared.outcome.{Tally.Tally, Outcome.Outcome}
 use Rattle.vb_monitor.specs.Accesses.{Access, ReadWord, CopyBytes, Acquire, Full, WriteNumber}
-use Rattle.vb_monitor.specs.{Ends.{Whole, Ends, FlagsAt}, Pieces.{PartAt, PartBy, CopiesParts}}
+use Rattle.vb_monitor.specs.{Ends.{Whole, Ends, FlagsAt}, Pieces.PartAt, Portions.{CopiesParts, CopiesFurther, ServesPortion}}
 use Rattle.vb_monitor.specs.Giving.{Then, with_given, after_use, UsedAt, GivesBack, GivesBackBy}
 use Rattle.vb_monitor.specs.Chains.{TableRow, RowAt, TakesRow}
 use Rattle.vb_monitor.specs.Notices.{LooksBy, EntryAt, TakesChain, AfterEntry}
@@ -176,12 +175,16 @@ row_of_two = record { nothing = refl; device = refl; outcome = refl }
 abbrev a_part : Part
 a_part = record { address = 0x400; plus = 0; length = 4 }
 
--- a part that goes over the end of a region, and one that goes past a request's 1,024 bytes
-over_the_end : PartBy true (broken ready OutOfRam) (λ bytes log. ⊥) ready tally (record a_part { address = 0x14ffe }) [] []
+-- a part that goes over the end of a region
+over_the_end : CopiesParts (broken ready OutOfRam) (λ d t bytes log. ⊥) ready tally (record a_part { address = 0x14ffe } ∷ []) [] []
 over_the_end = record { nothing = refl; device = refl; outcome = refl }
 
-past_the_longest : CopiesParts (broken ready BadLength) (λ bytes log. ⊥) ready tally (a_part ∷ []) (replicate 1021 0) []
-past_the_longest = record { nothing = refl; device = refl; outcome = refl }
+-- a second portion of what has none, and none where no part is left
+of_statistics : ServesPortion Statistics (broken ready BadLength) (λ d t log. ⊥) ready tally [] []
+of_statistics = record { nothing = refl; device = refl; outcome = refl }
+
+nothing_further : CopiesFurther (broken ready BadLength) (λ d t bytes log. ⊥) ready tally [] []
+nothing_further = record { nothing = refl; device = refl; outcome = refl }
 
 part_all_the_same : (w : Whole) (rest : List Access) →
     PartAt w (λ bytes log. Unit {0}) ready tally a_part [] None (part ∷ rest) → ⊥

@@ -58,7 +58,7 @@ keeps = record tally { keeps = true }
 
 -- whatever is counted
 carried : with_given (spent 2 (with_chains 5 keeps)) ≡
-    record keeps { chains = 5; pages = 1; given = true }
+    record keeps { chains = 5; pages = 1; told = 2; given = true }
 carried = refl
 
 -- ---- the end of a chain
@@ -93,7 +93,7 @@ inflated = record {
   goes_on = record {
     rest = back;
     asks = refl;
-    gives_back = record { rest = []; asks = refl; goes_on = (refl, (refl, refl)) };
+    goes_on = record { rest = []; asks = refl; goes_on = (refl, (refl, refl)) };
   };
 }
 
@@ -105,7 +105,7 @@ reported = record {
   goes_on = record {
     rest = back;
     asks = refl;
-    gives_back = record { rest = []; asks = refl; goes_on = (refl, (refl, refl)) };
+    goes_on = record { rest = []; asks = refl; goes_on = (refl, (refl, refl)) };
   };
 }
 
@@ -117,7 +117,7 @@ deflated = record {
   goes_on = record {
     rest = back;
     asks = refl;
-    gives_back = record { rest = []; asks = refl; goes_on = (refl, (refl, refl)) };
+    goes_on = record { rest = []; asks = refl; goes_on = (refl, (refl, refl)) };
   };
 }
 
@@ -165,7 +165,7 @@ stays = record {
             goes_on = record {
               rest = given;
               asks = refl;
-              gives_back = record { rest = Full ∷ flags ∷ []; asks = refl; goes_on = flags_are_read refl refl };
+              goes_on = record { rest = Full ∷ flags ∷ []; asks = refl; goes_on = flags_are_read refl refl };
             };
           };
         };

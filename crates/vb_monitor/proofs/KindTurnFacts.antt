@@ -66,7 +66,7 @@ abbrev told : Access
 told = TellPages Report (page_5 ∷ []) one_page
 
 report_told : TellsInTurn two Report false (only Report) (of_page_5 ∷ taken) told
-report_told = (refl, record { free = 5 ∷ []; sound = refl; are = refl; pages = refl; skipped = refl })
+report_told = (refl, record { free = 5 ∷ []; sound = refl; are = refl; pages = refl; skipped = refl }, refl)
 
 report_given_back : WritesUsedAlone two Report (only Report) (of_page_5 ∷ taken) id
 report_given_back = (refl, refl)

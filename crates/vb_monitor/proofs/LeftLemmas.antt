@@ -10,7 +10,7 @@ use Rattle.vb_monitor.specs.declared.step.Phase.TheVariants.{GivesBack, AwaitsFl
 use Rattle.vb_monitor.specs.declared.step.Phase.TheVariants.{AwaitsDescriptor, AwaitsPart}
 use Rattle.vb_monitor.specs.declared.step.Phase.TheVariants.{AwaitsIndex, AwaitsEntry}
 use Rattle.vb_monitor.{specs.Machine.{is_ended, outcome_at}, specs.declared.regions.Region.Region}
-use Rattle.vb_monitor.specs.Left.{parts_left, of_chain, of_chains}
+use Rattle.vb_monitor.specs.Left.{parts_left, once_named, bytes_left, copies_left, of_chain, of_chains}
 
 times_more : (a b l : ℕ) → a + 1 ≤ b → a * l + l ≤ b * l
 times_more a b l h = grind (arith)
@@ -69,9 +69,26 @@ not_over (Ended why interrupt more) t e = absurd (grind arith)
 not_over (AwaitsIndex at) t e = refl
 not_over (AwaitsEntry at) t e = refl
 not_over (AwaitsDescriptor at walk) t e = refl
-not_over (AwaitsPart at place) t e = refl
-not_over (TellsPages head named) t e = refl
+not_over (AwaitsPart at place into len) t e = refl
+not_over (TellsPages place named further) t e = refl
 not_over (TellsFigures head count) t e = refl
 not_over (Discards cut x) t e = refl
 not_over (GivesBack spots entry) t e = refl
 not_over (AwaitsFlags at why more) t e = refl
+
+-- ---- copies
+
+pub copies_some : (rs : List Region) (piece done : ℕ) → once_named rs + 1 ≤ copies_left rs piece done
+unfolding copies_left
+copies_some rs piece done =
+    let more = times_more 0 (bytes_left piece done + 1) (once_named rs + 1) (omega arith) in
+    grind (arith, more)
+
+pub copies_fewer : (rs : List Region) (piece done after_piece after_done : ℕ) →
+    bytes_left after_piece after_done < bytes_left piece done →
+    once_named rs + 1 + copies_left rs after_piece after_done ≤ copies_left rs piece done
+unfolding copies_left
+copies_fewer rs piece done after_piece after_done lt =
+    let more = times_more (bytes_left after_piece after_done + 1) (bytes_left piece done + 1)
+    (once_named rs + 1) (omega (arith, lt)) in
+    grind (arith, more)

@@ -1,6 +1,8 @@
 pub mod RegionLemmas
 pub mod ProgressLemmas
 pub mod PartLemmas
+pub mod CopyLemmas
+pub mod PartCosts
 pub mod BufferLemmas
 pub mod NextLemmas
 pub mod StepLemmas
@@ -25,6 +27,7 @@ mod StartFacts
 pub mod TurnEnds
 pub mod TurnLemmas
 pub mod NamedLemmas
+pub mod TurnNames
 pub mod TurnRows
 pub mod TurnWalks
 pub mod TurnLaws
@@ -50,6 +53,7 @@ mod TableRowFacts
 mod LookFacts
 mod WholeFacts
 mod NamedFacts
+mod PortionFacts
 mod TwoFacts
 mod StatisticsFacts
 pub mod LargeLemmas
@@ -64,6 +68,7 @@ pub mod OpenLemmas
 pub mod WithinLemmas
 pub mod StillWalk
 pub mod StillParts
+pub mod StillPortions
 pub mod StillFound
 pub mod StillAnswers
 pub mod StillLaws

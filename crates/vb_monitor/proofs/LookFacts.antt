@@ -189,10 +189,10 @@ goes_on_unpaid : (d : Device) (o : Outcome) (rest : List Access) →
     TakesNext 0 (whole d o) ready tally (Acquire ∷ rest) → ⊥
 goes_on_unpaid d o rest h = let e = h.nothing in absurd cc
 
-one_chain_fewer : with_chains 4 tally ≡ record tally { chains = 4 }
+one_chain_fewer : with_chains 4 (record tally { told = 9 }) ≡ record tally { chains = 4 }
 one_chain_fewer = refl
 
-at_first : fresh (record { chains = 8; pages = 3; keeps = false }) ≡ tally
+at_first : fresh (record { chains = 8; pages = 3; keeps = false; longest = 256 }) ≡ tally
 at_first = refl
 
 remembered : with_published 4 tally ≡ record tally { published = 4 }

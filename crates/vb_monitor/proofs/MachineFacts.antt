@@ -16,9 +16,10 @@ use Rattle.vb_monitor.specs.declared.step.Phase.{Phase}
 use Rattle.vb_monitor.specs.declared.step.Phase.TheVariants.{AwaitsIndex, AwaitsEntry, AwaitsDescriptor, AwaitsPart}
 use Rattle.vb_monitor.specs.declared.step.Phase.TheVariants.{TellsPages, TellsFigures, Discards, GivesBack, AwaitsFlags, Ended}
 use Rattle.vb_monitor.specs.Accesses.{Access, Steps, Makes, ReadWord, CopyBytes, Acquire, Release, Full, TellPages, TellFigures}
-use Rattle.vb_monitor.specs.Machine.{parts_after, cuts_after, is_ended, stage, waits, outcome_at, Fits, Does, GoesOn}
+use Rattle.vb_monitor.specs.Machine.{cuts_after, is_ended, stage, waits, outcome_at, Fits, Does, GoesOn}
 use Rattle.vb_monitor.specs.{declared.cuts.NextCut.NextCut, Orders.cuts_left}
-use Rattle.vb_monitor.specs.Left.{parts_left, of_chains, left_of, left}
+use Rattle.vb_monitor.specs.Pieces.{parts_on}
+use Rattle.vb_monitor.specs.Left.{copies_left, parts_left, of_chains, left_of, left}
 use Rattle.vb_monitor.proofs.Samples.{Same, two, at, tally, ring, page_5, one_page, over_the_hole, cut_5, cut_20, cut_22, last_descriptor, number, index, entry, discard, id, used_length, used_index, flags}
 
 -- ---- the phases
@@ -27,21 +28,21 @@ abbrev walk : Walk
 walk = record { head = 3; count = 0; writing = false; first = 3; further = 0 }
 
 abbrev place : Place
-place = record { head = 3; count = 1; piece = 0; is_second = false; into = 0; length = 4 }
+place = record { head = 3; count = 1; piece = 0; done = 4 }
 
 abbrev named : Named
 named = record { runs = 1; pages = 1; skipped = 0 }
 
 abbrev discarding : Discarding
-discarding = record { head = 3; runs = 1; run = 0; from = 1 }
+discarding = record { place = place; further = false; runs = 1; run = 0; from = 1 }
 
 abbrev spots : UsedSpots
 spots = record { id = at 0x204; length = at 0x208; index = at 0x202 }
 
 abbrev phases : List Phase
 phases =
-    AwaitsIndex (at 0x102) ∷ AwaitsEntry (at 0x104) ∷ AwaitsDescriptor (at 0x30) walk ∷ AwaitsPart (at 0x400) place
-    ∷ TellsPages 3 named ∷ TellsFigures 3 1 ∷ Discards cut_5 discarding ∷ GivesBack spots (used_entry ring 3)
+    AwaitsIndex (at 0x102) ∷ AwaitsEntry (at 0x104) ∷ AwaitsDescriptor (at 0x30) walk ∷ AwaitsPart (at 0x400) place 0 4
+    ∷ TellsPages place named false ∷ TellsFigures 3 1 ∷ Discards cut_5 discarding ∷ GivesBack spots (used_entry ring 3)
     ∷ AwaitsFlags (at 0x100) None false ∷ Ended None true false ∷ []
 
 -- the last one alone has ended, and it alone has an outcome
@@ -68,17 +69,25 @@ as_it_ended : outcome_at (Ended (Some NotReady) false true) (record tally { page
     Some (record { tally = record tally { pages = 2 }; why = Some NotReady; interrupt = false; more = true })
 as_it_ended = refl
 
--- what is left of a chain, over two regions: 515 once its pages are named, 1028 once it is whole,
--- and 1286 before its entry is read
+-- what is left of a chain, over two regions: 515 once its pages are named, and 516 times as much as
+-- bytes are left and one before that
 left_of_each : map (left_of two) phases ≡
-    2 ∷ 1286 ∷ 1285 ∷ 1028 ∷ 515 ∷ 2 ∷ 514 ∷ 2 ∷ 1 ∷ 0 ∷ []
-unfolding parts_left
+    2 ∷ 567347999933705 ∷ 567347999933704 ∷ 567347999931384 ∷ 515 ∷ 2 ∷ 514 ∷ 2 ∷ 1 ∷ 0 ∷ []
+unfolding parts_left copies_left
 left_of_each = refl
 
-one_piece_later : left_of two (AwaitsPart (at 0x400) (record place { piece = 1; is_second = true })) ≡ 1025
+one_piece_later : left_of two (AwaitsPart (at 0x400) (record place { piece = 1 }) 0 4) ≡ 565131796806648
+unfolding copies_left
 one_piece_later = refl
 
-one_descriptor_later : left_of two (AwaitsDescriptor (at 0x30) (record walk { count = 1 })) ≡ 1284
+-- of a portion that is told and discarded what is copied then counts too
+of_a_portion : map (left_of two) (TellsPages place named true ∷ Discards cut_5 (record discarding { further = true }) ∷ []) ≡
+    567347999931383 ∷ 567347999931382 ∷ []
+unfolding parts_left copies_left
+of_a_portion = refl
+
+one_descriptor_later : left_of two (AwaitsDescriptor (at 0x30) (record walk { count = 1 })) ≡ 567347999933703
+unfolding copies_left
 one_descriptor_later = refl
 
 -- of the last of 256 runs no part is left after both regions, and of the one before it two
@@ -91,27 +100,27 @@ unfolding parts_left
 of_the_run_before = refl
 
 -- each chain of the budget counts
-left_of_all : left two (record { tally = tally; phase = AwaitsIndex (at 0x102) }) ≡ 8 * 1286 + 2
-unfolding of_chains
+left_of_all : left two (record { tally = tally; phase = AwaitsIndex (at 0x102) }) ≡ 8 * 567347999933705 + 2
+unfolding of_chains copies_left
 left_of_all = refl
 
 -- ---- what fits
 
 -- a chain has room for 1024 bytes
-to_the_end : Fits (AwaitsPart (at 0x400) (record place { into = 1020 }))
+to_the_end : Fits (AwaitsPart (at 0x400) place 1020 4)
 to_the_end = omega arith
 
-past_the_end : Fits (AwaitsPart (at 0x400) (record place { into = 1021 })) → ⊥
+past_the_end : Fits (AwaitsPart (at 0x400) place 1021 4) → ⊥
 past_the_end h = let e : 1025 ≤ 1024 = h in omega (arith, e)
 
 -- a row has as much, though it is in front; of runs there are 256 at most, and of figures 102
 rows_fit : Fits (AwaitsDescriptor (at 0x30) (record walk { further = 63 }))
 rows_fit = omega arith
 
-as_many_runs : Fits (TellsPages 3 (record named { runs = 256; pages = 300; skipped = 300 }))
+as_many_runs : Fits (TellsPages place (record named { runs = 256; pages = 300; skipped = 300 }) true)
 as_many_runs = omega arith
 
-one_run_more : Fits (TellsPages 3 (record named { runs = 257; pages = 1 })) → ⊥
+one_run_more : Fits (TellsPages place (record named { runs = 257; pages = 1 }) false) → ⊥
 one_run_more h = let e : 257 ≤ 256 = h in omega (arith, e)
 
 as_many_figures : Fits (TellsFigures 3 102)
@@ -132,17 +141,22 @@ second = record { address = 4090; plus = 6; length = 4 }
 abbrev other : Part
 other = record { address = 16; plus = 0; length = 8 }
 
-after_the_first : parts_after false 0 pieces ≡ second ∷ other ∷ []
+after_the_first : parts_on 6 6 pieces ≡ second ∷ other ∷ []
 after_the_first = refl
 
-after_the_second : parts_after true 0 pieces ≡ other ∷ []
+after_the_second : parts_on 10 10 pieces ≡ other ∷ []
 after_the_second = refl
 
--- the other one has no second part
-after_the_last : parts_after false 1 pieces ≡ []
-after_the_last = refl
+-- bytes past a piece's end are none of its
+past_its_end : parts_on 10 11 pieces ≡ other ∷ []
+past_its_end = refl
 
-after_no_piece : parts_after false 2 pieces ≡ []
+-- a part ends with its portion
+up_to_a_portion : parts_on 1022 6 pieces ≡ record second { length = 2 } ∷ record { address = 4090; plus = 8; length = 2 }
+    ∷ other ∷ []
+up_to_a_portion = refl
+
+after_no_piece : parts_on 18 0 [] ≡ []
 after_no_piece = refl
 
 -- ---- the discards that are left
@@ -196,7 +210,7 @@ reads_the_flags : Does (AwaitsFlags (at 0x100) None false) Inflate 0 [] (room []
 reads_the_flags = refl
 
 -- the first of two runs alone is told, of the notice's kind
-tells_one : Does (TellsPages 3 named) Deflate 0 [] (room []) (TellPages Deflate (page_5 ∷ []) one_page ∷ [])
+tells_one : Does (TellsPages place named false) Deflate 0 [] (room []) (TellPages Deflate (page_5 ∷ []) one_page ∷ [])
 tells_one = refl
 
 tells_a_figure : Does (TellsFigures 3 1) Inflate 0 [] (room []) (TellFigures (record { tag = 1; value = 2 } ∷ []) ∷ [])
@@ -213,7 +227,7 @@ does_nothing : Does (Ended None true false) Inflate 0 [] (room []) []
 does_nothing = refl
 
 -- bytes are copied to their place, and what is in front of it stays
-copies : Does (AwaitsPart (at 0x400) (record place { into = 2 })) Inflate 0 (8 ∷ 9 ∷ 7 ∷ 7 ∷ 7 ∷ 7 ∷ 6 ∷ [])
+copies : Does (AwaitsPart (at 0x400) place 2 4) Inflate 0 (8 ∷ 9 ∷ 7 ∷ 7 ∷ 7 ∷ 7 ∷ 6 ∷ [])
     (room (8 ∷ 9 ∷ 5 ∷ 0 ∷ 0 ∷ 0 ∷ 6 ∷ [])) (CopyBytes (at 0x400) number ∷ [])
 copies = record { bytes = number; asks = refl; long = refl; joined = refl }
 
@@ -252,14 +266,14 @@ index_before_its_element : Does (GivesBack spots (used_entry ring 3)) Inflate 0 
     (used_index ∷ id ∷ used_length ∷ Release ∷ []) → ⊥
 index_before_its_element h = absurd cc
 
-told_of_another_kind : Does (TellsPages 3 named) Inflate 0 [] (room []) (TellPages Deflate (page_5 ∷ []) one_page ∷ []) → ⊥
+told_of_another_kind : Does (TellsPages place named false) Inflate 0 [] (room []) (TellPages Deflate (page_5 ∷ []) one_page ∷ []) → ⊥
 told_of_another_kind h = absurd cc
 
 abbrev counted : List Access → ℕ
 counted (TellPages kind rs n ∷ xs) = n.pages
 counted xs = 0
 
-more_counted : Does (TellsPages 3 named) Inflate 0 [] (room [])
+more_counted : Does (TellsPages place named false) Inflate 0 [] (room [])
     (TellPages Inflate (page_5 ∷ []) (record one_page { pages = 2 }) ∷ []) → ⊥
 more_counted h = let e : Same 2 1 = ap counted h in omega arith
 
@@ -267,7 +281,7 @@ abbrev told : List Access → ℕ
 told (TellPages kind rs n ∷ xs) = length rs
 told xs = 0
 
-both_told : Does (TellsPages 3 named) Inflate 0 [] (room []) (TellPages Inflate (page_5 ∷ over_the_hole ∷ []) one_page ∷ []) → ⊥
+both_told : Does (TellsPages place named false) Inflate 0 [] (room []) (TellPages Inflate (page_5 ∷ over_the_hole ∷ []) one_page ∷ []) → ⊥
 both_told h = let e : Same 2 1 = ap told h in omega arith
 
 something_once_ended : Does (Ended None true false) Inflate 0 [] (room []) (discard ∷ []) → ⊥
@@ -282,19 +296,19 @@ abbrev head_of : List ℕ → ℕ
 head_of [] = 0
 head_of (n ∷ ns) = n
 
-too_few : Does (AwaitsPart (at 0x400) place) Inflate 0 [] (room (5 ∷ 0 ∷ [])) (CopyBytes (at 0x400) (5 ∷ 0 ∷ []) ∷ []) → ⊥
+too_few : Does (AwaitsPart (at 0x400) place 0 4) Inflate 0 [] (room (5 ∷ 0 ∷ [])) (CopyBytes (at 0x400) (5 ∷ 0 ∷ []) ∷ []) → ⊥
 too_few h =
     let e : Same 2 (length h.bytes) = ap (λ (xs : List Access). length (copied xs)) h.asks in
     omega (arith, e, h.long)
 
-not_in_the_room : Does (AwaitsPart (at 0x400) place) Inflate 0 [] (room (6 ∷ 0 ∷ 0 ∷ 0 ∷ []))
+not_in_the_room : Does (AwaitsPart (at 0x400) place 0 4) Inflate 0 [] (room (6 ∷ 0 ∷ 0 ∷ 0 ∷ []))
     (CopyBytes (at 0x400) number ∷ []) → ⊥
 not_in_the_room h =
     let e : Same 5 (head_of h.bytes) = ap (λ (xs : List Access). head_of (copied xs)) h.asks in
     let stands : Same 6 (head_of h.bytes) = ap head_of h.joined in
     omega (arith, e, stands)
 
-on_others : Does (AwaitsPart (at 0x400) (record place { into = 1; length = 1 })) Inflate 0 (8 ∷ []) (room (9 ∷ 5 ∷ []))
+on_others : Does (AwaitsPart (at 0x400) place 1 1) Inflate 0 (8 ∷ []) (room (9 ∷ 5 ∷ []))
     (CopyBytes (at 0x400) (5 ∷ []) ∷ []) → ⊥
 on_others h = let e : Same 9 8 = ap head_of h.joined in omega arith
 

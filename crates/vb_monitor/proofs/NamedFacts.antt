@@ -160,7 +160,7 @@ asked_back o = record {
     goes_on = record {
       rest = back;
       asks = refl;
-      gives_back = record { rest = []; asks = refl; goes_on = (refl, refl, refl) };
+      goes_on = record { rest = []; asks = refl; goes_on = (refl, refl, refl) };
     };
   };
 }
@@ -215,7 +215,7 @@ both_told o = record {
       goes_on = record {
         rest = back;
         asks = refl;
-        gives_back = record { rest = []; asks = refl; goes_on = tt };
+        goes_on = record { rest = []; asks = refl; goes_on = tt };
       };
     };
   };

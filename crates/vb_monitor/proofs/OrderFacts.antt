@@ -26,6 +26,7 @@ orders = record {
   figures = 1;
   cuts = 2;
   kept = 0;
+  waits = 0;
   used = record {
     spots = record { id = spot 8; length = spot 12; index = spot 2 };
     id = 5;
@@ -80,7 +81,13 @@ not_the_other_way e = grind arith
 -- ---- what a notice waits for
 
 abbrev discards : Phase
-discards = Discards (cut 4096) (record { head = 0; runs = 1; run = 0; from = 1 })
+discards = Discards (cut 4096) (record {
+  place = record { head = 0; count = 1; piece = 1; done = 0 };
+  further = false;
+  runs = 1;
+  run = 0;
+  from = 1;
+})
 
 abbrev room : Room
 room = record { pieces = []; bytes = []; runs = runs; figures = [] }

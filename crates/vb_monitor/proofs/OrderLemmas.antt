@@ -10,17 +10,17 @@ use Rattle.vb_monitor.specs.declared.step.Phase.TheVariants.{AwaitsIndex, Awaits
 use Rattle.vb_monitor.specs.declared.step.Phase.TheVariants.{AwaitsDescriptor, AwaitsPart}
 use Rattle.vb_monitor.specs.declared.step.Phase.TheVariants.{TellsPages, TellsFigures, Discards}
 use Rattle.vb_monitor.specs.declared.step.Phase.TheVariants.{GivesBack, AwaitsFlags, Ended}
-use Rattle.vb_monitor.specs.Giving.{Then, DiscardsThen, GivesBack as GivesChainBack}
+use Rattle.vb_monitor.specs.Giving.{DiscardsThen}
 
 pub stage_waits : (p : Phase) → stage p ≡ 3 → waits p ≡ true
 stage_waits (AwaitsIndex at) e = refl
 stage_waits (AwaitsEntry at) e = refl
 stage_waits (AwaitsDescriptor at walk) e = refl
-stage_waits (AwaitsPart at place) e = refl
+stage_waits (AwaitsPart at place into len) e = refl
 stage_waits (AwaitsFlags at why more) e = refl
 stage_waits (Ended why interrupt more) e = refl
 stage_waits (Discards cut x) e = refl
-stage_waits (TellsPages head named) e = absurd (grind arith)
+stage_waits (TellsPages place named further) e = absurd (grind arith)
 stage_waits (TellsFigures head count) e = absurd (grind arith)
 stage_waits (GivesBack spots entry) e = absurd (grind arith)
 
@@ -44,24 +44,24 @@ asked all first left log rest e f = ap (λ (l : List Access). map Discard first 
     ∙ ap (λ (l : List Cut). map Discard l ++ rest) (sym e)))
 
 pub discards_all : (regions : List Region) (runs : List Run) (o : Option NextCut)
-    (all first : List Cut) (w : Whole) (next : Then) (d : Device) (t : Tally) (head : ℕ)
-    (log : List Access) → all ≡ first ++ cuts_left regions runs o → o ≡ None →
-    GivesChainBack w next d t head log → DiscardsThen w next d t head all (map Discard first ++ log)
-discards_all regions runs o all first w next d t head log e f h = record {
+    (all first : List Cut) (on : List Access → Type 0) (log : List Access) →
+    all ≡ first ++ cuts_left regions runs o → o ≡ None → on log →
+    DiscardsThen on all (map Discard first ++ log)
+discards_all regions runs o all first on log e f h = record {
   rest = log;
   asks = asked all first [] log log
       (e ∙ ap (λ (x : Option NextCut). first ++ cuts_left regions runs x) f) refl;
-  gives_back = h;
+  goes_on = h;
 }
 
 pub discards_some : (regions : List Region) (runs : List Run) (o : Option NextCut) (x : NextCut)
-    (all first : List Cut) (w : Whole) (next : Then) (d : Device) (t : Tally) (head : ℕ)
-    (log : List Access) → all ≡ first ++ cuts_left regions runs o → o ≡ Some x →
-    DiscardsThen w next d t head (cuts_left regions runs (Some x)) log →
-    DiscardsThen w next d t head all (map Discard first ++ log)
-discards_some regions runs o x all first w next d t head log e f h = record {
+    (all first : List Cut) (on : List Access → Type 0) (log : List Access) →
+    all ≡ first ++ cuts_left regions runs o → o ≡ Some x →
+    DiscardsThen on (cuts_left regions runs (Some x)) log →
+    DiscardsThen on all (map Discard first ++ log)
+discards_some regions runs o x all first on log e f h = record {
   rest = h.rest;
   asks = asked all first (cuts_left regions runs (Some x)) log h.rest
       (e ∙ ap (λ (y : Option NextCut). first ++ cuts_left regions runs y) f) h.asks;
-  gives_back = h.gives_back;
+  goes_on = h.goes_on;
 }

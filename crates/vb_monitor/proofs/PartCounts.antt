@@ -1,32 +1,10 @@
--- How many parts the pieces of a chain have, and the runs of its pages.
+-- How many parts the runs of a chain's pages have.
 use Rattle.std.proofs.Common.{◌≡◌, arith, ℕ, suc, ◌+◌, ◌*◌, ◌≤◌, Bool, true, false, List, [], ◌∷◌}
-use Rattle.std.{proofs.Common.{◌++◌, length}, specs.Prelude.{◌==◌, if◌then◌else◌}}
-use Rattle.vb_chain.specs.declared.pieces.Piece.{Piece}
+use Rattle.std.{proofs.Common.{◌++◌, length}, specs.Prelude.if◌then◌else◌}
 use Rattle.vb_core.specs.declared.runs.Run.{Run}
-use Rattle.vb_monitor.specs.Pieces.{first_part, second_part, unless_empty, parts_of, all_parts}
 use Rattle.vb_monitor.specs.Regions.{meets, cut_of, cuts_from, cuts_of}
 use Rattle.vb_monitor.specs.declared.cuts.Cut.{Cut}
-use Rattle.vb_monitor.{specs.declared.parts.Part.Part, specs.declared.regions.Region.Region}
-
-one_at_most : (part : Part) (empty : Bool) → length (if empty then [] else part ∷ []) ≤ 1
-one_at_most part true = omega arith
-one_at_most part false = omega arith
-
-longer : (xs ys : List Part) → length (xs ++ ys) ≡ length xs + length ys
-longer [] ys = omega arith
-longer (x ∷ xs) ys = let both = longer xs ys in omega (arith, both)
-
-pub two_at_most : (ps : List Piece) → length (all_parts ps) ≤ 2 * length ps
-two_at_most [] = omega arith
-two_at_most (p ∷ ps) =
-    let first = one_at_most (first_part p) ((first_part p).length == 0) in
-    let second = one_at_most (second_part p) ((second_part p).length == 0) in
-    let both = longer (unless_empty (first_part p)) (unless_empty (second_part p)) in
-    let all = longer (parts_of p) (all_parts ps) in
-    let rest = two_at_most ps in
-    omega (arith, first, second, both, all, rest)
-
--- ---- discards
+use Rattle.vb_monitor.{specs.declared.regions.Region.Region}
 
 longer_cuts : (xs ys : List Cut) → length (xs ++ ys) ≡ length xs + length ys
 longer_cuts [] ys = omega arith

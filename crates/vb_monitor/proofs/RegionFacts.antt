@@ -2,7 +2,7 @@
 use Rattle.std.proofs.Common.{◌≡◌, refl, true, false, List, [], ◌∷◌, Some, None}
 use Rattle.vb_core.specs.declared.kinds.Kind.TheVariants.{Inflate, Deflate, Report}
 use Rattle.vb_monitor.specs.{declared.regions.Region.Region, Regions.{is_region, spot, cuts_of}}
-use Rattle.vb_monitor.specs.{Giving.cuts_for, Pieces.{parts_of, all_parts}}
+use Rattle.vb_monitor.specs.{Giving.cuts_for, Pieces.all_parts}
 
 -- pages 0 to 20, and, one page on, pages 22 to 31
 abbrev low : Region
@@ -119,15 +119,15 @@ of_a_kept_inflate = refl
 
 -- ---- parts of pieces
 
-in_one_page : parts_of (record { addr = 4080; len = 16; writable = false }) ≡
+in_one_page : all_parts (record { addr = 4080; len = 16; writable = false } ∷ []) ≡
     record { address = 4080; plus = 0; length = 16 } ∷ []
 in_one_page = refl
 
-over_a_page : parts_of (record { addr = 4090; len = 10; writable = false }) ≡
+over_a_page : all_parts (record { addr = 4090; len = 10; writable = false } ∷ []) ≡
     record { address = 4090; plus = 0; length = 6 } ∷ record { address = 4090; plus = 6; length = 4 } ∷ []
 over_a_page = refl
 
-empty : parts_of (record { addr = 4090; len = 0; writable = false }) ≡ []
+empty : all_parts (record { addr = 4090; len = 0; writable = false } ∷ []) ≡ []
 empty = refl
 
 in_order : all_parts (record { addr = 0; len = 0; writable = false }

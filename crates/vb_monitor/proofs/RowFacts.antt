@@ -67,12 +67,16 @@ fence_after_bytes h = let e : false ≡ true = h in absurd cc
 fence_before_the_index : MayFollow (Some used_length) Acquire → ⊥
 fence_before_the_index h = let e : false ≡ true = h in absurd cc
 
--- bytes after a fence, after what was told, and after an index
+-- bytes after a fence, after figures that were told, and after an index
 bytes_after_a_fence : MayFollow (Some Acquire) descriptor → ⊥
 bytes_after_a_fence h = let e : false ≡ true = h in absurd cc
 
-bytes_once_told : MayFollow (Some pages) part → ⊥
+bytes_once_told : MayFollow (Some figures) part → ⊥
 bytes_once_told h = let e : false ≡ true = h in absurd cc
+
+-- those of the next portion after pages that were told or discarded
+further_bytes : MayFollow (Some pages) part × MayFollow (Some discard) part
+further_bytes = (refl, refl)
 
 bytes_once_used : MayFollow (Some used_index) part → ⊥
 bytes_once_used h = let e : false ≡ true = h in absurd cc

@@ -5,7 +5,7 @@ use Rattle.vb_core.specs.declared.kinds.Kind.TheVariants.{Inflate, Deflate, Stat
 use Rattle.vb_monitor.specs.declared.cuts.Cut.{Cut}
 use Rattle.vb_monitor.specs.declared.parts.Part.{Part}
 use Rattle.vb_monitor.specs.Accesses.{Access, CopyBytes, Acquire, Release, Full, TellPages}
-use Rattle.vb_monitor.specs.SoFar.{Each, Known, Unknown, Walks, Has, parts_read, walked_by, with_copied, is_fenced, known, ring_after, index_read, left}
+use Rattle.vb_monitor.specs.SoFar.{Each, Known, Unknown, Walks, Has, parts_read, walked_by, with_copied, is_fenced, known, ring_after, index_read, left, with_told, is_whole, pages_told}
 use Rattle.vb_monitor.proofs.Samples.{two, ring, page_5, one_page, over_the_hole, cut_5, cut_20, cut_22, piece, first_descriptor, last_descriptor, number, index, entry, descriptor, part, pages, figures, discard, id, used_length, used_index, flags}
 
 -- ---- what is known of a chain
@@ -90,7 +90,7 @@ kept_after x = known Inflate (x ∷ whole)
 
 kept : map kept_after (Acquire ∷ Release ∷ Full ∷ pages ∷ figures ∷ discard ∷ id ∷ []) ≡
     Has 3 (piece ∷ []) [] number ∷ Has 3 (piece ∷ []) [] number ∷ Has 3 (piece ∷ []) [] number
-    ∷ Has 3 (piece ∷ []) [] number ∷ Has 3 (piece ∷ []) [] number ∷ Has 3 (piece ∷ []) [] number
+    ∷ Has 3 (piece ∷ []) [] [] ∷ Has 3 (piece ∷ []) [] number ∷ Has 3 (piece ∷ []) [] number
     ∷ Has 3 (piece ∷ []) [] number ∷ []
 kept = refl
 
@@ -114,12 +114,12 @@ nothing_last = refl
 -- ---- how far the queue is
 
 abbrev taken_after : Access → ℕ
-taken_after x = (ring_after ring (x ∷ [])).next_avail
+taken_after x = (ring_after Inflate ring (x ∷ whole)).next_avail
 
 abbrev used_after : Access → ℕ
-used_after x = (ring_after ring (x ∷ [])).next_used
+used_after x = (ring_after Inflate ring (x ∷ whole)).next_used
 
--- an entry is taken where pages or figures are told
+-- an entry is taken where the last pages of a chain or figures are told
 one_taken : map taken_after (index ∷ part ∷ Acquire ∷ Release ∷ Full
     ∷ pages ∷ figures ∷ discard ∷ id ∷ used_index ∷ []) ≡ 0 ∷ 0 ∷ 0 ∷ 0 ∷ 0 ∷ 1 ∷ 1 ∷ 0 ∷ 0 ∷ 0 ∷ []
 one_taken = refl
@@ -129,9 +129,37 @@ one_used : map used_after (index ∷ part ∷ Acquire ∷ Release ∷ Full
     ∷ pages ∷ figures ∷ discard ∷ id ∷ used_index ∷ []) ≡ 0 ∷ 0 ∷ 0 ∷ 0 ∷ 0 ∷ 0 ∷ 0 ∷ 0 ∷ 0 ∷ 1 ∷ []
 one_used = refl
 
-twice : ring_after ring (used_index ∷ pages ∷ entry ∷ used_index ∷ pages ∷ index ∷ []) ≡
+twice : ring_after Inflate ring (used_index ∷ pages ∷ part ∷ descriptor ∷ entry ∷ Acquire ∷ used_index ∷ pages ∷ whole) ≡
     record ring { next_avail = 2; next_used = 2 }
 twice = refl
+
+-- none is where a portion is told, of which more is to be read
+abbrev amid : List Access
+amid = pages ∷ descriptor ∷ taken
+
+not_taken_yet : (ring_after Inflate ring amid).next_avail ≡ 0
+not_taken_yet = refl
+
+-- its bytes are told, and no others; what is to be read stays
+of_a_portion : known Inflate amid ≡ Has 3 (piece ∷ []) (of_piece ∷ []) []
+of_a_portion = refl
+
+told_of_it : with_told (Has 3 [] (of_piece ∷ []) (5 ∷ [])) ≡ Has 3 [] (of_piece ∷ []) []
+told_of_it = refl
+
+told_of_none : with_told Unknown ∷ with_told (Walks 3 4 []) ∷ [] ≡ Unknown ∷ Walks 3 4 [] ∷ []
+told_of_none = refl
+
+whole_then : is_whole Unknown ∷ is_whole (Walks 3 4 []) ∷ is_whole (Has 3 [] [] []) ∷ is_whole (Has 3 [] (of_piece ∷ []) [])
+    ∷ [] ≡ false ∷ false ∷ true ∷ false ∷ []
+whole_then = refl
+
+-- pages of all portions count since the entry, and no others
+pages_of_all : pages_told (TellPages Inflate [] (record one_page { pages = 256 }) ∷ part ∷ discard ∷ amid) ≡ 257
+pages_of_all = refl
+
+pages_of_another : pages_told (part ∷ descriptor ∷ entry ∷ Acquire ∷ used_index ∷ amid) ≡ 0
+pages_of_another = refl
 
 -- ---- the index that was read
 

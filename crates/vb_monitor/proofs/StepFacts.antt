@@ -6,7 +6,7 @@ use Rattle.vb_chain.specs.declared.fault.ChainFault.TheVariants.{OutOfRam, Index
 use Rattle.vb_core.specs.declared.device.Denial.{Denial}
 use Rattle.vb_core.specs.declared.device.Denial.TheVariants.{NoQueue, BadArgument, NotReady, NeedsReset, Misplaced, Broken}
 use Rattle.vb_monitor.specs.declared.{regions.Spot.Spot, progress.Progress.Progress}
-use Rattle.vb_monitor.specs.declared.step.{Walk.Walk}
+use Rattle.vb_monitor.specs.declared.step.{Walk.Walk, Place.Place}
 use Rattle.vb_monitor.specs.declared.step.Phase.TheVariants.{AwaitsIndex, AwaitsEntry}
 use Rattle.vb_monitor.specs.declared.step.Phase.TheVariants.{AwaitsDescriptor, AwaitsPart, Discards}
 use Rattle.vb_monitor.specs.declared.step.Phase.TheVariants.{TellsPages, TellsFigures}
@@ -29,6 +29,8 @@ numbers = record {
   into = 3;
   number = 5;
   from = 6;
+  piece = 21;
+  done = 22;
   in_file = 7;
   cut_length = 8;
   code = 2;
@@ -38,6 +40,8 @@ numbers = record {
   more = 0;
   chains_left = 9;
   pages_left = 10;
+  longest = 19;
+  told = 20;
   head = 11;
   count = 12;
   taken_head = 13;
@@ -55,16 +59,19 @@ numbers = record {
 
 -- ---- what is to be done next
 
+abbrev place : Place
+place = record { head = 11; count = 12; piece = 21; done = 22 }
+
 each_phase : map (λ n. phase_at n numbers) (0 ∷ 1 ∷ 2 ∷ 3 ∷ 4 ∷ 5 ∷ 6 ∷ 7 ∷ 8 ∷ 9 ∷ 10 ∷ []) ≡
     Ended (Some (Broken TooLong)) true false
     ∷ AwaitsIndex spot
     ∷ AwaitsEntry spot
     ∷ AwaitsDescriptor spot (record { head = 11; count = 12; writing = true; first = 5; further = 6 })
-    ∷ AwaitsPart spot (record { head = 11; count = 12; piece = 5; is_second = true; into = 3; length = 4 })
+    ∷ AwaitsPart spot place 3 4
     ∷ AwaitsFlags spot (Some (Broken TooLong)) false
     ∷ Discards (record { region = 1; offset = 0x102; in_file = 7; length = 8 })
-    (record { head = 11; runs = 4; run = 5; from = 6 })
-    ∷ TellsPages 11 (record { runs = 16; pages = 17; skipped = 18 })
+    (record { place = place; further = true; runs = 4; run = 5; from = 6 })
+    ∷ TellsPages place (record { runs = 16; pages = 17; skipped = 18 }) true
     ∷ TellsFigures 11 4
     ∷ GivesBack numbers.spots numbers.entry
     ∷ GivesBack numbers.spots numbers.entry ∷ []
@@ -76,6 +83,13 @@ by_its_number = refl
 
 with_what_was_done : step_of numbers ≡ record { tally = tally_of numbers; phase = phase_of numbers }
 with_what_was_done = refl
+
+-- no more of the chain is copied once these pages were told
+without_more : map (λ n. phase_at n (record numbers { flag = 0 })) (6 ∷ 7 ∷ []) ≡
+    Discards (record { region = 1; offset = 0x102; in_file = 7; length = 8 })
+    (record { place = place; further = false; runs = 4; run = 5; from = 6 })
+    ∷ TellsPages place (record { runs = 16; pages = 17; skipped = 18 }) false ∷ []
+without_more = refl
 
 -- more is available
 ended_with_more : phase_at 0 (record numbers { more = 1 }) ≡ Ended (Some (Broken TooLong)) true true
@@ -108,6 +122,8 @@ tally_is : tally_of numbers ≡ record {
   given = false;
   held = Some (record { head = 13; pages = 15 });
   published = 14;
+  longest = 19;
+  told = 20;
 }
 tally_is = refl
 
@@ -115,7 +131,7 @@ keeping : map (λ n. (tally_of (record numbers { keeps = n })).keeps) (0 ∷ 1 �
 keeping = refl
 
 none_taken : tally_of (record numbers { taken = 0; given = 1 }) ≡
-    record { chains = 9; pages = 10; keeps = false; given = true; held = None; published = 14 }
+    record { chains = 9; pages = 10; keeps = false; given = true; held = None; published = 14; longest = 19; told = 20 }
 none_taken = refl
 
 -- a row that has no room is read as one that just has, and its first number has 16 bits

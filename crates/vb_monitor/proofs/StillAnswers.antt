@@ -22,7 +22,7 @@ use Rattle.vb_ring.specs.declared.device.Taken.{Taken}
 pub served_broken : (still : List Access → Type 0) (kind : Kind) (w : Whole) (next : Then)
     (d : Device) (t : Tally) (head : ℕ)
     (pieces : List Piece) (f : ChainFault) (log : List Access) → is_read kind ≡ true →
-    t.given ≡ false → still log → length_of kind pieces ≡ Err f →
+    t.given ≡ false → still log → length_of kind t.longest pieces ≡ Err f →
     ServesPieces kind w next d t head pieces log →
     (w.outcome.why ≡ Some (Broken f)) × (w.device ≡ needing_reset d) × still []
 served_broken still Inflate w next d t head pieces f log read none stays e h =
@@ -38,7 +38,7 @@ served_broken still Report w next d t head pieces f log read none stays e h = ab
 
 pub by_length : (still : List Access → Type 0) (w : Whole) (d : Device) (t : Tally)
     (taken : Taken) (o : Result ℕ ChainFault) (log : List Access)
-    → is_read w.kind ≡ true → t.given ≡ false → length_of w.kind taken.chain ≡ o
+    → is_read w.kind ≡ true → t.given ≡ false → length_of w.kind t.longest taken.chain ≡ o
     → AfterReads still (serves w t d taken.head taken.chain) log
     → ServesTaken still taken o w t d log
 by_length still w d t taken (Err f) log read none e h =
@@ -52,7 +52,7 @@ pub by_found : (still : List Access → Type 0) (w : Whole) (d : Device) (t : Ta
 by_found still w d t (Err f) log read none h = h
 by_found still w d t (Ok None) log read none h = h
 by_found still w d t (Ok (Some taken)) log read none h =
-    by_length still w d t taken (length_of w.kind taken.chain) log read none refl h
+    by_length still w d t taken (length_of w.kind t.longest taken.chain) log read none refl h
 
 pub first_of : (a b : Bool) → (a && b) ≡ true → a ≡ true
 first_of true b e = refl

@@ -166,9 +166,10 @@ of_another_head h = let e : Same 4 3 = ap head_of h.is.tells.ends.outcome in ome
 reads : map is_read (Inflate ∷ Deflate ∷ Statistics ∷ Report ∷ []) ≡ true ∷ true ∷ true ∷ false ∷ []
 reads = refl
 
-lengths : length_of Statistics (record piece { len = 8 } ∷ []) ∷ length_of Statistics (record piece { len = 10 } ∷ [])
-    ∷ length_of Inflate (record piece { writable = true } ∷ []) ∷ []
-    ≡ Err BadLength ∷ Ok 10 ∷ Err WrongDirection ∷ []
+lengths : length_of Statistics 256 (record piece { len = 8 } ∷ []) ∷ length_of Statistics 256 (record piece { len = 10 } ∷ [])
+    ∷ length_of Inflate 256 (record piece { writable = true } ∷ []) ∷ length_of Deflate 257 (record piece { len = 1028 } ∷ [])
+    ∷ length_of Inflate 256 (record piece { len = 1028 } ∷ []) ∷ []
+    ≡ Err BadLength ∷ Ok 10 ∷ Err WrongDirection ∷ Ok 1028 ∷ Err BadLength ∷ []
 lengths = refl
 
 -- ---- reports

@@ -117,7 +117,7 @@ no_chain : TellsOf Inflate settings Unknown (page_5 ∷ []) one_page → ⊥
 no_chain h = absurd h
 
 half_read : TellsOf Inflate settings (Has 3 (piece ∷ []) (record { address = 0x400; plus = 0; length = 4 } ∷ []) number) (page_5 ∷ []) one_page → ⊥
-half_read h = absurd h
+half_read h = let e : Same 4 1024 = h.0 in omega arith
 
 of_an_inflate : TellsOf Inflate settings (Has 3 (piece ∷ []) [] number) (page_5 ∷ []) one_page
 of_an_inflate = named
@@ -177,7 +177,7 @@ figures_unread h = absurd h
 -- ---- in their turn
 
 pages_told : TellsInTurn two Inflate false ready read pages
-pages_told = (refl, named)
+pages_told = (refl, named, refl)
 
 -- with other counts than those of the bytes
 one_too_many : TellsInTurn two Inflate false ready read (TellPages Inflate (page_5 ∷ []) (record one_page { pages = 2 })) → ⊥

@@ -1,9 +1,11 @@
 -- What each access of a notice is, by those before it, and how many there are: one more, and the
 -- end.
+use Rattle.std.specs.Prelude.{◌||◌}
 use Rattle.std.proofs.Common.{◌≡◌, ◌∙◌, ap, sym, subst, refl, arith, ℕ, suc, ◌≤◌, Bool, true}
 use Rattle.std.proofs.Common.{false, List, [], ◌∷◌, length, Option, Some, None, rules}
 use Rattle.vb_chain.{specs.declared.fault.ChainFault.ChainFault}
 use Rattle.vb_core.{specs.declared.kinds.Kind.Kind, specs.Rings.{with_taken, with_used}}
+use Rattle.vb_monitor.specs.{Giving.is_kept, declared.cuts.Cut.Cut}
 use Rattle.vb_core.{specs.declared.runs.Run.Run, specs.declared.name.Named.Named}
 use Rattle.vb_core.specs.declared.kinds.Kind.TheVariants.{Inflate, Deflate, Statistics, Report}
 use Rattle.vb_core.{specs.declared.ring.Virtqueue.Virtqueue, specs.declared.device.Device.Device}
@@ -15,8 +17,8 @@ use Rattle.vb_monitor.specs.Accesses.{TellPages, TellFigures, Discard, WriteNumb
 use Rattle.vb_monitor.{proofs.TouchLemmas.{within}, specs.Counts.{no_discard, others}}
 use Rattle.vb_monitor.specs.Giving.{after_use}
 use Rattle.vb_monitor.specs.declared.outcome.{Outcome.Outcome, Tally.Tally}
-use Rattle.vb_monitor.specs.Order.{MayFollow, is_read}
-use Rattle.vb_monitor.specs.SoFar.{Each, known, ring_after}
+use Rattle.vb_monitor.specs.Order.{MayFollow, is_read, is_told}
+use Rattle.vb_monitor.specs.SoFar.{Each, Known, known, ring_after, is_whole, with_taken_if, left, pages_told}
 use Rattle.vb_monitor.specs.SoFar.{index_read, earlier}
 use Rattle.vb_monitor.specs.Turns.{is_over, CopiesNext, ReadsInTurn, TellsInTurn}
 use Rattle.vb_monitor.specs.Turns.{WritesUsedAlone}
@@ -84,12 +86,13 @@ more_room w d0 all m k b log le h =
 -- bytes that are copied in their turn
 pub copy_comes : (w : Whole) (d0 : Device) (all : Bool) (a len : ℕ) (at : Spot) (bytes : List ℕ)
     (b : List Access) →
-    CopiesNext w.regions (ring_after (ring_of w.kind d0) b) (known w.kind b) at bytes →
-    is_read (newest b) ≡ true → spot w.regions a len ≡ Some at → length bytes ≡ len →
-    Comes w d0 all b (CopyBytes at bytes)
-copy_comes w d0 all a len at bytes b next read e long = record {
+    CopiesNext w.regions (ring_after w.kind (ring_of w.kind d0) b) (known w.kind b) at bytes →
+    left (is_kept w.kind all (keeps_reports d0)) w.regions b ≡ [] →
+    (is_read (newest b) || is_told (newest b)) ≡ true → spot w.regions a len ≡ Some at →
+    length bytes ≡ len → Comes w d0 all b (CopyBytes at bytes)
+copy_comes w d0 all a len at bytes b next done read e long = record {
   reads = next;
-  tells = tt;
+  tells = done;
   writes = tt;
   follows = read;
   touches = subst (λ (n : ℕ). IsWithin w.regions at.region at.offset n) (sym long)
@@ -100,13 +103,24 @@ copy_comes w d0 all a len at bytes b next read e long = record {
 -- ---- rings of devices
 
 -- the device is as far in its ring as the accesses before say, and this index was read
-pub record Agrees (w : Whole) (d0 : Device) (published : ℕ) (before : List Access) (d : Device) :
+pub record Stands (w : Whole) (d0 : Device) (published : ℕ) (before : List Access) (d : Device) :
     Type 0 where
-  pub ring : ring_of w.kind d ≡ ring_after (ring_of w.kind d0) before
+  pub ring : ring_of w.kind d ≡ ring_after w.kind (ring_of w.kind d0) before
   pub settings : d.settings ≡ d0.settings
   pub keeps : keeps_reports d ≡ keeps_reports d0
   pub lasts : is_over before ≡ false
   pub index : index_read before ≡ Some published
+
+-- of the pages that were told none is left to discard
+abbrev pub NoneLeft : Whole → Device → Bool → List Access → Type 0
+NoneLeft w d0 all b = left (is_kept w.kind all (keeps_reports d0)) w.regions b ≡ []
+
+-- and as many pages were told of the chain as the tally says
+pub record Agrees (w : Whole) (d0 : Device) (t : Tally) (before : List Access) (d : Device) :
+    Type 0 where
+  pub stands : Stands w d0 t.published before d
+  pub done : NoneLeft w d0 t.keeps before
+  pub told_so : t.told ≡ pages_told before
 
 -- what a flaw, a chain that is taken and one that is given back leave of a device, and what moves
 pub record Moves (kind : Kind) (d : Device) : Type 0 where
@@ -129,8 +143,8 @@ moves Report d = search rules
 
 -- after one more access that moves nothing in the ring, and isn't the flags
 pub one_on : (w : Whole) (d0 : Device) (n : ℕ) (x : Access) (b : List Access) (d : Device) →
-    Agrees w d0 n b d → ring_after (ring_of w.kind d0) (x ∷ b) ≡ ring_after (ring_of w.kind d0) b →
-    is_over (x ∷ b) ≡ false → Agrees w d0 n (x ∷ b) d
+    Stands w d0 n b d → ring_after w.kind (ring_of w.kind d0) (x ∷ b) ≡
+    ring_after w.kind (ring_of w.kind d0) b → is_over (x ∷ b) ≡ false → Stands w d0 n (x ∷ b) d
 one_on w d0 n x b d is e lasts = record {
   ring = is.ring ∙ sym e;
   settings = is.settings;
@@ -139,16 +153,46 @@ one_on w d0 n x b d is e lasts = record {
   index = ap (λ (o : Option ℕ). earlier o x) is.index;
 }
 
-pub one_taken : (w : Whole) (d0 : Device) (n : ℕ) (runs : List Run) (named : Named) (b : List Access)
-    (d : Device) → Agrees w d0 n b d →
-    Agrees w d0 n (TellPages w.kind runs named ∷ b) (with_one_taken w.kind d)
-one_taken w d0 n runs named b d is = record {
-  ring = (moves w.kind d).taken_ring ∙ ap (λ (r : Virtqueue). with_taken r) is.ring;
+-- after bytes that were copied
+pub one_copied : (w : Whole) (d0 : Device) (t : Tally) (at : Spot) (bytes : List ℕ)
+    (b : List Access) (d : Device) → Agrees w d0 t b d → Agrees w d0 t (CopyBytes at bytes ∷ b) d
+one_copied w d0 t at bytes b d is = record {
+  stands = one_on w d0 t.published (CopyBytes at bytes) b d is.stands refl refl;
+  done = is.done;
+  told_so = is.told_so;
+}
+
+taken_by : (w : Whole) (d0 d : Device) (n : ℕ) (runs : List Run) (named : Named)
+    (b : List Access) (known_so : Known) → known w.kind b ≡ known_so → is_whole known_so ≡ true →
+    ring_of w.kind d ≡ ring_after w.kind (ring_of w.kind d0) b →
+    ring_of w.kind (with_one_taken w.kind d) ≡
+    ring_after w.kind (ring_of w.kind d0) (TellPages w.kind runs named ∷ b)
+taken_by w d0 d n runs named b known_so e f ring =
+    (moves w.kind d).taken_ring ∙ (ap (λ (r : Virtqueue). with_taken r) ring
+    ∙ ap (λ (x : Bool). with_taken_if x (ring_after w.kind (ring_of w.kind d0) b))
+    (sym (ap (λ (k : Known). is_whole k) e ∙ f)))
+
+pub one_taken : (w : Whole) (d0 : Device) (n : ℕ) (runs : List Run) (named : Named)
+    (b : List Access) (d : Device) (known_so : Known) → known w.kind b ≡ known_so →
+    is_whole known_so ≡ true → Stands w d0 n b d →
+    Stands w d0 n (TellPages w.kind runs named ∷ b) (with_one_taken w.kind d)
+one_taken w d0 n runs named b d known_so e f is = record {
+  ring = taken_by w d0 d n runs named b known_so e f is.ring;
   settings = (moves w.kind d).taken_settings ∙ is.settings;
   keeps = (moves w.kind d).taken_keeps ∙ is.keeps;
   lasts = refl;
   index = ap (λ (o : Option ℕ). earlier o (TellPages w.kind runs named)) is.index;
 }
+
+-- after pages of a portion that were told: the chain isn't taken yet
+pub one_portion : (w : Whole) (d0 : Device) (n : ℕ) (runs : List Run) (named : Named)
+    (b : List Access) (d : Device) (known_so : Known) → known w.kind b ≡ known_so →
+    is_whole known_so ≡ false → Stands w d0 n b d →
+    Stands w d0 n (TellPages w.kind runs named ∷ b) d
+one_portion w d0 n runs named b d known_so e f is =
+    one_on w d0 n (TellPages w.kind runs named) b d is
+    (ap (λ (x : Bool). with_taken_if x (ring_after w.kind (ring_of w.kind d0) b))
+    (ap (λ (k : Known). is_whole k) e ∙ f)) refl
 
 -- ---- the end
 
@@ -178,10 +222,10 @@ ends_say w d t why more log h = where_says t.given w d t why more log h
 -- the flags lie where the queue's are, and weren't read yet
 abbrev pub Flags : Whole → Device → List Access → Device → Type 0
 Flags w d0 b d =
-    ((ring_of w.kind d).avail ≡ (ring_after (ring_of w.kind d0) b).avail) × (is_over b ≡ false)
+    ((ring_of w.kind d).avail ≡ (ring_after w.kind (ring_of w.kind d0) b).avail) × (is_over b ≡ false)
 
 pub flags_of : (w : Whole) (d0 : Device) (n : ℕ) (b : List Access) (d : Device) →
-    Agrees w d0 n b d → Flags w d0 b d
+    Stands w d0 n b d → Flags w d0 b d
 flags_of w d0 n b d is = (ap (λ (r : Virtqueue). r.avail) is.ring, is.lasts)
 
 flags_at : (w : Whole) (d0 d : Device) (t : Tally) (why : Option Denial) (more : Bool) (m : ℕ)

@@ -1,5 +1,5 @@
 -- What each access of a notice is, by those before it, and how many there are: looks, and the laws.
-use Rattle.std.proofs.Common.{◌≡◌, ◌∙◌, sym, subst, refl, arith, ℕ, zero, suc, ◌+◌, ◌*◌}
+use Rattle.std.proofs.Common.{◌≡◌, ◌∙◌, sym, subst, refl, arith, ℕ, zero, suc, ◌+◌, ◌-◌, ◌*◌, ◌/◌}
 use Rattle.std.proofs.Common.{◌≤◌, Bool, true, false, List, [], ◌∷◌, Option, Some, None}
 use Rattle.std.{proofs.Common.{Result, Ok, Err}, specs.Prelude.{◌==◌}}
 use Rattle.vb_virtio.specs.declared.limits.TheConstants.{MAX_QUEUE_SIZE}
@@ -7,11 +7,13 @@ use Rattle.vb_chain.specs.declared.{fault.ChainFault.ChainFault}
 use Rattle.vb_core.{specs.declared.kinds.Kind.Kind, specs.declared.ring.Virtqueue.Virtqueue}
 use Rattle.vb_core.{specs.declared.device.Denial.Denial, specs.declared.device.Device.Device}
 use Rattle.vb_core.specs.Devices.{ring_of}
-use Rattle.vb_monitor.proofs.TurnEnds.{newest, Goes, one_more, asked, more_room, Agrees}
+use Rattle.vb_monitor.proofs.TurnEnds.{newest, Goes, one_more, asked, more_room, Stands, NoneLeft, Agrees}
+use Rattle.vb_monitor.proofs.PartCosts.{further_cost}
+use Rattle.std.specs.Prelude.{◌||◌}
 use Rattle.vb_monitor.proofs.{TurnEnds.{one_on, flags_of, ends_go, breaks_go}, TurnLemmas.After}
 use Rattle.vb_monitor.{proofs.TurnRows.{pieces_go}, specs.Accesses.{Access, ReadWord}}
 use Rattle.vb_monitor.{proofs.TouchLemmas.within, specs.Counts.others, specs.Touched.Touches}
-use Rattle.vb_monitor.specs.Order.{is_word, is_read, Row, MayFollow}
+use Rattle.vb_monitor.specs.Order.{is_word, is_read, is_told, Row, MayFollow}
 use Rattle.vb_monitor.specs.{Accesses.{Acquire, WriteWord}}
 use Rattle.vb_monitor.specs.Chains.{no_row}
 use Rattle.vb_monitor.{specs.Ends.Whole, specs.Chains.longest}
@@ -31,42 +33,45 @@ use Rattle.vb_monitor.proofs.TurnWalks.{ReadBefore, walk_room, walked_out, follo
 -- ---- a look
 
 -- after a word another chain's entry may be read
-pub record Between (w : Whole) (d0 d : Device) (n : ℕ) (b : List Access) : Type 0 where
-  pub agrees : Agrees w d0 n b d
+pub record Between (w : Whole) (d0 d : Device) (t : Tally) (b : List Access) : Type 0 where
+  pub agrees : Stands w d0 t.published b d
+  pub done : NoneLeft w d0 t.keeps b
   pub unknown : known w.kind b ≡ Unknown
   pub word : is_word (newest b) ≡ true
 
-head_by : (w : Whole) (d0 : Device) (m : ℕ) (next : Then) (on : After w d0 m next) (d : Device)
-    (t : Tally) (head : ℕ) (there : Bool) (b log : List Access) → Agrees w d0 t.published b d →
-    known w.kind b ≡ Walks head head [] → is_read (newest b) ≡ true →
-    HeadBy there w next d t head log → Goes w d0 t.keeps (773 + m) b log
-head_by w d0 m next on d t head false b log is known_is read h =
-    breaks_go w d0 d t _ _ b log (omega arith) (flags_of w d0 _ b d is) h
-head_by w d0 m next on d t head true b log is known_is read h =
+head_by : (w : Whole) (d0 : Device) (most m : ℕ) (next : Then) (on : After w d0 most m next) (d : Device)
+    (t : Tally) (head : ℕ) (there : Bool) (b log : List Access) → t.longest ≡ most →
+    Agrees w d0 t b d → known w.kind b ≡ Walks head head [] →
+    (is_read (newest b) || is_told (newest b)) ≡ true →
+    HeadBy there w next d t head log → Goes w d0 t.keeps (773 + (further_cost most + m)) b log
+head_by w d0 most m next on d t head false b log long is known_is read h =
+    breaks_go w d0 d t _ _ b log (omega arith) (flags_of w d0 _ b d is.stands) h
+head_by w d0 most m next on d t head true b log long is known_is read h =
     let few = longest_few (ring_of w.kind d).size in
     let n = longest (ring_of w.kind d).size in
-    more_room w d0 t.keeps (walk_room n 0 m) _ b log (omega (arith, few))
-    (follows_from n MAX_QUEUE_SIZE w d0 d t m head _ (λ ps b2 rest begun.
-    pieces_go w d0 m w.kind refl next on d t head ps b2 rest begun) few few no_row head false [] b log is
+    more_room w d0 t.keeps (walk_room n 0 (further_cost most + m)) _ b log (omega (arith, few))
+    (follows_from n MAX_QUEUE_SIZE w d0 d t (further_cost most + m) head _ (λ ps b2 rest begun.
+    pieces_go w d0 most m w.kind refl next on d t head ps b2 rest long begun) few few no_row head false [] b log is
     (known_is ∙ sym (walked_out MAX_QUEUE_SIZE w.kind head no_row head [] (none_of_none head)))
     (subst (λ (o : Option (List ℕ)). ReadBefore o b) (sym (none_of_none head)) read) h)
 
-entry_at : (w : Whole) (d0 : Device) (m : ℕ) (next : Then) (on : After w d0 m next) (d : Device)
-    (t : Tally) (o : Option Spot) (b log : List Access) → Between w d0 d t.published b →
+entry_at : (w : Whole) (d0 : Device) (most m : ℕ) (next : Then) (on : After w d0 most m next) (d : Device)
+    (t : Tally) (o : Option Spot) (b log : List Access) → t.longest ≡ most → t.told ≡ 0 →
+    Between w d0 d t b →
     stands (ring_of w.kind d) t.published ≡ Ok true →
     spot w.regions ((ring_of w.kind d).avail + entry_offset (ring_of w.kind d)) 2 ≡ o →
-    EntryAt w next d t o log → Goes w d0 t.keeps (775 + m) b log
-entry_at w d0 m next on d t None b log is there e h =
+    EntryAt w next d t o log → Goes w d0 t.keeps (775 + (further_cost most + m)) b log
+entry_at w d0 most m next on d t None b log long none is there e h =
     breaks_go w d0 d t _ _ b log (omega arith) (flags_of w d0 _ b d is.agrees) h
-entry_at w d0 m next on d t (Some at) b log is there e h =
+entry_at w d0 most m next on d t (Some at) b log long none is there e h =
     let fenced = one_on w d0 _ Acquire b d is.agrees refl refl in
     let x : Access = ReadWord at h.head in
-    asked w d0 t.keeps (775 + m) b log _ h.asks
-    (one_more w d0 t.keeps (774 + m) (775 + m) Acquire b _ (omega arith) (record {
+    asked w d0 t.keeps _ b log _ h.asks
+    (one_more w d0 t.keeps (774 + (further_cost most + m)) _ Acquire b _ (omega arith) (record {
       reads = (
         is.unknown,
         is.agrees.lasts,
-        subst (λ (o : Option ℕ). IsPublished o (ring_after (ring_of w.kind d0) b)) (sym is.agrees.index)
+        subst (λ (o : Option ℕ). IsPublished o (ring_after w.kind (ring_of w.kind d0) b)) (sym is.agrees.index)
             (subst (λ (r : Virtqueue). stands r t.published ≡ Ok true) is.agrees.ring there),
       );
       tells = tt;
@@ -75,7 +80,7 @@ entry_at w d0 m next on d t (Some at) b log is there e h =
       touches = tt;
       holds = tt;
     })
-    (one_more w d0 t.keeps (773 + m) (774 + m) x (Acquire ∷ b) _ (omega arith) (record {
+    (one_more w d0 t.keeps (773 + (further_cost most + m)) _ x (Acquire ∷ b) _ (omega arith) (record {
       reads = subst (λ (r : Virtqueue). spot w.regions (r.avail + entry_offset r) 2 ≡ Some at)
           is.agrees.ring e;
       tells = tt;
@@ -84,24 +89,28 @@ entry_at w d0 m next on d t (Some at) b log is there e h =
       touches = within w.regions ((ring_of w.kind d).avail + entry_offset (ring_of w.kind d)) 2 at e;
       holds = tt;
     })
-    (head_by w d0 m next on d t h.head _ (x ∷ Acquire ∷ b) h.rest
-    (one_on w d0 _ x (Acquire ∷ b) d fenced refl refl) refl refl h.goes_on)))
+    (head_by w d0 most m next on d t h.head _ (x ∷ Acquire ∷ b) h.rest long (record {
+      stands = one_on w d0 _ x (Acquire ∷ b) d fenced refl refl;
+      done = is.done;
+      told_so = none;
+    }) refl refl h.goes_on)))
 
 abbrev Taken : Whole → Device → Device → Tally → ℕ → (List Access → Type 0) → Type 0
-Taken w d0 d t m takes = (b rest : List Access) → Between w d0 d t.published b →
+Taken w d0 d t m takes = (b rest : List Access) → Between w d0 d t b →
     stands (ring_of w.kind d) t.published ≡ Ok true → takes rest → Goes w d0 t.keeps m b rest
 
-unless_spent : (w : Whole) (d0 : Device) (m : ℕ) (next : Then) (on : After w d0 m next)
+unless_spent : (w : Whole) (d0 : Device) (most m : ℕ) (next : Then) (on : After w d0 most m next)
     (d : Device) (t : Tally) (spent : Bool) →
-    Taken w d0 d t (775 + m) (TakesUnlessSpent spent w next d t)
-unless_spent w d0 m next on d t true b log is there h =
+    t.longest ≡ most → t.told ≡ 0 →
+    Taken w d0 d t (775 + (further_cost most + m)) (TakesUnlessSpent spent w next d t)
+unless_spent w d0 most m next on d t true long none b log is there h =
     ends_go w d0 d t _ true _ b log (omega arith) (flags_of w d0 _ b d is.agrees) h
-unless_spent w d0 m next on d t false b log is there h =
-    entry_at w d0 m next on d t _ b log is there refl h
+unless_spent w d0 most m next on d t false long none b log is there h =
+    entry_at w d0 most m next on d t _ b log long none is there refl h
 
 index_by : (w : Whole) (d0 d : Device) (t : Tally) (m : ℕ) (takes : List Access → Type 0)
     (on : Taken w d0 d t m takes) (there : Result Bool ChainFault) (b log : List Access) → 2 ≤ m →
-    Between w d0 d t.published b → stands (ring_of w.kind d) t.published ≡ there →
+    Between w d0 d t b → stands (ring_of w.kind d) t.published ≡ there →
     AfterIndex there w takes d t log → Goes w d0 t.keeps m b log
 index_by w d0 d t m takes on (Err fault) b log le is e h =
     breaks_go w d0 d t _ m b log le (flags_of w d0 _ b d is.agrees) h
@@ -110,42 +119,58 @@ index_by w d0 d t m takes on (Ok false) b log le is e h =
 index_by w d0 d t m takes on (Ok true) b log le is e h = on b log is e h
 
 -- what the index publishes is served
-abbrev Next : Whole → Device → ℕ → Then → Type 0
-Next w d0 m next = (d : Device) (t : Tally) (b rest : List Access) → Between w d0 d t.published b →
-    next d t rest → Goes w d0 t.keeps m b rest
+abbrev Next : Whole → Device → ℕ → ℕ → Then → Type 0
+Next w d0 most m next = (d : Device) (t : Tally) (b rest : List Access) → t.longest ≡ most →
+    Between w d0 d t b → next d t rest → Goes w d0 t.keeps m b rest
 
-given_so : (w : Whole) (d0 : Device) (m : ℕ) (next : Then) (on : Next w d0 m next) (d : Device)
-    (t : Tally) (held : Option HeldChain) (at : Spot) (n : ℕ) (b rest : List Access) → 2 ≤ m →
-    Agrees w d0 t.published (WriteWord at n ∷ b) d → AfterGivenBy held w next d t rest →
+given_so : (w : Whole) (d0 : Device) (most m : ℕ) (next : Then) (on : Next w d0 most m next)
+    (d : Device) (t : Tally) (held : Option HeldChain) (at : Spot) (n : ℕ) (b rest : List Access) →
+    2 ≤ m → t.longest ≡ most → Stands w d0 t.published (WriteWord at n ∷ b) d →
+    NoneLeft w d0 t.keeps (WriteWord at n ∷ b) → AfterGivenBy held w next d t rest →
     Goes w d0 t.keeps m (WriteWord at n ∷ b) rest
-given_so w d0 m next on d t None at n b rest le is h =
-    on d t (WriteWord at n ∷ b) rest (record { agrees = is; unknown = refl; word = refl }) h
-given_so w d0 m next on d t (Some held) at n b rest le is h =
+given_so w d0 most m next on d t None at n b rest le long is done h =
+    on d t (WriteWord at n ∷ b) rest long
+    (record { agrees = is; done = done; unknown = refl; word = refl }) h
+given_so w d0 most m next on d t (Some held) at n b rest le long is done h =
     let b2 = WriteWord at n ∷ b in ends_go w d0 d t _ false m b2 rest le (flags_of w d0 _ b2 d is) h
 
-given_by : (w : Whole) (d0 : Device) (m : ℕ) (next : Then) (on : Next w d0 m next) →
-    2 ≤ m → After w d0 m (AfterGiven w next)
-given_by w d0 m next on le d t at n b rest is h =
-    given_so w d0 m next on d t t.held at n b rest le is h
+given_by : (w : Whole) (d0 : Device) (most m : ℕ) (next : Then) (on : Next w d0 most m next) →
+    2 ≤ m → After w d0 most m (AfterGiven w next)
+given_by w d0 most m next on le d t at n b rest long is done h =
+    given_so w d0 most m next on d t t.held at n b rest le long is done h
 
-takes_next : (n : ℕ) (w : Whole) (d0 d : Device) (t : Tally) →
-    Taken w d0 d t (2 + 775 * n) (TakesNext n w d t)
-takes_next zero w d0 d t b log is there h =
+one_by : (x n : ℕ) → x * suc n ≡ x + x * n
+one_by x n = grind (arith)
+
+-- how many accesses n chains make, beside discards, where a request names this many pages
+abbrev chains_cost : ℕ → ℕ → ℕ
+chains_cost most n = (775 + further_cost most) * n
+
+one_chain : (most n : ℕ) → 775 + (further_cost most + (2 + chains_cost most n)) ≤
+    2 + chains_cost most (suc n)
+one_chain most n = let one = one_by (775 + further_cost most) n in omega (arith, one)
+
+takes_next : (n : ℕ) (w : Whole) (d0 d : Device) (most : ℕ) (t : Tally) → t.longest ≡ most →
+    Taken w d0 d t (2 + chains_cost most n) (TakesNext n w d t)
+takes_next zero w d0 d most t long b log is there h =
     ends_go w d0 d t _ true _ b log (omega arith) (flags_of w d0 _ b d is.agrees) h
-takes_next (suc n) w d0 d t b log is there h =
-    let m = 2 + 775 * n in
-    more_room w d0 t.keeps (775 + m) _ b log (omega arith)
-    (unless_spent w d0 m (AfterGiven w (ServesPublished n w))
-    (given_by w d0 m _ (λ d2 t2 b2 rest is2. index_by w d0 d2 t2 m _ (takes_next n w d0 d2 t2) _
-    b2 rest (omega arith) is2 refl) (omega arith)) d (with_chains n t) (t.pages == 0) b log is there h)
+takes_next (suc n) w d0 d most t long b log is there h =
+    let m = 2 + chains_cost most n in
+    let all : 775 + (further_cost most + m) ≤ 2 + chains_cost most (suc n) = one_chain most n in
+    more_room w d0 t.keeps (775 + (further_cost most + m)) _ b log all
+    (unless_spent w d0 most m (AfterGiven w (ServesPublished n w))
+    (given_by w d0 most m _ (λ d2 t2 b2 rest long2 is2. index_by w d0 d2 t2 m _
+    (takes_next n w d0 d2 most t2 long2) _ b2 rest (omega arith) is2 refl) (omega arith)) d
+    (with_chains n t) (t.pages == 0) long refl b log
+    (record { agrees = is.agrees; done = is.done; unknown = is.unknown; word = is.word }) there h)
 
-index_at : (w : Whole) (d : Device) (m : ℕ) (next : Then) (on : Next w d m next) (t : Tally)
-    (o : Option Spot) (log : List Access) → 2 ≤ m →
+index_at : (w : Whole) (d : Device) (most m : ℕ) (next : Then) (on : Next w d most m next)
+    (t : Tally) (o : Option Spot) (log : List Access) → 2 ≤ m → t.longest ≡ most →
     spot w.regions ((ring_of w.kind d).avail + 2) 2 ≡ o → IndexAt w next d t o log →
     Goes w d t.keeps (1 + m) [] log
-index_at w d m next on t None log le e h =
+index_at w d most m next on t None log le long e h =
     breaks_go w d d t _ (1 + m) [] log (omega (arith, le)) (refl, refl) h
-index_at w d m next on t (Some at) log le e h =
+index_at w d most m next on t (Some at) log le long e h =
     let x : Access = ReadWord at h.index in
     asked w d t.keeps (1 + m) [] log _ h.asks (one_more w d t.keeps m (1 + m) x [] _ (omega arith)
     (record {
@@ -155,18 +180,19 @@ index_at w d m next on t (Some at) log le e h =
       follows = tt;
       touches = within w.regions ((ring_of w.kind d).avail + 2) 2 at e;
       holds = tt;
-    }) (on d _ (x ∷ []) h.rest (record {
+    }) (on d _ (x ∷ []) h.rest long (record {
       agrees = record { ring = refl; settings = refl; keeps = refl; lasts = refl; index = refl };
+      done = refl;
       unknown = refl;
       word = refl;
     }) h.goes_on))
 
-looks_by : (w : Whole) (d : Device) (m : ℕ) (next : Then) (on : Next w d m next) (t : Tally)
-    (denial : Option Denial) (log : List Access) → 2 ≤ m → LooksBy denial w next d t log →
+looks_by : (w : Whole) (d : Device) (most m : ℕ) (next : Then) (on : Next w d most m next)
+    (t : Tally) (denial : Option Denial) (log : List Access) → 2 ≤ m → t.longest ≡ most → LooksBy denial w next d t log →
     Goes w d t.keeps (1 + m) [] log
-looks_by w d m next on t (Some why) log le h =
+looks_by w d most m next on t (Some why) log le long h =
     ends_go w d d t _ false (1 + m) [] log (omega (arith, le)) (refl, refl) h
-looks_by w d m next on t None log le h = index_at w d m next on t _ log le refl h
+looks_by w d most m next on t None log le long h = index_at w d most m next on t _ log le long refl h
 
 -- ---- the laws
 
@@ -176,14 +202,15 @@ of regions kind d2 outcome =
 
 all_go : (regions : List Region) (kind : Kind) (budget : Budget) (d1 d2 : Device)
     (outcome : Outcome) (log : List Access) → Serves regions kind budget d1 d2 outcome log →
-    Goes (of regions kind d2 outcome) d1 budget.keeps (3 + 775 * budget.chains) [] log
+    Goes (of regions kind d2 outcome) d1 budget.keeps
+    (3 + chains_cost budget.longest budget.chains) [] log
 all_go regions kind budget d1 d2 outcome log h =
     let w = of regions kind d2 outcome in
-    let m = 2 + 775 * budget.chains in
+    let m = 2 + chains_cost budget.longest budget.chains in
     more_room w d1 budget.keeps (1 + m) _ [] log (omega arith)
-    (looks_by w d1 m (ServesPublished budget.chains w) (λ d t b rest is.
-    index_by w d1 d t m _ (takes_next budget.chains w d1 d t) _ b rest (omega arith) is refl)
-    (fresh budget) _ log (omega arith) h)
+    (looks_by w d1 budget.longest m (ServesPublished budget.chains w) (λ d t b rest long is.
+    index_by w d1 d t m _ (takes_next budget.chains w d1 d budget.longest t long) _ b rest (omega arith)
+    is refl) (fresh budget) _ log (omega arith) refl h)
 
 each_so : (may so : List Access → Access → Type 0) (b log : List Access) →
     ((before : List Access) (x : Access) → may before x → so before x) → Each may b log →
@@ -234,6 +261,6 @@ in_order regions kind budget d1 d2 outcome log h = row_so MayFollow [] log
 
 pub few_others : (regions : List Region) (kind : Kind) (budget : Budget) (d1 d2 : Device)
     (outcome : Outcome) (log : List Access) → Serves regions kind budget d1 d2 outcome log →
-    others log ≤ 3 + 775 * budget.chains
+    others log ≤ 3 + (775 + 3 * ((budget.longest - 1) / 256)) * budget.chains
 few_others regions kind budget d1 d2 outcome log h =
     (all_go regions kind budget d1 d2 outcome log h).few

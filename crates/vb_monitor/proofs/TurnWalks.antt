@@ -9,9 +9,10 @@ use Rattle.vb_core.{specs.declared.kinds.Kind.Kind, specs.declared.ring.Virtqueu
 use Rattle.vb_core.{specs.declared.device.Device.Device}
 use Rattle.vb_core.specs.Devices.{ring_of}
 use Rattle.vb_monitor.proofs.TurnEnds.{newest, Goes, one_more, asked, more_room, copy_comes, Agrees}
-use Rattle.vb_monitor.proofs.{TurnEnds.{one_on, flags_of, breaks_go}}
+use Rattle.vb_monitor.proofs.{TurnEnds.{one_copied, flags_of, breaks_go}}
 use Rattle.vb_monitor.{proofs.TurnRows.{Begun}, specs.Accesses.{Access}}
-use Rattle.vb_monitor.specs.Order.{is_read, is_copied}
+use Rattle.vb_monitor.specs.Order.{is_read, is_told, is_copied}
+use Rattle.std.specs.Prelude.{◌||◌}
 use Rattle.vb_monitor.specs.{Accesses.{CopyBytes}}
 use Rattle.vb_monitor.specs.Chains.{TableRow, row_of, in_row, further_in_row, descriptor_of}
 use Rattle.vb_monitor.specs.Chains.{GoesOn, DescriptorBy, RowAt, FollowsBy, Follows}
@@ -46,12 +47,12 @@ walked_on n kind head row number pieces bytes e =
     ap (λ (o : Option (List ℕ)). walked_by o (walked_in n kind head row) kind head number pieces) e
 
 -- after a descriptor of a row: what is known of the row is as the walk has it
-pub record Walking (w : Whole) (d0 d : Device) (n : ℕ) (known_so : Known) (b : List Access) :
+pub record Walking (w : Whole) (d0 d : Device) (t : Tally) (known_so : Known) (b : List Access) :
     Type 0 where
-  pub agrees : Agrees w d0 n b d
+  pub agrees : Agrees w d0 t b d
   pub known_is : known w.kind b ≡ known_so
   pub copied : is_copied (newest b) ≡ true
-  pub read : is_read (newest b) ≡ true
+  pub read : (is_read (newest b) || is_told (newest b)) ≡ true
 
 -- at most n after n pieces, where m descriptors more may be there
 abbrev pub walk_room : ℕ → ℕ → ℕ → ℕ
@@ -61,12 +62,12 @@ abbrev On : Whole → Device → Device → Tally → ℕ → ℕ → ℕ → �
     (ℕ → Bool → List Piece → List Access → Type 0) → Type 0
 On w d0 d t m n head fuel row on = (number : ℕ) (writing : Bool) (ps : List Piece)
     (b rest : List Access) →
-    Walking w d0 d t.published (walked_in fuel w.kind head row number ps) b →
+    Walking w d0 d t (walked_in fuel w.kind head row number ps) b →
     on number writing ps rest → Goes w d0 t.keeps (walk_room n (length ps) m) b rest
 
 abbrev Last : Whole → Device → Device → Tally → ℕ → ℕ → (List Piece → List Access → Type 0) → Type 0
 Last w d0 d t m head done = (ps : List Piece) (b rest : List Access) →
-    Begun w d0 d t.published head ps b → done ps rest →
+    Begun w d0 d t head ps b → done ps rest →
     Goes w d0 t.keeps (2 * length ps + (5 + m)) b rest
 
 one_longer : (ps : List Piece) (p : Piece) → length (ps ++ p ∷ []) ≡ suc (length ps)
@@ -77,7 +78,7 @@ goes_on : (w : Whole) (d0 d : Device) (t : Tally) (m n head fuel : ℕ) (row : T
     (on : ℕ → Bool → List Piece → List Access → Type 0) (done : List Piece → List Access → Type 0)
     (more : On w d0 d t m n head fuel row on) (last : Last w d0 d t m head done)
     (goes writing : Bool) (x : Descriptor) (pieces : List Piece) (b log : List Access) →
-    Walking w d0 d t.published (with_descriptor goes (walked_in fuel w.kind head row) w.kind head
+    Walking w d0 d t (with_descriptor goes (walked_in fuel w.kind head row) w.kind head
     (pieces ++ piece_of x ∷ []) x.next) b → GoesOn goes on done writing x pieces log →
     Goes w d0 t.keeps (walk_room n (suc (length pieces)) m) b log
 goes_on w d0 d t m n head fuel row on done more last true writing x pieces b log is h =
@@ -88,18 +89,21 @@ goes_on w d0 d t m n head fuel row on done more last false writing x pieces b lo
     let long = one_longer pieces (piece_of x) in
     more_room w d0 t.keeps (2 * length (pieces ++ piece_of x ∷ []) + (5 + m)) _ b log
     (omega (arith, long)) (last (pieces ++ piece_of x ∷ []) b log
-    (record { agrees = is.agrees; known_so = is.known_is; copied = is.copied; read = is.read }) h)
+    (record {
+      reads = record { agrees = is.agrees; known_so = is.known_is; read = is.read };
+      copied = is.copied;
+    }) h)
 
 descriptor_by : (w : Whole) (d0 d : Device) (t : Tally) (m n head fuel : ℕ) (row : TableRow)
     (on : ℕ → Bool → List Piece → List Access → Type 0) (done : List Piece → List Access → Type 0)
     (more : On w d0 d t m n head fuel row on) (last : Last w d0 d t m head done)
     (fault : Option ChainFault) (writing : Bool) (x : Descriptor) (pieces : List Piece)
     (b log : List Access) →
-    Walking w d0 d t.published (Known_after fuel w.kind head row pieces x) b
+    Walking w d0 d t (Known_after fuel w.kind head row pieces x) b
     → DescriptorBy fault w d t on done writing x pieces log →
     Goes w d0 t.keeps (walk_room n (suc (length pieces)) m) b log
 descriptor_by w d0 d t m n head fuel row on done more last (Some fault) writing x pieces b log is h =
-    breaks_go w d0 d t _ _ b log (omega arith) (flags_of w d0 _ b d is.agrees) h
+    breaks_go w d0 d t _ _ b log (omega arith) (flags_of w d0 _ b d is.agrees.stands) h
 descriptor_by w d0 d t m n head fuel row on done more last None writing x pieces b log is h =
     goes_on w d0 d t m n head fuel row on done more last (has_next x) writing x pieces b log is h
 
@@ -112,14 +116,14 @@ row_at : (w : Whole) (d0 d : Device) (t : Tally) (m n head number : ℕ)
     (on : TableRow → ℕ → Bool → List Piece → List Access → Type 0)
     (done : List Piece → List Access → Type 0) (more : Rows w d0 d t m n head on)
     (last : Last w d0 d t m head done) (writing : Bool) (pieces : List Piece) (o : Option Spot)
-    (b log : List Access) → Agrees w d0 t.published b d →
-    known w.kind b ≡ Walks head number pieces → is_read (newest b) ≡ true →
+    (b log : List Access) → Agrees w d0 t b d →
+    known w.kind b ≡ Walks head number pieces → (is_read (newest b) || is_told (newest b)) ≡ true →
     spot w.regions ((ring_of w.kind d).table + 16 * number)
     (16 * (further_in_row w.regions (ring_of w.kind d) number pieces + 1)) ≡ o →
     RowAt w d t on done number (further_in_row w.regions (ring_of w.kind d) number pieces) writing
     pieces o log → Goes w d0 t.keeps (walk_room (suc n) (length pieces) m) b log
 row_at w d0 d t m n head number on done more last writing pieces None b log is known_is read e h =
-    breaks_go w d0 d t _ _ b log (omega arith) (flags_of w d0 _ b d is) h
+    breaks_go w d0 d t _ _ b log (omega arith) (flags_of w d0 _ b d is.stands) h
 row_at w d0 d t m n head number on done more last writing pieces (Some at) b log is known_is read e h =
     let r : Virtqueue = ring_of w.kind d in
     let next : CopiesNext w.regions r (Walks head number pieces) at h.bytes =
@@ -130,12 +134,12 @@ row_at w d0 d t m n head number on done more last writing pieces (Some at) b log
     (one_more w d0 t.keeps (walk_room n (suc (length pieces)) m) _ x b _ (omega arith)
     (copy_comes w d0 t.keeps (r.table + 16 * number)
     (16 * (further_in_row w.regions r number pieces + 1)) at h.bytes b
-    (subst (λ (k : Known). CopiesNext w.regions (ring_after (ring_of w.kind d0) b) k at h.bytes)
+    (subst (λ (k : Known). CopiesNext w.regions (ring_after w.kind (ring_of w.kind d0) b) k at h.bytes)
     (sym known_is) (subst (λ (q : Virtqueue). CopiesNext w.regions q (Walks head number pieces) at
-    h.bytes) is.ring next)) read e h.long)
+    h.bytes) is.stands.ring next)) is.done read e h.long)
     (descriptor_by w d0 d t m n head (MAX_QUEUE_SIZE - 1) row (on row) done (more row) last _ writing
     _ pieces (x ∷ b) h.rest (record {
-      agrees = one_on w d0 _ x b d is refl refl;
+      agrees = one_copied w d0 t at h.bytes b d is;
       known_is = ap (λ (k : Known). with_copied w.kind h.bytes k) known_is
           ∙ walked_on (MAX_QUEUE_SIZE - 1) w.kind head row number pieces (take 16 h.bytes)
           (first_in_row number h.bytes _ h.long);
@@ -145,11 +149,11 @@ row_at w d0 d t m n head number on done more last writing pieces (Some at) b log
 
 -- after what was read, which bytes are where the row that was copied last has the descriptor
 abbrev pub ReadBefore : Option (List ℕ) → List Access → Type 0
-ReadBefore None b = is_read (newest b) ≡ true
-ReadBefore (Some bytes) b = (is_copied (newest b) ≡ true) × (is_read (newest b) ≡ true)
+ReadBefore None b = (is_read (newest b) || is_told (newest b)) ≡ true
+ReadBefore (Some bytes) b = (is_copied (newest b) ≡ true) × ((is_read (newest b) || is_told (newest b)) ≡ true)
 
 may_read : (o : Option (List ℕ)) (b : List Access) → is_copied (newest b) ≡ true →
-    is_read (newest b) ≡ true → ReadBefore o b
+    (is_read (newest b) || is_told (newest b)) ≡ true → ReadBefore o b
 may_read None b copied read = read
 may_read (Some bytes) b copied read = (copied, read)
 
@@ -158,7 +162,7 @@ row_by : (w : Whole) (d0 d : Device) (t : Tally) (m n head fuel : ℕ) (row : Ta
     (done : List Piece → List Access → Type 0) (more : On w d0 d t m n head fuel row (on row))
     (rows : Rows w d0 d t m n head on) (last : Last w d0 d t m head done) (writing : Bool)
     (pieces : List Piece) (o : Option (List ℕ)) (b log : List Access) →
-    Agrees w d0 t.published b d →
+    Agrees w d0 t b d →
     known w.kind b ≡ walked_in (suc fuel) w.kind head row number pieces → ReadBefore o b →
     in_row row number ≡ o → FollowsBy o w d t on done row number writing pieces log →
     Goes w d0 t.keeps (walk_room (suc n) (length pieces) m) b log
@@ -178,17 +182,17 @@ row_by w d0 d t m n head fuel row number on done more rows last writing pieces (
 pub follows_from : (n fuel : ℕ) (w : Whole) (d0 d : Device) (t : Tally) (m head : ℕ)
     (done : List Piece → List Access → Type 0) (last : Last w d0 d t m head done) → n ≤ fuel →
     n ≤ MAX_QUEUE_SIZE → (row : TableRow) (number : ℕ) (writing : Bool) (pieces : List Piece)
-    (b log : List Access) → Agrees w d0 t.published b d →
+    (b log : List Access) → Agrees w d0 t b d →
     known w.kind b ≡ walked_in fuel w.kind head row number pieces → ReadBefore (in_row row number) b →
     Follows n w d t done row number writing pieces log →
     Goes w d0 t.keeps (walk_room n (length pieces) m) b log
 follows_from zero fuel w d0 d t m head done last less most row number writing pieces b log is known_is was h =
-    breaks_go w d0 d t _ _ b log (omega arith) (flags_of w d0 _ b d is) h
+    breaks_go w d0 d t _ _ b log (omega arith) (flags_of w d0 _ b d is.stands) h
 follows_from (suc n) zero w d0 d t m head done last less most row number writing pieces b log is known_is was h =
     absurd (omega (arith, less))
 follows_from (suc n) (suc fuel) w d0 d t m head done last less most row number writing pieces b log is known_is was h =
     let on = λ (k : ℕ) (fits : n ≤ k) (row : TableRow) (number : ℕ) (writing : Bool)
-    (ps : List Piece) (b rest : List Access) (x : Walking w d0 d t.published (walked_in k w.kind head row number ps) b)
+    (ps : List Piece) (b rest : List Access) (x : Walking w d0 d t (walked_in k w.kind head row number ps) b)
     (h : Follows n w d t done row number writing ps rest).
     follows_from n k w d0 d t m head done last fits (omega (arith, most)) row number writing ps b rest
     x.agrees x.known_is (may_read (in_row row number) b x.copied x.read) h in

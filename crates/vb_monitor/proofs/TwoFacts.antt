@@ -77,7 +77,7 @@ of_the_second = Acquire ∷ second_entry ∷ CopyBytes (at 0x40) last_descriptor
 
 abbrev served_both : Outcome
 served_both = record outcome {
-  tally = record { chains = 6; pages = 254; keeps = false; given = true; held = None; published = 2 };
+  tally = record { chains = 6; pages = 254; keeps = false; given = true; held = None; published = 2; longest = 256; told = 1 };
 }
 
 abbrev whole : Device → Outcome → Whole
@@ -85,7 +85,7 @@ whole d o = record { regions = two; kind = Inflate; device = d; outcome = o }
 
 -- after the first chain
 abbrev one_given : Tally
-one_given = record { chains = 7; pages = 255; keeps = false; given = true; held = None; published = 2 }
+one_given = record { chains = 7; pages = 255; keeps = false; given = true; held = None; published = 2; longest = 256; told = 1 }
 
 serves_second : ServesPublished 7 (whole (used (used ready)) served_both) (used ready) one_given of_the_second
 unfolding lib.Count.ones
@@ -114,7 +114,7 @@ serves_second = record {
           goes_on = record {
             rest = given_then;
             asks = refl;
-            gives_back = record { rest = Full ∷ flags ∷ []; asks = refl; goes_on = flags_are_read refl refl };
+            goes_on = record { rest = Full ∷ flags ∷ []; asks = refl; goes_on = flags_are_read refl refl };
           };
         };
       };
@@ -154,7 +154,7 @@ serves_two = record {
             goes_on = record {
               rest = id ∷ used_length ∷ Release ∷ used_index ∷ of_the_second;
               asks = refl;
-              gives_back = record { rest = of_the_second; asks = refl; goes_on = serves_second };
+              goes_on = record { rest = of_the_second; asks = refl; goes_on = serves_second };
             };
           };
         };

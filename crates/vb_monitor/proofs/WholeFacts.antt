@@ -73,7 +73,7 @@ serves = record {
             goes_on = record {
               rest = given;
               asks = refl;
-              gives_back = record { rest = Full ∷ flags ∷ []; asks = refl; goes_on = flags_are_read refl refl };
+              goes_on = record { rest = Full ∷ flags ∷ []; asks = refl; goes_on = flags_are_read refl refl };
             };
           };
         };
@@ -106,7 +106,8 @@ bytes_twice : IsServed (index ∷ Acquire ∷ entry ∷ descriptor ∷ part ∷ 
 bytes_twice (d, (o, h)) = absurd (reads_in_turn two Inflate budget ready d o _ h).1.1.1.1.1.0
 
 bytes_unread : IsServed (index ∷ Acquire ∷ entry ∷ descriptor ∷ pages ∷ discard ∷ given) → ⊥
-bytes_unread (d, (o, h)) = absurd (tells_in_turn two Inflate budget ready d o _ h).1.1.1.1.0.1
+bytes_unread (d, (o, h)) =
+    let e : Same 0 1024 = (tells_in_turn two Inflate budget ready d o _ h).1.1.1.1.0.1.0 in omega arith
 
 -- the page told twice, or not at all
 told_twice : IsServed (index ∷ Acquire ∷ entry ∷ descriptor ∷ part ∷ pages ∷ pages ∷ discard

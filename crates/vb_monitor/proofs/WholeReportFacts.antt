@@ -67,7 +67,7 @@ reported = record {
           goes_on = record {
             rest = given;
             asks = refl;
-            gives_back = record { rest = Full ∷ flags ∷ []; asks = refl; goes_on = flags_are_read refl refl };
+            goes_on = record { rest = Full ∷ flags ∷ []; asks = refl; goes_on = flags_are_read refl refl };
           };
         };
       };
@@ -118,7 +118,7 @@ kept = record {
           goes_on = record {
             rest = given;
             asks = refl;
-            gives_back = record { rest = Full ∷ flags ∷ []; asks = refl; goes_on = flags_are_read refl refl };
+            goes_on = record { rest = Full ∷ flags ∷ []; asks = refl; goes_on = flags_are_read refl refl };
           };
         };
       };
@@ -183,7 +183,7 @@ both_told o = record {
     goes_on = record {
       rest = back;
       asks = refl;
-      gives_back = record { rest = []; asks = refl; goes_on = tt };
+      goes_on = record { rest = []; asks = refl; goes_on = tt };
     };
   };
 }

@@ -1,9 +1,10 @@
 -- The walk along a chain, one descriptor after the other (VIRTIO 1.1, 2.6.5), and what its pieces
 -- come to.
-use Rattle.std.specs.Prelude.{◌≡◌, ℕ, zero, suc, ◌+◌, ◌-◌, ◌*◌, ◌/◌, Bool, true, false, ◌||◌, ◌&&◌}
-use Rattle.std.specs.Prelude.{min, nat_le, nat_lt}
+use Rattle.std.specs.Prelude.{◌≡◌, ℕ, zero, suc, ◌+◌, ◌-◌, ◌*◌, ◌/◌, ◌%◌, ◌==◌, Bool, true, false}
+use Rattle.std.specs.Prelude.{◌||◌, ◌&&◌, not, min, nat_le, nat_lt}
 use Rattle.std.specs.Prelude.{List, [], ◌∷◌, ◌++◌, length, take, drop, Option, Some, None}
 use Rattle.std.specs.Prelude.{if◌then◌else◌, Result, Ok, Err}
+use Rattle.std.specs.List.{list_any}
 use Rattle.std.specs.Int.{w16, w32, w64, from_le_bytes}
 use Rattle.vb_virtio.specs.declared.limits.TheConstants.{MAX_QUEUE_SIZE, MAX_REQUEST_PAGES}
 use Rattle.vb_virtio.specs.declared.layout.TheConstants.{STATISTIC_SIZE}
@@ -11,9 +12,10 @@ use Rattle.vb_virtio.specs.Limits.{page_size}
 use Rattle.vb_chain.specs.declared.descriptor.Descriptor.{Descriptor}
 use Rattle.vb_chain.specs.declared.pieces.Piece.{Piece}
 use Rattle.vb_chain.specs.declared.fault.ChainFault.{ChainFault}
-use Rattle.vb_chain.specs.declared.fault.ChainFault.TheVariants.{OutOfRam, TooLong}
+use Rattle.vb_chain.specs.declared.fault.ChainFault.TheVariants.{OutOfRam, TooLong, BadLength}
+use Rattle.vb_chain.specs.declared.fault.ChainFault.TheVariants.{WrongDirection}
 use Rattle.vb_chain.specs.Rules.{has_next, is_writable, piece_of, first_fault}
-use Rattle.vb_request.specs.Request.{request_length}
+use Rattle.vb_request.specs.Request.{total_length}
 use Rattle.vb_request.specs.Statistics.{statistics_length}
 use Rattle.vb_core.specs.declared.kinds.Kind.{Kind}
 use Rattle.vb_core.specs.declared.kinds.Kind.TheVariants.{Inflate, Deflate, Statistics, Report}
@@ -36,11 +38,12 @@ use Rattle.vb_monitor.specs.Accesses.{Access, CopyBytes, TellFigures}
 use Rattle.vb_monitor.specs.Regions.{spot}
 use Rattle.vb_monitor.specs.Ends.{Whole, Ends, Breaks}
 use Rattle.vb_monitor.specs.Giving.{Then, AfterName, after_last, with_held}
-use Rattle.vb_monitor.specs.Pieces.{CopiesParts, all_parts}
+use Rattle.vb_monitor.specs.Pieces.{all_parts}
+use Rattle.vb_monitor.specs.Portions.{CopiesParts}
 
 -- ---- what the bytes come to
 
--- The pages of a request are named.
+-- The pages of a request's last portion are named.
 pub record NamesBytes (w : Whole) (next : Then) (d : Device) (tally : Tally) (head : ℕ)
     (bytes : List ℕ) (log : List Access) : Type 0 where
   pub answer : Result Named Denial
@@ -77,7 +80,7 @@ abbrev pub FiguresBy : Option Denial → Whole → Device → Tally → ℕ → 
 FiguresBy (Some why) w d tally head bytes log = Ends w d tally (Some why) false log
 FiguresBy None w d tally head bytes log = TellsFigures w d tally head bytes log
 
--- What these bytes of a chain's pieces come to.
+-- What the bytes of a chain's last portion come to.
 abbrev pub AfterBytes : Kind → Whole → Then → Device → Tally → ℕ → List ℕ → List Access → Type 0
 AfterBytes Inflate w next d tally head bytes log = NamesBytes w next d tally head bytes log
 AfterBytes Deflate w next d tally head bytes log = NamesBytes w next d tally head bytes log
@@ -87,20 +90,34 @@ AfterBytes Report w next d tally head bytes log = NamesBytes w next d tally head
 
 -- ---- what the pieces come to
 
+-- A length that a request may have which names at most this many pages.
+abbrev pub is_length_within : ℕ → ℕ → Bool
+is_length_within most len = nat_lt 0 len && (nat_le len (4 * most) && (len % 4 == 0))
+
+-- How many bytes such a request of these pieces has, or what is wrong with them.
+abbrev pub request_length_within : ℕ → List Piece → Result ℕ ChainFault
+request_length_within most pieces =
+    if list_any (λ piece. piece.writable) pieces then Err WrongDirection
+    else (if not (is_length_within most (total_length pieces)) then Err BadLength
+    else Ok (total_length pieces))
+
+-- What the bytes of the last portion come to, of a chain of this head.
+abbrev pub ServesBytes : Whole → Then → ℕ → Device → Tally → List ℕ → List Access → Type 0
+ServesBytes w next head d tally bytes log = AfterBytes w.kind w next d tally head bytes log
+
 abbrev pub CopiesBy : Result ℕ ChainFault → Whole → Then → Device → Tally → ℕ → List Piece →
     List Access → Type 0
 CopiesBy (Err fault) w next d tally head pieces log = Breaks w d tally fault log
 CopiesBy (Ok bytes) w next d tally head pieces log =
-    CopiesParts w (λ bytes rest. AfterBytes w.kind w next d tally head bytes rest) d tally
-    (all_parts pieces) [] log
+    CopiesParts w (ServesBytes w next head) d tally (all_parts pieces) [] log
 
 -- A chain of these pieces is served: the bytes of a report aren't read.
 abbrev pub ServesPieces : Kind → Whole → Then → Device → Tally → ℕ → List Piece → List Access →
     Type 0
 ServesPieces Inflate w next d tally head pieces log =
-    CopiesBy (request_length pieces) w next d tally head pieces log
+    CopiesBy (request_length_within tally.longest pieces) w next d tally head pieces log
 ServesPieces Deflate w next d tally head pieces log =
-    CopiesBy (request_length pieces) w next d tally head pieces log
+    CopiesBy (request_length_within tally.longest pieces) w next d tally head pieces log
 ServesPieces Statistics w next d tally head pieces log =
     CopiesBy (statistics_length pieces) w next d tally head pieces log
 ServesPieces Report w next d tally head pieces log = NamesReport w next d tally head pieces log

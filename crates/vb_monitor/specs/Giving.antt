@@ -1,7 +1,7 @@
 -- What is done for a chain whose pages or figures are known: they are told, pages that were given
 -- up are discarded, and then the chain is given back (VIRTIO 1.1, 2.6.8 and 5.5.6).
 use Rattle.std.specs.Prelude.{◌≡◌, ℕ, ◌+◌, ◌-◌, Bool, true, false, not, ◌||◌, List, [], ◌∷◌, ◌++◌}
-use Rattle.std.specs.Prelude.{map, take}
+use Rattle.std.specs.Prelude.{map, take, min}
 use Rattle.std.specs.Prelude.{Option, Some, None, Result, Ok, Err}
 use Rattle.vb_chain.specs.declared.fault.ChainFault.TheVariants.{OutOfRam}
 use Rattle.vb_core.specs.declared.kinds.Kind.{Kind}
@@ -105,19 +105,20 @@ cuts_for Statistics kept regions runs = []
 cuts_for Report true regions runs = []
 cuts_for Report false regions runs = cuts_of regions runs
 
--- These parts are discarded, in order, and then the chain is given back.
-pub record DiscardsThen (w : Whole) (next : Then) (d : Device) (tally : Tally) (head : ℕ)
-    (cuts : List Cut) (log : List Access) : Type 0 where
-  pub rest : List Access
-  pub asks : log ≡ map Discard cuts ++ rest
-  pub gives_back : GivesBack w next d tally head rest
+-- These parts are discarded, in order, and then this comes.
+pub record DiscardsThen (on : List Access → Type 0) (cuts : List Cut) (log : List Access) : Type 0
+  where
+    pub rest : List Access
+    pub asks : log ≡ map Discard cuts ++ rest
+    pub goes_on : on rest
 
 -- A chain that is held isn't given back, and its notice ends; of any other one these parts are
 -- discarded first.
 abbrev pub OnceTold : Option HeldChain → Whole → Then → Device → Tally → ℕ → List Cut →
     List Access → Type 0
 OnceTold (Some held) w next d tally head cuts log = Ends w d tally None false log
-OnceTold None w next d tally head cuts log = DiscardsThen w next d tally head cuts log
+OnceTold None w next d tally head cuts log =
+    DiscardsThen (GivesBack w next d tally head) cuts log
 
 -- The pages are told; then their chain is held, or they are discarded unless they are kept.
 pub record TellsThen (w : Whole) (next : Then) (d : Device) (tally : Tally) (head : ℕ)
@@ -127,9 +128,16 @@ pub record TellsThen (w : Whole) (next : Then) (d : Device) (tally : Tally) (hea
   pub goes_on : OnceTold tally.held w next d tally head
       (cuts_for w.kind (is_kept w.kind tally.keeps (keeps_reports d)) w.regions runs) rest
 
--- n pages fewer may be named yet.
+-- n pages more of the chain are told, as far as 32 bits count them.
+abbrev pub more_told : ℕ → ℕ → ℕ
+more_told told pages = min (told + pages) 0xffffffff
+
+-- n pages of the chain are told: as many fewer may be named yet.
 abbrev pub spent : ℕ → Tally → Tally
-spent pages tally = record tally { pages = tally.pages - pages }
+spent pages tally = record tally {
+  pages = tally.pages - pages;
+  told = more_told tally.told pages;
+}
 
 -- ---- chains that are held
 
@@ -141,9 +149,11 @@ abbrev pub held_if : Bool → ℕ → ℕ → Tally → Tally
 held_if true head pages tally = with_held head pages tally
 held_if false head pages tally = tally
 
--- The pages of a chain were named, n: it is held where the settings say so of its kind.
+-- The pages of a chain, or those of its last portion, were named, n: it is held where the settings
+-- say so of its kind, with all its pages.
 abbrev pub with_named : Kind → Settings → ℕ → ℕ → Tally → Tally
-with_named kind s head pages tally = held_if (holds_chains kind s) head pages (spent pages tally)
+with_named kind s head pages tally =
+    held_if (holds_chains kind s) head (more_told tally.told pages) (spent pages tally)
 
 -- The device once this was answered to the last numbers of a request: its entry is taken where they
 -- were named.

@@ -1,7 +1,6 @@
 -- How much a notice does yet at most, as a number that each step makes smaller.
-use Rattle.std.specs.Prelude.{ℕ, ◌+◌, ◌-◌, ◌*◌, List, length}
+use Rattle.std.specs.Prelude.{ℕ, ◌+◌, ◌-◌, ◌*◌, ◌^◌, Bool, true, false, List, length}
 use Rattle.vb_virtio.specs.declared.limits.TheConstants.{MAX_QUEUE_SIZE}
-use Rattle.vb_virtio.specs.Tests.{one_if}
 use Rattle.vb_monitor.specs.declared.room.TheConstants.{MAX_RUNS}
 use Rattle.vb_monitor.specs.declared.regions.Region.{Region}
 use Rattle.vb_monitor.specs.Steps.{Step}
@@ -22,9 +21,22 @@ parts_left regions run from = (regions - from) + (MAX_RUNS - (run + 1)) * region
 abbrev pub once_named : List Region → ℕ
 once_named regions = 3 + MAX_RUNS * length regions
 
--- Before that two parts of each piece are copied.
+-- Bytes of a chain's pieces that are copied yet at most, from one after `done` of this piece's
+-- bytes on: a piece has no more than its length of 32 bits says.
+abbrev pub bytes_left : ℕ → ℕ → ℕ
+bytes_left piece done = (MAX_QUEUE_SIZE - piece) * 2 ^ 32 - done
+
+-- Before that its pieces are copied from a place on, and each portion is told and discarded: a byte
+-- at least at once.
+unfoldable pub copies_left : List Region → ℕ → ℕ → ℕ
+copies_left regions piece done = (once_named regions + 1) * (bytes_left piece done + 1)
+
+abbrev pub onward_left : Bool → List Region → ℕ → ℕ → ℕ
+onward_left true regions piece done = copies_left regions piece done
+onward_left false regions piece done = 0
+
 abbrev pub once_whole : List Region → ℕ
-once_whole regions = once_named regions + 2 * MAX_QUEUE_SIZE + 1
+once_whole regions = once_named regions + copies_left regions 0 0
 
 -- Before that the descriptors are, of which n were.
 abbrev pub once_copied : List Region → ℕ → ℕ
@@ -45,10 +57,13 @@ left_of regions (AwaitsFlags at why more) = 1
 left_of regions (AwaitsIndex at) = 2
 left_of regions (TellsFigures head count) = 2
 left_of regions (GivesBack spots entry) = 2
-left_of regions (Discards cut x) = 3 + parts_left (length regions) x.run x.from
-left_of regions (TellsPages head named) = once_named regions
-left_of regions (AwaitsPart at place) =
-    once_named regions + 1 + (2 * MAX_QUEUE_SIZE - (2 * place.piece + one_if place.is_second))
+left_of regions (Discards cut x) =
+    3 + parts_left (length regions) x.run x.from
+    + onward_left x.further regions x.place.piece x.place.done
+left_of regions (TellsPages place named further) =
+    once_named regions + onward_left further regions place.piece place.done
+left_of regions (AwaitsPart at place into len) =
+    once_named regions + 1 + copies_left regions place.piece place.done
 left_of regions (AwaitsDescriptor at walk) = once_copied regions walk.count + 1
 left_of regions (AwaitsEntry at) = of_chain regions
 

@@ -3,6 +3,7 @@ pub mod Accesses
 pub mod Ends
 pub mod Giving
 pub mod Pieces
+pub mod Portions
 pub mod Chains
 pub mod Rows
 pub mod Notices

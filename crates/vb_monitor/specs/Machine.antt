@@ -17,6 +17,8 @@ use Rattle.vb_monitor.specs.declared.outcome.Tally.{Tally}
 use Rattle.vb_monitor.specs.declared.outcome.Outcome.{Outcome}
 use Rattle.vb_monitor.specs.declared.regions.Spot.{Spot}
 use Rattle.vb_monitor.specs.declared.step.Walk.{Walk}
+use Rattle.vb_monitor.specs.declared.step.Place.{Place}
+use Rattle.vb_core.specs.declared.name.Named.{Named}
 use Rattle.vb_monitor.specs.Steps.{Step}
 use Rattle.vb_monitor.specs.declared.step.Phase.{Phase}
 use Rattle.vb_monitor.specs.declared.step.Phase.TheVariants.{AwaitsIndex, AwaitsEntry}
@@ -29,12 +31,12 @@ use Rattle.vb_monitor.specs.Accesses.{Discard}
 use Rattle.vb_monitor.specs.Regions.{cuts_from, cuts_of}
 use Rattle.vb_monitor.specs.Ends.{Whole, Stops, AsksFlags}
 use Rattle.vb_monitor.specs.Giving.{Then, used_accesses, with_given, WritesUsed, DiscardsThen}
-use Rattle.vb_monitor.specs.Giving.{TellsThen}
-use Rattle.vb_monitor.specs.Pieces.{second_part, unless_empty, all_parts, AsksPart}
+use Rattle.vb_monitor.specs.Giving.{TellsThen, OnceTold, GivesBack as GivesChainBack}
+use Rattle.vb_monitor.specs.Pieces.{parts_on, AsksPart}
 use Rattle.vb_core.specs.Pieces.{pieces_in}
-use Rattle.vb_monitor.specs.Pieces.{CopiesParts}
+use Rattle.vb_monitor.specs.Portions.{TellsPortion, CopiesParts, CopiesFurther}
 use Rattle.vb_monitor.specs.Chains.{longest, TableRow, row_of, AsksRow, Follows, ServesPieces}
-use Rattle.vb_monitor.specs.Chains.{AfterBytes, TellsThenEnds}
+use Rattle.vb_monitor.specs.Chains.{ServesBytes, TellsThenEnds}
 use Rattle.vb_monitor.specs.Notices.{AsksIndex, AsksEntry, ServesPublished, AfterGiven}
 
 abbrev pub whole : List Region → Kind → Device → Outcome → Whole
@@ -51,15 +53,11 @@ row_in walk bytes = row_of walk.first (take (row_bytes walk) bytes)
 
 -- ---- what is left
 
--- The second part of the first of these pieces.
-abbrev pub seconds : List Piece → List Part
-seconds [] = []
-seconds (p ∷ ps) = unless_empty (second_part p)
-
--- The parts after one of a piece's two: those after its second one, or after its first.
-abbrev pub parts_after : Bool → ℕ → List Piece → List Part
-parts_after is_second piece pieces =
-    (if is_second then [] else seconds (drop piece pieces)) ++ all_parts (drop (piece + 1) pieces)
+-- The parts that are left from a place in a chain's pieces on, where `into` bytes of its portion
+-- were copied.
+abbrev pub parts_from : ℕ → Place → Room → List Part
+parts_from into place room =
+    parts_on into place.done (drop place.piece (pieces_in (take place.count room.pieces)))
 
 -- The parts of the first of these runs in the regions from this number on.
 abbrev pub cuts_on : List Region → ℕ → List Run → List Cut
@@ -77,8 +75,8 @@ is_ended (Ended why interrupt more) = true
 is_ended (AwaitsIndex at) = false
 is_ended (AwaitsEntry at) = false
 is_ended (AwaitsDescriptor at walk) = false
-is_ended (AwaitsPart at place) = false
-is_ended (TellsPages head named) = false
+is_ended (AwaitsPart at place into len) = false
+is_ended (TellsPages place named further) = false
 is_ended (TellsFigures head count) = false
 is_ended (Discards cut x) = false
 is_ended (GivesBack spots entry) = false
@@ -91,8 +89,8 @@ outcome_at (Ended why interrupt more) tally =
 outcome_at (AwaitsIndex at) tally = None
 outcome_at (AwaitsEntry at) tally = None
 outcome_at (AwaitsDescriptor at walk) tally = None
-outcome_at (AwaitsPart at place) tally = None
-outcome_at (TellsPages head named) tally = None
+outcome_at (AwaitsPart at place into len) tally = None
+outcome_at (TellsPages place named further) tally = None
 outcome_at (TellsFigures head count) tally = None
 outcome_at (Discards cut x) tally = None
 outcome_at (GivesBack spots entry) tally = None
@@ -100,11 +98,11 @@ outcome_at (AwaitsFlags at why more) tally = None
 
 -- The bytes that are to be copied have room, and so have the runs or figures that are to be told.
 abbrev pub Fits : Phase → Type 0
-Fits (AwaitsPart at place) = place.into + place.length ≤ MAX_BYTES
+Fits (AwaitsPart at place into len) = into + len ≤ MAX_BYTES
 Fits (AwaitsIndex at) = Unit {0}
 Fits (AwaitsEntry at) = Unit {0}
 Fits (AwaitsDescriptor at walk) = row_bytes walk ≤ MAX_BYTES
-Fits (TellsPages head named) = named.runs ≤ MAX_RUNS
+Fits (TellsPages place named further) = named.runs ≤ MAX_RUNS
 Fits (TellsFigures head count) = count ≤ MAX_FIGURES
 Fits (Discards cut x) = Unit {0}
 Fits (GivesBack spots entry) = Unit {0}
@@ -114,14 +112,14 @@ Fits (Ended why interrupt more) = Unit {0}
 -- How far along a chain that is done which needs no answer: 0, something is told; 1, bytes are
 -- discarded; 2, the chain is given back; 3, an answer is awaited, or nothing is to be done.
 abbrev pub stage : Phase → ℕ
-stage (TellsPages head named) = 0
+stage (TellsPages place named further) = 0
 stage (TellsFigures head count) = 0
 stage (Discards cut x) = 1
 stage (GivesBack spots entry) = 2
 stage (AwaitsIndex at) = 3
 stage (AwaitsEntry at) = 3
 stage (AwaitsDescriptor at walk) = 3
-stage (AwaitsPart at place) = 3
+stage (AwaitsPart at place into len) = 3
 stage (AwaitsFlags at why more) = 3
 stage (Ended why interrupt more) = 3
 
@@ -130,11 +128,11 @@ abbrev pub waits : Phase → Bool
 waits (AwaitsIndex at) = true
 waits (AwaitsEntry at) = true
 waits (AwaitsDescriptor at walk) = true
-waits (AwaitsPart at place) = true
+waits (AwaitsPart at place into len) = true
 waits (AwaitsFlags at why more) = true
 waits (Ended why interrupt more) = true
 waits (Discards cut x) = true
-waits (TellsPages head named) = false
+waits (TellsPages place named further) = false
 waits (TellsFigures head count) = false
 waits (GivesBack spots entry) = false
 
@@ -143,11 +141,11 @@ abbrev pub may_go_on : Phase → Bool
 may_go_on (AwaitsIndex at) = true
 may_go_on (AwaitsEntry at) = true
 may_go_on (AwaitsDescriptor at walk) = nat_le (row_bytes walk) MAX_BYTES
-may_go_on (AwaitsPart at place) = nat_le (place.into + place.length) MAX_BYTES
+may_go_on (AwaitsPart at place into len) = nat_le (into + len) MAX_BYTES
 may_go_on (AwaitsFlags at why more) = true
 may_go_on (Ended why interrupt more) = true
 may_go_on (Discards cut x) = true
-may_go_on (TellsPages head named) = false
+may_go_on (TellsPages place named further) = false
 may_go_on (TellsFigures head count) = false
 may_go_on (GivesBack spots entry) = false
 
@@ -161,8 +159,31 @@ abbrev pub serves : Whole → Tally → Device → ℕ → List Piece → List A
 serves w tally d head pieces log =
     ServesPieces w.kind w (next_chain w tally) d tally head pieces log
 
-abbrev pub served : Whole → Tally → Device → ℕ → List ℕ → List Access → Type 0
-served w tally d head bytes log = AfterBytes w.kind w (next_chain w tally) d tally head bytes log
+abbrev pub served : Whole → Tally → ℕ → Device → Tally → List ℕ → List Access → Type 0
+served w tally head = ServesBytes w (next_chain w tally) head
+
+-- What comes once the pages that were told are discarded: copying goes on from this place, or the
+-- chain is given back.
+abbrev pub Onward : Bool → Whole → Tally → Device → Place → Room → List Access → Type 0
+Onward true w tally d place room log =
+    CopiesFurther w (served w tally place.head) d tally (parts_from 0 place room) log
+Onward false w tally d place room log =
+    GivesChainBack w (next_chain w tally) d tally place.head log
+
+-- What comes once pages were told that have these parts: a chain that is held isn't given back, all
+-- of which was told.
+abbrev pub OnceToldBy : Bool → Whole → Tally → Device → Place → Room → List Cut → List Access →
+    Type 0
+OnceToldBy true w tally d place room cuts log =
+    DiscardsThen (Onward true w tally d place room) cuts log
+OnceToldBy false w tally d place room cuts log =
+    OnceTold tally.held w (next_chain w tally) d tally place.head cuts log
+
+abbrev pub TellsBy : Bool → Whole → Tally → Device → Place → Named → Room → List Access → Type 0
+TellsBy true w tally d place named room log =
+    TellsPortion w (Onward true w tally d place room) d tally (take named.runs room.runs) named log
+TellsBy false w tally d place named room log =
+    TellsThen w (next_chain w tally) d tally place.head (take named.runs room.runs) named log
 
 -- These accesses may come, where this is to be done next.
 abbrev pub AheadAt : Phase → Whole → Tally → Device → Room → List Access → Type 0
@@ -174,17 +195,16 @@ AheadAt (AwaitsDescriptor at walk) w tally d room log =
     (Follows (longest (ring_of w.kind d).size - (walk.count + 1)) w d tally
     (serves w tally d walk.head)) (serves w tally d walk.head) walk.first walk.further walk.writing
     (pieces_in (take walk.count room.pieces)) at log
-AheadAt (AwaitsPart at place) w tally d room log =
-    AsksPart (CopiesParts w (served w tally d place.head) d tally
-    (parts_after place.is_second place.piece (pieces_in (take place.count room.pieces))))
-    place.length
-    (take place.into room.bytes) at log
-AheadAt (TellsPages head named) w tally d room log =
-    TellsThen w (next_chain w tally) d tally head (take named.runs room.runs) named log
+AheadAt (AwaitsPart at place into len) w tally d room log =
+    AsksPart
+    (CopiesParts w (served w tally place.head) d tally (parts_from (into + len) place room)) len
+    (take into room.bytes) at log
+AheadAt (TellsPages place named further) w tally d room log =
+    TellsBy further w tally d place named room log
 AheadAt (TellsFigures head count) w tally d room log =
     TellsThenEnds w d tally (take count room.figures) log
 AheadAt (Discards cut x) w tally d room log =
-    DiscardsThen w (next_chain w tally) d tally x.head
+    DiscardsThen (Onward x.further w tally d x.place room)
     (cut ∷ cuts_after x.from x.run w.regions (take x.runs room.runs)) log
 AheadAt (GivesBack spots entry) w tally d room log =
     WritesUsed (next_chain w tally d (with_given tally)) spots entry log
@@ -210,9 +230,9 @@ Does (AwaitsIndex at) kind answer before room done = done ≡ ReadWord at answer
 Does (AwaitsEntry at) kind answer before room done = done ≡ Acquire ∷ ReadWord at answer ∷ []
 Does (AwaitsDescriptor at walk) kind answer before room done =
     Copies at 0 (row_bytes walk) before room.bytes done
-Does (AwaitsPart at place) kind answer before room done =
-    Copies at place.into place.length before room.bytes done
-Does (TellsPages head named) kind answer before room done =
+Does (AwaitsPart at place into len) kind answer before room done =
+    Copies at into len before room.bytes done
+Does (TellsPages place named further) kind answer before room done =
     done ≡ ToldPages kind (take named.runs room.runs) named ∷ []
 Does (TellsFigures head count) kind answer before room done =
     done ≡ ToldFigures (take count room.figures) ∷ []
@@ -228,8 +248,8 @@ is_discarding (Discards cut x) = true
 is_discarding (AwaitsIndex at) = false
 is_discarding (AwaitsEntry at) = false
 is_discarding (AwaitsDescriptor at walk) = false
-is_discarding (AwaitsPart at place) = false
-is_discarding (TellsPages head named) = false
+is_discarding (AwaitsPart at place into len) = false
+is_discarding (TellsPages place named further) = false
 is_discarding (TellsFigures head count) = false
 is_discarding (GivesBack spots entry) = false
 is_discarding (AwaitsFlags at why more) = false

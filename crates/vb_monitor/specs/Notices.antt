@@ -103,8 +103,9 @@ AfterGivenBy None w next d tally log = next d tally log
 abbrev pub AfterGiven : Whole → Then → Device → Tally → List Access → Type 0
 AfterGiven w next d tally log = AfterGivenBy tally.held w next d tally log
 
+-- Another chain begins, after which n may be served yet; nothing of it was told.
 abbrev pub with_chains : ℕ → Tally → Tally
-with_chains n tally = record tally { chains = n }
+with_chains n tally = record tally { chains = n; told = 0 }
 
 -- A chain is available: where no more may be served or named, it is told that one does.
 abbrev pub TakesUnlessSpent : Bool → Whole → Then → Device → Tally → List Access → Type 0
@@ -141,6 +142,8 @@ fresh budget = record {
   given = false;
   held = None;
   published = 0;
+  longest = budget.longest;
+  told = 0;
 }
 
 -- The queue of a kind is served, of which no chain is held.
@@ -152,7 +155,8 @@ Serves regions kind budget d1 d2 outcome log =
 -- Nothing may be served: a chain that is held is asked for, and no more.
 abbrev pub only_asked : HeldChain → Tally
 only_asked held =
-    with_held held.head held.pages (fresh (record { chains = 0; pages = 0; keeps = false }))
+    with_held held.head held.pages
+    (fresh (record { chains = 0; pages = 0; keeps = false; longest = 0 }))
 
 -- A chain that is held of a kind's queue is given back: new statistics are asked for by it (VIRTIO
 -- 1.1, 5.5.6.3), or a deflate is granted (5.5.6).

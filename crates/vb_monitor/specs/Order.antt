@@ -1,5 +1,5 @@
 -- What comes directly after what in a list of accesses.
-use Rattle.std.specs.Prelude.{◌≡◌, Bool, true, false, List, [], ◌∷◌, Option, Some, None}
+use Rattle.std.specs.Prelude.{◌≡◌, Bool, true, false, ◌||◌, List, [], ◌∷◌, Option, Some, None}
 use Rattle.vb_monitor.specs.Accesses.{Access, ReadWord, CopyBytes, Acquire, Release, Full}
 use Rattle.vb_monitor.specs.Accesses.{TellPages, TellFigures, Discard, WriteNumber, WriteWord}
 
@@ -96,14 +96,15 @@ is_number (Some (WriteWord at word)) = false
 
 -- ---- the order
 
--- Bytes are copied directly after what was read, pages and figures are told directly after bytes
+-- Bytes are copied directly after what was read, or after pages of a portion that were told or
+-- discarded, pages and figures are told directly after bytes
 -- that were copied, pages are discarded directly after pages that were told or discarded, and an
 -- element's numbers are written directly after these; after them a release fence, and directly
 -- after that the index. An acquire fence is directly after a word that was read, or after an index
 -- that was written.
 abbrev pub MayFollow : Option Access → Access → Type 0
 MayFollow before (ReadWord at answer) = Unit {0}
-MayFollow before (CopyBytes at answer) = is_read before ≡ true
+MayFollow before (CopyBytes at answer) = (is_read before || is_told before) ≡ true
 MayFollow before Acquire = is_word before ≡ true
 MayFollow before Release = is_number before ≡ true
 MayFollow before Full = Unit {0}

@@ -14,7 +14,7 @@ use Rattle.vb_monitor.specs.declared.cuts.Cut.{Cut}
 use Rattle.vb_monitor.specs.declared.parts.Part.{Part}
 use Rattle.vb_monitor.specs.Accesses.{Access, ReadWord, CopyBytes, Acquire, Release, Full}
 use Rattle.vb_monitor.specs.Accesses.{TellPages, TellFigures, Discard, WriteNumber, WriteWord}
-use Rattle.vb_monitor.specs.Giving.{cuts_for}
+use Rattle.vb_monitor.specs.Giving.{cuts_for, more_told}
 use Rattle.vb_monitor.specs.Pieces.{all_parts}
 use Rattle.vb_monitor.specs.Chains.{TableRow, row_of, in_row, descriptor_of}
 
@@ -27,7 +27,7 @@ Each may before (x ∷ xs) = may before x × Each may (x ∷ before) xs
 
 -- What is known of a chain since its entry was read: its head, the number of the descriptor that is
 -- read next, and the pieces of those that were read; or, of a whole chain, its pieces, the parts of
--- them that are still to be read, and the bytes of those that were.
+-- them that are still to be read, and the bytes of those that were and weren't told yet.
 pub data Known : Type 0 where
   Unknown : Known
   Walks : (head number : ℕ) (pieces : List Piece) → Known
@@ -67,6 +67,19 @@ with_copied kind bytes (Has head pieces [] so_far) = Has head pieces [] so_far
 with_copied kind bytes (Has head pieces (part ∷ parts) so_far) =
     Has head pieces parts (so_far ++ bytes)
 
+-- What is known once the pages were told that these bytes name.
+abbrev pub with_told : Known → Known
+with_told Unknown = Unknown
+with_told (Walks head number pieces) = Walks head number pieces
+with_told (Has head pieces parts so_far) = Has head pieces parts []
+
+-- All of a chain was read.
+abbrev pub is_whole : Known → Bool
+is_whole Unknown = false
+is_whole (Walks head number pieces) = false
+is_whole (Has head pieces [] so_far) = true
+is_whole (Has head pieces (part ∷ parts) so_far) = false
+
 -- An acquire fence is last.
 abbrev pub is_fenced : List Access → Bool
 is_fenced (Acquire ∷ xs) = true
@@ -94,7 +107,7 @@ known kind (CopyBytes at answer ∷ xs) = with_copied kind answer (known kind xs
 known kind (Acquire ∷ xs) = known kind xs
 known kind (Release ∷ xs) = known kind xs
 known kind (Full ∷ xs) = known kind xs
-known kind (TellPages of runs named ∷ xs) = known kind xs
+known kind (TellPages of runs named ∷ xs) = with_told (known kind xs)
 known kind (TellFigures figures ∷ xs) = known kind xs
 known kind (Discard cut ∷ xs) = known kind xs
 known kind (WriteNumber at number ∷ xs) = known kind xs
@@ -102,20 +115,25 @@ known kind (WriteWord at word ∷ xs) = Unknown
 
 -- ---- the queue
 
--- How far the device is in a ring: one more entry is taken where a chain's pages or figures are
--- told, and one more used where its index is written.
-abbrev pub ring_after : Virtqueue → List Access → Virtqueue
-ring_after r [] = r
-ring_after r (ReadWord at answer ∷ xs) = ring_after r xs
-ring_after r (CopyBytes at answer ∷ xs) = ring_after r xs
-ring_after r (Acquire ∷ xs) = ring_after r xs
-ring_after r (Release ∷ xs) = ring_after r xs
-ring_after r (Full ∷ xs) = ring_after r xs
-ring_after r (TellPages kind runs named ∷ xs) = with_taken (ring_after r xs)
-ring_after r (TellFigures figures ∷ xs) = with_taken (ring_after r xs)
-ring_after r (Discard cut ∷ xs) = ring_after r xs
-ring_after r (WriteNumber at number ∷ xs) = ring_after r xs
-ring_after r (WriteWord at word ∷ xs) = with_used (ring_after r xs)
+abbrev pub with_taken_if : Bool → Virtqueue → Virtqueue
+with_taken_if true r = with_taken r
+with_taken_if false r = r
+
+-- How far the device is in a ring: one more entry is taken where the last pages of a chain or its
+-- figures are told, and one more used where its index is written.
+abbrev pub ring_after : Kind → Virtqueue → List Access → Virtqueue
+ring_after kind r [] = r
+ring_after kind r (ReadWord at answer ∷ xs) = ring_after kind r xs
+ring_after kind r (CopyBytes at answer ∷ xs) = ring_after kind r xs
+ring_after kind r (Acquire ∷ xs) = ring_after kind r xs
+ring_after kind r (Release ∷ xs) = ring_after kind r xs
+ring_after kind r (Full ∷ xs) = ring_after kind r xs
+ring_after kind r (TellPages of runs named ∷ xs) =
+    with_taken_if (is_whole (known kind xs)) (ring_after kind r xs)
+ring_after kind r (TellFigures figures ∷ xs) = with_taken (ring_after kind r xs)
+ring_after kind r (Discard cut ∷ xs) = ring_after kind r xs
+ring_after kind r (WriteNumber at number ∷ xs) = ring_after kind r xs
+ring_after kind r (WriteWord at word ∷ xs) = with_used (ring_after kind r xs)
 
 -- The index that was read, or else the word that this access reads.
 abbrev pub earlier : Option ℕ → Access → Option ℕ
@@ -156,3 +174,19 @@ left kept regions (TellFigures figures ∷ xs) = left kept regions xs
 left kept regions (Discard cut ∷ xs) = without_first (left kept regions xs)
 left kept regions (WriteNumber at number ∷ xs) = left kept regions xs
 left kept regions (WriteWord at word ∷ xs) = left kept regions xs
+
+-- ---- what was told
+
+-- How many pages were told since an entry was read, as far as 32 bits count them.
+abbrev pub pages_told : List Access → ℕ
+pages_told [] = 0
+pages_told (ReadWord at answer ∷ xs) = 0
+pages_told (CopyBytes at answer ∷ xs) = pages_told xs
+pages_told (Acquire ∷ xs) = pages_told xs
+pages_told (Release ∷ xs) = pages_told xs
+pages_told (Full ∷ xs) = pages_told xs
+pages_told (TellPages kind runs named ∷ xs) = more_told (pages_told xs) named.pages
+pages_told (TellFigures figures ∷ xs) = pages_told xs
+pages_told (Discard cut ∷ xs) = pages_told xs
+pages_told (WriteNumber at number ∷ xs) = pages_told xs
+pages_told (WriteWord at word ∷ xs) = pages_told xs

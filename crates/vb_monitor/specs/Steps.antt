@@ -37,6 +37,8 @@ tally_of c = record {
   given = says_yes c.given;
   held = held_in (c.taken == 0) c.taken_head c.taken_pages;
   published = c.published;
+  longest = c.longest;
+  told = c.told;
 }
 
 -- The row that is copied begins with a descriptor's number, which has 16 bits, and has room.
@@ -50,17 +52,16 @@ walk_of c = record {
 }
 
 abbrev pub place_of : Progress → Place
-place_of c = record {
-  head = c.head;
-  count = c.count;
-  piece = c.number;
-  is_second = says_yes c.flag;
-  into = c.into;
-  length = c.length;
-}
+place_of c = record { head = c.head; count = c.count; piece = c.piece; done = c.done }
 
 abbrev pub discarding_of : Progress → Discarding
-discarding_of c = record { head = c.head; runs = c.length; run = c.number; from = c.from }
+discarding_of c = record {
+  place = place_of c;
+  further = says_yes c.flag;
+  runs = c.length;
+  run = c.number;
+  from = c.from;
+}
 
 abbrev pub part_of : Progress → Cut
 part_of c = record {
@@ -77,10 +78,10 @@ phase_at n c =
     else if n == 1 then AwaitsIndex c.at
     else if n == 2 then AwaitsEntry c.at
     else if n == 3 then AwaitsDescriptor c.at (walk_of c)
-    else if n == 4 then AwaitsPart c.at (place_of c)
+    else if n == 4 then AwaitsPart c.at (place_of c) c.into c.length
     else if n == 5 then AwaitsFlags c.at (why_of c.code c.rule) (says_yes c.more)
     else if n == 6 then Discards (part_of c) (discarding_of c)
-    else if n == 7 then TellsPages c.head c.named
+    else if n == 7 then TellsPages (place_of c) c.named (says_yes c.flag)
     else if n == 8 then TellsFigures c.head c.length
     else GivesBack c.spots c.entry
 

@@ -1,7 +1,8 @@
 -- A notice over memory that stays as it is for as long as the notice reads of it: it does what the
 -- bytes of memory say.
 use Rattle.std.specs.Prelude.{◌≡◌, ◌≢◌, ◌⊎◌, ℕ, ◌+◌, ◌*◌, ◌%◌, ◌<◌, List, [], ◌∷◌, ◌++◌, length}
-use Rattle.std.specs.Prelude.{map, Bool, true, false, Option, Some, None, Result, Ok, Err}
+use Rattle.std.specs.Prelude.{map, take, drop, ◌==◌, ◌≤◌, if◌then◌else◌, Bool, true, false}
+use Rattle.std.specs.Prelude.{Option, Some, None, Result, Ok, Err}
 use Rattle.std.specs.List.{range_with_len, flat_map, AllByRecursion}
 use Rattle.std.specs.Int.{w16, from_le_bytes}
 use Rattle.vb_chain.specs.declared.descriptor.Descriptor.{Descriptor}
@@ -10,7 +11,6 @@ use Rattle.vb_chain.specs.declared.fault.ChainFault.{ChainFault}
 use Rattle.vb_chain.specs.declared.fault.ChainFault.TheVariants.{IndexJump}
 use Rattle.vb_ring.specs.declared.device.Taken.{Taken}
 use Rattle.vb_ring.specs.Entries.{ahead, next_by}
-use Rattle.vb_request.specs.Request.{request_length}
 use Rattle.vb_request.specs.Statistics.{statistics_length}
 use Rattle.vb_request.specs.Report.{report_request}
 use Rattle.vb_core.specs.declared.kinds.Kind.{Kind}
@@ -23,14 +23,16 @@ use Rattle.vb_core.specs.Devices.{ring_of, with_one_taken, needing_reset}
 use Rattle.vb_core.specs.Report.{run_of}
 use Rattle.vb_monitor.specs.declared.regions.Region.{Region}
 use Rattle.vb_monitor.specs.declared.parts.Part.{Part}
+use Rattle.vb_monitor.specs.declared.room.TheConstants.{MAX_BYTES}
 use Rattle.vb_monitor.specs.declared.outcome.{Budget.Budget, Tally.Tally}
 use Rattle.vb_monitor.specs.Accesses.{Access, ReadWord, CopyBytes, Acquire, Release, Full}
 use Rattle.vb_monitor.specs.Accesses.{TellPages, TellFigures, Discard, WriteNumber, WriteWord}
 use Rattle.vb_monitor.specs.Regions.{spot}
-use Rattle.vb_monitor.specs.Chains.{descriptor_of, memory_end}
+use Rattle.vb_monitor.specs.Chains.{descriptor_of, memory_end, request_length_within}
 use Rattle.vb_monitor.specs.Within.{ChainWithin, FaultWithin}
 use Rattle.vb_monitor.specs.Ends.{Whole}
 use Rattle.vb_monitor.specs.Notices.{entry_offset, fresh, with_chains, with_published}
+use Rattle.vb_monitor.specs.Portions.{ServesPortion, CopiesFurther}
 use Rattle.vb_monitor.specs.Machine.{next_chain, serves}
 use Rattle.vb_monitor.specs.Giving.{TellsThen, spent}
 
@@ -134,12 +136,13 @@ is_read Deflate = true
 is_read Statistics = true
 is_read Report = false
 
--- How many bytes the pieces of a chain of this kind have, or what is wrong with them.
-abbrev pub length_of : Kind → List Piece → Result ℕ ChainFault
-length_of Inflate pieces = request_length pieces
-length_of Deflate pieces = request_length pieces
-length_of Statistics pieces = statistics_length pieces
-length_of Report pieces = request_length pieces
+-- How many bytes the pieces of a chain of this kind have, or what is wrong with them; a request may
+-- name this many pages.
+abbrev pub length_of : Kind → ℕ → List Piece → Result ℕ ChainFault
+length_of Inflate most pieces = request_length_within most pieces
+length_of Deflate most pieces = request_length_within most pieces
+length_of Statistics most pieces = statistics_length pieces
+length_of Report most pieces = request_length_within most pieces
 
 -- ---- what is done
 
@@ -175,7 +178,7 @@ DoesNext still w tally d log (Err fault) =
     EndsSo still (Some (Broken fault)) w (needing_reset d)
 DoesNext still w tally d log (Ok None) = EndsSo still None w d
 DoesNext still w tally d log (Ok (Some taken)) =
-    ServesTaken still taken (length_of w.kind taken.chain) w tally d log
+    ServesTaken still taken (length_of w.kind tally.longest taken.chain) w tally d log
 
 -- The pages of a report are told, a run for each piece, and then discarded, if they may be; or a
 -- rule is broken, as the pieces are no report.
@@ -207,3 +210,33 @@ bytes_of byte pieces = flat_map (λ p. bytes_from byte p.addr p.len) pieces
 abbrev pub ArePartsMapped : List Region → List Part → Type 0
 ArePartsMapped regions parts =
     AllByRecursion (λ part. spot regions (part.address + part.plus) part.length ≢ None) parts
+
+-- ---- portions
+
+-- The bytes of parts, one part after the other.
+abbrev pub bytes_of_parts : (ℕ → ℕ) → List Part → List ℕ
+bytes_of_parts byte parts =
+    flat_map (λ part. bytes_from byte (part.address + part.plus) part.length) parts
+
+-- After a full portion another one begins.
+abbrev pub in_portion : ℕ → ℕ
+in_portion n = if n == MAX_BYTES then 0 else n
+
+-- Each part has bytes, and ends within its portion, of which n bytes are before the first part.
+abbrev pub AreInPortions : ℕ → List Part → Type 0
+AreInPortions n [] = Unit {0}
+AreInPortions n (part ∷ parts) =
+    (1 ≤ part.length) × (in_portion n + part.length ≤ MAX_BYTES) ×
+    AreInPortions (in_portion n + part.length) parts
+
+-- The first portion of parts is served by its bytes, and copying goes on with the parts after it,
+-- which have all other bytes.
+pub record ServesFirst (still : List Access → Type 0) (byte : ℕ → ℕ) (w : Whole)
+    (served : Device → Tally → List ℕ → List Access → Type 0) (d : Device) (t : Tally)
+    (parts : List Part) (log : List Access) : Type 0 where
+  pub count : ℕ
+  pub left : bytes_of_parts byte (drop count parts) ≡ drop MAX_BYTES (bytes_of_parts byte parts)
+  pub portions : AreInPortions 0 (drop count parts)
+  pub serves_so : AfterReads still (ServesPortion w.kind w
+      (λ d2 t2 rest. CopiesFurther w served d2 t2 (drop count parts) rest) d t
+      (take MAX_BYTES (bytes_of_parts byte parts))) log

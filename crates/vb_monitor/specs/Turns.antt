@@ -25,6 +25,7 @@ use Rattle.vb_core.specs.Statistics.{AreFigures}
 use Rattle.vb_monitor.specs.declared.regions.Region.{Region}
 use Rattle.vb_monitor.specs.declared.regions.Spot.{Spot}
 use Rattle.vb_monitor.specs.declared.cuts.Cut.{Cut}
+use Rattle.vb_monitor.specs.declared.room.TheConstants.{MAX_BYTES}
 use Rattle.vb_monitor.specs.Accesses.{Access, ReadWord, CopyBytes, Acquire, Release, Full}
 use Rattle.vb_monitor.specs.Accesses.{TellPages, TellFigures, Discard, WriteNumber, WriteWord}
 use Rattle.vb_monitor.specs.Regions.{spot}
@@ -106,12 +107,12 @@ IsPublished (Some index) r = stands r index ≡ Ok true
 -- after the flags.
 abbrev pub ReadsInTurn : List Region → Kind → Device → List Access → Access → Type 0
 ReadsInTurn regions kind d before (ReadWord at answer) =
-    ReadsWord regions (ring_after (ring_of kind d) before) before at
+    ReadsWord regions (ring_after kind (ring_of kind d) before) before at
 ReadsInTurn regions kind d before (CopyBytes at answer) =
-    CopiesNext regions (ring_after (ring_of kind d) before) (known kind before) at answer
+    CopiesNext regions (ring_after kind (ring_of kind d) before) (known kind before) at answer
 ReadsInTurn regions kind d before Acquire =
     (known kind before ≡ Unknown) × (is_over before ≡ false)
-    × IsPublished (index_read before) (ring_after (ring_of kind d) before)
+    × IsPublished (index_read before) (ring_after kind (ring_of kind d) before)
 ReadsInTurn regions kind d before Release = Unit {0}
 ReadsInTurn regions kind d before Full = is_over before ≡ false
 ReadsInTurn regions kind d before (TellPages of runs named) = Unit {0}
@@ -148,13 +149,14 @@ TellNamed Deflate s pieces bytes runs named = TellNumbers s bytes runs named
 TellNamed Statistics s pieces bytes runs named = ⊥
 TellNamed Report s pieces bytes runs named = TellPieces s pieces runs named
 
--- Pages are told once all of a chain was read: those that the bytes name that were copied since its
--- entry was read, or the pieces of a report.
+-- Pages are told once all of a chain was read, or a portion of it: those that the bytes name that
+-- were copied and weren't told yet, or the pieces of a report.
 abbrev pub TellsOf : Kind → Settings → Known → List Run → Named → Type 0
 TellsOf kind s Unknown runs named = ⊥
 TellsOf kind s (Walks head number pieces) runs named = ⊥
 TellsOf kind s (Has head pieces [] bytes) runs named = TellNamed kind s pieces bytes runs named
-TellsOf kind s (Has head pieces (part ∷ parts) bytes) runs named = ⊥
+TellsOf kind s (Has head pieces (part ∷ parts) bytes) runs named =
+    (length bytes ≡ MAX_BYTES) × TellNamed kind s pieces bytes runs named
 
 -- The figures that are in these bytes.
 pub record TellFiguresOf (bytes : List ℕ) (told : List Statistic) : Type 0 where
@@ -174,11 +176,13 @@ IsNext cut [] = ⊥
 IsNext cut (next ∷ others) = cut ≡ next
 
 -- Pages and figures are told of what was copied, and of pages that were told those parts are
--- discarded that may be, in their order; all of them before an element is written. Where a notice
--- keeps all pages none is, and none is of a report whose pages the device keeps.
+-- discarded that may be, in their order; all of them before anything else is copied or told, and
+-- before an element is written. Where a notice keeps all pages none is, and none is of a report
+-- whose pages the device keeps.
 abbrev pub TellsInTurn : List Region → Kind → Bool → Device → List Access → Access → Type 0
 TellsInTurn regions kind all d before (TellPages of runs named) =
-    (of ≡ kind) × TellsOf kind d.settings (known kind before) runs named
+    (of ≡ kind) × TellsOf kind d.settings (known kind before) runs named ×
+    (left (is_kept kind all (keeps_reports d)) regions before ≡ [])
 TellsInTurn regions kind all d before (TellFigures figures) =
     (kind ≡ Statistics) × FiguresOf (known kind before) figures
 TellsInTurn regions kind all d before (Discard cut) =
@@ -186,7 +190,8 @@ TellsInTurn regions kind all d before (Discard cut) =
 TellsInTurn regions kind all d before (WriteNumber at number) =
     left (is_kept kind all (keeps_reports d)) regions before ≡ []
 TellsInTurn regions kind all d before (ReadWord at answer) = Unit {0}
-TellsInTurn regions kind all d before (CopyBytes at answer) = Unit {0}
+TellsInTurn regions kind all d before (CopyBytes at answer) =
+    left (is_kept kind all (keeps_reports d)) regions before ≡ []
 TellsInTurn regions kind all d before Acquire = Unit {0}
 TellsInTurn regions kind all d before Release = Unit {0}
 TellsInTurn regions kind all d before Full = Unit {0}
@@ -236,9 +241,9 @@ IndexFor (Has head pieces (part ∷ parts) bytes) regions r at n = ⊥
 abbrev pub WritesUsedAlone : List Region → Kind → Device → List Access → Access → Type 0
 WritesUsedAlone regions kind d before (WriteNumber at n) =
     NumberFor (known kind before) (ends_in_number before) regions
-    (ring_after (ring_of kind d) before) at n
+    (ring_after kind (ring_of kind d) before) at n
 WritesUsedAlone regions kind d before (WriteWord at n) =
-    IndexFor (known kind before) regions (ring_after (ring_of kind d) before) at n
+    IndexFor (known kind before) regions (ring_after kind (ring_of kind d) before) at n
 WritesUsedAlone regions kind d before (ReadWord at answer) = Unit {0}
 WritesUsedAlone regions kind d before (CopyBytes at answer) = Unit {0}
 WritesUsedAlone regions kind d before Acquire = Unit {0}

@@ -1,23 +1,21 @@
 //! The copies of a chain's pieces, part by part.
 
-ghost use Rattle.std.specs.Prelude.{◌≡◌, ◌+◌, ◌<◌, ◌≤◌, ℕ, false, List, length, take, drop};
+ghost use Rattle.std.specs.Prelude.{◌≡◌, ◌+◌, ◌≤◌, List, take};
 ghost use Rattle.vb_core.specs.declared.device.Device.{Device};
 ghost use Rattle.vb_monitor.specs.declared.outcome.Outcome.{Outcome};
 ghost use Rattle.vb_monitor.specs.declared.room.Room.{Room};
 ghost use Rattle.vb_monitor.specs.Accesses.{Access};
 ghost use Rattle.vb_monitor.specs.declared.room.TheConstants.{MAX_BYTES};
-ghost use Rattle.vb_monitor.specs.Pieces.{PartBy, fits_after, CopiesParts, all_parts};
-ghost use Rattle.vb_core.specs.Pieces.{pieces_in};
-ghost use Rattle.vb_monitor.specs.Machine.{Fits, Ahead, whole, served, parts_after};
-ghost use Rattle.vb_monitor.specs.Left.{left, of_chains, once_named};
+ghost use Rattle.vb_monitor.specs.Pieces.{PartAt};
+ghost use Rattle.vb_monitor.specs.Portions.{CopiesParts, CopiesFurther};
+ghost use Rattle.vb_monitor.specs.Regions.{spot};
+ghost use Rattle.vb_monitor.specs.Machine.{Fits, stage, Ahead, whole, served, parts_from};
+ghost use Rattle.vb_monitor.specs.Left.{left, of_chains, once_named, copies_left};
 ghost use Rattle.vb_monitor.specs.Steps.{phase_of, step_of, tally_of};
-ghost use Rattle.vb_virtio.specs.declared.limits.TheConstants.{MAX_QUEUE_SIZE};
-ghost use Rattle.vb_virtio.specs.Tests.{one_if};
-ghost use Rattle.std.specs.Prelude.{◌-◌, ◌*◌};
 
 use crate::ends::fail;
-use crate::naming::serve_bytes;
-use crate::parts::{NextPart, next_part, second_part};
+use crate::naming::{name_portion, serve_bytes};
+use crate::parts::next_part;
 use crate::pieces::first_pieces;
 use crate::regions::find_from;
 use crate::room::MAX_BYTES;
@@ -25,7 +23,7 @@ use crate::{Part, Place, Progress, Region, Room};
 use vb_chain::ChainFault;
 use vb_core::{Device, Kind};
 
-/// Asks for a part of a piece.
+/// Asks for the part of a piece before a place, after the first `into` bytes.
 #[inline(always)]
 fn ask_part(
     step: &mut Progress,
@@ -34,27 +32,23 @@ fn ask_part(
     kind: Kind,
     part: Part,
     place: Place,
+    into: usize,
 )
+    requires { into + part.length ≤ MAX_BYTES }
     ensures step { (after : Device) (outcome : Outcome) (room : Room) (log : List Access) →
-        length room.bytes ≡ MAX_BYTES →
         Ahead (whole regions.now kind after outcome) (step_of step.new) device.new room log →
-        PartBy (fits_after (take place.into room.bytes) part)
-        (whole regions.now kind after outcome) (CopiesParts (whole regions.now kind after outcome)
-        (served (whole regions.now kind after outcome) (tally_of step.old) device.old place.head)
-        device.old (tally_of step.old)
-        (parts_after place.is_second place.piece (pieces_in (take place.count room.pieces))))
-        device.old (tally_of step.old)
-        part (take place.into room.bytes) log }
+        PartAt (whole regions.now kind after outcome)
+        (CopiesParts (whole regions.now kind after outcome)
+        (served (whole regions.now kind after outcome) (tally_of step.old) place.head) device.old
+        (tally_of step.old) (parts_from (into + part.length) place room)) device.old
+        (tally_of step.old) part (take into room.bytes)
+        (spot regions.now (part.address + part.plus) part.length) log }
     ensures fits { Fits (phase_of step.new) }
+    ensures stage { stage (phase_of step.new) ≡ 3 }
     ensures left { left regions.now (step_of step.new) ≤
         of_chains regions.now (tally_of step.old).chains
-        + (once_named regions.now + 1 + (2 * MAX_QUEUE_SIZE - (2 * place.piece + one_if
-        place.is_second))) }
+        + (once_named regions.now + 1 + copies_left regions.now place.piece place.done) }
 {
-    let into = place.into.min(MAX_BYTES);
-    if part.length as usize > MAX_BYTES - into {
-        return fail(step, device, regions, kind, ChainFault::BadLength);
-    }
     match find_from(
         regions,
         part.address,
@@ -62,14 +56,7 @@ fn ask_part(
         u64::from(part.length),
     ) {
         None => fail(step, device, regions, kind, ChainFault::OutOfRam),
-        Some(at) => {
-            let place = Place {
-                into,
-                length: part.length,
-                ..place
-            };
-            step.await_part(at, place)
-        }
+        Some(at) => step.await_part(at, place, into, part.length),
     }
 }
 
@@ -80,8 +67,8 @@ pub(crate) fn first_bytes(bytes: &[u8; MAX_BYTES], count: usize) -> &[u8]
     &bytes[..count.min(MAX_BYTES)]
 }
 
-/// Copies the pieces from this number on, after the bytes that were copied.
-#[tactic(auto, using(crate::proofs::NextLemmas::copy_steps))]
+/// Copies the pieces from a place on, after the first `into` bytes, which were copied.
+#[tactic(auto, using(crate::proofs::CopyLemmas::copy_steps))]
 #[inline(always)]
 pub(crate) fn copy_on(
     step: &mut Progress,
@@ -89,108 +76,69 @@ pub(crate) fn copy_on(
     regions: &[Region],
     kind: Kind,
     place: Place,
+    into: usize,
     room: &mut Room,
 )
+    requires { into ≤ MAX_BYTES }
     ensures step { (after : Device) (outcome : Outcome) (log : List Access) →
         Ahead (whole regions.now kind after outcome) (step_of step.new) device.new room.new log →
         CopiesParts (whole regions.now kind after outcome)
-        (served (whole regions.now kind after outcome) (tally_of step.old) device.old place.head)
-        device.old (tally_of step.old)
-        (all_parts (drop place.piece (pieces_in (take place.count room.old.pieces))))
-        (take place.into room.old.bytes) log }
+        (served (whole regions.now kind after outcome) (tally_of step.old) place.head) device.old
+        (tally_of step.old) (parts_from into place room.old) (take into room.old.bytes) log }
     ensures fits { Fits (phase_of step.new) }
     ensures left { left regions.now (step_of step.new) ≤
         of_chains regions.now (tally_of step.old).chains
-        + (once_named regions.now + 1 + (2 * MAX_QUEUE_SIZE - 2 * place.piece)) }
+        + (once_named regions.now + copies_left regions.now place.piece place.done) }
 {
-    match next_part(first_pieces(&room.pieces, place.count), place.piece) {
-        None => serve_bytes(step, device, regions, kind, place, room),
+    let pieces = first_pieces(&room.pieces, place.count);
+    match next_part(pieces, place.piece, place.done, into) {
+        None => serve_bytes(step, device, regions, kind, place, into, room),
         Some(found) => {
+            if into == MAX_BYTES {
+                return name_portion(step, device, regions, kind, place, room);
+            }
             let place = Place {
                 piece: found.piece,
-                is_second: false,
+                done: found.done,
                 ..place
             };
-            ask_part(step, device, regions, kind, found.part, place)
+            ask_part(step, device, regions, kind, found.part, place, into)
         }
     }
 }
 
-/// Copies the second part of a piece, or what comes after it.
-#[tactic(auto, using(crate::proofs::NextLemmas::second_steps))]
-fn copy_second(
+/// Copies the next portion of a chain, from a place on.
+#[tactic(auto, using(crate::proofs::CopyLemmas::further_steps))]
+#[inline(always)]
+pub(crate) fn copy_further(
     step: &mut Progress,
     device: &mut Device,
     regions: &[Region],
     kind: Kind,
     place: Place,
-    room: &mut Room,
+    room: &Room,
 )
-    requires { place.piece < length (take place.count room.old.pieces) }
     ensures step { (after : Device) (outcome : Outcome) (log : List Access) →
-        Ahead (whole regions.now kind after outcome) (step_of step.new) device.new room.new log →
-        CopiesParts (whole regions.now kind after outcome)
-        (served (whole regions.now kind after outcome) (tally_of step.old) device.old place.head)
-        device.old (tally_of step.old)
-        (parts_after false place.piece (pieces_in (take place.count room.old.pieces)))
-        (take place.into room.old.bytes) log }
+        Ahead (whole regions.now kind after outcome) (step_of step.new) device.new room.now log →
+        CopiesFurther (whole regions.now kind after outcome)
+        (served (whole regions.now kind after outcome) (tally_of step.old) place.head) device.old
+        (tally_of step.old) (parts_from 0 place room.now) log }
     ensures fits { Fits (phase_of step.new) }
+    ensures stage { stage (phase_of step.new) ≡ 3 }
     ensures left { left regions.now (step_of step.new) ≤
         of_chains regions.now (tally_of step.old).chains
-        + (once_named regions.now + (2 * MAX_QUEUE_SIZE - 2 * place.piece)) }
+        + (2 + copies_left regions.now place.piece place.done) }
 {
-    let part = second_part(&first_pieces(&room.pieces, place.count)[place.piece]);
-    if part.length > 0 {
-        let next = Place {
-            is_second: true,
-            ..place
-        };
-        return ask_part(step, device, regions, kind, part, next);
+    let pieces = first_pieces(&room.pieces, place.count);
+    match next_part(pieces, place.piece, place.done, 0) {
+        None => fail(step, device, regions, kind, ChainFault::BadLength),
+        Some(found) => {
+            let place = Place {
+                piece: found.piece,
+                done: found.done,
+                ..place
+            };
+            ask_part(step, device, regions, kind, found.part, place, 0)
+        }
     }
-    let next = Place {
-        piece: place.piece + 1,
-        ..place
-    };
-    copy_on(step, device, regions, kind, next, room)
-}
-
-/// A part was copied after the others.
-#[tactic(auto, using(crate::proofs::NextLemmas::end_steps))]
-pub(crate) fn after_part(
-    step: &mut Progress,
-    device: &mut Device,
-    regions: &[Region],
-    kind: Kind,
-    place: Place,
-    room: &mut Room,
-)
-    requires { place.into + place.length ≤ MAX_BYTES }
-    ensures step { (after : Device) (outcome : Outcome) (log : List Access) →
-        Ahead (whole regions.now kind after outcome) (step_of step.new) device.new room.new log →
-        CopiesParts (whole regions.now kind after outcome)
-        (served (whole regions.now kind after outcome) (tally_of step.old) device.old place.head)
-        device.old (tally_of step.old)
-        (parts_after place.is_second place.piece (pieces_in (take place.count room.old.pieces)))
-        (take (place.into + place.length) room.old.bytes) log }
-    ensures fits { Fits (phase_of step.new) }
-    ensures left { left regions.now (step_of step.new) ≤
-        of_chains regions.now (tally_of step.old).chains
-        + (once_named regions.now + (2 * MAX_QUEUE_SIZE - (2 * place.piece + one_if
-        place.is_second))) }
-{
-    let place = Place {
-        into: place.into + place.length as usize,
-        ..place
-    };
-    if place.piece >= first_pieces(&room.pieces, place.count).len() {
-        return serve_bytes(step, device, regions, kind, place, room);
-    }
-    if place.is_second {
-        let next = Place {
-            piece: place.piece + 1,
-            ..place
-        };
-        return copy_on(step, device, regions, kind, next, room);
-    }
-    copy_second(step, device, regions, kind, place, room)
 }

@@ -9,17 +9,18 @@ ghost use Rattle.vb_monitor.specs.Accesses.{Access};
 ghost use Rattle.vb_monitor.specs.Regions.{cuts_of};
 ghost use Rattle.vb_core.specs.Config.{keeps_reports};
 ghost use Rattle.vb_monitor.specs.declared.regions.Region.{Region};
-ghost use Rattle.vb_monitor.specs.Giving.{cuts_for, is_kept, kept_pages, DiscardsThen, OnceTold};
+ghost use Rattle.vb_monitor.specs.Giving.{cuts_for, is_kept, kept_pages, DiscardsThen};
 ghost use Rattle.vb_monitor.specs.Giving.{is_discarded};
-ghost use Rattle.vb_monitor.specs.Machine.{Fits, stage, Ahead, AheadAt, whole, next_chain};
+ghost use Rattle.vb_monitor.specs.Machine.{Fits, stage, Ahead, AheadAt, whole, Onward, OnceToldBy};
 ghost use Rattle.vb_monitor.specs.Steps.{phase_of, step_of, tally_of};
 ghost use Rattle.vb_monitor.specs.declared.room.Room.{Room};
 ghost use Rattle.vb_monitor.specs.Ends.{Whole};
 ghost use Rattle.vb_monitor.specs.Machine.{cuts_after};
-ghost use Rattle.vb_monitor.specs.Left.{left, of_chains, parts_left};
+ghost use Rattle.vb_monitor.specs.Left.{left, of_chains, onward_left, parts_left};
 ghost use Rattle.vb_monitor.specs.declared.room.TheConstants.{MAX_RUNS};
 ghost use Rattle.std.specs.Prelude.{◌-◌, ◌*◌, ◌+◌, length};
 
+use crate::copying::copy_further;
 use crate::cuts::{NextCut, cut_after, first_cut};
 use crate::ends::end;
 use crate::giving::give_back;
@@ -87,7 +88,8 @@ pub(crate) fn discard_next(step: &mut Progress, discarding: Discarding, next: &N
     ensures stage { stage (phase_of step.new) ≡ 1 }
     ensures left { (regions : List Region) → left regions (step_of step.new) ≤
         of_chains regions (tally_of step.old).chains
-        + (3 + parts_left (length regions) next.now.run next.now.from) }
+        + (3 + parts_left (length regions) next.now.run next.now.from
+        + onward_left discarding.further regions discarding.place.piece discarding.place.done) }
 {
     let discarding = Discarding {
         run: next.run,
@@ -95,6 +97,33 @@ pub(crate) fn discard_next(step: &mut Progress, discarding: Discarding, next: &N
         ..discarding
     };
     step.await_cut(next.cut, discarding)
+}
+
+/// What was told is discarded: the chain is copied further, or given back.
+#[inline(always)]
+pub(crate) fn go_onward(
+    step: &mut Progress,
+    device: &mut Device,
+    regions: &[Region],
+    kind: Kind,
+    discarding: Discarding,
+    room: &Room,
+)
+    ensures step { (after : Device) (outcome : Outcome) (log : List Access) →
+        Ahead (whole regions.now kind after outcome) (step_of step.new) device.new room.now log →
+        Onward discarding.further (whole regions.now kind after outcome) (tally_of step.old)
+        device.old discarding.place room.now log }
+    ensures fits { Fits (phase_of step.new) }
+    ensures stage { 2 ≤ stage (phase_of step.new) }
+    ensures left { left regions.now (step_of step.new) ≤
+        of_chains regions.now (tally_of step.old).chains
+        + (2 + onward_left discarding.further regions.now discarding.place.piece
+        discarding.place.done) }
+{
+    if discarding.further {
+        return copy_further(step, device, regions, kind, discarding.place, room);
+    }
+    give_back(step, device, regions, kind, discarding.place.head)
 }
 
 /// Discards the runs from the one on where this begins.
@@ -109,25 +138,26 @@ fn discard_on(
 )
     ensures step { (after : Device) (outcome : Outcome) (log : List Access) →
         Ahead (whole regions.now kind after outcome) (step_of step.new) device.new room.now log →
-        DiscardsThen (whole regions.now kind after outcome)
-        (next_chain (whole regions.now kind after outcome) (tally_of step.old)) device.old
-        (tally_of step.old) discarding.head
+        DiscardsThen (Onward discarding.further (whole regions.now kind after outcome)
+        (tally_of step.old) device.old discarding.place room.now)
         (cuts_of regions.now (drop discarding.run (take discarding.runs room.now.runs))) log }
     ensures fits { Fits (phase_of step.new) }
     ensures stage { 1 ≤ stage (phase_of step.new) }
     ensures left { left regions.now (step_of step.new) ≤
         of_chains regions.now (tally_of step.old).chains
-        + (2 + (MAX_RUNS - discarding.run) * length regions.now) }
+        + (2 + (MAX_RUNS - discarding.run) * length regions.now
+        + onward_left discarding.further regions.now discarding.place.piece
+        discarding.place.done) }
 {
     let named = first_runs(&room.runs, discarding.runs as usize);
     match first_cut(regions, named, discarding.run) {
-        None => give_back(step, device, regions, kind, discarding.head),
+        None => go_onward(step, device, regions, kind, discarding, room),
         Some(found) => discard_next(step, discarding, &found),
     }
 }
 
 /// The pages of the runs were told, and are discarded unless they are kept; or the notice ends,
-/// since their chain is held.
+/// since their chain is held, all of which was told.
 #[inline(always)]
 pub(crate) fn after_told(
     step: &mut Progress,
@@ -139,9 +169,8 @@ pub(crate) fn after_told(
 )
     ensures step { (after : Device) (outcome : Outcome) (log : List Access) →
         Ahead (whole regions.now kind after outcome) (step_of step.new) device.new room.now log →
-        OnceTold (tally_of step.old).held (whole regions.now kind after outcome)
-        (next_chain (whole regions.now kind after outcome) (tally_of step.old)) device.old
-        (tally_of step.old) discarding.head
+        OnceToldBy discarding.further (whole regions.now kind after outcome) (tally_of step.old)
+        device.old discarding.place room.now
         (cuts_for kind (is_kept kind (tally_of step.old).keeps
         (keeps_reports device.old)) regions.now
         (drop discarding.run (take discarding.runs room.now.runs))) log }
@@ -149,13 +178,15 @@ pub(crate) fn after_told(
     ensures stage { 1 ≤ stage (phase_of step.new) }
     ensures left { left regions.now (step_of step.new) ≤
         of_chains regions.now (tally_of step.old).chains
-        + (2 + (MAX_RUNS - discarding.run) * length regions.now) }
+        + (2 + (MAX_RUNS - discarding.run) * length regions.now
+        + onward_left discarding.further regions.now discarding.place.piece
+        discarding.place.done) }
 {
-    if step.held().is_some() {
+    if !discarding.further && step.held().is_some() {
         return end(step, device, regions, kind, None, false);
     }
     if !discards(device, kind, step.keeps()) {
-        return give_back(step, device, regions, kind, discarding.head);
+        return go_onward(step, device, regions, kind, discarding, room);
     }
     discard_on(step, device, regions, kind, discarding, room)
 }
@@ -171,19 +202,20 @@ pub(crate) fn after_discard(
 )
     ensures step { (after : Device) (outcome : Outcome) (log : List Access) →
         Ahead (whole regions.now kind after outcome) (step_of step.new) device.new room.now log →
-        DiscardsThen (whole regions.now kind after outcome)
-        (next_chain (whole regions.now kind after outcome) (tally_of step.old)) device.old
-        (tally_of step.old) discarding.head
+        DiscardsThen (Onward discarding.further (whole regions.now kind after outcome)
+        (tally_of step.old) device.old discarding.place room.now)
         (cuts_after discarding.from discarding.run regions.now
         (take discarding.runs room.now.runs)) log }
     ensures fits { Fits (phase_of step.new) }
     ensures left { left regions.now (step_of step.new) ≤
         of_chains regions.now (tally_of step.old).chains
-        + (2 + parts_left (length regions.now) discarding.run discarding.from) }
+        + (2 + parts_left (length regions.now) discarding.run discarding.from
+        + onward_left discarding.further regions.now discarding.place.piece
+        discarding.place.done) }
 {
     let named = first_runs(&room.runs, discarding.runs as usize);
     match cut_after(regions, named, discarding.run, discarding.from) {
-        None => give_back(step, device, regions, kind, discarding.head),
+        None => go_onward(step, device, regions, kind, discarding, room),
         Some(found) => discard_next(step, discarding, &found),
     }
 }

@@ -1,7 +1,8 @@
 //! What the accesses of a notice come to, whatever memory answers.
 
-ghost use Rattle.std.specs.Prelude.{◌≡◌, ℕ, suc, ◌+◌, ◌*◌, ◌==◌, ◌≤◌, ◌||◌, true, false, List, []};
-ghost use Rattle.std.specs.Prelude.{None, Some, length, Option, Result, Ok};
+ghost use Rattle.std.specs.Prelude.{◌≡◌, ◌≢◌, ◌<◌, ◌≤◌, ℕ, suc, ◌+◌, ◌-◌, ◌*◌, ◌/◌, ◌==◌};
+ghost use Rattle.std.specs.Prelude.{◌||◌, true, false, List, [], None, Some, length, Option};
+ghost use Rattle.std.specs.Prelude.{Result, Ok};
 ghost use Rattle.vb_chain.specs.declared.fault.ChainFault.{ChainFault};
 ghost use Rattle.vb_ring.specs.declared.device.Taken.{Taken};
 ghost use Rattle.vb_core.specs.declared.ring.Virtqueue.{Virtqueue};
@@ -40,6 +41,9 @@ ghost use Rattle.vb_monitor.specs.Machine.{whole, serves, served};
 ghost use Rattle.vb_monitor.specs.Still.{StaysUntil, IsMapped, HasNext, Finds, EndsSo, DoesNext};
 ghost use Rattle.vb_monitor.specs.Still.{AreThese, AfterReads, ReportsNext, bytes_of, index_in};
 ghost use Rattle.vb_monitor.specs.Still.{ArePartsMapped, as_read, is_read, length_of};
+ghost use Rattle.vb_monitor.specs.Still.{bytes_of_parts, AreInPortions, ServesFirst};
+ghost use Rattle.vb_monitor.specs.Portions.{CopiesFurther};
+ghost use Rattle.vb_monitor.specs.declared.parts.Part.{Part};
 ghost use Rattle.vb_monitor.specs.Giving.{after_use};
 ghost use Rattle.vb_core.specs.Using.{use_denial};
 
@@ -53,10 +57,11 @@ pub fn nothing_outside_the_regions_is_touched()
         Row (λ before x. Touches regions x) None log }
 {}
 
-/// The accesses of a notice come in their order: bytes directly after what was read, pages that are
-/// told directly after bytes that were copied, discards directly after these pages or other
-/// discards, a used element's numbers directly after those, a release fence directly after the
-/// numbers, and the index directly after that fence (VIRTIO 1.1, 2.6.8).
+/// The accesses of a notice come in their order: bytes directly after what was read, or after a
+/// portion that was told or discarded, pages that are told directly after bytes that were copied,
+/// discards directly after these pages or other discards, a used element's numbers directly after
+/// those, a release fence directly after the numbers, and the index directly after that fence
+/// (VIRTIO 1.1, 2.6.8).
 #[tactic(auto, using(crate::proofs::TurnLaws::in_order))]
 pub fn accesses_come_in_their_order()
     ensures { (regions : List Region) (kind : Kind) (budget : Budget) (d1 d2 : Device)
@@ -73,12 +78,14 @@ pub fn a_run_has_few_parts()
 
 /// A notice makes few accesses beside its discards: 3, which are the index, and the flags after
 /// their fence; and at most 775 for each chain that it may serve, which are 2 for its entry, 256
-/// descriptors, two parts for each piece, what is told, and 4 for the used element.
+/// descriptors, two parts for each piece, what is told, and 4 for the used element. For each
+/// further portion of 256 numbers that a request may have these are 3 more.
 #[tactic(auto, using(crate::proofs::TurnLaws::few_others))]
 pub fn a_notice_makes_few_accesses()
     ensures { (regions : List Region) (kind : Kind) (budget : Budget) (d1 d2 : Device)
         (outcome : Outcome) (log : List Access) →
-        Serves regions kind budget d1 d2 outcome log → others log ≤ 3 + 775 * budget.chains }
+        Serves regions kind budget d1 d2 outcome log → others log ≤
+        3 + (775 + 3 * ((budget.longest - 1) / 256)) * budget.chains }
 {}
 
 /// What counts is read once: the index once a notice, first of all; after it, and after a chain
@@ -95,11 +102,12 @@ pub fn what_counts_is_read_once()
         Each (ReadsInTurn regions kind d1) [] log }
 {}
 
-/// Only pages are told that the bytes name which were copied since the chain's entry was read, or
-/// the pieces of a report. Only parts of pages that were told are discarded, each once and in
-/// order, and all of them before the chain's used element is written. None of a deflate's is, nor
-/// of a report's where the device keeps the pages of reports (VIRTIO 1.1, 5.5.6; 1.2, 5.5.4), and
-/// none at all where the notice keeps all pages.
+/// Only pages are told that the bytes name which were copied since the chain's entry was read and
+/// weren't told yet, or the pieces of a report: of bytes once all of the chain was read, or a whole
+/// portion of 1,024 of them. Only parts of pages that were told are discarded, each once and in
+/// order, and all of them before more is copied or told, and before the chain's used element is
+/// written. None of a deflate's is, nor of a report's where the device keeps the pages of reports
+/// (VIRTIO 1.1, 5.5.6; 1.2, 5.5.4), and none at all where the notice keeps all pages.
 #[tactic(auto, using(crate::proofs::TurnLaws::tells_in_turn))]
 pub fn only_named_pages_are_discarded()
     ensures { (regions : List Region) (kind : Kind) (budget : Budget) (d1 d2 : Device)
@@ -118,8 +126,9 @@ pub fn only_used_elements_are_written()
         Each (WritesUsedAlone regions kind d1) [] log }
 {}
 
-/// In a queue whose chains are held nothing is written, and nothing discarded; a chain whose pages
-/// or figures are told is held once the notice has ended, with the number of its pages.
+/// In a queue whose chains are held nothing is written, and nothing discarded; a chain whose last
+/// pages or figures are told is held once the notice has ended, with the number of its pages, which
+/// are those of all its portions.
 #[tactic(auto, using(crate::proofs::TurnLaws::holds_told))]
 pub fn a_chain_that_is_told_is_held()
     ensures { (regions : List Region) (kind : Kind) (budget : Budget) (d1 d2 : Device)
@@ -231,8 +240,37 @@ pub fn memory_has_one_chain_next()
 pub fn a_chain_is_served_by_its_bytes()
     ensures { (rest : List Access) (byte : ℕ → ℕ) (w : Whole) (t : Tally) (d : Device)
         (head : ℕ) (pieces : List Piece) (n : ℕ) (log : List Access) → is_read w.kind ≡ true →
-        length_of w.kind pieces ≡ Ok n → ArePartsMapped w.regions (all_parts pieces) →
+        length_of w.kind t.longest pieces ≡ Ok n → ArePartsMapped w.regions (all_parts pieces) →
         length (bytes_of byte pieces) ≤ MAX_BYTES → StaysUntil (AreThese rest) byte w.regions log →
         serves w t d head pieces log → AfterReads (StaysUntil (AreThese rest) byte w.regions)
-        (served w t d head (bytes_of byte pieces)) log }
+        (served w t head d t (bytes_of byte pieces)) log }
+{}
+
+/// A chain of any length is served portion by portion. Each of its parts ends within its portion.
+/// Where memory stays as it is while a portion's bytes are read, the portion is served by the bytes
+/// that it has there, the next 1,024 of the chain, and then the parts after it are copied, which
+/// have all other bytes; the last portion is served by all that are left.
+pub fn a_portion_is_served_by_its_bytes()
+    ensures within { (pieces : List Piece) → AreInPortions 0 (all_parts pieces) }
+    ensures bytes { (byte : ℕ → ℕ) (pieces : List Piece) →
+        bytes_of_parts byte (all_parts pieces) ≡ bytes_of byte pieces }
+    ensures begins { (w : Whole) (t : Tally) (d : Device) (head : ℕ) (pieces : List Piece) (n : ℕ)
+        (log : List Access) → is_read w.kind ≡ true → length_of w.kind t.longest pieces ≡ Ok n →
+        all_parts pieces ≢ [] → serves w t d head pieces log →
+        CopiesFurther w (served w t head) d t (all_parts pieces) log }
+    ensures first { (rest : List Access) (byte : ℕ → ℕ) (w : Whole) (t0 t : Tally)
+        (head : ℕ) (d : Device) (parts : List Part) (log : List Access) → AreInPortions 0 parts →
+        ArePartsMapped w.regions parts → MAX_BYTES < length (bytes_of_parts byte parts) →
+        StaysUntil (AreThese rest) byte w.regions log →
+        CopiesFurther w (served w t0 head) d t parts log →
+        ServesFirst (StaysUntil (AreThese rest) byte w.regions) byte w (served w t0 head) d t
+        parts log }
+    ensures last { (rest : List Access) (byte : ℕ → ℕ) (w : Whole) (t0 t : Tally)
+        (head : ℕ) (d : Device) (parts : List Part) (log : List Access) → parts ≢ [] →
+        AreInPortions 0 parts → ArePartsMapped w.regions parts →
+        length (bytes_of_parts byte parts) ≤ MAX_BYTES →
+        StaysUntil (AreThese rest) byte w.regions log →
+        CopiesFurther w (served w t0 head) d t parts log →
+        AfterReads (StaysUntil (AreThese rest) byte w.regions)
+        (served w t0 head d t (bytes_of_parts byte parts)) log }
 {}

@@ -4,6 +4,7 @@
 
 mod answers;
 mod balloon;
+mod codes;
 mod copying;
 mod cuts;
 mod discards;
@@ -37,6 +38,7 @@ pub use answers::{
     NOT_A_STATE, NOT_READY, NOTHING, OK, OTHER_VERSION, SHORT, code_of, end_rule, rule_in,
 };
 pub use balloon::{Balloon, may_tell};
+pub use codes::ENDED;
 pub use cuts::{Cut, NextCut};
 pub use filling::{Filled, fill};
 pub use giving::UsedSpots;
@@ -45,17 +47,18 @@ pub use laws::{
     a_chain_is_served_by_its_bytes, a_chain_that_is_given_back_leaves_its_queue_open,
     a_chain_that_is_told_is_held, a_held_chain_is_given_back_alone, a_notice_does_what_memory_says,
     a_notice_makes_few_accesses, a_notice_reports_what_memory_says,
-    a_part_is_whole_pages_of_its_run, a_run_has_few_parts, accesses_come_in_their_order,
-    giving_back_makes_few_accesses, large_pages_go_once_they_are_given_up,
-    memory_has_one_chain_next, nothing_outside_the_regions_is_touched,
-    only_named_pages_are_discarded, only_used_elements_are_written, what_counts_is_read_once,
+    a_part_is_whole_pages_of_its_run, a_portion_is_served_by_its_bytes, a_run_has_few_parts,
+    accesses_come_in_their_order, giving_back_makes_few_accesses,
+    large_pages_go_once_they_are_given_up, memory_has_one_chain_next,
+    nothing_outside_the_regions_is_touched, only_named_pages_are_discarded,
+    only_used_elements_are_written, what_counts_is_read_once,
 };
 pub use memory::LiveMemory;
 pub use orders::{Asked, MAX_CUTS, NoticeRoom, Orders, Told, Used, at_once};
 pub use outcome::{Budget, HeldChain, Outcome, Tally};
 pub use parts::Part;
 pub use placing::{QueuePlace, RestoreDenial, are_memory, memory_end_of};
-pub use progress::{ENDED, Progress};
+pub use progress::Progress;
 pub use regions::{FILE_LIMIT, Region, Spot, find};
 pub use room::{MAX_BYTES, MAX_FIGURES, MAX_PIECES, MAX_RUNS, ROW_DESCRIPTORS, Room};
 pub use serving::{Notice, serve};

@@ -105,6 +105,7 @@ fn take(step: &mut Progress, device: &mut Device, regions: &[Region], kind: Kind
         return end(step, device, regions, kind, None, true);
     }
     step.chains_left -= 1;
+    step.told = 0;
     if step.pages_left == 0 {
         return end(step, device, regions, kind, None, true);
     }

@@ -10,7 +10,7 @@ ghost use Rattle.vb_monitor.specs.Machine.{Fits, is_ended, Ahead, Does, Awaited,
 ghost use Rattle.vb_monitor.specs.Left.{left};
 ghost use Rattle.vb_monitor.specs.Steps.{phase_of, step_of};
 
-use crate::copying::after_part;
+use crate::copying::copy_on;
 use crate::discards::{after_discard, after_told};
 use crate::ends::{after_flags, end};
 use crate::giving::give_back;
@@ -31,6 +31,8 @@ impl Progress {
         self.chains_left = budget.chains;
         self.pages_left = budget.pages;
         self.keeps = u8::from(budget.keeps);
+        self.longest = budget.longest;
+        self.told = 0;
         self.given = 0;
         self.taken = 0;
         self.published = 0;
@@ -54,6 +56,8 @@ impl Progress {
         self.chains_left = 0;
         self.pages_left = 0;
         self.keeps = 0;
+        self.longest = 0;
+        self.told = 0;
         self.given = 0;
         self.published = 0;
         self.hold(held.head, held.pages);
@@ -89,11 +93,26 @@ impl Progress {
             Phase::AwaitsDescriptor { walk, .. } => {
                 after_descriptor(self, device, regions, kind, walk, room)
             }
-            Phase::AwaitsPart { place, .. } => {
-                after_part(self, device, regions, kind, place, room)
-            }
-            Phase::TellsPages { head, named } => {
-                let discarding = Discarding::first(head, named.runs);
+            Phase::AwaitsPart {
+                place,
+                into,
+                length,
+                ..
+            } => copy_on(
+                self,
+                device,
+                regions,
+                kind,
+                place,
+                into + length as usize,
+                room,
+            ),
+            Phase::TellsPages {
+                place,
+                named,
+                further,
+            } => {
+                let discarding = Discarding::first(place, further, named.runs);
                 after_told(self, device, regions, kind, discarding, room)
             }
             Phase::TellsFigures { .. } => end(self, device, regions, kind, None, false),

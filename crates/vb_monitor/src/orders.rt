@@ -3,7 +3,9 @@
 ghost use Rattle.std.specs.Prelude.{◌≡◌, ◌≤◌, ◌++◌, ◌∷◌, true, List, take, map, Some};
 ghost use Rattle.vb_monitor.specs.declared.cuts.NextCut.{NextCut};
 ghost use Rattle.vb_core.specs.declared.device.Device.{Device};
+ghost use Rattle.vb_virtio.specs.Tests.{one_if};
 ghost use Rattle.vb_core.specs.Config.{keeps_reports};
+ghost use Rattle.vb_core.specs.Settings.{holds_chains};
 ghost use Rattle.vb_monitor.specs.Giving.{is_kept, kept_pages};
 ghost use Rattle.vb_monitor.specs.declared.orders.TheConstants.{MAX_CUTS};
 ghost use Rattle.vb_monitor.specs.declared.outcome.Outcome.{Outcome};
@@ -17,10 +19,9 @@ ghost use Rattle.vb_monitor.specs.declared.room.TheConstants.{MAX_RUNS, MAX_FIGU
 ghost use Rattle.vb_monitor.specs.Orders.{cuts_left, telling, giving, at_once, HasRoom, FillsList};
 
 use crate::cuts::NextCut;
-use crate::discards::{after_told, discard_next, first_runs, kept_pages};
+use crate::discards::{after_told, discard_next, first_runs, go_onward, kept_pages};
 use crate::ends::end;
 use crate::filling::fill;
-use crate::giving::give_back;
 use crate::looks::after_given;
 use crate::{Cut, Discarding, Phase, Progress, Region, Room, UsedSpots};
 use vb_core::{Device, Kind, Named};
@@ -64,6 +65,9 @@ pub struct Orders {
     pub cuts: u32,
     /// How many of the pages are kept.
     pub kept: u32,
+    /// 1 where the pages wait for a grant, since their chain is held once all of it was told; else
+    /// 0.
+    pub waits: u32,
     /// What is written of a used chain.
     pub used: Used,
 }
@@ -106,13 +110,20 @@ fn tell(
     ensures kept { result ≡ Pages → orders.new.kept ≡
         kept_pages (is_kept kind (tally_of step.old).keeps (keeps_reports device.old))
         orders.new.named.pages }
+    ensures waits { result ≡ Pages →
+        orders.new.waits ≡ one_if (holds_chains kind device.old.settings) }
     ensures figures { result ≡ Figures → orders.new.figures ≤ MAX_FIGURES }
 {
     match step.phase() {
-        Phase::TellsPages { head, named } => {
+        Phase::TellsPages {
+            place,
+            named,
+            further,
+        } => {
             orders.named = named;
             orders.kept = kept_pages(device, kind, step.keeps(), named.pages);
-            let discarding = Discarding::first(head, named.runs);
+            orders.waits = u32::from(device.settings.holds_chains(kind));
+            let discarding = Discarding::first(place, further, named.runs);
             after_told(step, device, regions, kind, discarding, room);
             Told::Pages
         }
@@ -164,7 +175,7 @@ fn discard(
             };
             let filled = fill(regions, named, &first, cuts);
             match filled.left {
-                None => give_back(step, device, regions, kind, discarding.head),
+                None => go_onward(step, device, regions, kind, discarding, room),
                 Some(found) => discard_next(step, discarding, &found),
             }
             filled.count
@@ -267,6 +278,8 @@ pub fn at_once(
     ensures room { HasRoom result orders.new }
     ensures kept { result.told ≡ Pages → orders.new.kept ≡ kept_pages
         (is_kept kind (tally_of step.old).keeps (keeps_reports device.old)) orders.new.named.pages }
+    ensures held { result.told ≡ Pages →
+        orders.new.waits ≡ one_if (holds_chains kind device.old.settings) }
     ensures full { FillsList (phase_of step.new) orders.new }
     ensures waits { waits (phase_of step.new) ≡ true }
 {

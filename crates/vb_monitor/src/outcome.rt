@@ -12,6 +12,9 @@ pub struct Budget {
     pub pages: u32,
     /// No page is discarded: what is named is told, and stays.
     pub keeps: bool,
+    /// The most page numbers of an inflate or a deflate: a chain that has more breaks the rule of
+    /// lengths (`ChainFault::BadLength`).
+    pub longest: u32,
 }
 
 /// A chain that was taken, and isn't given back until it is asked for.
@@ -38,6 +41,10 @@ pub struct Tally {
     pub held: Option<HeldChain>,
     /// The available index, once it was read: the chains before it may be taken. 0 until then.
     pub published: u16,
+    /// The most page numbers of a request.
+    pub longest: u32,
+    /// How many pages were told of the chain that is being served, as far as 32 bits count them.
+    pub told: u32,
 }
 
 /// What a notice came to.

@@ -1,12 +1,15 @@
-//! The parts of a chain's pieces, each within one page.
+//! The parts of a chain's pieces, each within one page and one portion.
 
-ghost use Rattle.std.specs.Prelude.{◌≡◌, ◌∷◌, [], false, drop, MatchOption};
-ghost use Rattle.vb_monitor.specs.Pieces.{first_part, second_part, all_parts};
+ghost use Rattle.std.specs.Prelude.{◌≡◌, ◌+◌, ◌≤◌, ◌<◌, ◌∷◌, ◌%◌, [], drop, length, IfSome};
+ghost use Rattle.std.specs.Prelude.{◌^◌, MatchOption};
+ghost use Rattle.vb_virtio.specs.declared.limits.TheConstants.{MAX_QUEUE_SIZE};
 ghost use Rattle.vb_core.specs.Pieces.{piece_in, pieces_in};
-ghost use Rattle.vb_monitor.specs.Machine.{parts_after};
-ghost use Rattle.std.specs.Prelude.{◌≤◌, ◌<◌, IfSome, length};
+ghost use Rattle.vb_monitor.specs.declared.room.TheConstants.{MAX_BYTES};
+ghost use Rattle.vb_monitor.specs.Pieces.{next_part, parts_on};
+ghost use Rattle.vb_monitor.specs.Left.{bytes_left};
 
 use crate::regions::PAGE_BYTES;
+use crate::room::MAX_BYTES;
 use vb_core::ChainPiece;
 
 /// Bytes of a piece, all in one page.
@@ -20,27 +23,21 @@ pub struct Part {
     pub length: u32,
 }
 
-/// A piece's bytes up to the end of the page in which it begins.
-pub(crate) fn first_part(piece: &ChainPiece) -> Part
-    ensures { result ≡ first_part (piece_in piece.now) }
+/// The next part of a piece, `done` bytes of which were copied, and `into` bytes of the chain.
+fn part_after(piece: &ChainPiece, done: u32, into: usize) -> Part
+    requires { done < piece.now.length }
+    ensures part { result ≡ next_part (piece_in piece.now) done into }
+    ensures some { 1 ≤ result.length }
+    ensures within { done + result.length ≤ piece.now.length }
+    ensures fits { into % MAX_BYTES + result.length ≤ MAX_BYTES }
 {
-    let room = (PAGE_BYTES - piece.address % PAGE_BYTES) as u32;
+    let in_page = (piece.address % PAGE_BYTES + u64::from(done)) % PAGE_BYTES;
+    let page = (PAGE_BYTES - in_page) as u32;
+    let portion = (MAX_BYTES - into % MAX_BYTES) as u32;
     Part {
         address: piece.address,
-        plus: 0,
-        length: piece.length.min(room),
-    }
-}
-
-/// Its bytes after that page.
-pub(crate) fn second_part(piece: &ChainPiece) -> Part
-    ensures { result ≡ second_part (piece_in piece.now) }
-{
-    let first = first_part(piece);
-    Part {
-        address: piece.address,
-        plus: first.length,
-        length: piece.length - first.length,
+        plus: done,
+        length: (piece.length - done).min(page.min(portion)),
     }
 }
 
@@ -49,26 +46,40 @@ pub(crate) fn second_part(piece: &ChainPiece) -> Part
 pub(crate) struct NextPart {
     /// The number of the piece.
     pub(crate) piece: usize,
-    /// Its first part.
+    /// The part.
     pub(crate) part: Part,
+    /// How many bytes of the piece are copied with it.
+    pub(crate) done: u32,
 }
 
-/// The first part of the pieces from this number on.
-#[tactic(auto, using(crate::proofs::BufferLemmas::part_steps))]
-pub(crate) fn next_part(pieces: &[ChainPiece], from: usize) -> Option<NextPart>
-    ensures parts { MatchOption result (all_parts (drop from (pieces_in pieces.now)) ≡ [])
-        (λ x. all_parts (drop from (pieces_in pieces.now)) ≡
-        x.part ∷ parts_after false x.piece (pieces_in pieces.now)) }
-    ensures within { IfSome result (λ x. (from ≤ x.piece) × (x.piece < length pieces.now)) }
+/// The next part of the pieces from this number on, `done` bytes of the first of which were copied,
+/// and `into` bytes of the chain.
+#[tactic(auto, using(crate::proofs::PartLemmas::part_steps))]
+pub(crate) fn next_part(
+    pieces: &[ChainPiece],
+    from: usize,
+    done: u32,
+    into: usize,
+) -> Option<NextPart>
+    ensures parts { MatchOption result (parts_on into done (drop from (pieces_in pieces.now)) ≡ [])
+        (λ x. parts_on into done (drop from (pieces_in pieces.now)) ≡
+        x.part ∷ parts_on (into + x.part.length) x.done (drop x.piece (pieces_in pieces.now))) }
+    ensures fits { IfSome result (λ x. into % MAX_BYTES + x.part.length ≤ MAX_BYTES) }
+    ensures fewer { length pieces.now ≤ MAX_QUEUE_SIZE → IfSome result (λ x.
+        bytes_left x.piece x.done < bytes_left from done) }
 {
+    let mut done = done;
     for number in from..pieces.len() {
         let piece = &pieces[number];
-        if piece.length > 0 {
+        if done < piece.length {
+            let part = part_after(piece, done, into);
             return Some(NextPart {
                 piece: number,
-                part: first_part(piece),
+                part,
+                done: done + part.length,
             });
         }
+        done = 0;
     }
     None
 }

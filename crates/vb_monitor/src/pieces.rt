@@ -5,7 +5,8 @@ ghost use Rattle.std.specs.Prelude.{take, sum_by, MatchOption, true, false};
 ghost use Rattle.std.specs.List.{list_any};
 ghost use Rattle.vb_chain.specs.Rules.{piece_of};
 ghost use Rattle.vb_virtio.specs.declared.limits.TheConstants.{MAX_QUEUE_SIZE, MAX_REQUEST_PAGES};
-ghost use Rattle.vb_request.specs.Request.{request_length, total_length};
+ghost use Rattle.vb_request.specs.Request.{total_length};
+ghost use Rattle.vb_monitor.specs.Chains.{is_length_within, request_length_within};
 ghost use Rattle.vb_request.specs.Statistics.{statistics_length};
 ghost use Rattle.vb_core.specs.Report.{NamesPiecesBy};
 ghost use Rattle.vb_core.specs.Pieces.{piece_in, pieces_in};
@@ -13,7 +14,7 @@ ghost use Rattle.vb_core.specs.Pieces.{piece_in, pieces_in};
 use crate::room::{MAX_PIECES, MAX_RUNS};
 use vb_chain::{ChainFault, Descriptor};
 use vb_core::{ChainPiece, Denial, Device, Kind, Named, Run};
-use vb_request::{is_request_length, is_statistics_length};
+use vb_request::is_statistics_length;
 
 /// The first `count` pieces.
 pub(crate) fn first_pieces(pieces: &[ChainPiece; MAX_PIECES], count: u16) -> &[ChainPiece]
@@ -72,18 +73,26 @@ fn readable_length(pieces: &[ChainPiece]) -> Option<u64>
     readable_bytes(pieces)
 }
 
-/// How many bytes a request of these pieces has, or the rule that they break.
-pub(crate) fn request_length(pieces: &[ChainPiece]) -> Result<u32, ChainFault>
+/// Whether a request may have this length which names at most `most` pages.
+fn is_length_within(most: u32, len: u64) -> bool
+    ensures { result ≡ is_length_within most len }
+{
+    0 < len && len <= 4 * u64::from(most) && len % 4 == 0
+}
+
+/// How many bytes a request of these pieces has, which may name at most `most` pages, or the rule
+/// that they break.
+pub(crate) fn request_length(pieces: &[ChainPiece], most: u32) -> Result<u64, ChainFault>
     requires { length pieces.now ≤ MAX_QUEUE_SIZE }
-    ensures { result ≡ request_length (pieces_in pieces.now) }
+    ensures { result ≡ request_length_within most (pieces_in pieces.now) }
 {
     match readable_length(pieces) {
         None => Err(ChainFault::WrongDirection),
         Some(total) => {
-            if !is_request_length(total) {
+            if !is_length_within(most, total) {
                 return Err(ChainFault::BadLength);
             }
-            Ok(total as u32)
+            Ok(total)
         }
     }
 }

@@ -6,42 +6,14 @@ ghost use Rattle.vb_monitor.specs.Steps.{phase_of, tally_of, walk_of, place_of};
 ghost use Rattle.vb_monitor.specs.Steps.{discarding_of, part_of, phase_at};
 
 use crate::answers::why_of;
+use crate::codes::{CUT, DESCRIPTOR, ENDED, ENTRY, FIGURES, FLAGS, INDEX, PAGES, PART};
 use crate::rows::row_bytes;
+use crate::step::has_room;
 use crate::{
     Cut, Discarding, HeldChain, MAX_BYTES, Outcome, Phase, Place, Spot, Tally, UsedSpots, Walk,
 };
 use vb_chain::DESCRIPTOR_SIZE;
 use vb_core::{Named, UsedEntry};
-
-/// What is to be done next: nothing, since the notice has ended.
-pub const ENDED: u8 = 0;
-
-/// The available index is read.
-pub(crate) const INDEX: u8 = 1;
-
-/// The entry that is next is.
-pub(crate) const ENTRY: u8 = 2;
-
-/// A row of descriptors is copied.
-pub(crate) const DESCRIPTOR: u8 = 3;
-
-/// A part of a piece is.
-pub(crate) const PART: u8 = 4;
-
-/// The driver's flags are read.
-pub(crate) const FLAGS: u8 = 5;
-
-/// A part is discarded.
-pub(crate) const CUT: u8 = 6;
-
-/// Pages are told.
-pub(crate) const PAGES: u8 = 7;
-
-/// Figures are.
-pub(crate) const FIGURES: u8 = 8;
-
-/// A chain is given back.
-pub(crate) const USED: u8 = 9;
 
 /// Where a notice is: what is to be done next, and what is remembered until it was done. Any
 /// numbers are one: a monitor keeps them, and may have lost them.
@@ -53,9 +25,12 @@ pub struct Progress {
     /// How many bytes are copied, and after how many others; or how many runs or figures there are.
     pub length: u32,
     pub into: u32,
-    /// Which descriptor, piece or run is next, and how many descriptors or which region after it.
+    /// Which descriptor or run is next, and how many descriptors or which region after it.
     pub number: usize,
     pub from: usize,
+    /// How far a chain's pieces were copied: the number of a piece, and how many of its bytes.
+    pub piece: usize,
+    pub done: u32,
     /// Of a part that is discarded.
     pub in_file: u64,
     pub cut_length: u64,
@@ -68,6 +43,9 @@ pub struct Progress {
     /// What was served, and may be yet.
     pub chains_left: u32,
     pub pages_left: u32,
+    /// The most page numbers of a request, and how many pages of one were told.
+    pub longest: u32,
+    pub told: u32,
     /// The chain: its head, and how many pieces are known.
     pub head: u16,
     pub count: u16,
@@ -94,6 +72,8 @@ impl Progress {
         into: 0,
         number: 0,
         from: 0,
+        piece: 0,
+        done: 0,
         in_file: 0,
         cut_length: 0,
         code: 0,
@@ -103,6 +83,8 @@ impl Progress {
         more: 0,
         chains_left: 0,
         pages_left: 0,
+        longest: 0,
+        told: 0,
         head: 0,
         count: 0,
         taken_head: 0,
@@ -174,6 +156,8 @@ impl Progress {
             given: self.is_given(),
             held: self.held(),
             published: self.published,
+            longest: self.longest,
+            told: self.told,
         }
     }
 
@@ -191,7 +175,7 @@ impl Progress {
         }
     }
 
-    /// Which part of a chain's pieces is copied.
+    /// How far a chain's pieces were copied.
     #[inline(always)]
     fn place(&self) -> Place
         ensures { result ≡ place_of self.now }
@@ -199,10 +183,8 @@ impl Progress {
         Place {
             head: self.head,
             count: self.count,
-            piece: self.number,
-            is_second: self.flag != 0,
-            into: self.into as usize,
-            length: self.length,
+            piece: self.piece,
+            done: self.done,
         }
     }
 
@@ -212,7 +194,8 @@ impl Progress {
         ensures { result ≡ discarding_of self.now }
     {
         Discarding {
-            head: self.head,
+            place: self.place(),
+            further: self.flag != 0,
             runs: self.length,
             run: self.number,
             from: self.from,
@@ -261,6 +244,8 @@ impl Progress {
             PART => Phase::AwaitsPart {
                 at,
                 place: self.place(),
+                into: self.into as usize,
+                length: self.length,
             },
             FLAGS => Phase::AwaitsFlags {
                 at,
@@ -272,8 +257,9 @@ impl Progress {
                 discarding: self.discarding(),
             },
             PAGES => Phase::TellsPages {
-                head: self.head,
+                place: self.place(),
                 named: self.named,
+                further: self.flag != 0,
             },
             FIGURES => Phase::TellsFigures {
                 head: self.head,
@@ -293,7 +279,7 @@ impl Progress {
         ensures { result ≡ may_go_on (phase_of self.now) }
     {
         match self.phase() {
-            Phase::AwaitsPart { place, .. } => place.has_room(),
+            Phase::AwaitsPart { into, length, .. } => has_room(into, length),
             Phase::AwaitsDescriptor { walk, .. } => row_bytes(&walk) <= MAX_BYTES,
             Phase::AwaitsIndex { .. }
             | Phase::AwaitsEntry { .. }

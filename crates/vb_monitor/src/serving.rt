@@ -63,14 +63,13 @@ pub(crate) fn perform<M: LiveMemory>(
             copy_bytes(memory, at, 0, row_bytes(&walk), &mut room.bytes);
             0
         }
-        Phase::AwaitsPart { at, place } => {
-            copy_bytes(
-                memory,
-                at,
-                place.into,
-                place.length as usize,
-                &mut room.bytes,
-            );
+        Phase::AwaitsPart {
+            at,
+            into,
+            length,
+            ..
+        } => {
+            copy_bytes(memory, at, into, length as usize, &mut room.bytes);
             0
         }
         Phase::TellsPages { named, .. } => {

@@ -18,7 +18,7 @@ ghost use Rattle.vb_monitor.specs.Left.{left, left_of, of_chains};
 ghost use Rattle.vb_monitor.specs.Steps.{phase_of, step_of, tally_of};
 
 use crate::answers::{end_rule, why_code};
-use crate::progress::{CUT, DESCRIPTOR, ENDED, ENTRY, FIGURES, FLAGS, INDEX, PAGES, PART, USED};
+use crate::codes::{CUT, DESCRIPTOR, ENDED, ENTRY, FIGURES, FLAGS, INDEX, PAGES, PART, USED};
 use crate::{Cut, Discarding, Place, Progress, Spot, UsedSpots, Walk};
 use vb_core::{Denial, Named, UsedEntry};
 
@@ -85,26 +85,27 @@ impl Progress {
         self.flag = u8::from(walk.writing);
     }
 
-    /// A part of a piece is to be copied from there.
+    /// The part of a piece before a place is to be copied from there, after the first `into` bytes.
     #[inline(always)]
-    pub(crate) fn await_part(&mut self, at: Spot, place: Place)
-        requires { place.into + place.length ≤ MAX_BYTES }
+    pub(crate) fn await_part(&mut self, at: Spot, place: Place, into: usize, length: u32)
+        requires { into + length ≤ MAX_BYTES }
         ensures step { (w : Whole) (d : Device) (room : Room) (log : List Access) →
             Ahead w (step_of self.new) d room log →
-            AheadAt (AwaitsPart at place) w (tally_of self.old) d room log }
+            AheadAt (AwaitsPart at place into length) w (tally_of self.old) d room log }
         ensures fits { Fits (phase_of self.new) }
         ensures stage { stage (phase_of self.new) ≡ 3 }
         ensures left { (regions : List Region) → left regions (step_of self.new) ≤
-            of_chains regions (tally_of self.old).chains + left_of regions (AwaitsPart at place) }
+            of_chains regions (tally_of self.old).chains + left_of regions
+            (AwaitsPart at place into length) }
     {
         self.phase = PART;
         self.at = at;
-        self.length = place.length;
-        self.into = place.into as u32;
+        self.length = length;
+        self.into = into as u32;
         self.head = place.head;
         self.count = place.count;
-        self.flag = u8::from(place.is_second);
-        self.number = place.piece;
+        self.piece = place.piece;
+        self.done = place.done;
     }
 
     /// The driver's flags are to be read, and then it ends so.
@@ -145,7 +146,11 @@ impl Progress {
         };
         self.in_file = cut.in_file;
         self.cut_length = cut.length;
-        self.head = discarding.head;
+        self.head = discarding.place.head;
+        self.count = discarding.place.count;
+        self.piece = discarding.place.piece;
+        self.done = discarding.place.done;
+        self.flag = u8::from(discarding.further);
         self.length = discarding.runs;
         self.number = discarding.run;
         self.from = discarding.from;
@@ -153,18 +158,23 @@ impl Progress {
 
     /// The pages of the first runs are to be told.
     #[inline(always)]
-    pub(crate) fn await_pages(&mut self, head: u16, named: Named)
+    pub(crate) fn await_pages(&mut self, place: Place, named: Named, further: bool)
         ensures step { (w : Whole) (d : Device) (room : Room) (log : List Access) →
             Ahead w (step_of self.new) d room log →
-            AheadAt (TellsPages head named) w (tally_of self.old) d room log }
+            AheadAt (TellsPages place named further) w (tally_of self.old) d room log }
         ensures fits { named.runs ≤ MAX_RUNS → Fits (phase_of self.new) }
         ensures stage { stage (phase_of self.new) ≡ 0 }
         ensures left { (regions : List Region) → left regions (step_of self.new) ≤
-            of_chains regions (tally_of self.old).chains + left_of regions (TellsPages head named) }
+            of_chains regions (tally_of self.old).chains + left_of regions
+            (TellsPages place named further) }
     {
         self.phase = PAGES;
-        self.head = head;
+        self.head = place.head;
+        self.count = place.count;
+        self.piece = place.piece;
+        self.done = place.done;
         self.named = named;
+        self.flag = u8::from(further);
     }
 
     /// The first `count` figures are to be told.

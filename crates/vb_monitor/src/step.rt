@@ -21,29 +21,27 @@ pub struct Walk {
     pub further: u16,
 }
 
-/// Which part of a chain's pieces is copied.
+/// A place in the pieces of a chain: what is before it was copied.
 #[derive(Clone, Copy, Debug)]
 pub struct Place {
     /// The number of the chain's first descriptor.
     pub head: u16,
     /// How many pieces it has.
     pub count: u16,
-    /// The number of this piece.
+    /// The number of a piece.
     pub piece: usize,
-    /// It is the part after the end of the page in which the piece begins.
-    pub is_second: bool,
-    /// How many bytes were copied before.
-    pub into: usize,
-    /// How many bytes the part has.
-    pub length: u32,
+    /// How many bytes of this piece were copied.
+    pub done: u32,
 }
 
 /// What was named, and how far it is discarded.
 #[derive(Clone, Copy, Debug)]
 pub struct Discarding {
-    /// The number of the chain's first descriptor.
-    pub head: u16,
-    /// How many runs it names.
+    /// How far the chain was copied.
+    pub place: Place,
+    /// What was named is a portion of the chain, of which more is copied then.
+    pub further: bool,
+    /// How many runs were named.
     pub runs: u32,
     /// The number of the run that is discarded.
     pub run: usize,
@@ -51,23 +49,28 @@ pub struct Discarding {
     pub from: usize,
 }
 
-impl Place {
-    /// Whether the bytes of the part have room.
-    #[inline(always)]
-    pub(crate) fn has_room(&self) -> bool
-        ensures { result ≡ nat_le (self.now.into + self.now.length) MAX_BYTES }
-    {
-        self.into <= MAX_BYTES && self.length as usize <= MAX_BYTES - self.into
-    }
+/// Whether `length` bytes have room after the first `into` ones.
+#[inline(always)]
+pub(crate) fn has_room(into: usize, length: u32) -> bool
+    ensures { result ≡ nat_le (into + length) MAX_BYTES }
+{
+    into <= MAX_BYTES && length as usize <= MAX_BYTES - into
 }
 
 impl Discarding {
-    /// The first `runs` runs of a chain are to be discarded, all of them.
-    pub fn first(head: u16, runs: u32) -> Discarding
-        ensures { result ≡ record { head = head; runs = runs; run = 0; from = 0 } }
+    /// The first `runs` runs are to be discarded, all of them.
+    pub fn first(place: Place, further: bool, runs: u32) -> Discarding
+        ensures { result ≡ record {
+          place = place;
+          further = further;
+          runs = runs;
+          run = 0;
+          from = 0;
+        } }
     {
         Discarding {
-            head,
+            place,
+            further,
             runs,
             run: 0,
             from: 0,
@@ -92,15 +95,20 @@ pub enum Phase {
         at: Spot,
         walk: Walk,
     },
-    /// Bytes are to be copied from there after those that were copied: a part of a piece.
+    /// `length` bytes are to be copied from there after the first `into` ones, which were copied:
+    /// the part of a piece before this place.
     AwaitsPart {
         at: Spot,
         place: Place,
+        into: usize,
+        length: u32,
     },
-    /// The monitor is to be told the pages of the first runs.
+    /// The monitor is to be told the pages of the first runs; more is copied of their chain then
+    /// (`further`), or not.
     TellsPages {
-        head: u16,
+        place: Place,
         named: Named,
+        further: bool,
     },
     /// The VMM is to be told the first `count` figures.
     TellsFigures {

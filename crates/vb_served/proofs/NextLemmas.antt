@@ -25,6 +25,7 @@ use Rattle.vb_served.specs.Store.{Store, After}
 use Rattle.vb_served.specs.One.{byte, all_of, head_in, descriptor_in, BreaksRule}
 use Rattle.vb_served.specs.One.{ServesNext, Denied, Jumped, NoneThere, Broke, Found}
 use Rattle.vb_served.proofs.StaysLemmas.{Between, stays_so}
+use Rattle.vb_virtio.specs.declared.limits.TheConstants.{MAX_REQUEST_PAGES}
 use Rattle.vb_served.proofs.OneLemmas.{over, by_kind}
 use Rattle.vb_served.proofs.MayServe.{IsOf, MayServe, ring_mapped, parts_mapped, may_give}
 use Rattle.vb_served.proofs.WholeMemory.{plain_all}
@@ -37,6 +38,7 @@ record IsOpen (kind : Kind) (d1 : Device) (t : Tally) (s : Store) : Type 0 where
   held : t.held ≡ None
   given : t.given ≡ false
   keeps : t.keeps ≡ false
+  longest : t.longest ≡ MAX_REQUEST_PAGES
 
 abbrev Still : Store → Store → List Access → Type 0
 Still s u log = StaysUntil (Between s u) (byte s) (all_of (length s.mem)) log
@@ -80,6 +82,7 @@ walked kind d1 d2 outcome t s u head log is none index there same (inl h) =
       none = none;
       given = is.given;
       keeps = is.keeps;
+      longest = is.longest;
       plain = record { place = plain_all n };
       may = subst (λ (i : ℕ). MayServe (all_of n) kind d1
           (head_in (byte s) r) i) (sym index)
@@ -175,6 +178,7 @@ by_index kind d1 d2 outcome t s u (Ok true) log is some index e stays h =
       held = is.held;
       given = is.given;
       keeps = is.keeps;
+      longest = is.longest;
     }) refl index e refl (ring_mapped (length s.mem) kind d1 is.of is.open_so).entry stays
     (unspent w d1 t 0 log some h)
 
@@ -199,6 +203,7 @@ by_place kind d1 d2 outcome t s u (Some at) log is some e mapped stays h =
       held = is.held;
       given = is.given;
       keeps = is.keeps;
+      longest = is.longest;
     }) some read refl all.1
     (subst (λ (i : ℕ). AfterIndex (stands r i) w (TakesNext 1 w d1 (with_published h.index t)) d1
     (with_published h.index t) h.rest) read h.goes_on)
@@ -208,15 +213,15 @@ by_place kind d1 d2 outcome t s u (Some at) log is some e mapped stays h =
 looks : (kind : Kind) (d1 d2 : Device) (outcome : Outcome) (t : Tally) (s u : Store)
     (o : Option Denial) (log : List Access) → IsOf d1 (length s.mem) →
     (ring_of kind d1).next_avail < 65536 → t.held ≡ None → t.given ≡ false → t.keeps ≡ false →
-    (t.pages == 0) ≡ false → queue_denial kind d1 ≡ o → Still s u log →
+    t.longest ≡ MAX_REQUEST_PAGES → (t.pages == 0) ≡ false → queue_denial kind d1 ≡ o → Still s u log →
     LooksBy o (over (length s.mem) kind d2 outcome)
     (ServesPublished 1 (over (length s.mem) kind d2 outcome)) d1 t log →
     ServesNext kind d1 d2 outcome s u
-looks kind d1 d2 outcome t s u (Some why) log of few free given keeps some e stays h =
+looks kind d1 d2 outcome t s u (Some why) log of few free given keeps longest some e stays h =
     let (so, device, still) = ends_so (Still s u) t.given (over (length s.mem) kind d2 outcome) d1 t
     (Some why) false log given stays h in
     Denied why e (record { ends = so; device = device; memory = still })
-looks kind d1 d2 outcome t s u None log of few free given keeps some e stays h =
+looks kind d1 d2 outcome t s u None log of few free given keeps longest some e stays h =
     let r = ring_of kind d1 in
     by_place kind d1 d2 outcome t s u (spot (all_of (length s.mem)) (r.avail + 2) 2) log (record {
       of = of;
@@ -225,17 +230,19 @@ looks kind d1 d2 outcome t s u None log of few free given keeps some e stays h =
       held = free;
       given = given;
       keeps = keeps;
+      longest = longest;
     }) some refl (ring_mapped (length s.mem) kind d1 of e).index stays h
 
 pub next_so : (kind : Kind) (budget : Budget) (d1 d2 : Device) (outcome : Outcome) (s u : Store) →
     budget.chains ≡ 1 → (budget.pages == 0) ≡ false → budget.keeps ≡ false →
+    budget.longest ≡ MAX_REQUEST_PAGES →
     IsOf d1 (length s.mem) → (ring_of kind d1).next_avail < 65536 →
     Makes After s u (Serves (all_of (length s.mem)) kind budget d1 d2 outcome) →
     ServesNext kind d1 d2 outcome s u
-next_so kind budget d1 d2 outcome s u chains some keeps of few made =
+next_so kind budget d1 d2 outcome s u chains some keeps longest of few made =
     let n = length s.mem in
     let w = over n kind d2 outcome in
     looks kind d1 d2 outcome (fresh budget) s u (queue_denial kind d1) made.log of few refl refl keeps
-    some refl (stays_so s u (all_of n) made.log (record { place = plain_all n }) made.steps)
+    longest some refl (stays_so s u (all_of n) made.log (record { place = plain_all n }) made.steps)
     (subst (λ (m : ℕ). LooksBy (queue_denial kind d1) w (ServesPublished m w) d1 (fresh budget)
     made.log) chains made.is)

@@ -22,10 +22,11 @@ use Rattle.vb_monitor.specs.declared.outcome.{Tally.Tally, Outcome.Outcome}
 use Rattle.vb_monitor.specs.Accesses.{Access, Discard, Steps}
 use Rattle.vb_monitor.specs.Regions.{spot}
 use Rattle.vb_monitor.specs.Ends.{Whole, Breaks, EndsWhere}
-use Rattle.vb_monitor.specs.Giving.{GivesBackBy, AfterName, after_use, cuts_for, is_kept, spent}
+use Rattle.vb_monitor.specs.Giving.{GivesBack, more_told, GivesBackBy, AfterName, after_use, cuts_for, is_kept, spent}
 use Rattle.vb_monitor.specs.Giving.{after_last, used_spots, TellsThen, OnceTold, with_held, with_named, held_if, DiscardsThen}
 use Rattle.vb_monitor.specs.Notices.{stands}
-use Rattle.vb_monitor.specs.Chains.{CopiesBy, FiguresBy, TellsFigures, NamesReport}
+use Rattle.vb_virtio.specs.declared.limits.TheConstants.{MAX_REQUEST_PAGES}
+use Rattle.vb_monitor.specs.Chains.{request_length_within, CopiesBy, FiguresBy, TellsFigures, NamesReport}
 use Rattle.vb_monitor.specs.{Pieces.all_parts}
 use Rattle.vb_monitor.specs.declared.outcome.{HeldChain.HeldChain}
 use Rattle.vb_core.specs.Settings.{holds_chains}
@@ -61,11 +62,11 @@ pub by_telling : (w : Whole) (d : Device) (t : Tally) (head pages : ℕ) (runs :
     TellsThen w (next_chain w t) d (with_named w.kind d.settings head pages t) head runs named log →
     Settles w.kind head runs d w.device w.outcome.why s u
 by_telling w d t head pages runs named s u log is free none keeps plain all open_so there_so ok stays h0 =
-    let h = subst (λ (b : Bool). TellsThen w (next_chain w t) d (held_if b head pages (spent pages t)) head
-    runs named log) is h0 in
+    let h = subst (λ (b : Bool). TellsThen w (next_chain w t) d
+    (held_if b head (more_told t.told pages) (spent pages t)) head runs named log) is h0 in
     let e = used_entry (ring_of w.kind d) head in
     let cuts = cuts_for w.kind (is_kept w.kind t.keeps (keeps_reports d)) w.regions runs in
-    let gone : DiscardsThen w (next_chain w t) d (spent pages t) head cuts h.rest =
+    let gone : DiscardsThen (GivesBack w (next_chain w t) d (spent pages t) head) cuts h.rest =
     subst (λ (o : Option HeldChain). OnceTold o w (next_chain w t) d (spent pages t) head cuts h.rest) free
     h.goes_on in
     let (s1, same, after_told) = subst (λ (l : List Access). StaysUntil (Between s u) (byte s)
@@ -76,7 +77,7 @@ by_telling w d t head pages runs named s u log is free none keeps plain all open
     (from_same marked s1 u h.rest same after_told) in
     let parts = apart marked u cuts gone.rest made in
     let gives = subst (λ (o : Option Denial). GivesBackBy o w (next_chain w t) d
-    (spent pages t) head gone.rest) open_so gone.gives_back in
+    (spent pages t) head gone.rest) open_so gone.goes_on in
     let (given_back, device, ends) = used_so w d (after_use w.kind d) (spent pages t) e
     (spot w.regions e.element_at 4) (spot w.regions (e.element_at + 4) 4)
     (spot w.regions e.index_at 2) parts.between u gone.rest free none plain refl refl refl
@@ -133,6 +134,7 @@ pub record IsFound (kind : Kind) (d1 : Device) (t : Tally) (head : ℕ) (pieces 
   pub none : t.chains ≡ 0
   pub given : t.given ≡ false
   pub keeps : t.keeps ≡ false
+  pub longest : t.longest ≡ MAX_REQUEST_PAGES
   pub plain : IsPlain (all_of (length s.mem))
   pub may : MayServe (all_of (length s.mem)) kind d1 head t.published
   pub parts : ArePartsMapped (all_of (length s.mem)) (all_parts pieces)
@@ -149,6 +151,12 @@ broken_so kind d1 d2 outcome t s u fault log given stays h =
     (needing_reset d1) t (Some (Broken fault)) false log given stays h in
     record { ends = so; device = device; memory = still }
 
+-- a request of this device's guests has no more numbers than one of the model
+request_so : (t : Tally) (pieces : List Piece) (n : ℕ) → t.longest ≡ MAX_REQUEST_PAGES →
+    request_length pieces ≡ Ok n → request_length_within t.longest pieces ≡ Ok n
+request_so t pieces n longest e =
+    ap (λ (most : ℕ). request_length_within most pieces) longest ∙ e
+
 by_inflate : (d1 d2 : Device) (outcome : Outcome) (t : Tally) (head : ℕ) (pieces : List Piece)
     (s u : Store) (o : Result ℕ ChainFault) (log : List Access) →
     IsFound Inflate d1 t head pieces s → request_length pieces ≡ o → Still s u log →
@@ -159,10 +167,10 @@ by_inflate d1 d2 outcome t head pieces s u (Err f) log is e stays h =
     broken_so Inflate d1 d2 outcome t s u f log is.given stays h
 by_inflate d1 d2 outcome t head pieces s u (Ok n) log is e stays h =
     let w = over (length s.mem) Inflate d2 outcome in
-    let on = served_by_bytes (Between s u) (byte s) w t d1 head pieces n log refl e is.parts
-    (request_room (byte s) pieces n e) stays
-    (subst (λ (o : Result ℕ ChainFault). CopiesBy o w (next_chain w t) d1 t head pieces log) (sym e)
-    h) in
+    let on = served_by_bytes (Between s u) (byte s) w t d1 head pieces n log refl
+    (request_so t pieces n is.longest e) is.parts (request_room (byte s) pieces n e) stays
+    (subst (λ (o : Result ℕ ChainFault). CopiesBy o w (next_chain w t) d1 t head pieces log)
+    (sym (request_so t pieces n is.longest e)) h) in
     let x = on.is in
     record {
       runs = x.runs;
@@ -187,10 +195,10 @@ by_deflate d1 d2 outcome t head pieces s u (Err f) log is e stays h =
     broken_so Deflate d1 d2 outcome t s u f log is.given stays h
 by_deflate d1 d2 outcome t head pieces s u (Ok n) log is e stays h =
     let w = over (length s.mem) Deflate d2 outcome in
-    let on = served_by_bytes (Between s u) (byte s) w t d1 head pieces n log refl e is.parts
-    (request_room (byte s) pieces n e) stays
-    (subst (λ (o : Result ℕ ChainFault). CopiesBy o w (next_chain w t) d1 t head pieces log) (sym e)
-    h) in
+    let on = served_by_bytes (Between s u) (byte s) w t d1 head pieces n log refl
+    (request_so t pieces n is.longest e) is.parts (request_room (byte s) pieces n e) stays
+    (subst (λ (o : Result ℕ ChainFault). CopiesBy o w (next_chain w t) d1 t head pieces log)
+    (sym (request_so t pieces n is.longest e)) h) in
     let x = on.is in
     record {
       runs = x.runs;
@@ -300,9 +308,15 @@ pub by_kind : (kind : Kind) (d1 d2 : Device) (outcome : Outcome) (t : Tally) (he
     Still s u log → serves (over (length s.mem) kind d2 outcome) t d1 head pieces log →
     ServesChain kind head pieces d1 d2 outcome s u
 by_kind Inflate d1 d2 outcome t head pieces s u log is stays h =
-    by_inflate d1 d2 outcome t head pieces s u (request_length pieces) log is refl stays h
+    by_inflate d1 d2 outcome t head pieces s u (request_length pieces) log is refl stays
+    (subst (λ (most : ℕ). CopiesBy (request_length_within most pieces)
+    (over (length s.mem) Inflate d2 outcome)
+    (next_chain (over (length s.mem) Inflate d2 outcome) t) d1 t head pieces log) is.longest h)
 by_kind Deflate d1 d2 outcome t head pieces s u log is stays h =
-    by_deflate d1 d2 outcome t head pieces s u (request_length pieces) log is refl stays h
+    by_deflate d1 d2 outcome t head pieces s u (request_length pieces) log is refl stays
+    (subst (λ (most : ℕ). CopiesBy (request_length_within most pieces)
+    (over (length s.mem) Deflate d2 outcome)
+    (next_chain (over (length s.mem) Deflate d2 outcome) t) d1 t head pieces log) is.longest h)
 by_kind Statistics d1 d2 outcome t head pieces s u log is stays h =
     by_buffer d1 d2 outcome t head pieces s u (statistics_length pieces) log is refl stays h
 by_kind Report d1 d2 outcome t head pieces s u log is stays h =

@@ -1,6 +1,6 @@
 -- Places in the one region that is all of a memory.
 use Rattle.std.proofs.Common.{◌≡◌, ◌≢◌, ◌∙◌, ap, sym, refl, arith, ℕ, ◌+◌, ◌-◌, ◌*◌, ◌%◌, ◌<◌, ◌≤◌}
-use Rattle.std.proofs.Common.{suc, Bool, true, false, List, [], ◌∷◌, ◌++◌, Option, Some, None}
+use Rattle.std.proofs.Common.{zero, suc, subst, Bool, true, false, List, [], ◌∷◌, ◌++◌, Option, Some, None}
 use Rattle.std.specs.Prelude.{All, ◌&&◌, ◌==◌, if◌then◌else◌}
 use Rattle.std.proofs.lemmas.Bool.Decides.{nat_tests}
 use Rattle.vb_chain.specs.declared.pieces.Piece.{Piece}
@@ -13,7 +13,8 @@ use Rattle.vb_monitor.specs.declared.parts.Part.{Part}
 use Rattle.vb_monitor.specs.Regions.{holds, spot}
 use Rattle.vb_monitor.specs.Giving.{used_spots, three_spots}
 use Rattle.vb_monitor.specs.Notices.{entry_offset}
-use Rattle.vb_monitor.specs.Pieces.{first_part, second_part, unless_empty, parts_of, all_parts}
+use Rattle.vb_monitor.specs.Pieces.{next_part, parts_of, parts_on, all_parts}
+use Rattle.vb_monitor.proofs.PartLemmas.{few_bytes, no_parts, more_parts}
 use Rattle.vb_monitor.specs.Still.{IsMapped, ArePartsMapped}
 use Rattle.vb_monitor.proofs.StillFound.{offset_so}
 use Rattle.vb_served.specs.One.{all_of}
@@ -119,32 +120,41 @@ used_there n head r few at =
 
 -- ---- pieces
 
-unless_there : (n : ℕ) (part : Part) (b : Bool) → 4096 * n ≤ MEMORY_LIMIT →
-    part.address + part.plus + part.length ≤ 4096 * n →
-    ArePartsMapped (all_of n) (if b then [] else part ∷ [])
-unless_there n part true few fits = tt
-unless_there n part false few fits =
-    (there n (part.address + part.plus) part.length few fits, tt)
-
 appended : (n : ℕ) (xs ys : List Part) → ArePartsMapped (all_of n) xs →
     ArePartsMapped (all_of n) ys → ArePartsMapped (all_of n) (xs ++ ys)
 appended n [] ys h k = k
 appended n (x ∷ xs) ys h k = (h.0, appended n xs ys h.1 k)
 
-short : (p : Piece) → (first_part p).length ≤ p.len
-short p = grind (arith, nat_tests)
+parts_by : (n : ℕ) (b : Bool) (k : ℕ) (p : Piece) (done into : ℕ)
+    (on : (d i : ℕ) → ArePartsMapped (all_of n) (parts_of k p d i)) → 4096 * n ≤ MEMORY_LIMIT →
+    p.addr + p.len ≤ 4096 * n → (p.len - done == 0) ≡ b →
+    ArePartsMapped (all_of n) (parts_of (suc k) p done into)
+parts_by n true k p done into on few fits e =
+    let none : p.len - done ≤ 0 = grind (arith, nat_tests) in
+    subst (λ (l : List Part). ArePartsMapped (all_of n) l) (sym (no_parts (suc k) p done into none)) tt
+parts_by n false k p done into on few fits e =
+    let lt : done < p.len = grind (arith, nat_tests) in
+    let part = next_part p done into in
+    let le = few_bytes p done into lt in
+    subst (λ (l : List Part). ArePartsMapped (all_of n) l) (sym (more_parts k p done into lt)) (
+      there n (p.addr + done) part.length few (omega (arith, fits, le)),
+      on (done + part.length) (into + part.length),
+    )
 
-piece_there : (n : ℕ) (p : Piece) → 4096 * n ≤ MEMORY_LIMIT → p.addr + p.len ≤ 4096 * n →
-    ArePartsMapped (all_of n) (parts_of p)
-piece_there n p few fits =
-    let le : (first_part p).length ≤ p.len = short p in
-    appended n (unless_empty (first_part p)) (unless_empty (second_part p))
-    (unless_there n (first_part p) ((first_part p).length == 0) few (omega (arith, fits, le)))
-    (unless_there n (second_part p) ((second_part p).length == 0) few (omega (arith, fits, le)))
+piece_there : (n k : ℕ) (p : Piece) (done into : ℕ) → 4096 * n ≤ MEMORY_LIMIT →
+    p.addr + p.len ≤ 4096 * n → ArePartsMapped (all_of n) (parts_of k p done into)
+piece_there n zero p done into few fits = tt
+piece_there n (suc k) p done into few fits =
+    parts_by n (p.len - done == 0) k p done into (λ d i. piece_there n k p d i few fits) few fits refl
+
+all_there : (n : ℕ) (ps : List Piece) (into : ℕ) → 4096 * n ≤ MEMORY_LIMIT →
+    All (λ p. p.addr + p.len ≤ 4096 * n) ps → ArePartsMapped (all_of n) (parts_on into 0 ps)
+all_there n [] into few fits = tt
+all_there n (p ∷ ps) into few fits =
+    appended n (parts_of (p.len - 0) p 0 into) (parts_on (into + (p.len - 0)) 0 ps)
+    (piece_there n (p.len - 0) p 0 into few (fits 0 p (omega arith)))
+    (all_there n ps (into + (p.len - 0)) few (λ k d lt. fits (suc k) d (omega (arith, lt))))
 
 pub pieces_there : (n : ℕ) (ps : List Piece) → 4096 * n ≤ MEMORY_LIMIT →
     All (λ p. p.addr + p.len ≤ 4096 * n) ps → ArePartsMapped (all_of n) (all_parts ps)
-pieces_there n [] few fits = tt
-pieces_there n (p ∷ ps) few fits =
-    appended n (parts_of p) (all_parts ps) (piece_there n p few (fits 0 p (omega arith)))
-    (pieces_there n ps few (λ k d lt. fits (suc k) d (omega (arith, lt))))
+pieces_there n ps few fits = all_there n ps 0 few fits

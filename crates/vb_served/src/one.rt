@@ -9,12 +9,14 @@ use crate::LooseRam;
 use crate::reading::PAGE_BYTES;
 use vb_core::{Device, Kind};
 use vb_monitor::{Budget, Outcome, Region, Room, serve};
+use vb_virtio::limits::MAX_REQUEST_PAGES;
 
 /// What serves one chain.
 const ONE_CHAIN: Budget = Budget {
     chains: 1,
     pages: 1,
     keeps: false,
+    longest: MAX_REQUEST_PAGES,
 };
 
 /// The region that is all of a memory of n pages.

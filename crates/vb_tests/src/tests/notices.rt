@@ -116,11 +116,30 @@ const PAGE_5: Cut = Cut {
     length: 0x1000,
 };
 
-/// A notice of the request of `put_request`: what it is, how many chains it may serve, whether it
-/// keeps all pages, whether an interrupt is wanted and more is available at its end, and its
+/// The bytes of the long request's first portion, and those of its second one.
+const PORTION: Spot = Spot {
+    region: 0,
+    offset: 0x3000,
+};
+
+const ITS_NEXT: Spot = Spot {
+    region: 0,
+    offset: 0x3400,
+};
+
+/// Which request is there: that of `put_request`, or that of `put_long_request`.
+#[derive(Clone, Copy)]
+enum Request {
+    Short,
+    Long,
+}
+
+/// A notice of a request: what it is, which request it is of, how many chains it may serve, whether
+/// it keeps all pages, whether an interrupt is wanted and more is available at its end, and its
 /// accesses.
 struct Case {
     name: &'static str,
+    request: Request,
     kind: Kind,
     chains: u32,
     keeps: bool,
@@ -129,9 +148,10 @@ struct Case {
     accesses: &'static [Row],
 }
 
-static CASES: [Case; 4] = [
+static CASES: [Case; 5] = [
     Case {
         name: "an inflate",
+        request: Request::Short,
         kind: Kind::Inflate,
         chains: 8,
         keeps: false,
@@ -159,6 +179,7 @@ static CASES: [Case; 4] = [
     },
     Case {
         name: "an inflate whose pages are kept",
+        request: Request::Short,
         kind: Kind::Inflate,
         chains: 8,
         keeps: true,
@@ -183,6 +204,7 @@ static CASES: [Case; 4] = [
     },
     Case {
         name: "a deflate, which discards nothing",
+        request: Request::Short,
         kind: Kind::Deflate,
         chains: 8,
         keeps: false,
@@ -206,7 +228,33 @@ static CASES: [Case; 4] = [
         ],
     },
     Case {
-        name: "a budget of no chain, behind which more stands there",
+        name: "an inflate of 257 numbers whose pages are kept",
+        request: Request::Long,
+        kind: Kind::Inflate,
+        chains: 8,
+        keeps: true,
+        interrupt: true,
+        more: false,
+        accesses: &[
+            Row::Word(INDEX, 1),
+            Row::Acquire,
+            Row::Word(ENTRY, 0),
+            Row::Bytes(TABLE, 16),
+            Row::Bytes(PORTION, 1024),
+            Row::Pages(256, 256),
+            Row::Bytes(ITS_NEXT, 4),
+            Row::Pages(1, 1),
+            Row::Number(USED_ID, 0),
+            Row::Number(USED_LENGTH, 0),
+            Row::Release,
+            Row::Written(USED_INDEX, 1),
+            Row::Full,
+            Row::Word(FLAGS, 0),
+        ],
+    },
+    Case {
+        name: "a budget of no chain, after which more is there",
+        request: Request::Short,
         kind: Kind::Inflate,
         chains: 0,
         keeps: false,
@@ -236,14 +284,29 @@ fn put_request(bytes: &mut [u8]) {
     bytes[0x40c] = 5;
 }
 
-/// Serves that request as the case has it.
+/// One available entry, a chain of one descriptor with 1,028 bytes, from 0x3000 on: each of its
+/// numbers is 0.
+fn put_long_request(bytes: &mut [u8]) {
+    if bytes.len() < MEMORY {
+        return;
+    }
+    bytes[1] = 0x30;
+    bytes[8] = 4;
+    bytes[9] = 4;
+    bytes[0x102] = 1;
+}
+
+/// Serves the request that the case has, as the case has it.
 fn serve_request<R: Abort>(memory: &mut Scribbled<R>, case: &Case) -> Outcome {
     let mut device = Device::new(SETTINGS);
     device.features = SETTINGS.offered;
     device.status = 15;
     device.inflate = RING;
     device.deflate = RING;
-    put_request(&mut memory.bytes);
+    match case.request {
+        Request::Short => put_request(&mut memory.bytes),
+        Request::Long => put_long_request(&mut memory.bytes),
+    }
     let mut room = Room::EMPTY;
     serve(
         memory,
@@ -254,6 +317,7 @@ fn serve_request<R: Abort>(memory: &mut Scribbled<R>, case: &Case) -> Outcome {
             chains: case.chains,
             pages: 256,
             keeps: case.keeps,
+            longest: 257,
         },
         &mut room,
     )

@@ -16,7 +16,7 @@ returns-in-Some-clause-step c after outcome rest h =
     c.args.room.now (map Discard first ++ rest))
     (sym c.in-Discards.is ∙ c.phase.ensures)
     (discards_some c.args.regions.now (take x.runs c.args.room.now.runs) filled.left c.in-Some.found _ _
-    _ _ _ _ _ _
+    _ _
     (subst (λ (rs : List Run). c.in-Discards.cut ∷ cuts_after x.from x.run c.args.regions.now rs ≡
     first ++ cuts_left c.args.regions.now rs filled.left)
     c.first_runs-named.ensures c.fill-filled.ensures.parts) c.in-Some.is
