@@ -43,7 +43,7 @@ pub struct Tally {
     pub published: u16,
     /// The most page numbers of a request.
     pub longest: u32,
-    /// How many pages of the chain were told that is being served, up to its last portion.
+    /// How many pages were told of the chain that is being served, as far as 32 bits count them.
     pub told: u32,
 }
 

@@ -134,8 +134,8 @@ enum Request {
     Long,
 }
 
-/// A notice of a request: what it is, which request it is of, how many chains it may serve, whether it
-/// keeps all pages, whether an interrupt is wanted and more is available at its end, and its
+/// A notice of a request: what it is, which request it is of, how many chains it may serve, whether
+/// it keeps all pages, whether an interrupt is wanted and more is available at its end, and its
 /// accesses.
 struct Case {
     name: &'static str,
