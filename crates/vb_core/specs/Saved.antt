@@ -16,7 +16,8 @@ use Rattle.vb_core.specs.declared.saved.StateDenial.TheVariants.{OtherVersion, B
 use Rattle.vb_core.specs.declared.format.TheConstants.{MAGIC, FORMAT_VERSION, HEADER_LENGTH}
 use Rattle.vb_core.specs.declared.format.TheConstants.{VERSION_AT, LENGTH_AT, CHECKSUM_LENGTH}
 use Rattle.vb_core.specs.declared.format.TheConstants.{SAVED_LENGTH, OLDER_VERSION, OLDER_LENGTH}
-use Rattle.vb_core.specs.Settings.{longest_request, are_settings, needs_must_tell, page_poison, holds_chains}
+use Rattle.vb_core.specs.Settings.{longest_request, are_settings, needs_must_tell, page_poison}
+use Rattle.vb_core.specs.Settings.{holds_chains}
 use Rattle.vb_core.specs.Held.{held_of, held_pages}
 use Rattle.vb_core.specs.Rings.{has_place}
 use Rattle.vb_core.specs.Kinds.{queue_of}

@@ -1,6 +1,6 @@
 -- What a monitor settles for a device.
-use Rattle.std.specs.Prelude.{ℕ, ◌/◌, ◌^◌, ◌-◌, min, max, Bool, true, false, not, ◌==◌, ◌&&◌, nat_lt, bit_and}
-use Rattle.std.specs.Prelude.{bit_or}
+use Rattle.std.specs.Prelude.{ℕ, ◌/◌, ◌^◌, ◌-◌, min, max, Bool, true, false, not, ◌==◌, ◌&&◌}
+use Rattle.std.specs.Prelude.{nat_lt, bit_and, bit_or}
 use Rattle.vb_virtio.specs.declared.negotiation.TheConstants.{OFFERED_FEATURES}
 use Rattle.vb_virtio.specs.Limits.{page_size}
 use Rattle.vb_virtio.specs.Features.{version_1}
@@ -33,8 +33,8 @@ are_settings s =
 abbrev pub memory_pages : Settings → ℕ
 memory_pages s = s.memory_end / page_size
 
--- How many page numbers a request has at most: as many as memory has pages, and no fewer than each may
--- have; 32 bits say it.
+-- How many page numbers a request has at most: as many as memory has pages, and no fewer than each
+-- may have; 32 bits say it.
 abbrev pub longest_request : Settings → ℕ
 longest_request s = min (max (memory_pages s) LONGEST_REQUEST) (2 ^ 32 - 1)
 
