@@ -211,7 +211,7 @@ static void scribble(void)
     uint8_t *ring = client.memory[number % REGIONS] + 3 * number * PAGE;
     for (unsigned i = 0; i < 8; i++) {
         uint64_t address = one_in(8) ? chance(UINT64_MAX) : guest_at[chance(2)] + PAGE * chance(64);
-        uint32_t length = one_in(4) ? (uint32_t)chance(UINT32_MAX) : 4 * (uint32_t)chance(3) + 4;
+        uint32_t length = one_in(4) ? (uint32_t)chance(UINT32_MAX) : 4 * (uint32_t)chance(one_in(4) ? 2 * PAGE : 3) + 4;
         uint16_t flags = one_in(8) ? (uint16_t)chance(8) : number == 3 ? 2 : 0, next = (uint16_t)chance(9);
         memcpy(ring + 16 * i, &address, 8);
         memcpy(ring + 16 * i + 8, &length, 4);
