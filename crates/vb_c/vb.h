@@ -131,20 +131,22 @@ typedef struct {
     uint32_t figures;           /* VB_TELL_FIGURES */
     uint32_t cuts;              /* VB_DISCARD */
     uint32_t kept;              /* VB_TELL_PAGES: how many of the pages are kept: given up or free, and yet not discarded */
+    uint32_t waits;             /* VB_TELL_PAGES: 1 where they wait for vb_give_held, as their chain is held once all of it is told; else 0 */
     VbSpot id_at, length_at, index_at;          /* VB_GIVE_BACK */
     uint32_t id, used_length;
     uint16_t used_index;
     VbSpot at;                  /* VB_READ and VB_COPY */
     uint32_t length, into;      /* VB_COPY */
-    size_t number, from;        /* these four: what the library remembers */
+    size_t number, from, piece; /* these six: what the library remembers */
+    uint32_t done;
     uint64_t in_file, cut_length;
     uint32_t code, rule;        /* at the end: VB_OK where a chain was served; VB_NOTHING; or why the last one wasn't */
     uint32_t interrupt;         /* at the end: 1 where the driver wants an interrupt for its used buffers, else 0 */
     uint32_t configuration;     /* at the end: 1 where the driver is to be told of a change of configuration, else 0 */
     uint32_t more;              /* at the end: 1 where another chain is available, for which there was no budget, else 0 */
-    uint32_t chains_left, pages_left;           /* these too */
+    uint32_t chains_left, pages_left, longest, told_pages;      /* these too */
     uint16_t head, count, taken_head;
-    uint8_t given, taken, flag, phase, keeps;   /* `taken`: 1 where the chain is held that was told: its pages stay in the set */
+    uint8_t given, taken, flag, phase, keeps;   /* `taken`: 1 where the chain that was told is held */
     uint16_t published;
     uint32_t taken_pages;       /* how many pages that chain names */
     uint32_t told[3];           /* within a call alone: what is told, and what is written of a used chain */
@@ -182,12 +184,12 @@ VB_ASSERT(VB_HAS(Region, 24) && VB_AT(Region, length, 8) && VB_AT(Region, in_fil
           && VB_AT(Spot, offset, 8) && VB_HAS(Cut, 32) && VB_AT(Cut, offset, 8) && VB_AT(Cut, in_file, 16)
           && VB_AT(Cut, length, 24) && VB_HAS(Large, 40) && VB_AT(Large, waiting, 32) && VB_HAS(Room, 16992)
           && VB_AT(Room, bytes, 4096) && VB_AT(Room, runs, 5120) && VB_AT(Room, figures, 7168) && VB_AT(Room, cuts, 8800)
-          && VB_HAS(Notice, 296) && VB_AT(Notice, runs, 8) && VB_AT(Notice, figures, 20) && VB_AT(Notice, kept, 28)
-          && VB_AT(Notice, id_at, 32) && VB_AT(Notice, id, 80) && VB_AT(Notice, used_index, 88) && VB_AT(Notice, at, 96)
-          && VB_AT(Notice, length, 112) && VB_AT(Notice, number, 120) && VB_AT(Notice, in_file, 136)
-          && VB_AT(Notice, code, 152) && VB_AT(Notice, chains_left, 172) && VB_AT(Notice, given, 186)
-          && VB_AT(Notice, phase, 189) && VB_AT(Notice, keeps, 190) && VB_AT(Notice, published, 192)
-          && VB_AT(Notice, taken_pages, 196) && VB_AT(Notice, told, 200) && VB_AT(Notice, written, 216));
+          && VB_HAS(Notice, 328) && VB_AT(Notice, runs, 8) && VB_AT(Notice, figures, 20) && VB_AT(Notice, kept, 28)
+          && VB_AT(Notice, waits, 32) && VB_AT(Notice, id_at, 40) && VB_AT(Notice, id, 88) && VB_AT(Notice, used_index, 96)
+          && VB_AT(Notice, at, 104) && VB_AT(Notice, length, 120) && VB_AT(Notice, number, 128) && VB_AT(Notice, piece, 144)
+          && VB_AT(Notice, done, 152) && VB_AT(Notice, in_file, 160) && VB_AT(Notice, code, 176) && VB_AT(Notice, chains_left, 196)
+          && VB_AT(Notice, longest, 204) && VB_AT(Notice, given, 218) && VB_AT(Notice, phase, 221) && VB_AT(Notice, keeps, 222)
+          && VB_AT(Notice, published, 224) && VB_AT(Notice, taken_pages, 228) && VB_AT(Notice, told, 232) && VB_AT(Notice, written, 248));
 
 /* The version of the library, as VB_VERSION_NUMBER. */
 uint32_t vb_version(void);
@@ -235,6 +237,10 @@ uint32_t vb_keeps_reports(const VbDevice *device);
  * were named. Where `keeps` isn't 0, no page is discarded: what is named is told, and stays. The available index is read once,
  * first of all: what the driver publishes later waits for its next kick, which it owes, as the device never asks for none
  * (VIRTIO 1.1, 2.6.10). Nothing is done (VB_NOTHING) while a chain of this queue is held. All three answer `what`.
+ * A request has any multiple of 4 bytes, up to one number for each page of memory, and up to VB_LONGEST_REQUEST numbers however
+ * small memory is; else rule 8. It is served in portions of 256 numbers: each is told (VB_TELL_PAGES), and its pages are discarded,
+ * before the next one is copied. The chain is given back once, after its last portion. Where a later portion breaks a rule, the
+ * earlier ones stay told and discarded, and the chain isn't given back.
  * With holds_deflates a notice of deflates ends with its first request, whose pages are told, and whose chain is held. */
 uint32_t vb_begin(VbNotice *notice, VbBalloon *balloon, const VbRegion *regions, size_t count, VbRoom *room,
                   uint32_t kind, uint32_t chains, uint32_t pages, uint32_t keeps);
@@ -294,6 +300,9 @@ uint32_t vb_restore(VbDevice *device, VbHeld *held, const uint8_t *bytes, size_t
  * `pages`: how many that changed; one that is named twice, or was so before, counts no more than once. VB_OK; VB_NO_QUEUE
  * for another kind; VB_BAD_ARGUMENT where a page of any run is past the last word's, and then nothing is changed. */
 VbMarked vb_mark(uint32_t kind, const VbRun *runs, size_t count, uint64_t *set, size_t words);
+/* Takes the pages of one set out of another, as those of a deflate that is granted, which waited in a set of their own: `count` words
+ * of it. Answers how many pages left the other set. */
+uint64_t vb_unmark(const uint64_t *pages, size_t count, uint64_t *set, size_t words);
 /* 1 where the page is in the set, else 0, as for each page past the last word's. */
 uint32_t vb_is_ballooned(const uint64_t *set, size_t words, uint32_t page);
 /* How many pages are in the set: all words are looked at. */

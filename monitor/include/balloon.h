@@ -41,7 +41,8 @@ struct balloon {
     uint32_t most_chains, most_pages;   /* a notice begins no further chain after these: at first 256, and any number */
     bool keeps_pages;           /* no page is discarded (counted: kept), as under a passed-through device; may be set at any time */
     void *context;
-    /* These pages are given up (VB_INFLATE) or free (VB_REPORT), before any is discarded; or requested back (VB_DEFLATE). */
+    /* These pages are given up (VB_INFLATE) or free (VB_REPORT), before any of them is discarded; or requested back (VB_DEFLATE).
+     * It is called once for each portion of 256 numbers of a request, which is given back once, after the last portion. */
     void (*on_pages)(void *context, uint32_t kind, const VbRun *runs, uint32_t count);
     /* The guest told its statistics, any tags in any order. */
     void (*on_statistics)(void *context, const VbStatistic *figures, uint32_t count);
@@ -51,9 +52,9 @@ struct balloon {
      * it is discarded, and taken out before its chain is given back. A reset empties it. Save and restore it beside `state`. */
     uint64_t *ballooned;
     size_t ballooned_words;     /* for all pages: memory_end / 4096 / 64, rounded up */
-    /* The pages of the deflate that is held (holds_deflates): they leave the set once it is granted. Save them beside the set. */
-    VbRun held_runs[VB_MAX_RUNS];
-    uint32_t held_count;
+    /* The set of the pages of the deflate that is held, beside `ballooned` where the settings say holds_deflates, in as many words: they
+     * leave that set once the deflate is granted. Zeros at first. Save and restore it beside that set. */
+    uint64_t *deflating;
     VbNotice notice;            /* what is to be done */
     VbRoom room;                /* the private copies, and what the library makes of them */
 };
@@ -70,7 +71,7 @@ struct balloon_result {
     uint64_t pages, discarded;  /* named by inflates, deflates and reports; of these, discarded */
     uint64_t waiting;           /* of these, pages whose large page wasn't given up whole yet (vb_large_pages) */
     uint64_t skipped;           /* numbers past the end or of reserved pages */
-    uint64_t marked, unmarked;  /* pages put into the set of ballooned pages, or taken out; those that it hasn't words for */
+    uint64_t marked, unmarked;  /* pages put into the set of ballooned pages, or taken out; those that the sets haven't words for */
     uint64_t in_holes, kept;    /* in no region; not discarded, by `error`, keeps_pages, or since reports stay (vb_keeps_reports) */
     int error;
 };
@@ -136,17 +137,16 @@ static inline void balloon_discard(const struct balloon *balloon, const VbCut *p
 static inline void balloon_tell_pages(struct balloon *balloon, struct balloon_result *result)
 {
     const VbNotice *notice = &balloon->notice;
+    const uint32_t kind = notice->waits ? VB_INFLATE : notice->kind;        /* what waits is put into its set */
+    uint64_t *set = notice->waits ? balloon->deflating : balloon->ballooned;
+    VbMarked marked = { VB_OK, 0 };
     result->pages += notice->pages;
     result->skipped += notice->skipped;
     result->kept += notice->kept;
-    if (notice->taken) {
-        memcpy(balloon->held_runs, balloon->room.runs, notice->runs * sizeof *balloon->held_runs);
-        balloon->held_count = notice->runs;
-    } else if (balloon->ballooned) {
-        VbMarked marked = vb_mark(notice->kind, balloon->room.runs, notice->runs, balloon->ballooned, balloon->ballooned_words);
-        result->marked += marked.pages;
-        result->unmarked += marked.code == VB_BAD_ARGUMENT ? notice->pages : 0;
-    }
+    if (balloon->ballooned)
+        marked = vb_mark(kind, balloon->room.runs, notice->runs, set, set ? balloon->ballooned_words : 0);
+    result->marked += notice->waits ? 0 : marked.pages;
+    result->unmarked += marked.code == VB_BAD_ARGUMENT ? notice->pages : 0;
     if (balloon->on_pages)
         balloon->on_pages(balloon->context, notice->kind, balloon->room.runs, notice->runs);
 }

@@ -73,27 +73,39 @@ static inline bool balloon_held_deflate(const struct balloon *balloon, uint32_t 
     return vb_held(&balloon->state, VB_DEFLATE, pages) == VB_OK;
 }
 
+/* The set of the pages of the deflate that is held is empty from now on. */
+static inline void balloon_empty_deflating(struct balloon *balloon)
+{
+    if (balloon->deflating)
+        memset(balloon->deflating, 0, balloon->ballooned_words * sizeof *balloon->deflating);
+}
+
+/* Whether a deflate's pages may leave the set, `named` pages: all of memory is out of it, or `deflating` has some of them. */
+static inline bool balloon_may_unmark(const struct balloon *balloon, uint32_t named)
+{
+    return !balloon->ballooned || named == 0
+        || (balloon->deflating && vb_count_ballooned(balloon->deflating, balloon->ballooned_words) > 0);
+}
+
 /* Grants the deflate that is held (VIRTIO 1.1, 5.5.6): the set loses its pages (marked), and then its chain is given back. VB_NOTHING:
- * none is held; VB_BAD_ARGUMENT: held_runs aren't of as many pages as it names; then nothing is changed. Look at the queue again
+ * none is held; VB_BAD_ARGUMENT: a set is kept, and `deflating` has none of its pages; then nothing is changed. Look at the queue again
  * then (balloon_notify), as its kicks did nothing meanwhile. */
 static inline struct balloon_result balloon_give_deflate(struct balloon *balloon)
 {
-    VbMarked marked = { VB_OK, 0 };
-    const uint32_t most = VB_MAX_RUNS, count = balloon->held_count < most ? balloon->held_count : most;
+    const size_t words = balloon->ballooned_words;
     uint32_t named;
-    uint64_t pages = 0;
-    for (uint32_t i = 0; i < count; i++)
-        pages += balloon->held_runs[i].count;
+    uint64_t marked = 0;
     if (!balloon_held_deflate(balloon, &named))
         return balloon_result_of(VB_NOTHING);
-    if (pages != named)
+    if (!balloon_may_unmark(balloon, named))
         return balloon_result_of(VB_BAD_ARGUMENT);
-    if (balloon->ballooned)
-        marked = vb_mark(VB_DEFLATE, balloon->held_runs, count, balloon->ballooned, balloon->ballooned_words);
+    if (balloon->ballooned && balloon->deflating)
+        marked = vb_unmark(balloon->deflating, words, balloon->ballooned, words);
     vb_give_held(&balloon->notice, &balloon->state, balloon->places, balloon->region_count, &balloon->room, VB_DEFLATE);
     struct balloon_result result = balloon_finish(balloon);
-    result.marked = marked.pages;
-    result.unmarked = marked.code == VB_BAD_ARGUMENT ? named : 0;
+    result.marked = marked;
+    if (result.code == VB_OK)
+        balloon_empty_deflating(balloon);
     return result;
 }
 
@@ -190,21 +202,29 @@ static inline uint32_t balloon_place(struct balloon *balloon, uint32_t kind, uin
     return vb_place_over(&balloon->state, balloon->places, balloon->region_count, kind, at);
 }
 
+/* A call on a queue of this kind has answered this: where that is VB_OK, it has forgotten what is held of the queue. */
+static inline uint32_t balloon_no_longer(struct balloon *balloon, uint32_t kind, uint32_t code)
+{
+    if (kind == VB_DEFLATE && code == VB_OK)
+        balloon_empty_deflating(balloon);
+    return code;
+}
+
 /* Starts a queue at an index, before or after DRIVER_OK, and stops it: as vb_start_queue, and as vb_stop_queue. */
 static inline uint32_t balloon_start_queue(struct balloon *balloon, uint32_t kind, VbQueueStart at)
 {
-    return vb_start_queue(&balloon->state, balloon->places, balloon->region_count, kind, at);
+    return balloon_no_longer(balloon, kind, vb_start_queue(&balloon->state, balloon->places, balloon->region_count, kind, at));
 }
 
 static inline uint32_t balloon_stop_queue(struct balloon *balloon, uint32_t kind, uint16_t *next)
 {
-    return vb_stop_queue(&balloon->state, kind, next);
+    return balloon_no_longer(balloon, kind, vb_stop_queue(&balloon->state, kind, next));
 }
 
 /* Forgets the chain that is held of this queue: as vb_forget_held. The pages of a deflate stay in the set. */
 static inline uint32_t balloon_forget_held(struct balloon *balloon, uint32_t kind)
 {
-    return vb_forget_held(&balloon->state, kind);
+    return balloon_no_longer(balloon, kind, vb_forget_held(&balloon->state, kind));
 }
 
 /* The driver writes the status: 0, or why it is refused (vb_write_status). At DRIVER_OK each queue is looked at, as
@@ -214,6 +234,8 @@ static inline uint32_t balloon_write_status(struct balloon *balloon, uint8_t sta
     uint32_t then, answer = vb_set_status(&balloon->state, status, &then);
     if (then & VB_EMPTY && balloon->ballooned)
         memset(balloon->ballooned, 0, balloon->ballooned_words * sizeof *balloon->ballooned);
+    if (then & VB_EMPTY)
+        balloon_empty_deflating(balloon);
     *result = then & VB_LOOK ? balloon_notify_all(balloon) : balloon_result_of(VB_NOTHING);
     return answer;
 }
@@ -253,8 +275,8 @@ static inline bool balloon_may_tell(const struct balloon *balloon)
 
 /* ---- saving */
 
-/* Puts all that the device is into `out`, as VB_STATE_BYTES bytes: as vb_save. The set of ballooned pages is the
- * monitor's, and saved beside it. */
+/* Puts all that the device is into `out`, as VB_STATE_BYTES bytes: as vb_save. The set of ballooned pages, and that of a held
+ * deflate's pages, are the monitor's, and saved beside it. */
 static inline uint32_t balloon_save(const struct balloon *balloon, uint8_t *out, size_t room)
 {
     return vb_save(&balloon->state.device, balloon->state.held, out, room);

@@ -16,6 +16,7 @@ REFERENCE(keeps_reports);
 REFERENCE(negotiate);
 REFERENCE(large_pages);
 REFERENCE(mark);
+REFERENCE(unmark);
 REFERENCE(is_ballooned);
 REFERENCE(count_ballooned);
 REFERENCE(begin);

@@ -108,29 +108,33 @@ uint32_t after_entry(const Call *call, uint16_t head)
     call->notice->head = head;
     call->notice->count = 0;
     call->notice->flag = 0;
+    call->notice->told_pages = 0;
     return ask_row(call, head);
 }
 
+/* How many bytes the next part of a piece has: it ends where its page, its piece or the room does. */
+static uint32_t part_length(uint64_t address, uint32_t left, uint32_t room)
+{
+    const uint32_t page = (uint32_t)(REGION_PAGE - address % REGION_PAGE);
+    const uint32_t most = left < room ? left : room;
+    return most < page ? most : page;
+}
 
-/* Asks for the next part of the pieces, each within a page; `number` is the piece, `flag` says that its first part is
- * copied, `from` how many bytes are. */
+/* Asks for the next part of the pieces. Where the room is full before the last of them, what it has is a portion, which is served
+ * first. `piece` is the piece, `done` how many of its bytes are copied, `from` how many bytes the room has. */
 static uint32_t ask_part(const Call *call)
 {
     VbNotice *notice = call->notice;
-    for (; notice->number < notice->count; notice->number++, notice->flag = 0) {
-        const VbPiece piece = call->room->pieces[notice->number];
-        uint32_t first = (uint32_t)(REGION_PAGE - piece.address % REGION_PAGE);
-        first = first < piece.length ? first : piece.length;
-        uint32_t length = notice->flag ? piece.length - first : first;
-        if (length == 0)
+    for (; notice->piece < notice->count; notice->piece++, notice->done = 0) {
+        const VbPiece piece = call->room->pieces[notice->piece];
+        const uint64_t address = piece.address + notice->done;
+        if (notice->done >= piece.length)
             continue;
-        if (notice->from > VB_MAX_BYTES || length > VB_MAX_BYTES - notice->from)
-            return fail(call, BAD_LENGTH);
-        if (!find_spot(call, piece.address + (notice->flag ? first : 0), length, &notice->at))
-            return fail(call, OUT_OF_RAM);
-        notice->length = length;
+        if (notice->from >= VB_MAX_BYTES)
+            return serve_bytes(call);
+        notice->length = part_length(address, piece.length - notice->done, VB_MAX_BYTES - (uint32_t)notice->from);
         notice->into = (uint32_t)notice->from;
-        return wait_for(call, AT_PART, VB_COPY);
+        return find_spot(call, address, notice->length, &notice->at) ? wait_for(call, AT_PART, VB_COPY) : fail(call, OUT_OF_RAM);
     }
     return serve_bytes(call);
 }
@@ -139,8 +143,14 @@ uint32_t after_part(const Call *call)
 {
     VbNotice *notice = call->notice;
     notice->from += notice->length;
-    notice->number += notice->flag != 0;
-    notice->flag = !notice->flag;
+    notice->done += notice->length;
+    return ask_part(call);
+}
+
+/* Goes on in the chain once a portion of it is told and discarded. */
+uint32_t next_portion(const Call *call)
+{
+    call->notice->from = 0;
     return ask_part(call);
 }
 
@@ -157,7 +167,7 @@ static uint32_t serve_report(const Call *call)
         call->room->runs[named.runs] = (VbRun){ (uint32_t)(piece.address / PAGE), piece.length / PAGE };
         named.pages += piece.length / PAGE;
     }
-    device->report.next_avail++;
+    call->notice->piece = call->notice->count;
     return tell_pages(call, &named);
 }
 
@@ -169,11 +179,11 @@ static uint32_t serve_chain(const Call *call)
         return serve_report(call);
     for (uint32_t i = 0; i < notice->count; i++)
         total += call->room->pieces[i].length;
-    uint32_t rule = buffer_rule(notice->kind, call->room->pieces, notice->count, total);
+    uint32_t rule = buffer_rule(&call->balloon->device, notice->kind, call->room->pieces, notice->count, total);
     if (rule)
         return fail(call, rule);
-    notice->number = 0, notice->flag = 0, notice->from = 0;
-    return ask_part(call);
+    notice->piece = 0, notice->done = 0;
+    return next_portion(call);
 }
 
 /* The walk goes on in the copy for as long as it has the next descriptor. */

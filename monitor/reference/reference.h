@@ -43,9 +43,9 @@ Descriptor descriptor_at(const uint8_t *table, uint32_t number);
 uint32_t longest(uint16_t size);
 uint32_t broken_rule(const VbDevice *device, uint16_t size, const Descriptor *it, uint32_t before, bool writing);
 bool any_of_direction(const VbPiece *pieces, uint32_t count, uint8_t writable);
-uint32_t buffer_rule(uint32_t kind, const VbPiece *pieces, uint32_t count, uint64_t total);
+uint32_t buffer_rule(const VbDevice *device, uint32_t kind, const VbPiece *pieces, uint32_t count, uint64_t total);
 
-/* requests.c: what a request or a report names, its pages as runs, or why it is refused; what is written for a used chain, and where */
+/* requests.c: what numbers of a request or a report name, their pages as runs, or why it is refused; what is written for a used chain, and where */
 typedef struct { uint32_t code, rule, runs, pages, skipped; } Named;
 typedef struct { uint32_t code; uint64_t element_at, index_at; uint16_t index; } Used;
 Named name(VbDevice *device, uint32_t kind, const uint8_t *bytes, size_t length, VbRun *runs);
@@ -84,6 +84,7 @@ uint32_t look(const Call *call);
 uint32_t next_chain(const Call *call);
 uint32_t after_index(const Call *call, uint16_t index);
 uint32_t after_entry(const Call *call, uint16_t head);
+uint32_t next_portion(const Call *call);
 uint32_t after_part(const Call *call);
 uint32_t after_row(const Call *call);
 uint32_t serve_bytes(const Call *call);

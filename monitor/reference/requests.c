@@ -33,7 +33,7 @@ Named name(VbDevice *device, uint32_t kind, const uint8_t *bytes, size_t length,
     Named named = { .code = VB_NO_QUEUE };
     if (!queue || kind > VB_DEFLATE)
         return named;
-    bool fits = length > 0 && length <= VB_MAX_BYTES && length % 4 == 0;
+    bool fits = length <= VB_MAX_BYTES && length % 4 == 0;
     named.code = !fits ? VB_BAD_ARGUMENT : refusal(device, kind, queue);
     if (named.code != VB_OK)
         return named;
@@ -46,7 +46,6 @@ Named name(VbDevice *device, uint32_t kind, const uint8_t *bytes, size_t length,
         else
             add_page(&named, runs, page);
     }
-    queue->next_avail++;
     return named;
 }
 

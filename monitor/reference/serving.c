@@ -53,12 +53,18 @@ static bool is_kept(const Call *call)
     }
 }
 
+/* Whether bytes of the chain weren't copied yet. */
+static bool has_more(const VbNotice *notice) { return notice->piece < notice->count; }
+
+/* What comes once a portion is told and discarded. */
+static uint32_t after_portion(const Call *call) { return has_more(call->notice) ? next_portion(call) : give_back(call); }
+
 /* Asks for the next part of a run, from run `number` and region `from` on. */
 static uint32_t ask_cut(const Call *call)
 {
     VbNotice *notice = call->notice;
     if (notice->kind == VB_DEFLATE || is_kept(call))
-        return give_back(call);
+        return after_portion(call);
     uint32_t cuts = 0;
     for (; notice->number < notice->runs && notice->number < VB_MAX_RUNS && cuts < MOST_AT_ONCE;
          notice->number += notice->from == 0) {
@@ -67,7 +73,7 @@ static uint32_t ask_cut(const Call *call)
         notice->from = notice->from < call->count ? notice->from : 0;
     }
     if (cuts == 0)
-        return give_back(call);
+        return after_portion(call);
     notice->cuts = cuts;
     return wait_for(call, AT_CUT, VB_DISCARD);
 }
@@ -83,6 +89,14 @@ static void hold(const Call *call, uint32_t pages)
         call->balloon->held.pages = pages;
 }
 
+/* The chain is taken, of which all is named; it is held where the settings say so. */
+static void take(const Call *call)
+{
+    call->queue->next_avail++;
+    if (call->notice->waits)
+        hold(call, call->notice->told_pages);
+}
+
 uint32_t tell_pages(const Call *call, const Named *named)
 {
     VbNotice *notice = call->notice;
@@ -95,10 +109,19 @@ uint32_t tell_pages(const Call *call, const Named *named)
     notice->skipped = named->skipped;
     notice->kept = is_kept(call) ? named->pages : 0;
     notice->pages_left = named->pages < notice->pages_left ? notice->pages_left - named->pages : 0;
-    if (holds_chains(&call->balloon->device, notice->kind))
-        hold(call, named->pages);
+    notice->told_pages += named->pages;
+    notice->waits = holds_chains(&call->balloon->device, notice->kind);
     notice->number = 0, notice->from = 0;
+    if (!has_more(notice))
+        take(call);
     return wait_for(call, AT_TOLD, VB_TELL_PAGES);
+}
+
+static uint32_t after_told(const Call *call)
+{
+    if (!call->notice->waits)
+        return ask_cut(call);
+    return has_more(call->notice) ? next_portion(call) : end(call, VB_NOTHING);
 }
 
 uint32_t serve_bytes(const Call *call)
@@ -149,7 +172,7 @@ static uint32_t step(const Call *call, uint16_t answer)
     case AT_WORD: return after_entry(call, answer);
     case AT_DESCRIPTOR: return notice->from <= VB_MAX_BYTES / DESCRIPTOR_SIZE ? after_row(call) : stop(call, VB_BAD_ARGUMENT);
     case AT_PART: return after_part(call);
-    case AT_TOLD: return notice->taken ? end(call, VB_NOTHING) : ask_cut(call);
+    case AT_TOLD: return after_told(call);
     case AT_CUT: return ask_cut(call);
     case AT_FIGURES: return end(call, VB_NOTHING);
     case AT_GIVEN: return after_given(call);

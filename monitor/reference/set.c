@@ -16,6 +16,16 @@ VbMarked vb_mark(uint32_t kind, const VbRun *runs, size_t count, uint64_t *set, 
     return marked;
 }
 
+uint64_t vb_unmark(const uint64_t *pages, size_t count, uint64_t *set, size_t words)
+{
+    uint64_t changed = 0;
+    for (size_t i = 0; i < words && i < count; i++) {
+        changed += (uint64_t)__builtin_popcountll(set[i] & pages[i]);
+        set[i] &= ~pages[i];
+    }
+    return changed;
+}
+
 uint32_t vb_is_ballooned(const uint64_t *set, size_t words, uint32_t page)
 {
     return page / 64 < words && (set[page / 64] >> page % 64 & 1);

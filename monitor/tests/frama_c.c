@@ -29,7 +29,7 @@ static const uint64_t IN_FILE = 1ull << 20;
 static uint8_t shared[LENGTH], private[LENGTH], of_file[LENGTH];
 static struct balloon_region regions[REGIONS];
 static struct balloon balloon;
-static uint64_t words[WORDS];
+static uint64_t words[WORDS], waiting[WORDS];      /* the set of ballooned pages, and that of a held deflate's pages */
 static bool has_set;
 
 /* Of what is discarded: its region, the size of the machine's pages there, its pages, and the large pages that go with it. */
@@ -147,6 +147,7 @@ static void begin(void)
     balloon.discard = maybe() ? discard : NULL;
     balloon.keeps_pages = maybe();
     balloon.ballooned = has_set ? words : NULL;
+    balloon.deflating = has_set ? waiting : NULL;
     balloon.ballooned_words = WORDS;
 }
 

@@ -189,7 +189,7 @@ static void statistics_are_in_order(void)
  * the shim works on it there, and then it is given back. */
 static void a_held_deflate_is_in_order(void)
 {
-    static uint64_t elsewhere;
+    static uint64_t elsewhere, waiting;
     holds = true;
     begin(VB_DEFLATE, 1);
     offer(VB_DEFLATE);
@@ -201,9 +201,10 @@ static void a_held_deflate_is_in_order(void)
 #else
     balloon.ballooned = (uint64_t *)(void *)(memory + SET_AT);
 #endif
+    balloon.deflating = &waiting;
     balloon.ballooned_words = 1;
     struct balloon_result result = notify(VB_DEFLATE);
-    EXPECT(result.held && result.held_pages == 5 && result.chains == 0 && result.marked == 0);
+    EXPECT(waiting == UINT64_C(31) << NAMED && result.held && result.held_pages == 5 && result.chains == 0 && result.marked == 0);
     expect_touches((const struct touch[]){ TAKEN, { BYTES, 0, READS }, { TOLD, VB_DEFLATE, READS }, { OTHER, 0, READS } });
     touch_count = 0;
     reach(PROT_NONE);
@@ -212,6 +213,7 @@ static void a_held_deflate_is_in_order(void)
     EXPECT(result.chains == 1 && result.interrupts == 1 << VB_DEFLATE && result.marked == 5);
     EXPECT(*balloon.ballooned == (UINT64_MAX & ~(UINT64_C(31) << NAMED)) && memory[USED + 4] == 3 && memory[USED + 2] == 1);
     expect_touches((const struct touch[]){ { SET, 0, READS }, GIVEN, ASKED });
+    EXPECT(waiting == 0);
     holds = false;
 }
 

@@ -168,7 +168,7 @@ static void walks_break_rules(uint32_t kind)
 
 static void lengths_break_rules(void)
 {
-    const uint32_t requests[] = { 0, 1, 2, 3, 5, 1023, 1025, 1028, 4096 };
+    const uint32_t requests[] = { 0, 1, 2, 3, 5, 1023, 1025, 1026, 4095, 4 * VB_LONGEST_REQUEST + 4 };
     const uint32_t figures_of[] = { 1, 9, 11, 1019, 1021, 1030 };
     const uint32_t blocks[] = { 0, 1, 4095, 4097, 2 * 4096 - 1 };
     begin(LINUX_FEATURES, SIZE);
@@ -183,8 +183,8 @@ static void lengths_break_rules(void)
         describe(&guest, VB_STATISTICS, 0, 0x20000, figures_of[i], 0, 0);
         breaks(VB_STATISTICS, 8);
     }
-    describe(&guest, VB_INFLATE, 0, 0x20000, 600, NEXT, 1);
-    describe(&guest, VB_INFLATE, 1, 0x30000, 600, 0, 0);
+    describe(&guest, VB_INFLATE, 0, 0x20000, 4 * VB_LONGEST_REQUEST, NEXT, 1);
+    describe(&guest, VB_INFLATE, 1, 0x30000, 4, 0, 0);
     breaks(VB_INFLATE, 8);
     describe(&guest, VB_REPORT, 0, 0x20000, 4096, WRITE | NEXT, 1);
     for (size_t i = 0; i < sizeof blocks / 4; i++) {

@@ -17,6 +17,7 @@ int main(void)
     test_queues();
     test_sizes();
     test_requests();
+    test_portions();
     test_notices();
     test_discards();
     test_regions();

@@ -217,7 +217,8 @@ static bool send_nearly(struct good good, bool well)
 static uint32_t good_length(uint64_t number)
 {
     static const uint32_t units[] = {4, 4, 10, PAGE};
-    return units[number] * (uint32_t)(1 + chance(3));
+    bool is_long = number < 2 && one_in(4);
+    return units[number] * (uint32_t)(1 + chance(is_long ? 2 * PAGE : 3));
 }
 
 /* Writes the descriptors of a queue, some of which are wrong. Pages that are reported have no rings. */

@@ -2,13 +2,13 @@
 
 ghost use Rattle.std.specs.Prelude.{◌≡◌, ◌-◌, ◌^◌, min};
 ghost use Rattle.vb_virtio.specs.Tests.{one_if};
-ghost use Rattle.vb_core.specs.Ballooned.{is_ballooned, ballooned_count};
+ghost use Rattle.vb_core.specs.Ballooned.{is_ballooned, ballooned_count, Loses};
 ghost use Rattle.vb_c.specs.Codes.{kind_of_code};
 ghost use Rattle.vb_monitor.specs.Large.{LargeBy, counted};
 ghost use Rattle.vb_c.specs.Marks.{marked_of, MarksFor};
 
 use crate::kinds::kind_of_code;
-use vb_core::{Denial, Device, Run, count_ballooned, is_ballooned, mark};
+use vb_core::{Denial, Device, Run, count_ballooned, is_ballooned, mark, unmark};
 use vb_monitor::{Cut, Large, OK, Region, code_of, large_pages};
 
 /// How many pages were put into the set, or taken out of it.
@@ -41,6 +41,14 @@ pub extern "C" fn vb_mark(kind: u32, runs: &[Run], set: &mut [u64]) -> VbMarked
         None => marked_of(Err(Denial::NoQueue)),
         Some(kind) => marked_of(mark(kind, runs, set)),
     }
+}
+
+/// Takes the pages of one set out of another: how many left it.
+#[unsafe(no_mangle)]
+pub extern "C" fn vb_unmark(pages: &[u64], set: &mut [u64]) -> u64
+    ensures { Loses pages.now set.old set.new result }
+{
+    unmark(pages, set)
 }
 
 /// 1 where the page is in the set, else 0.

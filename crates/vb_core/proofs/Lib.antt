@@ -6,6 +6,7 @@ pub mod NameLemmas
 pub mod NamedLaws
 pub mod CountLemmas
 pub mod MarkLemmas
+pub mod UnmarkLemmas
 mod Examples
 mod SettingFacts
 mod NameFacts

@@ -3,7 +3,7 @@ use Rattle.std.proofs.Common.{◌≡◌, refl, ap, arith, ℕ, true, false, List
 use Rattle.std.proofs.Common.{Result, Ok, Err, map}
 use Rattle.vb_core.specs.declared.{kinds.Kind.TheVariants.{Inflate, Deflate, Report}, runs.Run.Run}
 use Rattle.vb_core.specs.declared.device.Denial.{Denial, TheVariants.{NoQueue, BadArgument}}
-use Rattle.vb_core.specs.Ballooned.{is_ballooned, ballooned_count, is_changed, mark_denial, MarksBy}
+use Rattle.vb_core.specs.Ballooned.{is_ballooned, ballooned_count, is_changed, mark_denial, MarksBy, Loses}
 
 -- pages 1 and 3 of a word's 64, and page 64 of the next
 ballooned : map (is_ballooned (10 ∷ 1 ∷ [])) (1 ∷ 2 ∷ 64 ∷ 128 ∷ []) ≡ true ∷ false ∷ true ∷ false ∷ []
@@ -59,3 +59,29 @@ counts_again m = omega (arith, (m.marked refl).count)
 -- a refusal that there is none of
 refused_for_nothing : (why : Denial) → MarksBy Inflate [] [] [] (Err why) → ⊥
 refused_for_nothing why m = m.marked refl
+
+-- ---- pages that leave a set
+
+-- a page stays that was to leave, another one leaves, or comes
+not_gone : (left : ℕ) → Loses (2 ∷ []) (10 ∷ []) (10 ∷ []) left → ⊥
+not_gone left l = let e = l.gone 1 in absurd cc
+
+another_gone : (left : ℕ) → Loses (2 ∷ []) (10 ∷ []) (0 ∷ []) left → ⊥
+another_gone left l = let e = l.gone 3 in absurd cc
+
+come : (left : ℕ) → Loses (2 ∷ []) (0 ∷ []) (2 ∷ []) left → ⊥
+come left l = let e = l.gone 1 in absurd cc
+
+-- a page of the second word stays
+second_word : (left : ℕ) → Loses (0 ∷ 1 ∷ []) (0 ∷ 1 ∷ []) (0 ∷ 1 ∷ []) left → ⊥
+second_word left l = let e = l.gone 64 in absurd cc
+
+-- one that wasn't there counts, one that was doesn't, and a word fewer
+counts_absent : Loses (2 ∷ []) (8 ∷ []) (8 ∷ []) 1 → ⊥
+counts_absent l = omega (arith, l.count)
+
+uncounted : Loses (2 ∷ []) (10 ∷ []) (8 ∷ []) 0 → ⊥
+uncounted l = omega (arith, l.count)
+
+fewer_words : (left : ℕ) → Loses [] (0 ∷ []) [] left → ⊥
+fewer_words left l = omega (arith, l.words)

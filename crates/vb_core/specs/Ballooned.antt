@@ -1,6 +1,7 @@
 -- The set of the pages in the balloon, as words: page p is in it where bit p % 64 of word p / 64 is
 -- 1 (VIRTIO 1.1, 5.5.6).
-use Rattle.std.specs.Prelude.{◌≡◌, ℕ, ◌*◌, Bool, true, false, not, nat_le, List, [], ◌∷◌, length}
+use Rattle.std.specs.Prelude.{◌≡◌, ℕ, ◌*◌, ◌-◌, ◌^◌, min, Bool, true, false, not, nat_le, List, []}
+use Rattle.std.specs.Prelude.{◌∷◌, length}
 use Rattle.std.specs.Prelude.{if◌then◌else◌, count_by, Option, Some, None, Result, Err, IsOkAnd}
 use Rattle.std.specs.List.{range_with_len, list_any}
 use Rattle.vb_virtio.specs.Tests.{is_in}
@@ -45,6 +46,14 @@ pub record Puts (test : ℕ → Bool) (inside : Bool) (old new : List ℕ) (chan
   pub words : length new ≡ length old
   pub pages : (p : ℕ) → is_ballooned new p ≡ (if test p then inside else is_ballooned old p)
   pub count : changed ≡ count_by (is_changed old new) (pages_with_bits (length old))
+
+-- The pages of one set are in the new set no more, and all others are in it where they are in the
+-- old one; and how many left it, as far as 64 bits say it.
+pub record Loses (pages old new : List ℕ) (left : ℕ) : Type 0 where
+  pub words : length new ≡ length old
+  pub gone : (p : ℕ) →
+      is_ballooned new p ≡ (if is_ballooned pages p then false else is_ballooned old p)
+  pub count : left ≡ min (count_by (is_changed old new) (pages_with_bits (length old))) (2 ^ 64 - 1)
 
 -- The kind's requests put pages in; else they take pages out.
 abbrev pub puts_in : Kind → Bool

@@ -1,7 +1,6 @@
 -- What a monitor settles for a device.
 use Rattle.std.specs.Prelude.{ℕ, ◌/◌, ◌^◌, ◌-◌, min, max, Bool, true, false, not, ◌==◌, ◌&&◌}
-use Rattle.std.specs.Prelude.{nat_lt, bit_and}
-use Rattle.std.specs.Prelude.{bit_or}
+use Rattle.std.specs.Prelude.{nat_lt, bit_and, bit_or}
 use Rattle.vb_virtio.specs.declared.negotiation.TheConstants.{OFFERED_FEATURES}
 use Rattle.vb_virtio.specs.Limits.{page_size}
 use Rattle.vb_virtio.specs.Features.{version_1}

@@ -7,7 +7,7 @@ ghost use Rattle.vb_virtio.specs.Tests.{has_bit, is_in};
 ghost use Rattle.vb_bits.specs.declared.word.TheConstants.{WORD_BITS};
 ghost use Rattle.vb_core.specs.Runs.{pages_of_run, pages_of_runs};
 ghost use Rattle.vb_core.specs.Ballooned.{is_ballooned, ballooned_count, is_entering, puts_in};
-ghost use Rattle.vb_core.specs.Ballooned.{Puts, MarksBy};
+ghost use Rattle.vb_core.specs.Ballooned.{Puts, MarksBy, Loses};
 
 use crate::{Denial, Kind, Run};
 use vb_bits::{WORD_BITS, is_in_words, low_ones};
@@ -149,6 +149,20 @@ pub fn mark(kind: Kind, runs: &[Run], set: &mut [u64]) -> Result<u64, Denial>
         return Err(Denial::BadArgument);
     }
     Ok(mark_runs(set, runs, Marking::of(kind)))
+}
+
+/// Takes the pages of one set out of another, as those of a deflate that is granted, which waited
+/// in a set of their own. Answers how many pages left the other set: a number past 2^64 - 1, which
+/// no memory has room for, is answered as that.
+pub fn unmark(pages: &[u64], set: &mut [u64]) -> u64
+    ensures { Loses pages.now set.old set.new result }
+{
+    let words = pages.len().min(set.len());
+    let mut left: u64 = 0;
+    for word in 0..words {
+        left = left.saturating_add(u64::from(mark_word(set, word, pages[word], Marking::Leave)));
+    }
+    left
 }
 
 /// Whether a page is in the set; none after the words is.

@@ -24,7 +24,7 @@ mod statistics;
 mod status;
 mod using;
 
-pub use ballooned::{Marking, count_ballooned, is_ballooned, mark};
+pub use ballooned::{Marking, count_ballooned, is_ballooned, mark, unmark};
 pub use device::{Denial, Device};
 pub use format::{FORMAT_VERSION, SAVED_LENGTH};
 pub use held::Held;

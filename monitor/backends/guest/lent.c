@@ -154,7 +154,7 @@ static void set_hooks(struct lent *lent)
     backend->empties = backend->options->holds ? empties : NULL;
     backend->answer = answer;
     backend->keep = keep;
-    lent->marks.set = lent->kept->set;
+    marks_begin(&lent->marks, lent->kept->set, backend->options->holds);
     lent_speaks(lent);
 }
 

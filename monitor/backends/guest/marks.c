@@ -1,9 +1,10 @@
-/* The set of the pages in a guest's balloon, as its memory comes and goes. */
+/* The set of the pages in a guest's balloon, and that of a held deflate's pages, as its memory comes and goes. */
 #include "marks.h"
 
 #include "kept.h"
 
 #include <stdlib.h>
+#include <string.h>
 
 enum { WORD_BITS = 64 };
 
@@ -21,16 +22,24 @@ static uint32_t clear(uint64_t *set, uint64_t first, uint64_t end)
     return count;
 }
 
+/* These pages aren't memory. */
+static void forget(struct backend *backend, const struct marks *marks, uint64_t first, uint64_t end)
+{
+    backend->ballooned -= clear(marks->set, first, end);
+    if (marks->deflating)
+        clear(marks->deflating, first, end);
+}
+
 /* Takes out the marks of all pages that aren't the memory that was noted. */
 static void clear_holes(struct backend *backend, struct marks *marks)
 {
     uint64_t end = backend->balloon.ballooned_words * WORD_BITS, page = 0;
     for (unsigned i = 0; i < marks->span_count; i++) {
         const struct span *span = &marks->spans[i];
-        backend->ballooned -= clear(marks->set, page, span->first < end ? span->first : end);
+        forget(backend, marks, page, span->first < end ? span->first : end);
         page = span->end;
     }
-    backend->ballooned -= clear(marks->set, page, end);
+    forget(backend, marks, page, end);
 }
 
 static int compare(const void *one, const void *other)
@@ -55,6 +64,14 @@ static void resize(struct balloon *balloon, const struct marks *marks, uint64_t 
 {
     balloon->ballooned_words = words;
     balloon->ballooned = words > 0 ? marks->set : NULL;
+    balloon->deflating = words > 0 ? marks->deflating : NULL;
+}
+
+void marks_begin(struct marks *marks, uint64_t *set, bool holds)
+{
+    static uint64_t deflating[MOST_SET / WORD_BITS];
+    marks->set = set;
+    marks->deflating = holds ? deflating : NULL;
 }
 
 bool marks_follow(struct backend *backend, struct marks *marks, uint64_t end)
@@ -72,5 +89,7 @@ void marks_regain(struct backend *backend, struct marks *marks, uint64_t words)
 {
     note_memory(marks, &backend->memory);
     resize(&backend->balloon, marks, words);
+    if (backend->balloon.deflating)
+        memset(marks->deflating, 0, words * sizeof *marks->deflating);
     backend->ballooned = words > 0 ? (uint32_t)vb_count_ballooned(marks->set, words) : 0;
 }

@@ -7,10 +7,10 @@ use crate::{raw, QueueStart, Served, PAGE};
 
 /// A balloon device. Guests may write to their memory during any call.
 pub struct Balloon {
-    state: State,
-    regions: Vec<raw::Region>,
-    notice: raw::Notice,
-    room: Box<raw::Room>,
+    pub(crate) state: State,
+    pub(crate) regions: Vec<raw::Region>,
+    pub(crate) notice: raw::Notice,
+    pub(crate) room: Box<raw::Room>,
     /// A notice begins no further chain after this many: 256 at first.
     pub most_chains: u32,
     /// A notice begins no further chain after this many pages: any number at first.
@@ -20,8 +20,9 @@ pub struct Balloon {
     /// The set of the pages in the balloon, where it has words: page p is bit p % 64 of word p / 64. Make it of zeros, for all
     /// pages ([`Balloon::words_of_set`]), before DRIVER_OK; a reset empties it. Save it beside the state.
     pub ballooned: Vec<u64>,
-    /// The pages of the deflate that is held, which leave the set once it is granted. Save them beside the set.
-    pub held_runs: Vec<raw::Run>,
+    /// The set of the pages of the deflate that is held, where the settings say `holds_deflates`: as many words as `ballooned`, zeros
+    /// at first. They leave that set once the deflate is granted. Save it beside that set.
+    pub deflating: Vec<u64>,
 }
 
 impl Balloon {
@@ -58,7 +59,7 @@ impl Balloon {
             most_pages: u32::MAX,
             keeps_pages: false,
             ballooned: Vec::new(),
-            held_runs: Vec::new(),
+            deflating: Vec::new(),
         }
     }
 
@@ -138,8 +139,7 @@ impl Balloon {
 
     /// How many pages are in the balloon, where a set is kept.
     pub fn count_ballooned(&self) -> u64 {
-        // SAFETY: the pointer is of a slice with its length.
-        unsafe { raw::vb_count_ballooned(self.ballooned.as_ptr(), self.ballooned.len()) }
+        raw::count_ballooned(&self.ballooned)
     }
 
     /// The driver writes the status. At DRIVER_OK each queue is looked at, as Linux fills its statistics buffer before.
@@ -160,6 +160,7 @@ impl Balloon {
         }
         if then & raw::EMPTY != 0 {
             self.ballooned.fill(0);
+            self.deflating.fill(0);
         }
         let mut all = Served::default();
         if then & raw::LOOK != 0 {
@@ -217,7 +218,10 @@ impl Balloon {
         let (state, regions) = self.look_at(memory);
         // SAFETY: the pointers are of a `&mut` and of a slice with its length.
         match unsafe { raw::vb_start_queue(state, regions.as_ptr(), regions.len(), kind as u32, at) } {
-            raw::OK => Ok(()),
+            raw::OK => {
+                self.empty_deflating(kind);
+                Ok(())
+            }
             code => Err(refusal(code, 0)),
         }
     }
@@ -231,25 +235,11 @@ impl Balloon {
         let mut next = 0;
         // SAFETY: the pointers are of two `&mut`.
         match unsafe { raw::vb_stop_queue(&mut self.state.0, kind as u32, &mut next) } {
-            raw::OK => Ok(next),
+            raw::OK => {
+                self.empty_deflating(kind);
+                Ok(next)
+            }
             code => Err(refusal(code, 0)),
-        }
-    }
-
-    /// Forgets the chain that is held of this queue, which isn't given back; whether one was. The pages of a deflate stay in the
-    /// set.
-    pub fn forget_held(&mut self, kind: Kind) -> bool {
-        // SAFETY: the pointer is of a `&mut`.
-        unsafe { raw::vb_forget_held(&mut self.state.0, kind as u32) == raw::OK }
-    }
-
-    /// How many pages the deflate names that is held, if one is.
-    pub fn held_deflate(&self) -> Option<u32> {
-        let mut pages = 0;
-        // SAFETY: the pointers are of a `&` and of a `&mut`.
-        match unsafe { raw::vb_held(&self.state.0, raw::DEFLATE, &mut pages) } {
-            raw::OK => Some(pages),
-            _ => None,
         }
     }
 
@@ -287,40 +277,11 @@ impl Balloon {
         self.finish(memory, monitor)
     }
 
-    /// Asks for new statistics, by giving the buffer back (VIRTIO 1.1, 5.5.6.3); `Monitor::statistics` comes at a later
-    /// notice. No chain is served where the driver has the buffer.
-    pub fn ask_statistics(&mut self, memory: &dyn LiveMemory) -> Served {
-        memory.regions(&mut self.regions);
-        raw::give_held(&mut self.notice, &mut self.state.0, &self.regions, &mut self.room, raw::STATISTICS);
-        self.finish(memory, &mut ())
-    }
-
-    /// Grants the deflate that is held (VIRTIO 1.1, 5.5.6): the set loses its pages (`marked`), and then its chain is given back.
-    /// No chain is served where none is held; `BadArgument` where `held_runs` aren't of as many pages as it names, and then nothing
-    /// is changed. Notify the queue again then, as its kicks did nothing meanwhile.
-    pub fn give_deflate(&mut self, memory: &dyn LiveMemory) -> Served {
-        let named = match self.held_deflate() {
-            None => return Served::default(),
-            Some(named) => named,
-        };
-        if self.held_runs.iter().map(|run| u64::from(run.count)).sum::<u64>() != u64::from(named) {
-            return Served { stopped: Some(Refusal::BadArgument), ..Served::default() };
-        }
-        let mut marked = raw::Marked { code: raw::OK, pages: 0 };
-        if !self.ballooned.is_empty() {
-            marked = raw::mark(raw::DEFLATE, &self.held_runs, &mut self.ballooned);
-        }
-        memory.regions(&mut self.regions);
-        raw::give_held(&mut self.notice, &mut self.state.0, &self.regions, &mut self.room, raw::DEFLATE);
-        let unmarked = if marked.code == raw::BAD_ARGUMENT { named.into() } else { 0 };
-        Served { marked: marked.pages, unmarked, ..self.finish(memory, &mut ()) }
-    }
-
     /// Obeys a notice that has begun; what it came to.
-    fn finish(&mut self, memory: &dyn LiveMemory, monitor: &mut dyn Monitor) -> Served {
-        let Balloon { state, regions, notice, room, ballooned, held_runs, .. } = self;
+    pub(crate) fn finish(&mut self, memory: &dyn LiveMemory, monitor: &mut dyn Monitor) -> Served {
+        let Balloon { state, regions, notice, room, ballooned, deflating, .. } = self;
         let balloon = &mut state.0;
-        let mut hands = Hands { memory, monitor, ballooned, held_runs, balloon, regions, served: Served::default() };
+        let mut hands = Hands { memory, monitor, ballooned, deflating, balloon, regions, served: Served::default() };
         let obeyed = hands.obey(notice, room);
         let mut served = hands.served;
         if notice.kind != Kind::Deflate as u32 {

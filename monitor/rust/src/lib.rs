@@ -5,6 +5,7 @@
 //! answer says. No call panics, whatever a guest writes and whenever it writes it.
 
 mod balloon;
+mod held;
 pub mod lending;
 mod obey;
 mod raw;

@@ -127,7 +127,8 @@ impl<M: GuestMemory> LiveMemory for M {
 
 /// What a monitor may want to know, or to do in its own way. `()` does nothing of its own.
 pub trait Monitor {
-    /// These pages are given up (inflate) or free (report), before any is discarded; or they are requested back (deflate).
+    /// These pages are given up (inflate) or free (report), before any of them is discarded; or they are requested back (deflate).
+    /// It is called once for each portion of 256 numbers of a request, which is given back once, after the last portion.
     fn pages(&mut self, _kind: Kind, _runs: &[Run]) {}
 
     /// The guest told its statistics, any tags in any order.
@@ -153,8 +154,8 @@ pub(crate) struct Hands<'a> {
     pub monitor: &'a mut dyn Monitor,
     /// The set of the pages in the balloon; empty where none is kept.
     pub ballooned: &'a mut [u64],
-    /// The pages of the deflate that is held.
-    pub held_runs: &'a mut Vec<Run>,
+    /// The set of the pages of the deflate that is held.
+    pub deflating: &'a mut [u64],
     pub balloon: &'a mut raw::Balloon,
     pub regions: &'a [Region],
     pub served: Served,
@@ -167,12 +168,12 @@ impl Hands<'_> {
         self.served.pages += u64::from(notice.pages);
         self.served.skipped += u64::from(notice.skipped);
         self.served.kept += u64::from(notice.kept);
-        if notice.taken != 0 {
-            self.held_runs.clear();
-            self.held_runs.extend_from_slice(runs);
-        } else if !self.ballooned.is_empty() {
-            let marked = raw::mark(notice.kind, runs, self.ballooned);
-            self.served.marked += marked.pages;
+        if !self.ballooned.is_empty() {
+            let marked = match notice.waits {
+                0 => raw::mark(notice.kind, runs, self.ballooned),
+                _ => raw::mark(raw::INFLATE, runs, self.deflating), // what waits is put into its set
+            };
+            self.served.marked += if notice.waits == 0 { marked.pages } else { 0 };
             self.served.unmarked += if marked.code == raw::BAD_ARGUMENT { u64::from(notice.pages) } else { 0 };
         }
         if let Some(kind) = Kind::of(notice.kind) {

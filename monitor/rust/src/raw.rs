@@ -27,6 +27,18 @@ pub fn mark(kind: u32, runs: &[Run], set: &mut [u64]) -> Marked {
     unsafe { vb_mark(kind, runs.as_ptr(), runs.len(), set.as_mut_ptr(), set.len()) }
 }
 
+/// Takes the pages of one set out of another: how many left it.
+pub fn unmark(pages: &[u64], set: &mut [u64]) -> u64 {
+    // SAFETY: the pointers are of slices with their lengths.
+    unsafe { vb_unmark(pages.as_ptr(), pages.len(), set.as_mut_ptr(), set.len()) }
+}
+
+/// How many pages are in a set.
+pub fn count_ballooned(set: &[u64]) -> u64 {
+    // SAFETY: the pointer is of a slice with its length.
+    unsafe { vb_count_ballooned(set.as_ptr(), set.len()) }
+}
+
 /// Of a part that is given up, what goes back to a machine whose pages have this size.
 pub fn large_pages(device: &Device, region: &Region, page_size: u64, part: &Cut, set: &[u64]) -> Large {
     // SAFETY: the pointers are of `&`, and of a slice with its length.

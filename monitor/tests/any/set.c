@@ -31,6 +31,12 @@ void call_mark(void)
     uint64_t members = vb_count_ballooned(set, words), others = vb_count_ballooned(before, words);
     EXPECT(members == reference_count_ballooned(set, words));
     EXPECT(marked.code != VB_OK || members == (kind == VB_INFLATE ? others + marked.pages : others - marked.pages));
+    size_t others_words = any() % 65;
+    uint64_t *others_set = list_of(2, others_words * sizeof *others_set);
+    for (size_t i = 0; i < others_words; i++)
+        others_set[i] = once_in(2) ? 0 : any() & any();
+    EXPECT(vb_unmark(others_set, others_words, set, words) == reference_unmark(others_set, others_words, twin, words));
+    EXPECT(memcmp(set, twin, words * sizeof *set) == 0 && vb_count_ballooned(set, words) == reference_count_ballooned(twin, words));
     uint32_t page = (uint32_t)(once_in(4) ? any_number() : any() % (64 * words + 2));
     EXPECT(vb_is_ballooned(set, words, page) == reference_is_ballooned(set, words, page));
     answers[marked.code]++;

@@ -36,6 +36,7 @@ static uint32_t any_notice(VbNotice *notice, const VbBalloon *of, const VbRegion
     notice->pages = any_u32();
     notice->skipped = any_u32();
     notice->kept = any_u32();
+    notice->waits = ANY_UP_TO(1);
     notice->figures = ANY_UP_TO(VB_MAX_FIGURES);        /* vb_core, AreFigures */
     notice->code = any_u32();
     notice->rule = any_u32();
@@ -66,11 +67,24 @@ uint32_t vb_go_on(VbNotice *notice, VbBalloon *of, const VbRegion *places, size_
 
 VbMarked vb_mark(uint32_t kind, const VbRun *runs, size_t count, uint64_t *set, size_t set_words)
 {
-    //@ assert the_set: set == (uint64_t *)words && set_words == WORDS;
-    //@ assert the_runs: (runs == (VbRun *)balloon.room.runs || runs == (VbRun *)balloon.held_runs) && count <= VB_MAX_RUNS;
+    //@ assert the_set: (set == (uint64_t *)words || set == (uint64_t *)waiting) && set_words == WORDS;
+    //@ assert the_runs: runs == (VbRun *)balloon.room.runs && count <= VB_MAX_RUNS;
     Frama_C_make_unknown((char *)set, WORDS * sizeof *set);
     VbMarked marked = { any_u32(), ANY_UP_TO(UINT32_MAX) };
     return marked;
+}
+
+uint64_t vb_count_ballooned(const uint64_t *set, size_t set_words)
+{
+    //@ assert the_waiting: set == (uint64_t *)waiting && set_words == WORDS;
+    return ANY_UP_TO(64 * WORDS);
+}
+
+uint64_t vb_unmark(const uint64_t *pages, size_t count, uint64_t *set, size_t set_words)
+{
+    //@ assert the_sets: set == (uint64_t *)words && pages == (uint64_t *)waiting && count == WORDS && set_words == WORDS;
+    Frama_C_make_unknown((char *)set, WORDS * sizeof *set);
+    return ANY_UP_TO(UINT32_MAX);
 }
 
 /* ---- the other calls: any answer; what they are handed is looked at */

@@ -216,6 +216,8 @@ static void goes(void)
 {
     files_put_off(false);
     memset(kept.set, 0, fuzzed.backend.balloon.ballooned_words * sizeof *kept.set);
+    if (fuzzed.backend.balloon.deflating)
+        memset(fuzzed.backend.balloon.deflating, 0, fuzzed.backend.balloon.ballooned_words * sizeof *kept.set);
     backend_leave(&fuzzed.backend);
     files_close(&kept.inbox.message.files);
     close(kept.outbox.ends[0]), close(kept.outbox.ends[1]);

@@ -70,7 +70,7 @@ WRONG_WRAPPED = {
     "lent": ("counters_taken", "marks_follow"),
     "loop": ("poll_some", "loop_wait_for", "loop_wait_until"),
     "cut": (
-        "vb_go_on", "vb_mark", "recvmsg", "write", "splice", "fallocate", "lending_send", "lending_read", "rings_settle", "kept_save",
+        "vb_go_on", "vb_mark", "vb_unmark", "recvmsg", "write", "splice", "fallocate", "lending_send", "lending_read", "rings_settle", "kept_save",
         "inbox_next", "kept_regain", "lent_run", "memory_word", "marks_regain", "outbox_regain", "inbox_regain", "files_take", "lent_holds", "client_tell",
     ),
 }

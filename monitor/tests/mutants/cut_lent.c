@@ -58,6 +58,7 @@ static void cut(void)
 CUT(uint32_t, vb_go_on, (notice, balloon, regions, count, room, answer_of),
     VbNotice *notice, VbBalloon *balloon, const VbRegion *regions, size_t count, VbRoom *room, uint16_t answer_of)
 CUT(VbMarked, vb_mark, (kind, runs, count, set, words), uint32_t kind, const VbRun *runs, uint32_t count, uint64_t *set, size_t words)
+CUT(uint64_t, vb_unmark, (pages, count, set, words), const uint64_t *pages, size_t count, uint64_t *set, size_t words)
 CUT(ssize_t, recvmsg, (file, message, flags), int file, struct msghdr *message, int flags)
 CUT(ssize_t, write, (file, bytes, length), int file, const void *bytes, size_t length)
 CUT(ssize_t, splice, (from, at_from, to, at_to, length, flags), int from, off_t *at_from, int to, off_t *at_to, size_t length, unsigned flags)

@@ -4,13 +4,14 @@
 static const VbSettings HOLDS = { .offered = 1ull << 32 | 0x27, .needs_must_tell = 1, .skips_bad_pages = 1, .holds_deflates = 1 };
 enum { SET_WORDS = 24 * MIB / 4096 / 64 };
 
-/* A guest whose pages 700 to 709 are in the balloon, with a set of ballooned pages. */
+/* A guest whose pages 700 to 709 are in the balloon, with a set of ballooned pages and one of those that a held deflate names. */
 static void start_with_ten(struct guest *guest, uint64_t *set)
 {
     uint32_t pages[10];
     start(guest, 0, HOLDS, LINUX_FEATURES, 8);
-    memset(set, 0, SET_WORDS * sizeof *set);
+    memset(set, 0, 2 * SET_WORDS * sizeof *set);
     guest->balloon.ballooned = set;
+    guest->balloon.deflating = set + SET_WORDS;
     guest->balloon.ballooned_words = SET_WORDS;
     for (uint32_t i = 0; i < 10; i++)
         pages[i] = 700 + i;
@@ -23,11 +24,17 @@ static uint64_t count_of(const struct guest *guest)
     return vb_count_ballooned(guest->balloon.ballooned, guest->balloon.ballooned_words);
 }
 
+/* How many pages wait for the grant of the deflate that is held. */
+static uint64_t waiting_of(const struct guest *guest)
+{
+    return vb_count_ballooned(guest->balloon.deflating, guest->balloon.ballooned_words);
+}
+
 /* The pages of two runs and one that is no page; the chain isn't given back, and the pages stay in the set. */
 static void a_deflate_is_held(void)
 {
     static struct guest guest;
-    static uint64_t set[SET_WORDS];
+    static uint64_t set[2 * SET_WORDS];
     struct seen seen = { 0 };
     uint32_t pages = 7;
     start_with_ten(&guest, set);
@@ -49,7 +56,7 @@ static void a_deflate_is_held(void)
 static void a_granted_one_is_given_back(void)
 {
     static struct guest guest;
-    static uint64_t set[SET_WORDS];
+    static uint64_t set[2 * SET_WORDS];
     uint32_t pages = 7;
     start_with_ten(&guest, set);
     name_pages(&guest, VB_DEFLATE, (const uint32_t[]){ 700, 701, 705 }, 3);
@@ -75,7 +82,7 @@ static void a_granted_one_is_given_back(void)
 static void one_is_held(void)
 {
     static struct guest guest;
-    static uint64_t set[SET_WORDS];
+    static uint64_t set[2 * SET_WORDS];
     uint32_t pages;
     start_with_ten(&guest, set);
     name_pages(&guest, VB_DEFLATE, (const uint32_t[]){ 700, 701 }, 2);
@@ -99,14 +106,14 @@ static void one_is_held(void)
 static void a_reset_forgets_it(void)
 {
     static struct guest guest;
-    static uint64_t set[SET_WORDS];
+    static uint64_t set[2 * SET_WORDS];
     struct balloon_result result;
     uint32_t pages = 7;
     start_with_ten(&guest, set);
     name_pages(&guest, VB_DEFLATE, (const uint32_t[]){ 700, 701 }, 2);
     EXPECT(balloon_notify(&guest.balloon, VB_DEFLATE).held);
     start_features(&guest, LINUX_FEATURES, 8);
-    EXPECT(!balloon_held_deflate(&guest.balloon, &pages) && pages == 0 && count_of(&guest) == 0);
+    EXPECT(!balloon_held_deflate(&guest.balloon, &pages) && pages == 0 && count_of(&guest) == 0 && waiting_of(&guest) == 0);
     EXPECT(balloon_give_deflate(&guest.balloon).code == VB_NOTHING && used_index(&guest, VB_DEFLATE) == 0);
     name_pages(&guest, VB_DEFLATE, (const uint32_t[]){ 9 }, 1);
     EXPECT(balloon_write_status(&guest.balloon, 15, &result) == 0 && result.held && result.held_pages == 1);      /* it was there before */
@@ -123,14 +130,14 @@ static void a_reset_forgets_it(void)
 static void a_stopped_queue_forgets_it(void)
 {
     static struct guest guest;
-    static uint64_t set[SET_WORDS];
+    static uint64_t set[2 * SET_WORDS];
     uint16_t next;
     uint32_t pages;
     start_with_ten(&guest, set);
     name_pages(&guest, VB_DEFLATE, (const uint32_t[]){ 700, 701 }, 2);
     EXPECT(balloon_notify(&guest.balloon, VB_DEFLATE).held);
     EXPECT(balloon_stop_queue(&guest.balloon, VB_INFLATE, &next) == VB_OK && balloon_held_deflate(&guest.balloon, &pages));
-    EXPECT(balloon_stop_queue(&guest.balloon, VB_DEFLATE, &next) == VB_OK && next == 0);
+    EXPECT(waiting_of(&guest) == 2 && balloon_stop_queue(&guest.balloon, VB_DEFLATE, &next) == VB_OK && next == 0 && waiting_of(&guest) == 0);
     EXPECT(!balloon_held_deflate(&guest.balloon, &pages) && balloon_give_deflate(&guest.balloon).code == VB_NOTHING);
     EXPECT(count_of(&guest) == 10);
     VbQueueStart at = { table_of(VB_DEFLATE), avail_of(VB_DEFLATE), used_of(VB_DEFLATE), 8, next };
@@ -138,7 +145,7 @@ static void a_stopped_queue_forgets_it(void)
     EXPECT(balloon_notify(&guest.balloon, VB_DEFLATE).held_pages == 2 && balloon_give_deflate(&guest.balloon).marked == 2);
     name_pages(&guest, VB_DEFLATE, (const uint32_t[]){ 702 }, 1);
     EXPECT(balloon_notify(&guest.balloon, VB_DEFLATE).held && balloon_forget_held(&guest.balloon, VB_DEFLATE) == VB_OK);
-    EXPECT(balloon_forget_held(&guest.balloon, VB_DEFLATE) == VB_NOTHING && balloon_forget_held(&guest.balloon, 4) == VB_NO_QUEUE);
+    EXPECT(waiting_of(&guest) == 0 && balloon_forget_held(&guest.balloon, VB_DEFLATE) == VB_NOTHING && balloon_forget_held(&guest.balloon, 4) == VB_NO_QUEUE);
     EXPECT(balloon_notify(&guest.balloon, VB_DEFLATE).code == VB_NOTHING && used_index(&guest, VB_DEFLATE) == 1);
     EXPECT(count_of(&guest) == 8);
     free_memory(&guest);
@@ -148,7 +155,7 @@ static void a_stopped_queue_forgets_it(void)
 static void what_is_refused(void)
 {
     static struct guest guest;
-    static uint64_t set[SET_WORDS];
+    static uint64_t set[2 * SET_WORDS];
     struct balloon_result result;
     uint32_t pages;
     start_with_ten(&guest, set);
@@ -162,7 +169,7 @@ static void what_is_refused(void)
     EXPECT(balloon_notify(&guest.balloon, VB_DEFLATE).held);
     EXPECT(balloon_write_status(&guest.balloon, 143, &result) == 0);
     EXPECT(balloon_give_deflate(&guest.balloon).code == VB_NOT_READY && used_index(&guest, VB_DEFLATE) == 0);
-    EXPECT(balloon_held_deflate(&guest.balloon, &pages) && pages == 1);
+    EXPECT(balloon_held_deflate(&guest.balloon, &pages) && pages == 1 && waiting_of(&guest) == 1);
     free_memory(&guest);
 }
 
@@ -170,7 +177,7 @@ static void what_is_refused(void)
 static void it_is_saved(void)
 {
     static struct guest guest;
-    static uint64_t set[SET_WORDS];
+    static uint64_t set[2 * SET_WORDS];
     uint8_t bytes[VB_STATE_BYTES];
     uint32_t pages;
     start_with_ten(&guest, set);
@@ -179,11 +186,10 @@ static void it_is_saved(void)
     EXPECT(balloon_forget_held(&guest.balloon, VB_DEFLATE) == VB_OK);
     EXPECT(balloon_restore(&guest.balloon, bytes, sizeof bytes) == VB_OK);
     EXPECT(balloon_held_deflate(&guest.balloon, &pages) && pages == 2);
-    uint32_t kept = guest.balloon.held_count;
-    guest.balloon.held_count = 0;                       /* its pages weren't saved */
-    EXPECT(balloon_give_deflate(&guest.balloon).code == VB_BAD_ARGUMENT && count_of(&guest) == 10);
-    guest.balloon.held_count = kept;
+    EXPECT(balloon_give_deflate(&guest.balloon).code == VB_BAD_ARGUMENT && count_of(&guest) == 10);     /* its pages weren't saved */
+    set[SET_WORDS + 700 / 64] = 3ull << 700 % 64;
     EXPECT(balloon_give_deflate(&guest.balloon).marked == 2 && used_index(&guest, VB_DEFLATE) == 1);
+    EXPECT(waiting_of(&guest) == 0);
     free_memory(&guest);
 }
 

@@ -42,6 +42,18 @@ static void pages_are_marked(void)
     EXPECT(vb_mark(VB_INFLATE, rows[0].runs, 0, NULL, 0).code == VB_OK);
 }
 
+/* The pages of one set leave another: those that both have, in the words that both have. */
+static void pages_leave(void)
+{
+    const uint64_t pages[] = { 1ull << 63 | 0x40, 1, 1ull << 63 };     /* pages 6, 63, 64 and 191 */
+    uint64_t set[] = { UINT64_MAX, 7, 1 }, other[] = { UINT64_MAX, 7, 1 };
+    EXPECT(vb_unmark(pages, 3, set, 3) == 3 && set[0] == (UINT64_MAX >> 1 & ~0x40ull) && set[1] == 6 && set[2] == 1);
+    EXPECT(vb_unmark(pages, 3, set, 3) == 0 && set[1] == 6);
+    EXPECT(vb_unmark(pages, 3, other, 1) == 2 && other[0] == set[0] && other[1] == 7);
+    EXPECT(vb_unmark(pages, 1, other, 3) == 0 && vb_unmark(pages, 2, other, 3) == 1 && other[1] == 6);
+    EXPECT(vb_unmark(NULL, 0, other, 3) == 0 && vb_unmark(pages, 3, NULL, 0) == 0 && other[2] == 1);
+}
+
 #ifndef RUST_SHIM
 /* Pages are in the set when a monitor is told of them. */
 static void expect_in_set(void *context, uint32_t kind, const VbRun *runs, uint32_t count)
@@ -98,5 +110,6 @@ static void the_set_is_kept(void)
 void test_set(void)
 {
     RUN(pages_are_marked());
+    RUN(pages_leave());
     RUN(the_set_is_kept());
 }

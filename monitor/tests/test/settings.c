@@ -37,7 +37,7 @@ static void nothing_is_left_of_other_bytes(void)
     const struct balloon *it = &guest.balloon;
     EXPECT(!it->on_pages && !it->on_statistics && !it->discard && !it->context && !it->ballooned);
     EXPECT(it->ballooned_words == 0 && !it->keeps_pages && it->most_chains == BALLOON_MOST_CHAINS && it->most_pages == UINT32_MAX);
-    EXPECT(it->state.held.statistics == 0 && it->state.held.deflate == 0 && it->held_count == 0 && it->notice.what == 0 && it->region_count == 2 && it->places[2].length == 0);
+    EXPECT(it->state.held.statistics == 0 && it->state.held.deflate == 0 && it->deflating == NULL && it->notice.what == 0 && it->region_count == 2 && it->places[2].length == 0);
     memset(&guest.balloon, 0xa5, sizeof guest.balloon);
     EXPECT(balloon_init(&guest.balloon, guest.regions, BALLOON_MOST_REGIONS + 1, SKIPS) == VB_BAD_ARGUMENT);
     EXPECT(it->region_count == 0 && !it->regions && !it->on_pages && !it->ballooned);

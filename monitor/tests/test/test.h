@@ -28,6 +28,7 @@ void test_settings(void);
 void test_queues(void);
 void test_sizes(void);
 void test_requests(void);
+void test_portions(void);
 void test_notices(void);
 void test_discards(void);
 void test_regions(void);

@@ -25,7 +25,7 @@ def scribble(chance, client):
         address = chance.choice((BUFFERS, REGIONS[1][0], REGIONS[1][0] + PAGES_OF_REGION * PAGE - 64, chance.getrandbits(64)))
         length = chance.choice((4, 80, 1024, PAGE, 2 * PAGE, chance.getrandbits(32)))
         client.describe(number, head, address, length, chance.choice((0, 0, 1, 2, 3, chance.randrange(8))), chance.randrange(SIZE + 1))
-    client.write(BUFFERS, chance.randbytes(64))
+    client.write(BUFFERS, chance.choice((chance.randbytes(64), struct.pack("<I", REGIONS[1][0] // PAGE + 7) * (PAGE // 2))))
     client.publish(number, chance.randrange(SIZE), chance.choice((1, 1, 1, 2, 9)))
     client.kick(number)
 

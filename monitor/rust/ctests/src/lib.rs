@@ -48,8 +48,7 @@ pub struct Struct {
     discard: Option<OnDiscard>,
     ballooned: *mut u64,
     ballooned_words: usize,
-    held_runs: [Run; 256],
-    held_count: u32,
+    deflating: *mut u64,
 }
 
 /// `VbSettings`.
@@ -99,7 +98,7 @@ impl Monitor for Hooks<'_> {
 }
 
 impl Struct {
-    /// A balloon of this state, with its set of ballooned pages.
+    /// A balloon of this state, with its sets of pages.
     unsafe fn balloon(&self) -> Balloon {
         let mut balloon = Balloon::restore(self.state);
         balloon.most_chains = self.most_chains;
@@ -108,7 +107,9 @@ impl Struct {
         if !self.ballooned.is_null() {
             balloon.ballooned = std::slice::from_raw_parts(self.ballooned, self.ballooned_words).to_vec();
         }
-        balloon.held_runs = self.held_runs[..self.held_count as usize].to_vec();
+        if !self.deflating.is_null() {
+            balloon.deflating = std::slice::from_raw_parts(self.deflating, self.ballooned_words).to_vec();
+        }
         balloon
     }
 
@@ -117,8 +118,9 @@ impl Struct {
         if !self.ballooned.is_null() {
             balloon.ballooned.as_ptr().copy_to(self.ballooned, self.ballooned_words);
         }
-        self.held_count = balloon.held_runs.len() as u32;
-        self.held_runs[..balloon.held_runs.len()].copy_from_slice(&balloon.held_runs);
+        if !self.deflating.is_null() {
+            balloon.deflating.as_ptr().copy_to(self.deflating, self.ballooned_words);
+        }
     }
 
     unsafe fn memory(&self) -> Memory {

@@ -30,6 +30,23 @@ fn pages_go_and_come() {
 }
 
 #[test]
+fn a_page_of_numbers_goes_in_portions() {
+    let mut guest = Guest::new();
+    let (mut balloon, mut told) = (guest.ready(settings()), Told::default());
+    balloon.ballooned = vec![0; balloon.words_of_set()];
+    guest.name(Kind::Inflate, &(500..1524).collect::<Vec<_>>());
+    let served = balloon.notify(&guest.memory, Kind::Inflate, &mut told);
+    assert_eq!((served.chains, served.pages, served.discarded, served.marked, served.interrupts), (1, 1024, 1024, 1024, 1));
+    let portion = |first| (Kind::Inflate, vec![Run { first, count: 256 }]);
+    assert_eq!(told.runs, [500, 756, 1012, 1268].map(portion));
+    assert_eq!((guest.used_index(Kind::Inflate), balloon.count_ballooned()), (1, 1024));
+    guest.name(Kind::Inflate, &(300..556).chain([6144]).collect::<Vec<_>>());
+    let served = balloon.notify(&guest.memory, Kind::Inflate, &mut told);
+    assert_eq!((served.stopped, served.chains, served.pages, served.marked), (Some(Refusal::Broken(9)), 0, 256, 200));
+    assert_eq!((guest.used_index(Kind::Inflate), told.runs.len()), (1, 5));
+}
+
+#[test]
 fn statistics_come_before_the_driver_is_ready_and_outlive_a_move() {
     let mut guest = Guest::new();
     let (mut balloon, mut told) = (guest.prepared(settings()), Told::default());
