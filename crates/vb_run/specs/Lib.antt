@@ -1,5 +1,6 @@
 pub mod Entries
 pub mod Plans
+pub mod Paces
 pub mod Services
 pub mod Notes
 pub mod Made

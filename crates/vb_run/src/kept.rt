@@ -10,6 +10,7 @@ ghost use Rattle.vb_virtio.specs.Limits.{is_config};
 ghost use Rattle.vb_model.specs.GuestRun.{Looked};
 ghost use Rattle.vb_model.specs.declared.calls.Claim.{Claim as AnyClaim};
 ghost use Rattle.vb_model.specs.declared.replies.Reply.{Reply as AnyReply};
+ghost use Rattle.vb_run.specs.Paces.{is_deferred};
 ghost use Rattle.vb_run.specs.Past.{Past, IsKept, IsSame, AreBegun, AreHushed, HasEnded, Notes};
 ghost use Rattle.vb_run.specs.Past.{NotesNext, NotesService, just_started};
 ghost use Rattle.vb_run.specs.Plans.{config_of};
@@ -19,6 +20,7 @@ ghost use Rattle.vb_run.specs.Services.{found_nothing};
 
 use crate::audit::{expected_of, has_made};
 use crate::note::{Caller, Note};
+use crate::pace::Pace;
 use crate::plan::GuestPlan;
 use crate::report::{GuestReport, Stop};
 use crate::room::{claims_in, make_room, room_for};
@@ -40,8 +42,8 @@ use vb_virtio::negotiation::OFFERED_FEATURES;
 pub(crate) struct GuestOfRun {
     /// Its number.
     pub number: u32,
-    /// Whether its device is paced.
-    pub paced: bool,
+    /// The pace of its device.
+    pub pace: Pace,
     /// The free pages that a balance leaves to it.
     pub floor: u32,
 }
@@ -51,7 +53,7 @@ pub(crate) struct GuestOfRun {
 pub(crate) struct Kept<S: GuestSlot, L: AsSlice<Call> + Drop> {
     guest: u32,
     sizes: Config,
-    paced: bool,
+    pace: Pace,
     slot: S,
     history: Vec<Note>,
     /// Where the claims of the next call are noted.
@@ -65,6 +67,7 @@ pub(crate) struct Kept<S: GuestSlot, L: AsSlice<Call> + Drop> {
 
 impl<S: GuestSlot, L: AsSlice<Call> + Drop> Model for Kept<S, L> {
     ghost use Rattle.vb_run.specs.Notes.{history_of};
+    ghost use Rattle.vb_run.specs.Paces.{is_deferred};
     ghost use Rattle.vb_run.specs.Past.{Past, IsKept, scripts_in};
 
     ghost Value = { Past };
@@ -72,7 +75,7 @@ impl<S: GuestSlot, L: AsSlice<Call> + Drop> Model for Kept<S, L> {
     ghost view = { λ k. record {
       guest = k.guest;
       sizes = k.sizes;
-      paced = k.paced;
+      paced = is_deferred k.pace;
       history = history_of k.guest (scripts_in k.scripts.items) k.history.items;
       scripts = k.scripts.items;
       quiet = k.quiet;
@@ -82,7 +85,7 @@ impl<S: GuestSlot, L: AsSlice<Call> + Drop> Model for Kept<S, L> {
     ghost invariant = { λ k. IsKept (S.stands k.slot) (S.own k.slot) (record {
       guest = k.guest;
       sizes = k.sizes;
-      paced = k.paced;
+      paced = is_deferred k.pace;
       history = history_of k.guest (scripts_in k.scripts.items) k.history.items;
       scripts = k.scripts.items;
       quiet = k.quiet;
@@ -91,20 +94,20 @@ impl<S: GuestSlot, L: AsSlice<Call> + Drop> Model for Kept<S, L> {
 }
 
 impl<S: GuestSlot, L: AsSlice<Call> + Drop> Kept<S, L> {
-    /// Starts a guest that was just plugged in, on a device that is, or isn't, paced.
+    /// Starts a guest that was just plugged in, on a device of this pace.
     pub fn start(
         alloc: Global,
         guest: u32,
         sizes: Config,
-        paced: bool,
+        pace: Pace,
         slot: S,
         scripts: Vec<Script<L>>,
     ) -> Result<Kept<S, L>, AllocError>
         requires config { is_config sizes.pages sizes.queue_size sizes.processors ≡ true }
-        requires fresh { S.stands slot (fresh (config_of sizes paced) 0) }
+        requires fresh { S.stands slot (fresh (config_of sizes (is_deferred pace)) 0) }
         requires begun { AreBegun scripts.items }
         ensures { IfOk result (λ kept. (claims : List AnyClaim) × (reply : AnyReply)
-            × (kept ≡ just_started guest sizes paced scripts.items claims reply)) }
+            × (kept ≡ just_started guest sizes (is_deferred pace) scripts.items claims reply)) }
     {
         let mut slot = slot;
         let mut history = Vec::new(alloc);
@@ -124,7 +127,7 @@ impl<S: GuestSlot, L: AsSlice<Call> + Drop> Kept<S, L> {
         Ok(Kept {
             guest,
             sizes,
-            paced,
+            pace,
             slot,
             history,
             room,
@@ -269,10 +272,10 @@ impl<S: GuestSlot, L: AsSlice<Call> + Drop> Kept<S, L> {
 
     /// Whether it is the guest of this number and size, on a device of this pace.
     fn is_guest(&self, of: GuestOfRun, sizes: Config) -> bool
-        ensures { (result ≡ true) ↔ ((self.now.guest ≡ of.number) × (self.now.paced ≡ of.paced)
-            × (self.now.sizes ≡ sizes)) }
+        ensures { (result ≡ true) ↔ ((self.now.guest ≡ of.number)
+            × (self.now.paced ≡ is_deferred of.pace) × (self.now.sizes ≡ sizes)) }
     {
-        self.guest == of.number && self.paced == of.paced && self.sizes == sizes
+        self.guest == of.number && self.pace == of.pace && self.sizes == sizes
     }
 
     /// Whether this is kept of the plan's guest, and the balancer's entries are those of these
@@ -285,7 +288,7 @@ impl<S: GuestSlot, L: AsSlice<Call> + Drop> Kept<S, L> {
         rounds: &[Round],
     ) -> Result<bool, AllocError>
         ensures { IfOk result (λ is. (is ≡ true)
-            ↔ IsPlanned of.floor of.number plan.now of.paced rounds.now self.now) }
+            ↔ IsPlanned of.floor of.number plan.now (is_deferred of.pace) rounds.now self.now) }
     {
         if !self.is_guest(of, plan.config) {
             return Ok(false);
@@ -308,10 +311,10 @@ impl<S: GuestSlot, L: AsSlice<Call> + Drop> Kept<S, L> {
         rounds: &[Round],
     ) -> Result<GuestReport, Stop>
         ensures report { IfOk result
-            (IsGuestReport of.floor of.number plan.now of.paced rounds.now) }
+            (IsGuestReport of.floor of.number plan.now (is_deferred of.pace) rounds.now) }
         ensures whole { IfOk result (λ _. self.short ≡ false) }
         ensures audit { result ≡ Err Stop.Audit → (self.short ≡ false)
-            × (IsPlanned of.floor of.number plan.now of.paced rounds.now self → ⊥) }
+            × (IsPlanned of.floor of.number plan.now (is_deferred of.pace) rounds.now self → ⊥) }
     {
         let mut kept = self;
         kept.drain(rt, alloc)?;

@@ -4,6 +4,7 @@ ghost use Rattle.std.specs.Prelude.{◌≡◌, ◌↔◌, ℕ, true, false, leng
 ghost use Rattle.std.specs.Prelude.{slice_get, map, All};
 ghost use Rattle.std.specs.List.{list_all};
 ghost use Rattle.vb_model.specs.Guest.{fresh};
+ghost use Rattle.vb_run.specs.Paces.{is_deferred};
 ghost use Rattle.vb_run.specs.Past.{AreBegun, AreScripts};
 ghost use Rattle.vb_run.specs.Plans.{are_scripts, config_of, is_guest_plan, is_plan};
 ghost use Rattle.vb_run.specs.Reports.{IsGuestReport, IsReport};
@@ -13,6 +14,7 @@ use crate::audit::are_rounds;
 use crate::bell::Bell;
 use crate::gate::Gate;
 use crate::kept::{GuestOfRun, Kept};
+use crate::pace::{Pace, pace_of};
 use crate::plan::{GuestPlan, Plan, is_plan};
 use crate::report::{GuestReport, Report, RunFault, Stop};
 use crate::round::Round;
@@ -41,26 +43,26 @@ fn scripts_of<'p>(
     Ok(scripts)
 }
 
-/// A guest as it was plugged in, on a device that is, or isn't, paced: started, and under its lock.
+/// A guest as it was plugged in, on a device of this pace: started, and under its lock.
 fn seat_of<'p, S: GuestSlot>(
     alloc: Global,
     guest: u32,
     plan: &'p GuestPlan,
-    paced: bool,
+    pace: Pace,
     slot: S,
 ) -> Result<Seat<S, &'p [Call]>, AllocError>
     requires plan { is_guest_plan plan.now ≡ true }
-    requires fresh { S.stands slot (fresh (config_of plan.now.config paced) 0) }
+    requires fresh { S.stands slot (fresh (config_of plan.now.config (is_deferred pace)) 0) }
     ensures guest { IfOk result (λ seat. seat.guest ≡ guest) }
-    ensures paced { IfOk result (λ seat. seat.paced ≡ paced) }
+    ensures pace { IfOk result (λ seat. seat.pace ≡ pace) }
     ensures processors { IfOk result (λ seat. seat.processors ≡ plan.now.config.processors) }
 {
     let scripts = scripts_of(alloc, plan.scripts.as_slice())?;
-    let kept = Kept::start(alloc, guest, plan.config, paced, slot, scripts)?;
+    let kept = Kept::start(alloc, guest, plan.config, pace, slot, scripts)?;
     let processors = plan.config.processors;
     Ok(Seat {
         guest,
-        paced,
+        pace,
         processors,
         lock: Mutex::new(kept),
         bell: Bell::new(processors),
@@ -77,12 +79,12 @@ fn seat_at<'p, P: GuestPort>(
     requires plan { is_guest_plan plan.now ≡ true }
     requires waits { P.waits port }
     ensures guest { IfOk result (λ seat. seat.guest ≡ guest) }
-    ensures paced { IfOk result (λ seat. seat.paced ≡ P.pace port) }
+    ensures pace { IfOk result (λ seat. is_deferred seat.pace ≡ P.pace port) }
     ensures processors { IfOk result (λ seat. seat.processors ≡ plan.now.config.processors) }
 {
-    let paced = port.is_paced();
+    let pace = pace_of(&port);
     let slot = port.plug(alloc, plan.config)?;
-    seat_of(alloc, guest, plan, paced, slot)
+    seat_of(alloc, guest, plan, pace, slot)
 }
 
 /// The guests, each plugged in at the port of its place and started.
@@ -94,7 +96,8 @@ fn seats_of<'p, P: GuestPort>(
     requires plan { list_all is_guest_plan plan.now ≡ true }
     requires count { length ports.items ≡ length plan.now }
     requires waits { All P.waits ports.items }
-    ensures { IfOk result (λ seats. map (λ s. s.paced) seats.items ≡ map P.pace ports.items) }
+    ensures { IfOk result (λ seats. map (λ s. is_deferred s.pace) seats.items
+        ≡ map P.pace ports.items) }
 {
     let mut seats = Vec::new(alloc);
     let mut left = ports.into_iter();
@@ -118,7 +121,8 @@ fn report_of<S: GuestSlot, L: AsSlice<Call> + Drop, R: Wait>(
     rounds: &[Round],
     lock: Mutex<Kept<S, L>>,
 ) -> Result<GuestReport, Stop>
-    ensures { IfOk result (IsGuestReport of.floor of.number plan.now of.paced rounds.now) }
+    ensures { IfOk result
+        (IsGuestReport of.floor of.number plan.now (is_deferred of.pace) rounds.now) }
 {
     lock.into_inner().close(rt, alloc, of, plan, rounds)
 }
@@ -136,7 +140,7 @@ fn reports_of<S: GuestSlot, L: AsSlice<Call> + Drop, R: Wait>(
     ensures each { IfOk result (λ reports. (g : ℕ) (r : _) (p : _) (s : _)
         → slice_get reports.items g ≡ Some r → slice_get plan.now g ≡ Some p
         → slice_get seats.items g ≡ Some s
-        → IsGuestReport floor g p s.paced rounds.now r) }
+        → IsGuestReport floor g p (is_deferred s.pace) rounds.now r) }
 {
     let mut reports = Vec::new(alloc);
     let mut left = seats.into_iter();
@@ -149,7 +153,7 @@ fn reports_of<S: GuestSlot, L: AsSlice<Call> + Drop, R: Wait>(
         };
         let of = GuestOfRun {
             number,
-            paced: seat.paced,
+            pace: seat.pace,
             floor,
         };
         let report = report_of(rt, alloc, of, &plan[guest], rounds, seat.lock)?;

@@ -5,6 +5,7 @@ ghost use Rattle.std.specs.Prelude.{◌≡◌, ◌≤◌, length, IfSome};
 use crate::bell::Bell;
 use crate::gate::Gate;
 use crate::kept::Kept;
+use crate::pace::Pace;
 use crate::plan::{Bells, GuestPlan, Plan};
 use crate::round::Round;
 use crate::served::{SERVICES, found_nothing};
@@ -23,8 +24,8 @@ use vb_virtio::limits::MAX_GUESTS;
 pub(crate) struct Seat<S: GuestSlot, L: AsSlice<Call> + Drop> {
     /// The guest's number.
     pub guest: u32,
-    /// Whether its device is paced.
-    pub paced: bool,
+    /// The pace of its device.
+    pub pace: Pace,
     /// How many processors it has.
     pub processors: u32,
     pub lock: Mutex<Kept<S, L>>,

@@ -1,5 +1,6 @@
 use Rattle.std.proofs.Common.{rules, ◌≡◌, [], ◌∷◌, ◌++◌, sym, ◌∙◌, drop}
 use Rattle.std.proofs.lemmas.Option.{get_or_from_slice_get}
+use Rattle.vb_run.specs.Paces.{is_deferred}
 use Rattle.vb_run.{proofs.Lists.some_same, proofs.Starting.{drop_head, swapped}}
 use Rattle.vb_run.proofs.run.reports_of.Goals as goal
 
@@ -16,7 +17,7 @@ loop-guest-preserved g c =
       made = search rules;
       rest = sym left.1;
       each = rw made
-          (swapped (λ s. s.paced) c.args.floor c.args.plan.now c.args.seats.items c.args.rounds.now
+          (swapped (λ s. is_deferred s.pace) c.args.floor c.args.plan.now c.args.seats.items c.args.rounds.now
           c.loop-guest.reports.items c.in_ok-report.report c.loop-guest.invariant.each
           (rw c.loop-guest.invariant.made (λ p s h its.
           let same : c.index-plan-guest.result ≡ p =

@@ -27,5 +27,5 @@ loop-own-preserved g c =
           c.next.new.self.rest.items head c.loop-own.invariant.waits;
       count = search rules;
       paces = rw grown (map_next _ _ _ _ _ _ _ _ c.loop-own.invariant.paces head
-          c.in_ok-seat_at.ensures.paced);
+          c.in_ok-seat_at.ensures.pace);
     }
