@@ -4,7 +4,7 @@
 
 #include <inttypes.h>
 
-/* Pages that a deflate request takes at most; milliseconds in which a driver that begins to take pages hears that it is to take no more. */
+/* Pages that a deflate of Linux's driver takes at most; milliseconds in which a driver that begins to take pages hears that it is to take no more. */
 enum { PAGES_OF_REQUEST = VB_MAX_BYTES / sizeof(uint32_t), LINGERS = 500 };
 
 static uint32_t smaller(uint32_t one, uint32_t other)
@@ -43,7 +43,7 @@ static void withdraw(VbLoan *loan)
 }
 
 /* What it has asked for isn't waited for any longer; nothing is lent beyond its pages that aren't in its balloon, but for those that it is
- * told to take out of it. A driver that was told otherwise meanwhile may just take those of one request. */
+ * told to take out of it. A driver that was told otherwise meanwhile may just take those of one request of Linux's. */
 static void trim(struct seat *seat)
 {
     VbLoan *loan = loan_of(seat);
