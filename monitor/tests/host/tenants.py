@@ -92,7 +92,8 @@ class Guest(threading.Thread):
             while not self.ended.wait(0.01):
                 while select.select([self.client.own], [], [], 0)[0]:
                     with self.lock:
-                        if self.client.told(LIMIT) == STATISTICS and self.answers:
+                        # Another process that goes on may tell of what was used long ago.
+                        if self.client.told(LIMIT) == STATISTICS and self.answers and self.client.is_all_used(STATISTICS):
                             self.tell()
         except (OSError, TypeError, AssertionError, ValueError):
             pass

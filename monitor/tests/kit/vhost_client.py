@@ -270,10 +270,17 @@ class Client:
         self.publish(number, head)
         return self.kick(number)
 
+    def used_index(self, number):
+        """Returns the used index."""
+        return struct.unpack("<H", self.read(self.table(number) + 2 * PAGE + 2, 2))[0]
+
+    def is_all_used(self, number):
+        """Whether the device has nothing of a queue any longer."""
+        return self.used_index(number) == self.available[number] & 0xFFFF
+
     def used(self, number):
         """Returns the used index, and the entries that are there."""
-        at = self.table(number) + 2 * PAGE
-        (index,) = struct.unpack("<H", self.read(at + 2, 2))
+        at, index = self.table(number) + 2 * PAGE, self.used_index(number)
         return index, [struct.unpack("<II", self.read(at + 4 + 8 * (it % SIZE), 8)) for it in range(index)]
 
     def told(self, limit=LIMIT):
