@@ -4,25 +4,8 @@ version."""
 import os
 import shutil
 
-import linux_kit
 from hosts import Answering, Host, bigvasta, eventually, limit_from_now
-
-OLDER = "0.1.9"
-
-
-def older_program(folder):
-    """Builds the programs of a host as they were in an older version."""
-    with open(os.path.join(linux_kit.HEADERS, "vb.h"), encoding="utf-8") as header, open(folder / "vb.h", "w", encoding="utf-8") as copy:
-        text = header.read()
-        copy.write(text.replace(f'#define VB_VERSION "{version()}"', f'#define VB_VERSION "{OLDER}"'))
-    return linux_kit.build(str(folder), linux_kit.core_of(), "vhost_user_host", flags=("-I", str(folder)))
-
-
-def version():
-    """Returns the version of this tree."""
-    with open(os.path.join(linux_kit.ROOT, "VERSION"), encoding="utf-8") as file:
-        return file.read().strip()
-
+from programs import OLDER, older_program, version
 
 def begin(program, folder):
     """Starts a host that leaves its guests as it ends."""
