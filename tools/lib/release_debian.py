@@ -63,7 +63,8 @@ def put_debian(tree, room):
 
 def make_packages(tree, room, names, out):
     """Makes these packages of the folders `stage/NAME` in a room, and returns their paths."""
-    need("dpkg-buildpackage", "dpkg-dev debhelper dh-python")
+    for it in ("dpkg-buildpackage", "dh", "dh_python3"):
+        need(it, "dpkg-dev debhelper dh-python")
     put_debian(tree, room)
     settle(os.path.join(room, "stage"), tree.date)
     chosen = " ".join(f"-p{it}" for it in names)

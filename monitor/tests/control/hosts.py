@@ -131,7 +131,8 @@ class Answering(threading.Thread):
         try:
             while not self.ended.wait(0.02):
                 while select.select([self.client.own], [], [], 0)[0]:
-                    if self.client.told(LIMIT) == STATISTICS:
+                    # Another process that goes on may tell of what was used long ago.
+                    if self.client.told(LIMIT) == STATISTICS and self.client.is_all_used(STATISTICS):
                         self.tell()
         except (OSError, TypeError, AssertionError):
             pass

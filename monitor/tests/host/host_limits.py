@@ -5,7 +5,7 @@ import functools
 import os
 
 from host_checks import eventually, finish, names
-from host_places import Cgroup, Mount, has_cgroups
+from host_places import Cgroup, Mount, cgroups
 from host_strict import look, outside
 from linux_guest import PAGES_PER_MIB
 from linux_host import LEFT, Member
@@ -25,9 +25,9 @@ def limit_of(kind, folder):
     """Makes a limit of this kind."""
     if os.geteuid() != 0:
         raise Missing("mounts and cgroups are for root")
-    if kind == "cgroup" and not has_cgroups():
-        raise Missing("this machine has no cgroups of memory of the first version")
-    return Mount(f"{folder}/rogue", MEMORY, "mode=700") if kind == "tmpfs" else Cgroup(f"rogue-{os.getpid()}")
+    if kind == "cgroup" and not cgroups():
+        raise Missing("this machine has no cgroups of memory")
+    return Mount(f"{folder}/rogue", MEMORY, "mode=700") if kind == "tmpfs" else Cgroup("rogue")
 
 
 def loan_of(town, name):

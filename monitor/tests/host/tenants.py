@@ -8,10 +8,7 @@ import threading
 import time
 
 import linux_host
-from vhost_client import BUFFERS, DEFLATE, INFLATE, PAGE, REGIONS, STATISTICS, Client
-
-# Seconds of a wait.
-LIMIT = 20
+from vhost_client import BUFFERS, DEFLATE, INFLATE, LIMIT, PAGE, REGIONS, STATISTICS, Client
 
 # Tags of statistics (VIRTIO 1.1, 5.5.6.3), and the first pages of a client's regions: the first region has its rings.
 FREE, AVAILABLE = 4, 6
@@ -58,11 +55,11 @@ class Lender(linux_host.Host):
 class Guest(threading.Thread):
     """A guest whose driver answers each question by these figures, and obeys its target, as Linux does."""
 
-    def __init__(self, lender, name, figures, obeys=True, folder=None):
+    def __init__(self, lender, name, figures, obeys=True, folder=None, client=Client):
         super().__init__(daemon=True)
         self.figures, self.obeys, self.lender, self.name_of = dict(figures), obeys, lender, name
         self.gone = False
-        self.client = Client(f"{lender.folder}/{name}", lambda: "", folder)
+        self.client = client(f"{lender.folder}/{name}", lambda: "", folder)
         self.ended, self.answers, self.lock = threading.Event(), True, threading.Lock()
         self.client.start()
         self.tell()
@@ -92,7 +89,8 @@ class Guest(threading.Thread):
             while not self.ended.wait(0.01):
                 while select.select([self.client.own], [], [], 0)[0]:
                     with self.lock:
-                        if self.client.told(LIMIT) == STATISTICS and self.answers:
+                        # Another process that goes on may tell of what was used long ago.
+                        if self.client.told(LIMIT) == STATISTICS and self.answers and self.client.is_all_used(STATISTICS):
                             self.tell()
         except (OSError, TypeError, AssertionError, ValueError):
             pass

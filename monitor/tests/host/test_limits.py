@@ -1,5 +1,5 @@
-"""Limits that the kernel enforces: the size of a tmpfs that has a guest's memory, and a cgroup of the first version, both real. A limit
-is raised before its guest has pages, and lowered after they came."""
+"""Limits that the kernel enforces: the size of a tmpfs that has a guest's memory, and a cgroup, of the version that this machine has, both
+real. A limit is raised before its guest has pages, and lowered after they came."""
 
 import contextlib
 import errno
@@ -10,7 +10,7 @@ import subprocess
 import time
 
 import pytest
-from host_places import CGROUPS, Cgroup, Mount, has_cgroups, run
+from host_places import FIRST, SECOND, Cgroup, Mount, cgroups, run
 from tenants import FREE, eventually, go_on, stop
 from test_strict import GIVEN, STRICT, used, waits_of
 from vhost_client import DEFLATE, PAGE, Client
@@ -25,11 +25,11 @@ pytestmark = pytest.mark.skipif(os.geteuid() != 0, reason="mounts and cgroups ar
 def limits(request, tmp_path):
     """Makes limits of one kind, which are gone at the end."""
     made = []
-    if request.param == "cgroup" and not has_cgroups():
-        pytest.skip("this machine has no cgroups of memory of the first version")
+    if request.param == "cgroup" and not cgroups():
+        pytest.skip("this machine has no cgroups of memory")
 
     def make(name):
-        made.append(Mount(f"{tmp_path}/{name}") if request.param == "tmpfs" else Cgroup(f"limits-{os.getpid()}-{name}"))
+        made.append(Mount(f"{tmp_path}/{name}") if request.param == "tmpfs" else Cgroup(name))
         return made[-1]
 
     yield make
@@ -156,7 +156,7 @@ def test_a_limit_that_cannot_be_written_is_named(one):
     assert a.client.used(DEFLATE)[0] == 0
     said = [it for it in lender.said() if f"its limit {its.term} can't be set to {88 * 4} KiB: " in it]
     assert said, lender.said()
-    os.mkdir(its.path) if isinstance(its, Cgroup) else its.mount()
+    its.make() if isinstance(its, Cgroup) else its.mount()
     used(a, DEFLATE, 1)
     assert its.pages() == 88
 
@@ -202,6 +202,12 @@ def test_who_takes_pages_unasked_is_named(lend, come):
 
 
 NO_LIMIT, NO_PATH = "none, cgroup:PATH or tmpfs:MOUNT", "a path from / on, without ., .. or a slash too many"
+# What is a cgroup that has no limit of memory, by the version.
+NO_MEMORY = {
+    FIRST: ("limit=cgroup:/sys/fs/cgroup/cpu", "no cgroup of memory"),
+    SECOND: (f"limit=cgroup:{SECOND}", "a cgroup without a limit of memory"),
+    None: ("limit=cgroup:/", "no cgroup of memory"),
+}
 REFUSED = (
     ("limit=/x", NO_LIMIT),
     ("limit=tmpfs:x", NO_PATH),
@@ -209,7 +215,8 @@ REFUSED = (
     ("limit=cgroup:/x/", NO_PATH),
     ("limit=tmpfs:/" + "x" * 151, "a path of 151 bytes at most, each of them a letter, a digit or a sign of ASCII"),
     ("limit=cgroup:/etc", "no cgroup of memory"),
-    ("limit=cgroup:/sys/fs/cgroup/cpu", "no cgroup of memory"),
+    ("limit=cgroup:/proc/self", "no cgroup of memory"),
+    NO_MEMORY[cgroups()],
     ("limit=tmpfs:/etc", "no mount of tmpfs"),
     ("limit=tmpfs:/dev/shm/x", "no mount of tmpfs"),
     ("strict=0 limit=tmpfs:/dev/shm", "a limit is for a strict guest, whose deflates wait until it is raised"),
@@ -233,7 +240,7 @@ def test_a_limit_is_one_guests(lend, limits):
         assert "the limit is another guest's" in lender.ask(line)
     if isinstance(its, Cgroup):
         assert "the limit is another guest's" in lender.ask(f"terms b limit={its.term}/below")
-        assert "the limit is another guest's" in lender.ask(f"terms b limit=cgroup:{CGROUPS}")
+        assert "the limit is another guest's" in lender.ask(f"terms b limit=cgroup:{its.above}")
     else:
         os.makedirs(f"{its.path}-again")
         run("mount", "--bind", its.path, f"{its.path}-again")

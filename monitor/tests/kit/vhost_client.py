@@ -40,7 +40,8 @@ NEXT, WRITE, INDIRECT = 1, 2, 4
 SIZE = 8
 BUFFERS = REGIONS[0][0] + 16 * PAGE
 
-LIMIT = 20
+# Seconds of a wait, and how many times as long it takes where a machine is emulated.
+LIMIT = 20 * int(os.environ.get("PATIENCE", "1"))
 
 # Words that are no decimal number, nor one of 64 bits: what C's strtoul would take is among them.
 NO_NUMBERS = ("", "x", " 5", "+5", "-1", "5 ", "5x", "0x5", "-18446744073709551615", "18446744073709551621")
@@ -57,16 +58,23 @@ def memory_file(folder, name):
 class Client:
     """A vhost-user client with memory, in a folder where one is named; `why` says what its backend said last."""
 
+    regions, pages_of_region = REGIONS, PAGES_OF_REGION
+
     def __init__(self, path, why=lambda: "", folder=None):
         self.why, self.path, self.socket = why, path, None
         self.connect()
-        self.files = [memory_file(folder, f"region {it}") for it in range(len(REGIONS))]
+        self.files = [memory_file(folder, f"region {it}") for it in range(len(self.regions))]
         for it in self.files:
-            os.write(it, b"\xff" * PAGES_OF_REGION * PAGE)
+            self.fill(it)
         self.available = [0] * QUEUES
         self.region = 0  # where the rings are
         self.offset = 0  # where each region begins in its file
         self.kicks, self.calls = [None] * QUEUES, [None] * QUEUES
+
+    def fill(self, file):
+        """Writes each byte of a region."""
+        for _ in range(self.pages_of_region):
+            os.write(file, b"\xff" * PAGE)
 
     def connect(self):
         """Comes to the backend, in place of a connection before."""
@@ -112,22 +120,22 @@ class Client:
 
     def write(self, address, data):
         """Writes bytes of the guest."""
-        for (guest, _), file in zip(REGIONS, self.files):
-            if guest <= address < guest + PAGES_OF_REGION * PAGE:
+        for (guest, _), file in zip(self.regions, self.files):
+            if guest <= address < guest + self.pages_of_region * PAGE:
                 os.pwrite(file, data, self.offset + address - guest)
 
     def read(self, address, length):
         """Reads bytes of the guest."""
-        for (guest, _), file in zip(REGIONS, self.files):
-            if guest <= address < guest + PAGES_OF_REGION * PAGE:
+        for (guest, _), file in zip(self.regions, self.files):
+            if guest <= address < guest + self.pages_of_region * PAGE:
                 return os.pread(file, length, self.offset + address - guest)
         raise AssertionError(f"{address:x} is in a hole")
 
     def holes(self):
         """Returns the numbers of the guest's pages that the host doesn't hold."""
         found = []
-        for (guest, _), file in zip(REGIONS, self.files):
-            for page in range(PAGES_OF_REGION):
+        for (guest, _), file in zip(self.regions, self.files):
+            for page in range(self.pages_of_region):
                 at = self.offset + page * PAGE
                 if os.lseek(file, at, os.SEEK_HOLE) == at:
                     found.append(guest // PAGE + page)
@@ -135,14 +143,14 @@ class Client:
 
     def hand_over_memory(self):
         """Tells the backend of the memory."""
-        table = struct.pack("<II", len(REGIONS), 0)
-        for guest, user in REGIONS:
-            table += struct.pack("<QQQQ", guest, PAGES_OF_REGION * PAGE, user, self.offset)
+        table = struct.pack("<II", len(self.regions), 0)
+        for guest, user in self.regions:
+            table += struct.pack("<QQQQ", guest, self.pages_of_region * PAGE, user, self.offset)
         self.accepted(SET_MEM_TABLE, table, self.files)
 
     def region_body(self, region):
         """Returns the body of a message that adds a region, or takes it away."""
-        return struct.pack("<QQQQQ", 0, REGIONS[region][0], PAGES_OF_REGION * PAGE, REGIONS[region][1], self.offset)
+        return struct.pack("<QQQQQ", 0, self.regions[region][0], self.pages_of_region * PAGE, self.regions[region][1], self.offset)
 
     def add_memory(self):
         """Tells the backend of the memory, region by region."""
@@ -151,7 +159,7 @@ class Client:
 
     def tell_place(self, number, size=SIZE, base=0, shift=0):
         """Tells the place of a queue, in the client's addresses."""
-        user = REGIONS[self.region][1] + 3 * number * PAGE + shift
+        user = self.regions[self.region][1] + 3 * number * PAGE + shift
         self.accepted(SET_VRING_NUM, struct.pack("<II", number, size))
         self.accepted(SET_VRING_BASE, struct.pack("<II", number, base))
         self.accepted(SET_VRING_ADDR, struct.pack("<IIQQQQ", number, 0, user, user + 2 * PAGE, user + PAGE, 0))
@@ -244,7 +252,7 @@ class Client:
 
     def table(self, number):
         """Returns where a queue's table is."""
-        return REGIONS[self.region][0] + 3 * number * PAGE
+        return self.regions[self.region][0] + 3 * number * PAGE
 
     def describe(self, number, head, address, length, flags=0, follows=0):
         """Writes a descriptor."""
@@ -270,10 +278,17 @@ class Client:
         self.publish(number, head)
         return self.kick(number)
 
+    def used_index(self, number):
+        """Returns the used index."""
+        return struct.unpack("<H", self.read(self.table(number) + 2 * PAGE + 2, 2))[0]
+
+    def is_all_used(self, number):
+        """Whether the device has nothing of a queue any longer."""
+        return self.used_index(number) == self.available[number] & 0xFFFF
+
     def used(self, number):
         """Returns the used index, and the entries that are there."""
-        at = self.table(number) + 2 * PAGE
-        (index,) = struct.unpack("<H", self.read(at + 2, 2))
+        at, index = self.table(number) + 2 * PAGE, self.used_index(number)
         return index, [struct.unpack("<II", self.read(at + 4 + 8 * (it % SIZE), 8)) for it in range(index)]
 
     def told(self, limit=LIMIT):

@@ -6,14 +6,17 @@
  *     3  leaves no guest its floor
  *     4  goes on counting the pages of guests that have gone
  *     7  doesn't decide anew when the floor changes
+ *     9  lowers a guest's limit by its target, before its pages came
+ *    10  grants a deflate before the guest's limit is raised
  *
  * 5 and 8 are wrong in guests' processes (wrong_lent.c).
  */
 #include "../../backends/host/host.h"
 
 #include <stdlib.h>
+#include <string.h>
 
-enum { EVENLY = 1, NEIGHBOURS, NO_FLOOR, COUNTS_DEAD, OLD_FLOOR = 7 };
+enum { EVENLY = 1, NEIGHBOURS, NO_FLOOR, COUNTS_DEAD, OLD_FLOOR = 7, LOWERS_EARLY = 9, GRANTS_EARLY };
 
 VbTargets __real_vb_guest_targets(const VbBudget *, const VbHostGuest *, size_t, VbShare *, size_t, VbNeed *, size_t, uint32_t *, size_t);
 VbTargets __wrap_vb_guest_targets(const VbBudget *, const VbHostGuest *, size_t, VbShare *, size_t, VbNeed *, size_t, uint32_t *, size_t);
@@ -25,6 +28,10 @@ VbNeed __real_vb_guest_need(const VbHostGuest *, uint32_t);
 VbNeed __wrap_vb_guest_need(const VbHostGuest *, uint32_t);
 void __real_host_changed(struct host *, enum reason);
 void __wrap_host_changed(struct host *, enum reason);
+void __real_limits_follow(struct host *);
+void __wrap_limits_follow(struct host *);
+bool __real_limit_allows(const struct seat *);
+bool __wrap_limit_allows(const struct seat *);
 
 static int wrong(void)
 {
@@ -100,4 +107,22 @@ void __wrap_host_changed(struct host *host, enum reason reason)
     if (wrong() != OLD_FLOOR || reason != BY_BUDGET || host->frames != frames)
         __real_host_changed(host, reason);
     frames = host->frames;
+}
+
+void __wrap_limits_follow(struct host *host)
+{
+    VbLoan loans[MOST_PLACES];
+    memcpy(loans, host->loans, sizeof loans);
+    for (unsigned i = 0; i < host->count && wrong() == LOWERS_EARLY; i++) {
+        VbLoan *loan = &host->loans[host->seats[i]->place];
+        uint32_t asked = host->seats[i]->told > loan->ballooned ? host->seats[i]->told - loan->ballooned : 0;
+        loan->lent -= asked < loan->lent ? asked : loan->lent;
+    }
+    __real_limits_follow(host);
+    memcpy(host->loans, loans, sizeof loans);
+}
+
+bool __wrap_limit_allows(const struct seat *seat)
+{
+    return wrong() == GRANTS_EARLY || __real_limit_allows(seat);
 }

@@ -1,0 +1,43 @@
+"""The installed service under systemd, with a guest at work whose limit is `memory.max` of its own cgroup: processes are killed, started anew and
+upgraded, and the guest's client notices nothing (service.py says what is done, and what is demanded)."""
+
+import pytest
+from debian_disk import FOLDER
+
+# How many times as long as elsewhere a wait may take there.
+PATIENCE = 15
+
+# A command in the machine has limits of its own.
+pytestmark = pytest.mark.timeout(0)
+
+
+@pytest.fixture(scope="module")
+def service(machine, package):
+    """The service, installed from its package, with programs of an older version in place of the package's; returns what does a step."""
+    if package[1]:
+        pytest.fail(package[1], pytrace=False)
+    tests = f"{FOLDER}/source/monitor/tests"
+    settings = f"PATIENCE={PATIENCE} PYTHONPATH={tests}/kit:{FOLDER}/source/client"
+
+    def do(step):
+        return machine.run(f"{settings} python3 -B {tests}/machine/service.py {step}", step)
+
+    machine.run(f"dpkg -i {FOLDER}/package/*.deb && cp --remove-destination {FOLDER}/older/vhost_user_* /usr/bin", "the package")
+    do("begin")
+    return do
+
+
+def test_a_killed_process_of_a_guest_is_started_anew(service):
+    print(service("processes"))
+
+
+def test_a_killed_lender_is_started_anew(service):
+    print(service("lender"))
+
+
+def test_a_restart_of_the_service(service):
+    print(service("restart"))
+
+
+def test_an_upgrade_of_the_service(service):
+    print(service("upgrade"))
