@@ -223,6 +223,7 @@ static void a_long_deflate_is_held(void)
     static struct guest guest;
     static uint64_t sets[2 * SET_WORDS];
     struct heard heard;
+    uint8_t bytes[VB_STATE_BYTES];
     uint32_t pages = 0;
     begin(&guest, HOLDS, &heard, sets);
     publish_numbers(&guest, VB_INFLATE, MANY);
@@ -232,6 +233,8 @@ static void a_long_deflate_is_held(void)
     EXPECT(result.code == VB_OK && result.held && result.held_pages == 1000 && result.pages == 1000 && result.chains == 0);
     EXPECT(result.marked == 0 && result.unmarked == 0 && heard.calls == 8 && heard.pages[7] == 1000 - 3 * PORTION);
     EXPECT(in_set(sets) == MANY && in_set(sets + SET_WORDS) == 1000 && used_index(&guest, VB_DEFLATE) == 0);
+    EXPECT(balloon_held_deflate(&guest.balloon, &pages) && pages == 1000);
+    EXPECT(balloon_save(&guest.balloon, bytes, sizeof bytes) == VB_OK && balloon_restore(&guest.balloon, bytes, sizeof bytes) == VB_OK);
     EXPECT(balloon_held_deflate(&guest.balloon, &pages) && pages == 1000);
     result = balloon_give_deflate(&guest.balloon);
     EXPECT(result.code == VB_OK && result.chains == 1 && result.marked == 1000 && result.interrupts == 1 << VB_DEFLATE);
