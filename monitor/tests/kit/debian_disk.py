@@ -114,6 +114,10 @@ def disk():
         try:
             make(part)
             os.rename(part, folder)
+        except OSError:
+            if not os.path.isdir(folder):
+                raise
+            # Another run has made it meanwhile.
         finally:
             shutil.rmtree(part, ignore_errors=True)
     return Disk(*(os.path.join(folder, it) for it in ("image", "vmlinuz", "initrd.img")))
