@@ -24,6 +24,8 @@ mod LifeFacts
 mod WriteFacts
 mod FormatFacts
 mod HeldFacts
+mod HintFacts
+pub mod HintLemmas
 pub mod Numbers
 pub mod PieceLemmas
 pub mod RoundTrip
