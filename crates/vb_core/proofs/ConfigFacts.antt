@@ -26,7 +26,7 @@ zeros_unless_offered = refl
 
 -- an id, STOP and DONE where FREE_PAGE_HINT is offered, and else STOP
 abbrev showing : ℕ → ℕ → Device
-showing offered id = record (new_device (offering offered)) { round = record { shown = id; last = 7; open = 0 } }
+showing offered id = record (new_device (offering offered)) { round = record { shown = id; last = 7; opened = 0 } }
 
 ids_read : map (λ id. take 4 (drop 8 (config_bytes (showing 0x100000008 id)))) (0x1020304 ∷ 1 ∷ 0 ∷ [])
     ≡ (4 ∷ 3 ∷ 2 ∷ 1 ∷ []) ∷ (1 ∷ 0 ∷ 0 ∷ 0 ∷ []) ∷ (0 ∷ 0 ∷ 0 ∷ 0 ∷ []) ∷ []

@@ -26,7 +26,7 @@ ring = record {
 }
 
 abbrev round : Round
-round = record { shown = 0xffffffff; last = 0xffffffff; open = 255 }
+round = record { shown = 0xffffffff; last = 0xffffffff; opened = 255 }
 
 abbrev device : Device
 device = record {
@@ -71,7 +71,7 @@ ring_fits = record {
 }
 
 round_fits : FitsRound round
-round_fits = record { shown = omega arith; last = omega arith; open = omega arith }
+round_fits = record { shown = omega arith; last = omega arith; opened = omega arith }
 
 holds_fit : FitsHolds (saved device)
 holds_fit = record { setting = omega arith; deflate = omega arith; pages = omega arith }
@@ -125,9 +125,9 @@ ring_past = (
 
 round_past : (FitsRound (record round { shown = 0x100000000 }) → ⊥)
     × (FitsRound (record round { last = 0x100000000 }) → ⊥)
-    × (FitsRound (record round { open = 256 }) → ⊥)
+    × (FitsRound (record round { opened = 256 }) → ⊥)
 round_past =
-    (λ f. omega (arith, f.shown), λ f. omega (arith, f.last), λ f. omega (arith, f.open))
+    (λ f. omega (arith, f.shown), λ f. omega (arith, f.last), λ f. omega (arith, f.opened))
 
 device_past : (FitsSaved (saved (record device { features = 0x10000000000000000 })) → ⊥)
     × (FitsSaved (saved (record device { target = 0x100000000 })) → ⊥)
@@ -154,7 +154,7 @@ parts_past : (FitsSaved (saved (record device { settings = record settings { nee
     × (FitsSaved (saved (record device { statistics = long })) → ⊥)
     × (FitsSaved (saved (record device { hint = long })) → ⊥)
     × (FitsSaved (saved (record device { report = long })) → ⊥)
-    × (FitsSaved (saved (record device { round = record round { open = 256 } })) → ⊥)
+    × (FitsSaved (saved (record device { round = record round { opened = 256 } })) → ⊥)
 parts_past = (
   λ f. omega (arith, f.settings.needs_must_tell),
   λ f. omega (arith, f.inflate.size),
@@ -162,7 +162,7 @@ parts_past = (
   λ f. omega (arith, f.statistics.size),
   λ f. omega (arith, f.hint.size),
   λ f. omega (arith, f.report.size),
-  λ f. omega (arith, f.round.open),
+  λ f. omega (arith, f.round.opened),
 )
 
 -- nor what is held of deflates, or may be

@@ -38,7 +38,7 @@ saved = record {
     hint = ring 0x50000 0x51000 0x52000 16 11 12;
     report = ring 0x40000 0x41000 0x42000 32 9 10;
     poison = 0xaabbccdd;
-    round = record { shown = 0x1020307; last = 0x1020307; open = 1 };
+    round = record { shown = 0x1020307; last = 0x1020307; opened = 1 };
     status = 15;
   };
   held = record { statistics = 64; deflate = 100; pages = 200 };
@@ -97,7 +97,7 @@ abbrev without_hints : Saved → Saved
 without_hints s = record s {
   device = record s.device {
     hint = ring 0 0 0 0 0 0;
-    round = record { shown = 0; last = 0; open = 0 };
+    round = record { shown = 0; last = 0; opened = 0 };
   };
 }
 
@@ -163,7 +163,7 @@ impossible : map can_be (
     ∷ with_device (λ d. record d { deflate = six })
     ∷ with_device (λ d. record d { statistics = record d.statistics { table = 1 } })
     ∷ with_device (λ d. record d { report = six }) ∷ with_device (λ d. record d { hint = six })
-    ∷ with_device (λ d. record d { round = record d.round { open = 2 } }) ∷ with_device (λ d. record d { status = 31 })
+    ∷ with_device (λ d. record d { round = record d.round { opened = 2 } }) ∷ with_device (λ d. record d { status = 31 })
     ∷ with_device (λ d. record d { features = 0x10000003c })
     ∷ with_device (λ d. record d { settings = record d.settings { memory_end = 0x100000000000 } })
     ∷ with_device (λ d. record d {

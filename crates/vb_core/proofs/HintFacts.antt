@@ -20,7 +20,7 @@ next_ids = refl
 -- ---- what each event leaves
 
 abbrev round : ℕ → ℕ → ℕ → Round
-round shown last open = record { shown = shown; last = last; open = open }
+round shown last opened = record { shown = shown; last = last; opened = opened }
 
 none_began : no_round ≡ round 0 0 0
 none_began = refl
@@ -101,6 +101,6 @@ was_heard = record {
   unheard = Reads 2 ∷ [];
   since = Reads 3 ∷ [];
   whole = refl;
-  only_ids = (refl, tt);
-  only_its_own = (refl, tt);
+  only_ids = refl;
+  only_its_own = refl;
 }

@@ -29,7 +29,7 @@ made : fresh ≡ record {
   hint = nowhere;
   report = nowhere;
   poison = 0;
-  round = record { shown = 0; last = 0; open = 0 };
+  round = record { shown = 0; last = 0; opened = 0 };
   status = 0;
 }
 made = refl

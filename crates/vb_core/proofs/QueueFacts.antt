@@ -126,8 +126,8 @@ reset : after_write 0 (record ready {
   target = 9;
   actual = 4;
   poison = 7;
-  round = record { shown = 5; last = 5; open = 1 };
-}) ≡ record fresh { target = 9; round = record { shown = 0; last = 5; open = 0 } }
+  round = record { shown = 5; last = 5; opened = 1 };
+}) ≡ record fresh { target = 9; round = record { shown = 0; last = 5; opened = 0 } }
 reset = refl
 
 acknowledged : after_write 1 fresh ≡ record fresh { status = 1 }

@@ -31,7 +31,7 @@ round_then : (r : Round) (more bytes : List ℕ) (p : ℕ) → FitsRound r → d
     ≡ in_a_row (round_parts r) more → (round_at bytes p ≡ r) × (drop (p + 9) bytes ≡ more)
 round_then r more bytes p f e = let a = u32_then r.shown _ bytes p (p + 4) f.shown refl e in
     let b = u32_then r.last _ bytes (p + 4) (p + 8) f.last (omega arith) a.1 in
-    let c = byte_then r.open _ bytes (p + 8) (p + 9) (omega arith) b.1 in
+    let c = byte_then r.opened _ bytes (p + 8) (p + 9) (omega arith) b.1 in
     (rw (a.0, b.0, c.0), c.1)
 
 -- but for what the oldest version doesn't say

@@ -210,9 +210,9 @@ no_poison = refl
 -- ---- rounds of hints
 
 abbrev hinting : ℕ → ℕ → ℕ → ℕ → ℕ → Device
-hinting status features shown last open = record (at_step status features) {
+hinting status features shown last opened = record (at_step status features) {
   settings = record settings { offered = 0x10000002b };
-  round = record { shown = shown; last = last; open = open };
+  round = record { shown = shown; last = last; opened = opened };
 }
 
 -- none began; one is shown, and one is open; STOP and DONE, before a round and after one, at any status

@@ -70,7 +70,7 @@ hold_parts s =
     (s.device.settings.holds_deflates ∷ []) ∷ u32_bytes s.held.deflate ∷ u32_bytes s.held.pages ∷ []
 
 abbrev pub round_parts : Round → List (List ℕ)
-round_parts r = u32_bytes r.shown ∷ u32_bytes r.last ∷ (r.open ∷ []) ∷ []
+round_parts r = u32_bytes r.shown ∷ u32_bytes r.last ∷ (r.opened ∷ []) ∷ []
 
 -- the queue of hints and its round, which no older version says
 abbrev pub hint_parts : Device → List (List ℕ)
@@ -197,7 +197,7 @@ abbrev pub round_at : List ℕ → ℕ → Round
 round_at bytes at = record {
   shown = u32_at bytes at;
   last = u32_at bytes (at + 4);
-  open = slice_index bytes (at + 8);
+  opened = slice_index bytes (at + 8);
 }
 
 -- a device of this version, which says more after that
@@ -242,7 +242,7 @@ pub record FitsHolds (s : Saved) : Type 0 where
 pub record FitsRound (r : Round) : Type 0 where
   pub shown : r.shown < 2 ^ 32
   pub last : r.last < 2 ^ 32
-  pub open : r.open < 256
+  pub opened : r.opened < 256
 
 pub record FitsSaved (s : Saved) : Type 0 where
   pub settings : FitsSettings s.device.settings

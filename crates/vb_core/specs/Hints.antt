@@ -1,6 +1,7 @@
 -- Rounds of free page hints (VIRTIO 1.2, 5.5.6.6), and when one is open.
 use Rattle.std.specs.Prelude.{◌≡◌, ℕ, ◌+◌, ◌^◌, Bool, true, false, not, ◌&&◌, ◌==◌, nat_le, nat_lt}
-use Rattle.std.specs.Prelude.{List, [], ◌∷◌, ◌++◌, All, if◌then◌else◌}
+use Rattle.std.specs.Prelude.{List, [], ◌∷◌, ◌++◌, if◌then◌else◌}
+use Rattle.std.specs.List.{list_all}
 use Rattle.vb_core.specs.declared.hints.Round.{Round}
 use Rattle.vb_core.specs.declared.hints.TheConstants.{STOP, DONE, FIRST_ID}
 
@@ -16,23 +17,23 @@ next_id last = if is_id (last + 1) && nat_lt (last + 1) (2 ^ 32) then last + 1 e
 
 -- No round has begun.
 abbrev pub no_round : Round
-no_round = record { shown = STOP; last = 0; open = 0 }
+no_round = record { shown = STOP; last = 0; opened = 0 }
 
 -- The driver was told of the round, and its id was read since.
 abbrev pub is_open : Round → Bool
-is_open r = is_id r.shown && not (r.open == 0)
+is_open r = not (r.opened == 0) && is_id r.shown
 
 -- A round of this id begins.
 abbrev pub begun : ℕ → Round → Round
-begun id r = record { shown = id; last = id; open = 0 }
+begun id r = record { shown = id; last = id; opened = 0 }
 
 -- The host shows STOP or DONE.
 abbrev pub showing : ℕ → Round → Round
-showing word r = record { shown = word; last = r.last; open = 0 }
+showing word r = record { shown = word; last = r.last; opened = 0 }
 
 -- This id was read: the round is open just where it is its own.
 abbrev pub heard : ℕ → Round → Round
-heard id r = record r { open = if is_id r.shown && (id == r.shown) then 1 else 0 }
+heard id r = record r { opened = if is_id r.shown && (id == r.shown) then 1 else 0 }
 
 -- ---- histories
 
@@ -77,6 +78,6 @@ pub record IsHeard (id : ℕ) (events : List RoundEvent) : Type 0 where
   pub before : List RoundEvent
   pub unheard : List RoundEvent
   pub since : List RoundEvent
-  pub whole : events ≡ before ++ Begins id ∷ unheard ++ Reads id ∷ since
-  pub only_ids : All (λ e. is_reading e ≡ true) unheard
-  pub only_its_own : All (λ e. is_reading_of id e ≡ true) since
+  pub whole : events ≡ before ++ (Begins id ∷ (unheard ++ (Reads id ∷ since)))
+  pub only_ids : list_all is_reading unheard ≡ true
+  pub only_its_own : list_all (is_reading_of id) since ≡ true

@@ -94,7 +94,7 @@ is_round d =
     ((d.round.last == 0) || is_id d.round.last && free_page_hint d.settings.offered)
     && (not (is_id d.round.shown)
     || (d.round.shown == d.round.last) && contains d.status driver_ok && not (lacks d.features Hint))
-    && ((d.round.open == 0) || (d.round.open == 1) && is_id d.round.shown)
+    && ((d.round.opened == 0) || (d.round.opened == 1) && is_id d.round.shown)
 
 abbrev pub can_be : Saved → Bool
 can_be s =

@@ -129,7 +129,7 @@ fn round_at(bytes: &[u8], at: usize) -> Round
     Round {
         shown: u32_at(bytes, at),
         last: u32_at(bytes, at + 4),
-        open: bytes[at + 8],
+        opened: bytes[at + 8],
     }
 }
 
@@ -299,7 +299,7 @@ fn push_round(out: &mut SavedBytes, round: &Round)
 {
     push_u32(out, round.shown);
     push_u32(out, round.last);
-    push_u8(out, round.open);
+    push_u8(out, round.opened);
 }
 
 /// Adds what comes before the checksum.

@@ -16,7 +16,7 @@ pub fn an_open_round_was_heard()
 
 /// And where that came, the round is open, whatever came before.
 pub fn a_round_that_was_heard_is_open()
-    ensures open { (id : ℕ) (events : List RoundEvent) (r : Round) →
+    ensures opened { (id : ℕ) (events : List RoundEvent) (r : Round) →
         are_next events r.last ≡ true → IsHeard id events →
         is_open (round_after_all events r) ≡ true }
     ensures shown { (id : ℕ) (events : List RoundEvent) (r : Round) →

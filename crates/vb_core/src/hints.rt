@@ -28,7 +28,7 @@ pub struct Round {
     /// The id of the round that began last; 0 where none has.
     pub last: u32,
     /// Unless 0, the round's id was read since it began, and nothing ended the round.
-    pub open: u8,
+    pub opened: u8,
 }
 
 /// Whether it is the id of a round, and neither `STOP` nor `DONE`.
@@ -53,7 +53,7 @@ impl Round {
     pub const NONE: Round = Round {
         shown: STOP,
         last: 0,
-        open: 0,
+        opened: 0,
     };
 
     /// Whether its id was read since it began, and nothing ended it: pages that are hinted now are
@@ -61,7 +61,7 @@ impl Round {
     pub fn is_open(&self) -> bool
         ensures { result ≡ is_open self.now }
     {
-        is_id(self.shown) && self.open != 0
+        self.opened != 0 && is_id(self.shown)
     }
 
     /// Shows `STOP` or `DONE`.
@@ -69,14 +69,14 @@ impl Round {
         ensures { self.new ≡ showing word self.old }
     {
         self.shown = word;
-        self.open = 0;
+        self.opened = 0;
     }
 
     /// Takes an id on that was read.
     fn hear(&mut self, id: u32)
         ensures { self.new ≡ heard id self.old }
     {
-        self.open = u8::from(is_id(self.shown) && id == self.shown);
+        self.opened = u8::from(is_id(self.shown) && id == self.shown);
     }
 }
 
@@ -103,7 +103,7 @@ impl Device {
         self.round = Round {
             shown: id,
             last: id,
-            open: 0,
+            opened: 0,
         };
         Ok(id)
     }

@@ -115,7 +115,7 @@ impl Device {
             && self.has(Status::DRIVER_OK)
             && !self.lacks(Kind::Hint);
         let shown = !is_id(round.shown) || begun;
-        given && shown && (round.open == 0 || round.open == 1 && is_id(round.shown))
+        given && shown && (round.opened == 0 || round.opened == 1 && is_id(round.shown))
     }
 }
 
