@@ -1,6 +1,6 @@
 //! Plans that can't be run, and ports of two tables: no frame is out afterwards.
 
-use crate::tests::leased::{Ended, Noted, Pace, Ports, Tables, run_noted};
+use crate::tests::leased::{Ended, Noted, Ports, Tables, run_noted};
 use crate::tests::notes::frames_of;
 use crate::tests::plans::{Balances, Guests, Line, SMALL};
 use std::alloc::{AllocError, Global};
@@ -9,7 +9,7 @@ use std::test::Fail;
 use std::thread::Threads;
 use std::time::Clock;
 use vb_ram::Config;
-use vb_run::{Bells, MAX_SCRIPT_CALLS, RunFault};
+use vb_run::{Bells, MAX_SCRIPT_CALLS, Pace, RunFault};
 
 /// Guests and ports, and why there is no report.
 struct Row {
@@ -178,7 +178,7 @@ impl Row {
             .plan(alloc, self.frames, Bells::Plain, balances)?;
         let ports = Ports {
             count: self.ports,
-            pace: Pace::Paced,
+            pace: Pace::Deferred,
             tables: self.tables,
             frames: self.frames,
         };

@@ -7,7 +7,7 @@ mod locks;
 mod threads;
 
 use crate::tests::holds::{Answer, Comes, Hold, Place};
-use crate::tests::leased::{Noted, Pace, Ports, Tables, run_noted};
+use crate::tests::leased::{Noted, Ports, Tables, run_noted};
 use crate::tests::plans::{Answer as Reads, Balances, Guests, Line, SMALL, are};
 use crate::tests::reading::{Balanced, first_look, first_round};
 use std::alloc::{AllocError, Global};
@@ -18,7 +18,7 @@ use std::thread::Threads;
 use std::time::Clock;
 use vb_model::Actor;
 use vb_ram::Config;
-use vb_run::{Bells, Report};
+use vb_run::{Bells, Pace, Report};
 
 /// Guests whose threads are held up.
 struct Row {
@@ -121,7 +121,7 @@ impl Row {
             .plan(alloc, self.frames, self.bells, self.balances)?;
         let ports = Ports {
             count: self.guests.count,
-            pace: Pace::Paced,
+            pace: Pace::Deferred,
             tables: Tables::Shared,
             frames: self.frames,
         };

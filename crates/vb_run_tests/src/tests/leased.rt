@@ -10,16 +10,9 @@ use std::sync::Wait;
 use std::thread::Threads;
 use std::time::Clock;
 use vb_device::{ImmediateDevice, PacedDevice};
-use vb_run::{Plan, Report, RunFault, run_threads};
+use vb_run::{Pace, Plan, Report, RunFault, run_threads};
 use vb_shared::{FramePass, Leased, SharedFrames};
 use vb_slot::LonePort;
-
-/// How a guest's device serves requests.
-#[derive(Clone, Copy, PartialEq, Eq)]
-pub(super) enum Pace {
-    Immediate,
-    Paced,
-}
 
 /// The tables of a host's frames.
 #[derive(Clone, Copy)]
@@ -113,7 +106,7 @@ fn end_of_run(
     answer: Result<Report, RunFault>,
 ) -> Result<Ended, AllocError> {
     let replays = match &answer {
-        Ok(report) => all_replay(alloc, plan, report, pace == Pace::Paced)?,
+        Ok(report) => all_replay(alloc, plan, report, pace)?,
         Err(_fault) => true,
     };
     Ok(Ended {
@@ -146,7 +139,7 @@ pub(super) fn run_leased<G: Watch, R: Threads + Wait + Sync>(
                 let port = LonePort::new(device);
                 add_watched(&mut devices, port, gate)?;
             }
-            Pace::Paced => {
+            Pace::Deferred => {
                 let device = Leased::new(PacedDevice::new(alloc), pass);
                 let device = Box::new(alloc, device)?;
                 let port = LonePort::new(device);

@@ -1,6 +1,6 @@
 //! A run with more than a thousand frames in use.
 
-use crate::tests::leased::{Noted, Pace, Ports, Tables, run_noted};
+use crate::tests::leased::{Noted, Ports, Tables, run_noted};
 use crate::tests::plans::{Line, reply_to};
 use std::alloc::{AllocError, Global};
 use std::sync::Wait;
@@ -9,7 +9,7 @@ use std::thread::Threads;
 use std::time::Clock;
 use vb_model::{Call, Reply};
 use vb_ram::Config;
-use vb_run::{Bells, GuestPlan, GuestReport, Plan};
+use vb_run::{Bells, GuestPlan, GuestReport, Pace, Plan};
 
 /// A guest of 1,024 pages, of which the upper half is one block.
 const LARGE: Config = Config {
@@ -61,7 +61,7 @@ fn run<R: Threads + Wait + Clock + Sync>(rt: &R, alloc: Global) -> Result<Noted,
     let plan = plan(alloc)?;
     let ports = Ports {
         count: 2,
-        pace: Pace::Paced,
+        pace: Pace::Deferred,
         tables: Tables::Shared,
         frames: FRAMES,
     };

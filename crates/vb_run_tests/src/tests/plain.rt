@@ -14,7 +14,7 @@ pub(crate) use rows::{Act, Row, Said, rows_of};
 use std::alloc::{AllocError, Global};
 use vb_model::{Claim, Place};
 use vb_ram::Config;
-use vb_run::Entry;
+use vb_run::{Entry, Pace};
 use vb_virtio::Refusal;
 use vb_virtio::layout::{DEFLATE_QUEUE, INFLATE_QUEUE, REPORT_QUEUE, STATISTICS_QUEUE};
 use vb_virtio::limits::{MAX_ORDER, PAGE_SIZE};
@@ -44,7 +44,7 @@ enum Buffer {
 #[derive(Drop)]
 pub(crate) struct PlainGuest {
     config: Config,
-    is_paced: bool,
+    pace: Pace,
     is_ready: bool,
     pages: Pages,
     held: Vec<Block>,
@@ -101,10 +101,10 @@ fn is_refused(row: &Row<'_>, refusal: Refusal, most: usize) -> bool {
 
 impl PlainGuest {
     /// A guest as it is plugged in.
-    pub fn new(alloc: Global, config: Config, is_paced: bool) -> Result<PlainGuest, AllocError> {
+    pub fn new(alloc: Global, config: Config, pace: Pace) -> Result<PlainGuest, AllocError> {
         Ok(PlainGuest {
             config,
-            is_paced,
+            pace,
             is_ready: false,
             pages: Pages::new(alloc, config.pages, reserved_pages(config.queue_size))?,
             held: Vec::new(alloc),
@@ -330,9 +330,9 @@ pub(crate) fn played(
     alloc: Global,
     rows: &[Row<'_>],
     config: Config,
-    is_paced: bool,
+    pace: Pace,
 ) -> Result<Option<PlainGuest>, AllocError> {
-    let mut guest = PlainGuest::new(alloc, config, is_paced)?;
+    let mut guest = PlainGuest::new(alloc, config, pace)?;
     match guest.permits_all(alloc, rows) {
         Ok(true) => Ok(Some(guest)),
         Ok(false) => Ok(None),
@@ -345,9 +345,9 @@ pub(crate) fn are_permitted(
     alloc: Global,
     rows: &[Row<'_>],
     config: Config,
-    is_paced: bool,
+    pace: Pace,
 ) -> Result<bool, AllocError> {
-    Ok(played(alloc, rows, config, is_paced)?.is_some())
+    Ok(played(alloc, rows, config, pace)?.is_some())
 }
 
 /// Whether each entry of the history may come next, from plug on.
@@ -355,8 +355,8 @@ pub(crate) fn accepts(
     alloc: Global,
     history: &[Entry],
     config: Config,
-    is_paced: bool,
+    pace: Pace,
 ) -> Result<bool, AllocError> {
     let rows = rows_of(alloc, history)?;
-    are_permitted(alloc, rows.as_slice(), config, is_paced)
+    are_permitted(alloc, rows.as_slice(), config, pace)
 }

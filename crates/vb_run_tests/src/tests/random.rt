@@ -1,7 +1,7 @@
 //! Random plans: each that is run gives a report in which every history replays, and what its
 //! threads noted is as it must be.
 
-use crate::tests::leased::{Noted, Pace, Ports, Tables, run_noted};
+use crate::tests::leased::{Noted, Ports, Tables, run_noted};
 use rand_core::Rng;
 use rand_pcg::Pcg32;
 use std::alloc::{AllocError, Global};
@@ -11,7 +11,7 @@ use std::thread::Threads;
 use std::time::Clock;
 use vb_model::{Bytes, Call};
 use vb_ram::Config;
-use vb_run::{Bells, GuestPlan, Plan};
+use vb_run::{Bells, GuestPlan, Pace, Plan};
 
 // How much is tried here. `tools/soak-threads` tries more of larger plans, with other numbers in
 // these five lines.
@@ -165,7 +165,7 @@ fn random_plans_replay(rt: HostRuntime) -> Result<(), Fail> {
         let pace = if below(&mut numbers, 2) == 0 {
             Pace::Immediate
         } else {
-            Pace::Paced
+            Pace::Deferred
         };
         let noted = run(&rt, alloc, &plan, pace)?;
         let broken = noted.broken;

@@ -10,7 +10,7 @@ use super::plain::{Act, Row, Said, played, rows_of};
 pub(crate) use changes::first_missed;
 use std::alloc::{AllocError, Global};
 use vb_model::{Actor, Call, Reply};
-use vb_run::{GuestPlan, GuestReport, Plan, Report, Round};
+use vb_run::{GuestPlan, GuestReport, Pace, Plan, Report, Round};
 
 /// What a guest's report is compared with.
 #[derive(Clone, Copy)]
@@ -21,8 +21,8 @@ pub(crate) struct Case<'a> {
     /// The balancer's floor and rounds.
     pub floor: u32,
     pub rounds: &'a [Round],
-    /// Whether the guest is on a paced device.
-    pub is_paced: bool,
+    /// The pace of the guest's device.
+    pub pace: Pace,
 }
 
 /// The case of the guest of this number, on a device of this pace.
@@ -30,7 +30,7 @@ pub(crate) fn case_of<'a>(
     plan: &'a Plan,
     report: &'a Report,
     guest: u32,
-    is_paced: bool,
+    pace: Pace,
 ) -> Option<Case<'a>> {
     let own = plan.guests.get(guest as usize)?;
     Some(Case {
@@ -38,7 +38,7 @@ pub(crate) fn case_of<'a>(
         plan: own,
         floor: plan.floor,
         rounds: report.rounds.as_slice(),
-        is_paced,
+        pace,
     })
 }
 
@@ -47,11 +47,11 @@ pub(crate) fn all_replay(
     alloc: Global,
     plan: &Plan,
     report: &Report,
-    is_paced: bool,
+    pace: Pace,
 ) -> Result<bool, AllocError> {
     let mut guest = 0u32;
     for own in &report.guests {
-        let Some(case) = case_of(plan, report, guest, is_paced) else {
+        let Some(case) = case_of(plan, report, guest, pace) else {
             return Ok(false);
         };
         if !replays(alloc, own, &case)? {
@@ -95,7 +95,7 @@ fn ends(
     report: &GuestReport,
     case: &Case<'_>,
 ) -> Result<bool, AllocError> {
-    let Some(last) = played(alloc, rows, case.plan.config, case.is_paced)? else {
+    let Some(last) = played(alloc, rows, case.plan.config, case.pace)? else {
         return Ok(false);
     };
     let frames = last.frames(alloc)?;

@@ -1,6 +1,6 @@
 //! Two guests with each way of ringing, and hosts that are too small.
 
-use crate::tests::leased::{Ended, Noted, Pace, Ports, Tables, run_leased, run_noted};
+use crate::tests::leased::{Ended, Noted, Ports, Tables, run_leased, run_noted};
 use crate::tests::plans::{Answer, Balances, Guests, Line, SMALL, are};
 use crate::tests::reading::{Balanced, first_look, first_round, sets_a_target};
 use std::alloc::{AllocError, Global};
@@ -9,7 +9,7 @@ use std::test::Fail;
 use std::thread::Threads;
 use std::time::Clock;
 use vb_model::Reply;
-use vb_run::{Bells, Caller, GuestReport, Note, OpenGate};
+use vb_run::{Bells, Caller, GuestReport, Note, OpenGate, Pace};
 use vb_virtio::Refusal;
 
 /// A run of one plan, and what it leaves at each guest.
@@ -53,7 +53,7 @@ pub(super) static TWO_GUESTS: Row = Row {
     ],
     start: Start::Ready,
     frames: 64,
-    pace: Pace::Paced,
+    pace: Pace::Deferred,
     balances: Balances {
         floor: 16,
         count: 2,
@@ -88,7 +88,7 @@ static SHORT: Row = Row {
     answers: &[],
     start: Start::Ready,
     frames: 13,
-    pace: Pace::Paced,
+    pace: Pace::Deferred,
     balances: Balances {
         floor: 64,
         count: 1,

@@ -1,12 +1,12 @@
 //! Runs of many rounds and of the largest table, and the room that a history has from the start.
 
-use crate::tests::leased::{Ended, Pace, Ports, Tables, run_leased};
+use crate::tests::leased::{Ended, Ports, Tables, run_leased};
 use crate::tests::plans::{Balances, Guests, Line, SMALL};
 use std::alloc::{AllocError, Global};
 use std::sync::Wait;
 use std::thread::Threads;
 use vb_ram::Config;
-use vb_run::{Bells, OpenGate, Report};
+use vb_run::{Bells, OpenGate, Pace, Report};
 use vb_virtio::limits::MAX_FRAMES;
 
 /// A guest of two processors, and what the balancer does.
@@ -70,7 +70,7 @@ impl Row {
         let plan = guests.plan(alloc, self.frames, Bells::Plain, balances)?;
         let ports = Ports {
             count: 1,
-            pace: Pace::Paced,
+            pace: Pace::Deferred,
             tables: Tables::Shared,
             frames: self.frames,
         };

@@ -3,6 +3,7 @@
 use super::requests::Stage;
 use super::{Buffer, PlainGuest, Said};
 use std::alloc::AllocError;
+use vb_run::Pace;
 use vb_virtio::Refusal;
 use vb_virtio::layout::{DEFLATE_QUEUE, INFLATE_QUEUE, REPORT_QUEUE};
 use vb_virtio::limits::MAX_OUTSTANDING;
@@ -32,9 +33,9 @@ impl PlainGuest {
         }
     }
 
-    /// A paced device visits one page: of an inflate before any of a report.
+    /// A device of deferred pace visits one page: of an inflate before any of a report.
     pub(super) fn work(&mut self) -> Said<'static> {
-        if !self.is_paced {
+        if self.pace == Pace::Immediate {
             return Said::Idle;
         }
         let inflated = self.requests.visit(INFLATE_QUEUE);
@@ -46,10 +47,11 @@ impl PlainGuest {
         Said::Worked(page, freed)
     }
 
-    /// The oldest taken request is used. A paced device has visited each of its pages, but of a
-    /// deflate.
+    /// The oldest taken request is used. A device of deferred pace has visited each of its pages,
+    /// but of a deflate.
     pub(super) fn finish(&mut self, queue: u32) -> Result<Said<'static>, AllocError> {
-        if self.is_paced && queue != DEFLATE_QUEUE && self.requests.is_unvisited(queue) {
+        let is_deferred = self.pace == Pace::Deferred && queue != DEFLATE_QUEUE;
+        if is_deferred && self.requests.is_unvisited(queue) {
             return Ok(Said::Refused(Refusal::NotWorked));
         }
         let Some(request) = self.requests.pop(queue, Stage::Taken) else {

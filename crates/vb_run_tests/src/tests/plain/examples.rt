@@ -8,7 +8,7 @@ use std::process::Abort;
 use std::test::Fail;
 use vb_model::{Actor, Claim};
 use vb_ram::Config;
-use vb_run::GuestPlan;
+use vb_run::{GuestPlan, Pace};
 use vb_virtio::Refusal;
 
 type Line = (Act<'static>, &'static [Claim], Said<'static>);
@@ -155,7 +155,7 @@ fn check_lines(
     alloc: Global,
     lines: &'static [Line],
     config: Config,
-    is_paced: bool,
+    pace: Pace,
 ) -> Result<(), AllocError> {
     let plan = GuestPlan {
         config,
@@ -166,13 +166,13 @@ fn check_lines(
         plan: &plan,
         floor: 0,
         rounds: &[],
-        is_paced,
+        pace,
     };
     let rows = rows_in(alloc, lines)?;
-    let is_right = are_permitted(alloc, rows.as_slice(), config, is_paced)?;
-    assert!(rt; is_right, "paced: {is_paced}");
+    let is_right = are_permitted(alloc, rows.as_slice(), config, pace)?;
+    assert!(rt; is_right, "{pace:?}");
     let missed = first_missed(alloc, rows.as_slice(), &case, None)?;
-    assert!(rt; missed.is_none(), "paced: {is_paced}, {missed:?}");
+    assert!(rt; missed.is_none(), "{pace:?}, {missed:?}");
     Ok(())
 }
 
@@ -188,7 +188,7 @@ fn examples_are_exact(rt: HostRuntime) -> Result<(), Fail> {
         queue_size: 2,
         processors: 2,
     };
-    check_lines(&rt, rt.alloc(), &PACED, paced, true)?;
-    check_lines(&rt, rt.alloc(), &IMMEDIATE, immediate, false)?;
+    check_lines(&rt, rt.alloc(), &PACED, paced, Pace::Deferred)?;
+    check_lines(&rt, rt.alloc(), &IMMEDIATE, immediate, Pace::Immediate)?;
     Ok(())
 }

@@ -268,7 +268,7 @@ fn is_accepted(
     report: Option<&GuestReport>,
 ) -> Result<bool, AllocError> {
     if judge == Judge::Guest {
-        return are_permitted(alloc, rows, case.plan.config, case.is_paced);
+        return are_permitted(alloc, rows, case.plan.config, case.pace);
     }
     match report {
         Some(report) if judge == Judge::Report => is_replay(alloc, rows, report, case),

@@ -1,7 +1,7 @@
 //! Runs whose reports are replayed, and whose changed histories are refused.
 
 use super::{case_of, first_missed};
-use crate::tests::leased::{Pace, Ports, Tables, run_leased};
+use crate::tests::leased::{Ports, Tables, run_leased};
 use crate::tests::plain::rows_of;
 use crate::tests::plans::{Balances, Guests, Line};
 use std::alloc::{AllocError, Global};
@@ -10,7 +10,7 @@ use std::sync::Wait;
 use std::test::Fail;
 use std::thread::Threads;
 use vb_ram::Config;
-use vb_run::{Bells, OpenGate, Plan, Report};
+use vb_run::{Bells, OpenGate, Pace, Plan, Report};
 
 /// Two guests, whose processors use a page and drive the balloon at the same time.
 static GUESTS: Guests = Guests {
@@ -60,19 +60,16 @@ fn check_changes(
     plan: &Plan,
     report: &Report,
     guest: u32,
-    is_paced: bool,
+    pace: Pace,
 ) -> Result<(), AllocError> {
     let own = report.guests.get(guest as usize);
-    let (Some(own), Some(case)) = (own, case_of(plan, report, guest, is_paced)) else {
+    let (Some(own), Some(case)) = (own, case_of(plan, report, guest, pace)) else {
         return Ok(());
     };
     let entries = own.entries(alloc, guest, case.plan)?;
     let rows = rows_of(alloc, entries.as_slice())?;
     let missed = first_missed(alloc, rows.as_slice(), &case, Some(own))?;
-    assert!(rt;
-        missed.is_none(),
-        "guest {guest}, paced: {is_paced}, {missed:?}"
-    );
+    assert!(rt; missed.is_none(), "guest {guest}, {pace:?}, {missed:?}");
     Ok(())
 }
 
@@ -95,16 +92,15 @@ fn check_pace<R: Threads + Wait + Sync + Abort>(
     let Ok(report) = ended.result else {
         return Err(AllocError);
     };
-    let is_paced = pace == Pace::Paced;
     for guest in 0..2 {
-        check_changes(rt, alloc, &plan, &report, guest, is_paced)?;
+        check_changes(rt, alloc, &plan, &report, guest, pace)?;
     }
     Ok(())
 }
 
 #[test]
 fn reports_are_replayed(rt: HostRuntime) -> Result<(), Fail> {
-    check_pace(&rt, rt.alloc(), Pace::Paced, Bells::Late)?;
+    check_pace(&rt, rt.alloc(), Pace::Deferred, Bells::Late)?;
     check_pace(&rt, rt.alloc(), Pace::Immediate, Bells::Plain)?;
     Ok(())
 }

@@ -26,11 +26,11 @@ new-port-requires g c =
       ap (λ (p : Part). p.own) c.new-device.ensures.part ∙ held,
     )
 
-pub new-port-requires-in-Paced : goal.new-port-requires-in-Paced
-new-port-requires-in-Paced g c =
+pub new-port-requires-in-Deferred : goal.new-port-requires-in-Deferred
+new-port-requires-in-Deferred g c =
     let held = ap (λ (p : Pass). p.held) c.give_back_all.ensures in
-    let device = c.in_ok-device-in-Paced.device.value in
-    let box = c.into_dyn_box-in-Paced in
+    let device = c.in_ok-device-in-Deferred.device.value in
+    let box = c.into_dyn_box-in-Deferred in
     let part : (own-1.entry box.result.vtable).1.GuestBytes.part box.result.value
     ≡ (own-1.entry at-1-2).1.GuestBytes.part device = read_made own-1
     (own-1.entry at-1-2) at-1-2 refl Part (λ entry made. entry.1.GuestBytes.part made)
@@ -39,10 +39,10 @@ new-port-requires-in-Paced g c =
     ≡ (own-1.entry at-1-2).1.GuestBytes.mem device = read_made own-1
     (own-1.entry at-1-2) at-1-2 refl Pages (λ entry made. entry.1.GuestBytes.mem made)
     box.result.vtable box.result.value device box.ensures.1 in
-    rw (part, mem, c.in_ok-device-in-Paced.ensures.ok, c.new-device-in-Paced.ensures.mem, c.new-device-in-Paced.ensures.part) (
+    rw (part, mem, c.in_ok-device-in-Deferred.ensures.ok, c.new-device-in-Deferred.ensures.mem, c.new-device-in-Deferred.ensures.part) (
       record {
-        no_memory = c.new-in-Paced.ensures.unused.no_memory;
-        no_frames = c.new-in-Paced.ensures.unused.no_frames;
+        no_memory = c.new-in-Deferred.ensures.unused.no_memory;
+        no_frames = c.new-in-Deferred.ensures.unused.no_frames;
       },
-      ap (λ (p : Part). p.own) c.new-device-in-Paced.ensures.part ∙ held,
+      ap (λ (p : Part). p.own) c.new-device-in-Deferred.ensures.part ∙ held,
     )
