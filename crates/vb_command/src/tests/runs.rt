@@ -60,6 +60,15 @@ impl Play for Starved {
     }
 }
 
+/// How long a stream fails once it has failed.
+#[derive(Clone, Copy, PartialEq, Eq)]
+enum Failing {
+    /// From then on.
+    ForGood,
+    /// At one call: it works again after it, with room for all bytes.
+    Once,
+}
+
 /// What goes wrong with the streams of a run.
 #[derive(Clone, Copy)]
 struct Faults {
@@ -71,8 +80,7 @@ struct Faults {
     call: usize,
     /// The most bytes that one call writes.
     most: usize,
-    /// Whether a stream that has failed works again from then on.
-    heals: bool,
+    failing: Failing,
     /// Whether what was written can't be flushed.
     holds: bool,
 }
@@ -83,7 +91,7 @@ const NONE: Faults = Faults {
     room: usize::MAX,
     call: 0,
     most: usize::MAX,
-    heals: false,
+    failing: Failing::ForGood,
     holds: false,
 };
 
@@ -120,7 +128,7 @@ impl Write for Flaky<'_> {
         self.calls = self.calls.saturating_add(1);
         let room = self.room.saturating_sub(self.text.len());
         if self.calls == self.faults.call || room == 0 {
-            if self.faults.heals {
+            if self.faults.failing == Failing::Once {
                 self.room = usize::MAX;
             }
             return Err(io::Error::from(ErrorKind::BrokenPipe));
@@ -262,26 +270,29 @@ fn nothing_is_written_where_reading_fails_at_any_byte(rt: HostRuntime) {
 
 /// Whether a run on a stream with room for `room` bytes fails, and has written this much of its
 /// replies, or of these and what comes after them.
-fn fails_at(alloc: Global, room: usize, heals: bool) -> bool {
+fn fails_at(alloc: Global, room: usize, failing: Failing) -> bool {
     let (script, replies) = (SPOKEN.0, SPOKEN.1);
     let faults = Faults {
         room,
-        heals,
+        failing,
         ..NONE
     };
     let outcome = run(alloc, &mut Host, script, faults);
     outcome.status == 4
         && outcome.errors.is_empty()
         && outcome.output.len() >= room
-        && (heals || outcome.output.len() == room)
+        && (failing == Failing::Once || outcome.output.len() == room)
         && replies.starts_with(&outcome.output)
 }
 
 #[test]
 fn what_is_written_where_writing_fails_at_any_byte_is_true(rt: HostRuntime) {
     for room in 0..SPOKEN.1.len() {
-        assert!(rt; fails_at(rt.alloc(), room, false), "at byte {room}");
-        assert!(rt; fails_at(rt.alloc(), room, true), "at byte {room}");
+        assert!(rt;
+            fails_at(rt.alloc(), room, Failing::ForGood),
+            "at byte {room}"
+        );
+        assert!(rt; fails_at(rt.alloc(), room, Failing::Once), "at byte {room}");
     }
 }
 

@@ -165,12 +165,19 @@ fn what_cant_be_written_is_status_4(rt: HostRuntime) {
     }
 }
 
-/// A writer that shows what it was given once it is flushed, if it can be.
+/// How a flush of a writer ends.
+#[derive(Clone, Copy, PartialEq, Eq)]
+enum Flush {
+    Works,
+    Fails,
+}
+
+/// A writer that shows what it was given once it is flushed.
 #[derive(Drop)]
 struct Holding {
     held: Vec<u8>,
     shown: Vec<u8>,
-    sticks: bool,
+    flush: Flush,
 }
 
 impl Write for Holding {
@@ -180,7 +187,7 @@ impl Write for Holding {
     }
 
     fn flush(&mut self) -> io::Result<()> {
-        if self.sticks {
+        if self.flush == Flush::Fails {
             return Err(io::Error::from(ErrorKind::BrokenPipe));
         }
         self.shown.extend_from_slice(self.held.as_slice())?;
@@ -190,11 +197,11 @@ impl Write for Holding {
 }
 
 /// Runs the guests of a script over such a writer: what it shows at the end, and the exit status.
-fn run_held<R: Threads + Wait + Sync>(rt: &R, alloc: Global, sticks: bool) -> (Vec<u8>, u8) {
+fn run_held<R: Threads + Wait + Sync>(rt: &R, alloc: Global, flush: Flush) -> (Vec<u8>, u8) {
     let mut out = Holding {
         held: Vec::new(alloc),
         shown: Vec::new(alloc),
-        sticks,
+        flush,
     };
     let mut errors = Vec::new(alloc);
     let script = b"host 12\nspare paced\nplug 64 8 1\nalloc 0 0 0\ninflate 0 1\n".as_slice();
@@ -202,16 +209,16 @@ fn run_held<R: Threads + Wait + Sync>(rt: &R, alloc: Global, sticks: bool) -> (V
     (out.shown, status)
 }
 
-/// Whether a flush fails, what is shown then, and the exit status.
-static FLUSHED: [(bool, &str, u8); 2] = [
-    (false, "guest 0 calls 2 frames 0\ndisjoint\n", 0),
-    (true, "", 4),
+/// How a flush ends, what is shown then, and the exit status.
+static FLUSHED: [(Flush, &str, u8); 2] = [
+    (Flush::Works, "guest 0 calls 2 frames 0\ndisjoint\n", 0),
+    (Flush::Fails, "", 4),
 ];
 
 #[test]
 fn a_report_is_flushed(rt: HostRuntime) {
-    for (sticks, expected, status) in &FLUSHED {
-        let (shown, ended) = run_held(&rt, rt.alloc(), *sticks);
+    for (flush, expected, status) in &FLUSHED {
+        let (shown, ended) = run_held(&rt, rt.alloc(), *flush);
         assert!(rt; shown.as_slice() == expected.as_bytes());
         assert!(rt; ended == *status);
     }
