@@ -85,20 +85,28 @@ fn init<K: FrameKeeper>(slot: &mut Slot, keeper: &mut K) -> Result<(), Refusal>
     slot.init(keeper, FEATURES)
 }
 
-/// Bytes are written to page 16, which an allocation holds, or past the driver.
+/// Who writes bytes to a page.
+#[derive(Clone, Copy)]
+enum Writer {
+    /// The guest, to a page that an allocation holds.
+    Guest,
+    /// A rogue one, past its driver.
+    Rogue,
+}
+
+/// Bytes are written to page 16, which an allocation holds.
 fn put<K: FrameKeeper>(
     slot: &mut Slot,
     keeper: &mut K,
-    held: bool,
+    writer: Writer,
     bytes: &Bytes,
 ) -> Result<(), Refusal>
     requires { (keeps : Bool) × (g : Guest) × stands_for keeps mem part slot.old g }
     ensures { (keeps : Bool) × (g : Guest) × stands_for keeps mem part slot.new g }
 {
-    if held {
-        slot.write(keeper, 16, 0, bytes)
-    } else {
-        slot.scribble(keeper, 16, 0, bytes)
+    match writer {
+        Writer::Guest => slot.write(keeper, 16, 0, bytes),
+        Writer::Rogue => slot.scribble(keeper, 16, 0, bytes),
     }
 }
 
@@ -123,17 +131,17 @@ fn start_twice(rt: &impl Abort, slot: &mut Slot, keeper: &mut Wanting, refused: 
 }
 
 /// Bytes that find no memory for the frame of their page, and the same bytes again.
-fn put_twice(rt: &impl Abort, alloc: Global, slot: &mut Slot, keeper: &mut Wanting, held: bool)
+fn put_twice(rt: &impl Abort, alloc: Global, slot: &mut Slot, keeper: &mut Wanting, writer: Writer)
     requires { (keeps : Bool) × (g : Guest) × stands_for keeps mem part slot.old g }
 {
     let bytes = two_bytes(rt, alloc);
     assert!(rt; alloc_page(slot) == Ok(16));
-    let answer = put(slot, keeper, held, &bytes);
+    let answer = put(slot, keeper, writer, &bytes);
     assert!(rt;
         answer == Err(Refusal::NoMemory) && slot.claimed() == [Claim::GaveNoMemory].as_slice()
     );
     assert!(rt; slot.backing(16).is_none() && keeper.table.used() == 0);
-    let answer = put(slot, keeper, held, &bytes);
+    let answer = put(slot, keeper, writer, &bytes);
     assert!(rt; answer == Ok(()) && slot.claimed() == [Claim::Gave(0)].as_slice());
     assert!(rt; slot.backing(16) == Some(0) && keeper.table.used() == 1);
 }
@@ -143,17 +151,15 @@ fn put_twice(rt: &impl Abort, alloc: Global, slot: &mut Slot, keeper: &mut Wanti
 enum Twice {
     /// A start, at this claim of its.
     Start(usize),
-    /// A write to a page that is held.
-    Write,
-    /// One past the driver.
-    Scribble,
+    /// A write by this one.
+    Write(Writer),
 }
 
 /// A guest of 64 pages does something twice.
 fn play(rt: &impl Abort, alloc: Global, what: Twice) {
     let refused = match what {
         Twice::Start(refused) => refused,
-        Twice::Write | Twice::Scribble => 0,
+        Twice::Write(_) => 0,
     };
     let mut keeper = Wanting::new(rt, alloc, refused);
     let Ok(device) = Box::new(alloc, ImmediateDevice::new(alloc)) else {
@@ -169,8 +175,7 @@ fn play(rt: &impl Abort, alloc: Global, what: Twice) {
     };
     match what {
         Twice::Start(_) => start_twice(rt, &mut slot, &mut keeper, refused),
-        Twice::Write => put_twice(rt, alloc, &mut slot, &mut keeper, true),
-        Twice::Scribble => put_twice(rt, alloc, &mut slot, &mut keeper, false),
+        Twice::Write(writer) => put_twice(rt, alloc, &mut slot, &mut keeper, writer),
     }
 }
 
@@ -183,6 +188,6 @@ fn a_start_that_finds_no_memory_keeps_no_frame(rt: HostRuntime) {
 
 #[test]
 fn bytes_that_find_no_memory_leave_their_page_bare(rt: HostRuntime) {
-    play(&rt, rt.alloc(), Twice::Write);
-    play(&rt, rt.alloc(), Twice::Scribble);
+    play(&rt, rt.alloc(), Twice::Write(Writer::Guest));
+    play(&rt, rt.alloc(), Twice::Write(Writer::Rogue));
 }
