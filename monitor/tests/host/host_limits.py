@@ -1,18 +1,20 @@
-"""A guest that reads all its memory past its driver, /dev/mem, within a limit of the kernel's, which is a tmpfs's size or a cgroup's memory:
-nobody else is hurt."""
+"""A guest that reads all its memory past its driver, within a limit of the kernel's, which is a tmpfs's size or a cgroup's memory: nobody else is
+hurt."""
 
 import functools
 import os
 
-from host_checks import eventually, finish, names
+from host_checks import eventually, finish
 from host_places import Cgroup, Mount, cgroups
 from host_strict import look, outside
 from linux_guest import PAGES_PER_MIB
 from linux_host import LEFT, Member
 from linux_kit import Fault, Missing, demand
-from linux_vmms import Uml
 
 MEMORY, BUDGET, DAY = 256, 480, 10
+
+# The budget of a pair while the rogue guest has to give: both couldn't have come on that.
+SMALL_BUDGET = 300
 
 # MiB of the rogue guest beside its loan. In a tmpfs: what its kernel keeps, and doesn't hand over; in a cgroup its processes' own memory, too.
 OVERHEADS = {"tmpfs": 16, "cgroup": 64}
@@ -37,21 +39,24 @@ def loan_of(town, name):
 
 def squeeze(town, rogue, limit, overhead):
     """Has the other guests want memory until the rogue one has given most of its own, and its limit follows."""
+    if len(town.members) == 2:
+        town.host.demand(f"budget {SMALL_BUDGET}")
     for it in town.members:
         if it is not rogue:
             it.fill("squeeze", SQUEEZE)
     half = MEMORY * PAGES_PER_MIB / 2
-    eventually(lambda: loan_of(town, rogue.name) < half, lambda: f"{rogue.name} gives too little: {town.host.guests()}", DONE_IN)
+    done_in = DONE_IN * town.vmm.patience
+    eventually(lambda: loan_of(town, rogue.name) < half, lambda: f"{rogue.name} gives too little: {town.host.guests()}", done_in)
     follows = lambda: limit.pages() <= loan_of(town, rogue.name) + (overhead + 1) * PAGES_PER_MIB
-    eventually(follows, lambda: f"the limit is {limit.pages()} pages", DONE_IN)
+    eventually(follows, lambda: f"the limit is {limit.pages()} pages", done_in)
+    town.host.demand(f"budget {town.budget}")
 
 
 def read_all(rogue, limit):
     """Has it read all; returns how that ended: not well, and it never held more than its limit."""
     most = limit.pages()
     try:
-        rogue.guest.begin("read_all")
-        status, said = rogue.guest.end("read_all", DONE_IN)
+        status, said = rogue.read_all(DONE_IN)
         ended = f"status {status}: {said[-1:]}"
         demand(status != 0, "it has read all its memory")
     except Fault as fault:
@@ -62,12 +67,11 @@ def read_all(rogue, limit):
 
 def rogue_run(bench, kind):
     """Two guests at work beside one that reads all its memory."""
-    if not isinstance(bench.vmm, Uml):
-        raise Missing("the memory of a guest in a place of its own is for User Mode Linux")
     limit, overhead = limit_of(kind, f"{bench.folder}/{kind}"), OVERHEADS[kind]
+    guests, budget = bench.crowd(3, BUDGET)
     try:
-        with bench.town(BUDGET, ("--strict",)) as town:
-            town.settle_in(names(2), MEMORY)
+        with bench.town(budget, ("--strict",)) as town:
+            town.settle_in(guests[:-1], MEMORY)
             rogue = Member(town.host, town.vmm, "rogue", MEMORY, f"overhead={overhead} limit={limit.term}", **limit.member())
             rogue.boot()
             town.members.append(rogue)
@@ -77,19 +81,19 @@ def rogue_run(bench, kind):
             ended = read_all(rogue, limit)
             town.members.remove(rogue)
             rogue.kill()
-            return f"it held {held >> 8} of {most >> 8} MiB of {MEMORY}, and ended by: {ended}; {others_go_on(town)}"
+            return f"it held {held >> 8} of {most >> 8} MiB of {MEMORY}, and ended by: {ended}; {others_go_on(town, budget)}"
     finally:
         limit.end()
 
 
-def others_go_on(town):
+def others_go_on(town, budget):
     """The others have their bytes, and work for a while."""
     for it in town.members:
         it.drop("squeeze")
     waits = []
-    town.live(DAY, 1, BUDGET - LEFT * 2, lambda _: look(town, waits))
+    town.live(DAY, 1, budget - LEFT * len(town.members), lambda _: look(town, waits))
     kept = sum(outside(town))
-    above = sum(sum(it.held) - kept > BUDGET for it in town.samples)
+    above = sum(sum(it.held) - kept > budget for it in town.samples)
     demand(above == 0, f"{above} of {len(town.samples)} looks above the budget")
     finish(town)
     return f"{len(town.samples)} looks, 0 above"

@@ -3,29 +3,32 @@
 import random
 import threading
 
-from host_checks import finish, names
+from host_checks import finish
 from host_killed import Town, check_looks
 from host_strict import MEMORY, look
 from linux_host import LEFT
-from linux_kit import Missing, demand
-from linux_vmms import Uml
+from linux_kit import demand
 
-# MiB for three guests of which two work; the lives of the third, and the MiB that it fills in each; the most seconds of the work, which ends with
-# those lives.
+# MiB for three guests of which two work; the lives of the third, of which there are half as many under emulation, and the MiB that it fills in
+# each; the most seconds of the work, which ends with those lives.
 BUDGET, LIVES, MOST_FILL, LONGEST_DAY = 480, 8, 90, 600
+
+# The budget of a pair, and the MiB of its floor: where the one that reboots wants all its memory at once, and the other one, which works, waits for
+# more than is left then, both would wait for good.
+PAIR_BUDGET, FLOOR = 430, 12
 
 
 class Lives(threading.Thread):
     """A guest that fills its memory and reboots, or panics and is started anew, over and over."""
 
-    def __init__(self, town, member):
+    def __init__(self, town, member, count):
         super().__init__(daemon=True)
-        self.town, self.member, self.fault, self.ended = town, member, None, 0
+        self.town, self.member, self.count, self.fault, self.ended = town, member, count, None, 0
 
     def run(self):
         chance = random.Random("reboots")
         try:
-            while self.ended < LIVES:
+            while self.ended < self.count:
                 self.member.fill("work", chance.randint(20, MOST_FILL))
                 with self.town.changes:
                     guest = self.member.take()
@@ -36,25 +39,35 @@ class Lives(threading.Thread):
         self.town.ended.set()
 
 
+def limit_of(town, budget):
+    """Returns the MiB that all may use together: of a pair what leaves the one that reboots all its memory."""
+    if len(town.members) > 2:
+        return budget - LEFT * len(town.members) - MOST_FILL
+    return budget - MEMORY - LEFT - FLOOR + town.used_mib(town.members[-1:])
+
+
 def reboots_run(bench):
     """Two guests at work beside one that reboots and panics: none of them loses a byte, and no look finds more than the budget."""
-    if not isinstance(bench.vmm, Uml):
-        raise Missing("a reboot within a process is for User Mode Linux")
-    with bench.town(BUDGET, ("--strict",), kind=Town) as town:
-        town.settle_in(names(3), MEMORY)
-        lives, waits = Lives(town, town.members[-1]), []
+    guests, budget = bench.crowd(3, BUDGET)
+    budget = budget if len(guests) > 2 else PAIR_BUDGET
+    with bench.town(budget, ("--strict",), kind=Town) as town:
+        town.settle_in(guests, MEMORY)
+        count = LIVES if bench.vmm.patience == 1 else LIVES // 2
+        lives, waits = Lives(town, town.members[-1], count), []
 
         def every(_):
             if lives.ident is None:
                 lives.start()
             look(town, waits)
 
-        town.live(LONGEST_DAY, "reboots", BUDGET - LEFT * 3 - MOST_FILL, every, town.members[:-1])
+        town.live(LONGEST_DAY, "reboots", limit_of(town, budget), every, town.members[:-1])
         lives.join()
         demand(lives.fault is None, f"a guest that reboots and panics: {lives.fault}")
         town.ended.clear()
-        most = check_looks(town, BUDGET)
+        most = check_looks(town, budget)
         finish(town)
         counters = town.host.counters()
-        demand((counters["gone"], counters["admitted"], counters["refused"]) == (LIVES, 3 + LIVES, 0), f"{LIVES} lives ended: {counters}")
-        return f"{LIVES} lives ended, half by a panic; {len(town.samples)} looks, 0 above, peak {most:.0f} MiB; {sum(waits)} seconds of waits"
+        went = count if bench.vmm.reboots_anew else count // 2
+        seen = tuple(counters[it] for it in ("gone", "admitted", "refused"))
+        demand(seen == (went, len(guests) + went, 0), f"{count} lives ended: {counters}")
+        return f"{count} lives ended, half by a panic; {len(town.samples)} looks, 0 above, peak {most:.0f} MiB; {sum(waits)} seconds of waits"

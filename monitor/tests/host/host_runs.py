@@ -72,6 +72,9 @@ OF_A_PAIR = 360
 # MiB by which a budget is less than what guests use, with their floors.
 TOO_LITTLE = 20
 
+# Runs that an emulator can't have: it takes more memory itself than its guest, so that a cgroup would limit the wrong one.
+OF_UML_ALONE = ("rogue-cgroup",)
+
 # Each wrong host, and the run that has to fail for it.
 WRONG_HOSTS = {"1": "rest", "2": "rest", "3": "rest", "4": "rest", "5": "tells", "7": "tells", "8": "marks"}
 

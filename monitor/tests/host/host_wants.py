@@ -4,21 +4,20 @@ full of what Linux can let go at once."""
 import threading
 import time
 
-from host_checks import await_rest, eventually, finish, names
+from host_checks import await_rest, eventually, finish
 from host_strict import BUDGET, MEMORY, outside
 from linux_guest import PAGES_PER_MIB
 from linux_host import Member
-from linux_kit import Fault, Missing, demand
-from linux_vmms import Uml
+from linux_kit import Fault, demand
 
 # What each of four guests wants at once, in MiB. With what Linux and kept bytes take, 55 to 70 MiB, that is 205 to 220 each: 560 MiB have room for
-# two, or for a part of what each wants. All four have it with 840.
+# two, or for a part of what each wants. All four have it with 840. A pair under QEMU wants as much of its budget.
 WANTED, ALL_HAVE_IT = 150, 840
 
 # Seconds in which all wait and nobody is granted anything, and MiB by which the budget grows then.
 STALLS, GROWS = 3, 64
 
-# MiB of files that each of three guests reads, and the budget on which that is too much.
+# MiB of files that each of three guests reads, and the budget on which that is too much; a pair's is two thirds of it.
 CACHE, CACHE_BUDGET, CACHE_MEMORY = 150, 400, 256
 
 # Seconds in which a target is reached.
@@ -67,29 +66,28 @@ def check_within(town, begin, budget):
 
 def wants_run(bench):
     """Four guests that want 150 MiB at once wait, and none of their processes is killed; all are served, one after the other, as there is room."""
-    if bench.vmm.most_guests < 4:
-        raise Missing("four guests at once are for User Mode Linux")
-    budget, times, begin = BUDGET, 0, 0
+    guests, budget = bench.crowd(4, BUDGET)
+    first, most, begin = budget, budget * ALL_HAVE_IT // BUDGET, 0
     with bench.town(budget, ("--strict",)) as town:
-        town.settle_in(names(4), MEMORY)
+        town.settle_in(guests, MEMORY)
         wants = [Want(it) for it in town.members]
         while not all(it.done for it in wants):
             if not stalled(town, wants):
                 continue
             check_within(town, begin, budget)
-            begin, budget, times = len(town.samples), budget + GROWS, times + 1
-            demand(budget < ALL_HAVE_IT + GROWS, f"all four have what they want with {ALL_HAVE_IT} MiB, and {budget - GROWS} aren't enough")
+            begin, budget = len(town.samples), budget + GROWS
+            demand(budget < most + GROWS, f"all have what they want with {most} MiB, and {budget - GROWS} aren't enough")
             town.host.demand(f"budget {budget}")
         check_within(town, begin, budget)
-        demand(times > 0, f"all four have {WANTED} MiB at once, with a budget of {BUDGET}")
+        demand(budget > first, f"all have {WANTED} MiB at once, with a budget of {first}")
         eventually(lambda: all(it["waits"] == "nothing" for it in town.host.guests().values()), "a guest waits for good")
         finish(town)
-        return f"all waited on {BUDGET} MiB, and were served in turn with {budget}; {town.host.counters()['grants']} grants"
+        return f"all {len(guests)} waited on {first} MiB, and were served in turn with {budget}; {town.host.counters()['grants']} grants"
 
 
 def read_files(member):
     """Has a guest read a disk until that fills its page cache."""
-    member.guest.do("read_disk", REACHED_IN)
+    member.guest.do("read_disk", REACHED_IN * member.vmm.patience)
     cached = int(member.guest.do("cached")[0].split()[1]) / 1024
     demand(cached >= CACHE, f"{member.name} has {cached:.0f} MiB in its page cache")
 
@@ -104,25 +102,25 @@ def disk_of(folder):
 
 def cache_run(bench):
     """Three guests whose page cache is all that they could let go give it: their targets are reached."""
-    if not isinstance(bench.vmm, Uml):
-        raise Missing("a disk is for User Mode Linux")
-    with bench.town(3 * CACHE_MEMORY) as town:
+    guests, _ = bench.crowd(3, CACHE_BUDGET)
+    budget = CACHE_BUDGET * len(guests) // 3
+    with bench.town(len(guests) * CACHE_MEMORY) as town:
         disk = disk_of(town.host.folder)
-        for name in names(3):
-            town.members.append(Member(town.host, town.vmm, name, CACHE_MEMORY, kernel_words=(f"ubd0r={disk}",)))
+        for name in guests:
+            town.members.append(Member(town.host, town.vmm, name, CACHE_MEMORY, disk=disk))
             town.members[-1].boot()
             read_files(town.members[-1])
         before = town.host.guests()
         demand(not any(it["target"] for it in before.values()), f"something is asked for: {before}")
-        town.host.demand(f"budget {CACHE_BUDGET}")
-        # What the three have together, less the budget, by pencil; each of them gives a part.
-        lack = sum(it["pages"] for it in before.values()) - CACHE_BUDGET * PAGES_PER_MIB
-        await_rest(town, CACHE_BUDGET, limit=REACHED_IN)
+        town.host.demand(f"budget {budget}")
+        # What they have together, less the budget, by pencil; each of them gives a part.
+        lack = sum(it["pages"] for it in before.values()) - budget * PAGES_PER_MIB
+        await_rest(town, budget, limit=REACHED_IN)
         seen = town.host.guests()
         demand(sum(it["ballooned"] for it in seen.values()) >= lack, f"{lack} pages are missing: {seen}")
         demand(town.host.counters()["short"] == 0, f"the host is short: {town.host.counters()}")
         held = sum(town.sample().held) - sum(outside(town))
-        demand(held <= CACHE_BUDGET, f"{held:.0f} MiB are held of {CACHE_BUDGET}")
+        demand(held <= budget, f"{held:.0f} MiB are held of {budget}")
         finish(town)
         given = " ".join(str(it["ballooned"] // PAGES_PER_MIB) for it in seen.values())
-        return f"3 guests with {CACHE} MiB of page cache each give {given} MiB; {held:.0f} of {CACHE_BUDGET} MiB are held"
+        return f"{len(guests)} guests with {CACHE} MiB of page cache each give {given} MiB; {held:.0f} of {budget} MiB are held"

@@ -2,8 +2,9 @@
 
 import pytest
 from host_killed import hours_run
-from host_runs import RUNS, WRONG_HOSTS, Bench
+from host_runs import OF_UML_ALONE, RUNS, WRONG_HOSTS, Bench
 from linux_kit import Fault, Missing
+from linux_vmms import Uml
 
 # Seconds of a run.
 LIMIT = 900
@@ -23,6 +24,8 @@ def bench(tmp_path_factory, request):
 
 @pytest.mark.timeout(LIMIT)
 def test_run(bench, run):
+    if run in OF_UML_ALONE and not isinstance(bench.vmm, Uml):
+        pytest.skip("an emulator takes more memory itself than its guest")
     print(RUNS[run](bench))
 
 

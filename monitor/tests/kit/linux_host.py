@@ -182,10 +182,10 @@ class Town:
             self.members.append(member)
             member.boot()
 
-    def used_mib(self):
-        """Returns the MiB that the guests use now: what is neither free nor in a balloon."""
+    def used_mib(self, members=None):
+        """Returns the MiB that all guests, or these, use now: what is neither free nor in a balloon."""
         seen = self.host.guests()
-        return sum((seen[it.name]["pages"] - seen[it.name]["ballooned"]) / PAGES_PER_MIB - it.free_mib() for it in self.members)
+        return sum((seen[it.name]["pages"] - seen[it.name]["ballooned"]) / PAGES_PER_MIB - it.free_mib() for it in members or self.members)
 
     def work(self, member, chance, ledger, end):
         """A guest's day: it fills files of random sizes, keeps them for a while, and frees them again."""

@@ -12,21 +12,25 @@ KEPT, FILL_LIMIT = 10, 300
 
 
 class Member:
-    """A guest of a host: Linux with a balloon, and the bytes that it keeps; its memory may be in a folder of its own, its kernel may be told
-    more words, and its process may begin as others (`before` is their words)."""
+    """A guest of a host: Linux with a balloon, and the bytes that it keeps; its memory may be in a folder of its own, it may have a disk, and
+    its process may begin as others (`before` is their words)."""
 
-    def __init__(self, host, vmm, name, memory, terms="", place=None, kernel_words=(), before=()):
+    def __init__(self, host, vmm, name, memory, terms="", place=None, disk=None, before=()):
         self.host, self.vmm, self.name, self.memory, self.place = host, vmm, name, memory, place
-        self.kernel_words, self.before = kernel_words, before
+        self.disk, self.before = disk, before
         self.socket = host.add(f"{name} {terms}".strip())
         self.guest, self.sums, self.checked = None, {}, 0
 
+    def folder(self):
+        """Returns where the files of its process are."""
+        return os.path.join(self.host.folder, f"{self.name}.files")
+
     def boot(self):
         """Boots it, and has it keep some bytes."""
-        folder = os.path.join(self.host.folder, f"{self.name}.files")
+        folder = self.folder()
         os.makedirs(folder, exist_ok=True)
         self.sums = {}
-        words = [*self.before, *self.vmm.words(folder, Shape(self.memory, kernel_words=self.kernel_words), self.socket)]
+        words = [*self.before, *self.vmm.words(folder, Shape(self.memory, disk=self.disk, place=self.place), self.socket)]
         self.guest = Guest(words, self.environment(), (), folder, self.memory)
         try:
             self.guest.boot()
@@ -39,6 +43,10 @@ class Member:
     def environment(self):
         """Returns its process's environment, which says where its memory is."""
         return self.vmm.environment() | ({"TMPDIR": self.place} if self.place else {})
+
+    def read_all(self, limit):
+        """Has its memory read past its driver; returns as `Guest.end`."""
+        return self.vmm.read_all(self.guest, self.folder(), limit)
 
     def fill(self, name, mib):
         """Has it fill a file with random bytes, in its memory."""
@@ -79,8 +87,10 @@ class Member:
 
     def reboot(self, guest):
         """Has its guest reboot, and keep bytes again."""
+        self.vmm.keep_on_reboot(self.folder(), True)
         guest.begin("reboot -f")
         guest.boot()
+        self.vmm.keep_on_reboot(self.folder(), False)
         self.sums, self.guest = {}, guest
         self.fill("keep", KEPT)
 

@@ -38,7 +38,8 @@ LAST_PROXY = 10
 
 class Shape(NamedTuple):
     """What a guest is started with: its MiB, its processors, more words of its kernel's command line, the MiB that may be plugged
-    in besides, and what QEMU is told of its device's queues: how many there are, and the descriptors of each."""
+    in besides, what QEMU is told of its device's queues (how many there are, and the descriptors of each), the file of a disk that it reads
+    alone, and the folder where QEMU has its memory."""
 
     memory: int
     processors: int = 1
@@ -46,6 +47,8 @@ class Shape(NamedTuple):
     pluggable: int = 0
     queues: int = 4
     queue_size: int = 64
+    disk: str = None
+    place: str = None
 
 
 def demand_shared_room(memory):
@@ -104,6 +107,9 @@ class Uml(OverSocket):
 
     forms, has_control, patience, most_guests = ("messages", "events"), False, 1, 64
 
+    # Whether the device of a guest that reboots connects anew.
+    reboots_anew = True
+
     def __init__(self, folder, suite=None):
         self.root, with_libc = fetch_uml(suite), os.path.join(os.path.dirname(__file__), "linux_with_libc.py")
         kernel = os.path.join(self.root, "usr/bin/linux.uml")
@@ -122,7 +128,8 @@ class Uml(OverSocket):
         """Returns the guest's command."""
         self.demand_room(shape.memory)
         own = ("quiet", "con=null", "con0=fd:0,fd:1", f"uml_dir={folder}/uml")
-        return [*self.program, f"mem={shape.memory}M", f"initrd={self.initramfs}", *own, f"virtio_uml.device={path}:5",
+        disk = (f"ubd0r={shape.disk}",) if shape.disk else ()
+        return [*self.program, f"mem={shape.memory}M", f"initrd={self.initramfs}", *own, f"virtio_uml.device={path}:5", *disk,
                 *KERNEL_WORDS, *shape.kernel_words]
 
     def environment(self):
@@ -132,6 +139,14 @@ class Uml(OverSocket):
     def control(self, _):
         """Nobody tells it to act."""
         return None
+
+    def keep_on_reboot(self, folder, keeps):
+        """A guest that reboots stays in its process."""
+
+    def read_all(self, guest, folder, limit):
+        """Has a guest read its memory, /dev/mem; returns as `Guest.end`."""
+        guest.begin("read_all")
+        return guest.end("read_all", limit)
 
 
 class Emulator:
@@ -144,7 +159,8 @@ class Emulator:
         self.program, self.device = self.find()
         files = fetch_kernel(suite)
         self.kernel = one_of(files, "boot/vmlinuz-*", "usr/lib/modules/*/vmlinuz")
-        modules = [it for top in ("", "usr/") for it in glob.glob(f"{files}/{top}lib/modules/*/kernel/drivers/virtio/virtio*.ko*")]
+        names = ("virtio/virtio*", "block/virtio_blk")
+        modules = [it for top in ("", "usr/") for name in names for it in glob.glob(f"{files}/{top}lib/modules/*/kernel/drivers/{name}.ko*")]
         self.initramfs = make_initramfs(folder, busybox_of(files), modules)
 
     def find(self):
@@ -172,12 +188,14 @@ class Emulator:
     def machine(self, shape):
         """Returns the guest's command but for the device."""
         slots = f",slots=1,maxmem={shape.memory + shape.pluggable}M" if shape.pluggable else ""
+        memory = f"memory-backend-file,mem-path={shape.place}" if shape.place else "memory-backend-memfd"
+        of_disk = ("-drive", f"if=virtio,file={shape.disk},format=raw,read-only=on") if shape.disk else ()
         return [
             *self.program, "-nodefaults", "-no-user-config", "-display", "none",
             "-accel", self.accelerator(), "-smp", str(shape.processors), "-no-reboot", "-serial", "stdio",
             "-m", f"{shape.memory}M{slots}",
-            "-object", f"memory-backend-memfd,id=memory,size={shape.memory}M,share=on", "-machine", "q35,memory-backend=memory",
-            "-kernel", self.kernel, "-initrd", self.initramfs,
+            "-object", f"{memory},id=memory,size={shape.memory}M,share=on", "-machine", "q35,memory-backend=memory",
+            "-kernel", self.kernel, "-initrd", self.initramfs, *of_disk,
             "-append", " ".join((*self.kernel_words, *KERNEL_WORDS, *shape.kernel_words)),
         ]
 
@@ -198,7 +216,7 @@ def fetched_qemu(debian):
 class Qemu(OverSocket, Emulator):
     """QEMU with its generic device of vhost-user, which Debian's builds can create from 10.2 on."""
 
-    forms, has_control = ("events",), True
+    forms, has_control, reboots_anew = ("events",), True, False
     devices, debian = ("vhost-user-test-device-pci", "vhost-user-device-pci"), "sid"
     # On a busy machine a timer comes too late for the kernel's check of it.
     kernel_words = ("console=ttyS0", "no_timer_check", "memhp_default_state=online")
@@ -226,6 +244,17 @@ class Qemu(OverSocket, Emulator):
     def control(self, folder):
         """Returns a client of its control socket."""
         return Qmp(os.path.join(folder, "qmp"))
+
+    def keep_on_reboot(self, folder, keeps):
+        """Says whether a guest that reboots stays in its process, or ends that."""
+        control = self.control(folder)
+        control.do("set-action", reboot="reset" if keeps else "shutdown")
+        control.close()
+
+    def read_all(self, guest, folder, limit):
+        """Reads a guest's memory itself, since the kernel there doesn't let /dev/mem have it."""
+        self.control(folder).do("pmemsave", val=0, size=guest.memory << 20, filename="/dev/null")
+        return 0, []
 
 
 class QemuProxy(Emulator):
