@@ -65,12 +65,14 @@ fn a_reset_and_a_stop_forget_it() {
     guest.name(Kind::Deflate, &[700]);
     assert_eq!(balloon.notify(&guest.memory, Kind::Deflate, &mut ()).held, Some(1));
     assert_eq!((balloon.stop_queue(Kind::Deflate), balloon.held_deflate()), (Ok(0), None));
+    assert!(pages_of(&balloon.deflating).is_empty());
     assert_eq!((balloon.give_deflate(&guest.memory).chains, balloon.count_ballooned()), (0, 10));
     let (mut guest, mut balloon) = with_ten();
     guest.name(Kind::Deflate, &[700]);
     assert_eq!(balloon.notify(&guest.memory, Kind::Deflate, &mut ()).held, Some(1));
     balloon.write_status(&guest.memory, 0, &mut ()).expect("a reset");
     assert_eq!((balloon.held_deflate(), balloon.count_ballooned()), (None, 0));
+    assert!(pages_of(&balloon.deflating).is_empty());
     assert_eq!((balloon.give_deflate(&guest.memory).chains, guest.used_index(Kind::Deflate)), (0, 0));
 }
 
