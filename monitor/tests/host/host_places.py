@@ -44,7 +44,7 @@ class Mount:
 
     def __init__(self, path, mib=1, options="mode=700,nosuid,noexec"):
         self.path, self.term, self.options = path, f"tmpfs:{path}", options
-        os.makedirs(path)
+        os.makedirs(path, exist_ok=True)
         self.mount(mib)
 
     def mount(self, mib=1):
@@ -66,7 +66,7 @@ class Mount:
         return {"place": self.path}
 
     def end(self):
-        """Unmounts it, if it is mounted."""
+        """Unmounts it, if it is mounted; its folder stays."""
         subprocess.run(["umount", "-l", self.path], stdin=subprocess.DEVNULL, capture_output=True)
 
 

@@ -25,9 +25,6 @@ from vhost_client import (
 OF_REGION = [range(guest // PAGE, guest // PAGE + PAGES_OF_REGION) for guest, _ in REGIONS]
 MOST_SET = 1 << 36
 
-# Seconds in which 40 clients come one after the other on a machine that isn't busy.
-QUICK = 5
-
 
 def served(client, number, pages):
     """Has a request of these pages served, whose buffer is beside the rings."""
@@ -197,23 +194,36 @@ def no_file_left(town):
     becomes(town, {"here": 0}), becomes(town, {"here": 0}, "b")
 
 
-def lines_of_a_client(town):
-    """Who comes again and again, and breaks a rule each time, has five lines a second, and one that says that there are more."""
-    path = town.host.add("c")
-    begin, before = time.monotonic(), os.path.getsize(town.host.log)
-    for _ in range(40):
-        client = Client(path, town.host.why)
-        client.send(99, flags=1)
-        demand(client.receive() is None, "a message that is unknown is answered")
-        client.leave()
-    seconds = int(time.monotonic() - begin) + 2
+def said_since(town, before):
+    """Returns the lines that the host has said after the first `before` bytes of its log."""
     with open(town.host.log, encoding="latin-1") as log:
         log.seek(before)
-        said = [it.strip() for it in log]
-    first = ["refused c: message 99 is unknown", "gone c"]
+        return [it.strip() for it in log]
+
+
+def break_a_rule(town, path):
+    """A client comes, and breaks a rule."""
+    client = Client(path, town.host.why)
+    client.send(99, flags=1)
+    demand(client.receive() is None, "a message that is unknown is answered")
+    client.leave()
+
+
+def lines_of_a_client(town):
+    """Who comes again and again, and breaks a rule each time, has five lines a second of the clock, and one that says that there are more."""
+    path, before = town.host.add("c"), os.path.getsize(town.host.log)
+    time.sleep(1 - time.monotonic() % 1)
+    begin = time.monotonic()
+    for _ in range(3):
+        break_a_rule(town, path)
+    eventually(lambda: len(said_since(town, before)) > 5, "three clients have less than six lines")
+    in_one_second = int(time.monotonic()) == int(begin)
+    for _ in range(37):
+        break_a_rule(town, path)
+    seconds, said = int(time.monotonic() - begin) + 2, said_since(town, before)
+    first, more = ["refused c: message 99 is unknown", "gone c"], "c: further lines of this second are left out"
     # On a busy machine three clients may take longer than a second.
-    at_once = seconds > QUICK or said[:6] == [*first, *first, first[0], "c: further lines of this second are left out"]
-    demand(at_once, f"40 clients in {seconds} seconds: {said[:7]}")
+    demand(not in_one_second or said[:6] == [*first, *first, first[0], more], f"three clients in a second: {said[:7]}")
     demand(len(said) <= 6 * seconds, f"{len(said)} lines in {seconds} seconds")
 
 

@@ -25,16 +25,18 @@ REACHED_IN = 60
 
 
 class Want(threading.Thread):
-    """A guest that wants memory at once, and frees it once it has had it for a moment."""
+    """A guest that wants memory at once, and frees it once it has had it for a moment and is let (`free`)."""
 
-    def __init__(self, member):
+    def __init__(self, member, free):
         super().__init__(daemon=True)
-        self.member, self.fault, self.done = member, None, False
+        self.member, self.free, self.fault, self.has, self.done = member, free, None, False, False
         self.start()
 
     def run(self):
         try:
             self.member.fill("wanted", WANTED)
+            self.has = True
+            self.free.wait()
             time.sleep(1)
             self.member.drop("wanted")
             self.done = True
@@ -43,18 +45,18 @@ class Want(threading.Thread):
 
 
 def stalled(town, wants):
-    """Looks until a guest is done, or until all that aren't wait for the same for a while; whether they do."""
-    count, since = sum(it.done for it in wants), time.monotonic()
+    """Looks until a guest has what it wants, or until all that haven't wait for the same for a while; whether they do."""
+    count, since = sum(it.has for it in wants), time.monotonic()
     grants, waited = town.host.counters()["grants"], False
-    while time.monotonic() - since < STALLS and sum(it.done for it in wants) == count:
+    while time.monotonic() - since < STALLS and sum(it.has for it in wants) == count:
         town.watch(0.2)
         now = town.host.counters()["grants"]
-        waited = all(it.done or wait for it, wait in zip(wants, town.samples[-1].waits))
+        waited = all(it.has or wait for it, wait in zip(wants, town.samples[-1].waits))
         if now != grants or not waited:
             grants, since = now, time.monotonic()
         fault = next((it.fault for it in wants if it.fault), None)
         demand(fault is None, f"a guest that wants memory: {fault}")
-    return waited and sum(it.done for it in wants) == count
+    return waited and sum(it.has for it in wants) == count < len(wants)
 
 
 def check_within(town, begin, budget):
@@ -67,19 +69,22 @@ def check_within(town, begin, budget):
 def wants_run(bench):
     """Four guests that want 150 MiB at once wait, and none of their processes is killed; all are served, one after the other, as there is room."""
     guests, budget = bench.crowd(4, BUDGET)
-    first, most, begin = budget, budget * ALL_HAVE_IT // BUDGET, 0
+    first, most, begin, free = budget, budget * ALL_HAVE_IT // BUDGET, 0, threading.Event()
     with bench.town(budget, ("--strict",)) as town:
         town.settle_in(guests, MEMORY)
-        wants = [Want(it) for it in town.members]
+        wants = [Want(it, free) for it in town.members]
         while not all(it.done for it in wants):
             if not stalled(town, wants):
+                demand(free.is_set() or not all(it.has for it in wants), f"all have {WANTED} MiB at once, with a budget of {first}")
                 continue
             check_within(town, begin, budget)
+            if not free.is_set():
+                free.set()
+                continue
             begin, budget = len(town.samples), budget + GROWS
             demand(budget < most + GROWS, f"all have what they want with {most} MiB, and {budget - GROWS} aren't enough")
             town.host.demand(f"budget {budget}")
         check_within(town, begin, budget)
-        demand(budget > first, f"all have {WANTED} MiB at once, with a budget of {first}")
         eventually(lambda: all(it["waits"] == "nothing" for it in town.host.guests().values()), "a guest waits for good")
         finish(town)
         return f"all {len(guests)} waited on {first} MiB, and were served in turn with {budget}; {town.host.counters()['grants']} grants"
