@@ -120,7 +120,7 @@ static void waits(void *context, struct loop *loop)
     rings_wait(&lent->backend, loop);
     if (lent->notes.channel < 0)
         loop_wait_until(loop, lent->look);
-    if (lent->backend.pending)
+    if (lent->backend.pending || lent->asks_nothing)
         loop_wait_until(loop, loop_now());
     if (lent->news)
         loop_wait_until(loop, lent->report_at);
@@ -130,10 +130,18 @@ static void waits(void *context, struct loop *loop)
         loop_wait_until(loop, loop_now() + POLL_EVERY);
 }
 
+/* One deflate a turn, since a guest may have any number of them. */
+static bool give_unasked(struct lent *lent)
+{
+    bool gives = lent->asks_nothing;
+    lent->asks_nothing = false;
+    return !gives || lent_give(lent);
+}
+
 static int turn(void *context)
 {
     struct lent *lent = context;
-    if (!rings_look(&lent->backend) || !backend_serve_pending(&lent->backend))
+    if (!rings_look(&lent->backend) || !give_unasked(lent) || !backend_serve_pending(&lent->backend))
         return LOOP_FAULT;
     kept_save(lent);
     lent->kept->turns++;

@@ -133,6 +133,7 @@ void lent_holds(struct backend *backend, uint32_t pages)
 {
     struct lent *lent = (struct lent *)backend;
     lent->notes.held_pages = pages;
+    lent->asks_nothing = pages == 0;
     lent->notes.held_wait += lent->regains ? 0 : 1;
     lent->regains = false;
     lent->news = true;

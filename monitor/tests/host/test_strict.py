@@ -100,6 +100,22 @@ def test_a_deflate_waits_for_its_grant(two):
     assert lender.counters()["grants"] == 3
 
 
+def test_a_deflate_of_no_page_needs_no_grant(two):
+    """All of its numbers are past the end of memory: they are skipped, and nothing is asked for. The next deflate is held as any other."""
+    lender, (a, _) = two
+    a.give(GIVEN[:50])
+    lender.become("a", ballooned=50, lent=78)
+    lender.demand("budget 0")
+    for count in (1, 2):
+        a.take([10**6, 10**6 + 1])
+        used(a, DEFLATE, count)
+    a.take(GIVEN[:10])
+    lender.become("a", waits="deflate", ballooned=50, lent=78)
+    lender.demand("budget 1")
+    used(a, DEFLATE, 3)
+    lender.become("a", waits="nothing", ballooned=40, lent=88)
+
+
 def test_what_was_lent_ahead_stays_for_a_moment(two):
     """A driver may just take pages that it was told to, and hears meanwhile that it is to take none: they stay lent for half a second, and no
     longer."""
