@@ -115,6 +115,7 @@ known kind (WriteWord at word ∷ xs) = Unknown
 
 -- ---- the queue
 
+-- One more entry is taken, or not.
 abbrev pub with_taken_if : Bool → Virtqueue → Virtqueue
 with_taken_if true r = with_taken r
 with_taken_if false r = r

@@ -14,6 +14,7 @@ from bigvasta.connection import Connection
 from linux_guest import Lines
 from linux_kit import ROOT
 from vhost_client import BUFFERS, PAGE, STATISTICS, Client
+from waiting import eventually
 
 # Seconds of a wait.
 LIMIT = 20
@@ -25,17 +26,6 @@ FREE_MEMORY = 4
 def limit_from_now():
     """Returns when a wait that begins now has to have ended."""
     return time.monotonic() + LIMIT
-
-
-def eventually(condition, what=""):
-    """Waits until a condition holds, and returns what it came to."""
-    end = limit_from_now()
-    while True:
-        found = condition()
-        if found:
-            return found
-        assert time.monotonic() < end, what() if callable(what) else what
-        time.sleep(0.02)
 
 
 def say(**fields):

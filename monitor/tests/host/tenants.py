@@ -5,25 +5,14 @@ import select
 import signal
 import struct
 import threading
-import time
 
 import linux_host
 from vhost_client import BUFFERS, DEFLATE, INFLATE, LIMIT, PAGE, REGIONS, STATISTICS, Client
+from waiting import eventually
 
 # Tags of statistics (VIRTIO 1.1, 5.5.6.3), and the first pages of a client's regions: the first region has its rings.
 FREE, AVAILABLE = 4, 6
 PAGES_OF_ALL, PAGES = (it[0] // PAGE for it in REGIONS)
-
-
-def eventually(condition, what=""):
-    """Waits until a condition holds, and returns what it came to."""
-    end = time.monotonic() + LIMIT
-    while True:
-        found = condition()
-        if found:
-            return found
-        assert time.monotonic() < end, what() if callable(what) else what
-        time.sleep(0.02)
 
 
 class Lender(linux_host.Host):

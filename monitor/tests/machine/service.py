@@ -15,6 +15,7 @@ import time
 from bigvasta.connection import CONTROL, Connection
 from bigvasta.statuses import Away, Unclear
 from vhost_client import LIMIT, PAGE
+from waiting import eventually
 
 HERE = os.path.dirname(os.path.realpath(__file__))
 HOST, GUEST, NAME = "bigvasta-host", "guest-web-1", "web-1"
@@ -35,17 +36,6 @@ def run(*words):
     ran = subprocess.run(words, stdin=subprocess.DEVNULL, capture_output=True, text=True, timeout=LIMIT)
     assert ran.returncode == 0, f"{' '.join(words)}: {ran.returncode}: {ran.stderr.strip() or ran.stdout.strip()}"
     return ran.stdout
-
-
-def eventually(condition, what):
-    """Waits until a condition holds, and returns what it came to."""
-    end = time.monotonic() + LIMIT
-    while True:
-        found = condition()
-        if found:
-            return found
-        assert time.monotonic() < end, what() if callable(what) else what
-        time.sleep(0.05)
 
 
 def ask(request, **fields):
