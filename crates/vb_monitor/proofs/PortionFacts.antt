@@ -1,7 +1,7 @@
 -- The portions of a request, worked out: what is told of one, what comes after it, and what doesn't.
 use Rattle.std.specs.Prelude.{replicate}
-use Rattle.std.proofs.Common.{◌≡◌, refl, ap, arith, ℕ, ◌+◌, ◌≤◌, true, false, List, [], ◌∷◌, Result, Ok, Err, Some}
-use Rattle.vb_chain.specs.declared.fault.ChainFault.TheVariants.{BadPage}
+use Rattle.std.proofs.Common.{◌≡◌, refl, ap, arith, ℕ, ◌+◌, ◌≤◌, true, false, List, [], ◌∷◌, map, Result, Ok, Err, Some}
+use Rattle.vb_chain.specs.declared.fault.ChainFault.TheVariants.{BadPage, BadLength, WrongDirection}
 use Rattle.vb_core.specs.declared.kinds.Kind.{Kind, TheVariants.{Inflate, Deflate, Report}}
 use Rattle.vb_core.specs.declared.{runs.Run.Run, name.Named.Named, device.Device.Device}
 use Rattle.vb_core.specs.declared.device.{Denial.Denial, Denial.TheVariants.Broken}
@@ -12,14 +12,34 @@ use Rattle.vb_monitor.specs.declared.step.Phase.TheVariants.{TellsPages, Discard
 use Rattle.vb_monitor.specs.declared.room.Room.{Room}
 use Rattle.vb_monitor.specs.{Accesses.{Access, CopyBytes, TellPages}, Ends.Whole, Machine.AheadAt}
 use Rattle.vb_monitor.specs.{Pieces.PartAt, Regions.spot, Still.{in_portion, AreInPortions, bytes_of_parts}}
+use Rattle.vb_monitor.specs.Chains.{request_length_within}
 use Rattle.vb_monitor.specs.Portions.{AfterPortion, NamesPortion, CopiesParts, CopiesFurther}
-use Rattle.vb_monitor.proofs.Samples.{Same, two, at, ready, tally, page_5, cut_5, one_page, number, part, pages, discard, id, used_length, used_index, room_of}
+use Rattle.vb_monitor.proofs.Samples.{Same, two, at, ready, tally, piece, page_5, cut_5, one_page, number, part, pages, discard, id, used_length, used_index, room_of}
 
 abbrev outcome : Outcome
 outcome = record { tally = tally; why = Some (Broken BadPage); interrupt = false; more = false }
 
 abbrev of_kind : Kind → Whole
 of_kind kind = record { regions = two; kind = kind; device = needing_reset ready; outcome = outcome }
+
+-- ---- how many bytes a request may have, which names 300 pages at most
+
+right_lengths : map (λ n. request_length_within 300 (record piece { len = n } ∷ [])) (4 ∷ 1024 ∷ 1028 ∷ 1200 ∷ [])
+    ≡ Ok 4 ∷ Ok 1024 ∷ Ok 1028 ∷ Ok 1200 ∷ []
+right_lengths = refl
+
+no_lengths : map (λ n. request_length_within 300 (record piece { len = n } ∷ [])) (0 ∷ 5 ∷ 1026 ∷ 1204 ∷ []) ≡ replicate 4 (Err BadLength)
+no_lengths = refl
+
+-- the pieces' lengths count together, and a piece that isn't the device's to read counts first
+together : request_length_within 300 (record piece { len = 1199 } ∷ record piece { len = 1 } ∷ []) ≡ Ok 1200
+together = refl
+
+past_together : request_length_within 300 (record piece { len = 1200 } ∷ piece ∷ []) ≡ Err BadLength
+past_together = refl
+
+written_first : request_length_within 300 (record piece { len = 5 } ∷ record piece { writable = true } ∷ []) ≡ Err WrongDirection
+written_first = refl
 
 -- ---- what is told of a portion: it counts, and copying goes on
 
