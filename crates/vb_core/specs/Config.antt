@@ -4,17 +4,22 @@ use Rattle.std.specs.Prelude.{take, drop, if◌then◌else◌}
 use Rattle.std.specs.Int.{w32, to_le_bytes, from_le_bytes}
 use Rattle.vb_core.specs.declared.device.Device.{Device}
 use Rattle.vb_core.specs.declared.config.TheConstants.{ACTUAL_AT, POISON_AT, FIELD_BYTES}
-use Rattle.vb_core.specs.Settings.{page_poison}
+use Rattle.vb_core.specs.declared.hints.TheConstants.{STOP}
+use Rattle.vb_core.specs.Settings.{page_poison, free_page_hint}
 
 -- What is in poison_val: 0 where PAGE_POISON isn't offered.
 abbrev pub shown_poison : Device → ℕ
 shown_poison d = if page_poison d.settings.offered then d.poison else 0
 
--- num_pages, actual, 0 in the place of free_page_hint_cmd_id, and poison_val.
+-- What is in free_page_hint_cmd_id (VIRTIO 1.2, 5.5.6.6): STOP where FREE_PAGE_HINT isn't offered.
+abbrev pub shown_id : Device → ℕ
+shown_id d = if free_page_hint d.settings.offered then d.round.shown else STOP
+
+-- num_pages, actual, free_page_hint_cmd_id, and poison_val.
 abbrev pub config_bytes : Device → List ℕ
 config_bytes d =
     to_le_bytes w32 d.target ++ to_le_bytes w32 d.actual
-    ++ to_le_bytes w32 0 ++ to_le_bytes w32 (shown_poison d)
+    ++ to_le_bytes w32 (shown_id d) ++ to_le_bytes w32 (shown_poison d)
 
 -- n bytes from an offset on cover the field that begins there whole.
 abbrev pub covers : ℕ → ℕ → ℕ → Bool

@@ -6,21 +6,25 @@ use Rattle.vb_virtio.specs.Limits.{page_size}
 use Rattle.vb_virtio.specs.Features.{version_1}
 use Rattle.vb_virtio.specs.Status.{contains}
 use Rattle.vb_core.specs.declared.kinds.Kind.{Kind}
-use Rattle.vb_core.specs.declared.kinds.Kind.TheVariants.{Inflate, Deflate, Statistics, Report}
+use Rattle.vb_core.specs.declared.kinds.Kind.TheVariants.{Inflate, Deflate, Statistics, Hint, Report}
 use Rattle.vb_core.specs.declared.settings.Settings.{Settings}
 use Rattle.vb_core.specs.declared.settings.TheConstants.{MEMORY_LIMIT, PAGE_POISON, LONGEST_REQUEST}
+use Rattle.vb_core.specs.declared.settings.TheConstants.{FREE_PAGE_HINT}
 
--- The features that a device may offer: those of the definitions, and PAGE_POISON (VIRTIO 1.2,
--- 5.5.3).
+-- The features that a device may offer: those of the definitions, FREE_PAGE_HINT and PAGE_POISON
+-- (VIRTIO 1.2, 5.5.3).
 abbrev pub known_features : ℕ
-known_features = bit_or OFFERED_FEATURES PAGE_POISON
+known_features = bit_or OFFERED_FEATURES (bit_or FREE_PAGE_HINT PAGE_POISON)
+
+abbrev pub free_page_hint : ℕ → Bool
+free_page_hint features = contains features FREE_PAGE_HINT
 
 abbrev pub page_poison : ℕ → Bool
 page_poison features = contains features PAGE_POISON
 
--- These features but PAGE_POISON, of which the definitions know nothing.
-abbrev pub without_poison : ℕ → ℕ
-without_poison features = bit_and features 0xffffffffffffffef
+-- These features but FREE_PAGE_HINT and PAGE_POISON, of which the definitions know nothing.
+abbrev pub without_later : ℕ → ℕ
+without_later features = bit_and features 0xffffffffffffffe7
 
 -- Settings that a device may have.
 abbrev pub are_settings : Settings → Bool
@@ -51,4 +55,5 @@ abbrev pub holds_chains : Kind → Settings → Bool
 holds_chains Inflate s = false
 holds_chains Deflate s = not (s.holds_deflates == 0)
 holds_chains Statistics s = true
+holds_chains Hint s = false
 holds_chains Report s = false

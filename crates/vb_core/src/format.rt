@@ -4,23 +4,26 @@ ghost use Rattle.std.specs.Prelude.{◌≡◌, ◌+◌, ◌≤◌, ◌++◌, [],
 ghost use Rattle.arrayvec.specs.ArrayVec.{array_vec_len};
 ghost use Rattle.vb_core.specs.Format.{u16_bytes, u32_bytes, u64_bytes, u16_at, u32_at, u64_at};
 ghost use Rattle.vb_core.specs.Format.{in_a_row, settings_parts, ring_parts, body, saved_bytes};
-ghost use Rattle.vb_core.specs.Format.{hold_parts, older_in, state_in};
-ghost use Rattle.vb_core.specs.Format.{settings_at, ring_at, checksum, header_parts};
+ghost use Rattle.vb_core.specs.Format.{saved_in, hold_parts, round_parts, hint_parts, oldest_in, older_in, state_in};
+ghost use Rattle.vb_core.specs.Format.{settings_at, ring_at, round_at, checksum, header_parts};
 ghost use Rattle.vb_core.specs.Saved.{is_length};
-ghost use Rattle.vb_core.specs.Format.{FitsSettings, FitsRing, FitsHolds, FitsSaved};
+ghost use Rattle.vb_core.specs.Format.{FitsSettings, FitsRing, FitsRound, FitsHolds, FitsSaved};
 
 use crate::saved::Saved;
-use crate::{Device, Held, Settings, Virtqueue};
+use crate::{Device, Held, Round, Settings, Virtqueue};
 use arrayvec::ArrayVec;
 
 /// What a saved device begins with: the bytes of `VBSTATE` and a 0, as a little-endian number.
 pub(crate) const MAGIC: u64 = 0x0045_5441_5453_4256;
 
-/// The version of the format: 3 since a device holds deflates.
-pub const FORMAT_VERSION: u32 = 3;
+/// The version of the format: 4 since a device has rounds of hints.
+pub const FORMAT_VERSION: u32 = 4;
 
-/// The version before it, which is read too: no device of it holds deflates.
-pub const OLDER_VERSION: u32 = 2;
+/// The version before it, which is read too: no device of it has hints.
+pub const OLDER_VERSION: u32 = 3;
+
+/// The version before that one, which is read too: no device of it holds deflates, either.
+pub const OLDEST_VERSION: u32 = 2;
 
 /// Bytes that each version begins with: `MAGIC`, the version, the length.
 pub(crate) const HEADER_LENGTH: usize = 16;
@@ -31,20 +34,26 @@ pub(crate) const VERSION_AT: usize = 8;
 /// Where the length of the whole is.
 pub(crate) const LENGTH_AT: usize = 12;
 
-/// Where is what the older version doesn't say: its checksum is there.
+/// Where is what the oldest version doesn't say: its checksum is there.
 pub(crate) const HOLD_AT: usize = 183;
 
+/// Where is what the older version doesn't say.
+pub(crate) const HINT_AT: usize = 192;
+
 /// Where the checksum of all bytes before it is.
-pub(crate) const CHECKSUM_AT: usize = 192;
+pub(crate) const CHECKSUM_AT: usize = 231;
 
 /// How many bytes the checksum has.
 pub(crate) const CHECKSUM_LENGTH: usize = 8;
 
 /// How many bytes a saved device has.
-pub const SAVED_LENGTH: usize = 200;
+pub const SAVED_LENGTH: usize = 239;
 
 /// How many it had in the older version.
-pub const OLDER_LENGTH: usize = 191;
+pub const OLDER_LENGTH: usize = 200;
+
+/// How many it had in the oldest version.
+pub const OLDEST_LENGTH: usize = 191;
 
 /// The bytes of a saved device, as far as they are there.
 pub(crate) type SavedBytes = ArrayVec<u8, SAVED_LENGTH>;
@@ -112,10 +121,22 @@ fn ring_at(bytes: &[u8], at: usize) -> Virtqueue
     }
 }
 
-/// The device that these bytes are of in the older version.
-fn older_in(bytes: &[u8]) -> Saved
-    requires { OLDER_LENGTH ≤ length bytes.now }
-    ensures { result ≡ older_in bytes.now }
+/// The round of hints that is here.
+fn round_at(bytes: &[u8], at: usize) -> Round
+    requires { at + 9 ≤ length bytes.now }
+    ensures { result ≡ round_at bytes.now at }
+{
+    Round {
+        shown: u32_at(bytes, at),
+        last: u32_at(bytes, at + 4),
+        opened: bytes[at + 8],
+    }
+}
+
+/// The device that these bytes are of in the oldest version.
+fn oldest_in(bytes: &[u8]) -> Saved
+    requires { OLDEST_LENGTH ≤ length bytes.now }
+    ensures { result ≡ oldest_in bytes.now }
 {
     let device = Device {
         settings: settings_at(bytes, 16),
@@ -125,8 +146,10 @@ fn older_in(bytes: &[u8]) -> Saved
         inflate: ring_at(bytes, 59),
         deflate: ring_at(bytes, 89),
         statistics: ring_at(bytes, 119),
+        hint: Virtqueue::NONE,
         report: ring_at(bytes, 149),
         poison: u32_at(bytes, 179),
+        round: Round::NONE,
         status: bytes[58],
     };
     let held = Held {
@@ -137,18 +160,39 @@ fn older_in(bytes: &[u8]) -> Saved
     Saved { device, held }
 }
 
+/// The device that these bytes are of in the older version.
+fn older_in(bytes: &[u8]) -> Saved
+    requires { OLDER_LENGTH ≤ length bytes.now }
+    ensures { result ≡ older_in bytes.now }
+{
+    let mut saved = oldest_in(bytes);
+    saved.device.settings.holds_deflates = bytes[HOLD_AT];
+    saved.held.deflate = u32_at(bytes, HOLD_AT + 1);
+    saved.held.pages = u32_at(bytes, HOLD_AT + 5);
+    saved
+}
+
+/// The device that these bytes are of in this version.
+fn saved_in(bytes: &[u8]) -> Saved
+    requires { SAVED_LENGTH ≤ length bytes.now }
+    ensures { result ≡ saved_in bytes.now }
+{
+    let mut saved = older_in(bytes);
+    saved.device.hint = ring_at(bytes, HINT_AT);
+    saved.device.round = round_at(bytes, HINT_AT + 30);
+    saved
+}
+
 /// The device that these bytes are of, by their number, whatever else they say.
 pub(crate) fn state_in(bytes: &[u8]) -> Saved
     requires { is_length (length bytes.now) ≡ true }
     ensures { result ≡ state_in bytes.now }
 {
-    let mut saved = older_in(bytes);
-    if bytes.len() == SAVED_LENGTH {
-        saved.device.settings.holds_deflates = bytes[HOLD_AT];
-        saved.held.deflate = u32_at(bytes, HOLD_AT + 1);
-        saved.held.pages = u32_at(bytes, HOLD_AT + 5);
+    match bytes.len() {
+        OLDEST_LENGTH => oldest_in(bytes),
+        OLDER_LENGTH => older_in(bytes),
+        _ => saved_in(bytes),
     }
-    saved
 }
 
 /// Adds a byte.
@@ -246,6 +290,18 @@ fn push_ring(out: &mut SavedBytes, ring: &Virtqueue)
     push_u16(out, ring.next_used);
 }
 
+/// Adds the round of hints.
+fn push_round(out: &mut SavedBytes, round: &Round)
+    requires { array_vec_len out.old + 9 ≤ SAVED_LENGTH }
+    ensures items { out.new.items ≡ out.old.items ++ in_a_row (round_parts round.now) [] }
+    ensures len { array_vec_len out.new ≡ array_vec_len out.old + 9 }
+    ensures fits { FitsRound round.now }
+{
+    push_u32(out, round.shown);
+    push_u32(out, round.last);
+    push_u8(out, round.opened);
+}
+
 /// Adds what comes before the checksum.
 fn push_body(out: &mut SavedBytes, saved: &Saved)
     requires empty { out.old.items ≡ [] }
@@ -268,6 +324,8 @@ fn push_body(out: &mut SavedBytes, saved: &Saved)
     push_ring(out, &device.report);
     push_u32(out, device.poison);
     push_holds(out, saved);
+    push_ring(out, &device.hint);
+    push_round(out, &device.round);
 }
 
 /// The checksum of bytes: FNV-1a with 64 bits. A change of any one byte changes it.

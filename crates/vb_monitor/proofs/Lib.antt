@@ -30,6 +30,7 @@ pub mod NamedLemmas
 pub mod TurnNames
 pub mod TurnRows
 pub mod TurnWalks
+pub mod HintTurns
 pub mod TurnLaws
 pub mod HeldBackLemmas
 pub mod PartsOfRunLemmas

@@ -7,19 +7,19 @@ use Rattle.vb_chain.{specs.declared.fault.ChainFault.ChainFault}
 use Rattle.vb_core.{specs.declared.kinds.Kind.Kind, specs.Rings.{with_taken, with_used}}
 use Rattle.vb_monitor.specs.{Giving.is_kept, declared.cuts.Cut.Cut}
 use Rattle.vb_core.{specs.declared.runs.Run.Run, specs.declared.name.Named.Named}
-use Rattle.vb_core.specs.declared.kinds.Kind.TheVariants.{Inflate, Deflate, Statistics, Report}
+use Rattle.vb_core.specs.declared.kinds.Kind.TheVariants.{Inflate, Deflate, Statistics, Hint, Report}
 use Rattle.vb_core.{specs.declared.ring.Virtqueue.Virtqueue, specs.declared.device.Device.Device}
 use Rattle.vb_core.{specs.declared.device.Denial.Denial}
 use Rattle.vb_core.{specs.Config.keeps_reports}
 use Rattle.vb_core.specs.Devices.{ring_of, with_one_taken, needing_reset, queue_denial}
 use Rattle.vb_monitor.specs.Accesses.{Access, ReadWord, CopyBytes, Acquire, Release, Full}
-use Rattle.vb_monitor.specs.Accesses.{TellPages, TellFigures, Discard, WriteNumber, WriteWord}
+use Rattle.vb_monitor.specs.Accesses.{TellPages, TellFigures, TellId, Discard, WriteNumber, WriteWord}
 use Rattle.vb_monitor.{proofs.TouchLemmas.{within}, specs.Counts.{no_discard, others}}
 use Rattle.vb_monitor.specs.Giving.{after_use}
 use Rattle.vb_monitor.specs.declared.outcome.{Outcome.Outcome, Tally.Tally}
 use Rattle.vb_monitor.specs.Order.{MayFollow, is_read, is_told}
 use Rattle.vb_monitor.specs.SoFar.{Each, Known, known, ring_after, is_whole, with_taken_if, left, pages_told}
-use Rattle.vb_monitor.specs.SoFar.{index_read, earlier}
+use Rattle.vb_monitor.specs.SoFar.{index_read, earlier, round_so_far}
 use Rattle.vb_monitor.specs.Turns.{is_over, CopiesNext, ReadsInTurn, TellsInTurn}
 use Rattle.vb_monitor.specs.Turns.{WritesUsedAlone}
 use Rattle.vb_monitor.specs.{Touched.{IsWithin, Touches}, Holding.HoldsTold}
@@ -57,6 +57,7 @@ at_most_one Release = omega arith
 at_most_one Full = omega arith
 at_most_one (TellPages kind runs named) = omega arith
 at_most_one (TellFigures figures) = omega arith
+at_most_one (TellId id) = omega arith
 at_most_one (Discard cut) = omega arith
 at_most_one (WriteNumber at number) = omega arith
 at_most_one (WriteWord at word) = omega arith
@@ -108,6 +109,7 @@ pub record Stands (w : Whole) (d0 : Device) (published : ℕ) (before : List Acc
   pub ring : ring_of w.kind d ≡ ring_after w.kind (ring_of w.kind d0) before
   pub settings : d.settings ≡ d0.settings
   pub keeps : keeps_reports d ≡ keeps_reports d0
+  pub round : d.round ≡ round_so_far d0.round before
   pub lasts : is_over before ≡ false
   pub index : index_read before ≡ Some published
 
@@ -128,6 +130,7 @@ pub record Moves (kind : Kind) (d : Device) : Type 0 where
   pub taken_ring : ring_of kind (with_one_taken kind d) ≡ with_taken (ring_of kind d)
   pub taken_settings : (with_one_taken kind d).settings ≡ d.settings
   pub taken_keeps : keeps_reports (with_one_taken kind d) ≡ keeps_reports d
+  pub taken_round : (with_one_taken kind d).round ≡ d.round
   pub taken_denial : queue_denial kind (with_one_taken kind d) ≡ queue_denial kind d
   pub figures_avail : (ring_of kind (with_one_taken Statistics d)).avail ≡ (ring_of kind d).avail
   pub used_ring : ring_of kind (after_use kind d) ≡ with_used (ring_of kind d)

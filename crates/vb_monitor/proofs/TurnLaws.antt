@@ -24,7 +24,8 @@ use Rattle.vb_monitor.specs.Notices.{TakesUnlessSpent}
 use Rattle.vb_monitor.specs.{Notices.{TakesNext, with_chains, Serves, fresh}, Regions.spot}
 use Rattle.vb_monitor.specs.Notices.{ServesPublished}
 use Rattle.vb_monitor.specs.SoFar.{Each, Unknown, Walks, known, ring_after}
-use Rattle.vb_monitor.specs.Turns.{IsPublished, ReadsInTurn, TellsInTurn, WritesUsedAlone}
+use Rattle.vb_monitor.specs.Turns.{IsPublished, ReadsInTurn, TellsInTurn, WritesUsedAlone, HintsInRound}
+use Rattle.vb_monitor.proofs.HintTurns.{hints_by}
 use Rattle.vb_monitor.specs.declared.outcome.{Budget.Budget, HeldChain.HeldChain, Outcome.Outcome, Tally.Tally}
 use Rattle.vb_monitor.specs.Holding.{HoldsTold}
 use Rattle.vb_monitor.specs.declared.regions.{Region.Region, Spot.Spot}
@@ -241,6 +242,13 @@ pub holds_told : (regions : List Region) (kind : Kind) (budget : Budget) (d1 d2 
     Each (HoldsTold kind d1.settings outcome) [] log
 holds_told regions kind budget d1 d2 outcome log h =
     each_so _ _ [] log (λ b x is. is.holds) (all_go regions kind budget d1 d2 outcome log h).come
+
+pub hints_in_round : (regions : List Region) (kind : Kind) (budget : Budget) (d1 d2 : Device)
+    (outcome : Outcome) (log : List Access) → Serves regions kind budget d1 d2 outcome log →
+    Each (HintsInRound d1) [] log
+hints_in_round regions kind budget d1 d2 outcome log h =
+    each_so _ _ [] log (λ b x is. hints_by regions kind budget.keeps d1 b x is.tells)
+    (all_go regions kind budget d1 d2 outcome log h).come
 
 row_so : (may : Option Access → Access → Type 0) (b log : List Access) →
     Each (λ before x. may (newest before) x) b log → Row may (newest b) log

@@ -5,7 +5,7 @@ use Rattle.std.specs.Prelude.{map, take, min}
 use Rattle.std.specs.Prelude.{Option, Some, None, Result, Ok, Err}
 use Rattle.vb_chain.specs.declared.fault.ChainFault.TheVariants.{OutOfRam}
 use Rattle.vb_core.specs.declared.kinds.Kind.{Kind}
-use Rattle.vb_core.specs.declared.kinds.Kind.TheVariants.{Inflate, Deflate, Statistics, Report}
+use Rattle.vb_core.specs.declared.kinds.Kind.TheVariants.{Inflate, Deflate, Statistics, Hint, Report}
 use Rattle.vb_core.specs.declared.runs.Run.{Run}
 use Rattle.vb_core.specs.declared.name.Named.{Named}
 use Rattle.vb_core.specs.declared.ring.UsedEntry.{UsedEntry}
@@ -88,6 +88,7 @@ abbrev pub is_kept : Kind → Bool → Bool → Bool
 is_kept Inflate all reports = all
 is_kept Deflate all reports = false
 is_kept Statistics all reports = false
+is_kept Hint all reports = all || reports
 is_kept Report all reports = all || reports
 
 -- Of n pages m are kept.
@@ -102,7 +103,9 @@ cuts_for Inflate true regions runs = []
 cuts_for Inflate false regions runs = cuts_of regions runs
 cuts_for Deflate kept regions runs = []
 cuts_for Statistics kept regions runs = []
+cuts_for Hint true regions runs = []
 cuts_for Report true regions runs = []
+cuts_for Hint false regions runs = cuts_of regions runs
 cuts_for Report false regions runs = cuts_of regions runs
 
 -- These parts are discarded, in order, and then this comes.
@@ -174,4 +177,5 @@ abbrev pub is_discarded : Kind → Bool → Bool
 is_discarded Inflate kept = not kept
 is_discarded Deflate kept = false
 is_discarded Statistics kept = false
+is_discarded Hint kept = not kept
 is_discarded Report kept = not kept

@@ -11,11 +11,11 @@ use Rattle.vb_monitor.specs.declared.cuts.Cut.{Cut}
 use Rattle.vb_monitor.specs.declared.cuts.NextCut.{NextCut}
 use Rattle.vb_monitor.specs.declared.regions.Region.{Region}
 use Rattle.vb_monitor.specs.declared.orders.Told.{Told}
-use Rattle.vb_monitor.specs.declared.orders.Told.TheVariants.{Nothing, Pages, Figures}
+use Rattle.vb_monitor.specs.declared.orders.Told.TheVariants.{Nothing, Pages, Figures, Id}
 use Rattle.vb_monitor.specs.declared.orders.Used.{Used}
 use Rattle.vb_monitor.specs.declared.orders.Asked.{Asked}
 use Rattle.vb_monitor.specs.declared.orders.Orders.{Orders}
-use Rattle.vb_monitor.specs.Accesses.{Access, Release, TellPages, TellFigures, Discard, WriteNumber}
+use Rattle.vb_monitor.specs.Accesses.{Access, Release, TellPages, TellFigures, TellId, Discard, WriteNumber}
 use Rattle.vb_monitor.specs.Accesses.{WriteWord}
 use Rattle.vb_monitor.specs.declared.step.Phase.{Phase}
 use Rattle.vb_monitor.specs.Machine.{cuts_after, stage}
@@ -32,6 +32,7 @@ telling Pages kind named some_figures runs figures =
     TellPages kind (take named.runs runs) named ∷ []
 telling Figures kind named some_figures runs figures =
     TellFigures (take some_figures figures) ∷ []
+telling Id kind named some_figures runs figures = TellId some_figures ∷ []
 
 -- There are as many runs or figures as are told, and as many parts as are discarded: none of them
 -- lies past the room for them.

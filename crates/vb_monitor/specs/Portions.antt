@@ -5,7 +5,7 @@ use Rattle.std.specs.Prelude.{take, Result, Ok, Err, Some}
 use Rattle.vb_virtio.specs.declared.limits.TheConstants.{MAX_REQUEST_PAGES}
 use Rattle.vb_chain.specs.declared.fault.ChainFault.TheVariants.{BadLength}
 use Rattle.vb_core.specs.declared.kinds.Kind.{Kind}
-use Rattle.vb_core.specs.declared.kinds.Kind.TheVariants.{Inflate, Deflate, Statistics, Report}
+use Rattle.vb_core.specs.declared.kinds.Kind.TheVariants.{Inflate, Deflate, Statistics, Hint, Report}
 use Rattle.vb_core.specs.declared.runs.Run.{Run}
 use Rattle.vb_core.specs.declared.name.Named.{Named}
 use Rattle.vb_core.specs.declared.device.Denial.{Denial}
@@ -56,6 +56,7 @@ abbrev pub ServesPortion : Kind → Whole → (Device → Tally → List Access 
 ServesPortion Inflate w on d tally bytes log = NamesPortion w on d tally bytes log
 ServesPortion Deflate w on d tally bytes log = NamesPortion w on d tally bytes log
 ServesPortion Statistics w on d tally bytes log = Breaks w d tally BadLength log
+ServesPortion Hint w on d tally bytes log = Breaks w d tally BadLength log
 ServesPortion Report w on d tally bytes log = Breaks w d tally BadLength log
 
 -- A part is copied, unless the portion so far is full: then that is served first.

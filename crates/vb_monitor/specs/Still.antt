@@ -14,7 +14,7 @@ use Rattle.vb_ring.specs.Entries.{ahead, next_by}
 use Rattle.vb_request.specs.Statistics.{statistics_length}
 use Rattle.vb_request.specs.Report.{report_request}
 use Rattle.vb_core.specs.declared.kinds.Kind.{Kind}
-use Rattle.vb_core.specs.declared.kinds.Kind.TheVariants.{Inflate, Deflate, Statistics, Report}
+use Rattle.vb_core.specs.declared.kinds.Kind.TheVariants.{Inflate, Deflate, Statistics, Hint, Report}
 use Rattle.vb_core.specs.declared.ring.Virtqueue.{Virtqueue}
 use Rattle.vb_core.specs.declared.device.Denial.{Denial}
 use Rattle.vb_core.specs.declared.device.Denial.TheVariants.{Broken}
@@ -26,7 +26,7 @@ use Rattle.vb_monitor.specs.declared.parts.Part.{Part}
 use Rattle.vb_monitor.specs.declared.room.TheConstants.{MAX_BYTES}
 use Rattle.vb_monitor.specs.declared.outcome.{Budget.Budget, Tally.Tally}
 use Rattle.vb_monitor.specs.Accesses.{Access, ReadWord, CopyBytes, Acquire, Release, Full}
-use Rattle.vb_monitor.specs.Accesses.{TellPages, TellFigures, Discard, WriteNumber, WriteWord}
+use Rattle.vb_monitor.specs.Accesses.{TellPages, TellFigures, TellId, Discard, WriteNumber, WriteWord}
 use Rattle.vb_monitor.specs.Regions.{spot}
 use Rattle.vb_monitor.specs.Chains.{descriptor_of, memory_end, request_length_within}
 use Rattle.vb_monitor.specs.Within.{ChainWithin, FaultWithin}
@@ -52,6 +52,7 @@ Holds byte regions Release = Unit {0}
 Holds byte regions Full = Unit {0}
 Holds byte regions (TellPages kind runs named) = Unit {0}
 Holds byte regions (TellFigures figures) = Unit {0}
+Holds byte regions (TellId id) = Unit {0}
 Holds byte regions (Discard cut) = Unit {0}
 Holds byte regions (WriteNumber at number) = Unit {0}
 Holds byte regions (WriteWord at word) = Unit {0}
@@ -70,6 +71,7 @@ StaysUntil onward byte regions (Full ∷ xs) = onward (Full ∷ xs)
 StaysUntil onward byte regions (TellPages kind runs named ∷ xs) =
     onward (TellPages kind runs named ∷ xs)
 StaysUntil onward byte regions (TellFigures figures ∷ xs) = onward (TellFigures figures ∷ xs)
+StaysUntil onward byte regions (TellId id ∷ xs) = onward (TellId id ∷ xs)
 StaysUntil onward byte regions (Discard cut ∷ xs) = onward (Discard cut ∷ xs)
 StaysUntil onward byte regions (WriteNumber at number ∷ xs) = onward (WriteNumber at number ∷ xs)
 StaysUntil onward byte regions (WriteWord at word ∷ xs) = onward (WriteWord at word ∷ xs)
@@ -134,6 +136,7 @@ abbrev pub is_read : Kind → Bool
 is_read Inflate = true
 is_read Deflate = true
 is_read Statistics = true
+is_read Hint = false
 is_read Report = false
 
 -- How many bytes the pieces of a chain of this kind have, or what is wrong with them; a request may
@@ -142,6 +145,7 @@ abbrev pub length_of : Kind → ℕ → List Piece → Result ℕ ChainFault
 length_of Inflate most pieces = request_length_within most pieces
 length_of Deflate most pieces = request_length_within most pieces
 length_of Statistics most pieces = statistics_length pieces
+length_of Hint most pieces = request_length_within most pieces
 length_of Report most pieces = request_length_within most pieces
 
 -- ---- what is done

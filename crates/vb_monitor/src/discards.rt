@@ -44,7 +44,7 @@ fn is_kept(device: &Device, kind: Kind, keeps: bool) -> bool
 {
     match kind {
         Kind::Inflate => keeps,
-        Kind::Report => keeps || device.keeps_reports(),
+        Kind::Hint | Kind::Report => keeps || device.keeps_reports(),
         Kind::Deflate | Kind::Statistics => false,
     }
 }
@@ -72,7 +72,7 @@ fn discards(device: &Device, kind: Kind, keeps: bool) -> bool
         cuts_for kind (is_kept kind keeps (keeps_reports device.now)) regions runs ≡ [] }
 {
     match kind {
-        Kind::Inflate | Kind::Report => !is_kept(device, kind, keeps),
+        Kind::Inflate | Kind::Hint | Kind::Report => !is_kept(device, kind, keeps),
         Kind::Statistics | Kind::Deflate => false,
     }
 }

@@ -44,6 +44,10 @@ pub trait LiveMemory {
     fn tell_figures(&mut self, figures: &[Statistic])
         ensures { goes self.old (TellFigures figures.now) self.new };
 
+    /// The guest told this id of hints: the VMM knows then whether a round of its own is open.
+    fn tell_id(&mut self, id: u32)
+        ensures { goes self.old (TellId id) self.new };
+
     /// Gives pages back to the machine, where it can.
     fn discard(&mut self, cut: Cut)
         ensures { goes self.old (Discard cut) self.new };

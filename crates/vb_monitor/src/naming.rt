@@ -12,6 +12,7 @@ ghost use Rattle.vb_monitor.specs.Giving.{spent, with_named};
 ghost use Rattle.vb_monitor.specs.Portions.{ServesPortion, NamesPortion, CopiesFurther};
 ghost use Rattle.vb_core.specs.Pieces.{pieces_in};
 ghost use Rattle.vb_monitor.specs.Chains.{NamesBytes, NamesReport, FiguresBy, CopiesBy};
+ghost use Rattle.vb_monitor.specs.Chains.{TellsIdThen, after_id, told_if, tells_pages};
 ghost use Rattle.vb_monitor.specs.Machine.{Fits, Ahead, AheadAt, whole, next_chain, serves, served};
 ghost use Rattle.vb_monitor.specs.Machine.{parts_from};
 ghost use Rattle.vb_monitor.specs.declared.room.Room.{Room};
@@ -23,7 +24,9 @@ ghost use Rattle.std.specs.Prelude.{◌+◌};
 
 use crate::copying::{copy_on, first_bytes};
 use crate::ends::{end, fail};
-use crate::pieces::{first_pieces, report_named, request_length, statistics_length};
+use crate::pieces::{
+    first_pieces, has_id, id_length, report_named, request_length, statistics_length,
+};
 use crate::{Place, Progress, Region, Room, Walk};
 use vb_chain::ChainFault;
 use vb_core::{Device, Kind, Named, Settings};
@@ -130,7 +133,7 @@ pub(crate) fn name_portion(
         + (once_named regions.now + copies_left regions.now place.piece place.done) }
 {
     match kind {
-        Kind::Statistics | Kind::Report => {
+        Kind::Statistics | Kind::Hint | Kind::Report => {
             fail(step, device, regions, kind, ChainFault::BadLength)
         }
         Kind::Inflate | Kind::Deflate => name_numbers(step, device, regions, kind, place, room),
@@ -168,7 +171,22 @@ fn name_bytes(
     }
 }
 
-/// Names the pages of a report of a place's pieces.
+/// What is told of pages that a chain names by its pieces: nothing of a hint in a round that isn't
+/// open, whose pages count as skipped.
+fn told_of(device: &Device, kind: Kind, named: Named) -> Named
+    ensures { told_if (tells_pages kind device.now) (Ok named) ≡ Ok result }
+{
+    match kind {
+        Kind::Hint if !device.round.is_open() => Named {
+            runs: 0,
+            pages: 0,
+            skipped: named.pages,
+        },
+        _ => named,
+    }
+}
+
+/// Names the pages of a report or a hint of a place's pieces.
 #[tactic(auto, using(crate::proofs::RoomLemmas::few_reported))]
 fn name_report(
     step: &mut Progress,
@@ -189,9 +207,12 @@ fn name_report(
         of_chains regions.now (tally_of step.old).chains + once_named regions.now }
 {
     let chain = first_pieces(&room.pieces, place.count);
-    match report_named(device, chain, &mut room.runs) {
+    match report_named(device, kind, chain, &mut room.runs) {
         Err(why) => end(step, device, regions, kind, Some(why), false),
-        Ok(named) => tell_pages(step, &device.settings, kind, place, named),
+        Ok(named) => {
+            let told = told_of(device, kind, named);
+            tell_pages(step, &device.settings, kind, place, told)
+        }
     }
 }
 
@@ -227,6 +248,31 @@ fn keep_figures(
     }
 }
 
+/// Reads an id of hints, of which the first `into` bytes were copied: the device's round opens or
+/// closes by it.
+fn hear_id(
+    step: &mut Progress,
+    device: &mut Device,
+    kind: Kind,
+    place: Place,
+    into: usize,
+    room: &mut Room,
+)
+    ensures step { (w : Whole) (log : List Access) →
+        Ahead w (step_of step.new) device.new room.new log →
+        TellsIdThen w (next_chain w (tally_of step.old))
+        (after_id (from_le_bytes w32 (take into room.old.bytes)) device.old) (tally_of step.old)
+        place.head (from_le_bytes w32 (take into room.old.bytes)) log }
+    ensures fits { Fits (phase_of step.new) }
+    ensures left { (regions : List Region) → left regions (step_of step.new) ≤
+        of_chains regions (tally_of step.old).chains + once_named regions }
+{
+    let id = id_in(first_bytes(&room.bytes, into));
+    device.take_request(kind);
+    device.hear_id(id);
+    step.await_id(place.head, id);
+}
+
 /// Serves a chain, or the last portion of one, of which the first `into` bytes were copied.
 #[inline(always)]
 pub(crate) fn serve_bytes(
@@ -248,6 +294,7 @@ pub(crate) fn serve_bytes(
 {
     match kind {
         Kind::Statistics => keep_figures(step, device, regions, kind, place, into, room),
+        Kind::Hint => hear_id(step, device, kind, place, into, room),
         Kind::Inflate | Kind::Deflate | Kind::Report => {
             name_bytes(step, device, regions, kind, place, into, room)
         }
@@ -280,7 +327,11 @@ pub(crate) fn serve_pieces(
         done: 0,
     };
     match kind {
-        Kind::Report => name_report(step, device, regions, kind, place, room),
+        Kind::Hint if has_id(chain) => match id_length(chain) {
+            Err(fault) => fail(step, device, regions, kind, fault),
+            Ok(_) => copy_on(step, device, regions, kind, place, 0, room),
+        },
+        Kind::Hint | Kind::Report => name_report(step, device, regions, kind, place, room),
         Kind::Statistics => match statistics_length(chain) {
             Err(fault) => fail(step, device, regions, kind, fault),
             Ok(_) => copy_on(step, device, regions, kind, place, 0, room),

@@ -22,6 +22,7 @@ use crate::cuts::NextCut;
 use crate::discards::{after_told, discard_next, first_runs, go_onward, kept_pages};
 use crate::ends::end;
 use crate::filling::fill;
+use crate::giving::give_back;
 use crate::looks::after_given;
 use crate::{Cut, Discarding, Phase, Progress, Region, Room, UsedSpots};
 use vb_core::{Device, Kind, Named};
@@ -37,6 +38,8 @@ pub enum Told {
     Pages,
     /// The first figures.
     Figures,
+    /// An id of hints.
+    Id,
 }
 
 /// A used element, and where it goes.
@@ -59,7 +62,7 @@ pub struct Used {
 pub struct Orders {
     /// What the monitor is told of pages.
     pub named: Named,
-    /// How many figures it is told.
+    /// How many figures it is told, or the id of hints that it is told.
     pub figures: u32,
     /// How many parts are discarded.
     pub cuts: u32,
@@ -132,6 +135,11 @@ fn tell(
             end(step, device, regions, kind, None, false);
             Told::Figures
         }
+        Phase::TellsId { head, id } => {
+            orders.figures = id;
+            give_back(step, device, regions, kind, head);
+            Told::Id
+        }
         Phase::Discards { .. }
         | Phase::GivesBack { .. }
         | Phase::AwaitsIndex { .. }
@@ -182,6 +190,7 @@ fn discard(
         }
         Phase::TellsPages { .. }
         | Phase::TellsFigures { .. }
+        | Phase::TellsId { .. }
         | Phase::GivesBack { .. }
         | Phase::AwaitsIndex { .. }
         | Phase::AwaitsEntry { .. }
@@ -224,6 +233,7 @@ fn give(
         }
         Phase::TellsPages { .. }
         | Phase::TellsFigures { .. }
+        | Phase::TellsId { .. }
         | Phase::Discards { .. }
         | Phase::AwaitsIndex { .. }
         | Phase::AwaitsEntry { .. }
@@ -248,6 +258,7 @@ fn waits(step: &Progress) -> bool
         | Phase::Ended { .. } => true,
         Phase::TellsPages { .. }
         | Phase::TellsFigures { .. }
+        | Phase::TellsId { .. }
         | Phase::Discards { .. }
         | Phase::GivesBack { .. } => false,
     }
