@@ -28,6 +28,7 @@ saved = record {
       needs_must_tell = 1;
       skips_bad_pages = 2;
       holds_deflates = 3;
+      discards_hints = 4;
     };
     features = 0x10000003b;
     target = 0x1020304;
@@ -45,21 +46,21 @@ saved = record {
 }
 
 -- the header; the settings; features, target, actual, the buffer that is held, and status; four
--- rings; poison_val; whether deflates are held, the one that is, and its pages; the ring of hints, and
--- the round; and the checksum of all these
+-- rings; poison_val; whether deflates are held, the one that is, and its pages; the ring of hints, the
+-- round, and whether hints are discarded; and the checksum of all these
 abbrev bytes : List ℕ
 bytes =
-    86 ∷ 66 ∷ 83 ∷ 84 ∷ 65 ∷ 84 ∷ 69 ∷ 0 ∷ 4 ∷ 0 ∷ 0 ∷ 0 ∷ 239 ∷ 0 ∷ 0 ∷ 0 ∷ 0 ∷ 8 ∷ 0 ∷ 1 ∷ 0 ∷ 0
+    86 ∷ 66 ∷ 83 ∷ 84 ∷ 65 ∷ 84 ∷ 69 ∷ 0 ∷ 4 ∷ 0 ∷ 0 ∷ 0 ∷ 240 ∷ 0 ∷ 0 ∷ 0 ∷ 0 ∷ 8 ∷ 0 ∷ 1 ∷ 0 ∷ 0
     ∷ 0 ∷ 0 ∷ 59 ∷ 0 ∷ 0 ∷ 0 ∷ 1 ∷ 0 ∷ 0 ∷ 0 ∷ 16 ∷ 0 ∷ 0 ∷ 0 ∷ 1 ∷ 2 ∷ 59 ∷ 0 ∷ 0 ∷ 0 ∷ 1 ∷ 0 ∷ 0
     ∷ 0 ∷ 4 ∷ 3 ∷ 2 ∷ 1 ∷ 8 ∷ 7 ∷ 6 ∷ 5 ∷ 64 ∷ 0 ∷ 0 ∷ 0 ∷ 15 ∷ 0 ∷ 0 ∷ 1 ∷ 0 ∷ 0 ∷ 0 ∷ 0 ∷ 0 ∷ 0
     ∷ 16 ∷ 1 ∷ 0 ∷ 0 ∷ 0 ∷ 0 ∷ 0 ∷ 0 ∷ 32 ∷ 1 ∷ 0 ∷ 0 ∷ 0 ∷ 0 ∷ 0 ∷ 0 ∷ 1 ∷ 2 ∷ 1 ∷ 4 ∷ 3 ∷ 0 ∷ 0
-    ∷ 2 ∷ 0 ∷ 0 ∷ 0 ∷ 0 ∷ 0 ∷ 2 ∷ 16 ∷ 2 ∷ 0 ∷ 0 ∷ 0 ∷ 0 ∷ 0 ∷ 4 ∷ 32 ∷ 2 ∷ 0 ∷ 0 ∷ 0 ∷ 0 ∷ 0
-    ∷ 128 ∷ 0 ∷ 5 ∷ 0 ∷ 6 ∷ 0 ∷ 16 ∷ 0 ∷ 3 ∷ 0 ∷ 0 ∷ 0 ∷ 0 ∷ 0 ∷ 0 ∷ 16 ∷ 3 ∷ 0 ∷ 0 ∷ 0 ∷ 0 ∷ 0
-    ∷ 0 ∷ 32 ∷ 3 ∷ 0 ∷ 0 ∷ 0 ∷ 0 ∷ 0 ∷ 64 ∷ 0 ∷ 7 ∷ 0 ∷ 8 ∷ 0 ∷ 0 ∷ 0 ∷ 4 ∷ 0 ∷ 0 ∷ 0 ∷ 0 ∷ 0 ∷ 0
-    ∷ 16 ∷ 4 ∷ 0 ∷ 0 ∷ 0 ∷ 0 ∷ 0 ∷ 0 ∷ 32 ∷ 4 ∷ 0 ∷ 0 ∷ 0 ∷ 0 ∷ 0 ∷ 32 ∷ 0 ∷ 9 ∷ 0 ∷ 10 ∷ 0 ∷ 221
-    ∷ 204 ∷ 187 ∷ 170 ∷ 3 ∷ 100 ∷ 0 ∷ 0 ∷ 0 ∷ 200 ∷ 0 ∷ 0 ∷ 0 ∷ 0 ∷ 0 ∷ 5 ∷ 0 ∷ 0 ∷ 0 ∷ 0 ∷ 0 ∷ 0
-    ∷ 16 ∷ 5 ∷ 0 ∷ 0 ∷ 0 ∷ 0 ∷ 0 ∷ 0 ∷ 32 ∷ 5 ∷ 0 ∷ 0 ∷ 0 ∷ 0 ∷ 0 ∷ 16 ∷ 0 ∷ 11 ∷ 0 ∷ 12 ∷ 0 ∷ 7
-    ∷ 3 ∷ 2 ∷ 1 ∷ 7 ∷ 3 ∷ 2 ∷ 1 ∷ 1 ∷ 62 ∷ 107 ∷ 60 ∷ 136 ∷ 200 ∷ 63 ∷ 99 ∷ 159 ∷ []
+    ∷ 2 ∷ 0 ∷ 0 ∷ 0 ∷ 0 ∷ 0 ∷ 2 ∷ 16 ∷ 2 ∷ 0 ∷ 0 ∷ 0 ∷ 0 ∷ 0 ∷ 4 ∷ 32 ∷ 2 ∷ 0 ∷ 0 ∷ 0 ∷ 0 ∷ 0 ∷ 128
+    ∷ 0 ∷ 5 ∷ 0 ∷ 6 ∷ 0 ∷ 16 ∷ 0 ∷ 3 ∷ 0 ∷ 0 ∷ 0 ∷ 0 ∷ 0 ∷ 0 ∷ 16 ∷ 3 ∷ 0 ∷ 0 ∷ 0 ∷ 0 ∷ 0 ∷ 0 ∷ 32
+    ∷ 3 ∷ 0 ∷ 0 ∷ 0 ∷ 0 ∷ 0 ∷ 64 ∷ 0 ∷ 7 ∷ 0 ∷ 8 ∷ 0 ∷ 0 ∷ 0 ∷ 4 ∷ 0 ∷ 0 ∷ 0 ∷ 0 ∷ 0 ∷ 0 ∷ 16 ∷ 4
+    ∷ 0 ∷ 0 ∷ 0 ∷ 0 ∷ 0 ∷ 0 ∷ 32 ∷ 4 ∷ 0 ∷ 0 ∷ 0 ∷ 0 ∷ 0 ∷ 32 ∷ 0 ∷ 9 ∷ 0 ∷ 10 ∷ 0 ∷ 221 ∷ 204 ∷ 187
+    ∷ 170 ∷ 3 ∷ 100 ∷ 0 ∷ 0 ∷ 0 ∷ 200 ∷ 0 ∷ 0 ∷ 0 ∷ 0 ∷ 0 ∷ 5 ∷ 0 ∷ 0 ∷ 0 ∷ 0 ∷ 0 ∷ 0 ∷ 16 ∷ 5 ∷ 0
+    ∷ 0 ∷ 0 ∷ 0 ∷ 0 ∷ 0 ∷ 32 ∷ 5 ∷ 0 ∷ 0 ∷ 0 ∷ 0 ∷ 0 ∷ 16 ∷ 0 ∷ 11 ∷ 0 ∷ 12 ∷ 0 ∷ 7 ∷ 3 ∷ 2 ∷ 1 ∷ 7
+    ∷ 3 ∷ 2 ∷ 1 ∷ 1 ∷ 4 ∷ 73 ∷ 250 ∷ 21 ∷ 254 ∷ 58 ∷ 199 ∷ 17 ∷ 48 ∷ []
 
 -- those that the version before had of the same device, but for its hints
 abbrev older : List ℕ
@@ -96,6 +97,7 @@ written = refl
 abbrev without_hints : Saved → Saved
 without_hints s = record s {
   device = record s.device {
+    settings = record s.device.settings { discards_hints = 0 };
     hint = ring 0 0 0 0 0 0;
     round = record { shown = 0; last = 0; opened = 0 };
   };
@@ -104,7 +106,7 @@ without_hints s = record s {
 abbrev without : Saved → Saved
 without s = record {
   device = record (without_hints s).device {
-    settings = record s.device.settings { holds_deflates = 0 };
+    settings = record s.device.settings { holds_deflates = 0; discards_hints = 0 };
   };
   held = record { statistics = 64; deflate = 0; pages = 0 };
 }
@@ -180,7 +182,7 @@ impossible = refl
 -- a byte less or more, another length in the header, a wrong checksum, and an impossible device with a
 -- right one
 not_restored : map restored (
-    take 15 bytes ∷ take 238 bytes ∷ (bytes ++ 0 ∷ []) ∷ (take 12 bytes ++ 238 ∷ drop 13 bytes)
+    take 15 bytes ∷ take 239 bytes ∷ (bytes ++ 0 ∷ []) ∷ (take 12 bytes ++ 239 ∷ drop 13 bytes)
     ∷ (take 182 bytes ++ 171 ∷ drop 183 bytes) ∷ saved_bytes (holding 65 100 200) ∷ []
     ) ≡ Err BadLength ∷ Err BadLength ∷ Err BadLength ∷ Err BadLength ∷ Err BadSum ∷ Err Impossible ∷ []
 unfolding u16_bytes u32_bytes u64_bytes u16_at u32_at u64_at checksum lib.Count.ones
@@ -188,7 +190,7 @@ not_restored = refl
 
 -- of the older versions: a newer one's length, or bytes of it under the other's number
 not_restored_before : map restored (
-    take 199 older ∷ (older ++ take 39 older) ∷ (take 8 bytes ++ 3 ∷ drop 9 bytes)
+    take 199 older ∷ (older ++ take 40 older) ∷ (take 8 bytes ++ 3 ∷ drop 9 bytes)
     ∷ (take 8 older ++ 4 ∷ drop 9 older) ∷ (take 8 older ++ 2 ∷ drop 9 older)
     ∷ (take 182 older ++ 171 ∷ drop 183 older) ∷ (take 8 older ++ 5 ∷ drop 9 older)
     ∷ older_bytes (holding 65 100 200) ∷ []

@@ -41,13 +41,13 @@ pub(crate) const HOLD_AT: usize = 183;
 pub(crate) const HINT_AT: usize = 192;
 
 /// Where the checksum of all bytes before it is.
-pub(crate) const CHECKSUM_AT: usize = 231;
+pub(crate) const CHECKSUM_AT: usize = 232;
 
 /// How many bytes the checksum has.
 pub(crate) const CHECKSUM_LENGTH: usize = 8;
 
 /// How many bytes a saved device has.
-pub const SAVED_LENGTH: usize = 239;
+pub const SAVED_LENGTH: usize = 240;
 
 /// How many it had in the older version.
 pub const OLDER_LENGTH: usize = 200;
@@ -103,6 +103,7 @@ fn settings_at(bytes: &[u8], at: usize) -> Settings
         needs_must_tell: bytes[at + 20],
         skips_bad_pages: bytes[at + 21],
         holds_deflates: 0,
+        discards_hints: 0,
     }
 }
 
@@ -180,6 +181,7 @@ fn saved_in(bytes: &[u8]) -> Saved
     let mut saved = older_in(bytes);
     saved.device.hint = ring_at(bytes, HINT_AT);
     saved.device.round = round_at(bytes, HINT_AT + 30);
+    saved.device.settings.discards_hints = bytes[HINT_AT + 39];
     saved
 }
 
@@ -326,6 +328,7 @@ fn push_body(out: &mut SavedBytes, saved: &Saved)
     push_holds(out, saved);
     push_ring(out, &device.hint);
     push_round(out, &device.round);
+    push_u8(out, device.settings.discards_hints);
 }
 
 /// The checksum of bytes: FNV-1a with 64 bits. A change of any one byte changes it.
