@@ -1,8 +1,9 @@
 -- The bytes of a saved device, worked out: each field has a number of its own.
 use Rattle.std.specs.Prelude.{Ok, Err, take, drop}
-use Rattle.std.proofs.Common.{◌≡◌, ℕ, true, false, List, [], ◌∷◌, ◌++◌, map, refl}
+use Rattle.std.proofs.Common.{◌≡◌, ℕ, true, false, List, [], ◌∷◌, ◌++◌, map, refl, ap}
 use Rattle.vb_core.specs.declared.{device.Device.Device, saved.Saved.Saved}
-use Rattle.vb_core.specs.declared.{ring.Virtqueue.Virtqueue}
+use Rattle.vb_core.specs.declared.{ring.Virtqueue.Virtqueue, hints.Round.Round}
+use Rattle.vb_core.specs.Format.{in_a_row, round_parts, round_at, HintsNothing}
 use Rattle.vb_core.specs.Format.{u16_bytes, u32_bytes, u64_bytes, u16_at, u32_at, u64_at, checksum}
 use Rattle.vb_core.specs.{Format.{saved_bytes, saved_in, older_bytes, older_in, oldest_bytes, oldest_in}, Saved.{can_be, restored}}
 use Rattle.vb_core.specs.declared.saved.StateDenial.TheVariants.{BadLength, BadSum, Impossible, OtherVersion}
@@ -143,6 +144,36 @@ back_at_first : restored oldest ≡ Ok (without saved)
 unfolding u16_at u32_at u64_at checksum lib.Count.ones
 back_at_first = refl
 
+-- ---- a round, each of its numbers another one
+
+abbrev a_round : Round
+a_round = record { shown = 0x1020304; last = 0x5060708; opened = 9 }
+
+round_bytes : in_a_row (round_parts a_round) [] ≡ 4 ∷ 3 ∷ 2 ∷ 1 ∷ 8 ∷ 7 ∷ 6 ∷ 5 ∷ 9 ∷ []
+unfolding u32_bytes
+round_bytes = refl
+
+round_read : round_at (255 ∷ 4 ∷ 3 ∷ 2 ∷ 1 ∷ 8 ∷ 7 ∷ 6 ∷ 5 ∷ 9 ∷ 255 ∷ []) 1 ≡ a_round
+unfolding u32_at
+round_read = refl
+
+-- ---- what a device of an older version has nothing of: each of these alone is something
+
+hints_nothing : HintsNothing (without_hints saved).device
+hints_nothing = record { setting = refl; ring = refl; round = refl }
+
+abbrev bare : Device
+bare = (without_hints saved).device
+
+hints_something : (HintsNothing (record bare { settings = record bare.settings { discards_hints = 1 } }) → ⊥)
+    × (HintsNothing (record bare { hint = record bare.hint { table = 1 } }) → ⊥)
+    × (HintsNothing (record bare { round = record bare.round { last = 2 } }) → ⊥)
+hints_something = (
+  λ h. let wrong : 1 ≡ 0 = h.setting in cc,
+  λ h. let wrong : 1 ≡ 0 = ap (λ (r : Virtqueue). r.table) h.ring in cc,
+  λ h. let wrong : 2 ≡ 0 = ap (λ (r : Round). r.last) h.round in cc,
+)
+
 -- ---- what a device may be: each of these alone makes it impossible
 
 abbrev with_device : (Device → Device) → Saved
@@ -165,7 +196,10 @@ impossible : map can_be (
     ∷ with_device (λ d. record d { deflate = six })
     ∷ with_device (λ d. record d { statistics = record d.statistics { table = 1 } })
     ∷ with_device (λ d. record d { report = six }) ∷ with_device (λ d. record d { hint = six })
-    ∷ with_device (λ d. record d { round = record d.round { opened = 2 } }) ∷ with_device (λ d. record d { status = 31 })
+    ∷ with_device (λ d. record d { round = record d.round { opened = 2 } })
+    ∷ with_device (λ d. record d { round = record d.round { shown = 0x1020306 } })
+    ∷ with_device (λ d. record d { round = record d.round { last = 0x1020306 } })
+    ∷ with_device (λ d. record d { round = record d.round { shown = 0 } }) ∷ with_device (λ d. record d { status = 31 })
     ∷ with_device (λ d. record d { features = 0x10000003c })
     ∷ with_device (λ d. record d { settings = record d.settings { memory_end = 0x100000000000 } })
     ∷ with_device (λ d. record d {
@@ -173,7 +207,7 @@ impossible : map can_be (
       settings = record d.settings { offered = 0x10000002b };
     }) ∷ []
     ) ≡ true ∷ false ∷ false ∷ false ∷ false ∷ false ∷ false ∷ false ∷ false ∷ false ∷ false ∷ false ∷ false ∷ false
-    ∷ false ∷ false ∷ []
+    ∷ false ∷ false ∷ false ∷ false ∷ false ∷ []
 unfolding lib.Count.ones
 impossible = refl
 
