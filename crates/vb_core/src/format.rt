@@ -47,7 +47,7 @@ pub(crate) const CHECKSUM_AT: usize = 231;
 pub(crate) const CHECKSUM_LENGTH: usize = 8;
 
 /// How many bytes a saved device has.
-pub const SAVED_LENGTH: usize = 239;
+pub const SAVED_LENGTH: usize = 240;
 
 /// How many it had in the older version.
 pub const OLDER_LENGTH: usize = 200;
