@@ -154,7 +154,7 @@ static void walks_break_rules(uint32_t kind)
     breaks(kind, 5);
     describe(&guest, kind, 5, 0x20000, 4096, NEXT, 99);
     breaks(kind, 5);
-    describe(&guest, kind, 3, 0x20000, 4096, write ^ WRITE, kind == VB_HINT ? NEXT : 0);
+    describe(&guest, kind, 3, 0x20000, 4096, kind == VB_HINT ? NEXT : write ^ WRITE, 5);     /* hints are of either */
     describe(&guest, kind, 5, 0x20000, 4096, write ^ WRITE, 0);
     breaks(kind, 5);
     for (uint16_t i = 0; i < SIZE; i++)     /* too long before the first one comes again, to be read */
@@ -206,7 +206,7 @@ static void hints_break_rules(bool opened)
 {
     static const struct { uint32_t length, rule, other; uint16_t flags; uint64_t address; } rows[] = {
         { 0, 8, 0, 0, 0x20000 }, { 3, 8, 0, 0, 0x20000 }, { 5, 8, 0, 0, 0x20000 }, { 8, 8, 0, 0, 0x20000 }, { 4096, 8, 0, 0, 0x20000 },
-        { 2, 8, 3, NEXT, 0x20000 }, { 4, 8, 4, NEXT, 0x20000 }, { 4, 8, UINT32_MAX - 3, NEXT, 0 },
+        { 2, 8, 3, NEXT, 0x20000 }, { 4, 8, 4, NEXT, 0x20000 }, { 4, 8, MEMORY - 4, NEXT, 0x20000 },
         { 0, 8, 0, WRITE, 0x20000 }, { 4, 8, 0, WRITE, 0x20000 }, { 4097, 8, 0, WRITE, 0x20000 },
         { 4096, 9, 0, WRITE, 0x20800 }, { 4096, 10, 0, WRITE, (RESERVED - 1) * 4096 }, { 4096, 6, 0, WRITE, MEMORY },
     };

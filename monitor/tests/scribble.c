@@ -142,7 +142,7 @@ static void begin(void)
 {
     struct balloon_result result;
     const uint64_t features = LINUX_FEATURES | VB_F_FREE_PAGE_HINT;
-    const VbSettings settings = { .offered = features, .reserved_pages = 16, .skips_bad_pages = 1 };
+    const VbSettings settings = { .offered = features, .reserved_pages = 16, .skips_bad_pages = 1, .discards_hints = 1 };
     uint8_t *high = guarded(HIGH_MIB * MIB), *low = guarded(LOW_MIB * MIB);
     guest.regions[0] = (struct balloon_region){ HIGH_ADDRESS, HIGH_MIB * MIB, high, BALLOON_PRIVATE, 0, 0 };
     guest.regions[1] = (struct balloon_region){ 0, LOW_MIB * MIB, low, BALLOON_PRIVATE, 0, 0 };
@@ -166,7 +166,6 @@ static uint32_t notice(uint32_t kind, uint64_t random)
     if (random % 4 != 0)
         queue->next_avail = (uint16_t)(index - random / 4 % 4);
     guest.balloon.keeps_pages = random / 64 % 4 == 0;
-    state->device.settings.discards_hints = kind != VB_HINT || !guest.balloon.keeps_pages;
     if (random / 1024 % 4 == 0)
         state->device.round = (VbRound){ .shown = random / 4096 % 4, .last = 3, .opened = random / 16384 % 2 };
     struct balloon_result result = balloon_notify(&guest.balloon, kind);

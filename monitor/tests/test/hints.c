@@ -211,9 +211,23 @@ static void hints_have_a_queue_where_negotiated(void)
     free_memory(&guest);
 }
 
+/* What a driver hints before DRIVER_OK is looked at then, with all queues, and is of no round. */
+static void early_hints_are_late(void)
+{
+    struct balloon_result result;
+    begin_guest(1);
+    start_features(&guest, HINTS, 8);
+    describe(&guest, VB_HINT, 0, 900 * 4096, 3 * 4096, WRITE, 0);
+    publish(&guest, VB_HINT, 0);
+    EXPECT(balloon_write_status(&guest.balloon, 15, &result) == 0);
+    EXPECT(result.chains == 1 && result.late == 3 && result.pages == 0 && result.interrupts == 1 << VB_HINT);
+    free_memory(&guest);
+}
+
 void test_hints(void)
 {
     RUN(stories_are_told());
+    RUN(early_hints_are_late());
     RUN(hints_may_be_kept());
     RUN(a_notice_has_many_chains());
     RUN(rounds_are_refused_in_order());
