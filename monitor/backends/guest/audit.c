@@ -69,7 +69,7 @@ static uint16_t word_at(const struct backend *backend, uint64_t address)
 static const VbQueue *queue_of(const struct backend *backend, uint32_t kind)
 {
     const VbDevice *device = &backend->balloon.state.device;
-    const VbQueue *queues[] = {&device->inflate, &device->deflate, &device->statistics, &device->report};
+    const VbQueue *queues[] = {&device->inflate, &device->deflate, &device->statistics, &device->report, &device->hint};
     return kind < VB_NO_KIND && queues[kind]->size > 0 ? queues[kind] : NULL;
 }
 
@@ -120,6 +120,12 @@ void audit_after(struct backend *backend, unsigned number)
             check_entry(backend, number, queue, (uint16_t)(audit.used + i));
 }
 
+/* Whether the pages that are told now stay. */
+static bool keeps(const struct balloon *balloon)
+{
+    return balloon->keeps_pages || (audit.kind == VB_HINT && !balloon->state.device.settings.discards_hints);
+}
+
 /* Notes that pages may be holes from now on; they have to be, after their discarding. */
 static void name_pages(struct backend *backend, uint64_t address, uint64_t length)
 {
@@ -132,7 +138,7 @@ static void name_pages(struct backend *backend, uint64_t address, uint64_t lengt
             audit.may_be_hole[i][page + k] = 1;
         audit.named += count;
         off_t at = (off_t)(region->offset + in), data = lseek(region->fd, at, SEEK_DATA);
-        if (data >= 0 && data < at + (off_t)length && !backend->balloon.keeps_pages)
+        if (data >= 0 && data < at + (off_t)length && !keeps(&backend->balloon))
             fault("page 0x%" PRIx64 " was named, and isn't discarded before its request is used", address / BALLOON_PAGE);
     }
 }

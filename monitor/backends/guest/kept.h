@@ -13,7 +13,7 @@
 
 /* A program goes on with what another one has kept in the same layout. Memory of a guest may end at page MOST_SET, 64 GiB, as there is a set
  * of its pages. A count of bytes begins at COUNT_BEGINS, and goes down. */
-enum { KEPT_LAYOUT = 1, MOST_SET = 1 << 24, COUNT_BEGINS = 1 << 30 };
+enum { KEPT_LAYOUT = 2, MOST_SET = 1 << 24, COUNT_BEGINS = 1 << 30 };
 
 struct kept_region {
     struct region_place place;
@@ -47,7 +47,7 @@ struct kept_state {
     uint32_t region_count;
     struct counters counters;
     VbStatistic figures[MOST_TAGS];
-    uint32_t figure_count, target_pages, actual_pages, poison_value, seen, remarks;
+    uint32_t figure_count, target_pages, actual_pages, poison_value, last_round, seen, remarks;
     uint64_t set_words;
     int socket, channel;        /* the client's, and the one on which it is told things */
     enum outcome outcome;       /* of the message in the inbox */

@@ -1,5 +1,6 @@
 #include "state.h"
 #include "backend.h"
+#include "hints.h"
 
 #include <libgen.h>
 #include <stdio.h>
@@ -45,6 +46,7 @@ bool state_load(struct backend *backend)
         return refuse("%s is no saved state: it is answered %u", path, code);
     balloon_set_target(&backend->balloon, device.target);
     configuration_write(&backend->balloon.state.device, POISON_AT, device.poison);
+    hints_go_on(backend, device.round.last);
     backend->told.actual = device.actual;
     backend->told.goes_on = true;
     return true;
