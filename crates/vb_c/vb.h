@@ -64,22 +64,18 @@ enum {                          /* what is to be done: `what` of a notice, in th
 };
 enum { VB_LOOK = 1, VB_EMPTY = 2 };    /* what a write of the status asks for */
 /* tools/list-codes: numbers, to here */
-enum {                          /* features (VIRTIO 1.2, 5.5.3) */
-    VB_F_FREE_PAGE_HINT = 8,    /* the driver hints which pages are free, in rounds that the host begins */
-    VB_F_PAGE_POISON = 16,      /* the driver says in poison_val what its free pages hold */
-};
+enum { VB_F_FREE_PAGE_HINT = 8, VB_F_PAGE_POISON = 16 };    /* features (VIRTIO 1.2, 5.5.3): poison_val says what free pages hold */
 
 typedef struct {
     uint64_t memory_end;        /* bytes: where guest memory ends, below 2^44; the last part of a page doesn't
                                    count. Holes below it are the caller's. */
-    uint64_t offered;           /* features: of bits 0, 1, 2, 3 (VB_F_FREE_PAGE_HINT), 4 (VB_F_PAGE_POISON), 5 and 32, with bit 32
-                                   (VERSION_1) */
+    uint64_t offered;           /* features: of bits 0 to 5 and 32, with bit 32 (VERSION_1) */
     uint32_t reserved_pages;    /* pages at the start that no request may name; none: 0 */
     uint8_t needs_must_tell;    /* unless 0: FEATURES_OK is refused without MUST_TELL_HOST */
     uint8_t skips_bad_pages;    /* unless 0: a page number past the end, or of a reserved page, is skipped and counted;
                                    0: it breaks rule 9 or 10, and then a Linux driver waits for ever */
     uint8_t holds_deflates;     /* unless 0: a deflate is held until vb_give_held. Set needs_must_tell too: no other driver waits */
-    uint8_t discards_hints;     /* unless 0: pages that are hinted are discarded once they were told; else they are kept */
+    uint8_t discards_hints;     /* unless 0: hinted pages are discarded once they were told, also what the driver wrote to them since */
 } VbSettings;
 
 typedef struct {
@@ -87,13 +83,9 @@ typedef struct {
     uint16_t size, next_avail, next_used;    /* size 0: it has no place */
 } VbQueue;
 
-/* A round of hints (VIRTIO 1.2, 5.5.6.6). */
-typedef struct {
-    uint32_t shown;             /* free_page_hint_cmd_id of the configuration space: the round's id, STOP (0) or DONE (1) */
-    uint32_t last;              /* the id of the round that began last; 0: none has */
-    uint8_t opened;             /* unless 0: the id that is shown was read since the round began, and nothing ended the round */
-} VbRound;
-
+/* Of rounds of hints: what free_page_hint_cmd_id shows, an id, STOP (0) or DONE (1); the id of the last round, or 0; and, unless 0, that
+ * the id that is shown was read since its round began, and nothing ended it. */
+typedef struct { uint32_t shown, last; uint8_t opened; } VbRound;
 typedef struct {
     VbSettings settings;
     uint64_t features;          /* what the driver negotiated */
@@ -109,8 +101,6 @@ typedef struct { uint32_t first, count; } VbRun;                  /* pages first
 typedef struct { uint16_t tag; uint64_t value; } VbStatistic;
 
 typedef struct { uint32_t code; uint64_t pages; } VbMarked;
-typedef struct { uint32_t pages, spare; } VbNeed;                 /* a guest's pages, and how many it can spare */
-typedef struct { uint32_t code; uint64_t missing; } VbTargets;
 
 /* ---- notices over the memory of a running guest: types; the calls are below */
 
@@ -140,8 +130,7 @@ typedef struct { uint64_t table, avail, used; uint16_t size, next; } VbQueueStar
 typedef struct {
     uint32_t what;              /* 0: it has ended */
     uint32_t kind;              /* of its queue */
-    uint32_t runs;              /* VB_TELL_PAGES: runs, the pages in them, and numbers that were skipped; of VB_HINT, the pages that came
-                                   while no round was open, and then there are no runs */
+    uint32_t runs;              /* VB_TELL_PAGES: runs, the pages in them, and numbers (of VB_HINT: late pages) that were skipped */
     uint32_t pages, skipped;
     uint32_t figures;           /* VB_TELL_FIGURES */
     uint32_t cuts;              /* VB_DISCARD */
@@ -195,8 +184,7 @@ VB_ASSERT(VB_HAS(Settings, 24) && VB_AT(Settings, offered, 8) && VB_AT(Settings,
           && VB_AT(Device, poison, 200) && VB_AT(Device, round, 204) && VB_AT(Device, status, 216) && VB_HAS(Held, 12)
           && VB_AT(Held, deflate, 4) && VB_AT(Held, pages, 8) && VB_HAS(Balloon, 240) && VB_AT(Balloon, held, 224));
 VB_ASSERT(VB_HAS(Piece, 16) && VB_AT(Piece, length, 8) && VB_AT(Piece, writable, 12) && VB_HAS(Run, 8) && VB_AT(Run, count, 4)
-          && VB_HAS(Statistic, 16) && VB_AT(Statistic, value, 8) && VB_HAS(Marked, 16) && VB_AT(Marked, pages, 8)
-          && VB_HAS(Need, 8) && VB_AT(Need, spare, 4) && VB_HAS(Targets, 16) && VB_AT(Targets, missing, 8));
+          && VB_HAS(Statistic, 16) && VB_AT(Statistic, value, 8) && VB_HAS(Marked, 16) && VB_AT(Marked, pages, 8));
 VB_ASSERT(VB_HAS(Region, 24) && VB_AT(Region, length, 8) && VB_AT(Region, in_file, 16) && VB_HAS(Spot, 16)
           && VB_AT(Spot, offset, 8) && VB_HAS(Cut, 32) && VB_AT(Cut, offset, 8) && VB_AT(Cut, in_file, 16)
           && VB_AT(Cut, length, 24) && VB_HAS(Large, 40) && VB_AT(Large, waiting, 32) && VB_HAS(Room, 16992)
@@ -229,29 +217,26 @@ uint32_t vb_kind_of(uint64_t features, uint32_t number);
  * its queue has: a longer one is refused as longer than the queue (3). */
 uint32_t vb_place(VbDevice *device, uint32_t kind, uint64_t table, uint64_t avail, uint64_t used, uint16_t size);
 /* Reads or writes bytes of the configuration space (VIRTIO 1.2, 5.5.4), little-endian: num_pages at 0, actual at 4,
- * free_page_hint_cmd_id at 8 where FREE_PAGE_HINT is offered, and poison_val at 12 where PAGE_POISON is. All other bytes read as 0. A write of any length at any
- * offset writes actual, and poison_val where that is offered, each where it covers all 4 of its bytes, as QEMU hands over all 16
- * for each field; all other bytes are ignored. VB_OK; or VB_BAD_ARGUMENT where it covers neither, and then nothing is changed. */
+ * free_page_hint_cmd_id at 8 where FREE_PAGE_HINT is offered, and poison_val at 12 where PAGE_POISON is. All other bytes read as 0.
+ * A write of any length at any offset writes actual, and poison_val where that is offered, each where it covers all 4 of its bytes, as
+ * QEMU hands over all 16 for each field; all other bytes are ignored. VB_OK; or VB_BAD_ARGUMENT, and nothing is changed, for neither. */
 void vb_read_config(const VbDevice *device, uint32_t offset, uint8_t *out, size_t length);
 uint32_t vb_write_config(VbDevice *device, uint32_t offset, const uint8_t *bytes, size_t length);
 /* 1 where the pages of a report keep what is in them: the driver negotiated PAGE_POISON, and poison_val isn't 0. A notice
  * doesn't ask for such pages to be discarded, since they would read as zeros. Else 0. */
 uint32_t vb_keeps_reports(const VbDevice *device);
 
-/* ---- rounds of free page hints (VIRTIO 1.2, 5.5.6.6)
- *
- * After each of the first three, send the driver a configuration change notification. A round is open from when the driver sent
- * its id, by the queue of hints, until it ends or the driver sends another id; a page that comes while none is open is told as
- * skipped, and left alone. The driver uses no page that it hinted before it reads that the round ended. */
+/* ---- rounds of free page hints (VIRTIO 1.2, 5.5.6.6). After each of the first three calls, send the driver a configuration change
+ * notification. Pages that come while no round is open are told as skipped, and left alone. What the driver writes to a page overrides
+ * its hint, and it may write before the device sees that: Linux takes hinted pages back whenever its memory runs out. */
 
-/* Begins a round, in place of one that is on: free_page_hint_cmd_id shows its id, which `id` gets. Ids are 2 and up, and never that
- * of the round before. VB_OK; or refused as is said at the end, and then nothing is changed, and `id` is 0. */
+/* Begins a round, in place of one that is on: `id` gets its id, 2 or up, and never that of the round before. VB_OK; or refused as is
+ * said at the end, and then nothing is changed, and `id` is 0. */
 uint32_t vb_begin_hints(VbDevice *device, uint32_t *id);
-/* Stops a round, at any time: STOP (0) is shown. The driver hints no more, and keeps what it hinted free until DONE is shown. */
+/* Shows STOP, at any time: the driver hints no more, and keeps what it hinted free; or DONE, and it takes that back. */
 void vb_stop_hints(VbDevice *device);
-/* Ends a round, at any time: DONE (1) is shown. The driver takes back what it hinted. */
 void vb_end_hints(VbDevice *device);
-/* 1 where a round is open: its id was read since it began, and nothing ended it. Else 0. */
+/* 1 where a round is open: its id was read since it began, no other one was since, and nothing ended it. Else 0. */
 uint32_t vb_hints_open(const VbDevice *device);
 
 /* ---- notices over the memory of a running guest
@@ -275,8 +260,8 @@ uint32_t vb_hints_open(const VbDevice *device);
  * before the next one is copied. The chain is given back once, after its last portion. Where a later portion breaks a rule, the
  * earlier ones stay told and discarded, and the chain isn't given back.
  * With holds_deflates a notice of deflates ends with its first request, whose pages are told, and whose chain is held.
- * A chain of hints has an id, 4 bytes in all that the device reads (else rule 8), which is told (VB_TELL_ID); or pages, as those of a
- * report, which of an open round are told, and discarded where the settings say discards_hints and a report's would be. */
+ * A chain of hints has an id, 4 bytes that the device reads (else rule 8), which is told (VB_TELL_ID); or pages as a report's, which
+ * in an open round are told, and discarded where the settings say discards_hints and a report's would be. */
 uint32_t vb_begin(VbNotice *notice, VbBalloon *balloon, const VbRegion *regions, size_t count, VbRoom *room,
                   uint32_t kind, uint32_t chains, uint32_t pages, uint32_t keeps);
 /* Gives the chain that is held back: new statistics are asked for (5.5.6.3), or a deflate is granted (5.5.6), whose pages leave
@@ -352,22 +337,6 @@ uint64_t vb_count_ballooned(const uint64_t *set, size_t words);
  * whole pages of 4096 bytes of it. */
 VbLarge vb_large_pages(const VbDevice *device, const VbRegion *region, uint64_t page_size, const VbCut *part,
                        const uint64_t *set, size_t words);
-
-/* For a host of several guests with fewer frames than they have pages: what to ask each of them for. vb_lending.h lends no more. */
-
-/* How many pages a guest can spare: those in the balloon, and the free ones above the floor (none where free_known is
- * 0: no statistics say so); at most its pages that aren't reserved. */
-uint32_t vb_spare(uint32_t pages, uint32_t ballooned, uint32_t free_pages, uint32_t free_known, uint32_t floor,
-                  uint32_t reserved);
-/* Puts a target for each guest into `targets`, in the order of the needs, so that this many frames suffice: what is missing is
- * given by the guests of most spare first, and of these by the first in order, by each at most its spare. However many guests
- * there are, it looks at each need at most 37 times. VB_OK; VB_BAD_ARGUMENT where room isn't count; VB_SHORT where all that they
- * can spare together is too little by `missing` pages (2^64 - 1 where it is more); then no target is changed. */
-VbTargets vb_targets(const VbNeed *needs, size_t count, uint32_t frames, uint32_t *targets, size_t room);
-/* 1 where targets that were set before no longer serve: there isn't one for each guest, or together they are less than
- * what is missing, or a guest is asked for more than it can spare. Else 0: they may stay, so that targets don't swing. */
-uint32_t vb_needs_targets(const uint32_t *old_targets, size_t old_count, const VbNeed *needs, size_t count,
-                          uint32_t frames);
 
 /* Refusals of the calls on a device or a balloon are tested in this order: VB_NO_QUEUE for a kind that the call isn't for,
  * VB_BAD_ARGUMENT, VB_NOT_READY, VB_NEEDS_RESET, VB_NO_QUEUE for a feature, VB_MISPLACED; then VB_BROKEN, VB_NOTHING or VB_OK. */

@@ -141,7 +141,7 @@ static inline void balloon_discard(const struct balloon *balloon, const VbCut *p
 static inline void balloon_tell_pages(struct balloon *balloon, struct balloon_result *result)
 {
     const VbNotice *notice = &balloon->notice;
-    const uint32_t kind = notice->waits ? VB_INFLATE : notice->kind;        /* what waits is put into its set */
+    const uint32_t kind = notice->waits ? (uint32_t)VB_INFLATE : notice->kind;      /* what waits is put into its set */
     uint64_t *set = notice->waits ? balloon->deflating : balloon->ballooned;
     VbMarked marked = { VB_OK, 0 };
     result->pages += notice->pages;

@@ -249,6 +249,36 @@ static void bounds_are_right(void)
     EXPECT(balloon_notify(&guest.balloon, VB_REPORT).code == VB_NOTHING);
 }
 
+/* What a round is refused for, by what is in its way: with all of that and what comes after it. */
+static void rounds_are_refused_in_order(void)
+{
+    static const uint32_t codes[] = { VB_BAD_ARGUMENT, VB_NOT_READY, VB_NEEDS_RESET, VB_NO_QUEUE, VB_MISPLACED };
+    for (uint32_t obstacles = 1; obstacles < 32; obstacles++) {
+        uint32_t id = 7, first = (uint32_t)__builtin_ctz(obstacles);
+        VbDevice *device = &guest.balloon.state.device;
+        begin(FEATURES, SIZE);
+        EXPECT(balloon_begin_hints(&guest.balloon, &id) == VB_OK && id == 2);
+        device->settings.offered &= ~(obstacles & 1 ? 1ull << 32 : 0);
+        device->status = (uint8_t)((obstacles & 2 ? 11 : 15) | (obstacles & 4 ? 64 : 0));
+        device->features &= ~(uint64_t)(obstacles & 8 ? VB_F_FREE_PAGE_HINT : 0);
+        device->hint.size = obstacles & 16 ? 0 : device->hint.size;
+        VbDevice before = *device;
+        EXPECT(balloon_begin_hints(&guest.balloon, &id) == codes[first] && id == 0 && memcmp(device, &before, sizeof before) == 0);
+    }
+}
+
+/* After the last id of 32 bits comes 2 again: 0 and 1 are none. */
+static void ids_go_round(void)
+{
+    static const struct { uint32_t last, next; } rows[] = { { 0, 2 }, { 1, 2 }, { 2, 3 }, { UINT32_MAX - 1, UINT32_MAX }, { UINT32_MAX, 2 } };
+    for (size_t i = 0; i < sizeof rows / sizeof *rows; i++) {
+        uint32_t id;
+        begin(FEATURES, SIZE);
+        guest.balloon.state.device.round.last = rows[i].last;
+        EXPECT(balloon_begin_hints(&guest.balloon, &id) == VB_OK && id == rows[i].next);
+    }
+}
+
 /* A report, or hints, of 33 blocks breaks rule 8; of 32 it is right. */
 static void reports_have_few_pieces(uint32_t kind)
 {
@@ -307,6 +337,8 @@ int main(void)
     RUN(walks_break_rules(VB_HINT));
     RUN(lengths_break_rules());
     RUN(bounds_are_right());
+    RUN(rounds_are_refused_in_order());
+    RUN(ids_go_round());
     RUN(hints_break_rules(false));
     RUN(hints_break_rules(true));
     RUN(reports_have_few_pieces(VB_REPORT));

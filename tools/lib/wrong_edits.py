@@ -131,7 +131,7 @@ WRONG = [
     ("refused regions looked at", CALLS, "    if (!balloon_places(places, regions, count) ||", "    balloon_places(balloon->places, regions, count);\n    if (!balloon_places(places, regions, count) ||"),
     ("a held deflate given back at once", CALLS, "             balloon->most_chains, balloon->most_pages, balloon->keeps_pages);\n    return balloon_finish(balloon);\n",
      "             balloon->most_chains, balloon->most_pages, balloon->keeps_pages);\n    struct balloon_result result = balloon_finish(balloon);\n    if (result.held) {\n        vb_give_held(&balloon->notice, &balloon->state, balloon->places, balloon->region_count, &balloon->room, VB_DEFLATE);\n        balloon_finish(balloon);\n    }\n    return result;\n"),
-    ("the set emptied of a deflate that is held", H, "notice->waits ? VB_INFLATE : notice->kind;", "notice->kind;",
+    ("the set emptied of a deflate that is held", H, "notice->waits ? (uint32_t)VB_INFLATE : notice->kind;", "notice->kind;",
      ("notice->waits ? balloon->deflating : balloon->ballooned;", "balloon->ballooned;")),
     ("one portion's pages held alone", H, "    if (balloon->ballooned)\n        marked = vb_mark(", "    if (notice->waits && set)\n        memset(set, 0, balloon->ballooned_words * sizeof *set);\n    if (balloon->ballooned)\n        marked = vb_mark("),
     ("the set kept of a deflate that is granted", CALLS, "    if (balloon->ballooned && balloon->deflating)\n        marked = vb_unmark", "    if (!balloon->regions)\n        marked = vb_unmark"),

@@ -37,9 +37,11 @@ bool hints_line(struct backend *backend, const char *line)
     return true;
 }
 
-void hints_go_on(struct backend *backend, uint32_t last)
+void hints_go_on(struct backend *backend, VbBalloon before)
 {
-    VbDevice *device = &backend->balloon.state.device;
-    if (device->settings.offered & VB_F_FREE_PAGE_HINT)
-        device->round.last = last;
+    VbSettings settings = backend->balloon.state.device.settings;
+    uint32_t then;
+    settings.memory_end = before.device.settings.memory_end;
+    if (memcmp(&settings, &before.device.settings, sizeof settings) == 0 && vb_set_status(&before, 0, &then) == 0)
+        backend->balloon.state = before;
 }

@@ -1,8 +1,9 @@
 /* Rounds of free page hints (VIRTIO 1.2, 5.5.6.6). */
 #ifndef HINTS_H
 #define HINTS_H
+#include "vb.h"
+
 #include <stdbool.h>
-#include <stdint.h>
 
 struct backend;
 
@@ -10,7 +11,8 @@ struct backend;
  * line. */
 bool hints_line(struct backend *backend, const char *line);
 
-/* The round that began last had this id, in another process: those from now on have others. */
-void hints_go_on(struct backend *backend, uint32_t last);
+/* Goes on from a device of another process, which was reset since: where it had these options, the ids of rounds go on after its own, and
+ * else anew. */
+void hints_go_on(struct backend *backend, VbBalloon before);
 
 #endif

@@ -1,7 +1,6 @@
 #define _GNU_SOURCE
 #include "kept.h"
 
-#include "hints.h"
 #include "lent.h"
 
 #include <sys/socket.h>
@@ -49,7 +48,6 @@ void kept_save(struct lent *lent)
     state->target_pages = device->target;
     state->actual_pages = device->actual;
     state->poison_value = device->poison;
-    state->last_round = device->round.last;
     state->seen = backend->seen;
     state->remarks = backend->remarks;
     state->socket = backend->socket;
@@ -111,7 +109,6 @@ bool kept_restore(struct lent *lent)
     balloon_set_target(&backend->balloon, state->target_pages);
     configuration_write(device, ACTUAL_AT, state->actual_pages);
     configuration_write(device, POISON_AT, state->poison_value);
-    hints_go_on(backend, state->last_round);
     return true;
 }
 

@@ -47,7 +47,7 @@ struct kept_state {
     uint32_t region_count;
     struct counters counters;
     VbStatistic figures[MOST_TAGS];
-    uint32_t figure_count, target_pages, actual_pages, poison_value, last_round, seen, remarks;
+    uint32_t figure_count, target_pages, actual_pages, poison_value, seen, remarks;
     uint64_t set_words;
     int socket, channel;        /* the client's, and the one on which it is told things */
     enum outcome outcome;       /* of the message in the inbox */

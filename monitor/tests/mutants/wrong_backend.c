@@ -167,10 +167,10 @@ WRAPPED(uint32_t, vb_begin, VbNotice *notice, VbBalloon *balloon, const VbRegion
     return __real_vb_begin(notice, balloon, regions, count, room, kind, chains, pages, keeps);
 }
 
-WRAPPED(void, hints_go_on, struct backend *backend, uint32_t last)
+WRAPPED(void, hints_go_on, struct backend *backend, VbBalloon before)
 {
     if (!is("ids-anew"))
-        __real_hints_go_on(backend, last);
+        __real_hints_go_on(backend, before);
 }
 
 WRAPPED(int, file_number, int file, const char *name)

@@ -9,22 +9,20 @@ enum act { NO_ACT, BEGIN, STOP, END, RESET, ID, TOLD, LATE };
 struct step { enum act act; uint32_t word; };
 enum { MOST_STEPS = 16 };
 
-/* `last`: the id of the round before. The driver sends the id first; STOP (0) follows, once it has no more. */
-static const struct story { uint32_t last; struct step steps[MOST_STEPS]; } STORIES[] = {
-    { 0, { { BEGIN, 2 }, { LATE, 0 }, { ID, 2 }, { TOLD, 0 }, { TOLD, 0 }, { ID, 0 }, { LATE, 0 }, { END, 0 }, { LATE, 0 } } },
-    { 0, { { BEGIN, 2 }, { ID, 2 }, { TOLD, 0 }, { END, 0 }, { LATE, 0 }, { ID, 2 }, { LATE, 0 } } },      /* an id of a round that ended */
-    { 0, { { BEGIN, 2 }, { ID, 2 }, { TOLD, 0 }, { STOP, 0 }, { LATE, 0 }, { ID, 2 }, { LATE, 0 } } },     /* or that stopped */
-    { 0, { { BEGIN, 2 }, { ID, 2 }, { ID, 2 }, { TOLD, 0 } } },                                            /* a repeated one */
-    { 4, { { BEGIN, 5 }, { ID, 5 }, { TOLD, 0 }, { BEGIN, 6 }, { LATE, 0 }, { ID, 5 }, { LATE, 0 }, { ID, 6 }, { TOLD, 0 }, { ID, 5 },
-           { LATE, 0 }, { ID, 6 }, { TOLD, 0 } } },                                                       /* one of the round before */
-    { 0, { { LATE, 0 }, { ID, 0 }, { LATE, 0 }, { ID, 1 }, { LATE, 0 }, { ID, 2 }, { LATE, 0 } } },        /* before any round */
-    { 0, { { BEGIN, 2 }, { ID, 0 }, { LATE, 0 }, { ID, 1 }, { LATE, 0 }, { ID, 3 }, { LATE, 0 } } },       /* any other id */
-    { 0, { { BEGIN, 2 }, { ID, 2 }, { STOP, 0 }, { ID, 0 }, { LATE, 0 } } },                               /* STOP and DONE are no ids, */
-    { 0, { { BEGIN, 2 }, { ID, 2 }, { END, 0 }, { ID, 1 }, { LATE, 0 } } },                                /* also while they are shown */
-    { 7, { { BEGIN, 8 }, { ID, 8 }, { TOLD, 0 }, { RESET, 0 }, { LATE, 0 }, { ID, 8 }, { LATE, 0 }, { BEGIN, 9 }, { ID, 8 }, { LATE, 0 },
-           { ID, 9 }, { TOLD, 0 } } },                                                                    /* ids go on over a reset */
-    { UINT32_MAX - 1, { { BEGIN, UINT32_MAX }, { ID, UINT32_MAX }, { TOLD, 0 }, { BEGIN, 2 }, { ID, UINT32_MAX }, { LATE, 0 }, { ID, 2 },
-                        { TOLD, 0 } } },                                                                  /* and round */
+/* The driver sends the id first; STOP (0) follows, once it has no more. */
+static const struct step STORIES[][MOST_STEPS] = {
+    { { BEGIN, 2 }, { LATE, 0 }, { ID, 2 }, { TOLD, 0 }, { TOLD, 0 }, { ID, 0 }, { LATE, 0 }, { END, 0 }, { LATE, 0 } },
+    { { BEGIN, 2 }, { ID, 2 }, { TOLD, 0 }, { END, 0 }, { LATE, 0 }, { ID, 2 }, { LATE, 0 } },      /* an id of a round that ended, */
+    { { BEGIN, 2 }, { ID, 2 }, { TOLD, 0 }, { STOP, 0 }, { LATE, 0 }, { ID, 2 }, { LATE, 0 } },     /* or that stopped; */
+    { { BEGIN, 2 }, { ID, 2 }, { ID, 2 }, { TOLD, 0 } },                                            /* a repeated one; */
+    { { BEGIN, 2 }, { ID, 2 }, { TOLD, 0 }, { BEGIN, 3 }, { LATE, 0 }, { ID, 2 }, { LATE, 0 }, { ID, 3 }, { TOLD, 0 }, { ID, 2 },
+      { LATE, 0 }, { ID, 3 }, { TOLD, 0 } },                                                        /* one of the round before; */
+    { { LATE, 0 }, { ID, 0 }, { LATE, 0 }, { ID, 1 }, { LATE, 0 }, { ID, 2 }, { LATE, 0 } },        /* before any round; */
+    { { BEGIN, 2 }, { ID, 0 }, { LATE, 0 }, { ID, 1 }, { LATE, 0 }, { ID, 3 }, { LATE, 0 }, { ID, UINT32_MAX }, { LATE, 0 } },
+    { { BEGIN, 2 }, { ID, 2 }, { STOP, 0 }, { ID, 0 }, { LATE, 0 } },                               /* STOP and DONE are no ids, */
+    { { BEGIN, 2 }, { ID, 2 }, { END, 0 }, { ID, 1 }, { LATE, 0 } },                                /* also while they are shown; */
+    { { BEGIN, 2 }, { ID, 2 }, { TOLD, 0 }, { RESET, 0 }, { LATE, 0 }, { ID, 2 }, { LATE, 0 }, { BEGIN, 3 }, { ID, 2 }, { LATE, 0 },
+      { ID, 3 }, { TOLD, 0 } },                                                                     /* ids go on over a reset */
 };
 
 static struct guest guest;
@@ -115,10 +113,9 @@ static uint32_t take(struct step step, uint32_t shown)
 static void stories_are_told(void)
 {
     for (size_t i = 0; i < sizeof STORIES / sizeof *STORIES; i++) {
-        const struct step *step = STORIES[i].steps;
+        const struct step *step = STORIES[i];
         uint32_t shown = 0;
         begin_guest(1);
-        guest.balloon.state.device.round.last = STORIES[i].last;
         for (; step->act != NO_ACT; step++) {
             EXPECT((step->act != TOLD && step->act != LATE) || vb_hints_open(&guest.balloon.state.device) == (step->act == TOLD));
             shown = take(*step, shown);
@@ -170,25 +167,6 @@ static void a_notice_has_many_chains(void)
     free_memory(&guest);
 }
 
-/* What a round is refused for, by what is in its way: with all of that and what comes after it. */
-static void rounds_are_refused_in_order(void)
-{
-    static const uint32_t codes[] = { VB_BAD_ARGUMENT, VB_NOT_READY, VB_NEEDS_RESET, VB_NO_QUEUE, VB_MISPLACED };
-    for (uint32_t obstacles = 1; obstacles < 32; obstacles++) {
-        uint32_t id = 7, first = (uint32_t)__builtin_ctz(obstacles);
-        VbDevice *device = &guest.balloon.state.device;
-        begin_guest(1);
-        EXPECT(balloon_begin_hints(&guest.balloon, &id) == VB_OK && id == 2);
-        device->settings.offered &= ~(obstacles & 1 ? 1ull << 32 : 0);
-        device->status = (uint8_t)((obstacles & 2 ? 11 : 15) | (obstacles & 4 ? 64 : 0));
-        device->features &= ~(uint64_t)(obstacles & 8 ? VB_F_FREE_PAGE_HINT : 0);
-        device->hint.size = obstacles & 16 ? 0 : device->hint.size;
-        VbDevice before = *device;
-        EXPECT(balloon_begin_hints(&guest.balloon, &id) == codes[first] && id == 0 && memcmp(device, &before, sizeof before) == 0);
-        free_memory(&guest);
-    }
-}
-
 /* Queues are numbered without gaps (VIRTIO 1.2, 5.5.2), and the id is shown only where hints are offered. */
 static void hints_have_a_queue_where_negotiated(void)
 {
@@ -206,7 +184,9 @@ static void hints_have_a_queue_where_negotiated(void)
     EXPECT(balloon_write_config(&guest.balloon, 8, (const uint8_t[]){ 9, 0, 0, 0 }, 4) == VB_BAD_ARGUMENT && shown_id() == 0);
     balloon_end_hints(&guest.balloon);
     EXPECT(shown_id() == 1);
-    guest.balloon.state.device.settings.offered &= ~(uint64_t)VB_F_FREE_PAGE_HINT;
+    free_memory(&guest);
+    start(&guest, 0, REFUSES, LINUX_FEATURES, 8);
+    balloon_end_hints(&guest.balloon);
     EXPECT(shown_id() == 0);
     free_memory(&guest);
 }
@@ -230,6 +210,5 @@ void test_hints(void)
     RUN(early_hints_are_late());
     RUN(hints_may_be_kept());
     RUN(a_notice_has_many_chains());
-    RUN(rounds_are_refused_in_order());
     RUN(hints_have_a_queue_where_negotiated());
 }

@@ -30,7 +30,7 @@ fn hints_are_told_while_their_round_is_open() {
     }
 }
 
-/// What the configuration shows of a round, and where it stands once it is stopped or ended.
+/// What the configuration shows of a round that has begun, has ended, and has stopped.
 #[test]
 fn rounds_are_shown() {
     let guest = Guest::new();
