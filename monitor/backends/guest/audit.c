@@ -109,11 +109,12 @@ void audit_after(struct backend *backend, unsigned number)
         return;
     uint16_t used = word_at(backend, queue->used + RING_INDEX_AT), available = word_at(backend, queue->avail + RING_INDEX_AT);
     uint16_t given = (uint16_t)(used - audit.used), stood = (uint16_t)(audit.available - audit.used);
-    bool keeps = vb_kind(&backend->balloon.state.device, number) == VB_STATISTICS;
+    uint32_t kind = vb_kind(&backend->balloon.state.device, number);
+    bool leaves = kind == VB_STATISTICS || kind == VB_HINT; /* a buffer is kept, and a turn ends after a hint of many pages */
     audit.services++;
     if (given > (uint16_t)(available - audit.used))
         fault("queue %u: the used index is %u, and %u were available", number, used, available);
-    else if (given < stood && !keeps)
+    else if (given < stood && !leaves)
         fault("queue %u: the used index is %u, and %u were available before", number, used, audit.available);
     else
         for (uint16_t i = 0; i < given; i++)
