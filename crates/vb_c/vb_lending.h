@@ -35,6 +35,8 @@ typedef struct {
     uint16_t uncounted;         /* unless 0: its balloon doesn't count */
     uint16_t line;              /* 0: it waits in the first line; else in the second, which comes after the first */
 } VbLoan;
+typedef struct { uint32_t pages, spare; } VbNeed;                 /* a guest's pages, and how many it can spare */
+typedef struct { uint32_t code; uint64_t missing; } VbTargets;
 typedef struct { uint32_t code; size_t guest; } VbGrant;
 /* What the host has agreed with a guest: how many pages always stay to it, and its priority (those of a lower one give first). */
 typedef struct { uint32_t least, priority; } VbTerms;
@@ -72,6 +74,7 @@ typedef struct {
 VB_ASSERT(sizeof(VbLoan) == 32 && offsetof(VbLoan, ballooned) == 4 && offsetof(VbLoan, lent) == 8 && offsetof(VbLoan, asked) == 12
           && offsetof(VbLoan, turn) == 16 && offsetof(VbLoan, spare) == 24 && offsetof(VbLoan, uncounted) == 28
           && offsetof(VbLoan, line) == 30);
+VB_ASSERT(sizeof(VbNeed) == 8 && offsetof(VbNeed, spare) == 4 && sizeof(VbTargets) == 16 && offsetof(VbTargets, missing) == 8);
 VB_ASSERT(sizeof(VbGrant) == 16 && offsetof(VbGrant, guest) == 8);
 VB_ASSERT(sizeof(VbTerms) == 8 && offsetof(VbTerms, priority) == 4);
 VB_ASSERT(sizeof(VbHostGuest) == 72 && offsetof(VbHostGuest, pages) == 32 && offsetof(VbHostGuest, held) == 36
@@ -80,6 +83,22 @@ VB_ASSERT(sizeof(VbHostGuest) == 72 && offsetof(VbHostGuest, pages) == 32 && off
           && offsetof(VbHostGuest, least) == 56 && offsetof(VbHostGuest, most) == 60 && offsetof(VbHostGuest, priority) == 64);
 VB_ASSERT(sizeof(VbBudget) == 12 && offsetof(VbBudget, floor) == 4 && offsetof(VbBudget, slack) == 8);
 VB_ASSERT(sizeof(VbShare) == 12 && offsetof(VbShare, spare) == 4 && offsetof(VbShare, priority) == 8);
+
+/* What to ask guests for that have more pages than there are frames, by the caller's own numbers of each. */
+
+/* How many pages a guest can spare: those in the balloon, and the free ones above the floor (none where free_known is
+ * 0: no statistics say so); at most its pages that aren't reserved. */
+uint32_t vb_spare(uint32_t pages, uint32_t ballooned, uint32_t free_pages, uint32_t free_known, uint32_t floor,
+                  uint32_t reserved);
+/* Puts a target for each guest into `targets`, in the order of the needs, so that this many frames suffice: what is missing is
+ * given by the guests of most spare first, and of these by the first in order, by each at most its spare. However many guests
+ * there are, it looks at each need at most 37 times. VB_OK; VB_BAD_ARGUMENT where room isn't count; VB_SHORT where all that they
+ * can spare together is too little by `missing` pages (2^64 - 1 where it is more); then no target is changed. */
+VbTargets vb_targets(const VbNeed *needs, size_t count, uint32_t frames, uint32_t *targets, size_t room);
+/* 1 where targets that were set before no longer serve: there isn't one for each guest, or together they are less than
+ * what is missing, or a guest is asked for more than it can spare. Else 0: they may stay, so that targets don't swing. */
+uint32_t vb_needs_targets(const uint32_t *old_targets, size_t old_count, const VbNeed *needs, size_t count,
+                          uint32_t frames);
 
 /* What happens to a guest: VB_OK where it has its effect; VB_BAD_ARGUMENT where guest isn't below count, or it doesn't fit, as is
  * said of each, and then nothing is changed. No other guest's loan is changed. What comes to a line doesn't fit either while a guest

@@ -1,6 +1,7 @@
 /* The control pipe: a line in, a line out. */
 #include "backend.h"
 #include "audit.h"
+#include "hints.h"
 
 #include <inttypes.h>
 #include <stdio.h>
@@ -96,7 +97,7 @@ int control_obey(struct backend *backend, const char *line)
         print_statistics(backend);
     else if (!strcmp(line, "ask"))
         served = ask(backend);
-    else if (!audit_line(backend, line))
-        puts("error: target PAGES, counters, statistics, ask or quit");
+    else if (!hints_line(backend, line) && !audit_line(backend, line))
+        puts("error: target PAGES, counters, statistics, ask, hint start, hint stop, hint done or quit");
     return served ? 1 : -1;
 }

@@ -8,7 +8,8 @@
     COUNT(messages) COUNT(kicks) COUNT(interrupts) COUNT(told) \
     COUNT(chains) COUNT(pages) COUNT(discarded) COUNT(waiting) COUNT(skipped) COUNT(in_holes) COUNT(kept) \
     COUNT(marked) COUNT(unmarked) \
-    COUNT(inflated) COUNT(deflated) COUNT(reported) COUNT(reports) COUNT(statistics) COUNT(taken)
+    COUNT(inflated) COUNT(deflated) COUNT(reported) COUNT(reports) COUNT(statistics) COUNT(taken) \
+    COUNT(hints_rounds) COUNT(hints_pages) COUNT(hints_late)
 
 #define COUNTER_FIELD(name) uint64_t name;
 
