@@ -229,7 +229,6 @@ uint32_t vb_keeps_reports(const VbDevice *device);
 /* ---- rounds of free page hints (VIRTIO 1.2, 5.5.6.6). After each of the first three calls, send the driver a configuration change
  * notification. Pages that come while no round is open are told as skipped, and left alone. What the driver writes to a page overrides
  * its hint, and it may write before the device sees that: Linux takes hinted pages back whenever its memory runs out. */
-
 /* Begins a round, in place of one that is on: `id` gets its id, 2 or up, and never that of the round before. VB_OK; or refused as is
  * said at the end, and then nothing is changed, and `id` is 0. */
 uint32_t vb_begin_hints(VbDevice *device, uint32_t *id);
@@ -340,11 +339,11 @@ VbLarge vb_large_pages(const VbDevice *device, const VbRegion *region, uint64_t 
 
 /* Refusals of the calls on a device or a balloon are tested in this order: VB_NO_QUEUE for a kind that the call isn't for,
  * VB_BAD_ARGUMENT, VB_NOT_READY, VB_NEEDS_RESET, VB_NO_QUEUE for a feature, VB_MISPLACED; then VB_BROKEN, VB_NOTHING or VB_OK. */
-
 #undef VB_ASSERT
 #undef VB_HAS
 #undef VB_AT
 #ifdef __cplusplus
 }
 #endif
+#include "vb_lending.h"    /* for a host of several guests: targets and loans */
 #endif
