@@ -3,7 +3,7 @@ use Rattle.vb_monitor.proofs.Samples.{room_of}
 use Rattle.vb_monitor.specs.declared.room.Room.{Room}
 use Rattle.std.proofs.Common.{◌≡◌, ◌∙◌, ◌++◌, refl, ap, arith, ℕ, ◌+◌, ◌*◌, ◌≤◌, true, false, List, [], ◌∷◌, map, length, Option, Some, None}
 use Rattle.vb_chain.specs.declared.pieces.Piece.{Piece}
-use Rattle.vb_core.specs.declared.{kinds.Kind.TheVariants.{Inflate, Deflate}, runs.Run.Run}
+use Rattle.vb_core.specs.declared.{kinds.Kind.TheVariants.{Inflate, Deflate, Hint}, runs.Run.Run}
 use Rattle.vb_core.specs.declared.{name.Named.Named, device.Denial.TheVariants.NotReady}
 use Rattle.vb_core.specs.Rings.{used_entry}
 use Rattle.vb_monitor.specs.declared.parts.Part.{Part}
@@ -14,8 +14,8 @@ use Rattle.vb_monitor.specs.declared.step.Place.{Place}
 use Rattle.vb_monitor.specs.declared.step.Discarding.{Discarding}
 use Rattle.vb_monitor.specs.declared.step.Phase.{Phase}
 use Rattle.vb_monitor.specs.declared.step.Phase.TheVariants.{AwaitsIndex, AwaitsEntry, AwaitsDescriptor, AwaitsPart}
-use Rattle.vb_monitor.specs.declared.step.Phase.TheVariants.{TellsPages, TellsFigures, Discards, GivesBack, AwaitsFlags, Ended}
-use Rattle.vb_monitor.specs.Accesses.{Access, Steps, Makes, ReadWord, CopyBytes, Acquire, Release, Full, TellPages, TellFigures}
+use Rattle.vb_monitor.specs.declared.step.Phase.TheVariants.{TellsPages, TellsFigures, TellsId, Discards, GivesBack, AwaitsFlags, Ended}
+use Rattle.vb_monitor.specs.Accesses.{Access, Steps, Makes, ReadWord, CopyBytes, Acquire, Release, Full, TellPages, TellFigures, TellId}
 use Rattle.vb_monitor.specs.Machine.{cuts_after, is_ended, stage, waits, outcome_at, Fits, Does, GoesOn}
 use Rattle.vb_monitor.specs.{declared.cuts.NextCut.NextCut, Orders.cuts_left}
 use Rattle.vb_monitor.specs.Pieces.{parts_on}
@@ -42,26 +42,26 @@ spots = record { id = at 0x204; length = at 0x208; index = at 0x202 }
 abbrev phases : List Phase
 phases =
     AwaitsIndex (at 0x102) ∷ AwaitsEntry (at 0x104) ∷ AwaitsDescriptor (at 0x30) walk ∷ AwaitsPart (at 0x400) place 0 4
-    ∷ TellsPages place named false ∷ TellsFigures 3 1 ∷ Discards cut_5 discarding ∷ GivesBack spots (used_entry ring 3)
+    ∷ TellsPages place named false ∷ TellsFigures 3 1 ∷ TellsId 3 6 ∷ Discards cut_5 discarding ∷ GivesBack spots (used_entry ring 3)
     ∷ AwaitsFlags (at 0x100) None false ∷ Ended None true false ∷ []
 
 -- the last one alone has ended, and it alone has an outcome
 ended : map is_ended phases ≡
-    false ∷ false ∷ false ∷ false ∷ false ∷ false ∷ false ∷ false ∷ false ∷ true ∷ []
+    false ∷ false ∷ false ∷ false ∷ false ∷ false ∷ false ∷ false ∷ false ∷ false ∷ true ∷ []
 ended = refl
 
 -- something is told, bytes are discarded, the chain is given back, and then an answer is awaited
-stages : map stage phases ≡ 3 ∷ 3 ∷ 3 ∷ 3 ∷ 0 ∷ 0 ∷ 1 ∷ 2 ∷ 3 ∷ 3 ∷ []
+stages : map stage phases ≡ 3 ∷ 3 ∷ 3 ∷ 3 ∷ 0 ∷ 0 ∷ 0 ∷ 1 ∷ 2 ∷ 3 ∷ 3 ∷ []
 stages = refl
 
 waiting : map waits phases ≡
-    true ∷ true ∷ true ∷ true ∷ false ∷ false ∷ true ∷ false ∷ true ∷ true ∷ []
+    true ∷ true ∷ true ∷ true ∷ false ∷ false ∷ false ∷ true ∷ false ∷ true ∷ true ∷ []
 waiting = refl
 
 abbrev outcome_of : Phase → Option Outcome
 outcome_of phase = outcome_at phase tally
 
-outcomes : map outcome_of phases ≡ None ∷ None ∷ None ∷ None ∷ None ∷ None ∷ None ∷ None ∷ None
+outcomes : map outcome_of phases ≡ None ∷ None ∷ None ∷ None ∷ None ∷ None ∷ None ∷ None ∷ None ∷ None
     ∷ Some (record { tally = tally; why = None; interrupt = true; more = false }) ∷ []
 outcomes = refl
 
@@ -72,7 +72,7 @@ as_it_ended = refl
 -- what is left of a chain, over two regions: 515 once its pages are named, and 516 times as much as
 -- bytes are left and one before that
 left_of_each : map (left_of two) phases ≡
-    2 ∷ 567347999933705 ∷ 567347999933704 ∷ 567347999931384 ∷ 515 ∷ 2 ∷ 514 ∷ 2 ∷ 1 ∷ 0 ∷ []
+    2 ∷ 567347999933705 ∷ 567347999933704 ∷ 567347999931384 ∷ 515 ∷ 2 ∷ 2 ∷ 514 ∷ 2 ∷ 1 ∷ 0 ∷ []
 unfolding parts_left copies_left
 left_of_each = refl
 
@@ -216,6 +216,9 @@ tells_one = refl
 tells_a_figure : Does (TellsFigures 3 1) Inflate 0 [] (room []) (TellFigures (record { tag = 1; value = 2 } ∷ []) ∷ [])
 tells_a_figure = refl
 
+tells_an_id : Does (TellsId 3 6) Hint 0 [] (room []) (TellId 6 ∷ [])
+tells_an_id = refl
+
 discards_it : Does (Discards cut_5 discarding) Inflate 0 [] (room []) (discard ∷ [])
 discards_it = refl
 
@@ -281,8 +284,15 @@ abbrev told : List Access → ℕ
 told (TellPages kind rs n ∷ xs) = length rs
 told xs = 0
 
+abbrev id_in : List Access → ℕ
+id_in (TellId n ∷ xs) = n
+id_in xs = 0
+
 both_told : Does (TellsPages place named false) Inflate 0 [] (room []) (TellPages Inflate (page_5 ∷ over_the_hole ∷ []) one_page ∷ []) → ⊥
 both_told h = let e : Same 2 1 = ap told h in omega arith
+
+another_id_told : Does (TellsId 3 6) Hint 0 [] (room []) (TellId 3 ∷ []) → ⊥
+another_id_told h = let e : Same 3 6 = ap id_in h in omega arith
 
 something_once_ended : Does (Ended None true false) Inflate 0 [] (room []) (discard ∷ []) → ⊥
 something_once_ended h = absurd cc

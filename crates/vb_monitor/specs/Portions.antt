@@ -10,7 +10,7 @@ use Rattle.vb_core.specs.declared.runs.Run.{Run}
 use Rattle.vb_core.specs.declared.name.Named.{Named}
 use Rattle.vb_core.specs.declared.device.Denial.{Denial}
 use Rattle.vb_core.specs.declared.device.Device.{Device}
-use Rattle.vb_core.specs.Config.{keeps_reports}
+use Rattle.vb_core.specs.Config.{keeps_free}
 use Rattle.vb_core.specs.Name.{NamesNumbersBy}
 use Rattle.vb_monitor.specs.declared.room.TheConstants.{MAX_BYTES}
 use Rattle.vb_monitor.specs.declared.parts.Part.{Part}
@@ -31,7 +31,7 @@ pub record TellsPortion (w : Whole) (on : List Access → Type 0) (d : Device) (
   pub rest : List Access
   pub asks : log ≡ TellPages w.kind runs named ∷ rest
   pub goes_on : DiscardsThen on
-      (cuts_for w.kind (is_kept w.kind tally.keeps (keeps_reports d)) w.regions runs) rest
+      (cuts_for w.kind (is_kept w.kind tally.keeps (keeps_free w.kind d)) w.regions runs) rest
 
 -- What was named of a portion is told, or the notice ends.
 abbrev pub AfterPortion : Whole → (Tally → List Access → Type 0) → Device → Tally → List Run →

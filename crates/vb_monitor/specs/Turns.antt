@@ -18,7 +18,7 @@ use Rattle.vb_core.specs.Settings.{memory_pages, skips}
 use Rattle.vb_core.specs.Rings.{used_entry}
 use Rattle.vb_core.specs.Runs.{Tell}
 use Rattle.vb_core.specs.Devices.{ring_of}
-use Rattle.vb_core.specs.Config.{keeps_reports}
+use Rattle.vb_core.specs.Config.{keeps_free}
 use Rattle.vb_core.specs.Name.{fault_in, right_numbers}
 use Rattle.vb_core.specs.Report.{run_of}
 use Rattle.vb_core.specs.Statistics.{AreFigures}
@@ -29,13 +29,12 @@ use Rattle.vb_monitor.specs.declared.room.TheConstants.{MAX_BYTES}
 use Rattle.vb_monitor.specs.Accesses.{Access, ReadWord, CopyBytes, Acquire, Release, Full}
 use Rattle.vb_monitor.specs.Accesses.{TellPages, TellFigures, TellId, Discard, WriteNumber, WriteWord}
 use Rattle.vb_monitor.specs.Regions.{spot}
-use Rattle.vb_monitor.specs.Chains.{further_in_row}
+use Rattle.vb_monitor.specs.Chains.{further_in_row, id_of}
 use Rattle.vb_monitor.specs.Giving.{is_kept}
 use Rattle.vb_monitor.specs.Notices.{entry_offset, stands}
 use Rattle.vb_monitor.specs.SoFar.{Known, Unknown, Walks, Has, known, ring_after, index_read, left}
 use Rattle.vb_monitor.specs.SoFar.{round_so_far}
 use Rattle.vb_core.specs.Hints.{is_open}
-use Rattle.std.specs.Int.{w32, from_le_bytes}
 
 -- ---- what is read
 
@@ -192,11 +191,11 @@ FiguresOf (Walks head number pieces) figures = ⊥
 FiguresOf (Has head pieces [] bytes) figures = TellFiguresOf bytes figures
 FiguresOf (Has head pieces (part ∷ parts) bytes) figures = ⊥
 
--- The id that these bytes are.
+-- All of a chain was read, and its bytes are this id.
 abbrev pub IdOf : Known → ℕ → Type 0
 IdOf Unknown id = ⊥
 IdOf (Walks head number pieces) id = ⊥
-IdOf (Has head pieces [] bytes) id = (length bytes ≡ 4) × (id ≡ from_le_bytes w32 bytes)
+IdOf (Has head pieces [] bytes) id = id_of bytes ≡ Some id
 IdOf (Has head pieces (part ∷ parts) bytes) id = ⊥
 
 -- The part is the next one that is left.
@@ -212,17 +211,17 @@ abbrev pub TellsInTurn : List Region → Kind → Bool → Device → List Acces
 TellsInTurn regions kind all d before (TellPages of runs named) =
     (of ≡ kind)
     × TellsOf (is_open (round_so_far d.round before)) kind d.settings (known kind before) runs named ×
-    (left (is_kept kind all (keeps_reports d)) regions before ≡ [])
+    (left (is_kept kind all (keeps_free kind d)) regions before ≡ [])
 TellsInTurn regions kind all d before (TellFigures figures) =
     (kind ≡ Statistics) × FiguresOf (known kind before) figures
 TellsInTurn regions kind all d before (TellId id) = (kind ≡ Hint) × IdOf (known kind before) id
 TellsInTurn regions kind all d before (Discard cut) =
-    IsNext cut (left (is_kept kind all (keeps_reports d)) regions before)
+    IsNext cut (left (is_kept kind all (keeps_free kind d)) regions before)
 TellsInTurn regions kind all d before (WriteNumber at number) =
-    left (is_kept kind all (keeps_reports d)) regions before ≡ []
+    left (is_kept kind all (keeps_free kind d)) regions before ≡ []
 TellsInTurn regions kind all d before (ReadWord at answer) = Unit {0}
 TellsInTurn regions kind all d before (CopyBytes at answer) =
-    left (is_kept kind all (keeps_reports d)) regions before ≡ []
+    left (is_kept kind all (keeps_free kind d)) regions before ≡ []
 TellsInTurn regions kind all d before Acquire = Unit {0}
 TellsInTurn regions kind all d before Release = Unit {0}
 TellsInTurn regions kind all d before Full = Unit {0}

@@ -7,7 +7,8 @@ ghost use Rattle.vb_chain.specs.declared.fault.ChainFault.{ChainFault};
 ghost use Rattle.vb_ring.specs.declared.device.Taken.{Taken};
 ghost use Rattle.vb_core.specs.declared.ring.Virtqueue.{Virtqueue};
 ghost use Rattle.vb_core.specs.declared.kinds.Kind.{Kind};
-ghost use Rattle.vb_core.specs.declared.kinds.Kind.TheVariants.{Report};
+ghost use Rattle.vb_core.specs.Report.{names_by_pieces};
+ghost use Rattle.vb_monitor.specs.Chains.{tells_pages};
 ghost use Rattle.vb_core.specs.declared.device.Device.{Device};
 ghost use Rattle.vb_monitor.specs.declared.regions.Region.{Region};
 ghost use Rattle.vb_monitor.specs.declared.outcome.Budget.{Budget};
@@ -222,18 +223,19 @@ pub fn a_notice_does_what_memory_says()
         log) }
 {}
 
-/// Where memory stays as it is while a notice of reports reads of it, the notice does what the
-/// bytes of memory say: it ends where nothing is next, or where a rule is broken, so that the
-/// device needs a reset; or it tells just the report's pages, a run for each piece, and takes the
-/// report.
+/// Where memory stays as it is while a notice of reports reads of it, or one of hints while the
+/// round is open, the notice does what the bytes of memory say: it ends where nothing is next, or
+/// where a rule is broken, so that the device needs a reset; or it tells just the chain's pages, a
+/// run for each piece, and takes the chain. A chain of hints that has an id is served by its pieces.
 pub fn a_notice_reports_what_memory_says()
-    ensures { (rest : List Access) (byte : ℕ → ℕ) (regions : List Region) (budget : Budget)
-        (n : ℕ) (d1 d2 : Device) (outcome : Outcome) (log : List Access) →
-        budget.chains ≡ suc n → (budget.pages == 0) ≡ false → queue_denial Report d1 ≡ None →
-        IsMapped regions (ring_of Report d1) → StaysUntil (AreThese rest) byte regions log →
-        Serves regions Report budget d1 d2 outcome log →
-        Finds byte Report d1 (ReportsNext (StaysUntil (AreThese rest) byte regions)
-        (whole regions Report d2 outcome) (as_read n budget (index_in byte (ring_of Report d1))) d1
+    ensures { (rest : List Access) (byte : ℕ → ℕ) (regions : List Region) (kind : Kind)
+        (budget : Budget) (n : ℕ) (d1 d2 : Device) (outcome : Outcome) (log : List Access) →
+        names_by_pieces kind ≡ true → tells_pages kind d1 ≡ true →
+        budget.chains ≡ suc n → (budget.pages == 0) ≡ false → queue_denial kind d1 ≡ None →
+        IsMapped regions (ring_of kind d1) → StaysUntil (AreThese rest) byte regions log →
+        Serves regions kind budget d1 d2 outcome log →
+        Finds byte kind d1 (ReportsNext (StaysUntil (AreThese rest) byte regions)
+        (whole regions kind d2 outcome) (as_read n budget (index_in byte (ring_of kind d1))) d1
         log) }
 {}
 

@@ -1,7 +1,7 @@
 //! Memory that a notice goes over.
 
 ghost use Rattle.vb_monitor.specs.Accesses.{Access, ReadWord, CopyBytes, Acquire, Release, Full};
-ghost use Rattle.vb_monitor.specs.Accesses.{TellPages, TellFigures, Discard, WriteNumber};
+ghost use Rattle.vb_monitor.specs.Accesses.{TellPages, TellFigures, TellId, Discard, WriteNumber};
 ghost use Rattle.vb_monitor.specs.Accesses.{WriteWord};
 
 use crate::{Cut, Spot};

@@ -1,6 +1,6 @@
 //! What the pieces of a chain, and their bytes, come to.
 
-ghost use Rattle.std.specs.Prelude.{◌≡◌, ◌≤◌, true, false, List, length, take};
+ghost use Rattle.std.specs.Prelude.{◌≡◌, ◌≤◌, true, false, List, length, take, Ok};
 ghost use Rattle.vb_virtio.specs.declared.limits.TheConstants.{MAX_QUEUE_SIZE};
 ghost use Rattle.vb_core.specs.declared.device.Device.{Device};
 ghost use Rattle.vb_monitor.specs.declared.outcome.Outcome.{Outcome};
@@ -12,7 +12,7 @@ ghost use Rattle.vb_monitor.specs.Giving.{spent, with_named};
 ghost use Rattle.vb_monitor.specs.Portions.{ServesPortion, NamesPortion, CopiesFurther};
 ghost use Rattle.vb_core.specs.Pieces.{pieces_in};
 ghost use Rattle.vb_monitor.specs.Chains.{NamesBytes, NamesReport, FiguresBy, CopiesBy};
-ghost use Rattle.vb_monitor.specs.Chains.{TellsIdThen, after_id, told_if, tells_pages};
+ghost use Rattle.vb_monitor.specs.Chains.{IdBy, id_of, told_if, tells_pages};
 ghost use Rattle.vb_monitor.specs.Machine.{Fits, Ahead, AheadAt, whole, next_chain, serves, served};
 ghost use Rattle.vb_monitor.specs.Machine.{parts_from};
 ghost use Rattle.vb_monitor.specs.declared.room.Room.{Room};
@@ -171,18 +171,29 @@ fn name_bytes(
     }
 }
 
-/// What is told of pages that a chain names by its pieces: nothing of a hint in a round that isn't
-/// open, whose pages count as skipped.
-fn told_of(device: &Device, kind: Kind, named: Named) -> Named
-    ensures { told_if (tells_pages kind device.now) (Ok named) ≡ Ok result }
+/// Whether pages of the kind's chains are told: of hints in a round that is open alone.
+fn tells_pages(device: &Device, kind: Kind) -> bool
+    ensures { result ≡ tells_pages kind device.now }
 {
     match kind {
-        Kind::Hint if !device.round.is_open() => Named {
-            runs: 0,
-            pages: 0,
-            skipped: named.pages,
-        },
-        _ => named,
+        Kind::Inflate | Kind::Deflate | Kind::Report => true,
+        Kind::Statistics => false,
+        Kind::Hint => device.round.is_open(),
+    }
+}
+
+/// What is told of pages that a chain names by its pieces: where none of them is told, each counts
+/// as skipped.
+fn told_if(is_told: bool, named: Named) -> Named
+    ensures { told_if is_told (Ok named) ≡ Ok result }
+{
+    if is_told {
+        return named;
+    }
+    Named {
+        runs: 0,
+        pages: 0,
+        skipped: named.pages,
     }
 }
 
@@ -207,10 +218,11 @@ fn name_report(
         of_chains regions.now (tally_of step.old).chains + once_named regions.now }
 {
     let chain = first_pieces(&room.pieces, place.count);
+    let is_told = tells_pages(device, kind);
     match report_named(device, kind, chain, &mut room.runs) {
         Err(why) => end(step, device, regions, kind, Some(why), false),
         Ok(named) => {
-            let told = told_of(device, kind, named);
+            let told = told_if(is_told, named);
             tell_pages(step, &device.settings, kind, place, told)
         }
     }
@@ -248,29 +260,46 @@ fn keep_figures(
     }
 }
 
+/// The id of hints that these bytes are, if there are 4.
+fn id_of(bytes: &[u8]) -> Option<u32>
+    ensures { result ≡ id_of bytes.now }
+{
+    if bytes.len() != 4 {
+        return None;
+    }
+    let mut word = [0; 4];
+    word.copy_from_slice(bytes);
+    Some(u32::from_le_bytes(word))
+}
+
 /// Reads an id of hints, of which the first `into` bytes were copied: the device's round opens or
 /// closes by it.
 fn hear_id(
     step: &mut Progress,
     device: &mut Device,
+    regions: &[Region],
     kind: Kind,
     place: Place,
     into: usize,
     room: &mut Room,
 )
-    ensures step { (w : Whole) (log : List Access) →
-        Ahead w (step_of step.new) device.new room.new log →
-        TellsIdThen w (next_chain w (tally_of step.old))
-        (after_id (from_le_bytes w32 (take into room.old.bytes)) device.old) (tally_of step.old)
-        place.head (from_le_bytes w32 (take into room.old.bytes)) log }
+    ensures step { (after : Device) (outcome : Outcome) (log : List Access) →
+        Ahead (whole regions.now kind after outcome) (step_of step.new) device.new room.new log →
+        IdBy (id_of (take into room.old.bytes)) (whole regions.now kind after outcome)
+        (next_chain (whole regions.now kind after outcome) (tally_of step.old)) device.old
+        (tally_of step.old) place.head log }
     ensures fits { Fits (phase_of step.new) }
-    ensures left { (regions : List Region) → left regions (step_of step.new) ≤
-        of_chains regions (tally_of step.old).chains + once_named regions }
+    ensures left { left regions.now (step_of step.new) ≤
+        of_chains regions.now (tally_of step.old).chains + 2 }
 {
-    let id = id_in(first_bytes(&room.bytes, into));
-    device.take_request(kind);
-    device.hear_id(id);
-    step.await_id(place.head, id);
+    match id_of(first_bytes(&room.bytes, into)) {
+        None => fail(step, device, regions, kind, ChainFault::BadLength),
+        Some(id) => {
+            device.take_request(Kind::Hint);
+            device.hear_id(id);
+            step.await_id(place.head, id);
+        }
+    }
 }
 
 /// Serves a chain, or the last portion of one, of which the first `into` bytes were copied.
@@ -294,7 +323,7 @@ pub(crate) fn serve_bytes(
 {
     match kind {
         Kind::Statistics => keep_figures(step, device, regions, kind, place, into, room),
-        Kind::Hint => hear_id(step, device, kind, place, into, room),
+        Kind::Hint => hear_id(step, device, regions, kind, place, into, room),
         Kind::Inflate | Kind::Deflate | Kind::Report => {
             name_bytes(step, device, regions, kind, place, into, room)
         }

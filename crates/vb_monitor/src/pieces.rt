@@ -6,7 +6,7 @@ ghost use Rattle.std.specs.List.{list_any};
 ghost use Rattle.vb_chain.specs.Rules.{piece_of};
 ghost use Rattle.vb_virtio.specs.declared.limits.TheConstants.{MAX_QUEUE_SIZE, MAX_REQUEST_PAGES};
 ghost use Rattle.vb_request.specs.Request.{total_length};
-ghost use Rattle.vb_monitor.specs.Chains.{is_length_within, request_length_within};
+ghost use Rattle.vb_monitor.specs.Chains.{is_length_within, request_length_within, id_length, has_id};
 ghost use Rattle.vb_request.specs.Statistics.{statistics_length};
 ghost use Rattle.vb_core.specs.Report.{NamesPiecesBy};
 ghost use Rattle.vb_core.specs.Pieces.{piece_in, pieces_in};

@@ -7,7 +7,7 @@ ghost use Rattle.vb_monitor.specs.declared.room.Room.{Room};
 ghost use Rattle.vb_monitor.specs.declared.room.TheConstants.{MAX_BYTES, MAX_RUNS, MAX_FIGURES};
 ghost use Rattle.vb_monitor.specs.declared.step.Phase.TheVariants.{AwaitsIndex, AwaitsEntry};
 ghost use Rattle.vb_monitor.specs.declared.step.Phase.TheVariants.{AwaitsDescriptor, AwaitsPart};
-ghost use Rattle.vb_monitor.specs.declared.step.Phase.TheVariants.{TellsPages, TellsFigures};
+ghost use Rattle.vb_monitor.specs.declared.step.Phase.TheVariants.{TellsPages, TellsFigures, TellsId};
 ghost use Rattle.vb_monitor.specs.declared.step.Phase.TheVariants.{Discards, GivesBack};
 ghost use Rattle.vb_monitor.specs.declared.step.Phase.TheVariants.{AwaitsFlags, Ended};
 ghost use Rattle.vb_monitor.specs.Accesses.{Access};
