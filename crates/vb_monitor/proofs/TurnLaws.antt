@@ -10,7 +10,7 @@ use Rattle.vb_core.specs.Devices.{ring_of}
 use Rattle.vb_monitor.proofs.TurnEnds.{newest, Goes, one_more, asked, more_room, Stands, NoneLeft, Agrees}
 use Rattle.vb_monitor.proofs.PartCosts.{further_cost}
 use Rattle.std.specs.Prelude.{◌||◌}
-use Rattle.vb_monitor.proofs.{TurnEnds.{Flags, one_on, flags_of, ends_go, breaks_go}, TurnLemmas.After}
+use Rattle.vb_monitor.proofs.{TurnEnds.{Flags, round_on, one_on, flags_of, ends_go, breaks_go}, TurnLemmas.After}
 use Rattle.vb_monitor.{proofs.TurnRows.{pieces_go}, specs.Accesses.{Access, ReadWord}}
 use Rattle.vb_monitor.{proofs.TouchLemmas.within, specs.Counts.others, specs.Touched.Touches}
 use Rattle.vb_monitor.specs.Order.{is_word, is_read, is_told, Row, MayFollow}
@@ -224,7 +224,7 @@ all_go regions kind budget d1 d2 outcome log h =
     index_by w d1 d t m _ (takes_next budget.chains w d1 d budget.longest t long) _ b rest (omega arith)
     is refl) (fresh budget) _ log (omega arith) refl h)
 
-each_so : (may so : List Access → Access → Type 0) (b log : List Access) →
+pub each_so : (may so : List Access → Access → Type 0) (b log : List Access) →
     ((before : List Access) (x : Access) → may before x → so before x) → Each may b log →
     Each so b log
 each_so may so b [] is h = tt
@@ -260,6 +260,12 @@ pub hints_in_round : (regions : List Region) (kind : Kind) (budget : Budget) (d1
 hints_in_round regions kind budget d1 d2 outcome log h =
     each_so _ _ [] log (λ b x is. hints_by regions kind budget.keeps d1 b x is.tells)
     (all_go regions kind budget d1 d2 outcome log h).come
+
+pub round_left : (regions : List Region) (kind : Kind) (budget : Budget) (d1 d2 : Device)
+    (outcome : Outcome) (log : List Access) → Serves regions kind budget d1 d2 outcome log →
+    d2.round ≡ round_on d1.round log
+round_left regions kind budget d1 d2 outcome log h =
+    (all_go regions kind budget d1 d2 outcome log h).round
 
 row_so : (may : Option Access → Access → Type 0) (b log : List Access) →
     Each (λ before x. may (newest before) x) b log → Row may (newest b) log

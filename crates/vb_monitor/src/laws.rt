@@ -30,7 +30,7 @@ ghost use Rattle.vb_monitor.specs.declared.large.Large.{Large};
 ghost use Rattle.vb_monitor.specs.Large.{LargeBy, Goes, AreWholePages, may_go, is_of, is_of_large};
 ghost use Rattle.vb_monitor.specs.Large.{small_pages};
 ghost use Rattle.vb_core.specs.Ballooned.{is_ballooned};
-ghost use Rattle.vb_monitor.specs.Turns.{ReadsInTurn, TellsInTurn, WritesUsedAlone, HintsInRound};
+ghost use Rattle.vb_monitor.specs.Turns.{ReadsInTurn, TellsInTurn, WritesUsedAlone};
 ghost use Rattle.vb_core.specs.declared.device.Denial.{Denial};
 ghost use Rattle.vb_core.specs.Devices.{ring_of, queue_denial};
 ghost use Rattle.vb_chain.specs.declared.pieces.Piece.{Piece};
@@ -115,17 +115,6 @@ pub fn only_named_pages_are_discarded()
         (outcome : Outcome) (log : List Access) →
         Serves regions kind budget d1 d2 outcome log →
         Each (TellsInTurn regions kind budget.keeps d1) [] log }
-{}
-
-/// Pages are told as hinted only in a round that is open: by each id that the notice told before,
-/// and else as the device's round was at first. Where it isn't, none is told, and each counts as
-/// skipped. One notice is between two calls of the host, so no round begins, stops or ends within
-/// it, and none is reset.
-#[tactic(auto, using(crate::proofs::TurnLaws::hints_in_round))]
-pub fn hints_are_told_in_their_round()
-    ensures { (regions : List Region) (kind : Kind) (budget : Budget) (d1 d2 : Device)
-        (outcome : Outcome) (log : List Access) →
-        Serves regions kind budget d1 d2 outcome log → Each (HintsInRound d1) [] log }
 {}
 
 /// Nothing is written but the next used element of the queue's ring, with the id that was read as

@@ -3,7 +3,7 @@ use Rattle.vb_core.specs.declared.{name.Named.Named, device.Denial.Denial}
 use Rattle.vb_monitor.specs.{Accesses.Access, Giving.AfterName, Machine.{whole, next_chain}, Steps.tally_of}
 use Rattle.vb_monitor.specs.Chains.{told_if}
 use Rattle.vb_monitor.proofs.{CopyLemmas.few_pieces, RoomLemmas.few_reported}
-use Rattle.vb_monitor.proofs.naming.name_report.Goals as goal
+use Rattle.vb_monitor.proofs.free_pages.name_report.Goals as goal
 
 pub returns-in-Ok-clause-fits : goal.returns-in-Ok-clause-fits
 returns-in-Ok-clause-fits c =
