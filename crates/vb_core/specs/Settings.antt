@@ -49,6 +49,10 @@ needs_must_tell s = not (s.needs_must_tell == 0)
 abbrev pub skips : Settings → Bool
 skips s = not (s.skips_bad_pages == 0)
 
+-- Pages that are hinted are discarded once they were told.
+abbrev pub discards_hints : Settings → Bool
+discards_hints s = not (s.discards_hints == 0)
+
 -- A chain of the kind's queue that was taken is held until it is asked for: one of statistics
 -- always is (VIRTIO 1.1, 5.5.6.3), and a deflate where the settings say so.
 abbrev pub holds_chains : Kind → Settings → Bool

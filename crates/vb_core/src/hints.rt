@@ -94,7 +94,8 @@ impl Device {
         ensures begun { queue_denial Hint self.old ≡ None →
             (result ≡ Ok (next_id self.old.round.last)) ×
             (self.new ≡ record self.old {
-            round = begun (next_id self.old.round.last) self.old.round }) }
+              round = begun (next_id self.old.round.last) self.old.round;
+            }) }
     {
         if let Some(why) = self.queue_denial(Kind::Hint) {
             return Err(why);

@@ -5,8 +5,8 @@ ghost use Rattle.vb_status.specs.declared.bits.StatusFault.{StatusFault};
 ghost use Rattle.vb_core.specs.Statuses.{lacks_must_tell, status_denial, reset};
 ghost use Rattle.vb_core.specs.Statuses.{after_write, negotiate_denial};
 
-use crate::hints::STOP;
 use crate::Device;
+use crate::hints::STOP;
 use crate::settings::without_later;
 use bitflags::Flags;
 use vb_status::{Features, Status, StatusFault, negotiate, write_status};

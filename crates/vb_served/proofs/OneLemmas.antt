@@ -2,19 +2,19 @@
 use Rattle.std.proofs.Common.{◌≡◌, ◌≢◌, ◌∙◌, ap, sym, subst, refl, arith, ℕ, ◌+◌, ◌≤◌, Bool}
 use Rattle.std.proofs.Common.{true, false, List, ◌++◌, length, map, take, Option, Some}
 use Rattle.std.proofs.Common.{None, Result, Ok, Err}
-use Rattle.std.specs.Prelude.{IsOk, ◌&&◌, ◌/◌, nat_le}
+use Rattle.std.specs.{Prelude.{IsOk, ◌&&◌, ◌/◌, nat_le}, Int.{w32, from_le_bytes}}
 use Rattle.std.proofs.lemmas.Bool.Decides.{nat_tests}
 use Rattle.vb_chain.specs.declared.{fault.ChainFault.ChainFault, pieces.Piece.Piece}
 use Rattle.vb_request.specs.Request.{request_length}
 use Rattle.vb_request.specs.Statistics.{statistics_length, is_statistics_length}
 use Rattle.vb_core.specs.declared.kinds.Kind.{Kind}
-use Rattle.vb_core.specs.declared.kinds.Kind.TheVariants.{Inflate, Deflate, Statistics, Report}
+use Rattle.vb_core.specs.declared.kinds.Kind.TheVariants.{Inflate, Deflate, Statistics, Hint, Report}
 use Rattle.vb_core.specs.declared.{runs.Run.Run, name.Named.Named}
 use Rattle.vb_core.specs.declared.device.{Denial.Denial, Device.Device, Denial.TheVariants.Broken}
 use Rattle.vb_core.specs.Report.{NamesPiecesBy}
 use Rattle.vb_core.specs.Rings.{used_entry}
 use Rattle.vb_core.specs.Devices.{ring_of, needing_reset, queue_denial, with_one_taken, call_denial}
-use Rattle.vb_core.specs.Config.{keeps_reports}
+use Rattle.vb_core.specs.Config.{keeps_free}
 use Rattle.vb_core.specs.Statistics.{statistics_denial}
 use Rattle.vb_core.specs.Using.{use_denial}
 use Rattle.vb_monitor.specs.declared.{regions.Region.Region}
@@ -27,20 +27,22 @@ use Rattle.vb_monitor.specs.Giving.{after_last, used_spots, TellsThen, OnceTold,
 use Rattle.vb_monitor.specs.Notices.{stands}
 use Rattle.vb_virtio.specs.declared.limits.TheConstants.{MAX_REQUEST_PAGES}
 use Rattle.vb_monitor.specs.Chains.{request_length_within, CopiesBy, FiguresBy, TellsFigures, NamesReport}
+use Rattle.vb_monitor.specs.Chains.{told_if, tells_pages, id_of, id_length, has_id, after_id, IdBy}
+use Rattle.vb_monitor.specs.Chains.{ServesBytes, ServesHint as ServesPiecesOfHint}
 use Rattle.vb_monitor.specs.{Pieces.all_parts}
 use Rattle.vb_monitor.specs.declared.outcome.{HeldChain.HeldChain}
 use Rattle.vb_core.specs.Settings.{holds_chains}
 use Rattle.vb_core.specs.declared.settings.Settings.{Settings}
 use Rattle.vb_monitor.specs.Machine.{next_chain, serves, whole}
 use Rattle.vb_monitor.specs.Still.{bytes_of, StaysUntil, ArePartsMapped}
-use Rattle.vb_monitor.proofs.{StillFound.ends_so, StillParts.served_by_bytes}
+use Rattle.vb_monitor.proofs.{StillFound.ends_so, StillParts.{served_by_bytes, read_whole}}
 use Rattle.vb_served.specs.Store.{Store, After, with_marks}
-use Rattle.vb_served.specs.One.{byte, Discards, NamesOne, Settles, ServesReport}
+use Rattle.vb_served.specs.One.{byte, Discards, NamesOne, Settles, ServesReport, HearsBy, ServesHint}
 use Rattle.vb_served.specs.One.{BreaksRule, HoldsBuffer, RequestBy, BufferBy, ServesChain, all_of}
 use Rattle.vb_served.proofs.StaysLemmas.{IsPlain, Between, from_same}
 use Rattle.vb_served.proofs.EndLemmas.{apart, used_so}
 use Rattle.vb_served.proofs.MayServe.{MayServe, named_device, reported_device}
-use Rattle.vb_served.proofs.RoomLemmas.{request_room, buffer_room, buffer_bytes}
+use Rattle.vb_served.proofs.RoomLemmas.{request_room, buffer_room, buffer_bytes, id_bytes}
 
 -- ---- what was named
 
@@ -48,6 +50,7 @@ settings_kept : (kind : Kind) (d : Device) → (with_one_taken kind d).settings 
 settings_kept Inflate d = refl
 settings_kept Deflate d = refl
 settings_kept Statistics d = refl
+settings_kept Hint d = refl
 settings_kept Report d = refl
 
 -- runs are told, and the chain is given back
@@ -65,7 +68,7 @@ by_telling w d t head pages runs named s u log is free none keeps plain all open
     let h = subst (λ (b : Bool). TellsThen w (next_chain w t) d
     (held_if b head (more_told t.told pages) (spent pages t)) head runs named log) is h0 in
     let e = used_entry (ring_of w.kind d) head in
-    let cuts = cuts_for w.kind (is_kept w.kind t.keeps (keeps_reports d)) w.regions runs in
+    let cuts = cuts_for w.kind (is_kept w.kind t.keeps (keeps_free w.kind d)) w.regions runs in
     let gone : DiscardsThen (GivesBack w (next_chain w t) d (spent pages t) head) cuts h.rest =
     subst (λ (o : Option HeldChain). OnceTold o w (next_chain w t) d (spent pages t) head cuts h.rest) free
     h.goes_on in
@@ -85,9 +88,9 @@ by_telling w d t head pages runs named s u log is free none keeps plain all open
     record {
       between = parts.between;
       discards = subst (λ (rs : List Region). Discards marked (cuts_for w.kind
-          (is_kept w.kind false (keeps_reports d)) rs runs) parts.between) all
+          (is_kept w.kind false (keeps_free w.kind d)) rs runs) parts.between) all
           (subst (λ (k : Bool). Discards marked (cuts_for w.kind
-          (is_kept w.kind k (keeps_reports d)) w.regions runs) parts.between)
+          (is_kept w.kind k (keeps_free w.kind d)) w.regions runs) parts.between)
           keeps parts.first);
       gives = given_back;
       device = device;
@@ -210,23 +213,76 @@ by_deflate d1 d2 outcome t head pieces s u (Ok n) log is e stays h =
           (bytes_of (byte s) pieces) x.runs d1 x.device x.answer named same x.names) on.still_so x.goes_on;
     }
 
-by_report : (d1 d2 : Device) (outcome : Outcome) (t : Tally) (head : ℕ) (pieces : List Piece)
-    (s u : Store) (log : List Access) → IsFound Report d1 t head pieces s → Still s u log →
-    NamesReport (over (length s.mem) Report d2 outcome)
-    (next_chain (over (length s.mem) Report d2 outcome) t) d1 t head pieces log →
-    ServesReport head pieces d1 d2 outcome.why s u
-by_report d1 d2 outcome t head pieces s u log is stays h =
-    let w = over (length s.mem) Report d2 outcome in
+-- where pages of it are told, a chain was named
+named_told : (told : Bool) (answer : Result Named Denial) (named : Named) →
+    told_if told answer ≡ Ok named → (x : Named) × (answer ≡ Ok x)
+named_told told (Err why) named e = absurd cc
+named_told told (Ok x) named e = (x, refl)
+
+by_pieces : (kind : Kind) (d1 d2 : Device) (outcome : Outcome) (t : Tally) (head : ℕ)
+    (pieces : List Piece) (s u : Store) (log : List Access) →
+    holds_chains kind d1.settings ≡ false → IsFound kind d1 t head pieces s → Still s u log →
+    NamesReport (over (length s.mem) kind d2 outcome)
+    (next_chain (over (length s.mem) kind d2 outcome) t) d1 t head pieces log →
+    ServesReport kind head pieces d1 d2 outcome.why s u
+by_pieces kind d1 d2 outcome t head pieces s u log free is stays h =
+    let w = over (length s.mem) kind d2 outcome in
     record {
       runs = h.runs;
       device = h.device;
       answer = h.answer;
       names = h.names;
-      serves = by_name w d1 h.device t head h.runs s u h.answer log refl is.held is.none is.given is.keeps
-          is.plain refl is.may (λ named same. reported_device pieces h.runs d1 h.device named
-          (subst (λ (r : Result Named Denial). NamesPiecesBy pieces 256 h.runs d1 h.device r) same
+      serves = by_name w d1 h.device t head h.runs s u (told_if (tells_pages kind d1) h.answer) log free
+          is.held is.none is.given is.keeps is.plain refl is.may (λ named same.
+          let (x, so) = named_told (tells_pages kind d1) h.answer named same in
+          reported_device kind pieces h.runs d1 h.device x
+          (subst (λ (r : Result Named Denial). NamesPiecesBy kind pieces 256 h.runs d1 h.device r) so
           h.names)) stays h.goes_on;
     }
+
+-- ---- ids of hints
+
+id_so : (bytes : List ℕ) → length bytes ≡ 4 → id_of bytes ≡ Some (from_le_bytes w32 bytes)
+id_so bytes e = grind (arith, e)
+
+-- an id was read: it is told, and the chain is given back
+by_id : (d1 d2 : Device) (outcome : Outcome) (t : Tally) (head : ℕ) (pieces : List Piece)
+    (s u : Store) (o : Result ℕ ChainFault) (log : List Access) →
+    IsFound Hint d1 t head pieces s → id_length pieces ≡ o → Still s u log →
+    CopiesBy o (over (length s.mem) Hint d2 outcome)
+    (next_chain (over (length s.mem) Hint d2 outcome) t) d1 t head pieces log →
+    HearsBy o head pieces d1 d2 outcome.why s u
+by_id d1 d2 outcome t head pieces s u (Err f) log is e stays h =
+    broken_so Hint d1 d2 outcome t s u f log is.given stays h
+by_id d1 d2 outcome t head pieces s u (Ok n) log is e stays h =
+    let w = over (length s.mem) Hint d2 outcome in
+    let bytes = bytes_of (byte s) pieces in
+    let id = from_le_bytes w32 bytes in
+    let d = after_id id d1 in
+    let long : length bytes ≡ 4 = id_bytes (byte s) pieces n e in
+    let on = read_whole (Between s u) (byte s) w (ServesBytes w (next_chain w t) head) d1 t pieces log
+    is.parts (omega (arith, long)) stays h in
+    let told = subst (λ (o : Option ℕ). IdBy o w (next_chain w t) d1 t head on.rest)
+    (id_so bytes long) on.is in
+    let (s1, same, rest) =
+    subst (λ (l : List Access). Still s u l) told.asks on.still_so in
+    let x = used_entry (ring_of Hint d) head in
+    let gives = subst (λ (o : Option Denial). GivesBackBy o w (next_chain w t) d t head told.rest)
+    is.may.open_so told.goes_on in
+    let (given_back, device, ends) = used_so w d (after_use Hint d) t x (spot w.regions x.element_at 4)
+    (spot w.regions (x.element_at + 4) 4) (spot w.regions x.index_at 2) s u told.rest is.held is.none
+    is.plain refl refl refl is.may.there_so is.may.goes_on (from_same s s1 u told.rest same rest) gives in
+    record { gives = given_back; device = device; ends = ends }
+
+by_hint : (has : Bool) (d1 d2 : Device) (outcome : Outcome) (t : Tally) (head : ℕ)
+    (pieces : List Piece) (s u : Store) (log : List Access) → IsFound Hint d1 t head pieces s →
+    Still s u log → ServesPiecesOfHint has (over (length s.mem) Hint d2 outcome)
+    (next_chain (over (length s.mem) Hint d2 outcome) t) d1 t head pieces log →
+    ServesHint has head pieces d1 d2 outcome.why s u
+by_hint true d1 d2 outcome t head pieces s u log is stays h =
+    by_id d1 d2 outcome t head pieces s u (id_length pieces) log is refl stays h
+by_hint false d1 d2 outcome t head pieces s u log is stays h =
+    by_pieces Hint d1 d2 outcome t head pieces s u log refl is stays h
 
 -- ---- statistics
 
@@ -319,5 +375,7 @@ by_kind Deflate d1 d2 outcome t head pieces s u log is stays h =
     (next_chain (over (length s.mem) Deflate d2 outcome) t) d1 t head pieces log) is.longest h)
 by_kind Statistics d1 d2 outcome t head pieces s u log is stays h =
     by_buffer d1 d2 outcome t head pieces s u (statistics_length pieces) log is refl stays h
+by_kind Hint d1 d2 outcome t head pieces s u log is stays h =
+    by_hint (has_id pieces) d1 d2 outcome t head pieces s u log is stays h
 by_kind Report d1 d2 outcome t head pieces s u log is stays h =
-    by_report d1 d2 outcome t head pieces s u log is stays h
+    by_pieces Report d1 d2 outcome t head pieces s u log refl is stays h
