@@ -52,7 +52,13 @@ fn count_named(step: &mut Progress, settings: &Settings, kind: Kind, head: u16, 
 
 /// Tells the pages that were named, of a chain that is held, where the settings say so.
 #[inline(always)]
-pub(crate) fn tell_pages(step: &mut Progress, settings: &Settings, kind: Kind, place: Place, named: Named)
+pub(crate) fn tell_pages(
+    step: &mut Progress,
+    settings: &Settings,
+    kind: Kind,
+    place: Place,
+    named: Named,
+)
     ensures step { (w : Whole) (d : Device) (room : Room) (log : List Access) →
         Ahead w (step_of step.new) d room log → AheadAt (TellsPages place named false) w
         (with_named kind settings.now place.head named.pages (tally_of step.old)) d room log }
