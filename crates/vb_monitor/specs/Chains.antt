@@ -18,7 +18,8 @@ use Rattle.vb_chain.specs.Rules.{has_next, is_writable, piece_of, first_fault}
 use Rattle.vb_request.specs.Request.{total_length}
 use Rattle.vb_request.specs.Statistics.{statistics_length}
 use Rattle.vb_core.specs.declared.kinds.Kind.{Kind}
-use Rattle.vb_core.specs.declared.kinds.Kind.TheVariants.{Inflate, Deflate, Statistics, Hint, Report}
+use Rattle.vb_core.specs.declared.kinds.Kind.TheVariants.{Inflate, Deflate, Statistics, Hint}
+use Rattle.vb_core.specs.declared.kinds.Kind.TheVariants.{Report}
 use Rattle.vb_core.specs.declared.runs.Run.{Run}
 use Rattle.vb_core.specs.declared.ring.Virtqueue.{Virtqueue}
 use Rattle.vb_core.specs.declared.name.Named.{Named}
@@ -53,7 +54,7 @@ pub record NamesBytes (w : Whole) (next : Then) (d : Device) (tally : Tally) (he
   pub names : NamesNumbersBy w.kind bytes MAX_REQUEST_PAGES runs d device answer
   pub goes_on : AfterName w next (after_last w.kind answer device) tally head runs answer log
 
--- What is told of pages that a chain names by its pieces, where pages of it are told, or not: all of
+-- What is told of pages that a chain names by its pieces, where its pages are told, or not: all of
 -- them, or none, and then each counts as skipped.
 abbrev pub told_if : Bool → Result Named Denial → Result Named Denial
 told_if told (Err why) = Err why

@@ -15,7 +15,8 @@ use Rattle.vb_monitor.specs.declared.orders.Told.TheVariants.{Nothing, Pages, Fi
 use Rattle.vb_monitor.specs.declared.orders.Used.{Used}
 use Rattle.vb_monitor.specs.declared.orders.Asked.{Asked}
 use Rattle.vb_monitor.specs.declared.orders.Orders.{Orders}
-use Rattle.vb_monitor.specs.Accesses.{Access, Release, TellPages, TellFigures, TellId, Discard, WriteNumber}
+use Rattle.vb_monitor.specs.Accesses.{Access, Release, TellPages, TellFigures, TellId, Discard}
+use Rattle.vb_monitor.specs.Accesses.{WriteNumber}
 use Rattle.vb_monitor.specs.Accesses.{WriteWord}
 use Rattle.vb_monitor.specs.declared.step.Phase.{Phase}
 use Rattle.vb_monitor.specs.Machine.{cuts_after, stage}

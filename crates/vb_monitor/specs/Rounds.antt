@@ -1,13 +1,16 @@
--- What notices are to a device's rounds of free page hints (VIRTIO 1.2, 5.5.6.6), over its whole life.
+-- What notices are to a device's rounds of free page hints over its whole life (VIRTIO 1.2,
+-- 5.5.6.6).
 use Rattle.std.specs.Prelude.{◌≡◌, ◌≢◌, ℕ, false, List, [], ◌∷◌, ◌++◌}
 use Rattle.vb_core.specs.declared.kinds.Kind.{Kind}
-use Rattle.vb_core.specs.declared.kinds.Kind.TheVariants.{Inflate, Deflate, Statistics, Hint, Report}
+use Rattle.vb_core.specs.declared.kinds.Kind.TheVariants.{Inflate, Deflate, Statistics, Hint}
+use Rattle.vb_core.specs.declared.kinds.Kind.TheVariants.{Report}
 use Rattle.vb_core.specs.declared.{device.Device.Device, hints.Round.Round}
 use Rattle.vb_core.specs.Hints.{RoundEvent, Reads, round_after, is_reading, IsHeard}
 use Rattle.vb_monitor.specs.declared.regions.Region.{Region}
 use Rattle.vb_monitor.specs.declared.outcome.{Budget.Budget, HeldChain.HeldChain, Outcome.Outcome}
 use Rattle.vb_monitor.specs.Accesses.{Access, ReadWord, CopyBytes, Acquire, Release, Full}
-use Rattle.vb_monitor.specs.Accesses.{TellPages, TellFigures, TellId, Discard, WriteNumber, WriteWord}
+use Rattle.vb_monitor.specs.Accesses.{TellPages, TellFigures, TellId, Discard, WriteNumber}
+use Rattle.vb_monitor.specs.Accesses.{WriteWord}
 use Rattle.vb_monitor.specs.Notices.{Serves, GivesHeldBack}
 use Rattle.vb_monitor.specs.SoFar.{Each}
 
@@ -59,7 +62,7 @@ HintsHeard d history before (WriteWord at word) = Unit {0}
 
 -- ---- a life
 
--- What comes to a device: a call of the host or a reset; a notice, which makes one device of another
+-- What comes to a device: a call of the host or a reset; a notice, which makes another device of it
 -- by these accesses; or a held chain that is given back, likewise.
 pub data Deed : Type 0 where
   Comes : (event : RoundEvent) → Deed

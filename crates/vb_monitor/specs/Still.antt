@@ -14,7 +14,8 @@ use Rattle.vb_ring.specs.Entries.{ahead, next_by}
 use Rattle.vb_request.specs.Statistics.{statistics_length}
 use Rattle.vb_request.specs.Report.{report_request}
 use Rattle.vb_core.specs.declared.kinds.Kind.{Kind}
-use Rattle.vb_core.specs.declared.kinds.Kind.TheVariants.{Inflate, Deflate, Statistics, Hint, Report}
+use Rattle.vb_core.specs.declared.kinds.Kind.TheVariants.{Inflate, Deflate, Statistics, Hint}
+use Rattle.vb_core.specs.declared.kinds.Kind.TheVariants.{Report}
 use Rattle.vb_core.specs.declared.ring.Virtqueue.{Virtqueue}
 use Rattle.vb_core.specs.declared.device.Denial.{Denial}
 use Rattle.vb_core.specs.declared.device.Denial.TheVariants.{Broken}
@@ -26,7 +27,8 @@ use Rattle.vb_monitor.specs.declared.parts.Part.{Part}
 use Rattle.vb_monitor.specs.declared.room.TheConstants.{MAX_BYTES}
 use Rattle.vb_monitor.specs.declared.outcome.{Budget.Budget, Tally.Tally}
 use Rattle.vb_monitor.specs.Accesses.{Access, ReadWord, CopyBytes, Acquire, Release, Full}
-use Rattle.vb_monitor.specs.Accesses.{TellPages, TellFigures, TellId, Discard, WriteNumber, WriteWord}
+use Rattle.vb_monitor.specs.Accesses.{TellPages, TellFigures, TellId, Discard, WriteNumber}
+use Rattle.vb_monitor.specs.Accesses.{WriteWord}
 use Rattle.vb_monitor.specs.Regions.{spot}
 use Rattle.vb_monitor.specs.Chains.{descriptor_of, memory_end, request_length_within, id_length}
 use Rattle.vb_monitor.specs.Chains.{has_id}
@@ -212,8 +214,8 @@ ReportsTaken true still taken w tally d log =
 ReportsTaken false still taken w tally d log =
     AfterReads still (serves w tally d taken.head taken.chain) log
 
--- A notice of reports or hints does what memory has next: it ends as above, or the chain's pages are
--- told.
+-- A notice of reports or hints does what memory has next: it ends as above, or the pages of the
+-- chain are told.
 abbrev pub ReportsNext : (List Access → Type 0) → Whole → Tally → Device → List Access →
     Result (Option Taken) ChainFault → Type 0
 ReportsNext still w tally d log (Err fault) =

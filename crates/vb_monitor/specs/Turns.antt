@@ -6,7 +6,8 @@ use Rattle.vb_chain.specs.declared.pieces.Piece.{Piece}
 use Rattle.vb_request.specs.Request.{numbers_of}
 use Rattle.vb_request.specs.Report.{report_request}
 use Rattle.vb_core.specs.declared.kinds.Kind.{Kind}
-use Rattle.vb_core.specs.declared.kinds.Kind.TheVariants.{Inflate, Deflate, Statistics, Hint, Report}
+use Rattle.vb_core.specs.declared.kinds.Kind.TheVariants.{Inflate, Deflate, Statistics, Hint}
+use Rattle.vb_core.specs.declared.kinds.Kind.TheVariants.{Report}
 use Rattle.vb_core.specs.declared.runs.Run.{Run}
 use Rattle.vb_core.specs.declared.name.Named.{Named}
 use Rattle.vb_core.specs.declared.ring.Virtqueue.{Virtqueue}
@@ -27,7 +28,8 @@ use Rattle.vb_monitor.specs.declared.regions.Spot.{Spot}
 use Rattle.vb_monitor.specs.declared.cuts.Cut.{Cut}
 use Rattle.vb_monitor.specs.declared.room.TheConstants.{MAX_BYTES}
 use Rattle.vb_monitor.specs.Accesses.{Access, ReadWord, CopyBytes, Acquire, Release, Full}
-use Rattle.vb_monitor.specs.Accesses.{TellPages, TellFigures, TellId, Discard, WriteNumber, WriteWord}
+use Rattle.vb_monitor.specs.Accesses.{TellPages, TellFigures, TellId, Discard, WriteNumber}
+use Rattle.vb_monitor.specs.Accesses.{WriteWord}
 use Rattle.vb_monitor.specs.Regions.{spot}
 use Rattle.vb_monitor.specs.Chains.{further_in_row, id_of}
 use Rattle.vb_monitor.specs.Giving.{is_kept}
@@ -175,7 +177,8 @@ TellNamed open_now Report s pieces bytes runs named = TellPieces s pieces runs n
 abbrev pub TellsOf : Bool → Kind → Settings → Known → List Run → Named → Type 0
 TellsOf open_now kind s Unknown runs named = ⊥
 TellsOf open_now kind s (Walks head number pieces) runs named = ⊥
-TellsOf open_now kind s (Has head pieces [] bytes) runs named = TellNamed open_now kind s pieces bytes runs named
+TellsOf open_now kind s (Has head pieces [] bytes) runs named =
+    TellNamed open_now kind s pieces bytes runs named
 TellsOf open_now kind s (Has head pieces (part ∷ parts) bytes) runs named =
     (length bytes ≡ MAX_BYTES) × TellNamed open_now kind s pieces bytes runs named
 
@@ -209,8 +212,8 @@ IsNext cut (next ∷ others) = cut ≡ next
 -- whose pages the device keeps.
 abbrev pub TellsInTurn : List Region → Kind → Bool → Device → List Access → Access → Type 0
 TellsInTurn regions kind all d before (TellPages of runs named) =
-    (of ≡ kind)
-    × TellsOf (is_open (round_so_far d.round before)) kind d.settings (known kind before) runs named ×
+    (of ≡ kind) ×
+    TellsOf (is_open (round_so_far d.round before)) kind d.settings (known kind before) runs named ×
     (left (is_kept kind all (keeps_free kind d)) regions before ≡ [])
 TellsInTurn regions kind all d before (TellFigures figures) =
     (kind ≡ Statistics) × FiguresOf (known kind before) figures
@@ -287,7 +290,7 @@ WritesUsedAlone regions kind d before (Discard cut) = Unit {0}
 
 -- ---- hints
 
--- Pages are told as hinted only while the round is open, which goes by each id that was told before.
+-- Pages are told as hinted only while the round is open, by each id that was told before.
 abbrev pub HintsInRound : Device → List Access → Access → Type 0
 HintsInRound d before (TellPages Hint runs named) =
     is_open (round_so_far d.round before) ≡ false → runs ≡ []

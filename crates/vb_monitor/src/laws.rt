@@ -215,7 +215,8 @@ pub fn a_notice_does_what_memory_says()
 /// Where memory stays as it is while a notice of reports reads of it, or one of hints while the
 /// round is open, the notice does what the bytes of memory say: it ends where nothing is next, or
 /// where a rule is broken, so that the device needs a reset; or it tells just the chain's pages, a
-/// run for each piece, and takes the chain. A chain of hints that has an id is served by its pieces.
+/// run for each piece, and takes the chain. A chain of hints that has an id is served by its
+/// pieces.
 pub fn a_notice_reports_what_memory_says()
     ensures { (rest : List Access) (byte : ℕ → ℕ) (regions : List Region) (kind : Kind)
         (budget : Budget) (n : ℕ) (d1 d2 : Device) (outcome : Outcome) (log : List Access) →

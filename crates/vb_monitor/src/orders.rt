@@ -288,8 +288,9 @@ pub fn at_once(
     ensures stays { room.new ≡ record room.old { cuts = room.new.cuts } }
     ensures fits { Fits (phase_of step.new) }
     ensures room { HasRoom result orders.new }
-    ensures kept { result.told ≡ Pages → orders.new.kept ≡ kept_pages
-        (is_kept kind (tally_of step.old).keeps (keeps_free kind device.old)) orders.new.named.pages }
+    ensures kept { result.told ≡ Pages → orders.new.kept ≡
+        kept_pages (is_kept kind (tally_of step.old).keeps (keeps_free kind device.old))
+        orders.new.named.pages }
     ensures held { result.told ≡ Pages →
         orders.new.waits ≡ one_if (holds_chains kind device.old.settings) }
     ensures full { FillsList (phase_of step.new) orders.new }
