@@ -134,10 +134,10 @@ pub(crate) fn id_length(pieces: &[ChainPiece]) -> Result<u32, ChainFault>
 pub(crate) fn has_id(pieces: &[ChainPiece]) -> bool
     ensures { result ≡ has_id (pieces_in pieces.now) }
 {
-    match pieces.first() {
-        Some(piece) => piece.writable == 0,
-        None => false,
+    if pieces.is_empty() {
+        return false;
     }
+    pieces[0].writable == 0
 }
 
 /// Names the pages of a report or a hint of these pieces.
