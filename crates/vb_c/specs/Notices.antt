@@ -13,7 +13,8 @@ use Rattle.vb_monitor.specs.declared.outcome.{HeldChain.HeldChain, Tally.Tally}
 use Rattle.vb_monitor.specs.declared.step.Phase.{Phase}
 use Rattle.vb_monitor.specs.declared.step.Phase.TheVariants.{AwaitsIndex, AwaitsEntry}
 use Rattle.vb_monitor.specs.declared.step.Phase.TheVariants.{AwaitsDescriptor, AwaitsPart}
-use Rattle.vb_monitor.specs.declared.step.Phase.TheVariants.{TellsPages, TellsFigures, TellsId, Discards}
+use Rattle.vb_monitor.specs.declared.step.Phase.TheVariants.{TellsPages, TellsFigures, TellsId}
+use Rattle.vb_monitor.specs.declared.step.Phase.TheVariants.{Discards}
 use Rattle.vb_monitor.specs.declared.step.Phase.TheVariants.{GivesBack, AwaitsFlags, Ended}
 use Rattle.vb_monitor.specs.Machine.{row_bytes, may_go_on}
 use Rattle.vb_monitor.specs.Codes.{code_of, end_rule}

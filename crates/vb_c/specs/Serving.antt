@@ -58,7 +58,8 @@ pub record HandsOver (n : Notice) (regions : List Region) (room : Room) (b1 b2 :
       (at_once asked n.kind c.orders cuts room.runs room.figures rest)
   pub has_room : HasRoom asked c.orders
   pub kept : asked.told ≡ Pages → c.orders.kept ≡
-      kept_pages (is_kept n.kind n.step.tally.keeps (keeps_free n.kind b1.device)) c.orders.named.pages
+      kept_pages (is_kept n.kind n.step.tally.keeps (keeps_free n.kind b1.device))
+      c.orders.named.pages
   pub held_back : asked.told ≡ Pages →
       c.orders.waits ≡ one_if (holds_chains n.kind b1.device.settings)
   pub waits_now : waits notice.step.phase ≡ true

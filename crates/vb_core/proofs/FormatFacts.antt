@@ -1,6 +1,6 @@
 -- The bytes of a saved device, worked out: each field has a number of its own.
 use Rattle.std.specs.Prelude.{Ok, Err, take, drop}
-use Rattle.std.proofs.Common.{◌≡◌, ℕ, true, false, List, [], ◌∷◌, ◌++◌, map, refl, ap}
+use Rattle.std.proofs.Common.{◌≡◌, ℕ, true, false, List, [], ◌∷◌, ◌++◌, map, refl, ap, arith}
 use Rattle.vb_core.specs.declared.{device.Device.Device, saved.Saved.Saved}
 use Rattle.vb_core.specs.declared.{ring.Virtqueue.Virtqueue, hints.Round.Round}
 use Rattle.vb_core.specs.Format.{in_a_row, round_parts, round_at, HintsNothing}
@@ -169,9 +169,9 @@ hints_something : (HintsNothing (record bare { settings = record bare.settings {
     × (HintsNothing (record bare { hint = record bare.hint { table = 1 } }) → ⊥)
     × (HintsNothing (record bare { round = record bare.round { last = 2 } }) → ⊥)
 hints_something = (
-  λ h. let wrong : 1 ≡ 0 = h.setting in cc,
-  λ h. let wrong : 1 ≡ 0 = ap (λ (r : Virtqueue). r.table) h.ring in cc,
-  λ h. let wrong : 2 ≡ 0 = ap (λ (r : Round). r.last) h.round in cc,
+  λ h. omega (arith, h.setting),
+  λ h. omega (arith, ap (λ (r : Virtqueue). r.table) h.ring),
+  λ h. omega (arith, ap (λ (r : Round). r.last) h.round),
 )
 
 -- ---- what a device may be: each of these alone makes it impossible

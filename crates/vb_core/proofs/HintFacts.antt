@@ -1,5 +1,5 @@
 -- Rounds of hints, worked out: ids, calls, and histories with late, repeated and stale ids.
-use Rattle.std.proofs.Common.{◌≡◌, refl, sym, ◌∙◌, ap, ℕ, Bool, true, false, List, [], ◌∷◌, map, replicate}
+use Rattle.std.proofs.Common.{◌≡◌, refl, sym, ◌∙◌, arith, ℕ, Bool, true, false, List, [], ◌∷◌, map, replicate}
 use Rattle.vb_core.specs.declared.hints.{Round.Round, TheConstants.{STOP, DONE, FIRST_ID}}
 use Rattle.vb_core.specs.Hints.{is_id, next_id, no_round, is_open, begun, showing, heard, RoundEvent}
 use Rattle.vb_core.specs.Hints.{Begins, Stops, Ends, Resets, Reads, round_after, round_after_all}
@@ -181,4 +181,4 @@ abbrev second_open : List RoundEvent
 second_open = Begins 2 ∷ Reads 2 ∷ Begins 3 ∷ Reads 3 ∷ []
 
 of_the_round_before : IsHeard 2 second_open → ⊥
-of_the_round_before h = let wrong : 3 ≡ 2 = (heard_is_open 2 second_open first refl h).1 in cc
+of_the_round_before h = omega (arith, (heard_is_open 2 second_open first refl h).1)

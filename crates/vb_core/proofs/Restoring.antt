@@ -258,23 +258,23 @@ was_saved : (bytes : List ℕ) → AreBytes bytes → is_state bytes ≡ true �
     → has_length bytes ≡ true → has_sum bytes ≡ true → WasSaved bytes (state_in bytes)
 was_saved bytes all state version len sum =
     let magic = eqb-true (u64_at bytes 0) MAGIC state in
-    elim (or_cases (u32_at bytes VERSION_AT == 4)
-    ((u32_at bytes VERSION_AT == 3) || (u32_at bytes VERSION_AT == 2)) version) [
-      | inl newer ↦ let v = eqb-true (u32_at bytes VERSION_AT) 4 newer in
-          let l = long_so 240 4 bytes refl v len in
-          subst (λ (s : Saved). WasSaved bytes s) (sym (state_so 240 bytes l.1))
-          (newer_was bytes all l.1 magic v l.0 (sum_so 240 bytes l.1 sum))
-      | inr before ↦
-          elim (or_cases (u32_at bytes VERSION_AT == 3) (u32_at bytes VERSION_AT == 2) before) [
-            | inl older ↦ let v = eqb-true (u32_at bytes VERSION_AT) 3 older in
+    elim (or_cases ((u32_at bytes VERSION_AT == 4) || (u32_at bytes VERSION_AT == 3))
+    (u32_at bytes VERSION_AT == 2) version) [
+      | inl after ↦
+          elim (or_cases (u32_at bytes VERSION_AT == 4) (u32_at bytes VERSION_AT == 3) after) [
+            | inl newer ↦ let v = eqb-true (u32_at bytes VERSION_AT) 4 newer in
+                let l = long_so 240 4 bytes refl v len in
+                subst (λ (s : Saved). WasSaved bytes s) (sym (state_so 240 bytes l.1))
+                (newer_was bytes all l.1 magic v l.0 (sum_so 240 bytes l.1 sum))
+            | inr older ↦ let v = eqb-true (u32_at bytes VERSION_AT) 3 older in
                 let l = long_so 200 3 bytes refl v len in
                 subst (λ (s : Saved). WasSaved bytes s) (sym (state_so 200 bytes l.1))
                 (older_was bytes all l.1 magic v l.0 (sum_so 200 bytes l.1 sum))
-            | inr oldest ↦ let v = eqb-true (u32_at bytes VERSION_AT) 2 oldest in
-                let l = long_so 191 2 bytes refl v len in
-                subst (λ (s : Saved). WasSaved bytes s) (sym (state_so 191 bytes l.1))
-                (oldest_was bytes all l.1 magic v l.0 (sum_so 191 bytes l.1 sum))
           ]
+      | inr oldest ↦ let v = eqb-true (u32_at bytes VERSION_AT) 2 oldest in
+          let l = long_so 191 2 bytes refl v len in
+          subst (λ (s : Saved). WasSaved bytes s) (sym (state_so 191 bytes l.1))
+          (oldest_was bytes all l.1 magic v l.0 (sum_so 191 bytes l.1 sum))
     ]
 
 pub only_saved : (bytes : List ℕ) (s : Saved) → AreBytes bytes → restored bytes ≡ Ok s

@@ -123,7 +123,8 @@ pub record HoldsNoDeflate (s : Saved) : Type 0 where
   pub deflate : s.held.deflate ≡ 0
   pub pages : s.held.pages ≡ 0
 
--- it has no queue of hints, no round has begun, and hints are kept, as of each device of the versions before
+-- it has no queue of hints, no round has begun, and hints are kept, as of each device of the
+-- versions before
 pub record HintsNothing (d : Device) : Type 0 where
   pub setting : d.settings.discards_hints ≡ 0
   pub ring : d.hint ≡ no_ring

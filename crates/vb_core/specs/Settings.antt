@@ -6,7 +6,8 @@ use Rattle.vb_virtio.specs.Limits.{page_size}
 use Rattle.vb_virtio.specs.Features.{version_1}
 use Rattle.vb_virtio.specs.Status.{contains}
 use Rattle.vb_core.specs.declared.kinds.Kind.{Kind}
-use Rattle.vb_core.specs.declared.kinds.Kind.TheVariants.{Inflate, Deflate, Statistics, Hint, Report}
+use Rattle.vb_core.specs.declared.kinds.Kind.TheVariants.{Inflate, Deflate, Statistics, Hint}
+use Rattle.vb_core.specs.declared.kinds.Kind.TheVariants.{Report}
 use Rattle.vb_core.specs.declared.settings.Settings.{Settings}
 use Rattle.vb_core.specs.declared.settings.TheConstants.{MEMORY_LIMIT, PAGE_POISON, LONGEST_REQUEST}
 use Rattle.vb_core.specs.declared.settings.TheConstants.{FREE_PAGE_HINT}

@@ -5,7 +5,8 @@ ghost use Rattle.std.specs.Prelude.{◌≡◌, ℕ, ◌+◌, ◌≤◌, ◌<◌,
 ghost use Rattle.std.specs.Prelude.{slice_index};
 ghost use Rattle.vb_core.specs.declared.device.Denial.{Denial};
 ghost use Rattle.vb_core.specs.Config.{shown_poison, shown_id, config_bytes, covers, word_from};
-ghost use Rattle.vb_core.specs.Config.{takes_poison, config_denies, with_written, keeps_reports, keeps_free};
+ghost use Rattle.vb_core.specs.Config.{takes_poison, config_denies, with_written, keeps_reports};
+ghost use Rattle.vb_core.specs.Config.{keeps_free};
 
 use crate::hints::STOP;
 use crate::settings::{has_free_page_hint, has_page_poison};
@@ -75,8 +76,8 @@ impl Device {
     }
 
     /// The driver reads the configuration space from an offset on: `num_pages` from 0, `actual`
-    /// from 4, `free_page_hint_cmd_id` from 8 where FREE_PAGE_HINT is offered, and `poison_val` from
-    /// 12 where PAGE_POISON is (VIRTIO 1.2, 5.5.4). All other bytes read as 0.
+    /// from 4, `free_page_hint_cmd_id` from 8 where FREE_PAGE_HINT is offered, and `poison_val`
+    /// from 12 where PAGE_POISON is (VIRTIO 1.2, 5.5.4). All other bytes read as 0.
     pub fn read_config(&self, offset: u32, out: &mut [u8])
         ensures { (k : ℕ) → k < length out.old →
             slice_index out.new k ≡ slice_index (config_bytes self.now) (offset + k) }

@@ -41,8 +41,8 @@ impl Device {
         }
     }
 
-    /// Forgets what the driver did and said (VIRTIO 1.1, 2.1): settings and target stay, and the ids of
-    /// rounds go on, so that a late one opens none.
+    /// Forgets what the driver did and said (VIRTIO 1.1, 2.1): settings and target stay, and the
+    /// ids of rounds go on, so that a late one opens none.
     fn reset(&mut self)
         ensures { self.new ≡ reset self.old }
     {

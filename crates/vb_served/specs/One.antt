@@ -11,7 +11,8 @@ use Rattle.vb_chain.specs.declared.pieces.Piece.{Piece}
 use Rattle.vb_request.specs.Request.{byte_of_address, request_length}
 use Rattle.vb_request.specs.Statistics.{statistics_length}
 use Rattle.vb_core.specs.declared.kinds.Kind.{Kind}
-use Rattle.vb_core.specs.declared.kinds.Kind.TheVariants.{Inflate, Deflate, Statistics, Hint, Report}
+use Rattle.vb_core.specs.declared.kinds.Kind.TheVariants.{Inflate, Deflate, Statistics, Hint}
+use Rattle.vb_core.specs.declared.kinds.Kind.TheVariants.{Report}
 use Rattle.vb_core.specs.declared.runs.Run.{Run}
 use Rattle.vb_core.specs.declared.name.Named.{Named}
 use Rattle.vb_core.specs.declared.statistics.Statistic.{Statistic}
@@ -135,8 +136,8 @@ pub record HearsId (head id : ℕ) (d1 d2 : Device) (why : Option Denial) (s t :
   pub device : d2 ≡ after_use Hint (after_id id d1)
   pub ends : why ≡ None
 
-abbrev pub HearsBy : Result ℕ ChainFault → ℕ → List Piece → Device → Device → Option Denial → Store →
-    Store → Type 0
+abbrev pub HearsBy : Result ℕ ChainFault → ℕ → List Piece → Device → Device → Option Denial →
+    Store → Store → Type 0
 HearsBy (Err fault) head pieces d1 d2 why s t = BreaksRule fault d1 d2 why s t
 HearsBy (Ok total) head pieces d1 d2 why s t =
     HearsId head (from_le_bytes w32 (bytes_of (byte s) pieces)) d1 d2 why s t

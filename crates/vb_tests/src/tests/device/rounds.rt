@@ -3,7 +3,7 @@
 use super::{SETTINGS, SMALL, ready};
 use vb_core::{Denial, Device, Kind, Settings};
 
-/// The same guest, with hints.
+/// A guest of 512 MiB, with hints.
 const HINTING: Settings = Settings {
     offered: 0x1_0000_002f,
     ..SETTINGS
