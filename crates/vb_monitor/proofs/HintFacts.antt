@@ -12,6 +12,7 @@ use Rattle.vb_monitor.specs.{Ends.Whole, Giving.{Then, after_use, with_given}, N
 use Rattle.vb_monitor.specs.Chains.{id_of, id_length, has_id, after_id, told_if, tells_pages, AfterBytes, ServesPieces}
 use Rattle.vb_monitor.specs.SoFar.{Unknown, Walks, Has, hears, round_so_far}
 use Rattle.vb_monitor.specs.Turns.{TellsOf, IdOf, TellsInTurn, HintsInRound}
+use Rattle.vb_monitor.specs.{declared.room.Room.Room, declared.step.Phase.TheVariants.TellsId, Machine.Does}
 use Rattle.vb_monitor.specs.Rounds.{events_of, events_before, HintsHeard}
 use Rattle.vb_monitor.proofs.{AheadFacts.{over, ends}, TurnLaws.{in_order, tells_in_turn, hints_in_round}}
 use Rattle.vb_monitor.proofs.Samples.{Same, two, at, ready, tally, piece, page_5, one_page, number, told_id, budget, outcome}
@@ -142,6 +143,20 @@ unknown id h = h
 
 of_three_bytes : (id : ℕ) → IdOf (Has 3 (piece ∷ []) [] (5 ∷ 0 ∷ 0 ∷ [])) id → ⊥
 of_three_bytes id h = absurd cc
+
+-- the id is told that was read
+abbrev room : Room
+room = record { pieces = []; bytes = []; runs = []; figures = [] }
+
+tells_an_id : Does (TellsId 3 6) Hint 0 [] room (TellId 6 ∷ [])
+tells_an_id = refl
+
+abbrev id_in : List Access → ℕ
+id_in (TellId n ∷ xs) = n
+id_in xs = 0
+
+another_id_told : Does (TellsId 3 6) Hint 0 [] room (TellId 3 ∷ []) → ⊥
+another_id_told h = let e : Same 3 6 = ap id_in h in omega arith
 
 of_an_inflate : TellsInTurn two Inflate false ready (part ∷ descriptor ∷ entry ∷ Acquire ∷ index ∷ []) told_id → ⊥
 of_an_inflate h = let e = h.0 in absurd cc

@@ -3,7 +3,7 @@ use Rattle.vb_monitor.proofs.Samples.{room_of}
 use Rattle.vb_monitor.specs.declared.room.Room.{Room}
 use Rattle.std.proofs.Common.{◌≡◌, ◌∙◌, ◌++◌, refl, ap, arith, ℕ, ◌+◌, ◌*◌, ◌≤◌, true, false, List, [], ◌∷◌, map, length, Option, Some, None}
 use Rattle.vb_chain.specs.declared.pieces.Piece.{Piece}
-use Rattle.vb_core.specs.declared.{kinds.Kind.TheVariants.{Inflate, Deflate, Hint}, runs.Run.Run}
+use Rattle.vb_core.specs.declared.{kinds.Kind.TheVariants.{Inflate, Deflate}, runs.Run.Run}
 use Rattle.vb_core.specs.declared.{name.Named.Named, device.Denial.TheVariants.NotReady}
 use Rattle.vb_core.specs.Rings.{used_entry}
 use Rattle.vb_monitor.specs.declared.parts.Part.{Part}
@@ -15,7 +15,7 @@ use Rattle.vb_monitor.specs.declared.step.Discarding.{Discarding}
 use Rattle.vb_monitor.specs.declared.step.Phase.{Phase}
 use Rattle.vb_monitor.specs.declared.step.Phase.TheVariants.{AwaitsIndex, AwaitsEntry, AwaitsDescriptor, AwaitsPart}
 use Rattle.vb_monitor.specs.declared.step.Phase.TheVariants.{TellsPages, TellsFigures, TellsId, Discards, GivesBack, AwaitsFlags, Ended}
-use Rattle.vb_monitor.specs.Accesses.{Access, Steps, Makes, ReadWord, CopyBytes, Acquire, Release, Full, TellPages, TellFigures, TellId}
+use Rattle.vb_monitor.specs.Accesses.{Access, Steps, Makes, ReadWord, CopyBytes, Acquire, Release, Full, TellPages, TellFigures}
 use Rattle.vb_monitor.specs.Machine.{cuts_after, is_ended, stage, waits, outcome_at, Fits, Does, GoesOn}
 use Rattle.vb_monitor.specs.{declared.cuts.NextCut.NextCut, Orders.cuts_left}
 use Rattle.vb_monitor.specs.Pieces.{parts_on}
@@ -216,9 +216,6 @@ tells_one = refl
 tells_a_figure : Does (TellsFigures 3 1) Inflate 0 [] (room []) (TellFigures (record { tag = 1; value = 2 } ∷ []) ∷ [])
 tells_a_figure = refl
 
-tells_an_id : Does (TellsId 3 6) Hint 0 [] (room []) (TellId 6 ∷ [])
-tells_an_id = refl
-
 discards_it : Does (Discards cut_5 discarding) Inflate 0 [] (room []) (discard ∷ [])
 discards_it = refl
 
@@ -284,15 +281,8 @@ abbrev told : List Access → ℕ
 told (TellPages kind rs n ∷ xs) = length rs
 told xs = 0
 
-abbrev id_in : List Access → ℕ
-id_in (TellId n ∷ xs) = n
-id_in xs = 0
-
 both_told : Does (TellsPages place named false) Inflate 0 [] (room []) (TellPages Inflate (page_5 ∷ over_the_hole ∷ []) one_page ∷ []) → ⊥
 both_told h = let e : Same 2 1 = ap told h in omega arith
-
-another_id_told : Does (TellsId 3 6) Hint 0 [] (room []) (TellId 3 ∷ []) → ⊥
-another_id_told h = let e : Same 3 6 = ap id_in h in omega arith
 
 something_once_ended : Does (Ended None true false) Inflate 0 [] (room []) (discard ∷ []) → ⊥
 something_once_ended h = absurd cc

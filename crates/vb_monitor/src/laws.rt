@@ -59,10 +59,10 @@ pub fn nothing_outside_the_regions_is_touched()
 {}
 
 /// The accesses of a notice come in their order: bytes directly after what was read, or after a
-/// portion that was told or discarded, pages that are told directly after bytes that were copied,
-/// discards directly after these pages or other discards, a used element's numbers directly after
-/// those, a release fence directly after the numbers, and the index directly after that fence
-/// (VIRTIO 1.1, 2.6.8).
+/// portion that was told or discarded, what is told directly after bytes that were copied, discards
+/// directly after pages that were told or other discards, a used element's numbers directly after
+/// those or after an id that was told, a release fence directly after the numbers, and the index
+/// directly after that fence (VIRTIO 1.1, 2.6.8).
 #[tactic(auto, using(crate::proofs::TurnLaws::in_order))]
 pub fn accesses_come_in_their_order()
     ensures { (regions : List Region) (kind : Kind) (budget : Budget) (d1 d2 : Device)
@@ -104,11 +104,12 @@ pub fn what_counts_is_read_once()
 {}
 
 /// Only pages are told that the bytes name which were copied since the chain's entry was read and
-/// weren't told yet, or the pieces of a report: of bytes once all of the chain was read, or a whole
-/// portion of 1,024 of them. Only parts of pages that were told are discarded, each once and in
-/// order, and all of them before more is copied or told, and before the chain's used element is
-/// written. None of a deflate's is, nor of a report's where the device keeps the pages of reports
-/// (VIRTIO 1.1, 5.5.6; 1.2, 5.5.4), and none at all where the notice keeps all pages.
+/// weren't told yet, or the pieces of a report, or of a hint in a round that is open: of bytes once
+/// all of the chain was read, or a whole portion of 1,024 of them. Only parts of pages that were
+/// told are discarded, each once and in order, and all of them before more is copied or told, and
+/// before the chain's used element is written. None of a deflate's is, nor of a report's or a hint's
+/// where the device keeps the free pages of that kind (VIRTIO 1.1, 5.5.6; 1.2, 5.5.4), and none at
+/// all where the notice keeps all pages.
 #[tactic(auto, using(crate::proofs::TurnLaws::tells_in_turn))]
 pub fn only_named_pages_are_discarded()
     ensures { (regions : List Region) (kind : Kind) (budget : Budget) (d1 d2 : Device)
