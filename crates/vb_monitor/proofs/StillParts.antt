@@ -177,7 +177,7 @@ copies onward byte w does d t (part ∷ parts) so_far log some mapped room stays
 
 -- ---- a chain
 
-read_whole : (onward : List Access → Type 0) (byte : ℕ → ℕ) (w : Whole) (does : Does) (d : Device)
+pub read_whole : (onward : List Access → Type 0) (byte : ℕ → ℕ) (w : Whole) (does : Does) (d : Device)
     (t : Tally) (pieces : List Piece) (log : List Access) →
     ArePartsMapped w.regions (all_parts pieces) → length (bytes_of byte pieces) ≤ MAX_BYTES →
     StaysUntil onward byte w.regions log → CopiesParts w does d t (all_parts pieces) [] log →
