@@ -10,8 +10,9 @@ ghost use Rattle.vb_c.specs.Notices.{Says, SaysEnd, end_code, breaks, asked_bits
 ghost use Rattle.vb_c.specs.Notices.{IsNotice, HasEnded, IsElse};
 ghost use Rattle.vb_monitor.specs.declared.room.TheConstants.{MAX_BYTES};
 
-use crate::bits::{ACQUIRE, COPY, DISCARD, FULL_FENCE, GIVE_BACK, READ};
-use crate::bits::{TELL_FIGURES, TELL_ID, TELL_PAGES};
+use crate::bits::{
+    ACQUIRE, COPY, DISCARD, FULL_FENCE, GIVE_BACK, READ, TELL_FIGURES, TELL_ID, TELL_PAGES,
+};
 use crate::kinds::code_of_kind;
 use crate::notice::VbNotice;
 use vb_chain::DESCRIPTOR_SIZE;
