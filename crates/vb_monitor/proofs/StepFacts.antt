@@ -62,7 +62,7 @@ numbers = record {
 abbrev place : Place
 place = record { head = 11; count = 12; piece = 21; done = 22 }
 
-each_phase : map (λ n. phase_at n numbers) (0 ∷ 1 ∷ 2 ∷ 3 ∷ 4 ∷ 5 ∷ 6 ∷ 7 ∷ 8 ∷ 9 ∷ 10 ∷ []) ≡
+each_phase : map (λ n. phase_at n numbers) (0 ∷ 1 ∷ 2 ∷ 3 ∷ 4 ∷ 5 ∷ 6 ∷ 7 ∷ 8 ∷ 9 ∷ 10 ∷ 11 ∷ []) ≡
     Ended (Some (Broken TooLong)) true false
     ∷ AwaitsIndex spot
     ∷ AwaitsEntry spot
@@ -74,6 +74,7 @@ each_phase : map (λ n. phase_at n numbers) (0 ∷ 1 ∷ 2 ∷ 3 ∷ 4 ∷ 5 ∷
     ∷ TellsPages place (record { runs = 16; pages = 17; skipped = 18 }) true
     ∷ TellsFigures 11 4
     ∷ GivesBack numbers.spots numbers.entry
+    ∷ TellsId 11 4
     ∷ GivesBack numbers.spots numbers.entry ∷ []
 each_phase = refl
 
