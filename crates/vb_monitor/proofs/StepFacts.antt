@@ -9,7 +9,7 @@ use Rattle.vb_monitor.specs.declared.{regions.Spot.Spot, progress.Progress.Progr
 use Rattle.vb_monitor.specs.declared.step.{Walk.Walk, Place.Place}
 use Rattle.vb_monitor.specs.declared.step.Phase.TheVariants.{AwaitsIndex, AwaitsEntry}
 use Rattle.vb_monitor.specs.declared.step.Phase.TheVariants.{AwaitsDescriptor, AwaitsPart, Discards}
-use Rattle.vb_monitor.specs.declared.step.Phase.TheVariants.{TellsPages, TellsFigures}
+use Rattle.vb_monitor.specs.declared.step.Phase.TheVariants.{TellsPages, TellsFigures, TellsId}
 use Rattle.vb_monitor.specs.declared.step.Phase.TheVariants.{GivesBack, AwaitsFlags, Ended}
 use Rattle.vb_monitor.specs.Codes.{code_of, rule_in, fault_of, why_of, why_code, end_rule}
 use Rattle.vb_monitor.specs.Steps.{tally_of, walk_of, phase_at, phase_of, step_of}
