@@ -31,13 +31,13 @@ def becomes(machine, what, condition):
 
 
 def has_free(machine, mib):
-    """Whether the guest has so many MiB free, and how many it has."""
+    """Whether the guest has at least this many MiB free, and how many it has."""
     free = machine.guest.memory_mib()[1]
     return free >= mib, f"{free:.0f} MiB are free of {mib:.0f}"
 
 
 def holds(machine, most):
-    """Whether the host holds at most so many MiB, and how many it holds."""
+    """Whether the host holds at most this many MiB, and how many it holds."""
     held = machine.guest.held_mib()
     return held <= most, f"the host holds {held:.0f} MiB, and at most {most:.0f} are wanted: {machine.backend.counters()}"
 
