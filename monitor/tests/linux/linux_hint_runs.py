@@ -8,8 +8,8 @@ from linux_runs import LEFT_FREE, REPORT_LIMIT, Run, audit, fill_memory, finish,
 # The driver hints blocks of 4 MiB: MiB of what is free that may lie in no whole block, or that it leaves to its kernel.
 UNHINTED = 32
 
-# MiB of a hog, at most; rounds that end amid, and the longest rest before an end, in seconds.
-HOG, AMID, MOST_REST = 150, 8, 0.1
+# MiB of a hog, at least, and of the guests that have room for it; rounds that end amid, and the longest rest before an end, in seconds.
+HOG, ROOMY, AMID, MOST_REST = 150, (320, 384), 8, 0.1
 
 # Without reports, which give the same memory back.
 WITHOUT_REPORTS = ("--features", "100000007", "--hints", "--discard-hints")
@@ -61,7 +61,7 @@ def hints_run(machine, _):
     kept, said = keep(machine, "keep", machine.memory // 6), []
     for number in range(2):
         filled, free = fill_and_free(machine)
-        demand(filled >= HOG * machine.memory // 256 - LEFT_FREE, f"the guest has only {filled} MiB to fill")
+        demand(filled >= HOG, f"the guest has only {filled} MiB to fill")
         before = machine.guest.held_mib()
         demand(order(machine, "start") == f"round {number + 2}", "a round has another's id")
         becomes(machine, "hinted memory doesn't come back", lambda free=free: holds(machine, machine.memory - free + UNHINTED))
@@ -99,7 +99,7 @@ def amid_run(machine, chance):
 
 
 HINT_RUNS = {
-    "hints": Run(hints_run, backend_words=WITHOUT_REPORTS),
+    "hints": Run(hints_run, sizes=ROOMY, backend_words=WITHOUT_REPORTS),
     # With reports, whose queue is the fifth one.
     "amid": Run(amid_run, guest={"queues": 5}, backend_words=("--hints", "--discard-hints")),
 }
