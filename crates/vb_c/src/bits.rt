@@ -6,7 +6,7 @@ pub(crate) const TELL_PAGES: u32 = 1;
 /// The first `figures` of the room are what the guest says.
 pub(crate) const TELL_FIGURES: u32 = 2;
 
-/// `hint_id` was read from the queue of hints: the id of a round, or that of none.
+/// `hint_id` is the id that the driver sent with its hints.
 pub(crate) const TELL_ID: u32 = 4;
 
 /// Give the bytes of the first `cuts` of the room back to the machine.

@@ -17,7 +17,7 @@ pub(crate) const STATISTICS: u32 = 2;
 /// Pages are free in the guest.
 pub(crate) const REPORT: u32 = 3;
 
-/// Pages are free in the guest, for as long as a round of hints lasts.
+/// Pages that the guest keeps free are hinted.
 pub(crate) const HINT: u32 = 4;
 
 /// The kind of no queue.

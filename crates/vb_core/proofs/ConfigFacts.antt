@@ -5,7 +5,8 @@ use Rattle.vb_status.specs.declared.bits.StatusFault.TheVariants.{FeatureNotOffe
 use Rattle.vb_core.specs.declared.{device.Device.Device, settings.TheConstants.{PAGE_POISON, FREE_PAGE_HINT}}
 use Rattle.vb_core.{proofs.Examples.offering, specs.{Devices.new_device, Statuses.negotiate_denial}}
 use Rattle.vb_core.specs.Settings.{are_settings, known_features, page_poison, free_page_hint, without_later}
-use Rattle.vb_core.specs.Config.{config_bytes, config_denies, with_written, keeps_reports}
+use Rattle.vb_core.specs.declared.kinds.Kind.{Kind, TheVariants.{Inflate, Deflate, Statistics, Hint, Report}}
+use Rattle.vb_core.specs.Config.{config_bytes, config_denies, with_written, keeps_reports, keeps_free}
 
 -- with PAGE_POISON, and without it
 abbrev poisons : Device
@@ -133,3 +134,28 @@ discarded : keeps_reports (record poisons { features = 0x100000031; poison = 0 }
     ∷ keeps_reports (record poisons { features = 0x100000021 })
     ∷ keeps_reports (new_device (offering 0x100000031)) ∷ [] ≡ false ∷ false ∷ false ∷ []
 discarded = refl
+
+-- ---- what free pages keep, by kind
+
+abbrev kinds : List Kind
+kinds = Inflate ∷ Deflate ∷ Statistics ∷ Hint ∷ Report ∷ []
+
+-- the driver's poison_val, and whether the settings discard hints
+abbrev keeping : ℕ → ℕ → Device
+keeping poison discards = record poisons {
+  settings = record (offering 0x100000039) { discards_hints = discards };
+  features = 0x100000039;
+  poison = poison;
+}
+
+free_kept : map (λ kind. keeps_free kind (keeping 7 0)) kinds ∷ map (λ kind. keeps_free kind (keeping 7 1)) kinds
+    ∷ map (λ kind. keeps_free kind (keeping 0 0)) kinds ∷ []
+    ≡ (false ∷ false ∷ false ∷ true ∷ true ∷ []) ∷ (false ∷ false ∷ false ∷ true ∷ true ∷ [])
+    ∷ (false ∷ false ∷ false ∷ true ∷ false ∷ []) ∷ []
+free_kept = refl
+
+-- with no poison to keep, where the settings discard hints, by any number but 0
+free_discarded : map (λ kind. keeps_free kind (keeping 0 1)) kinds
+    ∷ map (λ kind. keeps_free kind (keeping 0 255)) kinds ∷ []
+    ≡ replicate 5 false ∷ replicate 5 false ∷ []
+free_discarded = refl

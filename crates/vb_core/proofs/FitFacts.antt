@@ -13,6 +13,7 @@ settings = record {
   needs_must_tell = 255;
   skips_bad_pages = 255;
   holds_deflates = 255;
+  discards_hints = 255;
 }
 
 abbrev ring : Virtqueue
@@ -89,6 +90,7 @@ all_fit = record {
   report = ring_fits;
   poison = omega arith;
   round = round_fits;
+  discards_hints = omega arith;
   status = omega arith;
   statistics_held = omega arith;
   holds = holds_fit;
@@ -155,6 +157,7 @@ parts_past : (FitsSaved (saved (record device { settings = record settings { nee
     × (FitsSaved (saved (record device { hint = long })) → ⊥)
     × (FitsSaved (saved (record device { report = long })) → ⊥)
     × (FitsSaved (saved (record device { round = record round { opened = 256 } })) → ⊥)
+    × (FitsSaved (saved (record device { settings = record settings { discards_hints = 256 } })) → ⊥)
 parts_past = (
   λ f. omega (arith, f.settings.needs_must_tell),
   λ f. omega (arith, f.inflate.size),
@@ -163,6 +166,7 @@ parts_past = (
   λ f. omega (arith, f.hint.size),
   λ f. omega (arith, f.report.size),
   λ f. omega (arith, f.round.opened),
+  λ f. omega (arith, f.discards_hints),
 )
 
 -- nor what is held of deflates, or may be

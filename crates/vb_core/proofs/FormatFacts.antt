@@ -1,8 +1,9 @@
 -- The bytes of a saved device, worked out: each field has a number of its own.
 use Rattle.std.specs.Prelude.{Ok, Err, take, drop}
-use Rattle.std.proofs.Common.{◌≡◌, ℕ, true, false, List, [], ◌∷◌, ◌++◌, map, refl}
+use Rattle.std.proofs.Common.{◌≡◌, ℕ, true, false, List, [], ◌∷◌, ◌++◌, map, refl, ap, arith}
 use Rattle.vb_core.specs.declared.{device.Device.Device, saved.Saved.Saved}
-use Rattle.vb_core.specs.declared.{ring.Virtqueue.Virtqueue}
+use Rattle.vb_core.specs.declared.{ring.Virtqueue.Virtqueue, hints.Round.Round}
+use Rattle.vb_core.specs.Format.{in_a_row, round_parts, round_at, HintsNothing}
 use Rattle.vb_core.specs.Format.{u16_bytes, u32_bytes, u64_bytes, u16_at, u32_at, u64_at, checksum}
 use Rattle.vb_core.specs.{Format.{saved_bytes, saved_in, older_bytes, older_in, oldest_bytes, oldest_in}, Saved.{can_be, restored}}
 use Rattle.vb_core.specs.declared.saved.StateDenial.TheVariants.{BadLength, BadSum, Impossible, OtherVersion}
@@ -28,6 +29,7 @@ saved = record {
       needs_must_tell = 1;
       skips_bad_pages = 2;
       holds_deflates = 3;
+      discards_hints = 4;
     };
     features = 0x10000003b;
     target = 0x1020304;
@@ -45,21 +47,21 @@ saved = record {
 }
 
 -- the header; the settings; features, target, actual, the buffer that is held, and status; four
--- rings; poison_val; whether deflates are held, the one that is, and its pages; the ring of hints, and
--- the round; and the checksum of all these
+-- rings; poison_val; whether deflates are held, the one that is, and its pages; the ring of hints, the
+-- round, and whether hints are discarded; and the checksum of all these
 abbrev bytes : List ℕ
 bytes =
-    86 ∷ 66 ∷ 83 ∷ 84 ∷ 65 ∷ 84 ∷ 69 ∷ 0 ∷ 4 ∷ 0 ∷ 0 ∷ 0 ∷ 239 ∷ 0 ∷ 0 ∷ 0 ∷ 0 ∷ 8 ∷ 0 ∷ 1 ∷ 0 ∷ 0
+    86 ∷ 66 ∷ 83 ∷ 84 ∷ 65 ∷ 84 ∷ 69 ∷ 0 ∷ 4 ∷ 0 ∷ 0 ∷ 0 ∷ 240 ∷ 0 ∷ 0 ∷ 0 ∷ 0 ∷ 8 ∷ 0 ∷ 1 ∷ 0 ∷ 0
     ∷ 0 ∷ 0 ∷ 59 ∷ 0 ∷ 0 ∷ 0 ∷ 1 ∷ 0 ∷ 0 ∷ 0 ∷ 16 ∷ 0 ∷ 0 ∷ 0 ∷ 1 ∷ 2 ∷ 59 ∷ 0 ∷ 0 ∷ 0 ∷ 1 ∷ 0 ∷ 0
     ∷ 0 ∷ 4 ∷ 3 ∷ 2 ∷ 1 ∷ 8 ∷ 7 ∷ 6 ∷ 5 ∷ 64 ∷ 0 ∷ 0 ∷ 0 ∷ 15 ∷ 0 ∷ 0 ∷ 1 ∷ 0 ∷ 0 ∷ 0 ∷ 0 ∷ 0 ∷ 0
     ∷ 16 ∷ 1 ∷ 0 ∷ 0 ∷ 0 ∷ 0 ∷ 0 ∷ 0 ∷ 32 ∷ 1 ∷ 0 ∷ 0 ∷ 0 ∷ 0 ∷ 0 ∷ 0 ∷ 1 ∷ 2 ∷ 1 ∷ 4 ∷ 3 ∷ 0 ∷ 0
-    ∷ 2 ∷ 0 ∷ 0 ∷ 0 ∷ 0 ∷ 0 ∷ 2 ∷ 16 ∷ 2 ∷ 0 ∷ 0 ∷ 0 ∷ 0 ∷ 0 ∷ 4 ∷ 32 ∷ 2 ∷ 0 ∷ 0 ∷ 0 ∷ 0 ∷ 0
-    ∷ 128 ∷ 0 ∷ 5 ∷ 0 ∷ 6 ∷ 0 ∷ 16 ∷ 0 ∷ 3 ∷ 0 ∷ 0 ∷ 0 ∷ 0 ∷ 0 ∷ 0 ∷ 16 ∷ 3 ∷ 0 ∷ 0 ∷ 0 ∷ 0 ∷ 0
-    ∷ 0 ∷ 32 ∷ 3 ∷ 0 ∷ 0 ∷ 0 ∷ 0 ∷ 0 ∷ 64 ∷ 0 ∷ 7 ∷ 0 ∷ 8 ∷ 0 ∷ 0 ∷ 0 ∷ 4 ∷ 0 ∷ 0 ∷ 0 ∷ 0 ∷ 0 ∷ 0
-    ∷ 16 ∷ 4 ∷ 0 ∷ 0 ∷ 0 ∷ 0 ∷ 0 ∷ 0 ∷ 32 ∷ 4 ∷ 0 ∷ 0 ∷ 0 ∷ 0 ∷ 0 ∷ 32 ∷ 0 ∷ 9 ∷ 0 ∷ 10 ∷ 0 ∷ 221
-    ∷ 204 ∷ 187 ∷ 170 ∷ 3 ∷ 100 ∷ 0 ∷ 0 ∷ 0 ∷ 200 ∷ 0 ∷ 0 ∷ 0 ∷ 0 ∷ 0 ∷ 5 ∷ 0 ∷ 0 ∷ 0 ∷ 0 ∷ 0 ∷ 0
-    ∷ 16 ∷ 5 ∷ 0 ∷ 0 ∷ 0 ∷ 0 ∷ 0 ∷ 0 ∷ 32 ∷ 5 ∷ 0 ∷ 0 ∷ 0 ∷ 0 ∷ 0 ∷ 16 ∷ 0 ∷ 11 ∷ 0 ∷ 12 ∷ 0 ∷ 7
-    ∷ 3 ∷ 2 ∷ 1 ∷ 7 ∷ 3 ∷ 2 ∷ 1 ∷ 1 ∷ 62 ∷ 107 ∷ 60 ∷ 136 ∷ 200 ∷ 63 ∷ 99 ∷ 159 ∷ []
+    ∷ 2 ∷ 0 ∷ 0 ∷ 0 ∷ 0 ∷ 0 ∷ 2 ∷ 16 ∷ 2 ∷ 0 ∷ 0 ∷ 0 ∷ 0 ∷ 0 ∷ 4 ∷ 32 ∷ 2 ∷ 0 ∷ 0 ∷ 0 ∷ 0 ∷ 0 ∷ 128
+    ∷ 0 ∷ 5 ∷ 0 ∷ 6 ∷ 0 ∷ 16 ∷ 0 ∷ 3 ∷ 0 ∷ 0 ∷ 0 ∷ 0 ∷ 0 ∷ 0 ∷ 16 ∷ 3 ∷ 0 ∷ 0 ∷ 0 ∷ 0 ∷ 0 ∷ 0 ∷ 32
+    ∷ 3 ∷ 0 ∷ 0 ∷ 0 ∷ 0 ∷ 0 ∷ 64 ∷ 0 ∷ 7 ∷ 0 ∷ 8 ∷ 0 ∷ 0 ∷ 0 ∷ 4 ∷ 0 ∷ 0 ∷ 0 ∷ 0 ∷ 0 ∷ 0 ∷ 16 ∷ 4
+    ∷ 0 ∷ 0 ∷ 0 ∷ 0 ∷ 0 ∷ 0 ∷ 32 ∷ 4 ∷ 0 ∷ 0 ∷ 0 ∷ 0 ∷ 0 ∷ 32 ∷ 0 ∷ 9 ∷ 0 ∷ 10 ∷ 0 ∷ 221 ∷ 204 ∷ 187
+    ∷ 170 ∷ 3 ∷ 100 ∷ 0 ∷ 0 ∷ 0 ∷ 200 ∷ 0 ∷ 0 ∷ 0 ∷ 0 ∷ 0 ∷ 5 ∷ 0 ∷ 0 ∷ 0 ∷ 0 ∷ 0 ∷ 0 ∷ 16 ∷ 5 ∷ 0
+    ∷ 0 ∷ 0 ∷ 0 ∷ 0 ∷ 0 ∷ 32 ∷ 5 ∷ 0 ∷ 0 ∷ 0 ∷ 0 ∷ 0 ∷ 16 ∷ 0 ∷ 11 ∷ 0 ∷ 12 ∷ 0 ∷ 7 ∷ 3 ∷ 2 ∷ 1 ∷ 7
+    ∷ 3 ∷ 2 ∷ 1 ∷ 1 ∷ 4 ∷ 73 ∷ 250 ∷ 21 ∷ 254 ∷ 58 ∷ 199 ∷ 17 ∷ 48 ∷ []
 
 -- those that the version before had of the same device, but for its hints
 abbrev older : List ℕ
@@ -96,6 +98,7 @@ written = refl
 abbrev without_hints : Saved → Saved
 without_hints s = record s {
   device = record s.device {
+    settings = record s.device.settings { discards_hints = 0 };
     hint = ring 0 0 0 0 0 0;
     round = record { shown = 0; last = 0; opened = 0 };
   };
@@ -104,7 +107,7 @@ without_hints s = record s {
 abbrev without : Saved → Saved
 without s = record {
   device = record (without_hints s).device {
-    settings = record s.device.settings { holds_deflates = 0 };
+    settings = record s.device.settings { holds_deflates = 0; discards_hints = 0 };
   };
   held = record { statistics = 64; deflate = 0; pages = 0 };
 }
@@ -141,6 +144,36 @@ back_at_first : restored oldest ≡ Ok (without saved)
 unfolding u16_at u32_at u64_at checksum lib.Count.ones
 back_at_first = refl
 
+-- ---- a round, each of its numbers another one
+
+abbrev a_round : Round
+a_round = record { shown = 0x1020304; last = 0x5060708; opened = 9 }
+
+round_bytes : in_a_row (round_parts a_round) [] ≡ 4 ∷ 3 ∷ 2 ∷ 1 ∷ 8 ∷ 7 ∷ 6 ∷ 5 ∷ 9 ∷ []
+unfolding u32_bytes
+round_bytes = refl
+
+round_read : round_at (255 ∷ 4 ∷ 3 ∷ 2 ∷ 1 ∷ 8 ∷ 7 ∷ 6 ∷ 5 ∷ 9 ∷ 255 ∷ []) 1 ≡ a_round
+unfolding u32_at
+round_read = refl
+
+-- ---- what a device of an older version has nothing of: each of these alone is something
+
+hints_nothing : HintsNothing (without_hints saved).device
+hints_nothing = record { setting = refl; ring = refl; round = refl }
+
+abbrev bare : Device
+bare = (without_hints saved).device
+
+hints_something : (HintsNothing (record bare { settings = record bare.settings { discards_hints = 1 } }) → ⊥)
+    × (HintsNothing (record bare { hint = record bare.hint { table = 1 } }) → ⊥)
+    × (HintsNothing (record bare { round = record bare.round { last = 2 } }) → ⊥)
+hints_something = (
+  λ h. omega (arith, h.setting),
+  λ h. omega (arith, ap (λ (r : Virtqueue). r.table) h.ring),
+  λ h. omega (arith, ap (λ (r : Round). r.last) h.round),
+)
+
 -- ---- what a device may be: each of these alone makes it impossible
 
 abbrev with_device : (Device → Device) → Saved
@@ -163,7 +196,10 @@ impossible : map can_be (
     ∷ with_device (λ d. record d { deflate = six })
     ∷ with_device (λ d. record d { statistics = record d.statistics { table = 1 } })
     ∷ with_device (λ d. record d { report = six }) ∷ with_device (λ d. record d { hint = six })
-    ∷ with_device (λ d. record d { round = record d.round { opened = 2 } }) ∷ with_device (λ d. record d { status = 31 })
+    ∷ with_device (λ d. record d { round = record d.round { opened = 2 } })
+    ∷ with_device (λ d. record d { round = record d.round { shown = 0x1020306 } })
+    ∷ with_device (λ d. record d { round = record d.round { last = 0x1020306 } })
+    ∷ with_device (λ d. record d { round = record d.round { shown = 0 } }) ∷ with_device (λ d. record d { status = 31 })
     ∷ with_device (λ d. record d { features = 0x10000003c })
     ∷ with_device (λ d. record d { settings = record d.settings { memory_end = 0x100000000000 } })
     ∷ with_device (λ d. record d {
@@ -171,7 +207,7 @@ impossible : map can_be (
       settings = record d.settings { offered = 0x10000002b };
     }) ∷ []
     ) ≡ true ∷ false ∷ false ∷ false ∷ false ∷ false ∷ false ∷ false ∷ false ∷ false ∷ false ∷ false ∷ false ∷ false
-    ∷ false ∷ false ∷ []
+    ∷ false ∷ false ∷ false ∷ false ∷ false ∷ []
 unfolding lib.Count.ones
 impossible = refl
 
@@ -180,7 +216,7 @@ impossible = refl
 -- a byte less or more, another length in the header, a wrong checksum, and an impossible device with a
 -- right one
 not_restored : map restored (
-    take 15 bytes ∷ take 238 bytes ∷ (bytes ++ 0 ∷ []) ∷ (take 12 bytes ++ 238 ∷ drop 13 bytes)
+    take 15 bytes ∷ take 239 bytes ∷ (bytes ++ 0 ∷ []) ∷ (take 12 bytes ++ 239 ∷ drop 13 bytes)
     ∷ (take 182 bytes ++ 171 ∷ drop 183 bytes) ∷ saved_bytes (holding 65 100 200) ∷ []
     ) ≡ Err BadLength ∷ Err BadLength ∷ Err BadLength ∷ Err BadLength ∷ Err BadSum ∷ Err Impossible ∷ []
 unfolding u16_bytes u32_bytes u64_bytes u16_at u32_at u64_at checksum lib.Count.ones
@@ -188,7 +224,7 @@ not_restored = refl
 
 -- of the older versions: a newer one's length, or bytes of it under the other's number
 not_restored_before : map restored (
-    take 199 older ∷ (older ++ take 39 older) ∷ (take 8 bytes ++ 3 ∷ drop 9 bytes)
+    take 199 older ∷ (older ++ take 40 older) ∷ (take 8 bytes ++ 3 ∷ drop 9 bytes)
     ∷ (take 8 older ++ 4 ∷ drop 9 older) ∷ (take 8 older ++ 2 ∷ drop 9 older)
     ∷ (take 182 older ++ 171 ∷ drop 183 older) ∷ (take 8 older ++ 5 ∷ drop 9 older)
     ∷ older_bytes (holding 65 100 200) ∷ []

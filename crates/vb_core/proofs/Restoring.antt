@@ -113,8 +113,9 @@ older_is s bytes e a b c = grind arith
 
 -- this version's, by the older one's and what comes after that
 newer_is : (s : Saved) (bytes : List ℕ) → older_in bytes ≡ older_of s
-    → ring_at bytes 192 ≡ s.device.hint → round_at bytes 222 ≡ s.device.round → saved_in bytes ≡ s
-newer_is s bytes e a b = grind arith
+    → ring_at bytes 192 ≡ s.device.hint → round_at bytes 222 ≡ s.device.round
+    → get_or bytes 231 0 ≡ s.device.settings.discards_hints → saved_in bytes ≡ s
+newer_is s bytes e a b c = grind arith
 
 -- the device that bytes say, by their number
 abbrev state_of : ℕ → List ℕ → Saved
@@ -132,18 +133,18 @@ saved_restored s f possible = let bytes = saved_bytes s in
     let h = holds_then s (in_a_row (hint_parts s.device) sum) bytes f.holds w.behind in
     let g = hints_then s.device sum bytes f.hint f.round h.3 in
     let eight : length sum ≡ 8 = length-u64_bytes (checksum (in_a_row parts [])) in
-    let len : length bytes ≡ 239 =
-    omega (arith, eight, ap (λ (xs : List ℕ). length xs) g.2, length-drop 231 bytes) in
-    let told = u64_then (checksum (in_a_row parts [])) [] bytes 231 239
-    (checksum_fits (in_a_row parts [])) refl (g.2 ∙ sym (append-nil sum)) in
-    let same = front 239 parts bytes sum (omega arith) len eight refl in
+    let len : length bytes ≡ 240 =
+    omega (arith, eight, ap (λ (xs : List ℕ). length xs) g.3, length-drop 232 bytes) in
+    let told = u64_then (checksum (in_a_row parts [])) [] bytes 232 240
+    (checksum_fits (in_a_row parts [])) refl (g.3 ∙ sym (append-nil sum)) in
+    let same = front 240 parts bytes sum (omega arith) len eight refl in
     restores FORMAT_VERSION SAVED_LENGTH s bytes refl refl refl len w.magic w.version_told
     w.length_told (told.0 ∙ ap (λ (xs : List ℕ). checksum xs) (sym same))
     (ap (λ (n : ℕ). state_of n bytes) len
-    ∙ newer_is s bytes (older_is s bytes w.saved h.0 h.1 h.2) g.0 g.1) possible
+    ∙ newer_is s bytes (older_is s bytes w.saved h.0 h.1 h.2) g.0 g.1 g.2) possible
 
 as_older : (s : Saved) → HintsNothing s.device → older_of s ≡ s
-as_older s none = rw (none.ring, none.round)
+as_older s none = rw (none.setting, none.ring, none.round)
 
 pub older_restored : (s : Saved) → FitsSaved s → HintsNothing s.device → can_be s ≡ true
     → restored (older_bytes s) ≡ Ok s
@@ -164,7 +165,7 @@ older_restored s f none possible = let bytes = older_bytes s in
     ∙ older_is s bytes w.saved h.0 h.1 h.2 ∙ as_older s none) possible
 
 as_oldest : (s : Saved) → HoldsNoDeflate s → HintsNothing s.device → oldest_of s ≡ s
-as_oldest s none hints = rw (none.setting, none.deflate, none.pages, hints.ring, hints.round)
+as_oldest s none hints = rw (none.setting, none.deflate, none.pages, hints.setting, hints.ring, hints.round)
 
 pub oldest_restored : (s : Saved) → FitsSaved s → HoldsNoDeflate s → HintsNothing s.device
     → can_be s ≡ true → restored (oldest_bytes s) ≡ Ok s
@@ -202,13 +203,13 @@ summed len parts bytes all enough so_long e told = let behind = drop (len - 8) b
     e ∙ ap (λ (xs : List ℕ). in_a_row parts xs) last
 
 -- what a good header and a right checksum say, of a version
-newer_was : (bytes : List ℕ) → AreBytes bytes → length bytes ≡ 239 → u64_at bytes 0 ≡ MAGIC
-    → u32_at bytes VERSION_AT ≡ 4 → u32_at bytes LENGTH_AT ≡ 239
-    → u64_at bytes 231 ≡ checksum (take 231 bytes) → WasSaved bytes (saved_in bytes)
+newer_was : (bytes : List ℕ) → AreBytes bytes → length bytes ≡ 240 → u64_at bytes 0 ≡ MAGIC
+    → u32_at bytes VERSION_AT ≡ 4 → u32_at bytes LENGTH_AT ≡ 240
+    → u64_at bytes 232 ≡ checksum (take 232 bytes) → WasSaved bytes (saved_in bytes)
 newer_was bytes all len magic version told sum =
-    inl (summed 239 (saved_parts (saved_in bytes)) bytes all (omega arith) len
-    (row (first_parts 4 239 (oldest_in bytes)) _ _ _
-    (row_again 4 239 bytes all (omega (arith, len)) magic version told)
+    inl (summed 240 (saved_parts (saved_in bytes)) bytes all (omega arith) len
+    (row (first_parts 4 240 (oldest_in bytes)) _ _ _
+    (row_again 4 240 bytes all (omega (arith, len)) magic version told)
     (row (hold_parts (older_in bytes)) _ _ _ (holds_again bytes all (omega (arith, len)))
     (hints_again bytes all (omega (arith, len))))) sum)
 
@@ -221,7 +222,7 @@ older_was bytes all len magic version told sum =
           (row (first_parts 3 200 (oldest_in bytes)) _ _ _
           (row_again 3 200 bytes all (omega (arith, len)) magic version told)
           (holds_again bytes all (omega (arith, len)))) sum,
-      record { ring = refl; round = refl },
+      record { setting = refl; ring = refl; round = refl },
     ))
 
 oldest_was : (bytes : List ℕ) → AreBytes bytes → length bytes ≡ 191 → u64_at bytes 0 ≡ MAGIC
@@ -231,7 +232,7 @@ oldest_was bytes all len magic version told sum =
     inr (inr (
       summed 191 (oldest_parts (oldest_in bytes)) bytes all (omega arith) len
           (row_again 2 191 bytes all (omega (arith, len)) magic version told) sum,
-      (record { setting = refl; deflate = refl; pages = refl }, record { ring = refl; round = refl }),
+      (record { setting = refl; deflate = refl; pages = refl }, record { setting = refl; ring = refl; round = refl }),
     ))
 
 -- bytes that are so long, and say so
@@ -257,23 +258,23 @@ was_saved : (bytes : List ℕ) → AreBytes bytes → is_state bytes ≡ true �
     → has_length bytes ≡ true → has_sum bytes ≡ true → WasSaved bytes (state_in bytes)
 was_saved bytes all state version len sum =
     let magic = eqb-true (u64_at bytes 0) MAGIC state in
-    elim (or_cases (u32_at bytes VERSION_AT == 4)
-    ((u32_at bytes VERSION_AT == 3) || (u32_at bytes VERSION_AT == 2)) version) [
-      | inl newer ↦ let v = eqb-true (u32_at bytes VERSION_AT) 4 newer in
-          let l = long_so 239 4 bytes refl v len in
-          subst (λ (s : Saved). WasSaved bytes s) (sym (state_so 239 bytes l.1))
-          (newer_was bytes all l.1 magic v l.0 (sum_so 239 bytes l.1 sum))
-      | inr before ↦
-          elim (or_cases (u32_at bytes VERSION_AT == 3) (u32_at bytes VERSION_AT == 2) before) [
-            | inl older ↦ let v = eqb-true (u32_at bytes VERSION_AT) 3 older in
+    elim (or_cases ((u32_at bytes VERSION_AT == 4) || (u32_at bytes VERSION_AT == 3))
+    (u32_at bytes VERSION_AT == 2) version) [
+      | inl after ↦
+          elim (or_cases (u32_at bytes VERSION_AT == 4) (u32_at bytes VERSION_AT == 3) after) [
+            | inl newer ↦ let v = eqb-true (u32_at bytes VERSION_AT) 4 newer in
+                let l = long_so 240 4 bytes refl v len in
+                subst (λ (s : Saved). WasSaved bytes s) (sym (state_so 240 bytes l.1))
+                (newer_was bytes all l.1 magic v l.0 (sum_so 240 bytes l.1 sum))
+            | inr older ↦ let v = eqb-true (u32_at bytes VERSION_AT) 3 older in
                 let l = long_so 200 3 bytes refl v len in
                 subst (λ (s : Saved). WasSaved bytes s) (sym (state_so 200 bytes l.1))
                 (older_was bytes all l.1 magic v l.0 (sum_so 200 bytes l.1 sum))
-            | inr oldest ↦ let v = eqb-true (u32_at bytes VERSION_AT) 2 oldest in
-                let l = long_so 191 2 bytes refl v len in
-                subst (λ (s : Saved). WasSaved bytes s) (sym (state_so 191 bytes l.1))
-                (oldest_was bytes all l.1 magic v l.0 (sum_so 191 bytes l.1 sum))
           ]
+      | inr oldest ↦ let v = eqb-true (u32_at bytes VERSION_AT) 2 oldest in
+          let l = long_so 191 2 bytes refl v len in
+          subst (λ (s : Saved). WasSaved bytes s) (sym (state_so 191 bytes l.1))
+          (oldest_was bytes all l.1 magic v l.0 (sum_so 191 bytes l.1 sum))
     ]
 
 pub only_saved : (bytes : List ℕ) (s : Saved) → AreBytes bytes → restored bytes ≡ Ok s

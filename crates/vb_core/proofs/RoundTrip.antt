@@ -8,7 +8,7 @@ use Rattle.vb_core.specs.{Rings.no_ring, Hints.no_round}
 use Rattle.vb_core.specs.declared.format.TheConstants.{VERSION_AT, LENGTH_AT, CHECKSUM_AT}
 use Rattle.vb_core.specs.Format.{u32_bytes, u64_bytes, u32_at, u64_at, in_a_row, settings_parts}
 use Rattle.vb_core.specs.Format.{header_parts, device_parts, hold_parts, ring_parts, round_parts, hint_parts}
-use Rattle.vb_core.specs.Format.{settings_at, ring_at, round_at, oldest_in, older_in, saved_in, with_holds}
+use Rattle.vb_core.specs.Format.{settings_at, ring_at, round_at, oldest_in, older_in, saved_in, with_holds, with_discards}
 use Rattle.vb_core.specs.Format.{FitsHolds, FitsRound}
 use Rattle.vb_core.{specs.Format.{FitsSettings, FitsRing, FitsSaved}, proofs.Numbers.AreBytes}
 use Rattle.vb_core.proofs.Numbers.{u16_then, u32_then, u64_then, byte_then, u16_again, u32_again}
@@ -37,7 +37,7 @@ round_then r more bytes p f e = let a = u32_then r.shown _ bytes p (p + 4) f.sho
 -- but for what the oldest version doesn't say
 settings_then : (s : Settings) (more bytes : List ℕ) (p : ℕ) → FitsSettings s → drop p bytes
     ≡ in_a_row (settings_parts s) more
-    → (settings_at bytes p ≡ with_holds 0 s) × (drop (p + 22) bytes ≡ more)
+    → (settings_at bytes p ≡ with_holds 0 (with_discards 0 s)) × (drop (p + 22) bytes ≡ more)
 settings_then s more bytes p f e =
     let a = u64_then s.memory_end _ bytes p (p + 8) f.memory_end refl e in
     let b = u64_then s.offered _ bytes (p + 8) (p + 16) f.offered (omega arith) a.1 in
@@ -74,7 +74,7 @@ settings_again bytes p all l = then _ _ _ _ (u64_again bytes p (p + 8) all refl 
 abbrev pub oldest_of : Saved → Saved
 oldest_of s = record {
   device = record s.device {
-    settings = with_holds 0 s.device.settings;
+    settings = with_holds 0 (with_discards 0 s.device.settings);
     hint = no_ring;
     round = no_round;
   };
@@ -83,7 +83,13 @@ oldest_of s = record {
 
 -- what it was in the version before
 abbrev pub older_of : Saved → Saved
-older_of s = record s { device = record s.device { hint = no_ring; round = no_round } }
+older_of s = record s {
+  device = record s.device {
+    settings = with_discards 0 s.device.settings;
+    hint = no_ring;
+    round = no_round;
+  };
+}
 
 -- the parts that all versions have, of this version and length
 abbrev pub first_parts : ℕ → ℕ → Saved → List (List ℕ)
@@ -129,9 +135,11 @@ holds_then s more bytes f e =
 -- and after that, in this version alone
 pub hints_then : (d : Device) (more bytes : List ℕ) → FitsRing d.hint → FitsRound d.round
     → drop HINT_AT bytes ≡ in_a_row (hint_parts d) more
-    → (ring_at bytes 192 ≡ d.hint) × (round_at bytes 222 ≡ d.round) × (drop CHECKSUM_AT bytes ≡ more)
+    → (ring_at bytes 192 ≡ d.hint) × (round_at bytes 222 ≡ d.round)
+    × (get_or bytes 231 0 ≡ d.settings.discards_hints) × (drop CHECKSUM_AT bytes ≡ more)
 hints_then d more bytes f g e = let a = ring_then d.hint _ bytes 192 f e in
-    let b = round_then d.round _ bytes 222 g a.1 in (a.0, b.0, b.1)
+    let b = round_then d.round _ bytes 222 g a.1 in
+    let c = byte_then d.settings.discards_hints _ bytes 231 232 refl b.1 in (a.0, b.0, c.0, c.1)
 
 -- bytes with a good header are what is saved of what they say, and more
 pub row_again : (version len : ℕ) (bytes : List ℕ) → AreBytes bytes → 183 ≤ length bytes
@@ -167,8 +175,9 @@ round_again bytes p all l = then _ _ _ _ (u32_again bytes p (p + 4) all refl (om
     (then _ _ _ _ (u32_again bytes (p + 4) (p + 8) all (omega arith) (omega arith))
     (byte_again bytes (p + 8) (p + 9) (omega arith) (omega arith)))
 
-pub hints_again : (bytes : List ℕ) → AreBytes bytes → 231 ≤ length bytes
+pub hints_again : (bytes : List ℕ) → AreBytes bytes → 232 ≤ length bytes
     → drop HINT_AT bytes ≡ in_a_row (hint_parts (saved_in bytes).device) (drop CHECKSUM_AT bytes)
 hints_again bytes all l =
     row (ring_parts (ring_at bytes 192)) _ _ _ (ring_again bytes 192 all (omega arith))
-    (round_again bytes 222 all (omega arith))
+    (row (round_parts (round_at bytes 222)) _ _ _ (round_again bytes 222 all (omega arith))
+    (byte_again bytes 231 232 refl (omega arith)))

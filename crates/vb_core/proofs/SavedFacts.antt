@@ -21,7 +21,7 @@ use lib.Count
 
 places_are : FORMAT_VERSION ∷ VERSION_AT ∷ LENGTH_AT ∷ HEADER_LENGTH ∷ HOLD_AT ∷ HINT_AT
     ∷ CHECKSUM_AT ∷ CHECKSUM_LENGTH ∷ SAVED_LENGTH ∷ []
-    ≡ 4 ∷ 8 ∷ 12 ∷ 16 ∷ 183 ∷ 192 ∷ 231 ∷ 8 ∷ 239 ∷ []
+    ≡ 4 ∷ 8 ∷ 12 ∷ 16 ∷ 183 ∷ 192 ∷ 232 ∷ 8 ∷ 240 ∷ []
 places_are = refl
 
 before_it : OLDER_VERSION ∷ OLDER_LENGTH ∷ OLDEST_VERSION ∷ OLDEST_LENGTH ∷ [] ≡ 3 ∷ 200 ∷ 2 ∷ 191 ∷ []
@@ -31,10 +31,10 @@ before_it = refl
 versions : map is_version (0 ∷ 1 ∷ 2 ∷ 3 ∷ 4 ∷ 5 ∷ []) ≡ false ∷ false ∷ true ∷ true ∷ true ∷ false ∷ []
 versions = refl
 
-lengths : map length_of (2 ∷ 3 ∷ 4 ∷ []) ≡ 191 ∷ 200 ∷ 239 ∷ []
+lengths : map length_of (2 ∷ 3 ∷ 4 ∷ []) ≡ 191 ∷ 200 ∷ 240 ∷ []
 lengths = refl
 
-are_lengths : map is_length (190 ∷ 191 ∷ 199 ∷ 200 ∷ 201 ∷ 238 ∷ 239 ∷ 240 ∷ [])
+are_lengths : map is_length (190 ∷ 191 ∷ 199 ∷ 200 ∷ 201 ∷ 239 ∷ 240 ∷ 241 ∷ [])
     ≡ false ∷ true ∷ false ∷ true ∷ false ∷ false ∷ true ∷ false ∷ []
 are_lengths = refl
 
@@ -86,6 +86,7 @@ settings = record {
   needs_must_tell = 1;
   skips_bad_pages = 0;
   holds_deflates = 1;
+  discards_hints = 1;
 }
 
 abbrev at_step : ℕ → ℕ → Device
@@ -242,9 +243,9 @@ hints = refl
 abbrev poisoned : Saved
 poisoned = record { device = record (at_step 3 0) { poison = 7 }; held = nothing_held }
 
-saved_or_not : save_denial (holding 15 0x100000003 64) 239
-    ∷ save_denial (holding 15 0x100000003 64) 238 ∷ save_denial (holding 15 0x100000003 65) 239
-    ∷ save_denial (asking 15 1 0x100001) 239 ∷ save_denial poisoned 239 ∷ []
+saved_or_not : save_denial (holding 15 0x100000003 64) 240
+    ∷ save_denial (holding 15 0x100000003 64) 239 ∷ save_denial (holding 15 0x100000003 65) 240
+    ∷ save_denial (asking 15 1 0x100001) 240 ∷ save_denial poisoned 240 ∷ []
     ≡ None ∷ Some BadLength ∷ Some Impossible ∷ Some Impossible ∷ Some Impossible ∷ []
 unfolding lib.Count.ones
 saved_or_not = refl

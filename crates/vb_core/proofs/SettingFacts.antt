@@ -1,7 +1,7 @@
 -- The limits of settings, as plain numbers.
 use Rattle.std.proofs.Common.{◌≡◌, ℕ, true, false, [], ◌∷◌, map, refl}
 use Rattle.vb_core.{proofs.Examples.offering, specs.declared.settings.Settings.Settings}
-use Rattle.vb_core.specs.Settings.{are_settings, memory_pages, needs_must_tell, skips, holds_chains, longest_request}
+use Rattle.vb_core.specs.Settings.{are_settings, memory_pages, needs_must_tell, skips, holds_chains, longest_request, discards_hints}
 use Rattle.vb_core.specs.declared.kinds.Kind.TheVariants.{Inflate, Deflate, Statistics, Hint, Report}
 use Rattle.vb_core.specs.declared.settings.TheConstants.{MEMORY_LIMIT}
 use Rattle.vb_core.specs.declared.report.TheConstants.{MAX_REPORT_RUNS}
@@ -32,8 +32,9 @@ longest : map (λ memory_end. longest_request (ending memory_end))
 longest = refl
 
 switches : needs_must_tell (record (ending 8192) { needs_must_tell = 7 }) ∷ needs_must_tell (ending 8192)
-    ∷ skips (record (ending 8192) { skips_bad_pages = 7 }) ∷ skips (ending 8192) ∷ []
-    ≡ true ∷ false ∷ true ∷ false ∷ []
+    ∷ skips (record (ending 8192) { skips_bad_pages = 7 }) ∷ skips (ending 8192)
+    ∷ discards_hints (record (ending 8192) { discards_hints = 7 }) ∷ discards_hints (ending 8192) ∷ []
+    ≡ true ∷ false ∷ true ∷ false ∷ true ∷ false ∷ []
 switches = refl
 
 -- which chains are held: statistics always, deflates by the setting, and no others

@@ -8,7 +8,8 @@ use Rattle.vb_virtio.specs.Tests.{is_in}
 use Rattle.vb_bits.specs.declared.word.TheConstants.{WORD_BITS}
 use Rattle.vb_bits.specs.Words.{in_words}
 use Rattle.vb_core.specs.declared.kinds.Kind.{Kind}
-use Rattle.vb_core.specs.declared.kinds.Kind.TheVariants.{Inflate, Deflate, Statistics, Hint, Report}
+use Rattle.vb_core.specs.declared.kinds.Kind.TheVariants.{Inflate, Deflate, Statistics, Hint}
+use Rattle.vb_core.specs.declared.kinds.Kind.TheVariants.{Report}
 use Rattle.vb_core.specs.declared.ballooned.Marking.{Marking}
 use Rattle.vb_core.specs.declared.ballooned.Marking.TheVariants.{Enter, Leave}
 use Rattle.vb_core.specs.declared.runs.Run.{Run}

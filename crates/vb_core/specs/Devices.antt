@@ -5,7 +5,8 @@ use Rattle.vb_virtio.specs.Status.{contains, driver_ok, needs_reset, is_not_read
 use Rattle.vb_core.specs.declared.settings.Settings.{Settings}
 use Rattle.vb_core.specs.declared.ring.Virtqueue.{Virtqueue}
 use Rattle.vb_core.specs.declared.kinds.Kind.{Kind}
-use Rattle.vb_core.specs.declared.kinds.Kind.TheVariants.{Inflate, Deflate, Statistics, Hint, Report}
+use Rattle.vb_core.specs.declared.kinds.Kind.TheVariants.{Inflate, Deflate, Statistics, Hint}
+use Rattle.vb_core.specs.declared.kinds.Kind.TheVariants.{Report}
 use Rattle.vb_core.specs.declared.device.Denial.{Denial}
 use Rattle.vb_core.specs.declared.device.Denial.TheVariants.{NoQueue, BadArgument, NotReady}
 use Rattle.vb_core.specs.declared.device.Denial.TheVariants.{NeedsReset, Misplaced}

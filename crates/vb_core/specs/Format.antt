@@ -72,9 +72,9 @@ hold_parts s =
 abbrev pub round_parts : Round → List (List ℕ)
 round_parts r = u32_bytes r.shown ∷ u32_bytes r.last ∷ (r.opened ∷ []) ∷ []
 
--- the queue of hints and its round, which no older version says
+-- the queue of hints, its round, and whether hints are discarded, which no older version says
 abbrev pub hint_parts : Device → List (List ℕ)
-hint_parts d = ring_parts d.hint ++ round_parts d.round
+hint_parts d = ring_parts d.hint ++ round_parts d.round ++ ((d.settings.discards_hints ∷ []) ∷ [])
 
 abbrev pub saved_parts : Saved → List (List ℕ)
 saved_parts s =
@@ -123,8 +123,10 @@ pub record HoldsNoDeflate (s : Saved) : Type 0 where
   pub deflate : s.held.deflate ≡ 0
   pub pages : s.held.pages ≡ 0
 
--- it has no queue of hints, and no round has begun, as of each device of the versions before
+-- it has no queue of hints, no round has begun, and hints are kept, as of each device of the
+-- versions before
 pub record HintsNothing (d : Device) : Type 0 where
+  pub setting : d.settings.discards_hints ≡ 0
   pub ring : d.hint ≡ no_ring
   pub round : d.round ≡ no_round
 
@@ -145,6 +147,7 @@ settings_at bytes at = record {
   needs_must_tell = slice_index bytes (at + 20);
   skips_bad_pages = slice_index bytes (at + 21);
   holds_deflates = 0;
+  discards_hints = 0;
 }
 
 abbrev pub ring_at : List ℕ → ℕ → Virtqueue
@@ -200,10 +203,14 @@ round_at bytes at = record {
   opened = slice_index bytes (at + 8);
 }
 
+abbrev pub with_discards : ℕ → Settings → Settings
+with_discards n s = record s { discards_hints = n }
+
 -- a device of this version, which says more after that
 abbrev pub saved_in : List ℕ → Saved
 saved_in bytes = record (older_in bytes) {
   device = record (older_in bytes).device {
+    settings = with_discards (slice_index bytes 231) (older_in bytes).device.settings;
     hint = ring_at bytes 192;
     round = round_at bytes 222;
   };
@@ -256,6 +263,7 @@ pub record FitsSaved (s : Saved) : Type 0 where
   pub report : FitsRing s.device.report
   pub poison : s.device.poison < 2 ^ 32
   pub round : FitsRound s.device.round
+  pub discards_hints : s.device.settings.discards_hints < 256
   pub status : s.device.status < 256
   pub statistics_held : s.held.statistics < 2 ^ 32
   pub holds : FitsHolds s

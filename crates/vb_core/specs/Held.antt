@@ -1,7 +1,8 @@
 -- The chains that are held: taken, and not given back until they are asked for.
 use Rattle.std.specs.Prelude.{ℕ}
 use Rattle.vb_core.specs.declared.kinds.Kind.{Kind}
-use Rattle.vb_core.specs.declared.kinds.Kind.TheVariants.{Inflate, Deflate, Statistics, Hint, Report}
+use Rattle.vb_core.specs.declared.kinds.Kind.TheVariants.{Inflate, Deflate, Statistics, Hint}
+use Rattle.vb_core.specs.declared.kinds.Kind.TheVariants.{Report}
 use Rattle.vb_core.specs.declared.held.Held.{Held}
 
 abbrev pub nothing_held : Held

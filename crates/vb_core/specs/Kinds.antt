@@ -5,7 +5,8 @@ use Rattle.vb_virtio.specs.declared.layout.TheConstants.{STATISTICS_QUEUE, REPOR
 use Rattle.vb_virtio.specs.Features.{stats_vq, reporting}
 use Rattle.vb_virtio.specs.Queues.{lacks_feature}
 use Rattle.vb_core.specs.declared.kinds.Kind.{Kind}
-use Rattle.vb_core.specs.declared.kinds.Kind.TheVariants.{Inflate, Deflate, Statistics, Hint, Report}
+use Rattle.vb_core.specs.declared.kinds.Kind.TheVariants.{Inflate, Deflate, Statistics, Hint}
+use Rattle.vb_core.specs.declared.kinds.Kind.TheVariants.{Report}
 use Rattle.vb_core.specs.declared.kinds.TheConstants.{HINT_QUEUE}
 use Rattle.vb_core.specs.Settings.{free_page_hint}
 

@@ -1,5 +1,6 @@
 -- Reports and hints, by their pieces.
-use Rattle.std.specs.Prelude.{◌≡◌, ℕ, ◌/◌, Bool, true, false, not, ◌&&◌, nat_le, List, length, map, take}
+use Rattle.std.specs.Prelude.{◌≡◌, ℕ, ◌/◌, Bool, true, false, not, ◌&&◌, nat_le, List, length}
+use Rattle.std.specs.Prelude.{map, take}
 use Rattle.std.specs.Prelude.{Option, Some, None, Result, Ok, Err, IsOk}
 use Rattle.std.specs.List.{list_any}
 use Rattle.vb_virtio.specs.declared.limits.TheConstants.{MAX_REPORT_PIECES}
@@ -11,7 +12,8 @@ use Rattle.vb_core.specs.declared.runs.Run.{Run}
 use Rattle.vb_core.specs.declared.name.Named.{Named}
 use Rattle.vb_core.specs.declared.settings.TheConstants.{MEMORY_LIMIT}
 use Rattle.vb_core.specs.declared.kinds.Kind.{Kind}
-use Rattle.vb_core.specs.declared.kinds.Kind.TheVariants.{Inflate, Deflate, Statistics, Hint, Report}
+use Rattle.vb_core.specs.declared.kinds.Kind.TheVariants.{Inflate, Deflate, Statistics, Hint}
+use Rattle.vb_core.specs.declared.kinds.Kind.TheVariants.{Report}
 use Rattle.vb_core.specs.declared.device.Denial.{Denial}
 use Rattle.vb_core.specs.declared.device.Device.{Device}
 use Rattle.vb_core.specs.Devices.{call_denial}
@@ -48,8 +50,8 @@ abbrev pub report_named : List Piece → ℕ → Result Named ChainFault
 report_named pieces reserved = named_by (length pieces) (report_request pieces reserved)
 
 -- A report or a hint of these pieces, whatever they are.
-pub record NamesPiecesBy (kind : Kind) (pieces : List Piece) (room : ℕ) (runs : List Run) (d1 d2 : Device)
-    (result : Result Named Denial) : Type 0 where
+pub record NamesPiecesBy (kind : Kind) (pieces : List Piece) (room : ℕ) (runs : List Run)
+    (d1 d2 : Device) (result : Result Named Denial) : Type 0 where
   pub denied : (why : Denial) → pieces_denial kind pieces room d1 ≡ Some why →
       (result ≡ Err why) × (d2 ≡ d1)
   pub answer : pieces_denial kind pieces room d1 ≡ None →

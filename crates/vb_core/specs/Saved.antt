@@ -6,7 +6,8 @@ use Rattle.vb_virtio.specs.Status.{contains, acknowledge, driver, driver_ok, fea
 use Rattle.vb_virtio.specs.Status.{needs_reset}
 use Rattle.vb_core.specs.declared.ring.Virtqueue.{Virtqueue}
 use Rattle.vb_core.specs.declared.kinds.Kind.{Kind}
-use Rattle.vb_core.specs.declared.kinds.Kind.TheVariants.{Inflate, Deflate, Statistics, Hint, Report}
+use Rattle.vb_core.specs.declared.kinds.Kind.TheVariants.{Inflate, Deflate, Statistics, Hint}
+use Rattle.vb_core.specs.declared.kinds.Kind.TheVariants.{Report}
 use Rattle.vb_core.specs.declared.device.Device.{Device}
 use Rattle.vb_core.specs.declared.saved.Saved.{Saved}
 use Rattle.vb_core.specs.declared.saved.StateDenial.{StateDenial}
@@ -93,7 +94,8 @@ abbrev pub is_round : Device → Bool
 is_round d =
     ((d.round.last == 0) || is_id d.round.last && free_page_hint d.settings.offered)
     && (not (is_id d.round.shown)
-    || (d.round.shown == d.round.last) && contains d.status driver_ok && not (lacks d.features Hint))
+    || (d.round.shown == d.round.last) && contains d.status driver_ok
+    && not (lacks d.features Hint))
     && ((d.round.opened == 0) || (d.round.opened == 1) && is_id d.round.shown)
 
 abbrev pub can_be : Saved → Bool
@@ -117,7 +119,8 @@ is_state bytes = u64_at bytes 0 == MAGIC
 
 -- a version that is read: the newest, or one of the two before it
 abbrev pub is_version : ℕ → Bool
-is_version version = (version == FORMAT_VERSION) || (version == OLDER_VERSION) || (version == OLDEST_VERSION)
+is_version version =
+    (version == FORMAT_VERSION) || (version == OLDER_VERSION) || (version == OLDEST_VERSION)
 
 abbrev pub has_version : List ℕ → Bool
 has_version bytes = is_version (u32_at bytes VERSION_AT)

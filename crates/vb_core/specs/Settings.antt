@@ -6,7 +6,8 @@ use Rattle.vb_virtio.specs.Limits.{page_size}
 use Rattle.vb_virtio.specs.Features.{version_1}
 use Rattle.vb_virtio.specs.Status.{contains}
 use Rattle.vb_core.specs.declared.kinds.Kind.{Kind}
-use Rattle.vb_core.specs.declared.kinds.Kind.TheVariants.{Inflate, Deflate, Statistics, Hint, Report}
+use Rattle.vb_core.specs.declared.kinds.Kind.TheVariants.{Inflate, Deflate, Statistics, Hint}
+use Rattle.vb_core.specs.declared.kinds.Kind.TheVariants.{Report}
 use Rattle.vb_core.specs.declared.settings.Settings.{Settings}
 use Rattle.vb_core.specs.declared.settings.TheConstants.{MEMORY_LIMIT, PAGE_POISON, LONGEST_REQUEST}
 use Rattle.vb_core.specs.declared.settings.TheConstants.{FREE_PAGE_HINT}
@@ -48,6 +49,10 @@ needs_must_tell s = not (s.needs_must_tell == 0)
 -- A number that may not be named is skipped.
 abbrev pub skips : Settings → Bool
 skips s = not (s.skips_bad_pages == 0)
+
+-- Pages that are hinted are discarded once they were told.
+abbrev pub discards_hints : Settings → Bool
+discards_hints s = not (s.discards_hints == 0)
 
 -- A chain of the kind's queue that was taken is held until it is asked for: one of statistics
 -- always is (VIRTIO 1.1, 5.5.6.3), and a deflate where the settings say so.

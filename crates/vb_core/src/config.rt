@@ -6,10 +6,11 @@ ghost use Rattle.std.specs.Prelude.{slice_index};
 ghost use Rattle.vb_core.specs.declared.device.Denial.{Denial};
 ghost use Rattle.vb_core.specs.Config.{shown_poison, shown_id, config_bytes, covers, word_from};
 ghost use Rattle.vb_core.specs.Config.{takes_poison, config_denies, with_written, keeps_reports};
+ghost use Rattle.vb_core.specs.Config.{keeps_free};
 
 use crate::hints::STOP;
 use crate::settings::{has_free_page_hint, has_page_poison};
-use crate::{Denial, Device};
+use crate::{Denial, Device, Kind};
 
 /// Where `actual` is.
 const ACTUAL_AT: u32 = 4;
@@ -75,8 +76,8 @@ impl Device {
     }
 
     /// The driver reads the configuration space from an offset on: `num_pages` from 0, `actual`
-    /// from 4, `free_page_hint_cmd_id` from 8 where FREE_PAGE_HINT is offered, and `poison_val` from
-    /// 12 where PAGE_POISON is (VIRTIO 1.2, 5.5.4). All other bytes read as 0.
+    /// from 4, `free_page_hint_cmd_id` from 8 where FREE_PAGE_HINT is offered, and `poison_val`
+    /// from 12 where PAGE_POISON is (VIRTIO 1.2, 5.5.4). All other bytes read as 0.
     pub fn read_config(&self, offset: u32, out: &mut [u8])
         ensures { (k : ℕ) → k < length out.old →
             slice_index out.new k ≡ slice_index (config_bytes self.now) (offset + k) }
@@ -128,5 +129,18 @@ impl Device {
         ensures { result ≡ keeps_reports self.now }
     {
         has_page_poison(self.features) && self.poison != 0
+    }
+
+    /// Whether the free pages that a chain of this kind names keep what is in them: those of a
+    /// report where `keeps_reports` says so, and those of a hint there and where the settings don't
+    /// discard hints.
+    pub fn keeps_free(&self, kind: Kind) -> bool
+        ensures { result ≡ keeps_free kind self.now }
+    {
+        match kind {
+            Kind::Inflate | Kind::Deflate | Kind::Statistics => false,
+            Kind::Hint => self.keeps_reports() || !self.settings.discards_hints(),
+            Kind::Report => self.keeps_reports(),
+        }
     }
 }

@@ -81,8 +81,8 @@ impl Round {
 }
 
 impl Device {
-    /// Begins a round of hints: the configuration shows its id, which the VMM tells the driver by an
-    /// interrupt of the configuration. It is answered. It isn't the id of the round before, which
+    /// Begins a round of hints, and answers its id, which the configuration shows; the VMM tells
+    /// the driver by an interrupt of the configuration. It isn't the id of the round before, which
     /// this one takes the place of, and ids go round after 2^32 - 2 rounds.
     ///
     /// Refused as `queue_denial` refuses the queue of hints, and then nothing is changed:
@@ -94,7 +94,8 @@ impl Device {
         ensures begun { queue_denial Hint self.old ≡ None →
             (result ≡ Ok (next_id self.old.round.last)) ×
             (self.new ≡ record self.old {
-            round = begun (next_id self.old.round.last) self.old.round }) }
+              round = begun (next_id self.old.round.last) self.old.round;
+            }) }
     {
         if let Some(why) = self.queue_denial(Kind::Hint) {
             return Err(why);
@@ -124,8 +125,8 @@ impl Device {
         self.round.show(DONE);
     }
 
-    /// An id was read from the queue of hints: that of the round which the configuration shows opens
-    /// it, and any other one, as the driver's own `STOP`, closes it.
+    /// An id was read from the queue of hints: that of the round which the configuration shows
+    /// opens it, and any other one, as the driver's own `STOP`, closes it.
     pub fn hear_id(&mut self, id: u32)
         ensures { self.new ≡ record self.old { round = heard id self.old.round } }
     {

@@ -15,6 +15,7 @@ mod laws;
 mod name;
 mod pieces;
 mod possible;
+mod reading;
 mod report;
 mod ring;
 mod runs;

@@ -6,8 +6,8 @@ ghost use Rattle.vb_status.specs.Bits.{status_bits};
 ghost use Rattle.vb_core.specs.Saved.{comes_after, is_status, are_agreed, offered_so_far, is_blank};
 ghost use Rattle.vb_core.specs.Saved.{has_moved, is_ring, is_held, is_poison, is_round, can_be};
 
-use crate::saved::Saved;
 use crate::hints::is_id;
+use crate::saved::Saved;
 use crate::settings::{has_free_page_hint, has_page_poison};
 use crate::{Device, Kind, Virtqueue};
 use bitflags::Flags;

@@ -126,14 +126,15 @@ impl Kind {
 }
 
 impl Device {
-    /// Takes the chain of these pieces, in order, that was next on the queue of reports or of hints:
-    /// its pages, which are free in the guest, as runs in the front of `runs`, one for each piece.
+    /// Takes the chain of these pieces, in order, that was next on the queue of reports or of
+    /// hints: its pages, which are free in the guest, as runs in the front of `runs`, one for each
+    /// piece.
     ///
-    /// Refused, tested in this order: `NoQueue` for a kind that the call isn't for; `BadArgument` where `runs` has room for fewer than 32, or a
-    /// piece begins where no guest has memory; `NotReady`; `NeedsReset`; `NoQueue` for a
-    /// feature; `Misplaced`. Then `Broken`, which sets DEVICE_NEEDS_RESET and takes nothing,
-    /// where a piece isn't some whole unreserved pages that the device may write: nothing is
-    /// skipped here.
+    /// Refused, tested in this order: `NoQueue` for a kind that the call isn't for; `BadArgument`
+    /// where `runs` has room for fewer than 32, or a piece begins where no guest has memory;
+    /// `NotReady`; `NeedsReset`; `NoQueue` for a feature; `Misplaced`. Then `Broken`, which sets
+    /// DEVICE_NEEDS_RESET and takes nothing, where a piece isn't some whole unreserved pages that
+    /// the device may write: nothing is skipped here.
     pub fn name_pieces(
         &mut self,
         kind: Kind,

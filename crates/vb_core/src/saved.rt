@@ -9,8 +9,9 @@ ghost use Rattle.vb_core.specs.Saved.{is_length};
 
 use crate::format::{
     CHECKSUM_LENGTH, FORMAT_VERSION, HEADER_LENGTH, LENGTH_AT, MAGIC, OLDER_LENGTH, OLDER_VERSION,
-    OLDEST_LENGTH, OLDEST_VERSION, SAVED_LENGTH, VERSION_AT, checksum, push_saved, state_in, u32_at, u64_at,
+    OLDEST_LENGTH, OLDEST_VERSION, SAVED_LENGTH, VERSION_AT, checksum, push_saved,
 };
+use crate::reading::{state_in, u32_at, u64_at};
 use crate::{Device, Held};
 use arrayvec::ArrayVec;
 

@@ -20,8 +20,8 @@ pub fn an_older_state_is_restored()
         can_be s ≡ true → restored (oldest_bytes s) ≡ Ok s }
 {}
 
-/// Bytes that are restored are those that are saved of it, or were in one of the two versions before, and calls
-/// lead to it.
+/// Bytes that are restored are those that are saved of it, or were in one of the two versions
+/// before, and calls lead to it.
 pub fn only_what_was_saved_is_restored()
     ensures { (bytes : List ℕ) (s : Saved) → ((i : ℕ) → slice_index bytes i < 256) →
         restored bytes ≡ Ok s → WasSaved bytes s × (can_be s ≡ true) }

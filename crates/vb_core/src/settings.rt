@@ -2,6 +2,7 @@
 
 ghost use Rattle.std.specs.Prelude.{◌≡◌, ◌<◌, ◌^◌, ◌==◌, true};
 ghost use Rattle.vb_core.specs.Settings.{are_settings, memory_pages, needs_must_tell, skips};
+ghost use Rattle.vb_core.specs.Settings.{discards_hints};
 ghost use Rattle.vb_core.specs.Settings.{page_poison, free_page_hint, without_later, holds_chains};
 ghost use Rattle.vb_core.specs.Settings.{longest_request};
 
@@ -72,6 +73,8 @@ pub struct Settings {
     /// Unless 0, a deflate is held until it is granted: its chain isn't given back before. A driver
     /// waits for that only with MUST_TELL_HOST (VIRTIO 1.1, 5.5.6).
     pub holds_deflates: u8,
+    /// Unless 0, pages that are hinted are discarded once they were told; else they are kept.
+    pub discards_hints: u8,
 }
 
 impl Settings {
@@ -117,6 +120,13 @@ impl Settings {
         ensures { result ≡ skips self.now }
     {
         self.skips_bad_pages != 0
+    }
+
+    /// Whether pages that are hinted are discarded.
+    pub fn discards_hints(&self) -> bool
+        ensures { result ≡ discards_hints self.now }
+    {
+        self.discards_hints != 0
     }
 
     /// Whether a chain of a kind's queue is held once it was taken, until it is asked for: buffers

@@ -5,8 +5,8 @@ ghost use Rattle.vb_status.specs.declared.bits.StatusFault.{StatusFault};
 ghost use Rattle.vb_core.specs.Statuses.{lacks_must_tell, status_denial, reset};
 ghost use Rattle.vb_core.specs.Statuses.{after_write, negotiate_denial};
 
-use crate::hints::STOP;
 use crate::Device;
+use crate::hints::STOP;
 use crate::settings::without_later;
 use bitflags::Flags;
 use vb_status::{Features, Status, StatusFault, negotiate, write_status};
@@ -41,8 +41,8 @@ impl Device {
         }
     }
 
-    /// Forgets what the driver did and said (VIRTIO 1.1, 2.1): settings and target stay, and the ids of
-    /// rounds go on, so that a late one opens none.
+    /// Forgets what the driver did and said (VIRTIO 1.1, 2.1): settings and target stay, and the
+    /// ids of rounds go on, so that a late one opens none.
     fn reset(&mut self)
         ensures { self.new ≡ reset self.old }
     {

@@ -33,6 +33,8 @@ pub mod TurnWalks
 pub mod HintTurns
 pub mod TurnLaws
 pub mod HeldBackLemmas
+pub mod RoundLemmas
+mod HintFacts
 pub mod PartsOfRunLemmas
 mod Samples
 mod RowFacts

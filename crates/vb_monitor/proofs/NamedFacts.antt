@@ -4,7 +4,7 @@ use Rattle.std.proofs.Common.{◌≡◌, refl, Option, ap, subst, arith, ℕ, fa
 use Rattle.vb_request.specs.Request.{numbers_of}
 use Rattle.vb_chain.specs.declared.fault.ChainFault.TheVariants.{WrongDirection, BadLength, OutOfRam}
 use Rattle.vb_core.specs.declared.kinds.Kind.{Kind}
-use Rattle.vb_core.specs.declared.kinds.Kind.TheVariants.{Inflate, Deflate, Statistics, Report}
+use Rattle.vb_core.specs.declared.kinds.Kind.TheVariants.{Inflate, Deflate, Statistics, Hint, Report}
 use Rattle.vb_core.specs.declared.{name.Named.Named, runs.Run.Run, device.{Device.Device, Denial.{Denial, TheVariants.{Broken, BadArgument, NoQueue}}}}
 use Rattle.vb_core.specs.{Devices.with_one_taken, Name.NamesNumbersBy, Report.NamesPiecesBy, Runs.Tell}
 use Rattle.vb_monitor.specs.declared.outcome.{Outcome.Outcome}
@@ -26,6 +26,7 @@ abbrev denied_for : Kind → Denial
 denied_for Inflate = BadArgument
 denied_for Deflate = BadArgument
 denied_for Statistics = NoQueue
+denied_for Hint = NoQueue
 denied_for Report = NoQueue
 
 abbrev refusal : Option Denial → Result Named Denial
@@ -40,6 +41,7 @@ unfolding lib.Count.ones
 no_number Inflate = record { denied = λ why e. (ap refusal e, refl); names = λ e. absurd cc }
 no_number Deflate = record { denied = λ why e. (ap refusal e, refl); names = λ e. absurd cc }
 no_number Statistics = record { denied = λ why e. (ap refusal e, refl); names = λ e. absurd cc }
+no_number Hint = record { denied = λ why e. (ap refusal e, refl); names = λ e. absurd cc }
 no_number Report = record { denied = λ why e. (ap refusal e, refl); names = λ e. absurd cc }
 
 abbrev Refused : Kind → Device → Option Denial → List Access → Type 0
@@ -223,7 +225,7 @@ both_told o = record {
 
 -- ---- a report of a piece that the device may not write
 
-to_read : NamesPiecesBy (piece ∷ []) 256 [] ready needs_reset (Err (Broken WrongDirection))
+to_read : NamesPiecesBy Report (piece ∷ []) 256 [] ready needs_reset (Err (Broken WrongDirection))
 unfolding lib.Count.ones
 to_read = record {
   denied = λ why e. absurd cc;

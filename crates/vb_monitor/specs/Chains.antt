@@ -18,7 +18,8 @@ use Rattle.vb_chain.specs.Rules.{has_next, is_writable, piece_of, first_fault}
 use Rattle.vb_request.specs.Request.{total_length}
 use Rattle.vb_request.specs.Statistics.{statistics_length}
 use Rattle.vb_core.specs.declared.kinds.Kind.{Kind}
-use Rattle.vb_core.specs.declared.kinds.Kind.TheVariants.{Inflate, Deflate, Statistics, Hint, Report}
+use Rattle.vb_core.specs.declared.kinds.Kind.TheVariants.{Inflate, Deflate, Statistics, Hint}
+use Rattle.vb_core.specs.declared.kinds.Kind.TheVariants.{Report}
 use Rattle.vb_core.specs.declared.runs.Run.{Run}
 use Rattle.vb_core.specs.declared.ring.Virtqueue.{Virtqueue}
 use Rattle.vb_core.specs.declared.name.Named.{Named}
@@ -53,7 +54,7 @@ pub record NamesBytes (w : Whole) (next : Then) (d : Device) (tally : Tally) (he
   pub names : NamesNumbersBy w.kind bytes MAX_REQUEST_PAGES runs d device answer
   pub goes_on : AfterName w next (after_last w.kind answer device) tally head runs answer log
 
--- What is told of pages that a chain names by its pieces, where pages of it are told, or not: all of
+-- What is told of pages that a chain names by its pieces, where its pages are told, or not: all of
 -- them, or none, and then each counts as skipped.
 abbrev pub told_if : Bool → Result Named Denial → Result Named Denial
 told_if told (Err why) = Err why
@@ -100,12 +101,20 @@ FiguresBy None w d tally head bytes log = TellsFigures w d tally head bytes log
 abbrev pub after_id : ℕ → Device → Device
 after_id id d = record (with_one_taken Hint d) { round = heard id d.round }
 
--- This id is told, and its chain is given back.
+-- This id is told, and the chain of this head is given back.
 pub record TellsIdThen (w : Whole) (next : Then) (d : Device) (tally : Tally) (head id : ℕ)
     (log : List Access) : Type 0 where
   pub rest : List Access
   pub asks : log ≡ TellId id ∷ rest
   pub goes_on : GivesBack w next d tally head rest
+
+-- The id that these bytes are, if there are 4 (VIRTIO 1.2, 5.5.6.6).
+abbrev pub id_of : List ℕ → Option ℕ
+id_of bytes = if length bytes == 4 then Some (from_le_bytes w32 bytes) else None
+
+abbrev pub IdBy : Option ℕ → Whole → Then → Device → Tally → ℕ → List Access → Type 0
+IdBy None w next d tally head log = Breaks w d tally BadLength log
+IdBy (Some id) w next d tally head log = TellsIdThen w next (after_id id d) tally head id log
 
 -- What the bytes of a chain's last portion come to.
 abbrev pub AfterBytes : Kind → Whole → Then → Device → Tally → ℕ → List ℕ → List Access → Type 0
@@ -113,8 +122,7 @@ AfterBytes Inflate w next d tally head bytes log = NamesBytes w next d tally hea
 AfterBytes Deflate w next d tally head bytes log = NamesBytes w next d tally head bytes log
 AfterBytes Statistics w next d tally head bytes log =
     FiguresBy (statistics_denial (length bytes) MAX_FIGURES d) w d tally head bytes log
-AfterBytes Hint w next d tally head bytes log =
-    TellsIdThen w next (after_id (from_le_bytes w32 bytes) d) tally head (from_le_bytes w32 bytes) log
+AfterBytes Hint w next d tally head bytes log = IdBy (id_of bytes) w next d tally head log
 AfterBytes Report w next d tally head bytes log = NamesBytes w next d tally head bytes log
 
 -- ---- what the pieces come to
@@ -140,7 +148,7 @@ CopiesBy (Err fault) w next d tally head pieces log = Breaks w d tally fault log
 CopiesBy (Ok bytes) w next d tally head pieces log =
     CopiesParts w (ServesBytes w next head) d tally (all_parts pieces) [] log
 
--- The bytes of a hint's id (VIRTIO 1.2, 5.5.6.6).
+-- How many bytes an id of hints of these pieces has, or what is wrong with them.
 abbrev pub id_length : List Piece → Result ℕ ChainFault
 id_length pieces =
     if list_any (λ piece. piece.writable) pieces then Err WrongDirection

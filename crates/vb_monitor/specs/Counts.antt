@@ -1,7 +1,8 @@
 -- How many accesses a notice makes.
 use Rattle.std.specs.Prelude.{ℕ, ◌+◌, List, [], ◌∷◌}
 use Rattle.vb_monitor.specs.Accesses.{Access, ReadWord, CopyBytes, Acquire, Release, Full}
-use Rattle.vb_monitor.specs.Accesses.{TellPages, TellFigures, TellId, Discard, WriteNumber, WriteWord}
+use Rattle.vb_monitor.specs.Accesses.{TellPages, TellFigures, TellId, Discard, WriteNumber}
+use Rattle.vb_monitor.specs.Accesses.{WriteWord}
 
 -- 1 for each access but a discard.
 abbrev pub no_discard : Access → ℕ

@@ -23,7 +23,8 @@ use Rattle.vb_monitor.specs.Steps.{Step}
 use Rattle.vb_monitor.specs.declared.step.Phase.{Phase}
 use Rattle.vb_monitor.specs.declared.step.Phase.TheVariants.{AwaitsIndex, AwaitsEntry}
 use Rattle.vb_monitor.specs.declared.step.Phase.TheVariants.{AwaitsDescriptor, AwaitsPart}
-use Rattle.vb_monitor.specs.declared.step.Phase.TheVariants.{TellsPages, TellsFigures, TellsId, Discards}
+use Rattle.vb_monitor.specs.declared.step.Phase.TheVariants.{TellsPages, TellsFigures, TellsId}
+use Rattle.vb_monitor.specs.declared.step.Phase.TheVariants.{Discards}
 use Rattle.vb_monitor.specs.declared.step.Phase.TheVariants.{GivesBack, AwaitsFlags, Ended}
 use Rattle.vb_monitor.specs.Accesses.{Access, Makes, ReadWord, CopyBytes, Acquire, Full}
 use Rattle.vb_monitor.specs.Accesses.{TellPages as ToldPages, TellFigures as ToldFigures}

@@ -1,7 +1,8 @@
 -- What comes directly after what in a list of accesses.
 use Rattle.std.specs.Prelude.{◌≡◌, Bool, true, false, ◌||◌, List, [], ◌∷◌, Option, Some, None}
 use Rattle.vb_monitor.specs.Accesses.{Access, ReadWord, CopyBytes, Acquire, Release, Full}
-use Rattle.vb_monitor.specs.Accesses.{TellPages, TellFigures, TellId, Discard, WriteNumber, WriteWord}
+use Rattle.vb_monitor.specs.Accesses.{TellPages, TellFigures, TellId, Discard, WriteNumber}
+use Rattle.vb_monitor.specs.Accesses.{WriteWord}
 
 -- Each access of a list may come directly after the one before it, the first after this one.
 abbrev pub Row : (Option Access → Access → Type 0) → Option Access → List Access → Type 0
@@ -103,10 +104,11 @@ is_number (Some (WriteWord at word)) = false
 -- ---- the order
 
 -- Bytes are copied directly after what was read, or after pages of a portion that were told or
--- discarded. Pages and figures are told directly after bytes that were copied. Pages are discarded
--- directly after pages that were told or discarded, and an element's numbers are written directly
--- after these; after them a release fence, and directly after that the index. An acquire fence is
--- directly after a word that was read, or after an index that was written.
+-- discarded. Pages, figures and ids are told directly after bytes that were copied. Pages are
+-- discarded directly after pages that were told or discarded, and an element's numbers are written
+-- directly after these, or after an id; after them a release fence, and directly after that the
+-- index. An acquire fence is directly after a word that was read, or after an index that was
+-- written.
 abbrev pub MayFollow : Option Access → Access → Type 0
 MayFollow before (ReadWord at answer) = Unit {0}
 MayFollow before (CopyBytes at answer) = (is_read before || is_told before) ≡ true

@@ -6,14 +6,16 @@ use Rattle.vb_virtio.specs.declared.limits.TheConstants.{MAX_QUEUE_SIZE}
 use Rattle.vb_chain.specs.declared.pieces.Piece.{Piece}
 use Rattle.vb_chain.specs.Rules.{has_next, piece_of}
 use Rattle.vb_core.specs.declared.kinds.Kind.{Kind}
-use Rattle.vb_core.specs.declared.kinds.Kind.TheVariants.{Inflate, Deflate, Statistics, Hint, Report}
+use Rattle.vb_core.specs.declared.kinds.Kind.TheVariants.{Inflate, Deflate, Statistics, Hint}
+use Rattle.vb_core.specs.declared.kinds.Kind.TheVariants.{Report}
 use Rattle.vb_core.specs.declared.ring.Virtqueue.{Virtqueue}
 use Rattle.vb_core.specs.Rings.{with_taken, with_used}
 use Rattle.vb_monitor.specs.declared.regions.Region.{Region}
 use Rattle.vb_monitor.specs.declared.cuts.Cut.{Cut}
 use Rattle.vb_monitor.specs.declared.parts.Part.{Part}
 use Rattle.vb_monitor.specs.Accesses.{Access, ReadWord, CopyBytes, Acquire, Release, Full}
-use Rattle.vb_monitor.specs.Accesses.{TellPages, TellFigures, TellId, Discard, WriteNumber, WriteWord}
+use Rattle.vb_monitor.specs.Accesses.{TellPages, TellFigures, TellId, Discard, WriteNumber}
+use Rattle.vb_monitor.specs.Accesses.{WriteWord}
 use Rattle.vb_monitor.specs.Giving.{cuts_for, more_told}
 use Rattle.vb_monitor.specs.Pieces.{all_parts}
 use Rattle.vb_monitor.specs.Chains.{TableRow, row_of, in_row, descriptor_of, has_id}
@@ -208,17 +210,21 @@ pages_told (WriteWord at word ∷ xs) = pages_told xs
 
 -- ---- the round of hints
 
--- A device's round once these accesses came: each id that was told opens it or closes it.
+-- A round once this access came: an id that is told opens it or closes it.
+abbrev pub hears : Access → Round → Round
+hears (TellId id) r = heard id r
+hears (ReadWord at answer) r = r
+hears (CopyBytes at answer) r = r
+hears Acquire r = r
+hears Release r = r
+hears Full r = r
+hears (TellPages kind runs named) r = r
+hears (TellFigures figures) r = r
+hears (Discard cut) r = r
+hears (WriteNumber at number) r = r
+hears (WriteWord at word) r = r
+
+-- A device's round once these accesses came, of which the last one is first.
 abbrev pub round_so_far : Round → List Access → Round
 round_so_far r [] = r
-round_so_far r (TellId id ∷ xs) = heard id (round_so_far r xs)
-round_so_far r (ReadWord at answer ∷ xs) = round_so_far r xs
-round_so_far r (CopyBytes at answer ∷ xs) = round_so_far r xs
-round_so_far r (Acquire ∷ xs) = round_so_far r xs
-round_so_far r (Release ∷ xs) = round_so_far r xs
-round_so_far r (Full ∷ xs) = round_so_far r xs
-round_so_far r (TellPages kind runs named ∷ xs) = round_so_far r xs
-round_so_far r (TellFigures figures ∷ xs) = round_so_far r xs
-round_so_far r (Discard cut ∷ xs) = round_so_far r xs
-round_so_far r (WriteNumber at number ∷ xs) = round_so_far r xs
-round_so_far r (WriteWord at word ∷ xs) = round_so_far r xs
+round_so_far r (x ∷ xs) = hears x (round_so_far r xs)

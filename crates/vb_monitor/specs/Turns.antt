@@ -6,7 +6,8 @@ use Rattle.vb_chain.specs.declared.pieces.Piece.{Piece}
 use Rattle.vb_request.specs.Request.{numbers_of}
 use Rattle.vb_request.specs.Report.{report_request}
 use Rattle.vb_core.specs.declared.kinds.Kind.{Kind}
-use Rattle.vb_core.specs.declared.kinds.Kind.TheVariants.{Inflate, Deflate, Statistics, Hint, Report}
+use Rattle.vb_core.specs.declared.kinds.Kind.TheVariants.{Inflate, Deflate, Statistics, Hint}
+use Rattle.vb_core.specs.declared.kinds.Kind.TheVariants.{Report}
 use Rattle.vb_core.specs.declared.runs.Run.{Run}
 use Rattle.vb_core.specs.declared.name.Named.{Named}
 use Rattle.vb_core.specs.declared.ring.Virtqueue.{Virtqueue}
@@ -18,7 +19,7 @@ use Rattle.vb_core.specs.Settings.{memory_pages, skips}
 use Rattle.vb_core.specs.Rings.{used_entry}
 use Rattle.vb_core.specs.Runs.{Tell}
 use Rattle.vb_core.specs.Devices.{ring_of}
-use Rattle.vb_core.specs.Config.{keeps_reports}
+use Rattle.vb_core.specs.Config.{keeps_free}
 use Rattle.vb_core.specs.Name.{fault_in, right_numbers}
 use Rattle.vb_core.specs.Report.{run_of}
 use Rattle.vb_core.specs.Statistics.{AreFigures}
@@ -27,15 +28,15 @@ use Rattle.vb_monitor.specs.declared.regions.Spot.{Spot}
 use Rattle.vb_monitor.specs.declared.cuts.Cut.{Cut}
 use Rattle.vb_monitor.specs.declared.room.TheConstants.{MAX_BYTES}
 use Rattle.vb_monitor.specs.Accesses.{Access, ReadWord, CopyBytes, Acquire, Release, Full}
-use Rattle.vb_monitor.specs.Accesses.{TellPages, TellFigures, TellId, Discard, WriteNumber, WriteWord}
+use Rattle.vb_monitor.specs.Accesses.{TellPages, TellFigures, TellId, Discard, WriteNumber}
+use Rattle.vb_monitor.specs.Accesses.{WriteWord}
 use Rattle.vb_monitor.specs.Regions.{spot}
-use Rattle.vb_monitor.specs.Chains.{further_in_row}
+use Rattle.vb_monitor.specs.Chains.{further_in_row, id_of}
 use Rattle.vb_monitor.specs.Giving.{is_kept}
 use Rattle.vb_monitor.specs.Notices.{entry_offset, stands}
 use Rattle.vb_monitor.specs.SoFar.{Known, Unknown, Walks, Has, known, ring_after, index_read, left}
 use Rattle.vb_monitor.specs.SoFar.{round_so_far}
 use Rattle.vb_core.specs.Hints.{is_open}
-use Rattle.std.specs.Int.{w32, from_le_bytes}
 
 -- ---- what is read
 
@@ -176,7 +177,8 @@ TellNamed open_now Report s pieces bytes runs named = TellPieces s pieces runs n
 abbrev pub TellsOf : Bool → Kind → Settings → Known → List Run → Named → Type 0
 TellsOf open_now kind s Unknown runs named = ⊥
 TellsOf open_now kind s (Walks head number pieces) runs named = ⊥
-TellsOf open_now kind s (Has head pieces [] bytes) runs named = TellNamed open_now kind s pieces bytes runs named
+TellsOf open_now kind s (Has head pieces [] bytes) runs named =
+    TellNamed open_now kind s pieces bytes runs named
 TellsOf open_now kind s (Has head pieces (part ∷ parts) bytes) runs named =
     (length bytes ≡ MAX_BYTES) × TellNamed open_now kind s pieces bytes runs named
 
@@ -192,11 +194,11 @@ FiguresOf (Walks head number pieces) figures = ⊥
 FiguresOf (Has head pieces [] bytes) figures = TellFiguresOf bytes figures
 FiguresOf (Has head pieces (part ∷ parts) bytes) figures = ⊥
 
--- The id that these bytes are.
+-- All of a chain was read, and its bytes are this id.
 abbrev pub IdOf : Known → ℕ → Type 0
 IdOf Unknown id = ⊥
 IdOf (Walks head number pieces) id = ⊥
-IdOf (Has head pieces [] bytes) id = (length bytes ≡ 4) × (id ≡ from_le_bytes w32 bytes)
+IdOf (Has head pieces [] bytes) id = id_of bytes ≡ Some id
 IdOf (Has head pieces (part ∷ parts) bytes) id = ⊥
 
 -- The part is the next one that is left.
@@ -204,25 +206,25 @@ abbrev pub IsNext : Cut → List Cut → Type 0
 IsNext cut [] = ⊥
 IsNext cut (next ∷ others) = cut ≡ next
 
--- Pages and figures are told of what was copied, and of pages that were told those parts are
+-- Pages, figures and ids are told of what was copied, and of pages that were told those parts are
 -- discarded that may be, in their order; all of them before anything else is copied or told, and
--- before an element is written. Where a notice keeps all pages none is, and none is of a report
--- whose pages the device keeps.
+-- before an element is written. Where a notice keeps all pages none is, and none is of a report or a
+-- hint whose pages the device keeps.
 abbrev pub TellsInTurn : List Region → Kind → Bool → Device → List Access → Access → Type 0
 TellsInTurn regions kind all d before (TellPages of runs named) =
-    (of ≡ kind)
-    × TellsOf (is_open (round_so_far d.round before)) kind d.settings (known kind before) runs named ×
-    (left (is_kept kind all (keeps_reports d)) regions before ≡ [])
+    (of ≡ kind) ×
+    TellsOf (is_open (round_so_far d.round before)) kind d.settings (known kind before) runs named ×
+    (left (is_kept kind all (keeps_free kind d)) regions before ≡ [])
 TellsInTurn regions kind all d before (TellFigures figures) =
     (kind ≡ Statistics) × FiguresOf (known kind before) figures
 TellsInTurn regions kind all d before (TellId id) = (kind ≡ Hint) × IdOf (known kind before) id
 TellsInTurn regions kind all d before (Discard cut) =
-    IsNext cut (left (is_kept kind all (keeps_reports d)) regions before)
+    IsNext cut (left (is_kept kind all (keeps_free kind d)) regions before)
 TellsInTurn regions kind all d before (WriteNumber at number) =
-    left (is_kept kind all (keeps_reports d)) regions before ≡ []
+    left (is_kept kind all (keeps_free kind d)) regions before ≡ []
 TellsInTurn regions kind all d before (ReadWord at answer) = Unit {0}
 TellsInTurn regions kind all d before (CopyBytes at answer) =
-    left (is_kept kind all (keeps_reports d)) regions before ≡ []
+    left (is_kept kind all (keeps_free kind d)) regions before ≡ []
 TellsInTurn regions kind all d before Acquire = Unit {0}
 TellsInTurn regions kind all d before Release = Unit {0}
 TellsInTurn regions kind all d before Full = Unit {0}
@@ -288,7 +290,7 @@ WritesUsedAlone regions kind d before (Discard cut) = Unit {0}
 
 -- ---- hints
 
--- Pages are told as hinted only while the round is open, which goes by each id that was told before.
+-- Pages are told as hinted only while the round is open, by each id that was told before.
 abbrev pub HintsInRound : Device → List Access → Access → Type 0
 HintsInRound d before (TellPages Hint runs named) =
     is_open (round_so_far d.round before) ≡ false → runs ≡ []

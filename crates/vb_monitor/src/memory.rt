@@ -1,7 +1,7 @@
 //! Memory that a notice goes over.
 
 ghost use Rattle.vb_monitor.specs.Accesses.{Access, ReadWord, CopyBytes, Acquire, Release, Full};
-ghost use Rattle.vb_monitor.specs.Accesses.{TellPages, TellFigures, Discard, WriteNumber};
+ghost use Rattle.vb_monitor.specs.Accesses.{TellPages, TellFigures, TellId, Discard, WriteNumber};
 ghost use Rattle.vb_monitor.specs.Accesses.{WriteWord};
 
 use crate::{Cut, Spot};
@@ -34,9 +34,9 @@ pub trait LiveMemory {
     fn full(&mut self)
         ensures { goes self.old Full self.new };
 
-    /// These pages were given up (inflates), are requested back (deflates), or are free (reports).
-    /// `named` says how many pages the runs have together, and how many of the request's numbers
-    /// were skipped.
+    /// These pages were given up (inflates), are requested back (deflates), or are free (reports and
+    /// hints). `named` says how many pages the runs have together, and how many of the request's
+    /// numbers were skipped, or of a hint's pages that came outside their round.
     fn tell_pages(&mut self, kind: Kind, runs: &[Run], named: Named)
         ensures { goes self.old (TellPages kind runs.now named) self.new };
 

@@ -6,7 +6,8 @@ ghost use Rattle.std.specs.List.{list_any};
 ghost use Rattle.vb_chain.specs.Rules.{piece_of};
 ghost use Rattle.vb_virtio.specs.declared.limits.TheConstants.{MAX_QUEUE_SIZE, MAX_REQUEST_PAGES};
 ghost use Rattle.vb_request.specs.Request.{total_length};
-ghost use Rattle.vb_monitor.specs.Chains.{is_length_within, request_length_within};
+ghost use Rattle.vb_monitor.specs.Chains.{is_length_within, request_length_within, id_length};
+ghost use Rattle.vb_monitor.specs.Chains.{has_id};
 ghost use Rattle.vb_request.specs.Statistics.{statistics_length};
 ghost use Rattle.vb_core.specs.Report.{NamesPiecesBy};
 ghost use Rattle.vb_core.specs.Pieces.{piece_in, pieces_in};
@@ -133,10 +134,10 @@ pub(crate) fn id_length(pieces: &[ChainPiece]) -> Result<u32, ChainFault>
 pub(crate) fn has_id(pieces: &[ChainPiece]) -> bool
     ensures { result ≡ has_id (pieces_in pieces.now) }
 {
-    match pieces.first() {
-        Some(piece) => piece.writable == 0,
-        None => false,
+    if pieces.is_empty() {
+        return false;
     }
+    pieces[0].writable == 0
 }
 
 /// Names the pages of a report or a hint of these pieces.
@@ -147,8 +148,8 @@ pub(crate) fn report_named(
     runs: &mut [Run; MAX_RUNS],
 ) -> Result<Named, Denial>
     requires { length pieces.now ≤ MAX_QUEUE_SIZE }
-    ensures { NamesPiecesBy kind (pieces_in pieces.now) MAX_REQUEST_PAGES runs.new device.old device.new
-        result }
+    ensures { NamesPiecesBy kind (pieces_in pieces.now) MAX_REQUEST_PAGES runs.new device.old
+        device.new result }
 {
     device.name_pieces(kind, pieces, runs)
 }

@@ -293,8 +293,7 @@ impl Progress {
             Phase::TellsPages { .. }
             | Phase::TellsFigures { .. }
             | Phase::TellsId { .. }
-            | Phase::GivesBack { .. } =>
-                false,
+            | Phase::GivesBack { .. } => false,
         }
     }
 

@@ -8,6 +8,7 @@ ghost use Rattle.vb_monitor.specs.declared.room.TheConstants.{MAX_BYTES, MAX_RUN
 ghost use Rattle.vb_monitor.specs.declared.step.Phase.TheVariants.{AwaitsIndex, AwaitsEntry};
 ghost use Rattle.vb_monitor.specs.declared.step.Phase.TheVariants.{AwaitsDescriptor, AwaitsPart};
 ghost use Rattle.vb_monitor.specs.declared.step.Phase.TheVariants.{TellsPages, TellsFigures};
+ghost use Rattle.vb_monitor.specs.declared.step.Phase.TheVariants.{TellsId};
 ghost use Rattle.vb_monitor.specs.declared.step.Phase.TheVariants.{Discards, GivesBack};
 ghost use Rattle.vb_monitor.specs.declared.step.Phase.TheVariants.{AwaitsFlags, Ended};
 ghost use Rattle.vb_monitor.specs.Accesses.{Access};

@@ -15,7 +15,7 @@ use Rattle.vb_status.specs.Bits.{feature_bits}
 use Rattle.vb_ring.specs.Layout.{IsSize, IsBacked, Fits, layout_of}
 use Rattle.vb_ring.proofs.Shapes.{fits_at}
 use Rattle.vb_core.specs.declared.kinds.Kind.{Kind}
-use Rattle.vb_core.specs.declared.kinds.Kind.TheVariants.{Inflate, Deflate, Statistics, Report}
+use Rattle.vb_core.specs.declared.kinds.Kind.TheVariants.{Inflate, Deflate, Statistics, Hint, Report}
 use Rattle.vb_core.specs.declared.device.{Device.Device}
 use Rattle.vb_core.specs.declared.device.Denial.TheVariants.{NoQueue as NoQueueDenied, BadArgument}
 use Rattle.vb_core.specs.declared.device.Denial.TheVariants.{NotReady as NotReadyDenied}
@@ -191,6 +191,7 @@ pub ring_same : (kind : Kind) (r : QueueRegisters) (q n : ℕ) → ring_of kind 
 ring_same Inflate r q n = refl
 ring_same Deflate r q n = refl
 ring_same Statistics r q n = refl
+ring_same Hint r q n = refl
 ring_same Report r q n = refl
 
 rings_so : (kind : Kind) (r : QueueRegisters) (p : Part) (n : ℕ) → HasRegisters r (queue_of kind) p →

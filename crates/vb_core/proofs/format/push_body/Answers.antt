@@ -23,4 +23,5 @@ returns-clause-items c = let s = c.args.saved.now in
     let e12 = adds _ (u32_bytes d.poison) _ _ e11 c.push_u32-4.ensures.items in
     let e13 = joins _ (hold_parts s) _ _ e12 c.push_holds.ensures.items in
     let e14 = joins _ (ring_parts d.hint) _ _ e13 c.push_ring-5.ensures.items in
-    let e15 = joins _ (round_parts d.round) _ _ e14 c.push_round.ensures.items in e15.is
+    let e15 = joins _ (round_parts d.round) _ _ e14 c.push_round.ensures.items in
+    let e16 = adds _ (d.settings.discards_hints ∷ []) _ _ e15 c.push_u8-2.ensures.items in e16.is

@@ -21,6 +21,7 @@ pub(super) enum Row {
     Full,
     Pages(usize, u32),
     Figures(usize),
+    Id(u32),
     Discarded(Cut),
     Number(Spot, u32),
     Written(Spot, u16),
@@ -48,6 +49,9 @@ pub(super) enum Entry {
     Figures {
         figures: Vec<Statistic>,
     },
+    Id {
+        id: u32,
+    },
     Discarded {
         cut: Cut,
     },
@@ -72,6 +76,7 @@ impl Entry {
             Entry::FullFence => Row::Full,
             Entry::Pages { runs, named, .. } => Row::Pages(runs.len(), named.pages),
             Entry::Figures { figures } => Row::Figures(figures.len()),
+            Entry::Id { id } => Row::Id(*id),
             Entry::Discarded { cut } => Row::Discarded(*cut),
             Entry::NumberWritten { at, number } => Row::Number(*at, *number),
             Entry::WordWritten { at, word } => Row::Written(*at, *word),
@@ -192,6 +197,10 @@ impl<R: Abort> LiveMemory for Scribbled<'_, R> {
     fn tell_figures(&mut self, figures: &[Statistic]) {
         let figures = figures.to_vec(self.alloc).expect(self.rt, "memory");
         self.note(Entry::Figures { figures });
+    }
+
+    fn tell_id(&mut self, id: u32) {
+        self.note(Entry::Id { id });
     }
 
     fn discard(&mut self, cut: Cut) {

@@ -1,0 +1,15 @@
+use Rattle.std.proofs.Common.{◌≡◌, ◌∙◌, ap, sym, subst, arith, Result, Ok}
+use Rattle.vb_core.specs.declared.{name.Named.Named, device.Denial.Denial}
+use Rattle.vb_monitor.specs.{Accesses.Access, Giving.AfterName, Machine.{whole, next_chain}, Steps.tally_of}
+use Rattle.vb_monitor.specs.Chains.{told_if}
+use Rattle.vb_monitor.proofs.{CopyLemmas.few_pieces, RoomLemmas.few_reported}
+use Rattle.vb_monitor.proofs.free_pages.name_report.Goals as goal
+
+pub returns-in-Ok-clause-fits : goal.returns-in-Ok-clause-fits
+returns-in-Ok-clause-fits c =
+    let chain = c.first_pieces-chain.result.now in
+    c.tell_pages.ensures.fits
+    (few_reported _ chain _ _ _ _ c.tells_pages-is_told.result c.in-Ok.named _
+    (few_pieces c.args.place.count
+    c.args.room.now.pieces chain c.first_pieces-chain.ensures (omega arith)) c.in-Ok.ensures
+    c.told_if-told.ensures)
