@@ -52,7 +52,7 @@ enum { VB_MAX_QUEUE_SIZE = 1024, VB_MAX_PIECES = 256, VB_MAX_RUNS = 256, VB_MAX_
 enum {                          /* what is to be done: `what` of a notice, in this order; other bits are the library's */
     VB_TELL_PAGES = 1,          /* the first `runs` of the room were given up, are requested back, or are free */
     VB_TELL_FIGURES = 2,        /* the first `figures` of the room are what the guest says */
-    VB_TELL_ID = 4,             /* `hint_id` was read from the queue of hints: the id of a round, or that of none */
+    VB_TELL_ID = 4,             /* `hint_id` is the id that the driver sent with its hints */
     VB_DISCARD = 8,             /* give the bytes of the first `cuts` of the room back to the machine */
     VB_GIVE_BACK = 16,          /* write `id` to `id_at` and `used_length` to `length_at` (32 bits each), then a release
                                    fence, then `used_index` to `index_at` (16 bits, by one access) */
