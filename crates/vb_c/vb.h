@@ -52,7 +52,7 @@ enum { VB_MAX_QUEUE_SIZE = 1024, VB_MAX_PIECES = 256, VB_MAX_RUNS = 256, VB_MAX_
 enum {                          /* what is to be done: `what` of a notice, in this order; other bits are the library's */
     VB_TELL_PAGES = 1,          /* the first `runs` of the room were given up, are requested back, or are free */
     VB_TELL_FIGURES = 2,        /* the first `figures` of the room are what the guest says */
-    VB_TELL_ID = 4,             /* `hint_id` was read from the queue of hints: the id of a round, or that of none */
+    VB_TELL_ID = 4,             /* `hint_id` is the id that the driver sent with its hints */
     VB_DISCARD = 8,             /* give the bytes of the first `cuts` of the room back to the machine */
     VB_GIVE_BACK = 16,          /* write `id` to `id_at` and `used_length` to `length_at` (32 bits each), then a release
                                    fence, then `used_index` to `index_at` (16 bits, by one access) */
@@ -218,8 +218,8 @@ uint32_t vb_kind_of(uint64_t features, uint32_t number);
 uint32_t vb_place(VbDevice *device, uint32_t kind, uint64_t table, uint64_t avail, uint64_t used, uint16_t size);
 /* Reads or writes bytes of the configuration space (VIRTIO 1.2, 5.5.4), little-endian: num_pages at 0, actual at 4,
  * free_page_hint_cmd_id at 8 where FREE_PAGE_HINT is offered, and poison_val at 12 where PAGE_POISON is. All other bytes read as 0.
- * A write of any length at any offset writes actual, and poison_val where that is offered, each where it covers all 4 of its bytes, as
- * QEMU hands over all 16 for each field; all other bytes are ignored. VB_OK; or VB_BAD_ARGUMENT, and nothing is changed, for neither. */
+ * A write of any length at any offset writes actual, and poison_val where that is offered, each where it covers all 4 of its bytes, as QEMU
+ * hands over all 16 for each field; other bytes are ignored. VB_OK; or VB_BAD_ARGUMENT where it covers neither: nothing is changed. */
 void vb_read_config(const VbDevice *device, uint32_t offset, uint8_t *out, size_t length);
 uint32_t vb_write_config(VbDevice *device, uint32_t offset, const uint8_t *bytes, size_t length);
 /* 1 where the pages of a report keep what is in them: the driver negotiated PAGE_POISON, and poison_val isn't 0. A notice

@@ -62,11 +62,11 @@ static uint64_t any_page(uint64_t random)
     return random % 64 == 0 ? random >> 32 : random % 64 == 1 ? 4090 + random / 64 % 64 : page;
 }
 
-static uint32_t any_length(uint32_t kind, uint64_t random)
+static uint32_t any_length(uint32_t kind, bool has_pages, uint64_t random)
 {
     if (random % 32 == 0)
         return (uint32_t)(random >> 32);
-    if (kind == VB_REPORT || (kind == VB_HINT && random / 256 % 2))
+    if (has_pages)
         return (uint32_t)(1 + random / 32 % 8) * 4096;
     if (kind == VB_HINT)
         return 4;
@@ -76,7 +76,7 @@ static uint32_t any_length(uint32_t kind, uint64_t random)
 static void scribble_descriptor(uint32_t kind, uint64_t random, uint64_t *state)
 {
     uint64_t where = table_of(kind) + 16 * (random % SIZE);
-    const bool has_pages = kind == VB_REPORT || (kind == VB_HINT && random / 65536 % 2);
+    const bool has_pages = kind == VB_REPORT || (kind == VB_HINT && random % 2);      /* of hints every other descriptor */
     switch (random / SIZE % 4) {
     case 0:
         if (has_pages)
@@ -85,7 +85,7 @@ static void scribble_descriptor(uint32_t kind, uint64_t random, uint64_t *state)
             put(&guest, where, buffer_of(kind) + random / 512 % 4, 8);
         break;
     case 1:
-        put(&guest, where + 8, any_length(kind, next_random(state)), 4);
+        put(&guest, where + 8, any_length(kind, has_pages, next_random(state)), 4);
         break;
     case 2:
         put(&guest, where + 12, (random / 512 % 64 == 0 ? random >> 40 : (has_pages ? WRITE : 0))

@@ -114,7 +114,7 @@ def test_a_change_in_one_place_is_refused_by_name(copy, path, old, new, wanted):
 
 
 def test_a_change_of_the_owner_is_written_to_all_tables(copy):
-    copy.change("crates/vb_c/src/bits.rt", "COPY: u32 = 128", "COPY: u32 = 512")
+    copy.change("crates/vb_c/src/bits.rt", "COPY: u32 = 256", "COPY: u32 = 512")
     copy.change("crates/vb_chain/src/fault.rt", "BadPage = 9", "BadPage = 11")
     assert copy.call("--write") == (1, [f"{RULES}: BadPage is 9"])
     assert "VB_COPY = 512, " in copy.text("crates/vb_c/vb.h")

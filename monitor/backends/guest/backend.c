@@ -28,7 +28,7 @@ static void count_pages(void *context, uint32_t kind, const VbRun *runs, uint32_
     backend->counters.deflated += kind == VB_DEFLATE ? pages : 0;
     backend->counters.reported += kind == VB_REPORT ? pages : 0;
     backend->counters.reports += kind == VB_REPORT;
-    backend->counters.hints_pages += kind == VB_HINT ? pages : 0;
+    backend->hints.pages += kind == VB_HINT ? pages : 0;
     audit_pages(backend, kind);
 }
 
@@ -137,6 +137,7 @@ static void count_marks(struct backend *backend, uint32_t kind, uint32_t marked)
 bool backend_finish(struct backend *backend, uint32_t kind, const struct balloon_result *result)
 {
     counters_add(&backend->counters, result);
+    backend->hints.late += result->late;
     count_marks(backend, kind, (uint32_t)result->marked);
     if (result->error)
         remark(backend, "%llu pages can't be discarded: %s", (unsigned long long)result->kept, strerror(result->error));

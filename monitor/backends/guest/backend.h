@@ -44,6 +44,7 @@ struct backend {
     struct told told;
     struct ring rings[QUEUES];
     struct counters counters;
+    struct hint_counters hints;
     VbStatistic figures[MOST_TAGS];
     uint32_t figure_count;
     uint32_t pending;           /* bit 1 << number: more is available on this queue */

@@ -8,6 +8,7 @@
 #include <unistd.h>
 
 #define PRINT_COUNTER(name) printf(" " #name " %" PRIu64, it->name);
+#define PRINT_HINTS(name) printf(" hints_" #name " %" PRIu64, backend->hints.name);
 
 static void print_counters(const struct backend *backend)
 {
@@ -16,6 +17,7 @@ static void print_counters(const struct backend *backend)
     printf("target %" PRIu32 " actual %" PRIu32 " status %u held_kib %" PRIu64 " end %" PRIu64, device->target,
            device->actual, device->status, memory_held(&backend->memory), device->settings.memory_end / BALLOON_PAGE);
     COUNTERS(PRINT_COUNTER)
+    HINT_COUNTERS(PRINT_HINTS)
     putchar('\n');
 }
 

@@ -13,7 +13,6 @@ void counters_add(struct counters *counters, const struct balloon_result *result
     counters->kept += result->kept;
     counters->marked += result->marked;
     counters->unmarked += result->unmarked;
-    counters->hints_late += result->late;
 }
 
 uint64_t counters_taken(uint32_t before, uint32_t after, uint32_t target)

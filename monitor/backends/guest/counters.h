@@ -8,13 +8,20 @@
     COUNT(messages) COUNT(kicks) COUNT(interrupts) COUNT(told) \
     COUNT(chains) COUNT(pages) COUNT(discarded) COUNT(waiting) COUNT(skipped) COUNT(in_holes) COUNT(kept) \
     COUNT(marked) COUNT(unmarked) \
-    COUNT(inflated) COUNT(deflated) COUNT(reported) COUNT(reports) COUNT(statistics) COUNT(taken) \
-    COUNT(hints_rounds) COUNT(hints_pages) COUNT(hints_late)
+    COUNT(inflated) COUNT(deflated) COUNT(reported) COUNT(reports) COUNT(statistics) COUNT(taken)
 
 #define COUNTER_FIELD(name) uint64_t name;
 
 struct counters {
     COUNTERS(COUNTER_FIELD)
+};
+
+/* What it counts of free page hints, each with `hints_` before its name in that line. Of the guest of a host there are none: these are in no
+ * message to a lender. */
+#define HINT_COUNTERS(COUNT) COUNT(rounds) COUNT(pages) COUNT(late)
+
+struct hint_counters {
+    HINT_COUNTERS(COUNTER_FIELD)
 };
 
 struct balloon_result;

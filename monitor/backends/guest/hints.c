@@ -11,7 +11,7 @@ static void begin(struct backend *backend)
         printf("error: a round is answered %" PRIu32 "\n", code);
         return;
     }
-    backend->counters.hints_rounds++;
+    backend->hints.rounds++;
     backend_tell_change(backend);
     printf("round %" PRIu32 "\n", id);
 }

@@ -13,7 +13,7 @@
 
 /* A program goes on with what another one has kept in the same layout. Memory of a guest may end at page MOST_SET, 64 GiB, as there is a set
  * of its pages. A count of bytes begins at COUNT_BEGINS, and goes down. */
-enum { KEPT_LAYOUT = 2, MOST_SET = 1 << 24, COUNT_BEGINS = 1 << 30 };
+enum { KEPT_LAYOUT = 1, MOST_SET = 1 << 24, COUNT_BEGINS = 1 << 30 };
 
 struct kept_region {
     struct region_place place;

@@ -8,8 +8,8 @@ from linux_runs import LEFT_FREE, REPORT_LIMIT, Run, audit, fill_memory, finish,
 # The driver hints blocks of 4 MiB: MiB of what is free that may lie in no whole block, or that it leaves to its kernel.
 UNHINTED = 32
 
-# MiB of a hog, at most; rounds that end amid, and the longest rest before an end, in seconds.
-HOG, AMID, MOST_REST = 150, 8, 0.1
+# MiB of a hog, at least, and of the guests that have room for it; rounds that end amid, and the longest rest before an end, in seconds.
+HOG, ROOMY, AMID, MOST_REST = 150, (320, 384), 8, 0.1
 
 # Without reports, which give the same memory back.
 WITHOUT_REPORTS = ("--features", "100000007", "--hints", "--discard-hints")
@@ -31,15 +31,22 @@ def becomes(machine, what, condition):
 
 
 def has_free(machine, mib):
-    """Whether the guest has so many MiB free, and how many it has."""
+    """Whether the guest has at least this many MiB free, and how many it has."""
     free = machine.guest.memory_mib()[1]
     return free >= mib, f"{free:.0f} MiB are free of {mib:.0f}"
 
 
 def holds(machine, most):
-    """Whether the host holds at most so many MiB, and how many it holds."""
+    """Whether the host holds at most this many MiB, and how many it holds."""
     held = machine.guest.held_mib()
     return held <= most, f"the host holds {held:.0f} MiB, and at most {most:.0f} are wanted: {machine.backend.counters()}"
+
+
+def hinted(machine):
+    """Demands that pages were hinted; returns words about them."""
+    counters = machine.backend.counters()
+    demand(counters["hints_pages"] > 0, f"nothing was hinted: {counters}")
+    return f"{counters['hints_rounds']} rounds, {counters['hints_pages']} pages hinted, {counters['hints_late']} late"
 
 
 def fill_and_free(machine):
@@ -54,7 +61,7 @@ def hints_run(machine, _):
     kept, said = keep(machine, "keep", machine.memory // 6), []
     for number in range(2):
         filled, free = fill_and_free(machine)
-        demand(filled >= HOG * machine.memory // 256 - LEFT_FREE, f"the guest has only {filled} MiB to fill")
+        demand(filled >= HOG, f"the guest has only {filled} MiB to fill")
         before = machine.guest.held_mib()
         demand(order(machine, "start") == f"round {number + 2}", "a round has another's id")
         becomes(machine, "hinted memory doesn't come back", lambda free=free: holds(machine, machine.memory - free + UNHINTED))
@@ -66,10 +73,9 @@ def hints_run(machine, _):
     machine.guest.do(f"hog {filled}")
     machine.guest.do("free")
     kept += keep(machine, "more", filled - LEFT_FREE)
-    counters = machine.backend.counters()
-    demand(counters["hints_rounds"] == 2 and counters["hints_late"] == 0 and counters["hints_pages"] > 0, f"hints are counted so: {counters}")
+    demand(machine.backend.counters()["hints_rounds"] == 2, "rounds aren't counted")
     finish(machine, kept)
-    return f"{'; '.join(said)}; {counters['hints_pages']} pages hinted"
+    return f"{'; '.join(said)}; {hinted(machine)}"
 
 
 def amid_run(machine, chance):
@@ -88,14 +94,12 @@ def amid_run(machine, chance):
             machine.guest.do("free")
         audit(machine)
     kept += keep(machine, "more", filled - LEFT_FREE)
-    counters = machine.backend.counters()
-    demand(counters["hints_pages"] > 0, f"nothing was hinted: {counters}")
     finish(machine, kept)
-    return f"{counters['hints_rounds']} rounds, {counters['hints_pages']} pages hinted, {counters['hints_late']} late"
+    return hinted(machine)
 
 
 HINT_RUNS = {
-    "hints": Run(hints_run, backend_words=WITHOUT_REPORTS),
+    "hints": Run(hints_run, sizes=ROOMY, backend_words=WITHOUT_REPORTS),
     # With reports, whose queue is the fifth one.
     "amid": Run(amid_run, guest={"queues": 5}, backend_words=("--hints", "--discard-hints")),
 }
