@@ -1,22 +1,22 @@
 -- Chains of hints, worked out: ids, pages in a round and late ones, and what isn't told.
-use Rattle.std.proofs.Common.{◌≡◌, refl, arith, ap, sym, ◌∙◌, ℕ, Bool, true, false, List, [], ◌∷◌, ◌++◌, map, Option, Some, None, Result, Ok, Err}
+use Rattle.std.proofs.Common.{◌≡◌, refl, arith, ap, sym, ◌∙◌, ℕ, Bool, true, false, List, [], ◌∷◌, map, Some, None, Ok, Err}
 use Rattle.vb_chain.specs.declared.{pieces.Piece.Piece, fault.ChainFault.TheVariants.{BadLength, WrongDirection}}
 use Rattle.vb_core.specs.declared.kinds.Kind.TheVariants.{Inflate, Deflate, Statistics, Hint, Report}
-use Rattle.vb_core.specs.declared.{device.Device.Device, device.Denial.TheVariants.Broken, hints.Round.Round, runs.Run.Run, name.Named.Named}
+use Rattle.vb_core.specs.declared.{device.Device.Device, device.Denial.TheVariants.Broken, hints.Round.Round, name.Named.Named}
 use Rattle.vb_core.specs.{Devices.{with_one_taken, needing_reset}, Report.NamesPiecesBy}
 use Rattle.vb_core.specs.Hints.{Begins, Reads, is_open, are_next, round_after_all}
 use Rattle.vb_core.proofs.HintLemmas.{heard_is_open}
-use Rattle.vb_monitor.specs.declared.{outcome.Outcome.Outcome, outcome.Tally.Tally}
-use Rattle.vb_monitor.specs.Accesses.{Access, CopyBytes, Acquire, Release, Full, TellPages, TellId}
-use Rattle.vb_monitor.specs.{Ends.Whole, Giving.{Then, after_use, with_given}, Notices.Serves}
-use Rattle.vb_monitor.specs.Chains.{id_of, id_length, has_id, after_id, told_if, tells_pages, AfterBytes, ServesPieces}
+use Rattle.vb_monitor.specs.declared.{outcome.Outcome.Outcome}
+use Rattle.vb_monitor.specs.Accesses.{Access, Acquire, Release, Full, TellPages, TellId}
+use Rattle.vb_monitor.specs.{Giving.{Then}}
+use Rattle.vb_monitor.specs.Chains.{id_of, id_length, has_id, after_id, told_if, tells_pages, ServesPieces}
 use Rattle.vb_monitor.specs.SoFar.{Each, Unknown, Walks, Has, hears, round_so_far}
 use Rattle.vb_monitor.specs.Turns.{TellsOf, IdOf, TellsInTurn, HintsInRound}
 use Rattle.vb_monitor.specs.{declared.room.Room.Room, declared.step.Phase.TheVariants.TellsId, Machine.Does}
 use Rattle.vb_monitor.specs.Rounds.{events_of, events_before, HintsHeard}
-use Rattle.vb_monitor.proofs.{AheadFacts.{over, ends}, TurnLaws.{in_order, tells_in_turn, hints_in_round}}
-use Rattle.vb_monitor.proofs.Samples.{Same, two, at, ready, tally, piece, page_5, one_page, number, told_id, budget, outcome}
-use Rattle.vb_monitor.proofs.Samples.{index, entry, descriptor, last_descriptor, part, pages, discard, id, used_length, used_index, flags, given, flags_are_read}
+use Rattle.vb_monitor.proofs.{AheadFacts.{over, ends}}
+use Rattle.vb_monitor.proofs.Samples.{Same, two, ready, tally, piece, page_5, one_page, number, told_id}
+use Rattle.vb_monitor.proofs.Samples.{index, entry, descriptor, part, pages, discard, id, used_index}
 
 -- ---- ids: 4 bytes, and no others (VIRTIO 1.2, 5.5.6.6)
 

@@ -11,7 +11,7 @@ use Rattle.vb_monitor.specs.Giving.{Then, is_kept, kept_pages, cuts_for, with_gi
 use Rattle.vb_monitor.{specs.Turns.{TellsInTurn, IsNext}, proofs.TurnLaws.tells_in_turn, proofs.TurnLaws.in_order}
 use Rattle.vb_monitor.proofs.Samples.{two, at, ready, tally, page_5, one_page, pages, discard, id, used_length, used_index}
 use Rattle.vb_monitor.proofs.Samples.{flags_are_read, index, entry, descriptor, part, number, last_descriptor, flags, given, budget, outcome}
-use Rattle.vb_monitor.proofs.WholeFacts.{taken, used, names_5}
+use Rattle.vb_monitor.proofs.WholeFacts.{used, names_5}
 
 -- ---- what is kept
 

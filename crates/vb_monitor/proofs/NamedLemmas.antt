@@ -3,13 +3,13 @@ use Rattle.std.proofs.Common.{◌≡◌, ◌∙◌, ap, sym, subst, refl, ℕ, L
 use Rattle.std.proofs.Common.{◌+◌, length, map, take, Option, Some, None, Result, Ok, Err}
 use Rattle.vb_chain.{specs.declared.pieces.Piece.Piece, specs.declared.fault.ChainFault.ChainFault}
 use Rattle.vb_request.{specs.Request.numbers_of, specs.Report.report_request}
-use Rattle.vb_core.specs.{Devices.{ring_of, with_one_taken}, Name.{NamesNumbersBy, NamesRuns, fault_in}}
+use Rattle.vb_core.specs.{Devices.{with_one_taken}, Name.{NamesNumbersBy, NamesRuns, fault_in}}
 use Rattle.vb_core.specs.{Name.{name_denial, after_chain, after_numbers, told}, Report.NamesPiecesBy}
 use Rattle.vb_core.specs.Report.{pieces_denial, named_by, report_named, run_of}
 use Rattle.vb_core.specs.{Settings.{memory_pages, skips}, declared.device.Denial.Denial}
 use Rattle.vb_core.specs.declared.device.{Denial.TheVariants.NoQueue, Device.Device}
 use Rattle.vb_core.specs.declared.{kinds.Kind.Kind, kinds.Kind.TheVariants.Report, name.Named.Named}
-use Rattle.vb_core.specs.declared.{ring.Virtqueue.Virtqueue, runs.Run.Run}
+use Rattle.vb_core.specs.declared.{runs.Run.Run}
 use Rattle.vb_monitor.specs.{Giving.after_last, Turns.{TellNumbers, TellPieces, TellHint}}
 use Rattle.vb_monitor.specs.Chains.{told_if}
 use Rattle.vb_monitor.proofs.TurnEnds.{IsLike, flawed_like, taken_like}

@@ -2,10 +2,10 @@
 use Rattle.std.proofs.Common.{◌≡◌, ◌∙◌, ap, sym, refl, arith, ℕ, ◌+◌, ◌<◌, true, List, [], ◌∷◌}
 use Rattle.std.proofs.Common.{◌++◌, length, map, take, slice_set, Option, Some, None}
 use Rattle.std.proofs.lemmas.List.{append_assoc, map-append, take_more_set}
-use Rattle.vb_core.{specs.declared.device.Device.Device, specs.declared.runs.Run.Run}
-use Rattle.vb_monitor.specs.{Accesses.{Access, Discard}, Ends.Whole, Machine.{stage, waits}}
+use Rattle.vb_core.{specs.declared.runs.Run.Run}
+use Rattle.vb_monitor.specs.{Accesses.{Access, Discard}, Machine.{stage, waits}}
 use Rattle.vb_monitor.specs.{Orders.cuts_left, declared.cuts.Cut.Cut, declared.cuts.NextCut.NextCut}
-use Rattle.vb_monitor.specs.declared.{outcome.Tally.Tally, regions.Region.Region, step.Phase.Phase}
+use Rattle.vb_monitor.specs.declared.{regions.Region.Region, step.Phase.Phase}
 use Rattle.vb_monitor.specs.declared.step.Phase.TheVariants.{AwaitsIndex, AwaitsEntry}
 use Rattle.vb_monitor.specs.declared.step.Phase.TheVariants.{AwaitsDescriptor, AwaitsPart}
 use Rattle.vb_monitor.specs.declared.step.Phase.TheVariants.{TellsPages, TellsFigures, TellsId, Discards}

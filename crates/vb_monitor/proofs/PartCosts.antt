@@ -1,11 +1,11 @@
 -- How many parts the pieces of a chain have, and how many portions these make.
 use Rattle.std.proofs.Common.{◌≡◌, ◌∙◌, ap, sym, subst, refl, arith, ℕ, zero, suc, ◌+◌, ◌-◌, ◌*◌, ◌/◌}
-use Rattle.std.proofs.Common.{◌<◌, ◌≤◌, Bool, true, false, List, [], ◌∷◌, ◌++◌, length, Result, Ok, Err}
+use Rattle.std.proofs.Common.{◌<◌, ◌≤◌, Bool, true, false, List, [], ◌∷◌, ◌++◌, length, Ok, Err}
 use Rattle.std.specs.Prelude.{◌==◌, ◌%◌, if◌then◌else◌, not, fold, min}
-use Rattle.std.proofs.{Common.{inl, inr, ◌⊎◌}, lemmas.Bool.cases_lt}
+use Rattle.std.proofs.{Common.{inl, inr}, lemmas.Bool.cases_lt}
 use Rattle.std.{specs.List.list_any, proofs.lemmas.Bool.Decides.nat_tests}
 use Rattle.std.proofs.lemmas.List.{length-append}
-use Rattle.vb_chain.specs.declared.{pieces.Piece.Piece, fault.ChainFault.ChainFault}
+use Rattle.vb_chain.specs.declared.{pieces.Piece.Piece}
 use Rattle.vb_chain.specs.declared.fault.ChainFault.TheVariants.{WrongDirection, BadLength}
 use Rattle.vb_request.specs.{Request.total_length, Statistics.{statistics_length, is_statistics_length}}
 use Rattle.vb_monitor.specs.declared.{parts.Part.Part, room.TheConstants.MAX_BYTES}

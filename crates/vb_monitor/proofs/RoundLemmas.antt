@@ -1,12 +1,12 @@
 -- A device's round over notices: what accesses make of it is what came to it in vb_core's words.
-use Rattle.std.proofs.Common.{◌≡◌, ◌≢◌, ◌∙◌, ◌⊎◌, inl, inr, ap, sym, subst, refl, ℕ, Bool, true, false}
+use Rattle.std.proofs.Common.{◌≡◌, ◌∙◌, ◌⊎◌, inl, inr, ap, sym, subst, refl, ℕ, Bool, true, false}
 use Rattle.std.proofs.Common.{List, [], ◌∷◌, ◌++◌, Option, Some, None}
-use Rattle.std.proofs.lemmas.List.{append_assoc, append-nil}
+use Rattle.std.proofs.lemmas.List.{append-nil}
 use Rattle.vb_core.specs.declared.{kinds.Kind.Kind, device.Device.Device, device.Denial.Denial}
 use Rattle.vb_core.specs.declared.kinds.Kind.TheVariants.{Inflate, Deflate, Statistics, Hint, Report}
 use Rattle.vb_core.specs.declared.{hints.Round.Round, ring.Virtqueue.Virtqueue}
 use Rattle.vb_core.specs.{Rings.used_entry, Using.use_denial, Devices.ring_of}
-use Rattle.vb_core.specs.Hints.{RoundEvent, Begins, Stops, Ends, Resets, Reads, no_round, is_open, heard}
+use Rattle.vb_core.specs.Hints.{RoundEvent, no_round, is_open}
 use Rattle.vb_core.specs.Hints.{round_after, round_after_all, IsHeard}
 use Rattle.vb_core.proofs.HintLemmas.{was_heard}
 use Rattle.vb_monitor.specs.Accesses.{Access, ReadWord, CopyBytes, Acquire, Release, Full}

@@ -2,7 +2,7 @@
 use Rattle.std.proofs.Common.{◌≡◌, ◌≢◌, ◌∙◌, ap, sym, subst, refl, arith, ℕ, zero, suc, ◌+◌, ◌-◌}
 use Rattle.std.proofs.Common.{◌<◌, ◌≤◌, Bool, true, false, List, [], ◌∷◌, ◌++◌, length, Option, Some}
 use Rattle.std.{proofs.Common.{None, Result, Ok}, specs.Prelude.◌==◌}
-use Rattle.std.{specs.List.flat_map, proofs.lemmas.List.{append_assoc, append-nil, length-append}}
+use Rattle.std.{proofs.lemmas.List.{append_assoc, append-nil, length-append}}
 use Rattle.std.proofs.lemmas.{List.Concat.flat_map-append, Bool.Decides.nat_tests}
 use Rattle.std.proofs.lemmas.List.FromFn.{length-map-range_with_len}
 use Rattle.vb_chain.{specs.declared.pieces.Piece.Piece, specs.declared.fault.ChainFault.ChainFault}

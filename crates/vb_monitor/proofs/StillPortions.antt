@@ -11,7 +11,7 @@ use Rattle.vb_monitor.specs.declared.{parts.Part.Part, regions.Spot.Spot, outcom
 use Rattle.vb_monitor.specs.{declared.room.TheConstants.MAX_BYTES, Regions.spot, Accesses.Access}
 use Rattle.vb_monitor.specs.{Accesses.CopyBytes, Ends.Whole}
 use Rattle.vb_monitor.specs.Pieces.{next_part, parts_of, parts_on, all_parts, PartAt}
-use Rattle.vb_monitor.specs.Portions.{is_full, CopiesPart, CopiesParts, CopiesFurther, ServesPortion}
+use Rattle.vb_monitor.specs.Portions.{CopiesPart, CopiesParts, CopiesFurther, ServesPortion}
 use Rattle.vb_monitor.specs.Chains.{ServesBytes, ServesPieces, CopiesBy}
 use Rattle.vb_monitor.specs.{Giving.Then, Machine.{next_chain, serves, served}}
 use Rattle.vb_monitor.specs.Still.{ArePartsMapped, Holds, is_read, length_of}

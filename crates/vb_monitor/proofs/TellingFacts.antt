@@ -3,7 +3,7 @@ use Rattle.std.proofs.Common.{◌≡◌, ◌∙◌, ◌<◌, refl, ap, arith, �
 use Rattle.std.specs.Prelude.{slice_index_or}
 use Rattle.vb_chain.specs.declared.{pieces.Piece.Piece, fault.ChainFault.ChainFault}
 use Rattle.vb_request.specs.{Request.numbers_of, Report.report_request}
-use Rattle.vb_core.specs.declared.kinds.Kind.TheVariants.{Inflate, Deflate, Statistics, Hint, Report}
+use Rattle.vb_core.specs.declared.kinds.Kind.TheVariants.{Inflate, Deflate, Statistics, Report}
 use Rattle.vb_core.specs.declared.{runs.Run.Run, name.Named.Named, settings.Settings.Settings}
 use Rattle.vb_core.specs.{declared.statistics.Statistic.Statistic, Runs.Tell, Statistics.figure_at}
 use Rattle.vb_core.proofs.OneTelling.{told_once}

@@ -5,7 +5,7 @@ use Rattle.std.proofs.Common.{◌≡◌, ◌∙◌, ap, sym, subst, refl, arith,
 use Rattle.std.proofs.Common.{false, List, [], ◌∷◌, length, Option, Some, None, rules}
 use Rattle.vb_chain.{specs.declared.fault.ChainFault.ChainFault}
 use Rattle.vb_core.{specs.declared.kinds.Kind.Kind, specs.Rings.{with_taken, with_used}}
-use Rattle.vb_monitor.specs.{Giving.is_kept, declared.cuts.Cut.Cut}
+use Rattle.vb_monitor.specs.{Giving.is_kept}
 use Rattle.vb_core.{specs.declared.runs.Run.Run, specs.declared.name.Named.Named}
 use Rattle.vb_core.specs.declared.kinds.Kind.TheVariants.{Inflate, Deflate, Statistics, Hint, Report}
 use Rattle.vb_core.{specs.declared.ring.Virtqueue.Virtqueue, specs.declared.device.Device.Device}

@@ -1,37 +1,33 @@
 -- What each access of a notice is, by those before it, and how many there are: what the bytes of a
 -- chain's last portion come to.
-use Rattle.std.{specs.Prelude.{◌||◌, ◌==◌, if◌then◌else◌}, proofs.lemmas.{List.length-append, Bool.Decides.nat_tests}}
-use Rattle.std.proofs.Common.{◌≡◌, ◌∙◌, ap, sym, subst, refl, arith, ℕ, suc, ◌+◌, ◌*◌, ◌/◌, ◌≤◌, Bool}
+use Rattle.std.{specs.Prelude.{◌||◌}}
+use Rattle.std.proofs.Common.{◌≡◌, ◌∙◌, ap, sym, subst, refl, arith, ℕ, ◌+◌, ◌/◌, Bool}
 use Rattle.std.proofs.Common.{true, false, List}
-use Rattle.std.proofs.Common.{[], ◌∷◌, ◌++◌, length, take, Option, Some, None, Result, Ok, Err}
+use Rattle.std.proofs.Common.{[], ◌∷◌, length, take, Option, Some, None, Result, Ok, Err}
 use Rattle.vb_virtio.specs.declared.layout.TheConstants.{STATISTIC_SIZE}
 use Rattle.vb_virtio.specs.declared.limits.TheConstants.{MAX_REQUEST_PAGES}
-use Rattle.vb_chain.specs.declared.{pieces.Piece.Piece, fault.ChainFault.ChainFault}
-use Rattle.vb_request.{specs.Statistics.statistics_length}
+use Rattle.vb_chain.specs.declared.{pieces.Piece.Piece}
 use Rattle.vb_core.specs.declared.kinds.Kind.TheVariants.{Inflate, Deflate, Statistics, Hint, Report}
 use Rattle.vb_core.specs.{Devices.{ring_of, with_one_taken}, declared.device.Denial.Denial}
 use Rattle.vb_core.specs.{declared.device.Device.Device, Statistics.statistics_denial}
 use Rattle.vb_core.specs.declared.{name.Named.Named, kinds.Kind.Kind, runs.Run.Run}
-use Rattle.vb_core.specs.{Report.NamesPiecesBy, Name.NamesNumbersBy}
+use Rattle.vb_core.specs.{Name.NamesNumbersBy}
 use Rattle.vb_monitor.specs.Chains.{FiguresBy, AfterBytes, NamesBytes, id_of, IdBy, after_id}
 use Rattle.vb_core.specs.{Hints.{is_open, heard}, declared.hints.Round.Round, Rings.with_taken}
 use Rattle.vb_core.specs.{Config.keeps_free, Using.use_denial, declared.ring.Virtqueue.Virtqueue}
 use Rattle.vb_monitor.specs.SoFar.{Known, Has, known, earlier}
 use Rattle.vb_monitor.specs.Order.{is_copied, is_read, is_told}
-use Rattle.vb_monitor.proofs.TurnEnds.{newest, Goes, one_more, asked, more_room, Stands, Agrees, one_copied}
+use Rattle.vb_monitor.proofs.TurnEnds.{newest, Goes, one_more, asked, Stands, Agrees}
 use Rattle.vb_monitor.proofs.TurnEnds.{flags_of, like_flags, IsLike, ends_go, ends_say, breaks_go, moves}
 use Rattle.vb_monitor.proofs.{TurnLemmas.{After, gives_by, tells_go}, NamedLemmas.names_like}
-use Rattle.vb_monitor.proofs.PartCosts.{tells_in, cost, further_cost, request_cost, statistics_cost}
 use Rattle.vb_monitor.proofs.NamedLemmas.{named_numbers, no_report}
 use Rattle.vb_monitor.specs.Accesses.{Access, TellFigures, TellId}
-use Rattle.vb_monitor.specs.Portions.{CopiesParts, CopiesPart, AfterPortion, ServesPortion, TellsPortion, is_full}
-use Rattle.vb_monitor.specs.{Turns.CopiesNext, Chains.{ServesBytes, request_length_within}}
 use Rattle.vb_monitor.specs.{Turns.{TellNamed, TellNumbers, FiguresOf, IdOf}, Giving.Then}
 use Rattle.vb_monitor.specs.Giving.{AfterName, after_last, TellsThen, spent, more_told, held_if, with_held, with_named}
 use Rattle.vb_monitor.specs.Holding.{HoldsChain}
 use Rattle.vb_core.specs.{Settings.holds_chains, declared.settings.Settings.Settings}
-use Rattle.vb_monitor.specs.declared.{room.TheConstants.{MAX_FIGURES, MAX_BYTES}, parts.Part.Part}
-use Rattle.vb_monitor.specs.{declared.regions.Spot.Spot, declared.outcome.Tally.Tally, Ends.Whole}
+use Rattle.vb_monitor.specs.declared.{room.TheConstants.{MAX_FIGURES}, parts.Part.Part}
+use Rattle.vb_monitor.specs.{declared.outcome.Tally.Tally, Ends.Whole}
 
 -- after bytes of a chain's pieces, of which these parts are left
 pub record Reads (w : Whole) (d0 d : Device) (t : Tally) (head : ℕ) (pieces : List Piece)

@@ -1,37 +1,34 @@
 -- What each access of a notice is, by those before it, and how many there are: from a chain's
 -- pieces to what their bytes come to.
 use Rattle.std.{specs.Prelude.{◌||◌, ◌==◌, if◌then◌else◌}, proofs.lemmas.{List.length-append, Bool.Decides.nat_tests}}
-use Rattle.std.proofs.Common.{◌≡◌, ◌∙◌, ap, sym, subst, refl, arith, ℕ, suc, ◌+◌, ◌*◌, ◌/◌, ◌≤◌, Bool}
+use Rattle.std.proofs.Common.{◌≡◌, ◌∙◌, ap, sym, subst, refl, arith, ℕ, suc, ◌+◌, ◌*◌, ◌≤◌, Bool}
 use Rattle.std.proofs.Common.{true, false, List}
 use Rattle.std.proofs.Common.{[], ◌∷◌, ◌++◌, length, take, Option, Some, None, Result, Ok, Err}
-use Rattle.vb_virtio.specs.declared.layout.TheConstants.{STATISTIC_SIZE}
 use Rattle.vb_virtio.specs.declared.limits.TheConstants.{MAX_REQUEST_PAGES}
 use Rattle.vb_chain.specs.declared.{pieces.Piece.Piece, fault.ChainFault.ChainFault}
 use Rattle.vb_request.{specs.Statistics.statistics_length}
 use Rattle.vb_core.specs.declared.kinds.Kind.TheVariants.{Inflate, Deflate, Statistics, Hint, Report}
 use Rattle.vb_core.specs.{Devices.{ring_of, with_one_taken}, declared.device.Denial.Denial}
-use Rattle.vb_core.specs.{declared.device.Device.Device, Statistics.statistics_denial}
+use Rattle.vb_core.specs.{declared.device.Device.Device}
 use Rattle.vb_core.specs.declared.{name.Named.Named, kinds.Kind.Kind, runs.Run.Run}
 use Rattle.vb_core.specs.{Report.NamesPiecesBy, Name.NamesNumbersBy}
 use Rattle.vb_monitor.specs.Chains.{CopiesBy, ServesPieces, ServesHint, NamesReport, has_id, id_length}
 use Rattle.vb_monitor.specs.Chains.{told_if, tells_pages}
 use Rattle.vb_core.specs.Hints.{is_open}
-use Rattle.vb_monitor.specs.SoFar.{Known, Has, known, ring_after, parts_read, parts_of_hint, with_copied}
-use Rattle.vb_monitor.specs.Order.{is_copied, is_read, is_told}
-use Rattle.vb_monitor.proofs.TurnEnds.{newest, Goes, one_more, asked, more_room, Stands, Agrees, one_copied}
+use Rattle.vb_monitor.specs.SoFar.{Known, ring_after, parts_read, parts_of_hint, with_copied}
+use Rattle.vb_monitor.specs.Order.{is_read, is_told}
+use Rattle.vb_monitor.proofs.TurnEnds.{newest, Goes, one_more, asked, more_room, one_copied}
 use Rattle.vb_monitor.proofs.TurnEnds.{copy_comes, flags_of, like_flags, IsLike, ends_go, breaks_go}
 use Rattle.vb_monitor.proofs.TurnNames.{Reads, Copied, Right, right_of, bytes_go, names_go}
-use Rattle.vb_monitor.proofs.{TurnLemmas.{After, Discarded, tells_go, portion_go}, NamedLemmas.names_like}
+use Rattle.vb_monitor.proofs.{TurnLemmas.{After, portion_go}, NamedLemmas.names_like}
 use Rattle.vb_monitor.proofs.PartCosts.{tells_in, cost, further_cost, request_cost, statistics_cost, id_cost}
 use Rattle.vb_monitor.proofs.NamedLemmas.{pieces_like, named_numbers, named_pieces}
-use Rattle.vb_monitor.specs.{Accesses.{Access, CopyBytes, TellFigures}, Pieces.{PartAt, all_parts}}
+use Rattle.vb_monitor.specs.{Accesses.{Access, CopyBytes}, Pieces.{PartAt, all_parts}}
 use Rattle.vb_monitor.specs.Portions.{CopiesParts, CopiesPart, AfterPortion, ServesPortion, TellsPortion, is_full}
 use Rattle.vb_monitor.specs.{Turns.CopiesNext, Chains.{ServesBytes, request_length_within}}
 use Rattle.vb_monitor.specs.{Turns.{TellNamed, TellHint, TellNumbers}, Regions.spot, Giving.Then}
-use Rattle.vb_monitor.specs.Giving.{AfterName, after_last, TellsThen, spent, more_told, held_if, with_held, with_named}
-use Rattle.vb_monitor.specs.Holding.{HoldsChain}
-use Rattle.vb_core.specs.{Settings.holds_chains, declared.settings.Settings.Settings}
-use Rattle.vb_monitor.specs.declared.{room.TheConstants.{MAX_FIGURES, MAX_BYTES}, parts.Part.Part}
+use Rattle.vb_monitor.specs.Giving.{AfterName, after_last, spent, more_told}
+use Rattle.vb_monitor.specs.declared.{room.TheConstants.{MAX_BYTES}, parts.Part.Part}
 use Rattle.vb_monitor.specs.{declared.regions.Spot.Spot, declared.outcome.Tally.Tally, Ends.Whole}
 
 -- ---- parts

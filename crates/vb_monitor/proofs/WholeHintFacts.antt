@@ -1,7 +1,7 @@
 -- Whole notices of hints, worked out: an id is told, and page 5 is hinted, in its round or late.
-use Rattle.std.proofs.Common.{◌≡◌, refl, ap, arith, ℕ, true, false, List, [], ◌∷◌, Ok}
+use Rattle.std.proofs.Common.{◌≡◌, refl, ℕ, true, false, List, [], ◌∷◌, Ok}
 use Rattle.vb_chain.specs.declared.pieces.Piece.{Piece}
-use Rattle.vb_core.specs.declared.{kinds.Kind.TheVariants.Hint, device.Device.Device, hints.Round.Round, name.Named.Named}
+use Rattle.vb_core.specs.declared.{kinds.Kind.TheVariants.Hint, device.Device.Device, name.Named.Named}
 use Rattle.vb_core.specs.{Devices.with_one_taken, Report.NamesPiecesBy}
 use Rattle.vb_monitor.specs.declared.outcome.Outcome.{Outcome}
 use Rattle.vb_monitor.specs.Accesses.{Access, CopyBytes, Acquire, Full, TellPages}

@@ -1,9 +1,8 @@
 -- What is done at once, since none of it needs an answer.
-use Rattle.std.specs.Prelude.{◌≡◌, ℕ, ◌≤◌, Bool, true, false, List, [], ◌∷◌, ◌++◌, map, take}
+use Rattle.std.specs.Prelude.{◌≡◌, ◌≤◌, Bool, true, false, List, [], ◌∷◌, ◌++◌, map, take}
 use Rattle.std.specs.Prelude.{Option, Some, None}
 use Rattle.vb_core.specs.declared.kinds.Kind.{Kind}
 use Rattle.vb_core.specs.declared.runs.Run.{Run}
-use Rattle.vb_core.specs.declared.name.Named.{Named}
 use Rattle.vb_core.specs.declared.statistics.Statistic.{Statistic}
 use Rattle.vb_monitor.specs.declared.room.TheConstants.{MAX_RUNS, MAX_FIGURES}
 use Rattle.vb_monitor.specs.declared.orders.TheConstants.{MAX_CUTS}

@@ -1,6 +1,6 @@
 -- What notices are to a device's rounds of free page hints over its whole life (VIRTIO 1.2,
 -- 5.5.6.6).
-use Rattle.std.specs.Prelude.{◌≡◌, ◌≢◌, ℕ, false, List, [], ◌∷◌, ◌++◌}
+use Rattle.std.specs.Prelude.{◌≡◌, ◌≢◌, false, List, [], ◌∷◌, ◌++◌}
 use Rattle.vb_core.specs.declared.kinds.Kind.{Kind}
 use Rattle.vb_core.specs.declared.kinds.Kind.TheVariants.{Inflate, Deflate, Statistics, Hint}
 use Rattle.vb_core.specs.declared.kinds.Kind.TheVariants.{Report}

@@ -208,8 +208,8 @@ IsNext cut (next ∷ others) = cut ≡ next
 
 -- Pages, figures and ids are told of what was copied, and of pages that were told those parts are
 -- discarded that may be, in their order; all of them before anything else is copied or told, and
--- before an element is written. Where a notice keeps all pages none is, and none is of a report or a
--- hint whose pages the device keeps.
+-- before an element is written. Where a notice keeps all pages none is, and none is of a report or
+-- a hint whose pages the device keeps.
 abbrev pub TellsInTurn : List Region → Kind → Bool → Device → List Access → Access → Type 0
 TellsInTurn regions kind all d before (TellPages of runs named) =
     (of ≡ kind) ×

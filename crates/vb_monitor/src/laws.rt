@@ -107,9 +107,9 @@ pub fn what_counts_is_read_once()
 /// weren't told yet, or the pieces of a report, or of a hint in a round that is open: of bytes once
 /// all of the chain was read, or a whole portion of 1,024 of them. Only parts of pages that were
 /// told are discarded, each once and in order, and all of them before more is copied or told, and
-/// before the chain's used element is written. None of a deflate's is, nor of a report's or a hint's
-/// where the device keeps the free pages of that kind (VIRTIO 1.1, 5.5.6; 1.2, 5.5.4), and none at
-/// all where the notice keeps all pages.
+/// before the chain's used element is written. None of a deflate's is, nor of a report's or a
+/// hint's where the device keeps the free pages of that kind (VIRTIO 1.1, 5.5.6; 1.2, 5.5.4), and
+/// none at all where the notice keeps all pages.
 #[tactic(auto, using(crate::proofs::TurnLaws::tells_in_turn))]
 pub fn only_named_pages_are_discarded()
     ensures { (regions : List Region) (kind : Kind) (budget : Budget) (d1 d2 : Device)

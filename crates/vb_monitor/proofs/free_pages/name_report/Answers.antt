@@ -1,7 +1,4 @@
-use Rattle.std.proofs.Common.{◌≡◌, ◌∙◌, ap, sym, subst, arith, Result, Ok}
-use Rattle.vb_core.specs.declared.{name.Named.Named, device.Denial.Denial}
-use Rattle.vb_monitor.specs.{Accesses.Access, Giving.AfterName, Machine.{whole, next_chain}, Steps.tally_of}
-use Rattle.vb_monitor.specs.Chains.{told_if}
+use Rattle.std.proofs.Common.{arith}
 use Rattle.vb_monitor.proofs.{CopyLemmas.few_pieces, RoomLemmas.few_reported}
 use Rattle.vb_monitor.proofs.free_pages.name_report.Goals as goal
 
