@@ -186,6 +186,15 @@ empty_so (x ∷ xs) e = absurd (let few = ltb-false 0 (length (x ∷ xs)) e in o
 
 -- ---- the tie
 
+-- a queue that a device of the model has is left out by the same features
+lacks_so : (kind : Kind) (features : ℕ) → has_chains (queue_of kind) ≡ true →
+    lacks features kind ≡ lacks_feature features (queue_of kind)
+lacks_so Inflate features known = refl
+lacks_so Deflate features known = refl
+lacks_so Statistics features known = refl
+lacks_so Hint features known = absurd cc
+lacks_so Report features known = refl
+
 -- a device is alike whose ring is the one of the registers, whatever the kind
 pub ring_same : (kind : Kind) (r : QueueRegisters) (q n : ℕ) → ring_of kind (device_for r q n) ≡ ring_for r q
 ring_same Inflate r q n = refl
@@ -213,15 +222,6 @@ no_poison false = refl
 
 low_ring_page : (size q : ℕ) → ring_page size q < 65536
 low_ring_page size q = grind arith
-
--- of a queue that a guest of a script may have, both tests of its feature are one
-left_out_so : (kind : Kind) (features : ℕ) → has_chains (queue_of kind) ≡ true →
-    lacks features kind ≡ lacks_feature features (queue_of kind)
-left_out_so Inflate features known = refl
-left_out_so Deflate features known = refl
-left_out_so Statistics features known = refl
-left_out_so Hint features known = absurd cc
-left_out_so Report features known = refl
 
 pub tie_so : (kind : Kind) (r : QueueRegisters) (p : Part) (s : Store) → IsSize r.queue_size →
     IsBacked s.mem (layout_of (ring_page r.queue_size (queue_of kind)) r.queue_size) → s.loose ≡ [] →
@@ -270,7 +270,7 @@ tie_so kind r p s size backed none_loose few avail used has lie free =
           (settings_so r.queue_size (length s.mem) few)
           (ap (λ (n : ℕ). is_not_ready n) (sym has.status) ∙ ready)
           (ap (λ (n : ℕ). has_fault n) (sym has.status) ∙ right)
-          (left_out_so kind d.features known
+          (lacks_so kind d.features known
           ∙ (ap (λ (n : ℕ). lacks_feature n q) (sym has.features) ∙ there))
           (ap (λ (x : Virtqueue). has_place (4096 * length s.mem) x) (ring_same kind r q (length s.mem))
           ∙ place_of r q s.mem size backed);
