@@ -91,6 +91,10 @@ a_notice = refl
 of_no_kind : notice_of (record notice { kind = 5 }) ≡ None
 of_no_kind = refl
 
+at_an_id : notice_of (record notice { step = record (notice.step) { phase = 10 } }) ≡ None
+unfolding phase_of
+at_an_id = refl
+
 at_no_phase : notice_of (record notice { step = record (notice.step) { phase = 7 } }) ≡ None
 unfolding phase_of
 at_no_phase = refl

@@ -10,7 +10,7 @@ use Rattle.vb_monitor.specs.declared.{outcome.Outcome.Outcome, outcome.Tally.Tal
 use Rattle.vb_monitor.specs.Accesses.{Access, CopyBytes, Acquire, Release, Full, TellPages, TellId}
 use Rattle.vb_monitor.specs.{Ends.Whole, Giving.{Then, after_use, with_given}, Notices.Serves}
 use Rattle.vb_monitor.specs.Chains.{id_of, id_length, has_id, after_id, told_if, tells_pages, AfterBytes, ServesPieces}
-use Rattle.vb_monitor.specs.SoFar.{Unknown, Walks, Has, hears, round_so_far}
+use Rattle.vb_monitor.specs.SoFar.{Each, Unknown, Walks, Has, hears, round_so_far}
 use Rattle.vb_monitor.specs.Turns.{TellsOf, IdOf, TellsInTurn, HintsInRound}
 use Rattle.vb_monitor.specs.{declared.room.Room.Room, declared.step.Phase.TheVariants.TellsId, Machine.Does}
 use Rattle.vb_monitor.specs.Rounds.{events_of, events_before, HintsHeard}
@@ -57,6 +57,26 @@ five_bytes o d h = h.device
 
 an_id_and_pages : Refused (piece ∷ to_write ∷ [])
 an_id_and_pages o d h = h.device
+
+-- pages of which one is the device's to read
+pages_to_read : NamesPiecesBy Hint (to_write ∷ piece ∷ []) 256 [] ready (needing_reset ready) (Err (Broken WrongDirection))
+unfolding lib.Count.ones
+pages_to_read = record {
+  denied = λ why e. absurd cc;
+  answer = λ e. refl;
+  device = λ e. refl;
+  runs_are = λ ok. absurd cc;
+}
+
+pages_break : ServesPieces Hint (over Hint (needing_reset ready) (ends tally (Some (Broken WrongDirection)) false false)) stop
+    ready tally 3 (to_write ∷ piece ∷ []) []
+pages_break = record {
+  answer = Err (Broken WrongDirection);
+  runs = [];
+  device = needing_reset ready;
+  names = pages_to_read;
+  goes_on = record { nothing = refl; device = refl; outcome = refl };
+}
 
 -- ---- what a device's round becomes
 
@@ -135,14 +155,14 @@ told_so = refl
 another : IdOf (Has 3 (piece ∷ []) [] number) 6 → ⊥
 another h = let e : Same 5 6 = cc in omega arith
 
-unread : (id : ℕ) → IdOf (Walks 3 3 []) id → ⊥
-unread id h = h
+unread : (n : ℕ) → IdOf (Walks 3 3 []) n → ⊥
+unread n h = h
 
-unknown : (id : ℕ) → IdOf Unknown id → ⊥
-unknown id h = h
+unknown : (n : ℕ) → IdOf Unknown n → ⊥
+unknown n h = h
 
-of_three_bytes : (id : ℕ) → IdOf (Has 3 (piece ∷ []) [] (5 ∷ 0 ∷ 0 ∷ [])) id → ⊥
-of_three_bytes id h = absurd cc
+of_three_bytes : (n : ℕ) → IdOf (Has 3 (piece ∷ []) [] (5 ∷ 0 ∷ 0 ∷ [])) n → ⊥
+of_three_bytes n h = absurd cc
 
 -- the id is told that was read
 abbrev room : Room
@@ -195,6 +215,13 @@ after_stop h = let e = h refl in absurd cc
 
 with_no_round : Wrong ready (TellId 0 ∷ [])
 with_no_round h = let e = h refl in absurd cc
+
+-- within one notice: its id, pages, the driver's STOP, and pages that are late
+stopped_amid : Each (HintsInRound showing_5) [] (told_id ∷ hint ∷ TellId 0 ∷ hint_late ∷ [])
+stopped_amid = (tt, (in_round, (tt, (λ e. refl, tt))))
+
+told_past_stop : Each (HintsInRound showing_5) [] (told_id ∷ TellId 0 ∷ hint ∷ []) → ⊥
+told_past_stop h = let e = h.1.1.0 refl in absurd cc
 
 reports_in_none : HintsInRound ready [] (TellPages Report (page_5 ∷ []) one_page)
 reports_in_none = tt

@@ -65,6 +65,7 @@ pub mod LargeLaws
 mod LargeFacts
 mod LargeWaitFacts
 mod WholeReportFacts
+mod WholeHintFacts
 mod KeepsFacts
 pub mod RoomLemmas
 pub mod OpenLemmas

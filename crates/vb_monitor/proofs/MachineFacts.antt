@@ -72,7 +72,7 @@ as_it_ended = refl
 -- what is left of a chain, over two regions: 515 once its pages are named, and 516 times as much as
 -- bytes are left and one before that
 left_of_each : map (left_of two) phases ≡
-    2 ∷ 567347999933705 ∷ 567347999933704 ∷ 567347999931384 ∷ 515 ∷ 2 ∷ 2 ∷ 514 ∷ 2 ∷ 1 ∷ 0 ∷ []
+    2 ∷ 567347999933705 ∷ 567347999933704 ∷ 567347999931384 ∷ 515 ∷ 2 ∷ 3 ∷ 514 ∷ 2 ∷ 1 ∷ 0 ∷ []
 unfolding parts_left copies_left
 left_of_each = refl
 

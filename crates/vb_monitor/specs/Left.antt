@@ -57,7 +57,7 @@ left_of regions (Ended why interrupt more) = 0
 left_of regions (AwaitsFlags at why more) = 1
 left_of regions (AwaitsIndex at) = 2
 left_of regions (TellsFigures head count) = 2
-left_of regions (TellsId head id) = 2
+left_of regions (TellsId head id) = 3
 left_of regions (GivesBack spots entry) = 2
 left_of regions (Discards cut x) =
     3 + parts_left (length regions) x.run x.from

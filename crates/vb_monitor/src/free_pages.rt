@@ -106,7 +106,7 @@ pub(crate) fn hear_id(
         (tally_of step.old) place.head log }
     ensures fits { Fits (phase_of step.new) }
     ensures left { left regions.now (step_of step.new) ≤
-        of_chains regions.now (tally_of step.old).chains + 2 }
+        of_chains regions.now (tally_of step.old).chains + 3 }
 {
     match id_of(first_bytes(&room.bytes, into)) {
         None => fail(step, device, regions, kind, ChainFault::BadLength),
