@@ -245,10 +245,26 @@ def test_memory_that_grows_waits(two):
     grows = Later(lambda: client.accepted(ADD_MEM_REG, client.region_body(1), client.files[1:]))
     assert grows.waits()
     lender.become("c", waits="room", lent=64)
-    b.give(GIVEN[:64])
+    b.give(GIVEN[:10])
+    lender.become("b", ballooned=10, lent=118)
+    # A deflate is before it.
+    a.take(GIVEN[:10])
+    used(a, DEFLATE, 1)
+    lender.become("a", waits="nothing", ballooned=54, lent=74)
+    b.give(GIVEN[10:74])
     grows.ends()
     lender.become("c", pages=128, lent=128, waits="nothing")
     client.leave()
+
+
+def begin_anew(guest):
+    """A guest's driver begins anew, which may have to wait."""
+    guest.ended.set(), guest.join()
+    for number in range(4):
+        assert guest.client.enable(number, 0) == bytes(8)
+    for number in range(4):
+        guest.client.place(number)
+    return Later(lambda: [guest.client.enable(number) for number in range(4)])
 
 
 def test_a_new_life_waits_for_what_was_in_the_balloon(two):
@@ -256,18 +272,67 @@ def test_a_new_life_waits_for_what_was_in_the_balloon(two):
     a.give(GIVEN[:50])
     lender.become("a", ballooned=50, lent=78)
     lender.demand("budget 0")
-    a.ended.set(), a.join()
-    client = a.client
-    for number in range(4):
-        assert client.enable(number, 0) == bytes(8)
-    for number in range(4):
-        client.place(number)
-    begins = Later(lambda: [client.enable(number) for number in range(4)])
+    begins = begin_anew(a)
     assert begins.waits(), (begins.fault, lender.guests()["a"], lender.said())
     lender.become("a", waits="reset", ballooned=50, lent=78)
     lender.demand("budget 1")
     begins.ends()
     lender.become("a", waits="nothing", ballooned=0, lent=128)
+
+
+@pytest.fixture
+def given(two):
+    """The same, whose guests have given 50 and 60 pages; and what sets the budget to these pages."""
+    lender, (a, b) = two
+    a.give(GIVEN[:50]), b.give(GIVEN[:60])
+    lender.become("a", ballooned=50, lent=78), lender.become("b", ballooned=60, lent=68)
+    with Connection(f"{lender.folder}/.control") as it:
+        yield lender, a, b, lambda pages: it.ask("budget", bytes=pages * PAGE)
+
+
+def test_a_deflate_passes_a_new_life(given):
+    """A driver in a deflate can give no pages, for which the new life of another guest waits: so the deflate comes first, where there is room for
+    it."""
+    lender, a, b, set_budget = given
+    set_budget(160)  # 146 are lent
+    begins = begin_anew(a)
+    lender.become("a", waits="reset", lent=78)
+    b.take(GIVEN[:10])
+    used(b, DEFLATE, 1)
+    lender.become("b", waits="nothing", ballooned=50, lent=78)
+    assert begins.waits() and (waits_of(lender, "a"), lent(lender)) == ("reset", 156)
+    b.give(GIVEN[60:105])
+    lender.become("b", ballooned=95, lent=33)
+    assert begins.waits()  # a page is missing
+    b.give(GIVEN[105:106])
+    begins.ends()
+    lender.become("a", waits="nothing", ballooned=0, lent=128)
+    assert lent(lender) == 160
+
+
+def test_who_waits_for_pages_that_nobody_can_give_is_named_once(given):
+    """There is no room for the deflate either: each waits for the other, and only a larger budget helps, or the end of one."""
+    lender, a, b, set_budget = given
+    set_budget(150)  # 146 are lent
+    begins = begin_anew(a)
+    lender.become("a", waits="reset")
+    b.take(GIVEN[:10])
+    lender.become("b", waits="deflate")
+    said = [f"{it}: all guests together can't give 56 of those that are missing" for it in ("50 pages (reset)", "10 pages (deflate)")]
+
+    def named():
+        return [it for it in lender.said() if "seconds for" in it]
+
+    eventually(lambda: len(named()) == 2, lender.said)
+    assert sorted(named()) == [f"{name}: has waited 10 seconds for {it}" for name, it in zip("ab", said)]
+    set_budget(155), time.sleep(1)
+    assert len(named()) == 2 and b.client.used(DEFLATE)[0] == 0
+    set_budget(156)
+    used(b, DEFLATE, 1)
+    assert begins.waits()
+    b.leave()
+    begins.ends()
+    assert lent(lender) == 128
 
 
 def test_the_next_lender_grants_what_waits(two, lend):
