@@ -208,35 +208,32 @@ static bool holds_too_much(const struct seat *seat)
     return seat_is_ready(seat) && seat_reports(seat) && !loan_of(seat)->uncounted && loan_excess(seat) > seat->terms.overhead;
 }
 
+/* Whether it has waited for long, while the guests can't give what is missing. */
+static bool waits_in_vain(const struct seat *seat)
+{
+    bool is_long = seat->waits_for != WAITS_FOR_NOTHING && loop_now() - seat->waits_since >= LONG_WAIT;
+    return is_long && seat->host->missing > 0 && loan_of(seat)->asked > 0;
+}
+
+/* It waits in vain: it is named, once for each wait. */
+static void name_wait(struct seat *seat)
+{
+    if (seat->wait_named)
+        return;
+    seat->wait_named = true;
+    complain("has waited %d seconds for %" PRIu32 " pages (%s): all guests together can't give %" PRIu64 " of those that are missing",
+             LONG_WAIT / 1000, loan_of(seat)->asked, guest_wait_word(seat->waits_for), seat->host->missing);
+}
+
 void loans_audit(struct host *host)
 {
     for (unsigned i = 0; i < host->count; i++) {
         struct seat *seat = host->seats[i];
-        if (!holds_too_much(seat))
-            continue;
         speaker_begins(&seat->speaker);
-        name_taker(seat, loan_excess(seat) - seat->terms.overhead);
-        speaker_ends();
-    }
-}
-
-/* Whether it has waited for long, while the guests can't give what is missing, and wasn't named for that yet. */
-static bool waits_in_vain(const struct seat *seat)
-{
-    bool is_long = seat->waits_for != WAITS_FOR_NOTHING && loop_now() - seat->waits_since >= LONG_WAIT;
-    return is_long && seat->host->missing > 0 && loan_of(seat)->asked > 0 && !seat->wait_named;
-}
-
-void loans_name_waits(struct host *host)
-{
-    for (unsigned i = 0; i < host->count; i++) {
-        struct seat *seat = host->seats[i];
-        if (!waits_in_vain(seat))
-            continue;
-        seat->wait_named = true;
-        speaker_begins(&seat->speaker);
-        complain("has waited %d seconds for %" PRIu32 " pages (%s): all guests together can't give %" PRIu64 " of those that are missing",
-                 LONG_WAIT / 1000, loan_of(seat)->asked, guest_wait_word(seat->waits_for), host->missing);
+        if (holds_too_much(seat))
+            name_taker(seat, loan_excess(seat) - seat->terms.overhead);
+        if (waits_in_vain(seat))
+            name_wait(seat);
         speaker_ends();
     }
 }

@@ -41,7 +41,6 @@ static void look(struct host *host)
     loans_audit(host);
     policy_decide(host);
     loans_grant(host);
-    loans_name_waits(host);
     for (unsigned i = 0; i < host->leaving_count; i++)
         seat_leave(host->leaving[i]);
     for (unsigned i = 0; i < host->count; i++) {
