@@ -4,8 +4,8 @@
  * room; nobody within a line is overtaken. Where resets and newcomers wait in the second line, a deflate of a few pages passes them: its
  * guest can inflate only once it is granted, and so make room for them. What is lent to a guest is a number for the kernel to enforce.
  * The caller keeps a VbLoan for each guest, in an array, and the number of its frames; a guest is its place in the array. Zeros are a
- * place without a guest. The library keeps nothing. Any numbers may be passed, also in a VbLoan: each call answers, and a loan that calls alone write stays
- * sound, lent + ballooned >= pages >= lent + asked. All numbers but turns count pages.
+ * place without a guest. The library keeps nothing. Any numbers may be passed, also in a VbLoan: each call answers, and a loan that
+ * calls alone write stays sound, lent + ballooned >= pages >= lent + asked. All numbers but turns count pages.
  *
  * The order of effects is the host's part. The kernel's limit is lowered once pages went, and raised before they may come:
  *
