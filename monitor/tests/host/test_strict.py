@@ -113,7 +113,7 @@ def test_a_deflate_of_no_page_needs_no_grant(two):
     lender.become("a", waits="deflate", ballooned=50, lent=78)
     lender.demand("budget 1")
     used(a, DEFLATE, 3)
-    lender.become("a", waits="nothing", ballooned=40, lent=88)
+    lender.become("a", waits="nothing", ballooned=40)
 
 
 def test_what_was_lent_ahead_stays_for_a_moment(two):
