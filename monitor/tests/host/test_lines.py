@@ -21,10 +21,11 @@ def given(lend, come):
 
 
 def begin_anew(guest):
-    """A guest's driver begins anew, which may have to wait."""
+    """A guest's driver ends, to which nothing is lent ahead then though its target falls, and begins anew, which may have to wait."""
     guest.ended.set(), guest.join()
     for number in range(4):
         assert guest.client.enable(number, 0) == bytes(8)
+    guest.lender.become(guest.name_of, ready=0, target=0)
     for number in range(4):
         guest.client.place(number)
     return Later(lambda: [guest.client.enable(number) for number in range(4)])
@@ -66,7 +67,7 @@ def test_who_waits_for_pages_that_nobody_can_give_is_named_once(given):
     lender, a, b, set_budget = given
     set_budget(150)  # 146 are lent
     begins = begin_anew(a)
-    lender.become("a", waits="reset")
+    lender.become("a", waits="reset", lent=78)
     b.take(GIVEN[:10])
     lender.become("b", waits="deflate")
     said = [f"{it}: all guests together can't give 56 of those that are missing" for it in ("50 pages (reset)", "10 pages (deflate)")]
