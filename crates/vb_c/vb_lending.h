@@ -1,10 +1,11 @@
 /* Bigvasta: a host that lends its frames to guests, and never more than it has. A part of the library of vb.h.
  *
  * A frame is lent when it may be taken, and not when it is. A deflate request, a reset and a newcomer wait in line until there is
- * room; nobody within a line is overtaken. What is lent to a guest is a number for the kernel to enforce. The caller keeps a VbLoan
- * for each guest, in an array, and the number of its frames; a guest is its place in the array. Zeros are a place without a guest.
- * The library keeps nothing. Any numbers may be passed, also in a VbLoan: each call answers, and a loan that calls alone write stays
- * sound, lent + ballooned >= pages >= lent + asked. All numbers but turns count pages.
+ * room; nobody within a line is overtaken. Where resets and newcomers wait in the second line, a deflate of a few pages passes them: its
+ * guest can inflate only once it is granted, and so make room for them. What is lent to a guest is a number for the kernel to enforce.
+ * The caller keeps a VbLoan for each guest, in an array, and the number of its frames; a guest is its place in the array. Zeros are a
+ * place without a guest. The library keeps nothing. Any numbers may be passed, also in a VbLoan: each call answers, and a loan that
+ * calls alone write stays sound, lent + ballooned >= pages >= lent + asked. All numbers but turns count pages.
  *
  * The order of effects is the host's part. The kernel's limit is lowered once pages went, and raised before they may come:
  *
@@ -115,9 +116,9 @@ uint32_t vb_loan_give(VbLoan *loans, size_t count, size_t guest, uint32_t pages)
 /* A deflate request for this many pages is pending: it asks for them, after all that wait in its line. Doesn't fit: no pages, more
  * than aren't lent to it, or it waits already. */
 uint32_t vb_loan_ask(VbLoan *loans, size_t count, size_t guest, uint32_t pages);
-/* A reset is pending, in place of all requests: it asks for all pages that aren't lent to it, after all that wait in its line; what
- * it asked for before is forgotten. Doesn't fit: all are lent to it, so that nothing has to wait. */
-uint32_t vb_loan_reset(VbLoan *loans, size_t count, size_t guest);
+/* A reset is pending, in place of all requests: it asks for all pages that aren't lent to it, in the line of this number and after all
+ * that wait there; what it asked for before is forgotten. Doesn't fit: all are lent to it, so that nothing has to wait. */
+uint32_t vb_loan_reset(VbLoan *loans, size_t count, size_t guest, uint16_t line);
 /* Pages are about to leave its balloon: ballooned - pages. Doesn't fit: fewer are in it, or not enough is lent to it: pages have to
  * be granted before they are taken. */
 uint32_t vb_loan_take(VbLoan *loans, size_t count, size_t guest, uint32_t pages);

@@ -255,7 +255,8 @@ WRONG = [
     ("a set of whole words alone", BALLOON, "(pages / 64 + u64::from(pages % 64 != 0))", "(pages / 64)"),
     ("a queue that starts in a hole", BALLOON, "raw::vb_start_queue(state, regions.as_ptr(), regions.len(), kind as u32, at)", "raw::vb_start_queue(state, [raw::Region { guest: 0, length: 1 << 40 * regions.len().min(1), in_file: 0 }].as_ptr(), 1, kind as u32, at)"),
     ("the index of a queue that stops forgotten", BALLOON, "                Ok(next)\n", "                Ok(next & 0)\n"),
-    ("a reset that asks for what is in the balloon", LENDING, "vb_loan_reset(loans.as_mut_ptr(), loans.len(), guest) == OK", "vb_loan_ask(loans.as_mut_ptr(), loans.len(), guest, loans[guest].ballooned) == OK"),
+    ("a reset that asks for what is in the balloon", LENDING, "vb_loan_reset(loans.as_mut_ptr(), loans.len(), guest, line as u16) == OK", "let _ = line; vb_loan_ask(loans.as_mut_ptr(), loans.len(), guest, loans[guest].ballooned) == OK"),
+    ("a reset that waits in the first line alone", LENDING, "vb_loan_reset(loans.as_mut_ptr(), loans.len(), guest, line as u16)", "vb_loan_reset(loans.as_mut_ptr(), loans.len(), guest, line as u16 & 0)"),
     ("a guest that isn't said to be granted", LENDING, "(said.code == OK).then_some(said.guest)", "(said.code == OK).then_some(0 * said.guest)"),
     ("targets that fall short taken for none", LENDING, "SHORT => Err(NoTargets::Short(said.missing)),", "SHORT => Ok(()),"),
 ]
