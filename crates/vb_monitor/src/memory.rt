@@ -35,8 +35,8 @@ pub trait LiveMemory {
         ensures { goes self.old Full self.new };
 
     /// These pages were given up (inflates), are requested back (deflates), or are free (reports
-    /// and hints). `named` says how many pages the runs have together, and how many of the request's
-    /// numbers were skipped, or of a hint's pages that came outside their round.
+    /// and hints). `named` says how many pages the runs have together, and how many of the
+    /// request's numbers were skipped, or of a hint's pages that came outside their round.
     fn tell_pages(&mut self, kind: Kind, runs: &[Run], named: Named)
         ensures { goes self.old (TellPages kind runs.now named) self.new };
 
