@@ -1,13 +1,15 @@
 -- Whole notices of hints, worked out: an id is told, and page 5 is hinted, in its round or late.
-use Rattle.std.proofs.Common.{◌≡◌, refl, ℕ, true, false, List, [], ◌∷◌, Ok}
+use Rattle.std.proofs.Common.{◌≡◌, refl, ap, arith, ℕ, true, false, List, [], ◌∷◌, ◌++◌, Ok}
 use Rattle.vb_chain.specs.declared.pieces.Piece.{Piece}
-use Rattle.vb_core.specs.declared.{kinds.Kind.TheVariants.Hint, device.Device.Device, name.Named.Named}
+use Rattle.vb_core.specs.declared.{kinds.Kind.TheVariants.Hint, device.Device.Device, hints.Round.Round, name.Named.Named}
 use Rattle.vb_core.specs.{Devices.with_one_taken, Report.NamesPiecesBy}
+use Rattle.vb_core.specs.Hints.{RoundEvent, Begins, Stops, Reads, no_round}
 use Rattle.vb_monitor.specs.declared.outcome.Outcome.{Outcome}
 use Rattle.vb_monitor.specs.Accesses.{Access, CopyBytes, Acquire, Full, TellPages}
 use Rattle.vb_monitor.specs.{Chains.after_id, Giving.after_use, Notices.Serves}
+use Rattle.vb_monitor.specs.Rounds.{Deed, Comes, Notices, IsLife, AreHeard}
 use Rattle.vb_monitor.proofs.TurnLaws.{tells_in_turn, in_order, hints_in_round}
-use Rattle.vb_monitor.proofs.Samples.{two, at, settings, ready, page_5, one_page, number, index, entry, descriptor, last_descriptor, part}
+use Rattle.vb_monitor.proofs.Samples.{Same, two, at, settings, ready, page_5, one_page, number, index, entry, descriptor, last_descriptor, part}
 use Rattle.vb_monitor.proofs.Samples.{told_id, discard, flags, given, budget, outcome, flags_are_read}
 
 -- rounds of id 5: shown, and open
@@ -191,3 +193,51 @@ discarded_although_kept (d, (o, h)) =
 id_untold : IsServed (of_round 0) (index ∷ Acquire ∷ entry ∷ descriptor ∷ part ∷ given) → ⊥
 id_untold (d, (o, h)) =
     let e : false ≡ true = (in_order two Hint budget (of_round 0) d o _ h).1.1.1.1.1.0 in absurd cc
+
+-- ---- a life: a round begins, its id is read, and page 5 is hinted
+
+abbrev id_log : List Access
+id_log = index ∷ Acquire ∷ entry ∷ descriptor ∷ part ∷ told_id ∷ given
+
+abbrev hint_log : List Access
+hint_log = index ∷ Acquire ∷ entry ∷ of_page_5 ∷ hint ∷ discard ∷ given
+
+abbrev hints : Deed
+hints = Notices two Hint budget (of_round 1) (after_use Hint (with_one_taken Hint (of_round 1))) outcome hint_log
+
+life : IsLife no_round (Comes (Begins 5) ∷ Notices two Hint budget (of_round 0) heard without_pages id_log ∷ hints ∷ [])
+life = (refl, (refl, id_heard, (refl, hinted, tt)))
+
+-- an id comes by a notice alone, and each notice finds the round as it was left
+id_by_itself : IsLife no_round (Comes (Reads 5) ∷ []) → ⊥
+id_by_itself h = let e = h.0 in absurd cc
+
+of_no_round : IsLife no_round (hints ∷ []) → ⊥
+of_no_round h = let e : Same 5 0 = ap (λ (r : Round). r.shown) h.0 in omega arith
+
+of_a_stopped_round : IsLife no_round (Comes (Begins 5) ∷ Notices two Hint budget (of_round 0) heard without_pages id_log
+    ∷ Comes Stops ∷ hints ∷ []) → ⊥
+of_a_stopped_round h = let e : Same 5 0 = ap (λ (r : Round). r.shown) h.1.2.1.0 in omega arith
+
+-- what was hinted was heard where its round began and its id was read, and not where neither came
+began_nowhere : (before rest : List RoundEvent) → [] ≡ before ++ (Begins 5 ∷ rest) → ⊥
+began_nowhere [] rest e = absurd cc
+began_nowhere (x ∷ xs) rest e = absurd cc
+
+unheard : AreHeard [] (hints ∷ []) → ⊥
+unheard h =
+    let of_it = h.0.1.1.1.1.0 (λ e. absurd cc) in
+    began_nowhere of_it.before (of_it.unheard ++ (Reads 5 ∷ of_it.since)) of_it.whole
+
+was_heard : AreHeard (Begins 5 ∷ Reads 5 ∷ []) (hints ∷ [])
+was_heard = (
+  (tt, (tt, (tt, (tt, (λ some. record {
+    before = [];
+    unheard = [];
+    since = [];
+    whole = refl;
+    only_ids = refl;
+    only_its_own = refl;
+  }, (tt, (tt, (tt, (tt, (tt, (tt, (tt, tt)))))))))))),
+  tt,
+)
