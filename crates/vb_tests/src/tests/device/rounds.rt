@@ -41,8 +41,8 @@ static CALLS: [(Call, u32, bool); 18] = [
     (Call::Id(0), 0, false),
 ];
 
-/// Makes a call; says whether it was refused.
-fn call(device: &mut Device, call: Call) -> bool {
+/// Makes a call; says whether it is refused.
+fn make_call(device: &mut Device, call: Call) -> bool {
     match call {
         Call::Begin => return device.begin_round().is_err(),
         Call::Stop => device.stop_round(),
@@ -62,7 +62,7 @@ fn shown(device: &Device) -> u32 {
 /// The number of the first call after which something else is there.
 fn first_other_call(device: &mut Device) -> Option<usize> {
     for (k, (made, id, open)) in CALLS.iter().enumerate() {
-        let refused = call(device, *made);
+        let refused = make_call(device, *made);
         if refused || shown(device) != *id || device.round.is_open() != *open {
             return Some(k);
         }
