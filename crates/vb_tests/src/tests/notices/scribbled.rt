@@ -137,13 +137,14 @@ impl<R: Abort> LiveMemory for Scribbled<'_, R> {
       FullFence,
       Pages,
       Figures,
+      Id,
       Discarded,
       NumberWritten,
       WordWritten,
     };
     ghost use Rattle.vb_monitor.specs.Accesses.{ReadWord, CopyBytes, Acquire, Release, Full};
-    ghost use Rattle.vb_monitor.specs.Accesses.{TellPages, TellFigures, Discard, WriteNumber};
-    ghost use Rattle.vb_monitor.specs.Accesses.{WriteWord};
+    ghost use Rattle.vb_monitor.specs.Accesses.{TellPages, TellFigures, TellId, Discard};
+    ghost use Rattle.vb_monitor.specs.Accesses.{WriteNumber, WriteWord};
     ghost use Rattle.std.specs.Prelude.{List};
     ghost use Rattle.vb_monitor.specs.Accesses.{Access};
 
@@ -158,6 +159,7 @@ impl<R: Abort> LiveMemory for Scribbled<'_, R> {
           | FullFence ↦ Full
           | Pages kind runs named ↦ TellPages kind runs.items named
           | Figures figures ↦ TellFigures figures.items
+          | Id id ↦ TellId id
           | Discarded cut ↦ Discard cut
           | NumberWritten at number ↦ WriteNumber at number
           | WordWritten at word ↦ WriteWord at word
