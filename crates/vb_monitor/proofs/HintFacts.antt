@@ -9,7 +9,8 @@ use Rattle.vb_core.proofs.HintLemmas.{heard_is_open}
 use Rattle.vb_monitor.specs.declared.{outcome.Outcome.Outcome}
 use Rattle.vb_monitor.specs.Accesses.{Access, Acquire, Release, Full, TellPages, TellId}
 use Rattle.vb_monitor.specs.{Giving.{Then}}
-use Rattle.vb_monitor.specs.Chains.{id_of, id_length, has_id, after_id, told_if, tells_pages, ServesPieces}
+use Rattle.vb_monitor.specs.Ends.{Whole}
+use Rattle.vb_monitor.specs.Chains.{id_of, id_length, has_id, after_id, told_if, tells_pages, ServesPieces, AfterBytes}
 use Rattle.vb_monitor.specs.SoFar.{Each, Unknown, Walks, Has, hears, round_so_far}
 use Rattle.vb_monitor.specs.Turns.{TellsOf, IdOf, TellsInTurn, HintsInRound}
 use Rattle.vb_monitor.specs.{declared.room.Room.Room, declared.step.Phase.TheVariants.TellsId, Machine.Does}
@@ -57,6 +58,14 @@ five_bytes o d h = h.device
 
 an_id_and_pages : Refused (piece ∷ to_write ∷ [])
 an_id_and_pages o d h = h.device
+
+-- so where bytes were copied: what isn't an id isn't told
+three_copied : AfterBytes Hint (over Hint (needing_reset ready) (ends tally (Some (Broken BadLength)) false false)) stop
+    ready tally 3 (5 ∷ 0 ∷ 0 ∷ []) []
+three_copied = record { nothing = refl; device = refl; outcome = refl }
+
+three_told : (w : Whole) (rest : List Access) → AfterBytes Hint w stop ready tally 3 (5 ∷ 0 ∷ 0 ∷ []) (told_id ∷ rest) → ⊥
+three_told w rest h = let e = h.nothing in absurd cc
 
 -- pages of which one is the device's to read
 pages_to_read : NamesPiecesBy Hint (to_write ∷ piece ∷ []) 256 [] ready (needing_reset ready) (Err (Broken WrongDirection))

@@ -3,7 +3,7 @@ use Rattle.std.proofs.Common.{◌≡◌, refl, ap, arith, ℕ, true, false, List
 use Rattle.vb_chain.specs.declared.pieces.Piece.{Piece}
 use Rattle.vb_core.specs.declared.{kinds.Kind.TheVariants.Hint, device.Device.Device, hints.Round.Round, name.Named.Named}
 use Rattle.vb_core.specs.{Devices.with_one_taken, Report.NamesPiecesBy}
-use Rattle.vb_core.specs.Hints.{RoundEvent, Begins, Stops, Reads, no_round}
+use Rattle.vb_core.specs.Hints.{RoundEvent, Begins, Stops, Reads, no_round, IsHeard}
 use Rattle.vb_monitor.specs.declared.outcome.Outcome.{Outcome}
 use Rattle.vb_monitor.specs.Accesses.{Access, CopyBytes, Acquire, Full, TellPages}
 use Rattle.vb_monitor.specs.{Chains.after_id, Giving.after_use, Notices.Serves}
@@ -229,15 +229,18 @@ unheard h =
     let of_it = h.0.1.1.1.1.0 (λ e. absurd cc) in
     began_nowhere of_it.before (of_it.unheard ++ (Reads 5 ∷ of_it.since)) of_it.whole
 
+heard_5 : IsHeard 5 (Begins 5 ∷ Reads 5 ∷ [])
+heard_5 = record {
+  before = [];
+  unheard = [];
+  since = [];
+  whole = refl;
+  only_ids = refl;
+  only_its_own = refl;
+}
+
 was_heard : AreHeard (Begins 5 ∷ Reads 5 ∷ []) (hints ∷ [])
 was_heard = (
-  (tt, (tt, (tt, (tt, (λ some. record {
-    before = [];
-    unheard = [];
-    since = [];
-    whole = refl;
-    only_ids = refl;
-    only_its_own = refl;
-  }, (tt, (tt, (tt, (tt, (tt, (tt, (tt, tt)))))))))))),
+  (tt, (tt, (tt, (tt, (λ some. heard_5, (tt, (tt, (tt, (tt, (tt, (tt, (tt, tt)))))))))))),
   tt,
 )
