@@ -1,3 +1,3 @@
 """A client of a host's control socket: what an operator sees of a host, and what they change (docs/CONTROL.md)."""
 
-__version__ = "0.2.0"
+__version__ = "0.3.0"

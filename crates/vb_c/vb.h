@@ -22,8 +22,8 @@ extern "C" {
 
 /* The version of this header. Until 1.0.0 the second number changes with each change that a caller may have to follow, else the
  * third one. vb_version says the library's: it has to be VB_VERSION_NUMBER, or to differ in the third number alone. */
-#define VB_VERSION "0.2.0"
-#define VB_VERSION_NUMBER 0x000200u     /* 65536 times the first number, 256 times the second, and the third */
+#define VB_VERSION "0.3.0"
+#define VB_VERSION_NUMBER 0x000300u     /* 65536 times the first number, 256 times the second, and the third */
 
 /* tools/list-codes: numbers, from here */
 enum {                          /* answers: `code` */
@@ -42,38 +42,40 @@ enum {                          /* answers: `code` */
     VB_BAD_SUM = 12,            /* the bytes aren't those that were saved */
     VB_IMPOSSIBLE = 13,         /* no calls lead to a device like that */
 };
-enum { VB_INFLATE = 0, VB_DEFLATE = 1, VB_STATISTICS = 2, VB_REPORT = 3, VB_NO_KIND = 4 };    /* kinds of queues */
+enum { VB_INFLATE = 0, VB_DEFLATE = 1, VB_STATISTICS = 2, VB_REPORT = 3, VB_HINT = 4, VB_NO_KIND = 5 };    /* kinds of queues */
 /* Rules of VB_BROKEN: 1 the head is no descriptor of the queue; 2 a next field names no descriptor of the queue; 3 the
  * chain is longer than the queue; 4 an indirect descriptor; 5 a piece has the wrong direction; 6 a buffer is out of
  * guest memory; 7 the available index has jumped; 8 a length that the queue doesn't take; 9 no such page; 10 a reserved
  * page. */
 enum { VB_MAX_QUEUE_SIZE = 1024, VB_MAX_PIECES = 256, VB_MAX_RUNS = 256, VB_MAX_BYTES = 1024, VB_MAX_FIGURES = 102,
-       VB_MAX_CUTS = 256, VB_LONGEST_REQUEST = 1048576, VB_STATE_BYTES = 200 };
+       VB_MAX_CUTS = 256, VB_LONGEST_REQUEST = 1048576, VB_STATE_BYTES = 240 };
 enum {                          /* what is to be done: `what` of a notice, in this order; other bits are the library's */
     VB_TELL_PAGES = 1,          /* the first `runs` of the room were given up, are requested back, or are free */
     VB_TELL_FIGURES = 2,        /* the first `figures` of the room are what the guest says */
-    VB_DISCARD = 4,             /* give the bytes of the first `cuts` of the room back to the machine */
-    VB_GIVE_BACK = 8,           /* write `id` to `id_at` and `used_length` to `length_at` (32 bits each), then a release
+    VB_TELL_ID = 4,             /* `hint_id` is the id that the driver sent with its hints */
+    VB_DISCARD = 8,             /* give the bytes of the first `cuts` of the room back to the machine */
+    VB_GIVE_BACK = 16,          /* write `id` to `id_at` and `used_length` to `length_at` (32 bits each), then a release
                                    fence, then `used_index` to `index_at` (16 bits, by one access) */
-    VB_ACQUIRE = 16,            /* an acquire fence */
-    VB_FULL_FENCE = 32,         /* a full fence */
-    VB_READ = 64,               /* read the word of 16 bits that is `at`, by one access: that is the answer */
-    VB_COPY = 128,              /* copy `length` bytes that are `at` to `bytes + into` of the room, each read once: one or
+    VB_ACQUIRE = 32,            /* an acquire fence */
+    VB_FULL_FENCE = 64,         /* a full fence */
+    VB_READ = 128,              /* read the word of 16 bits that is `at`, by one access: that is the answer */
+    VB_COPY = 256,              /* copy `length` bytes that are `at` to `bytes + into` of the room, each read once: one or
                                    up to 32 descriptors of a queue's table (16 bytes each), or bytes of a chain's piece */
 };
 enum { VB_LOOK = 1, VB_EMPTY = 2 };    /* what a write of the status asks for */
 /* tools/list-codes: numbers, to here */
-enum { VB_F_PAGE_POISON = 16 };    /* a feature: the driver says in poison_val what its free pages hold (VIRTIO 1.2, 5.5.3) */
+enum { VB_F_FREE_PAGE_HINT = 8, VB_F_PAGE_POISON = 16 };    /* features (VIRTIO 1.2, 5.5.3): poison_val says what free pages hold */
 
 typedef struct {
     uint64_t memory_end;        /* bytes: where guest memory ends, below 2^44; the last part of a page doesn't
                                    count. Holes below it are the caller's. */
-    uint64_t offered;           /* features: of bits 0, 1, 2, 4 (VB_F_PAGE_POISON), 5 and 32, with bit 32 (VERSION_1) */
+    uint64_t offered;           /* features: of bits 0 to 5 and 32, with bit 32 (VERSION_1) */
     uint32_t reserved_pages;    /* pages at the start that no request may name; none: 0 */
     uint8_t needs_must_tell;    /* unless 0: FEATURES_OK is refused without MUST_TELL_HOST */
     uint8_t skips_bad_pages;    /* unless 0: a page number past the end, or of a reserved page, is skipped and counted;
                                    0: it breaks rule 9 or 10, and then a Linux driver waits for ever */
     uint8_t holds_deflates;     /* unless 0: a deflate is held until vb_give_held. Set needs_must_tell too: no other driver waits */
+    uint8_t discards_hints;     /* unless 0: hinted pages are discarded once they were told, also what the driver wrote to them since */
 } VbSettings;
 
 typedef struct {
@@ -81,12 +83,16 @@ typedef struct {
     uint16_t size, next_avail, next_used;    /* size 0: it has no place */
 } VbQueue;
 
+/* Of rounds of hints: what free_page_hint_cmd_id shows, an id, STOP (0) or DONE (1); the id of the last round, or 0; and, unless 0, that
+ * the id that is shown was read since its round began, and nothing ended it. */
+typedef struct { uint32_t shown, last; uint8_t opened; } VbRound;
 typedef struct {
     VbSettings settings;
     uint64_t features;          /* what the driver negotiated */
     uint32_t target, actual;    /* num_pages and actual of the configuration space */
-    VbQueue inflate, deflate, statistics, report;
+    VbQueue inflate, deflate, statistics, hint, report;
     uint32_t poison;            /* poison_val of the configuration space */
+    VbRound round;
     uint8_t status;
 } VbDevice;
 
@@ -95,8 +101,6 @@ typedef struct { uint32_t first, count; } VbRun;                  /* pages first
 typedef struct { uint16_t tag; uint64_t value; } VbStatistic;
 
 typedef struct { uint32_t code; uint64_t pages; } VbMarked;
-typedef struct { uint32_t pages, spare; } VbNeed;                 /* a guest's pages, and how many it can spare */
-typedef struct { uint32_t code; uint64_t missing; } VbTargets;
 
 /* ---- notices over the memory of a running guest: types; the calls are below */
 
@@ -126,12 +130,13 @@ typedef struct { uint64_t table, avail, used; uint16_t size, next; } VbQueueStar
 typedef struct {
     uint32_t what;              /* 0: it has ended */
     uint32_t kind;              /* of its queue */
-    uint32_t runs;              /* VB_TELL_PAGES: runs, the pages in them, and numbers that were skipped */
+    uint32_t runs;              /* VB_TELL_PAGES: runs, the pages in them, and numbers (of VB_HINT: late pages) that were skipped */
     uint32_t pages, skipped;
     uint32_t figures;           /* VB_TELL_FIGURES */
     uint32_t cuts;              /* VB_DISCARD */
     uint32_t kept;              /* VB_TELL_PAGES: how many of the pages are kept: given up or free, and yet not discarded */
     uint32_t waits;             /* VB_TELL_PAGES: 1 where they wait for vb_give_held, as their chain is held once all of it is told; else 0 */
+    uint32_t hint_id;           /* VB_TELL_ID */
     VbSpot id_at, length_at, index_at;          /* VB_GIVE_BACK */
     uint32_t id, used_length;
     uint16_t used_index;
@@ -168,24 +173,24 @@ typedef struct {
 #define VB_AT(type, field, at) (offsetof(Vb##type, field) == (at))
 VB_ASSERT(VB_HAS(Settings, 24) && VB_AT(Settings, offered, 8) && VB_AT(Settings, reserved_pages, 16)
           && VB_AT(Settings, needs_must_tell, 20) && VB_AT(Settings, skips_bad_pages, 21)
-          && VB_AT(Settings, holds_deflates, 22) && VB_HAS(Queue, 32)
+          && VB_AT(Settings, holds_deflates, 22) && VB_AT(Settings, discards_hints, 23) && VB_HAS(Queue, 32)
           && VB_AT(Queue, avail, 8) && VB_AT(Queue, used, 16) && VB_AT(Queue, size, 24) && VB_AT(Queue, next_avail, 26)
           && VB_AT(Queue, next_used, 28) && VB_HAS(QueuePlace, 32) && VB_AT(QueuePlace, avail, 8)
           && VB_AT(QueuePlace, used, 16) && VB_AT(QueuePlace, size, 24) && VB_HAS(QueueStart, 32) && VB_AT(QueueStart, avail, 8) && VB_AT(QueueStart, used, 16)
-          && VB_AT(QueueStart, size, 24) && VB_AT(QueueStart, next, 26) && VB_HAS(Device, 176) && VB_AT(Device, settings, 0)
+          && VB_AT(QueueStart, size, 24) && VB_AT(QueueStart, next, 26) && VB_HAS(Round, 12) && VB_AT(Round, last, 4)
+          && VB_AT(Round, opened, 8) && VB_HAS(Device, 224) && VB_AT(Device, settings, 0)
           && VB_AT(Device, features, 24) && VB_AT(Device, target, 32) && VB_AT(Device, actual, 36) && VB_AT(Device, inflate, 40)
-          && VB_AT(Device, deflate, 72) && VB_AT(Device, statistics, 104) && VB_AT(Device, report, 136)
-          && VB_AT(Device, poison, 168) && VB_AT(Device, status, 172) && VB_HAS(Held, 12)
-          && VB_AT(Held, deflate, 4) && VB_AT(Held, pages, 8) && VB_HAS(Balloon, 192) && VB_AT(Balloon, held, 176));
+          && VB_AT(Device, deflate, 72) && VB_AT(Device, statistics, 104) && VB_AT(Device, hint, 136) && VB_AT(Device, report, 168)
+          && VB_AT(Device, poison, 200) && VB_AT(Device, round, 204) && VB_AT(Device, status, 216) && VB_HAS(Held, 12)
+          && VB_AT(Held, deflate, 4) && VB_AT(Held, pages, 8) && VB_HAS(Balloon, 240) && VB_AT(Balloon, held, 224));
 VB_ASSERT(VB_HAS(Piece, 16) && VB_AT(Piece, length, 8) && VB_AT(Piece, writable, 12) && VB_HAS(Run, 8) && VB_AT(Run, count, 4)
-          && VB_HAS(Statistic, 16) && VB_AT(Statistic, value, 8) && VB_HAS(Marked, 16) && VB_AT(Marked, pages, 8)
-          && VB_HAS(Need, 8) && VB_AT(Need, spare, 4) && VB_HAS(Targets, 16) && VB_AT(Targets, missing, 8));
+          && VB_HAS(Statistic, 16) && VB_AT(Statistic, value, 8) && VB_HAS(Marked, 16) && VB_AT(Marked, pages, 8));
 VB_ASSERT(VB_HAS(Region, 24) && VB_AT(Region, length, 8) && VB_AT(Region, in_file, 16) && VB_HAS(Spot, 16)
           && VB_AT(Spot, offset, 8) && VB_HAS(Cut, 32) && VB_AT(Cut, offset, 8) && VB_AT(Cut, in_file, 16)
           && VB_AT(Cut, length, 24) && VB_HAS(Large, 40) && VB_AT(Large, waiting, 32) && VB_HAS(Room, 16992)
           && VB_AT(Room, bytes, 4096) && VB_AT(Room, runs, 5120) && VB_AT(Room, figures, 7168) && VB_AT(Room, cuts, 8800)
           && VB_HAS(Notice, 328) && VB_AT(Notice, runs, 8) && VB_AT(Notice, figures, 20) && VB_AT(Notice, kept, 28)
-          && VB_AT(Notice, waits, 32) && VB_AT(Notice, id_at, 40) && VB_AT(Notice, id, 88) && VB_AT(Notice, used_index, 96)
+          && VB_AT(Notice, waits, 32) && VB_AT(Notice, hint_id, 36) && VB_AT(Notice, id_at, 40) && VB_AT(Notice, id, 88) && VB_AT(Notice, used_index, 96)
           && VB_AT(Notice, at, 104) && VB_AT(Notice, length, 120) && VB_AT(Notice, number, 128) && VB_AT(Notice, piece, 144)
           && VB_AT(Notice, done, 152) && VB_AT(Notice, in_file, 160) && VB_AT(Notice, code, 176) && VB_AT(Notice, chains_left, 196)
           && VB_AT(Notice, longest, 204) && VB_AT(Notice, given, 218) && VB_AT(Notice, phase, 221) && VB_AT(Notice, keeps, 222)
@@ -198,7 +203,7 @@ uint32_t vb_new(VbDevice *device, VbSettings settings);
 /* Sets the balloon's target to `pages` pages: send the driver a configuration change notification. */
 void vb_set_target(VbDevice *device, uint32_t pages);
 /* The driver writes the status register: 0 accepted (a write of 0 resets: features, actual, poison_val and all places
- * are gone), or, tested in this order, 1 clears a bit, 2 out of order, 5 VERSION_1 missing, 4 MUST_TELL_HOST missing;
+ * are gone, and STOP is shown), or, tested in this order, 1 clears a bit, 2 out of order, 5 VERSION_1 missing, 4 MUST_TELL_HOST missing;
  * then nothing is changed. At DRIVER_OK look at each queue once: Linux tells its first statistics buffer before. */
 uint32_t vb_write_status(VbDevice *device, uint8_t status);
 /* The driver writes its features (again: the last write counts): 0 accepted, 2 not at status 3, 3 not offered. */
@@ -211,15 +216,27 @@ uint32_t vb_kind_of(uint64_t features, uint32_t number);
  * part isn't aligned (16, 2, 4) or doesn't end within memory. A chain has at most VB_MAX_PIECES descriptors, however many
  * its queue has: a longer one is refused as longer than the queue (3). */
 uint32_t vb_place(VbDevice *device, uint32_t kind, uint64_t table, uint64_t avail, uint64_t used, uint16_t size);
-/* Reads or writes bytes of the configuration space (VIRTIO 1.1, 5.5.4), little-endian: num_pages at 0, actual at 4, and
- * poison_val at 12 where PAGE_POISON is offered (VIRTIO 1.2, 5.5.4). All other bytes read as 0. A write of any length at any
- * offset writes actual, and poison_val where that is offered, each where it covers all 4 of its bytes, as QEMU hands over all 16
- * for each field; all other bytes are ignored. VB_OK; or VB_BAD_ARGUMENT where it covers neither, and then nothing is changed. */
+/* Reads or writes bytes of the configuration space (VIRTIO 1.2, 5.5.4), little-endian: num_pages at 0, actual at 4,
+ * free_page_hint_cmd_id at 8 where FREE_PAGE_HINT is offered, and poison_val at 12 where PAGE_POISON is. All other bytes read as 0.
+ * A write of any length at any offset writes actual, and poison_val where that is offered, each where it covers all 4 of its bytes, as QEMU
+ * hands over all 16 for each field; other bytes are ignored. VB_OK; or VB_BAD_ARGUMENT where it covers neither: nothing is changed. */
 void vb_read_config(const VbDevice *device, uint32_t offset, uint8_t *out, size_t length);
 uint32_t vb_write_config(VbDevice *device, uint32_t offset, const uint8_t *bytes, size_t length);
 /* 1 where the pages of a report keep what is in them: the driver negotiated PAGE_POISON, and poison_val isn't 0. A notice
  * doesn't ask for such pages to be discarded, since they would read as zeros. Else 0. */
 uint32_t vb_keeps_reports(const VbDevice *device);
+
+/* ---- rounds of free page hints (VIRTIO 1.2, 5.5.6.6). After each of the first three calls, send the driver a configuration change
+ * notification. Pages that come while no round is open are told as skipped, and left alone. What the driver writes to a page overrides
+ * its hint, and it may write before the device sees that: Linux takes hinted pages back whenever its memory runs out. */
+/* Begins a round, in place of one that is on: `id` gets its id, 2 or up, and never that of the round before. VB_OK; or refused as is
+ * said at the end, and then nothing is changed, and `id` is 0. */
+uint32_t vb_begin_hints(VbDevice *device, uint32_t *id);
+/* Shows STOP, at any time: the driver hints no more, and keeps what it hinted free; or DONE, and it takes that back. */
+void vb_stop_hints(VbDevice *device);
+void vb_end_hints(VbDevice *device);
+/* 1 where a round is open: its id was read since it began, no other one was since, and nothing ended it. Else 0. */
+uint32_t vb_hints_open(const VbDevice *device);
 
 /* ---- notices over the memory of a running guest
  *
@@ -241,7 +258,9 @@ uint32_t vb_keeps_reports(const VbDevice *device);
  * small memory is; else rule 8. It is served in portions of 256 numbers: each is told (VB_TELL_PAGES), and its pages are discarded,
  * before the next one is copied. The chain is given back once, after its last portion. Where a later portion breaks a rule, the
  * earlier ones stay told and discarded, and the chain isn't given back.
- * With holds_deflates a notice of deflates ends with its first request, whose pages are told, and whose chain is held. */
+ * With holds_deflates a notice of deflates ends with its first request, whose pages are told, and whose chain is held.
+ * A chain of hints has an id, 4 bytes that the device reads (else rule 8), which is told (VB_TELL_ID); or pages as a report's, which
+ * in an open round are told, and discarded where the settings say discards_hints and a report's would be. */
 uint32_t vb_begin(VbNotice *notice, VbBalloon *balloon, const VbRegion *regions, size_t count, VbRoom *room,
                   uint32_t kind, uint32_t chains, uint32_t pages, uint32_t keeps);
 /* Gives the chain that is held back: new statistics are asked for (5.5.6.3), or a deflate is granted (5.5.6), whose pages leave
@@ -290,7 +309,8 @@ uint32_t vb_may_tell(const VbDevice *device);
 uint32_t vb_save(const VbDevice *device, VbHeld held, uint8_t *out, size_t room);
 /* Makes `device` and `held` those that were saved as these bytes. VB_OK, or, tested in this order, VB_BAD_LENGTH where
  * there are fewer than 16; VB_NOT_A_STATE; VB_OTHER_VERSION; VB_BAD_LENGTH; VB_BAD_SUM; VB_IMPOSSIBLE. Then nothing is
- * changed. What is restored is just what vb_save made of it; or the 191 bytes of version 2, whose devices hold no deflates. */
+ * changed. What is restored is just what vb_save made of it; or the 200 bytes of version 3, whose devices have no hints; or the 191
+ * bytes of version 2, whose devices hold no deflates either. */
 uint32_t vb_restore(VbDevice *device, VbHeld *held, const uint8_t *bytes, size_t length);
 
 /* The set of the pages in the balloon, for a monitor that wants to know them: words of its own, where page p is bit
@@ -317,29 +337,13 @@ uint64_t vb_count_ballooned(const uint64_t *set, size_t words);
 VbLarge vb_large_pages(const VbDevice *device, const VbRegion *region, uint64_t page_size, const VbCut *part,
                        const uint64_t *set, size_t words);
 
-/* For a host of several guests with fewer frames than they have pages: what to ask each of them for. vb_lending.h lends no more. */
-
-/* How many pages a guest can spare: those in the balloon, and the free ones above the floor (none where free_known is
- * 0: no statistics say so); at most its pages that aren't reserved. */
-uint32_t vb_spare(uint32_t pages, uint32_t ballooned, uint32_t free_pages, uint32_t free_known, uint32_t floor,
-                  uint32_t reserved);
-/* Puts a target for each guest into `targets`, in the order of the needs, so that this many frames suffice: what is missing is
- * given by the guests of most spare first, and of these by the first in order, by each at most its spare. However many guests
- * there are, it looks at each need at most 37 times. VB_OK; VB_BAD_ARGUMENT where room isn't count; VB_SHORT where all that they
- * can spare together is too little by `missing` pages (2^64 - 1 where it is more); then no target is changed. */
-VbTargets vb_targets(const VbNeed *needs, size_t count, uint32_t frames, uint32_t *targets, size_t room);
-/* 1 where targets that were set before no longer serve: there isn't one for each guest, or together they are less than
- * what is missing, or a guest is asked for more than it can spare. Else 0: they may stay, so that targets don't swing. */
-uint32_t vb_needs_targets(const uint32_t *old_targets, size_t old_count, const VbNeed *needs, size_t count,
-                          uint32_t frames);
-
 /* Refusals of the calls on a device or a balloon are tested in this order: VB_NO_QUEUE for a kind that the call isn't for,
  * VB_BAD_ARGUMENT, VB_NOT_READY, VB_NEEDS_RESET, VB_NO_QUEUE for a feature, VB_MISPLACED; then VB_BROKEN, VB_NOTHING or VB_OK. */
-
 #undef VB_ASSERT
 #undef VB_HAS
 #undef VB_AT
 #ifdef __cplusplus
 }
 #endif
+#include "vb_lending.h"    /* for a host of several guests: targets and loans */
 #endif

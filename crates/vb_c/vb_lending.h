@@ -1,10 +1,11 @@
 /* Bigvasta: a host that lends its frames to guests, and never more than it has. A part of the library of vb.h.
  *
  * A frame is lent when it may be taken, and not when it is. A deflate request, a reset and a newcomer wait in line until there is
- * room; nobody within a line is overtaken. What is lent to a guest is a number for the kernel to enforce. The caller keeps a VbLoan
- * for each guest, in an array, and the number of its frames; a guest is its place in the array. Zeros are a place without a guest.
- * The library keeps nothing. Any numbers may be passed, also in a VbLoan: each call answers, and a loan that calls alone write stays
- * sound, lent + ballooned >= pages >= lent + asked. All numbers but turns count pages.
+ * room; nobody within a line is overtaken. Where resets and newcomers wait in the second line, a deflate of a few pages passes them: its
+ * guest can inflate only once it is granted, and so make room for them. What is lent to a guest is a number for the kernel to enforce.
+ * The caller keeps a VbLoan for each guest, in an array, and the number of its frames; a guest is its place in the array. Zeros are a
+ * place without a guest. The library keeps nothing. Any numbers may be passed, also in a VbLoan: each call answers, and a loan that
+ * calls alone write stays sound, lent + ballooned >= pages >= lent + asked. All numbers but turns count pages.
  *
  * The order of effects is the host's part. The kernel's limit is lowered once pages went, and raised before they may come:
  *
@@ -35,6 +36,8 @@ typedef struct {
     uint16_t uncounted;         /* unless 0: its balloon doesn't count */
     uint16_t line;              /* 0: it waits in the first line; else in the second, which comes after the first */
 } VbLoan;
+typedef struct { uint32_t pages, spare; } VbNeed;                 /* a guest's pages, and how many it can spare */
+typedef struct { uint32_t code; uint64_t missing; } VbTargets;
 typedef struct { uint32_t code; size_t guest; } VbGrant;
 /* What the host has agreed with a guest: how many pages always stay to it, and its priority (those of a lower one give first). */
 typedef struct { uint32_t least, priority; } VbTerms;
@@ -72,6 +75,7 @@ typedef struct {
 VB_ASSERT(sizeof(VbLoan) == 32 && offsetof(VbLoan, ballooned) == 4 && offsetof(VbLoan, lent) == 8 && offsetof(VbLoan, asked) == 12
           && offsetof(VbLoan, turn) == 16 && offsetof(VbLoan, spare) == 24 && offsetof(VbLoan, uncounted) == 28
           && offsetof(VbLoan, line) == 30);
+VB_ASSERT(sizeof(VbNeed) == 8 && offsetof(VbNeed, spare) == 4 && sizeof(VbTargets) == 16 && offsetof(VbTargets, missing) == 8);
 VB_ASSERT(sizeof(VbGrant) == 16 && offsetof(VbGrant, guest) == 8);
 VB_ASSERT(sizeof(VbTerms) == 8 && offsetof(VbTerms, priority) == 4);
 VB_ASSERT(sizeof(VbHostGuest) == 72 && offsetof(VbHostGuest, pages) == 32 && offsetof(VbHostGuest, held) == 36
@@ -80,6 +84,22 @@ VB_ASSERT(sizeof(VbHostGuest) == 72 && offsetof(VbHostGuest, pages) == 32 && off
           && offsetof(VbHostGuest, least) == 56 && offsetof(VbHostGuest, most) == 60 && offsetof(VbHostGuest, priority) == 64);
 VB_ASSERT(sizeof(VbBudget) == 12 && offsetof(VbBudget, floor) == 4 && offsetof(VbBudget, slack) == 8);
 VB_ASSERT(sizeof(VbShare) == 12 && offsetof(VbShare, spare) == 4 && offsetof(VbShare, priority) == 8);
+
+/* What to ask guests for that have more pages than there are frames, by the caller's own numbers of each. */
+
+/* How many pages a guest can spare: those in the balloon, and the free ones above the floor (none where free_known is
+ * 0: no statistics say so); at most its pages that aren't reserved. */
+uint32_t vb_spare(uint32_t pages, uint32_t ballooned, uint32_t free_pages, uint32_t free_known, uint32_t floor,
+                  uint32_t reserved);
+/* Puts a target for each guest into `targets`, in the order of the needs, so that this many frames suffice: what is missing is
+ * given by the guests of most spare first, and of these by the first in order, by each at most its spare. However many guests
+ * there are, it looks at each need at most 37 times. VB_OK; VB_BAD_ARGUMENT where room isn't count; VB_SHORT where all that they
+ * can spare together is too little by `missing` pages (2^64 - 1 where it is more); then no target is changed. */
+VbTargets vb_targets(const VbNeed *needs, size_t count, uint32_t frames, uint32_t *targets, size_t room);
+/* 1 where targets that were set before no longer serve: there isn't one for each guest, or together they are less than
+ * what is missing, or a guest is asked for more than it can spare. Else 0: they may stay, so that targets don't swing. */
+uint32_t vb_needs_targets(const uint32_t *old_targets, size_t old_count, const VbNeed *needs, size_t count,
+                          uint32_t frames);
 
 /* What happens to a guest: VB_OK where it has its effect; VB_BAD_ARGUMENT where guest isn't below count, or it doesn't fit, as is
  * said of each, and then nothing is changed. No other guest's loan is changed. What comes to a line doesn't fit either while a guest
@@ -96,9 +116,9 @@ uint32_t vb_loan_give(VbLoan *loans, size_t count, size_t guest, uint32_t pages)
 /* A deflate request for this many pages is pending: it asks for them, after all that wait in its line. Doesn't fit: no pages, more
  * than aren't lent to it, or it waits already. */
 uint32_t vb_loan_ask(VbLoan *loans, size_t count, size_t guest, uint32_t pages);
-/* A reset is pending, in place of all requests: it asks for all pages that aren't lent to it, after all that wait in its line; what
- * it asked for before is forgotten. Doesn't fit: all are lent to it, so that nothing has to wait. */
-uint32_t vb_loan_reset(VbLoan *loans, size_t count, size_t guest);
+/* A reset is pending, in place of all requests: it asks for all pages that aren't lent to it, in the line of this number and after all
+ * that wait there; what it asked for before is forgotten. Doesn't fit: all are lent to it, so that nothing has to wait. */
+uint32_t vb_loan_reset(VbLoan *loans, size_t count, size_t guest, uint16_t line);
 /* Pages are about to leave its balloon: ballooned - pages. Doesn't fit: fewer are in it, or not enough is lent to it: pages have to
  * be granted before they are taken. */
 uint32_t vb_loan_take(VbLoan *loans, size_t count, size_t guest, uint32_t pages);

@@ -1,6 +1,6 @@
 /* The same balloon on PCI, for QEMU's x-pci-proxy-dev (tried with QEMU 7.2 of Debian 12).
  *
- *     pci_proxy_balloon FD [--features HEX] [--strict] [--keep] [--lines N]
+ *     pci_proxy_balloon FD [--features HEX] [--strict] [--keep] [--hints] [--discard-hints] [--lines N]
  *
  * FD is one end of a pair of stream sockets, whose other end QEMU has. All else is as in vhost_user_balloon.c. The
  * driver's own writes of the status, of its features and of its queues' places arrive here.
@@ -152,7 +152,7 @@ static int serve(struct backend *backend)
     return backend->gone ? 0 : -1;
 }
 
-static const char help[] = "pci_proxy_balloon FD [--features HEX] [--strict] [--keep] [--lines N]";
+static const char help[] = "pci_proxy_balloon FD [--features HEX] [--strict] [--keep] [--hints] [--discard-hints] [--lines N]";
 
 int main(int count, char **words)
 {

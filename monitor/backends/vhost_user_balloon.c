@@ -1,7 +1,7 @@
 /* A memory balloon for one guest, as a vhost-user backend: for QEMU's generic device, for the virtio_uml driver of User
  * Mode Linux, and for any other client of that protocol.
  *
- *     vhost_user_balloon SOCKET [--features HEX] [--strict] [--keep] [--events] [--state FILE] [--lines N]
+ *     vhost_user_balloon SOCKET [--features HEX] [--strict] [--keep] [--hints] [--discard-hints] [--events] [--state FILE] [--lines N]
  *     vhost_user_balloon --socket-path SOCKET ..    the same; but the end of standard input doesn't end it
  *     vhost_user_balloon --fd FD ..                 of an open socket, of the client's or where it comes
  *
@@ -13,10 +13,14 @@
  *     counters        names and numbers: target, actual, what the memory's files hold on the host, what was served
  *     ask             ask the guest for new statistics
  *     statistics      how often the guest told them, and what it said last
+ *     hint start      begin a round of free page hints (VIRTIO 1.2, 5.5.6.6), in place of one that is on: its id is answered
+ *     hint stop       the driver is to hint no more, and keeps what it hinted free
+ *     hint done       the driver may use again what it hinted
  *     quit            end; so do the end of the input, and the signals SIGTERM, SIGINT and SIGHUP
  *
  * --features: what the device offers (100000027: MUST_TELL_HOST, STATS_VQ, DEFLATE_ON_OOM, REPORTING, VERSION_1).
  * --strict: a page number past the end breaks a rule, in place of being skipped. --keep: the host keeps all memory.
+ * --hints: and FREE_PAGE_HINT. --discard-hints: pages that are hinted are discarded, else they are counted alone.
  * --events: notifications as messages aren't offered, so a client uses events. --state: the device is kept in this file,
  * and a backend that finds one there goes on with its target and its `actual`. --lines: what is said in a second at most (20).
  * --help, --version and --print-capabilities are answered.
@@ -103,8 +107,8 @@ static int serve(struct backend *backend)
 }
 
 static const char help[] =
-    "vhost_user_balloon SOCKET | --socket-path SOCKET | --fd FD [--features HEX] [--strict] [--keep] [--events]\n"
-    "                   [--state FILE] [--lines N]\n"
+    "vhost_user_balloon SOCKET | --socket-path SOCKET | --fd FD [--features HEX] [--strict] [--keep] [--hints]\n"
+    "                   [--discard-hints] [--events] [--state FILE] [--lines N]\n"
     "vhost_user_balloon --print-capabilities | --help | --version";
 
 /* What the command line says of the client: one of its socket, the socket's path, and the socket's file. */

@@ -11,7 +11,7 @@ uint32_t __real_vb_go_on(VbNotice *notice, VbBalloon *balloon, const VbRegion *r
 
 enum { INDEX = 1, ENTRY, DESCRIPTOR, PART, FLAGS };             /* what the library's notices wait for */
 enum { READ_ENTRY = VB_ACQUIRE + VB_READ, READ_FLAGS = VB_FULL_FENCE + VB_READ };
-static const uint64_t LIMIT = 1ull << 44, FILE_LIMIT = 1ull << 62, KNOWN = 1ull << 32 | 0x37;
+static const uint64_t LIMIT = 1ull << 44, FILE_LIMIT = 1ull << 62, KNOWN = 1ull << 32 | 0x3f;
 
 #define USUALLY(condition) __builtin_expect(condition, 1)
 

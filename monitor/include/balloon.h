@@ -41,11 +41,14 @@ struct balloon {
     uint32_t most_chains, most_pages;   /* a notice begins no further chain after these: at first 256, and any number */
     bool keeps_pages;           /* no page is discarded (counted: kept), as under a passed-through device; may be set at any time */
     void *context;
-    /* These pages are given up (VB_INFLATE) or free (VB_REPORT), before any of them is discarded; or requested back (VB_DEFLATE).
+    /* These pages are given up (VB_INFLATE) or free (VB_REPORT, and VB_HINT until its round ends), before any of them is discarded; or
+     * requested back (VB_DEFLATE).
      * It is called once for each portion of 256 numbers of a request, which is given back once, after the last portion. */
     void (*on_pages)(void *context, uint32_t kind, const VbRun *runs, uint32_t count);
     /* The guest told its statistics, any tags in any order. */
     void (*on_statistics)(void *context, const VbStatistic *figures, uint32_t count);
+    /* The driver sent this id of hints: a round of hints begins with its own, and ends with any other one. */
+    void (*on_hint_id)(void *context, uint32_t id);
     /* Discards bytes of a region, whole pages of its page_size, in place of balloon_discard_bytes; 0 or an errno. */
     int (*discard)(void *context, const struct balloon_region *region, uint64_t at, uint64_t length);
     /* The set of the pages in the balloon, or NULL: words of the monitor's, zeros at first (vb_mark). A page is put in before
@@ -68,11 +71,12 @@ struct balloon_result {
     bool more;                  /* as much was served as a notice may, and more is available: call again, later */
     bool held;                  /* a deflate is held now, of `held_pages` pages: balloon_give_deflate grants it */
     uint32_t held_pages;
-    uint64_t pages, discarded;  /* named by inflates, deflates and reports; of these, discarded */
+    uint64_t pages, discarded;  /* named by inflates, deflates, reports and hints; of these, discarded */
     uint64_t waiting;           /* of these, pages whose large page wasn't given up whole yet (vb_large_pages) */
     uint64_t skipped;           /* numbers past the end or of reserved pages */
+    uint64_t late;              /* pages of hints that came while no round was open: they aren't named */
     uint64_t marked, unmarked;  /* pages put into the set of ballooned pages, or taken out; those that the sets haven't words for */
-    uint64_t in_holes, kept;    /* in no region; not discarded, by `error`, keeps_pages, or since reports stay (vb_keeps_reports) */
+    uint64_t in_holes, kept;    /* in no region; not discarded, by `error`, keeps_pages, or as reports stay (vb_keeps_reports), or hints */
     int error;
 };
 
@@ -137,17 +141,17 @@ static inline void balloon_discard(const struct balloon *balloon, const VbCut *p
 static inline void balloon_tell_pages(struct balloon *balloon, struct balloon_result *result)
 {
     const VbNotice *notice = &balloon->notice;
-    const uint32_t kind = notice->waits ? VB_INFLATE : notice->kind;        /* what waits is put into its set */
+    const uint32_t kind = notice->waits ? (uint32_t)VB_INFLATE : notice->kind;      /* what waits is put into its set */
     uint64_t *set = notice->waits ? balloon->deflating : balloon->ballooned;
     VbMarked marked = { VB_OK, 0 };
     result->pages += notice->pages;
-    result->skipped += notice->skipped;
+    *(notice->kind == VB_HINT ? &result->late : &result->skipped) += notice->skipped;
     result->kept += notice->kept;
     if (balloon->ballooned)
         marked = vb_mark(kind, balloon->room.runs, notice->runs, set, set ? balloon->ballooned_words : 0);
     result->marked += notice->waits ? 0 : marked.pages;
     result->unmarked += marked.code == VB_BAD_ARGUMENT ? notice->pages : 0;
-    if (balloon->on_pages)
+    if (balloon->on_pages && (notice->runs > 0 || notice->kind != VB_HINT))
         balloon->on_pages(balloon->context, notice->kind, balloon->room.runs, notice->runs);
 }
 
@@ -168,6 +172,8 @@ static inline void balloon_serve(struct balloon *balloon, uint32_t what, struct 
         balloon_tell_pages(balloon, result);
     if (what & VB_TELL_FIGURES && balloon->on_statistics)
         balloon->on_statistics(balloon->context, balloon->room.figures, balloon->notice.figures);
+    if (what & VB_TELL_ID && balloon->on_hint_id)
+        balloon->on_hint_id(balloon->context, balloon->notice.hint_id);
     const VbCut *part = balloon->room.cuts;
     for (uint32_t i = 0; what & VB_DISCARD && i < balloon->notice.cuts; i++, part++)
         balloon_discard(balloon, part, result);
@@ -182,7 +188,7 @@ static inline uint16_t balloon_perform(struct balloon *balloon, uint32_t what, s
     const VbNotice *notice = &balloon->notice;
     uint16_t answer = 0;
     if (what != VB_COPY) {
-        if (what & (VB_TELL_PAGES | VB_TELL_FIGURES | VB_DISCARD | VB_GIVE_BACK))
+        if (what & (VB_TELL_PAGES | VB_TELL_FIGURES | VB_TELL_ID | VB_DISCARD | VB_GIVE_BACK))
             balloon_serve(balloon, what, result);
         if (what & VB_ACQUIRE)
             __atomic_thread_fence(__ATOMIC_ACQUIRE);

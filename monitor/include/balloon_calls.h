@@ -35,7 +35,7 @@ static inline struct balloon_result balloon_finish(struct balloon *balloon)
     balloon_obey(balloon, &result);
     result.code = notice->code;
     result.rule = notice->rule;
-    result.interrupts = notice->interrupt << (notice->kind & 3);
+    result.interrupts = notice->interrupt << (notice->kind & 7);
     result.configuration = notice->configuration != 0;
     result.more = notice->more != 0;
     result.held = notice->taken && !notice->given && notice->code == VB_OK && notice->kind == VB_DEFLATE;
@@ -126,6 +126,7 @@ static inline void balloon_add_result(struct balloon_result *all, const struct b
     all->discarded += one->discarded;
     all->waiting += one->waiting;
     all->skipped += one->skipped;
+    all->late += one->late;
     all->marked += one->marked;
     all->unmarked += one->unmarked;
     all->in_holes += one->in_holes;
@@ -271,6 +272,25 @@ static inline bool balloon_is_off_target(const struct balloon *balloon)
 static inline bool balloon_may_tell(const struct balloon *balloon)
 {
     return vb_may_tell(&balloon->state.device) != 0;
+}
+
+/* Begins a round of free page hints (VIRTIO 1.2, 5.5.6.6), whose id `id` gets: send the driver a configuration change notification
+ * then. VB_OK; or refused as by vb_begin_hints, and then nothing is changed, and `id` is 0. */
+static inline uint32_t balloon_begin_hints(struct balloon *balloon, uint32_t *id)
+{
+    return vb_begin_hints(&balloon->state.device, id);
+}
+
+/* Stops a round, so that the driver hints no more, and keeps what it hinted free; or ends one, and the driver takes that back: send it
+ * a configuration change notification then. */
+static inline void balloon_stop_hints(struct balloon *balloon)
+{
+    vb_stop_hints(&balloon->state.device);
+}
+
+static inline void balloon_end_hints(struct balloon *balloon)
+{
+    vb_end_hints(&balloon->state.device);
 }
 
 /* ---- saving */

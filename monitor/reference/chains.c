@@ -37,11 +37,13 @@ bool any_of_direction(const VbPiece *pieces, uint32_t count, uint8_t writable)
     return false;
 }
 
-/* The rule that the pieces of an inflate, a deflate or a statistics buffer break (VIRTIO 1.1, 5.5.6). */
+/* The rule that the pieces of an inflate, a deflate, a statistics buffer or an id of hints break (VIRTIO 1.2, 5.5.6). */
 uint32_t buffer_rule(const VbDevice *device, uint32_t kind, const VbPiece *pieces, uint32_t count, uint64_t total)
 {
     if (any_of_direction(pieces, count, 1))
         return WRONG_DIRECTION;
+    if (kind == VB_HINT)
+        return total != ID_BYTES ? BAD_LENGTH : 0;
     if (kind == VB_STATISTICS)
         return total > STATISTICS_BYTES || total % FIGURE_BYTES ? BAD_LENGTH : 0;
     return total == 0 || total > 4 * longest_request(device) || total % 4 ? BAD_LENGTH : 0;

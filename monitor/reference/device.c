@@ -37,7 +37,7 @@ void vb_set_target(VbDevice *device, uint32_t pages) { device->target = pages; }
 
 static void reset(VbDevice *device)
 {
-    VbDevice fresh = { .settings = device->settings, .target = device->target };
+    VbDevice fresh = { .settings = device->settings, .target = device->target, .round = { .last = device->round.last } };
     *device = fresh;
 }
 
@@ -86,7 +86,8 @@ uint32_t vb_negotiate(VbDevice *device, uint64_t features)
 void vb_read_config(const VbDevice *device, uint32_t offset, uint8_t *out, size_t length)
 {
     uint32_t poison = device->settings.offered & VB_F_PAGE_POISON ? device->poison : 0;
-    const uint32_t words[4] = { device->target, device->actual, 0, poison };
+    uint32_t id = device->settings.offered & VB_F_FREE_PAGE_HINT ? device->round.shown : 0;
+    const uint32_t words[4] = { device->target, device->actual, id, poison };
     for (size_t i = 0; i < length; i++) {
         uint64_t at = (uint64_t)offset + i;
         out[i] = at < sizeof words ? (uint8_t)(words[at / 4] >> 8 * (at % 4)) : 0;

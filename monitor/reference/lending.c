@@ -59,11 +59,14 @@ uint32_t vb_loan_ask(VbLoan *loans, size_t count, size_t guest, uint32_t pages)
     return line_up(loans, count, &loans[guest], pages);
 }
 
-uint32_t vb_loan_reset(VbLoan *loans, size_t count, size_t guest)
+uint32_t vb_loan_reset(VbLoan *loans, size_t count, size_t guest, uint16_t line)
 {
     if (guest >= count || loans[guest].lent >= loans[guest].pages)
         return VB_BAD_ARGUMENT;
-    return line_up(loans, count, &loans[guest], loans[guest].pages - loans[guest].lent);
+    uint32_t code = line_up(loans, count, &loans[guest], loans[guest].pages - loans[guest].lent);
+    if (code == VB_OK)
+        loans[guest].line = line != 0;
+    return code;
 }
 
 uint32_t vb_loan_take(VbLoan *loans, size_t count, size_t guest, uint32_t pages)

@@ -154,7 +154,7 @@ uint32_t next_portion(const Call *call)
     return ask_part(call);
 }
 
-/* The pages of a report, whose pieces are in the room. */
+/* The pages of a report or of hints, whose pieces are in the room: of hints that come while no round is open, all are skipped. */
 static uint32_t serve_report(const Call *call)
 {
     VbDevice *device = &call->balloon->device;
@@ -167,6 +167,8 @@ static uint32_t serve_report(const Call *call)
         call->room->runs[named.runs] = (VbRun){ (uint32_t)(piece.address / PAGE), piece.length / PAGE };
         named.pages += piece.length / PAGE;
     }
+    if (call->notice->kind == VB_HINT && !vb_hints_open(device))
+        named = (Named){ .code = VB_OK, .skipped = named.pages };
     call->notice->piece = call->notice->count;
     return tell_pages(call, &named);
 }
@@ -175,7 +177,7 @@ static uint32_t serve_chain(const Call *call)
 {
     VbNotice *notice = call->notice;
     uint64_t total = 0;
-    if (notice->kind == VB_REPORT)
+    if (notice->kind == VB_REPORT || (notice->kind == VB_HINT && call->room->pieces[0].writable))
         return serve_report(call);
     for (uint32_t i = 0; i < notice->count; i++)
         total += call->room->pieces[i].length;

@@ -3,26 +3,29 @@
 
 uint32_t vb_kind_of(uint64_t features, uint32_t number)
 {
-    bool statistics = features & STATS_VQ, report = features & REPORTING;
+    bool statistics = features & STATS_VQ, hint = features & VB_F_FREE_PAGE_HINT, report = features & REPORTING;
     if (number < 2)
         return number;
     if (number == 2 && statistics)
         return VB_STATISTICS;
-    return report && number == 2u + statistics ? VB_REPORT : VB_NO_KIND;
+    if (hint && number == 2u + statistics)
+        return VB_HINT;
+    return report && number == 2u + statistics + hint ? VB_REPORT : VB_NO_KIND;
 }
 
 uint32_t vb_kind(const VbDevice *device, uint32_t number) { return vb_kind_of(device->features, number); }
 
 VbQueue *queue_of(VbDevice *device, uint32_t kind)
 {
-    VbQueue *queues[] = { &device->inflate, &device->deflate, &device->statistics, &device->report };
+    VbQueue *queues[] = { &device->inflate, &device->deflate, &device->statistics, &device->report, &device->hint };
     return kind < VB_NO_KIND ? queues[kind] : NULL;
 }
 
 bool lacks_feature(const VbDevice *device, uint32_t kind)
 {
     return (kind == VB_STATISTICS && !(device->features & STATS_VQ))
-        || (kind == VB_REPORT && !(device->features & REPORTING));
+        || (kind == VB_REPORT && !(device->features & REPORTING))
+        || (kind == VB_HINT && !(device->features & VB_F_FREE_PAGE_HINT));
 }
 
 /* Whether a part of a ring may not be there. */

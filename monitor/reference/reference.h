@@ -10,14 +10,15 @@
 #include <string.h>
 
 enum { ACKNOWLEDGE = 1, DRIVER = 2, DRIVER_OK = 4, FEATURES_OK = 8, NEEDS_RESET = 64, FAILED = 128 };
-enum { MUST_TELL_HOST = 1, STATS_VQ = 2, REPORTING = 32, PAGE = 4096, REPORT_PIECES = 32, STATISTICS_BYTES = 1020 };
+enum { MUST_TELL_HOST = 1, STATS_VQ = 2, REPORTING = 32, PAGE = 4096, REPORT_PIECES = 32, STATISTICS_BYTES = 1020,
+       ID_BYTES = 4 };
 enum { NEXT = 1, WRITE = 2, INDIRECT_TABLE = 4, NO_INTERRUPT = 1, FIGURE_BYTES = 10 };
 /* tools/list-codes: rules, from here */
 enum { BAD_HEAD = 1, BAD_NEXT = 2, TOO_LONG = 3, INDIRECT = 4, WRONG_DIRECTION = 5, OUT_OF_RAM = 6, INDEX_JUMP = 7,
        BAD_LENGTH = 8, BAD_PAGE = 9, RESERVED_PAGE = 10 };
 /* tools/list-codes: rules, to here */
 static const uint64_t VERSION_1 = 1ull << 32;
-static const uint64_t KNOWN = 1ull << 32 | 0x37;
+static const uint64_t KNOWN = 1ull << 32 | 0x3f;
 static const uint64_t MOST_MEMORY = 1ull << 44;
 
 /* device.c: settings and numbers */
@@ -36,6 +37,10 @@ uint32_t refusal(const VbDevice *device, uint32_t kind, const VbQueue *queue);
 bool holds_chains(const VbDevice *device, uint32_t kind);
 uint32_t *held_of(VbHeld *held, uint32_t kind);
 bool is_held(const VbBalloon *balloon, uint32_t kind);
+
+/* hints.c: rounds of free page hints */
+void hear_id(VbDevice *device, uint32_t id);
+bool is_round(const VbDevice *device);
 
 /* chains.c: descriptors, and the rules of chains */
 typedef struct { uint64_t address; uint32_t length; uint16_t flags, next; } Descriptor;
@@ -66,7 +71,7 @@ bool find_within(const VbRegion *regions, size_t count, uint64_t address, uint64
 
 /* notices.c and serving.c: what a notice waits for, in its field `phase`, and all that a call works on */
 enum phase { NO_PHASE, AT_INDEX, AT_ENTRY, AT_WORD, AT_DESCRIPTOR, AT_PART, AT_TOLD, AT_FIGURES, AT_CUT, AT_GIVEN, AT_FLAGS,
-             AT_FLAG_WORD };
+             AT_FLAG_WORD, AT_ID };
 typedef struct {
     VbNotice *notice;
     VbBalloon *balloon;

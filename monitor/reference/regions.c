@@ -142,7 +142,7 @@ uint32_t vb_restore_over(VbBalloon *balloon, const VbRegion *regions, size_t cou
     VbDevice *it = &made.device;
     if (it->settings.memory_end != balloon->device.settings.memory_end || !holds_queue(regions, count, &it->inflate)
         || !holds_queue(regions, count, &it->deflate) || !holds_queue(regions, count, &it->statistics)
-        || !holds_queue(regions, count, &it->report))
+        || !holds_queue(regions, count, &it->report) || !holds_queue(regions, count, &it->hint))
         return VB_MISPLACED;
     *balloon = made;
     return VB_OK;

@@ -3,8 +3,10 @@
 
 uint32_t vb_version(void) { return VB_VERSION_NUMBER; }
 
-/* The newest version, and the one before it, which doesn't say what is held of deflates. */
-enum { STATE_VERSION = 3, OLDER_VERSION = 2, OLDER_BYTES = VB_STATE_BYTES - 9, SUM_BYTES = 8 };
+/* The newest version, the one before it, which says nothing of hints, and the one before that, which doesn't say what is held of
+ * deflates either. */
+enum { STATE_VERSION = 4, OLDER_VERSION = 3, OLDEST_VERSION = 2, SUM_BYTES = 8 };
+enum { OLDER_BYTES = VB_STATE_BYTES - 40, OLDEST_BYTES = OLDER_BYTES - 9 };
 static const uint8_t STATE_BEGINS[16] = { 'V', 'B', 'S', 'T', 'A', 'T', 'E', 0, STATE_VERSION, 0, 0, 0, VB_STATE_BYTES, 0, 0, 0 };
 
 /* Where a number is in a saved state, or is read from it. */
@@ -31,7 +33,7 @@ static void ring_numbers(Cursor *cursor, VbQueue *queue)
     NUMBER(queue->next_used);
 }
 
-static void state_numbers(Cursor *cursor, VbDevice *device, VbHeld *held, bool newest)
+static void state_numbers(Cursor *cursor, VbDevice *device, VbHeld *held, uint64_t version)
 {
     NUMBER(device->settings.memory_end);
     NUMBER(device->settings.offered);
@@ -48,10 +50,17 @@ static void state_numbers(Cursor *cursor, VbDevice *device, VbHeld *held, bool n
     ring_numbers(cursor, &device->statistics);
     ring_numbers(cursor, &device->report);
     number(cursor, &device->poison, 4);
-    if (newest) {
+    if (version >= OLDER_VERSION) {
         NUMBER(device->settings.holds_deflates);
         NUMBER(held->deflate);
         NUMBER(held->pages);
+    }
+    if (version >= STATE_VERSION) {
+        ring_numbers(cursor, &device->hint);
+        NUMBER(device->round.shown);
+        NUMBER(device->round.last);
+        NUMBER(device->round.opened);
+        NUMBER(device->settings.discards_hints);
     }
 }
 
@@ -107,7 +116,8 @@ static bool is_possible(const VbDevice *device, const VbHeld *held)
 {
     return !are_impossible(&device->settings) && is_status(device->status) && are_agreed(device)
         && is_ring(device, VB_INFLATE) && is_ring(device, VB_DEFLATE) && is_ring(device, VB_STATISTICS)
-        && is_ring(device, VB_REPORT) && (!device->poison || (device->settings.offered & VB_F_PAGE_POISON))
+        && is_ring(device, VB_HINT) && is_ring(device, VB_REPORT) && is_round(device)
+        && (!device->poison || (device->settings.offered & VB_F_PAGE_POISON))
         && may_be_held(device, VB_STATISTICS, held->statistics, 0)
         && may_be_held(device, VB_DEFLATE, held->deflate, held->pages);
 }
@@ -121,7 +131,7 @@ uint32_t vb_save(const VbDevice *device, VbHeld held, uint8_t *out, size_t room)
     if (!is_possible(device, &held))
         return VB_IMPOSSIBLE;
     memcpy(out, STATE_BEGINS, sizeof STATE_BEGINS);
-    state_numbers(&cursor, &copy, &held, true);
+    state_numbers(&cursor, &copy, &held, STATE_VERSION);
     uint64_t sum = state_sum(out, VB_STATE_BYTES - SUM_BYTES);
     number(&cursor, &sum, SUM_BYTES);
     return VB_OK;
@@ -138,16 +148,16 @@ uint32_t vb_restore(VbDevice *device, VbHeld *held, const uint8_t *bytes, size_t
     if (memcmp(bytes, STATE_BEGINS, 8) != 0)
         return VB_NOT_A_STATE;
     uint64_t version = little(bytes + 8, 4);
-    if (version != STATE_VERSION && version != OLDER_VERSION)
+    if (version < OLDEST_VERSION || version > STATE_VERSION)
         return VB_OTHER_VERSION;
-    size_t whole = version == STATE_VERSION ? VB_STATE_BYTES : OLDER_BYTES;
+    size_t whole = version == STATE_VERSION ? VB_STATE_BYTES : version == OLDER_VERSION ? OLDER_BYTES : OLDEST_BYTES;
     if (little(bytes + 12, 4) != whole || length != whole)
         return VB_BAD_LENGTH;
     if (little(bytes + whole - SUM_BYTES, SUM_BYTES) != state_sum(bytes, whole - SUM_BYTES))
         return VB_BAD_SUM;
     memcpy(copy, bytes, whole);
     Cursor cursor = { copy + sizeof STATE_BEGINS, false };
-    state_numbers(&cursor, &restored, &chains, version == STATE_VERSION);
+    state_numbers(&cursor, &restored, &chains, version);
     if (!is_possible(&restored, &chains))
         return VB_IMPOSSIBLE;
     *device = restored;

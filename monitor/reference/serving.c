@@ -46,9 +46,11 @@ static bool cut_of(const Call *call, size_t number, VbRun run, VbCut *cut)
 /* The pages that its chains name are kept, though they were given up or are free. */
 static bool is_kept(const Call *call)
 {
+    const VbDevice *device = &call->balloon->device;
     switch (call->notice->kind) {
     case VB_INFLATE: return call->notice->keeps;
-    case VB_REPORT: return call->notice->keeps || vb_keeps_reports(&call->balloon->device);
+    case VB_REPORT: return call->notice->keeps || vb_keeps_reports(device);
+    case VB_HINT: return call->notice->keeps || vb_keeps_reports(device) || !device->settings.discards_hints;
     default: return false;
     }
 }
@@ -124,21 +126,38 @@ static uint32_t after_told(const Call *call)
     return has_more(call->notice) ? next_portion(call) : end(call, VB_NOTHING);
 }
 
-uint32_t serve_bytes(const Call *call)
+/* The figures of a statistics buffer, which is held. */
+static uint32_t keep_figures(const Call *call, size_t length)
 {
     VbNotice *notice = call->notice;
-    VbDevice *device = &call->balloon->device;
-    size_t length = notice->from;
-    if (notice->kind != VB_STATISTICS) {
-        Named named = name(device, notice->kind, call->room->bytes, length, call->room->runs);
-        return tell_pages(call, &named);
-    }
-    uint32_t count = 0, code = tell_figures(device, call->room->bytes, length, call->room->figures, &count);
+    uint32_t count = 0, code = tell_figures(&call->balloon->device, call->room->bytes, length, call->room->figures, &count);
     if (code != VB_OK)
         return end(call, code);
     notice->figures = count;
     hold(call, 0);
     return wait_for(call, AT_FIGURES, VB_TELL_FIGURES);
+}
+
+/* An id of hints: the round opens where it is the one that is shown, and else it closes. */
+static uint32_t tell_id(const Call *call, size_t length)
+{
+    if (length != ID_BYTES)
+        return fail(call, BAD_LENGTH);
+    call->notice->hint_id = (uint32_t)little(call->room->bytes, ID_BYTES);
+    call->queue->next_avail++;
+    hear_id(&call->balloon->device, call->notice->hint_id);
+    return wait_for(call, AT_ID, VB_TELL_ID);
+}
+
+uint32_t serve_bytes(const Call *call)
+{
+    const VbNotice *notice = call->notice;
+    if (notice->kind == VB_STATISTICS)
+        return keep_figures(call, notice->from);
+    if (notice->kind == VB_HINT)
+        return tell_id(call, notice->from);
+    Named named = name(&call->balloon->device, notice->kind, call->room->bytes, notice->from, call->room->runs);
+    return tell_pages(call, &named);
 }
 
 static uint32_t after_given(const Call *call)
@@ -175,6 +194,7 @@ static uint32_t step(const Call *call, uint16_t answer)
     case AT_TOLD: return after_told(call);
     case AT_CUT: return ask_cut(call);
     case AT_FIGURES: return end(call, VB_NOTHING);
+    case AT_ID: return give_back(call);
     case AT_GIVEN: return after_given(call);
     case AT_FLAGS: return wait_for(call, AT_FLAG_WORD, VB_READ);
     case AT_FLAG_WORD: return after_flags(call, answer);

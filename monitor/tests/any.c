@@ -10,7 +10,7 @@ enum { CALLS = 1000000 };
 
 int main(int count, char **words)
 {
-    void (*const calls[])(void) = { call_driver, call_config, call_mark, call_over, call_notice, call_large };
+    void (*const calls[])(void) = { call_driver, call_config, call_hints, call_mark, call_over, call_notice, call_large };
     enum { KINDS = sizeof calls / sizeof *calls };
     unsigned long long most = count > 1 ? strtoull(words[1], NULL, 10) : CALLS;
     alarm(600);

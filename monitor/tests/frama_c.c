@@ -97,6 +97,8 @@ static void hear(void *context, const VbStatistic *figures, uint32_t count)
     //@ assert told_figures: \valid_read(figures + (0 .. (int)count - 1));
 }
 
+static void hear_id(void *context, uint32_t id) { }
+
 static int discard(void *context, const struct balloon_region *region, uint64_t at, uint64_t length)
 {
     //@ assert the_region: region == &regions[cut_region];
@@ -114,7 +116,8 @@ static void any_call(void)
     uint8_t bytes[VB_STATE_BYTES];
     VbQueueStart start = { any_u64(), any_u64(), any_u64(), ANY_UP_TO(UINT16_MAX), ANY_UP_TO(UINT16_MAX) };
     uint16_t next;
-    switch (Frama_C_interval(0, 13)) {
+    uint32_t id;
+    switch (Frama_C_interval(0, 16)) {
     case 0: balloon_notify(&balloon, any_u32()); break;
     case 1: balloon_ask_statistics(&balloon); break;
     case 2: balloon_write_status(&balloon, ANY_UP_TO(255), &result); break;
@@ -128,6 +131,9 @@ static void any_call(void)
     case 10: balloon_stop_queue(&balloon, any_u32(), &next); break;
     case 11: balloon_forget_held(&balloon, any_u32()); break;
     case 12: balloon_give_deflate(&balloon); break;
+    case 13: balloon_begin_hints(&balloon, &id); break;
+    case 14: balloon_stop_hints(&balloon); break;
+    case 15: balloon_end_hints(&balloon); break;
     default: balloon_negotiate(&balloon, any_u64()); break;
     }
 }
@@ -144,6 +150,7 @@ static void begin(void)
     balloon_init(&balloon, regions, REGIONS, settings);
     balloon.on_pages = maybe() ? be_told : NULL;
     balloon.on_statistics = maybe() ? hear : NULL;
+    balloon.on_hint_id = maybe() ? hear_id : NULL;
     balloon.discard = maybe() ? discard : NULL;
     balloon.keeps_pages = maybe();
     balloon.ballooned = has_set ? words : NULL;

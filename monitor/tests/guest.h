@@ -25,7 +25,7 @@ struct guest {
     struct balloon balloon;
     struct balloon_region regions[2];
     uint16_t size;              /* of each queue */
-    uint16_t published[4];      /* available index, by kind */
+    uint16_t published[VB_NO_KIND];     /* available index, by kind */
 };
 
 static inline uint64_t table_of(uint32_t kind) { return (16 + 4 * kind) * 4096ull; }
@@ -52,7 +52,7 @@ static inline uint8_t *at(const struct guest *guest, uint64_t address)
 static inline VbQueue *ring_of_kind(struct balloon *balloon, uint32_t kind)
 {
     VbDevice *device = &balloon->state.device;
-    VbQueue *queues[] = { &device->inflate, &device->deflate, &device->statistics, &device->report };
+    VbQueue *queues[] = { &device->inflate, &device->deflate, &device->statistics, &device->report, &device->hint };
     return queues[kind];
 }
 
@@ -148,7 +148,7 @@ static inline void start_features(struct guest *guest, uint64_t features, uint16
     EXPECT(balloon_write_status(balloon, 3, &result) == 0);
     EXPECT(balloon_negotiate(balloon, features) == 0);
     EXPECT(balloon_write_status(balloon, 11, &result) == 0);
-    for (uint32_t number = 0; number < 4; number++) {
+    for (uint32_t number = 0; number < VB_NO_KIND; number++) {
         uint32_t kind = vb_kind(&balloon->state.device, number);
         if (kind == VB_NO_KIND)
             continue;

@@ -32,12 +32,19 @@ static void hear(void *context, const VbStatistic *figures, uint32_t count)
     note(FIGURES, count, false);
 }
 
+static void hear_id(void *context, uint32_t id)
+{
+    (void)context;
+    note(ID, id, false);
+}
+
 static void put_bytes(uint64_t address, uint64_t value, size_t bytes)
 {
     value = htole64(value);
     memcpy(memory + address, &value, bytes);
 }
 
+static const uint64_t FEATURES = 1ull << 32 | 0x2f;      /* Linux's, and hints */
 static bool holds;
 
 /* A ready device of these kinds, each with its queue at the one place, in one region or two. */
@@ -48,12 +55,13 @@ static void begin(uint32_t kind, uint32_t count)
     memset(memory, 0, PAGES * 4096);
     regions[0] = (struct balloon_region){ 0, count == 1 ? PAGES * 4096 : BORDER, memory, BALLOON_PRIVATE, 0, 0 };
     regions[1] = (struct balloon_region){ BORDER, PAGES * 4096 - BORDER, memory + BORDER, BALLOON_PRIVATE, 0, 0 };
-    EXPECT(balloon_init(&balloon, regions, count, (VbSettings){ .offered = LINUX_FEATURES, .holds_deflates = holds }) == VB_OK);
+    EXPECT(balloon_init(&balloon, regions, count, (VbSettings){ .offered = FEATURES, .holds_deflates = holds, .discards_hints = 1 }) == VB_OK);
     balloon.discard = discard;
     balloon.on_pages = be_told;
     balloon.on_statistics = hear;
+    balloon.on_hint_id = hear_id;
     EXPECT(balloon_write_status(&balloon, 1, &result) == 0 && balloon_write_status(&balloon, 3, &result) == 0);
-    EXPECT(balloon_negotiate(&balloon, LINUX_FEATURES) == 0 && balloon_write_status(&balloon, 11, &result) == 0);
+    EXPECT(balloon_negotiate(&balloon, FEATURES) == 0 && balloon_write_status(&balloon, 11, &result) == 0);
     EXPECT(balloon_place(&balloon, kind, table, AVAIL, USED, SIZE) == VB_OK);
     EXPECT(balloon_write_status(&balloon, 15, &result) == 0);
 }
@@ -69,7 +77,7 @@ static void put_descriptor(uint64_t number, uint64_t address, uint64_t length, u
 /* A chain of two pieces, one after the other; 20 bytes, or a page and a page. */
 static void offer(uint32_t kind)
 {
-    const bool report = kind == VB_REPORT;
+    const bool report = kind == VB_REPORT || kind == VB_HINT;
     for (uint32_t i = 0; i < 5; i++)
         put_bytes(BUFFER + 4 * i, NAMED + 2 * i, 4);
     put_descriptor(3, report ? NAMED * 4096 : BUFFER, report ? 4096 : 13, report ? NEXT | WRITE : NEXT, 6);
@@ -171,6 +179,25 @@ static void pages_may_be_kept(void)
     expect_touches((const struct touch[]){ TAKEN, { BYTES, 0, READS }, { TOLD, VB_DEFLATE, READS }, GIVEN, ASKED });
     serve(VB_REPORT, true);
     expect_touches((const struct touch[]){ TAKEN, { TOLD, VB_REPORT, READS }, GIVEN, ASKED });
+}
+
+/* An id of hints is told, and then pages are, as a report's; those that come late are given back, and nothing is told. */
+static void hints_are_in_order(void)
+{
+    uint32_t id;
+    begin(VB_HINT, 1);
+    offer(VB_HINT);
+    put_descriptor(7, BUFFER, 4, 0, 0);
+    put_bytes(AVAIL + 6, 7, 2);
+    put_bytes(AVAIL + 8, 3, 2);
+    put_bytes(AVAIL + 2, 3, 2);
+    EXPECT(balloon_begin_hints(&balloon, &id) == VB_OK);
+    put_bytes(BUFFER, id, 4);
+    struct balloon_result result = notify(VB_HINT);
+    EXPECT(result.chains == 3 && result.late == 2 && result.discarded == 2);
+    expect_touches((const struct touch[]){
+        TAKEN, GIVEN, ENTERED_AT(1), COPIED(7), { BYTES, 0, READS }, { ID, id, READS }, GIVEN_AT(1),
+        NEXT_TAKEN(2), { TOLD, VB_HINT, READS }, { DISCARD, NAMED, WRITES }, { DISCARD, NAMED + 5, WRITES }, GIVEN_AT(2), ASKED });
 }
 
 static void statistics_are_in_order(void)
@@ -296,6 +323,7 @@ int main(void)
     a_deflate_is_in_order();
     a_report_is_in_order();
     pages_may_be_kept();
+    hints_are_in_order();
     statistics_are_in_order();
     a_held_deflate_is_in_order();
     the_index_is_read_once();

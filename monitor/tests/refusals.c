@@ -3,6 +3,7 @@
 
 enum { SIZE = 8, RESERVED = 16, MEMORY = 24 * MIB };
 
+static const uint64_t FEATURES = 1ull << 32 | 0x2f;      /* Linux's, and hints */
 static struct guest guest;
 static struct { uint32_t runs, figures; VbRun run[VB_MAX_RUNS]; } seen;
 
@@ -28,7 +29,7 @@ static int keep(void *context, const struct balloon_region *region, uint64_t fro
 /* A driver that begins anew, over the memory that there is. */
 static void begin(uint64_t features, uint16_t size)
 {
-    const VbSettings settings = { .offered = LINUX_FEATURES, .reserved_pages = RESERVED };
+    const VbSettings settings = { .offered = FEATURES, .reserved_pages = RESERVED };
     struct balloon_result result;
     EXPECT(balloon_init(&guest.balloon, guest.regions, 2, settings) == VB_OK);
     guest.balloon.on_pages = see_pages;
@@ -52,10 +53,11 @@ static bool stands(const VbDevice *one, const VbDevice *other)
     return one->features == other->features && one->target == other->target && one->actual == other->actual
         && same_queue(&one->inflate, &other->inflate) && same_queue(&one->deflate, &other->deflate)
         && same_queue(&one->statistics, &other->statistics) && same_queue(&one->report, &other->report)
+        && same_queue(&one->hint, &other->hint) && memcmp(&one->round, &other->round, sizeof one->round) == 0
         && one->settings.memory_end == other->settings.memory_end;
 }
 
-/* A chain that its queue takes: a request of one page, four figures, or a report of one page. */
+/* A chain that its queue takes: a request of one page, four figures, a report of one page, or an id. */
 static void offer_right(uint32_t kind)
 {
     put(&guest, 0x20000, 700, 4);
@@ -75,7 +77,7 @@ static struct balloon_result attempt(uint32_t kind, uint32_t obstacles)
     VbDevice *device = &guest.balloon.state.device;
     device->status = (uint8_t)((obstacles & 1 << READY ? 11 : 15) | (obstacles & 1 << RESET ? 64 : 0));
     if (obstacles & 1 << FEATURE)
-        device->features &= ~(uint64_t)(STATS_VQ | REPORTING);
+        device->features &= ~(uint64_t)(STATS_VQ | REPORTING | VB_F_FREE_PAGE_HINT);
     if (obstacles & 1 << PLACE)
         ring_of_kind(&guest.balloon, kind)->size = 0;
     return balloon_notify(&guest.balloon, obstacles & 1 << KIND ? VB_NO_KIND : kind);
@@ -88,7 +90,7 @@ static void first_obstacle_answers(uint32_t kind, uint32_t possible)
         uint32_t first = 0;
         if (obstacles & ~possible)
             continue;
-        begin(LINUX_FEATURES, SIZE);
+        begin(FEATURES, SIZE);
         offer_right(kind);
         while (first < OBSTACLES && !(obstacles & 1 << first))
             first++;
@@ -107,6 +109,7 @@ static void refusals_have_an_order(void)
     first_obstacle_answers(VB_DEFLATE, no_feature);
     first_obstacle_answers(VB_STATISTICS, all);
     first_obstacle_answers(VB_REPORT, all);
+    first_obstacle_answers(VB_HINT, all);
     EXPECT(balloon_notify(&guest.balloon, UINT32_MAX).code == VB_NO_QUEUE);
     guest.balloon.state.device.status = 15 | 128;
     EXPECT(balloon_notify(&guest.balloon, VB_INFLATE).code == VB_NOT_READY);
@@ -129,7 +132,7 @@ static void breaks(uint32_t kind, uint32_t rule)
 static void walks_break_rules(uint32_t kind)
 {
     const uint16_t write = kind == VB_REPORT ? WRITE : 0;
-    begin(LINUX_FEATURES, SIZE);
+    begin(FEATURES, SIZE);
     offer(kind, 0, SIZE + 1);
     breaks(kind, 7);
     offer(kind, 0, 0xffff);
@@ -151,7 +154,8 @@ static void walks_break_rules(uint32_t kind)
     breaks(kind, 5);
     describe(&guest, kind, 5, 0x20000, 4096, NEXT, 99);
     breaks(kind, 5);
-    describe(&guest, kind, 3, 0x20000, 4096, write ^ WRITE, 0);
+    describe(&guest, kind, 3, 0x20000, 4096, kind == VB_HINT ? NEXT : write ^ WRITE, 5);     /* hints are of either */
+    describe(&guest, kind, 5, 0x20000, 4096, write ^ WRITE, 0);
     breaks(kind, 5);
     for (uint16_t i = 0; i < SIZE; i++)     /* too long before the first one comes again, to be read */
         describe(&guest, kind, i, 0x20000, 4096, i + 1 < SIZE ? NEXT : NEXT | WRITE, (i + 1) % SIZE);
@@ -171,7 +175,7 @@ static void lengths_break_rules(void)
     const uint32_t requests[] = { 0, 1, 2, 3, 5, 1023, 1025, 1026, 4095, 4 * VB_LONGEST_REQUEST + 4 };
     const uint32_t figures_of[] = { 1, 9, 11, 1019, 1021, 1030 };
     const uint32_t blocks[] = { 0, 1, 4095, 4097, 2 * 4096 - 1 };
-    begin(LINUX_FEATURES, SIZE);
+    begin(FEATURES, SIZE);
     for (uint32_t kind = VB_INFLATE; kind < VB_NO_KIND; kind++)
         offer(kind, 0, 1);
     for (uint32_t kind = VB_INFLATE; kind <= VB_DEFLATE; kind++)
@@ -197,10 +201,29 @@ static void lengths_break_rules(void)
     breaks(VB_REPORT, 10);
 }
 
+/* An id of hints has 4 bytes, and hinted pages break a report's rules, whether a round is open or not. */
+static void hints_break_rules(bool opened)
+{
+    static const struct { uint32_t length, rule, other; uint16_t flags; uint64_t address; } rows[] = {
+        { 0, 8, 0, 0, 0x20000 }, { 3, 8, 0, 0, 0x20000 }, { 5, 8, 0, 0, 0x20000 }, { 8, 8, 0, 0, 0x20000 }, { 4096, 8, 0, 0, 0x20000 },
+        { 2, 8, 3, NEXT, 0x20000 }, { 4, 8, 4, NEXT, 0x20000 }, { 4, 8, MEMORY - 4, NEXT, 0x20000 },
+        { 0, 8, 0, WRITE, 0x20000 }, { 4, 8, 0, WRITE, 0x20000 }, { 4097, 8, 0, WRITE, 0x20000 },
+        { 4096, 9, 0, WRITE, 0x20800 }, { 4096, 10, 0, WRITE, (RESERVED - 1) * 4096 }, { 4096, 6, 0, WRITE, MEMORY },
+    };
+    for (size_t i = 0; i < sizeof rows / sizeof *rows; i++) {
+        begin(FEATURES, SIZE);
+        guest.balloon.state.device.round = (VbRound){ .shown = 9, .last = 9, .opened = opened };
+        offer(VB_HINT, 0, 1);
+        describe(&guest, VB_HINT, 0, rows[i].address, rows[i].length, rows[i].flags, 1);
+        describe(&guest, VB_HINT, 1, 0, rows[i].other, 0, 0);
+        breaks(VB_HINT, rows[i].rule);
+    }
+}
+
 /* At each bound there is a chain that is right. */
 static void bounds_are_right(void)
 {
-    begin(LINUX_FEATURES, SIZE);
+    begin(FEATURES, SIZE);
     offer(VB_DEFLATE, 7, 1);
     for (uint32_t i = 0; i < 32; i++)
         put(&guest, MEMORY - 128 + 4 * i, RESERVED, 4);
@@ -226,15 +249,46 @@ static void bounds_are_right(void)
     EXPECT(balloon_notify(&guest.balloon, VB_REPORT).code == VB_NOTHING);
 }
 
-/* A report of 33 blocks breaks rule 8; of 32 it is right. */
-static void reports_have_few_pieces(void)
+/* What a round is refused for, by what is in its way: with all of that and what comes after it. */
+static void rounds_are_refused_in_order(void)
+{
+    static const uint32_t codes[] = { VB_BAD_ARGUMENT, VB_NOT_READY, VB_NEEDS_RESET, VB_NO_QUEUE, VB_MISPLACED };
+    for (uint32_t obstacles = 1; obstacles < 32; obstacles++) {
+        uint32_t id = 7, first = (uint32_t)__builtin_ctz(obstacles);
+        VbDevice *device = &guest.balloon.state.device;
+        begin(FEATURES, SIZE);
+        EXPECT(balloon_begin_hints(&guest.balloon, &id) == VB_OK && id == 2);
+        device->settings.offered &= ~(obstacles & 1 ? 1ull << 32 : 0);
+        device->status = (uint8_t)((obstacles & 2 ? 11 : 15) | (obstacles & 4 ? 64 : 0));
+        device->features &= ~(uint64_t)(obstacles & 8 ? VB_F_FREE_PAGE_HINT : 0);
+        device->hint.size = obstacles & 16 ? 0 : device->hint.size;
+        VbDevice before = *device;
+        EXPECT(balloon_begin_hints(&guest.balloon, &id) == codes[first] && id == 0 && memcmp(device, &before, sizeof before) == 0);
+    }
+}
+
+/* After the last id of 32 bits comes 2 again: 0 and 1 are none. */
+static void ids_go_round(void)
+{
+    static const struct { uint32_t last, next; } rows[] = { { 0, 2 }, { 1, 2 }, { 2, 3 }, { UINT32_MAX - 1, UINT32_MAX }, { UINT32_MAX, 2 } };
+    for (size_t i = 0; i < sizeof rows / sizeof *rows; i++) {
+        uint32_t id;
+        begin(FEATURES, SIZE);
+        guest.balloon.state.device.round.last = rows[i].last;
+        EXPECT(balloon_begin_hints(&guest.balloon, &id) == VB_OK && id == rows[i].next);
+    }
+}
+
+/* A report, or hints, of 33 blocks breaks rule 8; of 32 it is right. */
+static void reports_have_few_pieces(uint32_t kind)
 {
     for (uint16_t count = 32; count <= 33; count++) {
-        begin(VERSION_1 | REPORTING, 64);
+        begin(VERSION_1 | (kind == VB_HINT ? VB_F_FREE_PAGE_HINT : REPORTING), 64);
+        guest.balloon.state.device.round = (VbRound){ .shown = 9, .last = 9, .opened = kind == VB_HINT };
         for (uint16_t i = 0; i < count; i++)
-            describe(&guest, VB_REPORT, i, 0x10000 + 8192ull * i, 4096, i + 1 < count ? WRITE | NEXT : WRITE, i + 1);
-        offer(VB_REPORT, 0, 1);
-        struct balloon_result result = balloon_notify(&guest.balloon, VB_REPORT);
+            describe(&guest, kind, i, 0x10000 + 8192ull * i, 4096, i + 1 < count ? WRITE | NEXT : WRITE, i + 1);
+        offer(kind, 0, 1);
+        struct balloon_result result = balloon_notify(&guest.balloon, kind);
         EXPECT(count == 32 ? result.code == VB_OK && result.pages == 32 : result.code == VB_BROKEN && result.rule == 8);
     }
 }
@@ -242,7 +296,7 @@ static void reports_have_few_pieces(void)
 /* What a chain given back leaves in memory (VIRTIO 1.1, 2.6.8), round the ring and past 65,535 chains. */
 static void used_elements_have_places(void)
 {
-    begin(LINUX_FEATURES, SIZE);
+    begin(FEATURES, SIZE);
     for (uint16_t i = 0; i < SIZE; i++)
         describe(&guest, VB_REPORT, i, 0x20000, 4096, WRITE, 0);
     for (uint32_t i = 0; i < 70000; i++) {
@@ -257,11 +311,11 @@ static void pages_break_rules(void)
     const uint32_t last = MEMORY / 4096 - 1;
     const struct { uint32_t page, rule; } rows[] = { { last + 1, 9 }, { UINT32_MAX, 9 }, { RESERVED - 1, 10 }, { 0, 10 } };
     for (size_t i = 0; i < 4; i++) {
-        begin(LINUX_FEATURES, SIZE);
+        begin(FEATURES, SIZE);
         const uint32_t pages[] = { last, rows[i].page, rows[3 - i].page };
         name_pages(&guest, VB_INFLATE, pages, 3);
         breaks(VB_INFLATE, rows[i].rule);
-        begin(LINUX_FEATURES, SIZE);
+        begin(FEATURES, SIZE);
         name_pages(&guest, VB_INFLATE, pages, 1);
         EXPECT(balloon_notify(&guest.balloon, VB_INFLATE).pages == 1);
         EXPECT(seen.runs == 1 && seen.run[0].first == last && seen.run[0].count == 1);
@@ -280,9 +334,15 @@ int main(void)
     RUN(walks_break_rules(VB_DEFLATE));
     RUN(walks_break_rules(VB_STATISTICS));
     RUN(walks_break_rules(VB_REPORT));
+    RUN(walks_break_rules(VB_HINT));
     RUN(lengths_break_rules());
     RUN(bounds_are_right());
-    RUN(reports_have_few_pieces());
+    RUN(rounds_are_refused_in_order());
+    RUN(ids_go_round());
+    RUN(hints_break_rules(false));
+    RUN(hints_break_rules(true));
+    RUN(reports_have_few_pieces(VB_REPORT));
+    RUN(reports_have_few_pieces(VB_HINT));
     RUN(used_elements_have_places());
     RUN(pages_break_rules());
     free_memory(&guest);

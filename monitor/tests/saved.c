@@ -50,7 +50,7 @@ static void each_damaged_byte_is_refused(void)
             uint8_t good = bytes[at];
             for (unsigned change = 1; change < 256; change++) {
                 bytes[at] = good ^ (uint8_t)change;
-                bool older = at == 8 && bytes[at] == 2;         /* of another length */
+                bool older = at == 8 && (bytes[at] == 2 || bytes[at] == 3);     /* of another length */
                 uint32_t code = at < 8 ? VB_NOT_A_STATE : at < 12 && !older ? VB_OTHER_VERSION : at < 16 ? VB_BAD_LENGTH : VB_BAD_SUM;
                 is_refused(bytes, VB_STATE_BYTES, code, at);
             }
@@ -66,11 +66,11 @@ static void each_damaged_byte_is_refused(void)
  * right sum. */
 static const struct { unsigned state; size_t at; int bytes; uint64_t value; } IMPOSSIBLE[] = {
     { 7, 16, 8, 8191 }, { 7, 16, 8, 1ull << 44 }, { 7, 16, 8, 0x10000 },         /* the end of memory; before the queues */
-    { 7, 24, 8, 0x37 }, { 7, 24, 8, 1ull << 32 | 0x3f },                         /* offered */
-    { 7, 38, 8, 1ull << 32 | 0x40 }, { 7, 38, 8, 0x27 }, { 7, 24, 8, 1ull << 32 }, /* features */
+    { 7, 24, 8, 0x3f }, { 7, 24, 8, 1ull << 32 | 0x7f },                         /* offered */
+    { 7, 38, 8, 1ull << 32 | 0x40 }, { 7, 38, 8, 0x2f }, { 7, 24, 8, 1ull << 32 }, /* features */
     { 7, HOLD_AT + 1, 4, 65 }, { 7, HOLD_AT + 5, 4, 1 }, { 8, HOLD_AT, 1, 0 }, { 8, HOLD_AT + 1, 4, 0 },      /* a deflate that is held */
     { 8, HOLD_AT + 1, 4, 65 }, { 8, HOLD_AT + 5, 4, VB_LONGEST_REQUEST + 1 }, { 5, HOLD_AT + 1, 4, 1 },
-    { 7, 54, 4, 65 }, { 7, 54, 4, UINT32_MAX }, { 7, 38, 8, 1ull << 32 | 0x25 },  /* held; moved without STATS_VQ */
+    { 7, 54, 4, 65 }, { 7, 54, 4, UINT32_MAX }, { 7, 38, 8, 1ull << 32 | 0x2d },  /* held; moved without STATS_VQ */
     { 7, 58, 1, 0 }, { 7, 58, 1, 2 }, { 7, 58, 1, 3 }, { 7, 58, 1, 5 }, { 7, 58, 1, 7 }, { 7, 58, 1, 11 },
     { 7, 58, 1, 13 }, { 7, 58, 1, 14 }, { 7, 58, 1, 31 }, { 7, 58, 1, 47 }, { 5, 58, 1, 75 }, { 5, 58, 1, 0 },
     { 7, RINGS_AT, 8, 0x10008 }, { 7, RINGS_AT + 8, 8, 0x11001 }, { 7, RINGS_AT + 16, 8, 0x12002 },
@@ -78,7 +78,11 @@ static const struct { unsigned state; size_t at; int bytes; uint64_t value; } IM
     { 7, RINGS_AT + 24, 2, 3 }, { 7, RINGS_AT + 24, 2, 63 }, { 7, RINGS_AT + 24, 2, 768 }, { 7, RINGS_AT + 24, 2, 2048 },
     { 7, RINGS_AT + RING_BYTES, 8, 1 }, { 7, RINGS_AT + 2 * RING_BYTES, 8, 1 }, { 7, RINGS_AT + 3 * RING_BYTES, 8, 1 },
     { 2, RINGS_AT + 26, 2, 1 }, { 2, RINGS_AT + 28, 2, 1 }, { 5, 54, 4, 1 }, { 0, RINGS_AT + 26, 2, 1 },
-    { 7, 24, 8, 1ull << 32 | 0x27 },            /* poison_val where PAGE_POISON isn't offered */
+    { 7, 24, 8, 1ull << 32 | 0x2f },            /* poison_val where PAGE_POISON isn't offered */
+    { 7, HINT_AT, 8, 1 }, { 7, HINT_AT + 24, 2, 63 }, { 0, HINT_AT + 24, 2, 64 }, { 8, 38, 8, 1ull << 32 | 0x27 },   /* the queue of hints */
+    { 8, ROUND_AT, 4, 4 }, { 8, ROUND_AT, 4, 6 }, { 8, ROUND_AT + 4, 4, 1 }, { 8, ROUND_AT + 4, 4, 0 },             /* a round's ids */
+    { 8, ROUND_AT, 4, 0 }, { 8, ROUND_AT, 4, 1 }, { 8, OPENED_AT, 1, 2 }, { 7, OPENED_AT, 1, 1 }, { 7, ROUND_AT, 4, 2 },
+    { 7, ROUND_AT + 4, 4, 1 }, { 4, ROUND_AT, 8, 0x200000002 }, { 5, ROUND_AT, 8, 0x200000002 },                    /* before DRIVER_OK */
     { 0, 38, 8, 1ull << 32 }, { 0, 54, 4, 1 }, { 0, RINGS_AT + 2 * RING_BYTES + 24, 2, 64 }, { 3, 38, 8, 1 },
     { 7, 20 + 16, 1, 0 },       /* nothing is changed: the one row that has to be restored */
 };
@@ -87,6 +91,7 @@ static const struct { unsigned state; size_t at; int bytes; uint64_t value; } IM
 static const struct { size_t at; int bytes; } FREE[] = {
     { 32, 4 }, { 37, 1 }, { 46, 4 }, { 50, 4 }, { RINGS_AT + 26, 2 }, { RINGS_AT + 28, 2 },
     { RINGS_AT + RING_BYTES + 26, 2 }, { RINGS_AT + 3 * RING_BYTES + 28, 2 }, { POISON_AT, 4 }, { HOLD_AT, 1 },
+    { HINT_AT + 26, 4 }, { ROUND_AT + 4, 4 }, { SUM_AT - 1, 1 },
 };
 
 static void impossible_devices_are_refused(void)
@@ -115,29 +120,41 @@ static void impossible_devices_are_refused(void)
 
 static const VbHeld NOTHING_HELD = { 0, 0, 0 };
 
-/* Bytes of version 2 are restored, as a device that neither holds a deflate nor may; damaged ones by name are not. */
+/* The bytes of a version before this one are restored, as a device that neither has hints nor, of version 2, holds a deflate or may;
+ * damaged ones by name are not. */
+static void is_restored(VbBalloon it, unsigned version)
+{
+    VbBalloon restored;
+    uint8_t bytes[VB_STATE_BYTES] = { 0 };
+    it.device.hint = (VbQueue){ .size = 0 };
+    it.device.round = (VbRound){ .last = 0 };
+    it.device.settings.discards_hints = 0;
+    if (version == 2) {
+        it.device.settings.holds_deflates = 0;
+        it.held.deflate = it.held.pages = 0;
+    }
+    size_t length = encode_older(&it.device, it.held, version, bytes);
+    scribble_state(&restored);
+    EXPECT(vb_restore(&restored.device, &restored.held, bytes, length) == VB_OK);
+    EXPECT(are_same(&restored.device, restored.held, &it.device, it.held));
+    is_refused(bytes, VB_STATE_BYTES, VB_BAD_LENGTH, 0);
+    is_refused(bytes, length - 1, VB_BAD_LENGTH, 0);
+    bytes[100] ^= 1;
+    is_refused(bytes, length, VB_BAD_SUM, 100);
+    bytes[100] ^= 1;
+    for (unsigned other = 0; other < 6; other++) {
+        bytes[8] = (uint8_t)other;
+        put_sum_at(bytes, length - 8);
+        if (other != version)
+            is_refused(bytes, length, other >= 2 && other <= 4 ? VB_BAD_LENGTH : VB_OTHER_VERSION, 8);
+    }
+}
+
 static void older_states_are_restored(void)
 {
     for (unsigned state = 0; reach(state); state++) {
-        VbBalloon it = guest.balloon.state, restored;
-        uint8_t bytes[OLDER_BYTES + 9] = { 0 };
-        it.device.settings.holds_deflates = 0;
-        it.held.deflate = it.held.pages = 0;
-        encode_older(&it.device, it.held, bytes);
-        scribble_state(&restored);
-        EXPECT(vb_restore(&restored.device, &restored.held, bytes, OLDER_BYTES) == VB_OK);
-        EXPECT(are_same(&restored.device, restored.held, &it.device, it.held));
-        is_refused(bytes, VB_STATE_BYTES, VB_BAD_LENGTH, 0);
-        is_refused(bytes, OLDER_BYTES - 1, VB_BAD_LENGTH, 0);
-        bytes[100] ^= 1;
-        is_refused(bytes, OLDER_BYTES, VB_BAD_SUM, 100);
-        bytes[100] ^= 1;
-        for (unsigned version = 0; version < 5; version++) {
-            bytes[8] = (uint8_t)version;
-            put_sum_at(bytes, HOLD_AT);
-            if (version != 2)
-                is_refused(bytes, OLDER_BYTES, version == 3 ? VB_BAD_LENGTH : VB_OTHER_VERSION, 8);
-        }
+        is_restored(guest.balloon.state, 2);
+        is_restored(guest.balloon.state, 3);
     }
 }
 

@@ -62,30 +62,33 @@ static uint64_t any_page(uint64_t random)
     return random % 64 == 0 ? random >> 32 : random % 64 == 1 ? 4090 + random / 64 % 64 : page;
 }
 
-static uint32_t any_length(uint32_t kind, uint64_t random)
+static uint32_t any_length(uint32_t kind, bool has_pages, uint64_t random)
 {
     if (random % 32 == 0)
         return (uint32_t)(random >> 32);
-    if (kind == VB_REPORT)
+    if (has_pages)
         return (uint32_t)(1 + random / 32 % 8) * 4096;
+    if (kind == VB_HINT)
+        return 4;
     return kind == VB_STATISTICS ? (uint32_t)(random / 32 % 12) * 10 : (uint32_t)(random / 32 % 24) * 4;
 }
 
 static void scribble_descriptor(uint32_t kind, uint64_t random, uint64_t *state)
 {
     uint64_t where = table_of(kind) + 16 * (random % SIZE);
+    const bool has_pages = kind == VB_REPORT || (kind == VB_HINT && random % 2);      /* of hints every other descriptor */
     switch (random / SIZE % 4) {
     case 0:
-        if (kind == VB_REPORT)
+        if (has_pages)
             put(&guest, where, any_page(next_random(state)) * 4096, 8);
         else
             put(&guest, where, buffer_of(kind) + random / 512 % 4, 8);
         break;
     case 1:
-        put(&guest, where + 8, any_length(kind, next_random(state)), 4);
+        put(&guest, where + 8, any_length(kind, has_pages, next_random(state)), 4);
         break;
     case 2:
-        put(&guest, where + 12, (random / 512 % 64 == 0 ? random >> 40 : (kind == VB_REPORT ? WRITE : 0))
+        put(&guest, where + 12, (random / 512 % 64 == 0 ? random >> 40 : (has_pages ? WRITE : 0))
             | (random / 32768 % 4 == 0 ? NEXT : 0), 2);
         break;
     default:
@@ -97,8 +100,8 @@ static void *scribble(void *nothing)
 {
     uint64_t state = 88172645463325252ull;
     for (; !stop; started = true) {
-        uint64_t random = next_random(&state), kind = random % 4;
-        switch (random / 4 % 4) {
+        uint64_t random = next_random(&state), kind = random % VB_NO_KIND;
+        switch (random / VB_NO_KIND % 4) {
         case 0:
             put(&guest, avail_of((uint32_t)kind) + 2, random / 16 % 256 == 0 ? random >> 40 : random / 4096 % 8, 2);
             break;
@@ -110,7 +113,8 @@ static void *scribble(void *nothing)
             scribble_descriptor((uint32_t)kind, random / 16, &state);
             break;
         default:
-            put(&guest, buffer_of((uint32_t)kind) + 4 * (random / 16 % 24), any_page(next_random(&state)), 4);
+            put(&guest, buffer_of((uint32_t)kind) + 4 * (random / 16 % 24),
+                kind == VB_HINT ? random / 512 % 4 : any_page(next_random(&state)), 4);
         }
     }
     return nothing;
@@ -137,7 +141,8 @@ static void expect_guards(const uint8_t *memory, size_t length)
 static void begin(void)
 {
     struct balloon_result result;
-    const VbSettings settings = { .offered = LINUX_FEATURES, .reserved_pages = 16, .skips_bad_pages = 1 };
+    const uint64_t features = LINUX_FEATURES | VB_F_FREE_PAGE_HINT;
+    const VbSettings settings = { .offered = features, .reserved_pages = 16, .skips_bad_pages = 1, .discards_hints = 1 };
     uint8_t *high = guarded(HIGH_MIB * MIB), *low = guarded(LOW_MIB * MIB);
     guest.regions[0] = (struct balloon_region){ HIGH_ADDRESS, HIGH_MIB * MIB, high, BALLOON_PRIVATE, 0, 0 };
     guest.regions[1] = (struct balloon_region){ 0, LOW_MIB * MIB, low, BALLOON_PRIVATE, 0, 0 };
@@ -145,7 +150,7 @@ static void begin(void)
     for (uint64_t page = FIRST_DATA; page < PAGES; page++)
         if (has_stamp(page))
             *stamp_of(page) = page;
-    start_features(&guest, LINUX_FEATURES, SIZE);
+    start_features(&guest, features, SIZE);
     EXPECT(balloon_write_status(&guest.balloon, 15, &result) == 0);
 }
 
@@ -161,6 +166,8 @@ static uint32_t notice(uint32_t kind, uint64_t random)
     if (random % 4 != 0)
         queue->next_avail = (uint16_t)(index - random / 4 % 4);
     guest.balloon.keeps_pages = random / 64 % 4 == 0;
+    if (random / 1024 % 4 == 0)
+        state->device.round = (VbRound){ .shown = random / 4096 % 4, .last = 3, .opened = random / 16384 % 2 };
     struct balloon_result result = balloon_notify(&guest.balloon, kind);
     bool keeps = guest.balloon.keeps_pages && kind != VB_DEFLATE;
     EXPECT(result.code <= VB_BROKEN && result.kept == (keeps ? result.pages : 0) && result.error == 0);
@@ -185,7 +192,7 @@ int main(int count, char **words)
     while (!started)
         usleep(100);
     for (uint64_t i = 0; i < notices; i++) {
-        uint32_t kind = i % 4;
+        uint32_t kind = i % VB_NO_KIND;
         codes[kind][notice(kind, next_random(&state))]++;
         if (i % 1024 == 0)
             expect_stamps();

@@ -22,6 +22,9 @@ void balloon_read_config(const struct balloon *balloon, uint32_t offset, uint8_t
 uint32_t balloon_write_config(struct balloon *balloon, uint32_t offset, const uint8_t *bytes, size_t length);
 void balloon_set_target(struct balloon *balloon, uint32_t pages);
 bool balloon_is_off_target(const struct balloon *balloon);
+uint32_t balloon_begin_hints(struct balloon *balloon, uint32_t *id);
+void balloon_stop_hints(struct balloon *balloon);
+void balloon_end_hints(struct balloon *balloon);
 bool balloon_may_tell(const struct balloon *balloon);
 uint32_t balloon_save(const struct balloon *balloon, uint8_t *out, size_t room);
 uint32_t balloon_restore(struct balloon *balloon, const uint8_t *bytes, size_t length);

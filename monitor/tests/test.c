@@ -3,9 +3,10 @@
 #include "test/test.h"
 
 /* What other languages declare of vb.h has to have these sizes (rust/src/raw/structs.rs). */
-_Static_assert(sizeof(VbSettings) == 24 && sizeof(VbQueue) == 32 && sizeof(VbDevice) == 176, "a device's state");
-_Static_assert(sizeof(VbHeld) == 12 && sizeof(VbBalloon) == 192, "a device and what it holds");
+_Static_assert(sizeof(VbSettings) == 24 && sizeof(VbQueue) == 32 && sizeof(VbDevice) == 224, "a device's state");
+_Static_assert(sizeof(VbHeld) == 12 && sizeof(VbBalloon) == 240, "a device and what it holds");
 _Static_assert(sizeof(VbQueueStart) == 32, "where a queue starts");
+_Static_assert(sizeof(VbRound) == 12, "a round of hints");
 _Static_assert(sizeof(VbPiece) == 16 && sizeof(VbRun) == 8 && sizeof(VbStatistic) == 16, "lists");
 _Static_assert(sizeof(VbMarked) == 16, "what is marked");
 
@@ -25,6 +26,7 @@ int main(void)
     test_statistics();
     test_holds();
     test_reports();
+    test_hints();
     test_large_pages();
     test_holes();
     test_moves();

@@ -31,14 +31,14 @@ CHANGES = (
     ("crates/vb_monitor/src/answers.rt", "NOT_READY: u32 = 3", "NOT_READY: u32 = 14", [HEADER, f"{CODES}: VB_NOT_READY is 3"]),
     ("crates/vb_monitor/src/answers.rt", "NOT_READY: u32 = 3", "NOT_READY: u32 = 2",
      ["answers: two codes of one number", HEADER, f"{CODES}: VB_NOT_READY is 3"]),
-    ("crates/vb_c/src/kinds.rt", "REPORT: u32 = 3", "REPORT: u32 = 5", [HEADER]),
-    ("crates/vb_c/src/bits.rt", "READ: u32 = 64", "READ: u32 = 256", [HEADER]),
+    ("crates/vb_c/src/kinds.rt", "REPORT: u32 = 3", "REPORT: u32 = 6", [HEADER]),
+    ("crates/vb_c/src/bits.rt", "READ: u32 = 128", "READ: u32 = 512", [HEADER]),
     ("crates/vb_c/src/places.rt", "EMPTY: u32 = 2", "EMPTY: u32 = 4", [HEADER]),
     ("crates/vb_chain/src/fault.rt", "BadPage = 9", "BadPage = 11", [HEADER, REFERENCE, BACKEND, f"{RULES}: BadPage is 9"]),
     ("crates/vb_chain/src/fault.rt", '"no such page"', '"no page"', [HEADER, BACKEND]),
     ("crates/vb_core/src/ring.rt", "MAX_RING_SIZE: u16 = 1024", "MAX_RING_SIZE: u16 = 512", [HEADER]),
     ("crates/vb_virtio/src/layout.rt", "MAX_STATISTICS_LENGTH: u32 = 1020", "MAX_STATISTICS_LENGTH: u32 = 1030", [HEADER]),
-    ("crates/vb_core/src/format.rt", "SAVED_LENGTH: usize = 200", "SAVED_LENGTH: usize = 204", [HEADER]),
+    ("crates/vb_core/src/format.rt", "SAVED_LENGTH: usize = 240", "SAVED_LENGTH: usize = 244", [HEADER]),
     ("crates/vb_chain/src/descriptor.rt", "DESCRIPTOR_SIZE: usize = 16", "DESCRIPTOR_SIZE: usize = 32", [LAYOUT]),
     ("crates/vb_ring/src/format.rt", "USED_ELEMENT_SIZE: u64 = 8", "USED_ELEMENT_SIZE: u64 = 12", [LAYOUT]),
     ("crates/vb_ring/src/format.rt", "const RING_META_SIZE", "const RING_REST_SIZE", [LAYOUT]),
@@ -114,7 +114,7 @@ def test_a_change_in_one_place_is_refused_by_name(copy, path, old, new, wanted):
 
 
 def test_a_change_of_the_owner_is_written_to_all_tables(copy):
-    copy.change("crates/vb_c/src/bits.rt", "COPY: u32 = 128", "COPY: u32 = 512")
+    copy.change("crates/vb_c/src/bits.rt", "COPY: u32 = 256", "COPY: u32 = 512")
     copy.change("crates/vb_chain/src/fault.rt", "BadPage = 9", "BadPage = 11")
     assert copy.call("--write") == (1, [f"{RULES}: BadPage is 9"])
     assert "VB_COPY = 512, " in copy.text("crates/vb_c/vb.h")

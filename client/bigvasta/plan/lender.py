@@ -95,7 +95,7 @@ class Lender:
         self.used[guest] = pages
         loan = self.loans[guest]
         if pages == 0 and self.runs[guest] and loan.lent < loan.pages:
-            self.do(self.library.vb_loan_reset, guest)
+            self.do(self.library.vb_loan_reset, guest, 1)
             self.begin_wait(guest)
         self.figure(guest)
 

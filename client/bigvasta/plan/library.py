@@ -57,7 +57,7 @@ CALLS = {
     "vb_loan_leave": (NUMBER, ROOM, COUNT, COUNT),
     "vb_loan_give": (NUMBER, ROOM, COUNT, COUNT, NUMBER),
     "vb_loan_ask": (NUMBER, ROOM, COUNT, COUNT, NUMBER),
-    "vb_loan_reset": (NUMBER, ROOM, COUNT, COUNT),
+    "vb_loan_reset": (NUMBER, ROOM, COUNT, COUNT, ctypes.c_uint16),
     "vb_loan_take": (NUMBER, ROOM, COUNT, COUNT, NUMBER),
     "vb_loan_figure": (NUMBER, ROOM, COUNT, COUNT, NUMBER),
     "vb_loan_grant": (Grant, NUMBER, ROOM, COUNT),

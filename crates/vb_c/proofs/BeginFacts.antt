@@ -168,7 +168,7 @@ not_begun = record {
 }
 
 begun_all_the_same : BeginsIf false two Statistics eight balloon balloon room room shown → ⊥
-begun_all_the_same h = let e : Same 64 0 = h.ended.what in omega arith
+begun_all_the_same h = let e : Same 128 0 = h.ended.what in omega arith
 
 with_another_code : BeginsIf false two Statistics eight balloon balloon room room
     (record shown { what = 0; step = record (shown.step) { phase = 0; code = 4 } }) → ⊥

@@ -4,7 +4,7 @@ use Rattle.vb_status.specs.declared.bits.StatusFault.{StatusFault}
 use Rattle.vb_status.specs.declared.bits.StatusFault.TheVariants.{ClearsBit, OutOfOrder, FeatureNotOffered}
 use Rattle.vb_status.specs.declared.bits.StatusFault.TheVariants.{MustTellHostMissing, VersionMissing}
 use Rattle.vb_balance.specs.declared.need.NoTargets.TheVariants.{OtherLength, Short}
-use Rattle.vb_core.specs.declared.kinds.Kind.TheVariants.{Inflate, Deflate, Statistics, Report}
+use Rattle.vb_core.specs.declared.kinds.Kind.TheVariants.{Inflate, Deflate, Statistics, Report, Hint}
 use Rattle.vb_core.specs.declared.device.Denial.TheVariants.{NoQueue, Misplaced}
 use Rattle.vb_core.specs.declared.saved.StateDenial.TheVariants.{BadLength as WrongLength, NotAState, OtherVersion, BadSum, Impossible}
 use Rattle.vb_monitor.specs.declared.placing.RestoreDenial.TheVariants.{State, Elsewhere}
@@ -21,12 +21,12 @@ code_of_a_denial = refl
 
 -- ---- kinds
 
-kinds : map kind_of_code (0 ∷ 1 ∷ 2 ∷ 3 ∷ 4 ∷ 5 ∷ []) ≡
-    Some Inflate ∷ Some Deflate ∷ Some Statistics ∷ Some Report ∷ None ∷ None ∷ []
+kinds : map kind_of_code (0 ∷ 1 ∷ 2 ∷ 3 ∷ 4 ∷ 5 ∷ 6 ∷ []) ≡
+    Some Inflate ∷ Some Deflate ∷ Some Statistics ∷ Some Report ∷ Some Hint ∷ None ∷ None ∷ []
 kinds = refl
 
-codes_of_kinds : map code_of_kind (Some Inflate ∷ Some Deflate ∷ Some Statistics ∷ Some Report ∷ None ∷ []) ≡
-    0 ∷ 1 ∷ 2 ∷ 3 ∷ 4 ∷ []
+codes_of_kinds : map code_of_kind (Some Inflate
+    ∷ Some Deflate ∷ Some Statistics ∷ Some Report ∷ Some Hint ∷ None ∷ []) ≡ 0 ∷ 1 ∷ 2 ∷ 3 ∷ 4 ∷ 5 ∷ []
 codes_of_kinds = refl
 
 -- ---- registers, states, targets

@@ -1,12 +1,12 @@
 -- Which notices are handed over to C, and which aren't.
 use Rattle.std.proofs.Common.{◌≡◌, ◌∙◌, refl, ap, sym, arith, ℕ, ◌+◌, ◌*◌, ◌≤◌, Bool, true, false, [], Option, Some, None}
-use Rattle.vb_core.specs.declared.{kinds.Kind.{Kind, TheVariants.{Inflate, Deflate, Statistics, Report}}, name.Named.Named}
+use Rattle.vb_core.specs.declared.{kinds.Kind.{Kind, TheVariants.{Inflate, Deflate, Statistics, Hint, Report}}, name.Named.Named}
 use Rattle.vb_monitor.specs.declared.{regions.Spot.Spot, orders.Orders.Orders}
-use Rattle.vb_monitor.specs.declared.orders.{Told.{Told, TheVariants.{Nothing, Pages, Figures}}, Asked.Asked}
+use Rattle.vb_monitor.specs.declared.orders.{Told.{Told, TheVariants.{Nothing, Pages, Figures, Id}}, Asked.Asked}
 use Rattle.vb_monitor.specs.declared.step.Phase.TheVariants.{AwaitsIndex}
 use Rattle.vb_monitor.specs.Steps.{tally_of, phase_of}
 use Rattle.vb_monitor.specs.declared.step.Phase.TheVariants.{AwaitsEntry, AwaitsDescriptor}
-use Rattle.vb_monitor.specs.declared.step.Phase.TheVariants.{AwaitsPart, TellsPages, TellsFigures}
+use Rattle.vb_monitor.specs.declared.step.Phase.TheVariants.{AwaitsPart, TellsPages, TellsFigures, TellsId}
 use Rattle.vb_monitor.specs.declared.step.Phase.TheVariants.{Discards, GivesBack, AwaitsFlags}
 use Rattle.vb_monitor.specs.declared.step.Phase.{TheVariants.Ended, Phase}
 use Rattle.vb_monitor.specs.{declared.balloon.Balloon.Balloon, Machine.{Fits, row_bytes, stage, waits, is_ended}}
@@ -28,13 +28,14 @@ none_asked = record {
   cuts = 0;
   kept = 0;
   waits = 0;
+  hint_id = 0;
   used = record { spots = record { id = spot; length = spot; index = spot }; id = 0; length = 0; index = 0 };
 }
 
 -- the index is awaited
 abbrev pub shown : VbNotice
 shown = record {
-  what = 64;
+  what = 128;
   kind = 0;
   orders = none_asked;
   step = record {
@@ -112,17 +113,17 @@ left_with_room n b1 b2 h =
 
 -- one part more than the list has
 too_many_parts : (n : Notice) (b1 b2 : Balloon) →
-    HandsOver n two nothing_copied b1 b2 [] (record shown { what = 68; orders = record none_asked { cuts = 257 } }) → ⊥
+    HandsOver n two nothing_copied b1 b2 [] (record shown { what = 136; orders = record none_asked { cuts = 257 } }) → ⊥
 too_many_parts n b1 b2 h = let e = h.has_room.cuts in omega (arith, e)
 
 -- what is of no kind is no notice
-of_no_kind : (n : Notice) (b1 b2 : Balloon) → HandsOver n two nothing_copied b1 b2 [] (record shown { kind = 4 }) → ⊥
+of_no_kind : (n : Notice) (b1 b2 : Balloon) → HandsOver n two nothing_copied b1 b2 [] (record shown { kind = 5 }) → ⊥
 unfolding phase_of
 of_no_kind n b1 b2 h = let e = h.is.read in absurd cc
 
 -- bytes that are to be copied have room: 1,024 of them, and no more
 abbrev copying : ℕ → VbNotice
-copying into = record shown { what = 128; step = record (shown.step) { phase = 4; length = 4; into = into } }
+copying into = record shown { what = 256; step = record (shown.step) { phase = 4; length = 4; into = into } }
 
 abbrev ends_in : Phase → ℕ
 ends_in (AwaitsPart at place into len) = into + len
@@ -136,6 +137,7 @@ at_most (AwaitsIndex at) fits = omega arith
 at_most (AwaitsEntry at) fits = omega arith
 at_most (TellsPages place named further) fits = omega arith
 at_most (TellsFigures head count) fits = omega arith
+at_most (TellsId head id) fits = omega arith
 at_most (Discards cut x) fits = omega arith
 at_most (GivesBack spots entry) fits = omega arith
 at_most (AwaitsFlags at why more) fits = omega arith
@@ -176,19 +178,21 @@ telling kind keeps = record {
 
 -- they are told, their chain is given back, and the index is awaited
 abbrev told : ℕ → VbNotice
-told kept = record shown { what = 73; orders = record none_asked { named = two_pages; kept = kept }; step = record (shown.step) { given = 1 } }
+told kept = record shown { what = 145; orders = record none_asked { named = two_pages; kept = kept }; step = record (shown.step) { given = 1 } }
 
 abbrev bits_in : Option Notice → ℕ
 bits_in None = 0
 bits_in (Some n) = answer_bits n.step.phase
 
-tells_pages : (t : Told) (gives : Bool) (bits : ℕ) → 64 ≡ bits →
-    73 ≡ told_bits t + 0 + 8 * one_if gives + bits → t ≡ Pages
+tells_pages : (t : Told) (gives : Bool) (bits : ℕ) → 128 ≡ bits →
+    145 ≡ told_bits t + 0 + 16 * one_if gives + bits → t ≡ Pages
 tells_pages Nothing true bits b e = absurd (omega (arith, b, e))
 tells_pages Nothing false bits b e = absurd (omega (arith, b, e))
 tells_pages Pages gives bits b e = refl
 tells_pages Figures true bits b e = absurd (omega (arith, b, e))
 tells_pages Figures false bits b e = absurd (omega (arith, b, e))
+tells_pages Id true bits b e = absurd (omega (arith, b, e))
+tells_pages Id false bits b e = absurd (omega (arith, b, e))
 
 is_told : (n : Notice) (kept : ℕ) (b1 b2 : Balloon) →
     (h : HandsOver n two nothing_copied b1 b2 [] (told kept)) → h.asked.told ≡ Pages
@@ -219,6 +223,20 @@ uncounted_of_a_report : (b2 : Balloon) → HandsOver (telling Report false) two 
 unfolding lib.Count.ones
 uncounted_of_a_report b2 h =
     let e : Same 0 2 = h.kept (is_told (telling Report false) 0 keeping b2 h) in omega arith
+
+-- a hint's, unless the settings discard hints
+uncounted_of_a_hint : (b2 : Balloon) → HandsOver (telling Hint false) two nothing_copied balloon b2 [] (told 0) → ⊥
+unfolding lib.Count.ones
+uncounted_of_a_hint b2 h =
+    let e : Same 0 2 = h.kept (is_told (telling Hint false) 0 balloon b2 h) in omega arith
+
+abbrev discarding : Balloon
+discarding = record balloon { device = record begun { settings = record (begun.settings) { discards_hints = 1 } } }
+
+counted_of_a_discarded_hint : (b2 : Balloon) → HandsOver (telling Hint false) two nothing_copied discarding b2 [] (told 2) → ⊥
+unfolding lib.Count.ones
+counted_of_a_discarded_hint b2 h =
+    let e : Same 2 0 = h.kept (is_told (telling Hint false) 2 discarding b2 h) in omega arith
 
 -- whether they wait for a grant is said: those of a deflate do where it is held, and no others
 abbrev holding : Balloon
@@ -270,6 +288,7 @@ ended_by (Discards cut x) a cuts w f e =
     absurd (omega (arith, some))
 ended_by (TellsPages place named further) a cuts w f e = absurd cc
 ended_by (TellsFigures head count) a cuts w f e = absurd cc
+ended_by (TellsId head id) a cuts w f e = absurd cc
 ended_by (GivesBack spots entry) a cuts w f e = absurd cc
 
 -- so a caller that obeys while there is something to do obeys to its end

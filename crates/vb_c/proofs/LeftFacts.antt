@@ -12,15 +12,17 @@ use Rattle.vb_c.proofs.Samples.{a_buffer}
 -- no field of it is as a device has it that was just made
 abbrev full : Device
 full = record {
-  settings = record settings { offered = 0x100000037; reserved_pages = 3; needs_must_tell = 1; skips_bad_pages = 1; holds_deflates = 1 };
+  settings = record settings { offered = 0x100000037; reserved_pages = 3; needs_must_tell = 1; skips_bad_pages = 1; holds_deflates = 1; discards_hints = 1 };
   features = 0x100000037;
   target = 20;
   actual = 21;
   inflate = record (placed 0x1000 0x1800 0x1900 16) { next_avail = 5; next_used = 4 };
   deflate = record (placed 0x2000 0x2800 0x2900 32) { next_avail = 7; next_used = 6 };
   statistics = record (placed 0x3000 0x3800 0x3900 8) { next_avail = 9; next_used = 8 };
+  hint = record (placed 0x5000 0x5800 0x5a00 32) { next_avail = 13; next_used = 12 };
   report = record (placed 0x4000 0x4800 0x4a00 64) { next_avail = 11; next_used = 10 };
   poison = 22;
+  round = record { shown = 24; last = 24; opened = 1 };
   status = 11;
 }
 
@@ -48,13 +50,13 @@ actual_too : WritesStatus 15 full (record full { status = 15; actual = 0 }) 0 �
 actual_too h = let e : Same 0 21 = ap (λ (d : Device). d.actual) (h.accepted refl).1 in omega arith
 
 reset : (d : Device) (n : ℕ) → WritesStatus 0 full d n →
-    (n ≡ 0) × (d ≡ record (new_device full.settings) { target = 20 })
+    (n ≡ 0) × (d ≡ record (new_device full.settings) { target = 20; round = record { shown = 0; last = 24; opened = 0 } })
 reset d n h = h.accepted refl
 
 target_reset_too : WritesStatus 0 full (new_device full.settings) 0 → ⊥
 target_reset_too h = let e : Same 0 20 = ap target_of (h.accepted refl).1 in omega arith
 
-poison_over_a_reset : WritesStatus 0 full (record (new_device full.settings) { target = 20; poison = 22 }) 0 → ⊥
+poison_over_a_reset : WritesStatus 0 full (record (new_device full.settings) { target = 20; poison = 22; round = record { shown = 0; last = 24; opened = 0 } }) 0 → ⊥
 poison_over_a_reset h = let e : Same 22 0 = ap (λ (d : Device). d.poison) (h.accepted refl).1 in omega arith
 
 -- ---- other regions

@@ -94,18 +94,28 @@ arrives new n h = (h.code, h.loans)
 taken_place : (new : List Loan) (n : ℕ) → Queues (may_arrive 8) (arrived 8 First) 0 host new n → (n ≡ 7) × (new ≡ host)
 taken_place new n h = (h.code, h.loans)
 
-resets : (new : List Loan) (n : ℕ) → Queues may_reset resetting 1 host new n
+resets : (new : List Loan) (n : ℕ) → Queues may_reset (resetting (line_of 0)) 1 host new n
     → (n ≡ 0) × (new ≡ loan 20 40 0 0 ∷ loan 30 30 30 4 ∷ vacant ∷ [])
 resets new n h = (h.code, h.loans)
 
--- not at the turn that it had
-keeps_its_turn : Queues may_reset resetting 1 host (loan 20 40 0 0 ∷ loan 30 30 30 3 ∷ vacant ∷ []) 0 → ⊥
+resets_in_second : (new : List Loan) (n : ℕ) → Queues may_reset (resetting (line_of 2)) 1 host new n
+    → (n ≡ 0) × (new ≡ loan 20 40 0 0 ∷ record (loan 30 30 30 4) { line = 1 } ∷ vacant ∷ [])
+resets_in_second new n h = (h.code, h.loans)
+
+-- not at the turn that it had, nor in the line
+keeps_its_turn : Queues may_reset (resetting (line_of 0)) 1 host (loan 20 40 0 0 ∷ loan 30 30 30 3 ∷ vacant ∷ []) 0 → ⊥
 keeps_its_turn h = let e : Same 3 4 = ap turn_of_second h.loans in omega arith where
   turn_of_second : List Loan → ℕ
   turn_of_second (s ∷ t ∷ loans) = t.turn
   turn_of_second _ = 0
 
-no_turn_left : (new : List Loan) (n : ℕ) → Queues may_reset resetting 0 (loan 20 40 1 18446744073709551615 ∷ []) new n
+keeps_its_line : Queues may_reset (resetting (line_of 1)) 1 host (loan 20 40 0 0 ∷ loan 30 30 30 4 ∷ vacant ∷ []) 0 → ⊥
+keeps_its_line h = let e : Same 0 1 = ap line_of_second h.loans in omega arith where
+  line_of_second : List Loan → ℕ
+  line_of_second (s ∷ t ∷ loans) = t.line
+  line_of_second _ = 0
+
+no_turn_left : (new : List Loan) (n : ℕ) → Queues may_reset (resetting (line_of 1)) 0 (loan 20 40 1 18446744073709551615 ∷ []) new n
     → (n ≡ 7) × (new ≡ loan 20 40 1 18446744073709551615 ∷ [])
 no_turn_left new n h = (h.code, h.loans)
 

@@ -9,6 +9,7 @@ mod SavingFacts
 mod PhaseFacts
 mod RefusalFacts
 mod RegisterFacts
+mod HintingFacts
 mod LeftFacts
 mod QueueFacts
 mod LendingFacts

@@ -1,12 +1,12 @@
 -- A notice is read as it was shown.
 use Rattle.std.proofs.Common.{◌≡◌, ◌∙◌, ap, refl, arith, ℕ, ◌≤◌, ◌+◌, Bool, true, false, Option, Some, None}
 use Rattle.std.{specs.Prelude.{◌==◌, nat_le, if◌then◌else◌}, proofs.lemmas.Bool.Decides.nat_tests}
-use Rattle.vb_core.specs.declared.kinds.Kind.{Kind, TheVariants.{Inflate, Deflate, Statistics, Report}}
+use Rattle.vb_core.specs.declared.kinds.Kind.{Kind, TheVariants.{Inflate, Deflate, Statistics, Report, Hint}}
 use Rattle.vb_core.specs.declared.device.Denial.{Denial}
 use Rattle.vb_monitor.specs.declared.{outcome.{HeldChain.HeldChain, Tally.Tally}, step.Phase.Phase}
 use Rattle.vb_monitor.specs.declared.step.Phase.TheVariants.{AwaitsIndex, AwaitsEntry}
 use Rattle.vb_monitor.specs.declared.step.Phase.TheVariants.{AwaitsDescriptor, AwaitsPart}
-use Rattle.vb_monitor.specs.declared.step.Phase.TheVariants.{TellsPages, TellsFigures, Discards}
+use Rattle.vb_monitor.specs.declared.step.Phase.TheVariants.{TellsPages, TellsFigures, TellsId, Discards}
 use Rattle.vb_monitor.specs.declared.step.Phase.TheVariants.{GivesBack, AwaitsFlags, Ended}
 use Rattle.vb_monitor.specs.declared.{regions.Spot.Spot, step.Walk.Walk, progress.Progress.Progress}
 use Rattle.vb_monitor.specs.declared.room.TheConstants.{MAX_BYTES}
@@ -29,6 +29,7 @@ goes_fits (AwaitsDescriptor at walk) e = at_most (row_bytes walk) MAX_BYTES e
 goes_fits (AwaitsPart at place into len) e = at_most (into + len) MAX_BYTES e
 goes_fits (TellsPages place named further) e = absurd (grind arith)
 goes_fits (TellsFigures head count) e = absurd (grind arith)
+goes_fits (TellsId head id) e = absurd (grind arith)
 goes_fits (Discards cut x) e = tt
 goes_fits (GivesBack spots entry) e = tt
 goes_fits (AwaitsFlags at why more) e = tt
@@ -41,6 +42,7 @@ awaits (AwaitsDescriptor at walk) e fits = is_most (row_bytes walk) MAX_BYTES fi
 awaits (AwaitsPart at place into len) e fits = is_most (into + len) MAX_BYTES fits
 awaits (TellsPages place named further) e fits = absurd (grind arith)
 awaits (TellsFigures head count) e fits = absurd (grind arith)
+awaits (TellsId head id) e fits = absurd (grind arith)
 awaits (Discards cut x) e fits = refl
 awaits (GivesBack spots entry) e fits = absurd (grind arith)
 awaits (AwaitsFlags at why more) e fits = refl
@@ -64,6 +66,7 @@ kind_back Inflate = refl
 kind_back Deflate = refl
 kind_back Statistics = refl
 kind_back Report = refl
+kind_back Hint = refl
 
 pub shown_is : (k : Option Kind) (kind : Kind) (p q : Phase) (t u : Tally) → k ≡ Some kind → q ≡ p →
     u ≡ t → waits p ≡ true → Fits p →
@@ -89,14 +92,14 @@ end_back None tally = none_back tally.given tally.held
 
 -- how many bytes a row has is no part of it
 row_by : (c : Progress) (n m : ℕ) (at : Spot) (walk : Walk)
-    (is0 is1 is2 is3 is4 is5 is6 is7 is8 : Bool) →
+    (is0 is1 is2 is3 is4 is5 is6 is7 is8 is10 : Bool) →
     (if is0 then Ended (why_of c.code c.rule) (says_yes c.interrupt) (says_yes c.more)
     else if is1 then AwaitsIndex c.at else if is2 then AwaitsEntry c.at
     else if is3 then AwaitsDescriptor c.at (walk_of c) else if is4 then AwaitsPart c.at (place_of c) c.into c.length
     else if is5 then AwaitsFlags c.at (why_of c.code c.rule) (says_yes c.more)
     else if is6 then Discards (part_of c) (discarding_of c)
     else if is7 then TellsPages (place_of c) c.named (says_yes c.flag) else if is8 then TellsFigures c.head c.length
-    else GivesBack c.spots c.entry) ≡ AwaitsDescriptor at walk →
+    else if is10 then TellsId c.head c.length else GivesBack c.spots c.entry) ≡ AwaitsDescriptor at walk →
     (if is0 then Ended (why_of c.code c.rule) (says_yes c.interrupt) (says_yes c.more)
     else if is1 then AwaitsIndex c.at else if is2 then AwaitsEntry c.at
     else if is3 then AwaitsDescriptor c.at (walk_of c)
@@ -104,23 +107,25 @@ row_by : (c : Progress) (n m : ℕ) (at : Spot) (walk : Walk)
     else if is5 then AwaitsFlags c.at (why_of c.code c.rule) (says_yes c.more)
     else if is6 then Discards (part_of c) (discarding_of (record c { length = n; into = m }))
     else if is7 then TellsPages (place_of c) c.named (says_yes c.flag) else if is8 then TellsFigures c.head n
-    else GivesBack c.spots c.entry) ≡ AwaitsDescriptor at walk
-row_by c n m at walk true is1 is2 is3 is4 is5 is6 is7 is8 e = absurd (grind arith)
-row_by c n m at walk false true is2 is3 is4 is5 is6 is7 is8 e = absurd (grind arith)
-row_by c n m at walk false false true is3 is4 is5 is6 is7 is8 e = absurd (grind arith)
-row_by c n m at walk false false false true is4 is5 is6 is7 is8 e = e
-row_by c n m at walk false false false false true is5 is6 is7 is8 e = absurd (grind arith)
-row_by c n m at walk false false false false false true is6 is7 is8 e = absurd (grind arith)
-row_by c n m at walk false false false false false false true is7 is8 e = absurd (grind arith)
-row_by c n m at walk false false false false false false false true is8 e = absurd (grind arith)
-row_by c n m at walk false false false false false false false false true e = absurd (grind arith)
-row_by c n m at walk false false false false false false false false false e = absurd (grind arith)
+    else if is10 then TellsId c.head n else GivesBack c.spots c.entry) ≡ AwaitsDescriptor at walk
+row_by c n m at walk true is1 is2 is3 is4 is5 is6 is7 is8 is10 e = absurd (grind arith)
+row_by c n m at walk false true is2 is3 is4 is5 is6 is7 is8 is10 e = absurd (grind arith)
+row_by c n m at walk false false true is3 is4 is5 is6 is7 is8 is10 e = absurd (grind arith)
+row_by c n m at walk false false false true is4 is5 is6 is7 is8 is10 e = e
+row_by c n m at walk false false false false true is5 is6 is7 is8 is10 e = absurd (grind arith)
+row_by c n m at walk false false false false false true is6 is7 is8 is10 e = absurd (grind arith)
+row_by c n m at walk false false false false false false true is7 is8 is10 e = absurd (grind arith)
+row_by c n m at walk false false false false false false false true is8 is10 e = absurd (grind arith)
+row_by c n m at walk false false false false false false false false true is10 e = absurd (grind arith)
+row_by c n m at walk false false false false false false false false false true e = absurd (grind arith)
+row_by c n m at walk false false false false false false false false false false e = absurd (grind arith)
 
 pub row_stays : (c : Progress) (n m : ℕ) (at : Spot) (walk : Walk) →
     phase_of c ≡ AwaitsDescriptor at walk →
     phase_of (record c { length = n; into = m }) ≡ AwaitsDescriptor at walk
 unfolding phase_of
 row_stays c n m at walk e = row_by c n m at walk (c.phase == 0) (c.phase == 1) (c.phase == 2)
-    (c.phase == 3) (c.phase == 4) (c.phase == 5) (c.phase == 6) (c.phase == 7) (c.phase == 8) e
+    (c.phase == 3) (c.phase == 4) (c.phase == 5) (c.phase == 6) (c.phase == 7) (c.phase == 8)
+    (c.phase == 10) e
 
 pub ruleset going_steps = (no_step, no_kind, is_notice, goes_fits)

@@ -33,13 +33,14 @@ orders = record {
   cuts = 0;
   kept = 0;
   waits = 0;
+  hint_id = 0;
   used = record { spots = record { id = none_at; length = none_at; index = none_at }; id = 0; length = 0; index = 0 };
 }
 
 -- each number another one, so that none represents another
 abbrev notice : VbNotice
 notice = record {
-  what = 64;
+  what = 128;
   kind = 0;
   orders = orders;
   step = record {
@@ -87,8 +88,12 @@ a_notice : notice_of notice ≡ Some at_index
 unfolding phase_of
 a_notice = refl
 
-of_no_kind : notice_of (record notice { kind = 4 }) ≡ None
+of_no_kind : notice_of (record notice { kind = 5 }) ≡ None
 of_no_kind = refl
+
+at_an_id : notice_of (record notice { step = record (notice.step) { phase = 10 } }) ≡ None
+unfolding phase_of
+at_an_id = refl
 
 at_no_phase : notice_of (record notice { step = record (notice.step) { phase = 7 } }) ≡ None
 unfolding phase_of
@@ -104,7 +109,7 @@ used = record { element_at = 0x204; index_at = 0x202; id = 3; length = 0; index 
 answered : answer_bits (AwaitsIndex spot) ∷ answer_bits (AwaitsEntry spot) ∷ answer_bits (AwaitsDescriptor spot (walk_of (notice.step)))
     ∷ answer_bits (AwaitsPart spot (place_of (notice.step)) 3 4) ∷ answer_bits (AwaitsFlags spot None false)
     ∷ answer_bits (Discards (part_of (notice.step)) (discarding_of (notice.step))) ∷ answer_bits (GivesBack (orders.used.spots) used)
-    ∷ answer_bits (Ended None false false) ∷ [] ≡ 64 ∷ 80 ∷ 128 ∷ 128 ∷ 96 ∷ 0 ∷ 0 ∷ 0 ∷ []
+    ∷ answer_bits (Ended None false false) ∷ [] ≡ 128 ∷ 160 ∷ 256 ∷ 256 ∷ 192 ∷ 0 ∷ 0 ∷ 0 ∷ []
 answered = refl
 
 says_it_all : IsNotice notice (record { told = Nothing; gives = false }) at_index
@@ -112,12 +117,12 @@ unfolding phase_of
 says_it_all = record { read = refl; says = tt; what = refl }
 
 abbrev kind_in : Option Notice → ℕ
-kind_in None = 4
+kind_in None = 5
 kind_in (Some n) = code_of_kind (Some (n.kind))
 
 -- not what is told beside, nor another kind's
 tells_nothing : IsNotice notice (record { told = Pages; gives = false }) at_index → ⊥
-tells_nothing h = let e : Same 64 65 = h.what in omega arith
+tells_nothing h = let e : Same 128 129 = h.what in omega arith
 
 of_another_kind : IsNotice notice (record { told = Nothing; gives = false }) (record at_index { kind = Statistics }) → ⊥
 unfolding phase_of
@@ -146,7 +151,7 @@ nothing_else : IsElse notice (record notice { step = record (notice.step) { phas
 nothing_else = record { what = refl; kind = refl; orders = refl }
 
 another_bit : IsElse notice (record notice { what = 0 }) → ⊥
-another_bit h = let e : Same 0 64 = h.what in omega arith
+another_bit h = let e : Same 0 128 = h.what in omega arith
 
 another_queue : IsElse notice (record notice { kind = 2 }) → ⊥
 another_queue h = let e : Same 2 0 = h.kind in omega arith
@@ -233,8 +238,8 @@ has_ended = record {
 with_another_code : HasEnded over 5 → ⊥
 with_another_code h = let e : Same 7 5 = h.code_is in omega arith
 
-still_reading : HasEnded (record over { what = 64 }) 7 → ⊥
-still_reading h = let e : Same 64 0 = h.what in omega arith
+still_reading : HasEnded (record over { what = 128 }) 7 → ⊥
+still_reading h = let e : Same 128 0 = h.what in omega arith
 
 interrupting : HasEnded (record over { step = record (over.step) { interrupt = 1 } }) 7 → ⊥
 interrupting h = let e : Same 1 0 = h.interrupt in omega arith

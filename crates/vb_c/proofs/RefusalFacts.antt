@@ -52,8 +52,8 @@ changed_of_no_kind c h = let e : Same 5 4 = ap held_of h.balloon in omega arith
 no_notice : (c : VbNotice) → GoesOnBy None two 0 balloon balloon room room c → c.step.code ≡ 7
 no_notice c h = h.ended.code_is
 
-reading_although_none : (c : VbNotice) → GoesOnBy None two 0 balloon balloon room room (record c { what = 64 }) → ⊥
-reading_although_none c h = let e : Same 64 0 = h.ended.what in omega arith
+reading_although_none : (c : VbNotice) → GoesOnBy None two 0 balloon balloon room room (record c { what = 128 }) → ⊥
+reading_although_none c h = let e : Same 128 0 = h.ended.what in omega arith
 
 changed_by_none : (c : VbNotice) → GoesOnBy None two 0 balloon changed room room c → ⊥
 changed_by_none c h = let e : Same 5 4 = ap held_of h.balloon in omega arith

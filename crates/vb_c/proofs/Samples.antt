@@ -17,6 +17,7 @@ settings = record {
   needs_must_tell = 0;
   skips_bad_pages = 0;
   holds_deflates = 0;
+  discards_hints = 0;
 }
 
 -- settings that no device may have: no memory

@@ -3,6 +3,7 @@ use Rattle.std.specs.Prelude.{ℕ, [], ◌∷◌, Option, Some, None, Result, Ok
 use Rattle.vb_core.specs.declared.device.Denial.{Denial}
 use Rattle.vb_core.specs.declared.kinds.Kind.{Kind}
 use Rattle.vb_core.specs.declared.kinds.Kind.TheVariants.{Inflate, Deflate, Statistics, Report}
+use Rattle.vb_core.specs.declared.kinds.Kind.TheVariants.{Hint}
 use Rattle.vb_status.specs.declared.bits.StatusFault.{StatusFault}
 use Rattle.vb_status.specs.declared.bits.StatusFault.TheVariants.{ClearsBit, OutOfOrder}
 use Rattle.vb_status.specs.declared.bits.StatusFault.TheVariants.{FeatureNotOffered}
@@ -11,14 +12,15 @@ use Rattle.vb_status.specs.declared.bits.StatusFault.TheVariants.{VersionMissing
 use Rattle.vb_monitor.specs.Codes.{code_of}
 
 abbrev pub kind_of_code : ℕ → Option Kind
-kind_of_code code = slice_get (Inflate ∷ Deflate ∷ Statistics ∷ Report ∷ []) code
+kind_of_code code = slice_get (Inflate ∷ Deflate ∷ Statistics ∷ Report ∷ Hint ∷ []) code
 
 abbrev pub code_of_kind : Option Kind → ℕ
 code_of_kind (Some Inflate) = 0
 code_of_kind (Some Deflate) = 1
 code_of_kind (Some Statistics) = 2
 code_of_kind (Some Report) = 3
-code_of_kind None = 4
+code_of_kind (Some Hint) = 4
+code_of_kind None = 5
 
 -- The code of an answer that has nothing but a denial.
 abbrev pub code_in : Result (Unit {0}) Denial → ℕ

@@ -1,6 +1,7 @@
 pub mod Codes
 pub mod Marks
 pub mod Registers
+pub mod Hinting
 pub mod Sharing
 pub mod Saving
 pub mod Notices

@@ -7,13 +7,14 @@ use Rattle.vb_core.specs.declared.device.Denial.{Denial}
 use Rattle.vb_core.specs.declared.device.Denial.TheVariants.{NoQueue, BadArgument, NotReady}
 use Rattle.vb_core.specs.declared.device.Denial.TheVariants.{NeedsReset, Misplaced, Broken}
 use Rattle.vb_monitor.specs.declared.orders.Told.{Told}
-use Rattle.vb_monitor.specs.declared.orders.Told.TheVariants.{Nothing, Pages, Figures}
+use Rattle.vb_monitor.specs.declared.orders.Told.TheVariants.{Nothing, Pages, Figures, Id}
 use Rattle.vb_monitor.specs.declared.orders.Asked.{Asked}
 use Rattle.vb_monitor.specs.declared.outcome.{HeldChain.HeldChain, Tally.Tally}
 use Rattle.vb_monitor.specs.declared.step.Phase.{Phase}
 use Rattle.vb_monitor.specs.declared.step.Phase.TheVariants.{AwaitsIndex, AwaitsEntry}
 use Rattle.vb_monitor.specs.declared.step.Phase.TheVariants.{AwaitsDescriptor, AwaitsPart}
-use Rattle.vb_monitor.specs.declared.step.Phase.TheVariants.{TellsPages, TellsFigures, Discards}
+use Rattle.vb_monitor.specs.declared.step.Phase.TheVariants.{TellsPages, TellsFigures, TellsId}
+use Rattle.vb_monitor.specs.declared.step.Phase.TheVariants.{Discards}
 use Rattle.vb_monitor.specs.declared.step.Phase.TheVariants.{GivesBack, AwaitsFlags, Ended}
 use Rattle.vb_monitor.specs.Machine.{row_bytes, may_go_on}
 use Rattle.vb_monitor.specs.Codes.{code_of, end_rule}
@@ -75,31 +76,34 @@ Says c tally (AwaitsDescriptor at walk) = (c.step.into ≡ 0) × (c.step.length 
 Says c tally (AwaitsPart at place into len) = Unit {0}
 Says c tally (TellsPages place named further) = Unit {0}
 Says c tally (TellsFigures head count) = Unit {0}
+Says c tally (TellsId head id) = Unit {0}
 Says c tally (Discards cut x) = Unit {0}
 Says c tally (GivesBack spots entry) = Unit {0}
 Says c tally (AwaitsFlags at why more) = Unit {0}
 Says c tally (Ended why interrupt more) = SaysEnd c tally why interrupt more
 
--- The bits of what needs no answer: pages are told, figures are, parts are discarded where there
--- are any, and a chain is given back.
+-- The bits of what needs no answer: pages are told, figures are, an id of hints is, parts are
+-- discarded where there are any, and a chain is given back.
 abbrev pub told_bits : Told → ℕ
 told_bits Nothing = 0
 told_bits Pages = 1
 told_bits Figures = 2
+told_bits Id = 4
 
 abbrev pub asked_bits : Asked → ℕ → ℕ
-asked_bits a cuts = told_bits a.told + (if cuts == 0 then 0 else 4) + 8 * one_if a.gives
+asked_bits a cuts = told_bits a.told + (if cuts == 0 then 0 else 8) + 16 * one_if a.gives
 
--- The bits of what is done for an answer: 16 and 32 are an acquire and a full fence, 64 reads a
--- word, 128 copies bytes.
+-- The bits of what is done for an answer: 32 and 64 are an acquire and a full fence, 128 reads a
+-- word, 256 copies bytes.
 abbrev pub answer_bits : Phase → ℕ
-answer_bits (AwaitsIndex at) = 64
-answer_bits (AwaitsEntry at) = 16 + 64
-answer_bits (AwaitsDescriptor at walk) = 128
-answer_bits (AwaitsPart at place into len) = 128
-answer_bits (AwaitsFlags at why more) = 32 + 64
+answer_bits (AwaitsIndex at) = 128
+answer_bits (AwaitsEntry at) = 32 + 128
+answer_bits (AwaitsDescriptor at walk) = 256
+answer_bits (AwaitsPart at place into len) = 256
+answer_bits (AwaitsFlags at why more) = 64 + 128
 answer_bits (TellsPages place named further) = 0
 answer_bits (TellsFigures head count) = 0
+answer_bits (TellsId head id) = 0
 answer_bits (Discards cut x) = 0
 answer_bits (GivesBack spots entry) = 0
 answer_bits (Ended why interrupt more) = 0

@@ -12,7 +12,7 @@ use Rattle.vb_monitor.specs.declared.orders.Told.TheVariants.{Pages}
 use Rattle.vb_monitor.specs.declared.balloon.Balloon.{Balloon}
 use Rattle.vb_monitor.specs.declared.outcome.Budget.{Budget}
 use Rattle.vb_monitor.specs.declared.outcome.Outcome.{Outcome}
-use Rattle.vb_core.specs.Config.{keeps_reports}
+use Rattle.vb_core.specs.Config.{keeps_free}
 use Rattle.vb_core.specs.Settings.{holds_chains}
 use Rattle.vb_virtio.specs.Tests.{one_if}
 use Rattle.vb_monitor.specs.Accesses.{Access}
@@ -58,7 +58,8 @@ pub record HandsOver (n : Notice) (regions : List Region) (room : Room) (b1 b2 :
       (at_once asked n.kind c.orders cuts room.runs room.figures rest)
   pub has_room : HasRoom asked c.orders
   pub kept : asked.told ≡ Pages → c.orders.kept ≡
-      kept_pages (is_kept n.kind n.step.tally.keeps (keeps_reports b1.device)) c.orders.named.pages
+      kept_pages (is_kept n.kind n.step.tally.keeps (keeps_free n.kind b1.device))
+      c.orders.named.pages
   pub held_back : asked.told ≡ Pages →
       c.orders.waits ≡ one_if (holds_chains n.kind b1.device.settings)
   pub waits_now : waits notice.step.phase ≡ true

@@ -17,8 +17,11 @@ pub(crate) const STATISTICS: u32 = 2;
 /// Pages are free in the guest.
 pub(crate) const REPORT: u32 = 3;
 
+/// Pages that the guest keeps free are hinted.
+pub(crate) const HINT: u32 = 4;
+
 /// The kind of no queue.
-pub(crate) const NO_KIND: u32 = 4;
+pub(crate) const NO_KIND: u32 = 5;
 
 /// The kind of this code, if it is one.
 pub(crate) fn kind_of_code(code: u32) -> Option<Kind>
@@ -29,6 +32,7 @@ pub(crate) fn kind_of_code(code: u32) -> Option<Kind>
         DEFLATE => Some(Kind::Deflate),
         STATISTICS => Some(Kind::Statistics),
         REPORT => Some(Kind::Report),
+        HINT => Some(Kind::Hint),
         _ => None,
     }
 }
@@ -42,6 +46,7 @@ pub(crate) fn code_of_kind(kind: Option<Kind>) -> u32
         Some(Kind::Deflate) => DEFLATE,
         Some(Kind::Statistics) => STATISTICS,
         Some(Kind::Report) => REPORT,
+        Some(Kind::Hint) => HINT,
         None => NO_KIND,
     }
 }

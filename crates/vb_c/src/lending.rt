@@ -86,12 +86,12 @@ pub extern "C" fn vb_loan_ask(loans: &mut [Loan], guest: usize, pages: u32) -> u
     code_if(ask(loans, guest, pages))
 }
 
-/// A reset is pending.
+/// A reset is pending, and waits in a line.
 #[unsafe(no_mangle)]
-pub extern "C" fn vb_loan_reset(loans: &mut [Loan], guest: usize) -> u32
-    ensures { Queues may_reset resetting guest loans.old loans.new result }
+pub extern "C" fn vb_loan_reset(loans: &mut [Loan], guest: usize, line: u16) -> u32
+    ensures { Queues may_reset (resetting (line_of line)) guest loans.old loans.new result }
 {
-    code_if(reset(loans, guest))
+    code_if(reset(loans, guest, WaitingLine::of(line)))
 }
 
 /// Pages left a guest's balloon.

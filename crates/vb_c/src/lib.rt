@@ -4,6 +4,7 @@
 #![tactic(auto)]
 
 mod bits;
+mod hinting;
 mod hosting;
 mod kinds;
 mod lending;

@@ -10,7 +10,9 @@ ghost use Rattle.vb_c.specs.Notices.{Says, SaysEnd, end_code, breaks, asked_bits
 ghost use Rattle.vb_c.specs.Notices.{IsNotice, HasEnded, IsElse};
 ghost use Rattle.vb_monitor.specs.declared.room.TheConstants.{MAX_BYTES};
 
-use crate::bits::{ACQUIRE, COPY, DISCARD, FULL_FENCE, GIVE_BACK, READ, TELL_FIGURES, TELL_PAGES};
+use crate::bits::{
+    ACQUIRE, COPY, DISCARD, FULL_FENCE, GIVE_BACK, READ, TELL_FIGURES, TELL_ID, TELL_PAGES,
+};
 use crate::kinds::code_of_kind;
 use crate::notice::VbNotice;
 use vb_chain::DESCRIPTOR_SIZE;
@@ -43,12 +45,13 @@ fn breaks(why: Option<Denial>) -> bool
 /// The bits of what needs no answer.
 fn asked_bits(asked: Asked, cuts: u32) -> u32
     ensures bits { result ≡ asked_bits asked cuts }
-    ensures few { result < 16 }
+    ensures few { result < 32 }
 {
     let told = match asked.told {
         Told::Nothing => 0,
         Told::Pages => TELL_PAGES,
         Told::Figures => TELL_FIGURES,
+        Told::Id => TELL_ID,
     };
     let discards = if cuts == 0 { 0 } else { DISCARD };
     let gives = if asked.gives { GIVE_BACK } else { 0 };
@@ -68,6 +71,7 @@ fn answer_bits(phase: &Phase) -> u32
         Phase::AwaitsFlags { .. } => FULL_FENCE + READ,
         Phase::TellsPages { .. }
         | Phase::TellsFigures { .. }
+        | Phase::TellsId { .. }
         | Phase::Discards { .. }
         | Phase::GivesBack { .. }
         | Phase::Ended { .. } => 0,
@@ -142,6 +146,7 @@ impl VbNotice {
             Phase::Discards { .. } => {}
             Phase::TellsPages { .. } => {}
             Phase::TellsFigures { .. } => {}
+            Phase::TellsId { .. } => {}
             Phase::GivesBack { .. } => {}
         }
     }

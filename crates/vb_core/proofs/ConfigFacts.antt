@@ -2,10 +2,11 @@
 use Rattle.std.proofs.Common.{◌≡◌, refl, ℕ, Bool, true, false, List, [], ◌∷◌, map, take, drop, replicate}
 use Rattle.std.specs.Prelude.{Some, None}
 use Rattle.vb_status.specs.declared.bits.StatusFault.TheVariants.{FeatureNotOffered, OutOfOrder}
-use Rattle.vb_core.specs.declared.{device.Device.Device, settings.TheConstants.PAGE_POISON}
+use Rattle.vb_core.specs.declared.{device.Device.Device, settings.TheConstants.{PAGE_POISON, FREE_PAGE_HINT}}
 use Rattle.vb_core.{proofs.Examples.offering, specs.{Devices.new_device, Statuses.negotiate_denial}}
-use Rattle.vb_core.specs.Settings.{are_settings, known_features, page_poison, without_poison}
-use Rattle.vb_core.specs.Config.{config_bytes, config_denies, with_written, keeps_reports}
+use Rattle.vb_core.specs.Settings.{are_settings, known_features, page_poison, free_page_hint, without_later}
+use Rattle.vb_core.specs.declared.kinds.Kind.{Kind, TheVariants.{Inflate, Deflate, Statistics, Hint, Report}}
+use Rattle.vb_core.specs.Config.{config_bytes, config_denies, with_written, keeps_reports, keeps_free}
 
 -- with PAGE_POISON, and without it
 abbrev poisons : Device
@@ -23,6 +24,17 @@ all_read = refl
 zeros_unless_offered : config_bytes other ≡
     2 ∷ 1 ∷ 0 ∷ 0 ∷ 1 ∷ 0 ∷ 0 ∷ 0 ∷ 0 ∷ 0 ∷ 0 ∷ 0 ∷ 0 ∷ 0 ∷ 0 ∷ 0 ∷ []
 zeros_unless_offered = refl
+
+-- an id, STOP and DONE where FREE_PAGE_HINT is offered, and else STOP
+abbrev showing : ℕ → ℕ → Device
+showing offered id = record (new_device (offering offered)) { round = record { shown = id; last = 7; opened = 0 } }
+
+ids_read : map (λ id. take 4 (drop 8 (config_bytes (showing 0x100000008 id)))) (0x1020304 ∷ 1 ∷ 0 ∷ [])
+    ≡ (4 ∷ 3 ∷ 2 ∷ 1 ∷ []) ∷ (1 ∷ 0 ∷ 0 ∷ 0 ∷ []) ∷ (0 ∷ 0 ∷ 0 ∷ 0 ∷ []) ∷ []
+ids_read = refl
+
+no_id_read : take 4 (drop 8 (config_bytes (showing 0x100000037 0x1020304))) ≡ 0 ∷ 0 ∷ 0 ∷ 0 ∷ []
+no_id_read = refl
 
 -- ---- writes: the fields that the bytes cover whole, each beginning at an offset and having a length
 
@@ -82,16 +94,20 @@ unless_offered = refl
 
 -- ---- the feature
 
-one_bit : PAGE_POISON ∷ known_features ∷ without_poison 0x100000037 ∷ without_poison 0x100000027 ∷ []
-    ≡ 16 ∷ 0x100000037 ∷ 0x100000027 ∷ 0x100000027 ∷ []
+one_bit : PAGE_POISON ∷ FREE_PAGE_HINT ∷ known_features ∷ without_later 0x10000003f
+    ∷ without_later 0x100000027 ∷ [] ≡ 16 ∷ 8 ∷ 0x10000003f ∷ 0x100000027 ∷ 0x100000027 ∷ []
 one_bit = refl
 
 tested : map page_poison (16 ∷ 0x100000037 ∷ 0 ∷ 15 ∷ 32 ∷ 0x100000027 ∷ [])
     ≡ true ∷ true ∷ false ∷ false ∷ false ∷ false ∷ []
 tested = refl
 
+tested_hints : map free_page_hint (8 ∷ 0x10000003f ∷ 0 ∷ 7 ∷ 16 ∷ 0x100000037 ∷ [])
+    ≡ true ∷ true ∷ false ∷ false ∷ false ∷ false ∷ []
+tested_hints = refl
+
 may_be_offered : map (λ offered. are_settings (offering offered)) (0x100000010
-    ∷ 0x100000037 ∷ 16 ∷ 0x100000008 ∷ 0x100000040 ∷ []) ≡ true ∷ true ∷ false ∷ false ∷ false ∷ []
+    ∷ 0x10000003f ∷ 0x100000008 ∷ 16 ∷ 8 ∷ 0x100000040 ∷ []) ≡ true ∷ true ∷ true ∷ false ∷ false ∷ false ∷ []
 may_be_offered = refl
 
 abbrev negotiating : Device → Device
@@ -118,3 +134,28 @@ discarded : keeps_reports (record poisons { features = 0x100000031; poison = 0 }
     ∷ keeps_reports (record poisons { features = 0x100000021 })
     ∷ keeps_reports (new_device (offering 0x100000031)) ∷ [] ≡ false ∷ false ∷ false ∷ []
 discarded = refl
+
+-- ---- what free pages keep, by kind
+
+abbrev kinds : List Kind
+kinds = Inflate ∷ Deflate ∷ Statistics ∷ Hint ∷ Report ∷ []
+
+-- the driver's poison_val, and whether the settings discard hints
+abbrev keeping : ℕ → ℕ → Device
+keeping poison discards = record poisons {
+  settings = record (offering 0x100000039) { discards_hints = discards };
+  features = 0x100000039;
+  poison = poison;
+}
+
+free_kept : map (λ kind. keeps_free kind (keeping 7 0)) kinds ∷ map (λ kind. keeps_free kind (keeping 7 1)) kinds
+    ∷ map (λ kind. keeps_free kind (keeping 0 0)) kinds ∷ []
+    ≡ (false ∷ false ∷ false ∷ true ∷ true ∷ []) ∷ (false ∷ false ∷ false ∷ true ∷ true ∷ [])
+    ∷ (false ∷ false ∷ false ∷ true ∷ false ∷ []) ∷ []
+free_kept = refl
+
+-- with no poison to keep, where the settings discard hints, by any number but 0
+free_discarded : map (λ kind. keeps_free kind (keeping 0 1)) kinds
+    ∷ map (λ kind. keeps_free kind (keeping 0 255)) kinds ∷ []
+    ≡ replicate 5 false ∷ replicate 5 false ∷ []
+free_discarded = refl

@@ -12,6 +12,7 @@ offering offered = record {
   needs_must_tell = 0;
   skips_bad_pages = 0;
   holds_deflates = 0;
+  discards_hints = 0;
 }
 
 abbrev pub settings : Settings

@@ -1,7 +1,7 @@
 -- Numbers that fit the fields of a saved device, worked out: the largest ones, and one more of each.
 use Rattle.std.proofs.Common.{ℕ, arith}
-use Rattle.vb_core.specs.Format.{FitsSettings, FitsRing, FitsHolds, FitsSaved}
-use Rattle.vb_core.specs.declared.{device.Device.Device, ring.Virtqueue.Virtqueue}
+use Rattle.vb_core.specs.Format.{FitsSettings, FitsRing, FitsRound, FitsHolds, FitsSaved}
+use Rattle.vb_core.specs.declared.{device.Device.Device, ring.Virtqueue.Virtqueue, hints.Round.Round}
 use Rattle.vb_core.specs.declared.{saved.Saved.Saved, settings.Settings.Settings}
 
 -- the largest numbers of 64, 32, 16 and 8 bits
@@ -13,6 +13,7 @@ settings = record {
   needs_must_tell = 255;
   skips_bad_pages = 255;
   holds_deflates = 255;
+  discards_hints = 255;
 }
 
 abbrev ring : Virtqueue
@@ -25,6 +26,9 @@ ring = record {
   next_used = 65535;
 }
 
+abbrev round : Round
+round = record { shown = 0xffffffff; last = 0xffffffff; opened = 255 }
+
 abbrev device : Device
 device = record {
   settings = settings;
@@ -34,8 +38,10 @@ device = record {
   inflate = ring;
   deflate = ring;
   statistics = ring;
+  hint = ring;
   report = ring;
   poison = 0xffffffff;
+  round = round;
   status = 255;
 }
 
@@ -65,6 +71,9 @@ ring_fits = record {
   next_used = omega arith;
 }
 
+round_fits : FitsRound round
+round_fits = record { shown = omega arith; last = omega arith; opened = omega arith }
+
 holds_fit : FitsHolds (saved device)
 holds_fit = record { setting = omega arith; deflate = omega arith; pages = omega arith }
 
@@ -77,8 +86,11 @@ all_fit = record {
   inflate = ring_fits;
   deflate = ring_fits;
   statistics = ring_fits;
+  hint = ring_fits;
   report = ring_fits;
   poison = omega arith;
+  round = round_fits;
+  discards_hints = omega arith;
   status = omega arith;
   statistics_held = omega arith;
   holds = holds_fit;
@@ -113,6 +125,12 @@ ring_past = (
   λ f. omega (arith, f.next_used),
 )
 
+round_past : (FitsRound (record round { shown = 0x100000000 }) → ⊥)
+    × (FitsRound (record round { last = 0x100000000 }) → ⊥)
+    × (FitsRound (record round { opened = 256 }) → ⊥)
+round_past =
+    (λ f. omega (arith, f.shown), λ f. omega (arith, f.last), λ f. omega (arith, f.opened))
+
 device_past : (FitsSaved (saved (record device { features = 0x10000000000000000 })) → ⊥)
     × (FitsSaved (saved (record device { target = 0x100000000 })) → ⊥)
     × (FitsSaved (saved (record device { actual = 0x100000000 })) → ⊥)
@@ -136,13 +154,19 @@ parts_past : (FitsSaved (saved (record device { settings = record settings { nee
     × (FitsSaved (saved (record device { inflate = long })) → ⊥)
     × (FitsSaved (saved (record device { deflate = long })) → ⊥)
     × (FitsSaved (saved (record device { statistics = long })) → ⊥)
+    × (FitsSaved (saved (record device { hint = long })) → ⊥)
     × (FitsSaved (saved (record device { report = long })) → ⊥)
+    × (FitsSaved (saved (record device { round = record round { opened = 256 } })) → ⊥)
+    × (FitsSaved (saved (record device { settings = record settings { discards_hints = 256 } })) → ⊥)
 parts_past = (
   λ f. omega (arith, f.settings.needs_must_tell),
   λ f. omega (arith, f.inflate.size),
   λ f. omega (arith, f.deflate.size),
   λ f. omega (arith, f.statistics.size),
+  λ f. omega (arith, f.hint.size),
   λ f. omega (arith, f.report.size),
+  λ f. omega (arith, f.round.opened),
+  λ f. omega (arith, f.discards_hints),
 )
 
 -- nor what is held of deflates, or may be

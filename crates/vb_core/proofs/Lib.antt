@@ -25,6 +25,8 @@ mod LifeFacts
 mod WriteFacts
 mod FormatFacts
 mod HeldFacts
+mod HintFacts
+pub mod HintLemmas
 pub mod Numbers
 pub mod PieceLemmas
 pub mod RoundTrip

@@ -5,7 +5,7 @@ use Rattle.vb_core.specs.declared.device.Denial.TheVariants.{NoQueue, BadArgumen
 use Rattle.vb_core.specs.{declared.statistics.Statistic.Statistic, declared.device.Device.Device}
 use Rattle.vb_core.specs.{Kinds.kind_of, declared.device.Denial.TheVariants.{NeedsReset, Misplaced}}
 use Rattle.vb_core.specs.{Statistics.{AreFigures, figure_at, statistics_denial}, Statuses.after_write}
-use Rattle.vb_core.specs.declared.kinds.Kind.TheVariants.{Inflate, Deflate, Report}
+use Rattle.vb_core.specs.declared.kinds.Kind.TheVariants.{Inflate, Deflate, Statistics, Hint, Report}
 use Rattle.vb_core.specs.Devices.{placed, queue_denial, call_denial, place_denial}
 use Rattle.vb_core.{proofs.Examples.{settings, fresh, ready}, specs.Using.use_denial}
 use Rattle.vb_core.specs.Rings.{is_size, is_part, has_place, with_taken, with_used, used_entry}
@@ -113,10 +113,21 @@ numbered : kind_of 0x100000020 2 ∷ kind_of 0x100000022 3 ∷ kind_of 0x1000000
     ≡ Some Report ∷ Some Report ∷ None ∷ []
 numbered = refl
 
+-- hints come before reports, and after statistics
+hints_numbered : map (kind_of 0x10000002a) (2 ∷ 3 ∷ 4 ∷ 5 ∷ []) ++ map (kind_of 0x100000028) (2 ∷ 3 ∷ 4 ∷ [])
+    ++ map (kind_of 0x100000008) (2 ∷ 3 ∷ []) ≡ Some Statistics ∷ Some Hint ∷ Some Report ∷ None
+    ∷ Some Hint ∷ Some Report ∷ None ∷ Some Hint ∷ None ∷ []
+hints_numbered = refl
+
 -- ---- registers
 
--- a reset forgets all but the target
-reset : after_write 0 (record ready { target = 9; actual = 4; poison = 7 }) ≡ record fresh { target = 9 }
+-- a reset forgets all but the target, and the id of the last round
+reset : after_write 0 (record ready {
+  target = 9;
+  actual = 4;
+  poison = 7;
+  round = record { shown = 5; last = 5; opened = 1 };
+}) ≡ record fresh { target = 9; round = record { shown = 0; last = 5; opened = 0 } }
 reset = refl
 
 acknowledged : after_write 1 fresh ≡ record fresh { status = 1 }

@@ -3,21 +3,22 @@ use Rattle.std.proofs.Common.{◌≡◌, ℕ, ◌-◌, ◌*◌, ◌%◌, ◌^◌
 use Rattle.std.proofs.Common.{◌∷◌, ◌++◌, length, take, drop, refl, sym, ◌∙◌, ap, arith, lit<, append-nil}
 use Rattle.std.proofs.lemmas.{Bool.{eqb-true, eq-eqb, or_cases, and_from}, List.{length-drop, take_at, drop_all}}
 use Rattle.std.specs.Prelude.{Option, Some, None, Result, Ok, Err}
-use Rattle.std.proofs.Common.{length-append, if◌then◌else◌, ◌==◌, ◌&&◌, inl, inr, nat_lt, bit_xor, fold, get_or, subst}
-use Rattle.vb_core.specs.Format.{u64_bytes, u32_at, u64_at, in_a_row, saved_parts, older_parts}
-use Rattle.vb_core.specs.Format.{hold_parts, with_sum, checksum, older_in, state_in, WasSaved}
-use Rattle.vb_core.specs.Format.{saved_bytes, older_bytes, saved_in, FitsSaved, HoldsNoDeflate}
+use Rattle.std.proofs.Common.{length-append, if◌then◌else◌, ◌==◌, ◌&&◌, ◌||◌, inl, inr, nat_lt, bit_xor, fold, get_or, subst}
+use Rattle.vb_core.specs.Format.{u64_bytes, u32_at, u64_at, in_a_row, saved_parts, older_parts, oldest_parts}
+use Rattle.vb_core.specs.Format.{hold_parts, hint_parts, with_sum, checksum, oldest_in, older_in, state_in, WasSaved}
+use Rattle.vb_core.specs.Format.{saved_bytes, older_bytes, oldest_bytes, saved_in, ring_at, round_at}
+use Rattle.vb_core.specs.Format.{FitsSaved, HoldsNoDeflate, HintsNothing}
 use Rattle.vb_core.specs.Saved.{can_be, is_state, has_version, has_length, has_sum, header_denial}
 use Rattle.vb_core.specs.Saved.{is_version, length_of, are_so_long, read_saved, unless_denied, restored}
 use Rattle.vb_core.specs.declared.format.TheConstants.{MAGIC, FORMAT_VERSION, SAVED_LENGTH}
-use Rattle.vb_core.specs.declared.format.TheConstants.{OLDER_VERSION, OLDER_LENGTH}
+use Rattle.vb_core.specs.declared.format.TheConstants.{OLDER_VERSION, OLDER_LENGTH, OLDEST_VERSION, OLDEST_LENGTH}
 use Rattle.vb_core.specs.declared.format.TheConstants.{VERSION_AT, LENGTH_AT, HEADER_LENGTH}
 use Rattle.vb_core.specs.declared.saved.StateDenial.TheVariants.{BadLength, NotAState, OtherVersion}
 use Rattle.vb_core.specs.declared.saved.StateDenial.{StateDenial, TheVariants.{BadSum, Impossible}}
 use Rattle.vb_core.specs.declared.saved.Saved.{Saved}
 use Rattle.vb_core.proofs.{Rows.row_more, Numbers.{AreBytes, u64_then, u64_again}}
-use Rattle.vb_core.proofs.RoundTrip.{row, older_of, first_parts, says, holds_then, row_again}
-use Rattle.vb_core.proofs.RoundTrip.{holds_again}
+use Rattle.vb_core.proofs.RoundTrip.{row, older_of, oldest_of, first_parts, says, holds_then}
+use Rattle.vb_core.proofs.RoundTrip.{row_again, holds_again, hints_then, hints_again}
 
 -- a checksum fits its field
 checksum_fits : (bytes : List ℕ) → checksum bytes < 2 ^ 64
@@ -104,17 +105,53 @@ restores version len s bytes known so_many enough so_long magic told_version tol
     (ap (λ (x : Saved). can_be x) is ∙ possible)
     ∙ ap (λ (x : Saved). Ok x) is
 
--- the newer version's device, by the older one's fields and what comes after them
-newer_is : (s : Saved) (bytes : List ℕ) → older_in bytes ≡ older_of s
+-- the older version's device, by the oldest one's fields and what comes after them
+older_is : (s : Saved) (bytes : List ℕ) → oldest_in bytes ≡ oldest_of s
     → get_or bytes 183 0 ≡ s.device.settings.holds_deflates → u32_at bytes 184 ≡ s.held.deflate
-    → u32_at bytes 188 ≡ s.held.pages → saved_in bytes ≡ s
+    → u32_at bytes 188 ≡ s.held.pages → older_in bytes ≡ older_of s
+older_is s bytes e a b c = grind arith
+
+-- this version's, by the older one's and what comes after that
+newer_is : (s : Saved) (bytes : List ℕ) → older_in bytes ≡ older_of s
+    → ring_at bytes 192 ≡ s.device.hint → round_at bytes 222 ≡ s.device.round
+    → get_or bytes 231 0 ≡ s.device.settings.discards_hints → saved_in bytes ≡ s
 newer_is s bytes e a b c = grind arith
+
+-- the device that bytes say, by their number
+abbrev state_of : ℕ → List ℕ → Saved
+state_of len bytes =
+    if len == OLDEST_LENGTH then oldest_in bytes
+    else if len == OLDER_LENGTH then older_in bytes
+    else saved_in bytes
 
 pub saved_restored : (s : Saved) → FitsSaved s → can_be s ≡ true → restored (saved_bytes s) ≡ Ok s
 saved_restored s f possible = let bytes = saved_bytes s in
     let parts = saved_parts s in
     let sum = u64_bytes (checksum (in_a_row parts [])) in
-    let w = says FORMAT_VERSION SAVED_LENGTH s (in_a_row (hold_parts s) sum) bytes (lit< tt) (lit< tt) f refl in
+    let w = says FORMAT_VERSION SAVED_LENGTH s (in_a_row (hold_parts s ++ hint_parts s.device) sum) bytes
+    (lit< tt) (lit< tt) f refl in
+    let h = holds_then s (in_a_row (hint_parts s.device) sum) bytes f.holds w.behind in
+    let g = hints_then s.device sum bytes f.hint f.round h.3 in
+    let eight : length sum ≡ 8 = length-u64_bytes (checksum (in_a_row parts [])) in
+    let len : length bytes ≡ 240 =
+    omega (arith, eight, ap (λ (xs : List ℕ). length xs) g.3, length-drop 232 bytes) in
+    let told = u64_then (checksum (in_a_row parts [])) [] bytes 232 240
+    (checksum_fits (in_a_row parts [])) refl (g.3 ∙ sym (append-nil sum)) in
+    let same = front 240 parts bytes sum (omega arith) len eight refl in
+    restores FORMAT_VERSION SAVED_LENGTH s bytes refl refl refl len w.magic w.version_told
+    w.length_told (told.0 ∙ ap (λ (xs : List ℕ). checksum xs) (sym same))
+    (ap (λ (n : ℕ). state_of n bytes) len
+    ∙ newer_is s bytes (older_is s bytes w.saved h.0 h.1 h.2) g.0 g.1 g.2) possible
+
+as_older : (s : Saved) → HintsNothing s.device → older_of s ≡ s
+as_older s none = rw (none.setting, none.ring, none.round)
+
+pub older_restored : (s : Saved) → FitsSaved s → HintsNothing s.device → can_be s ≡ true
+    → restored (older_bytes s) ≡ Ok s
+older_restored s f none possible = let bytes = older_bytes s in
+    let parts = older_parts s in
+    let sum = u64_bytes (checksum (in_a_row parts [])) in
+    let w = says OLDER_VERSION OLDER_LENGTH s (in_a_row (hold_parts s) sum) bytes (lit< tt) (lit< tt) f refl in
     let h = holds_then s sum bytes f.holds w.behind in
     let eight : length sum ≡ 8 = length-u64_bytes (checksum (in_a_row parts [])) in
     let len : length bytes ≡ 200 =
@@ -122,30 +159,30 @@ saved_restored s f possible = let bytes = saved_bytes s in
     let told = u64_then (checksum (in_a_row parts [])) [] bytes 192 200
     (checksum_fits (in_a_row parts [])) refl (h.3 ∙ sym (append-nil sum)) in
     let same = front 200 parts bytes sum (omega arith) len eight refl in
-    restores FORMAT_VERSION SAVED_LENGTH s bytes refl refl refl len w.magic w.version_told
+    restores OLDER_VERSION OLDER_LENGTH s bytes refl refl refl len w.magic w.version_told
     w.length_told (told.0 ∙ ap (λ (xs : List ℕ). checksum xs) (sym same))
-    (ap (λ (n : ℕ). if n == SAVED_LENGTH then saved_in bytes else older_in bytes) len
-    ∙ newer_is s bytes w.saved h.0 h.1 h.2) possible
+    (ap (λ (n : ℕ). state_of n bytes) len
+    ∙ older_is s bytes w.saved h.0 h.1 h.2 ∙ as_older s none) possible
 
-older_is : (s : Saved) → HoldsNoDeflate s → older_of s ≡ s
-older_is s none = rw (none.setting, none.deflate, none.pages)
+as_oldest : (s : Saved) → HoldsNoDeflate s → HintsNothing s.device → oldest_of s ≡ s
+as_oldest s none hints = rw (none.setting, none.deflate, none.pages, hints.setting, hints.ring, hints.round)
 
-pub older_restored : (s : Saved) → FitsSaved s → HoldsNoDeflate s → can_be s ≡ true
-    → restored (older_bytes s) ≡ Ok s
-older_restored s f none possible = let bytes = older_bytes s in
-    let parts = older_parts s in
+pub oldest_restored : (s : Saved) → FitsSaved s → HoldsNoDeflate s → HintsNothing s.device
+    → can_be s ≡ true → restored (oldest_bytes s) ≡ Ok s
+oldest_restored s f none hints possible = let bytes = oldest_bytes s in
+    let parts = oldest_parts s in
     let sum = u64_bytes (checksum (in_a_row parts [])) in
-    let w = says OLDER_VERSION OLDER_LENGTH s sum bytes (lit< tt) (lit< tt) f refl in
+    let w = says OLDEST_VERSION OLDEST_LENGTH s sum bytes (lit< tt) (lit< tt) f refl in
     let eight : length sum ≡ 8 = length-u64_bytes (checksum (in_a_row parts [])) in
     let len : length bytes ≡ 191 =
     omega (arith, eight, ap (λ (xs : List ℕ). length xs) w.behind, length-drop 183 bytes) in
     let told = u64_then (checksum (in_a_row parts [])) [] bytes 183 191
     (checksum_fits (in_a_row parts [])) refl (w.behind ∙ sym (append-nil sum)) in
     let same = front 191 parts bytes sum (omega arith) len eight refl in
-    restores OLDER_VERSION OLDER_LENGTH s bytes refl refl refl len w.magic w.version_told
+    restores OLDEST_VERSION OLDEST_LENGTH s bytes refl refl refl len w.magic w.version_told
     w.length_told (told.0 ∙ ap (λ (xs : List ℕ). checksum xs) (sym same))
-    (ap (λ (n : ℕ). if n == SAVED_LENGTH then saved_in bytes else older_in bytes) len
-    ∙ w.saved ∙ older_is s none) possible
+    (ap (λ (n : ℕ). state_of n bytes) len
+    ∙ w.saved ∙ as_oldest s none hints) possible
 
 -- ---- nothing else is
 
@@ -166,24 +203,37 @@ summed len parts bytes all enough so_long e told = let behind = drop (len - 8) b
     e ∙ ap (λ (xs : List ℕ). in_a_row parts xs) last
 
 -- what a good header and a right checksum say, of a version
-newer_was : (bytes : List ℕ) → AreBytes bytes → length bytes ≡ 200 → u64_at bytes 0 ≡ MAGIC
-    → u32_at bytes VERSION_AT ≡ 3 → u32_at bytes LENGTH_AT ≡ 200
-    → u64_at bytes 192 ≡ checksum (take 192 bytes) → WasSaved bytes (saved_in bytes)
+newer_was : (bytes : List ℕ) → AreBytes bytes → length bytes ≡ 240 → u64_at bytes 0 ≡ MAGIC
+    → u32_at bytes VERSION_AT ≡ 4 → u32_at bytes LENGTH_AT ≡ 240
+    → u64_at bytes 232 ≡ checksum (take 232 bytes) → WasSaved bytes (saved_in bytes)
 newer_was bytes all len magic version told sum =
-    inl (summed 200 (saved_parts (saved_in bytes)) bytes all (omega arith) len
-    (row (first_parts 3 200 (older_in bytes)) _ _ _
-    (row_again 3 200 bytes all (omega (arith, len)) magic version told)
-    (holds_again bytes all (omega (arith, len)))) sum)
+    inl (summed 240 (saved_parts (saved_in bytes)) bytes all (omega arith) len
+    (row (first_parts 4 240 (oldest_in bytes)) _ _ _
+    (row_again 4 240 bytes all (omega (arith, len)) magic version told)
+    (row (hold_parts (older_in bytes)) _ _ _ (holds_again bytes all (omega (arith, len)))
+    (hints_again bytes all (omega (arith, len))))) sum)
 
-older_was : (bytes : List ℕ) → AreBytes bytes → length bytes ≡ 191 → u64_at bytes 0 ≡ MAGIC
-    → u32_at bytes VERSION_AT ≡ 2 → u32_at bytes LENGTH_AT ≡ 191
-    → u64_at bytes 183 ≡ checksum (take 183 bytes) → WasSaved bytes (older_in bytes)
+older_was : (bytes : List ℕ) → AreBytes bytes → length bytes ≡ 200 → u64_at bytes 0 ≡ MAGIC
+    → u32_at bytes VERSION_AT ≡ 3 → u32_at bytes LENGTH_AT ≡ 200
+    → u64_at bytes 192 ≡ checksum (take 192 bytes) → WasSaved bytes (older_in bytes)
 older_was bytes all len magic version told sum =
-    inr (
-      summed 191 (older_parts (older_in bytes)) bytes all (omega arith) len
+    inr (inl (
+      summed 200 (older_parts (older_in bytes)) bytes all (omega arith) len
+          (row (first_parts 3 200 (oldest_in bytes)) _ _ _
+          (row_again 3 200 bytes all (omega (arith, len)) magic version told)
+          (holds_again bytes all (omega (arith, len)))) sum,
+      record { setting = refl; ring = refl; round = refl },
+    ))
+
+oldest_was : (bytes : List ℕ) → AreBytes bytes → length bytes ≡ 191 → u64_at bytes 0 ≡ MAGIC
+    → u32_at bytes VERSION_AT ≡ 2 → u32_at bytes LENGTH_AT ≡ 191
+    → u64_at bytes 183 ≡ checksum (take 183 bytes) → WasSaved bytes (oldest_in bytes)
+oldest_was bytes all len magic version told sum =
+    inr (inr (
+      summed 191 (oldest_parts (oldest_in bytes)) bytes all (omega arith) len
           (row_again 2 191 bytes all (omega (arith, len)) magic version told) sum,
-      record { setting = refl; deflate = refl; pages = refl },
-    )
+      (record { setting = refl; deflate = refl; pages = refl }, record { setting = refl; ring = refl; round = refl }),
+    ))
 
 -- bytes that are so long, and say so
 long_so : (len version : ℕ) (bytes : List ℕ) → length_of version ≡ len
@@ -201,25 +251,30 @@ sum_so len bytes e t = eqb-true (u64_at bytes (len - 8)) (checksum (take (len - 
     (ap (λ (n : ℕ). u64_at bytes (n - 8) == checksum (take (n - 8) bytes)) (sym e) ∙ t)
 
 -- the device that they say, by their number
-state_so : (len : ℕ) (bytes : List ℕ) → length bytes ≡ len
-    → state_in bytes ≡ (if len == SAVED_LENGTH then saved_in bytes else older_in bytes)
-state_so len bytes e =
-    ap (λ (n : ℕ). if n == SAVED_LENGTH then saved_in bytes else older_in bytes) e
+state_so : (len : ℕ) (bytes : List ℕ) → length bytes ≡ len → state_in bytes ≡ state_of len bytes
+state_so len bytes e = ap (λ (n : ℕ). state_of n bytes) e
 
 was_saved : (bytes : List ℕ) → AreBytes bytes → is_state bytes ≡ true → has_version bytes ≡ true
     → has_length bytes ≡ true → has_sum bytes ≡ true → WasSaved bytes (state_in bytes)
 was_saved bytes all state version len sum =
-    elim (or_cases (u32_at bytes VERSION_AT == 3) (u32_at bytes VERSION_AT == 2) version) [
-      | inl newer ↦ let v = eqb-true (u32_at bytes VERSION_AT) 3 newer in
-          let l = long_so 200 3 bytes refl v len in
-          subst (λ (s : Saved). WasSaved bytes s) (sym (state_so 200 bytes l.1))
-          (newer_was bytes all l.1 (eqb-true (u64_at bytes 0) MAGIC state) v l.0
-          (sum_so 200 bytes l.1 sum))
-      | inr older ↦ let v = eqb-true (u32_at bytes VERSION_AT) 2 older in
+    let magic = eqb-true (u64_at bytes 0) MAGIC state in
+    elim (or_cases ((u32_at bytes VERSION_AT == 4) || (u32_at bytes VERSION_AT == 3))
+    (u32_at bytes VERSION_AT == 2) version) [
+      | inl after ↦
+          elim (or_cases (u32_at bytes VERSION_AT == 4) (u32_at bytes VERSION_AT == 3) after) [
+            | inl newer ↦ let v = eqb-true (u32_at bytes VERSION_AT) 4 newer in
+                let l = long_so 240 4 bytes refl v len in
+                subst (λ (s : Saved). WasSaved bytes s) (sym (state_so 240 bytes l.1))
+                (newer_was bytes all l.1 magic v l.0 (sum_so 240 bytes l.1 sum))
+            | inr older ↦ let v = eqb-true (u32_at bytes VERSION_AT) 3 older in
+                let l = long_so 200 3 bytes refl v len in
+                subst (λ (s : Saved). WasSaved bytes s) (sym (state_so 200 bytes l.1))
+                (older_was bytes all l.1 magic v l.0 (sum_so 200 bytes l.1 sum))
+          ]
+      | inr oldest ↦ let v = eqb-true (u32_at bytes VERSION_AT) 2 oldest in
           let l = long_so 191 2 bytes refl v len in
           subst (λ (s : Saved). WasSaved bytes s) (sym (state_so 191 bytes l.1))
-          (older_was bytes all l.1 (eqb-true (u64_at bytes 0) MAGIC state) v l.0
-          (sum_so 191 bytes l.1 sum))
+          (oldest_was bytes all l.1 magic v l.0 (sum_so 191 bytes l.1 sum))
     ]
 
 pub only_saved : (bytes : List ℕ) (s : Saved) → AreBytes bytes → restored bytes ≡ Ok s

@@ -1,38 +1,41 @@
 -- Worked facts of saved devices: their bytes, the states that calls lead to, and those that none
 -- do.
 use Rattle.std.specs.{List.range_with_len, Prelude.{Some, None, Err}}
-use Rattle.std.proofs.Common.{◌≡◌, ℕ, true, false, [], ◌∷◌, map, refl, count_by}
+use Rattle.std.proofs.Common.{◌≡◌, ℕ, true, false, [], ◌∷◌, map, refl, count_by, replicate}
 use Rattle.vb_core.specs.Saved.{is_status, are_agreed, is_blank, has_moved, is_ring, is_held}
-use Rattle.vb_core.specs.Saved.{is_poison, save_denial, is_version, length_of, is_length}
+use Rattle.vb_core.specs.Saved.{is_poison, is_round, save_denial, is_version, length_of, is_length}
 use Rattle.vb_core.specs.declared.format.TheConstants.{SAVED_LENGTH, CHECKSUM_AT, HEADER_LENGTH}
-use Rattle.vb_core.specs.declared.format.TheConstants.{OLDER_VERSION, OLDER_LENGTH, HOLD_AT}
+use Rattle.vb_core.specs.declared.format.TheConstants.{OLDER_VERSION, OLDER_LENGTH, HOLD_AT, HINT_AT}
+use Rattle.vb_core.specs.declared.format.TheConstants.{OLDEST_VERSION, OLDEST_LENGTH}
 use Rattle.vb_core.specs.declared.format.TheConstants.{CHECKSUM_LENGTH}
 use Rattle.vb_core.specs.declared.saved.StateDenial.TheVariants.{BadLength, NotAState, Impossible}
 use Rattle.vb_core.specs.declared.{device.Device.Device, saved.StateDenial.TheVariants.OtherVersion}
 use Rattle.vb_core.specs.declared.{ring.Virtqueue.Virtqueue, settings.Settings.Settings}
 use Rattle.vb_core.specs.{Devices.new_device, Rings.no_ring, Held.nothing_held, declared.saved.Saved.Saved}
-use Rattle.vb_core.specs.declared.kinds.Kind.TheVariants.{Inflate, Deflate, Statistics, Report}
+use Rattle.vb_core.specs.declared.kinds.Kind.TheVariants.{Inflate, Deflate, Statistics, Hint, Report}
 use Rattle.vb_core.specs.declared.format.TheConstants.{FORMAT_VERSION, VERSION_AT, LENGTH_AT, MAGIC}
 use Rattle.vb_core.specs.{Format.{u16_bytes, u64_bytes, u32_at, u64_at, checksum}, Saved.restored}
 use lib.Count
 
 -- ---- bytes
 
-places_are : FORMAT_VERSION ∷ VERSION_AT ∷ LENGTH_AT ∷ HEADER_LENGTH ∷ HOLD_AT ∷ CHECKSUM_AT
-    ∷ CHECKSUM_LENGTH ∷ SAVED_LENGTH ∷ [] ≡ 3 ∷ 8 ∷ 12 ∷ 16 ∷ 183 ∷ 192 ∷ 8 ∷ 200 ∷ []
+places_are : FORMAT_VERSION ∷ VERSION_AT ∷ LENGTH_AT ∷ HEADER_LENGTH ∷ HOLD_AT ∷ HINT_AT
+    ∷ CHECKSUM_AT ∷ CHECKSUM_LENGTH ∷ SAVED_LENGTH ∷ []
+    ≡ 4 ∷ 8 ∷ 12 ∷ 16 ∷ 183 ∷ 192 ∷ 232 ∷ 8 ∷ 240 ∷ []
 places_are = refl
 
-before_it : OLDER_VERSION ∷ OLDER_LENGTH ∷ [] ≡ 2 ∷ 191 ∷ []
+before_it : OLDER_VERSION ∷ OLDER_LENGTH ∷ OLDEST_VERSION ∷ OLDEST_LENGTH ∷ [] ≡ 3 ∷ 200 ∷ 2 ∷ 191 ∷ []
 before_it = refl
 
 -- versions that are read, and how long they are
-versions : map is_version (0 ∷ 1 ∷ 2 ∷ 3 ∷ 4 ∷ []) ≡ false ∷ false ∷ true ∷ true ∷ false ∷ []
+versions : map is_version (0 ∷ 1 ∷ 2 ∷ 3 ∷ 4 ∷ 5 ∷ []) ≡ false ∷ false ∷ true ∷ true ∷ true ∷ false ∷ []
 versions = refl
 
-lengths : map length_of (2 ∷ 3 ∷ []) ≡ 191 ∷ 200 ∷ []
+lengths : map length_of (2 ∷ 3 ∷ 4 ∷ []) ≡ 191 ∷ 200 ∷ 240 ∷ []
 lengths = refl
 
-are_lengths : map is_length (190 ∷ 191 ∷ 199 ∷ 200 ∷ 201 ∷ []) ≡ false ∷ true ∷ false ∷ true ∷ false ∷ []
+are_lengths : map is_length (190 ∷ 191 ∷ 199 ∷ 200 ∷ 201 ∷ 239 ∷ 240 ∷ 241 ∷ [])
+    ≡ false ∷ true ∷ false ∷ true ∷ false ∷ false ∷ true ∷ false ∷ []
 are_lengths = refl
 
 -- the text VBSTATE, and a 0
@@ -83,6 +86,7 @@ settings = record {
   needs_must_tell = 1;
   skips_bad_pages = 0;
   holds_deflates = 1;
+  discards_hints = 1;
 }
 
 abbrev at_step : ℕ → ℕ → Device
@@ -204,14 +208,44 @@ poisons = refl
 no_poison : is_poison (record (at_step 15 0x100000001) { poison = 7 }) ≡ false
 no_poison = refl
 
+-- ---- rounds of hints
+
+abbrev hinting : ℕ → ℕ → ℕ → ℕ → ℕ → Device
+hinting status features shown last opened = record (at_step status features) {
+  settings = record settings { offered = 0x10000002b };
+  round = record { shown = shown; last = last; opened = opened };
+}
+
+-- none began; one is shown, and one is open; STOP and DONE, before a round and after one, at any status
+rounds : map is_round (hinting 0 0 0 0 0 ∷ hinting 15 0x100000009 2 2 0 ∷ hinting 15 0x100000009 7 7 1
+    ∷ hinting 79 0x100000009 7 7 1 ∷ hinting 15 0x100000009 0 7 0 ∷ hinting 15 0x100000009 1 7 0
+    ∷ hinting 0 0 1 0 0 ∷ hinting 3 0 0 7 0 ∷ []) ≡ replicate 8 true
+rounds = refl
+
+-- not before the driver is done, nor without the feature, nor of another id than the last; no id is 1;
+-- STOP and DONE are never open, and open is 0 or 1
+no_rounds : map is_round (hinting 11 0x100000009 2 2 0 ∷ hinting 15 0x100000001 2 2 0
+    ∷ hinting 15 0x100000009 3 2 0 ∷ hinting 15 0x100000009 2 3 0 ∷ hinting 15 0x100000009 0 1 0
+    ∷ hinting 15 0x100000009 0 7 1 ∷ hinting 15 0x100000009 1 7 1 ∷ hinting 15 0x100000009 7 7 2
+    ∷ record (hinting 0 0 0 7 0) { settings = settings } ∷ []) ≡ replicate 9 false
+no_rounds = refl
+
+-- its queue moves with the feature alone, and has no place unless it is offered
+hints : map (is_ring Hint) (record (hinting 15 0x100000009 0 0 0) { hint = ring 5 }
+    ∷ record (hinting 15 0x100000001 0 0 0) { hint = ring 0 }
+    ∷ record (hinting 15 0x100000001 0 0 0) { hint = ring 5 }
+    ∷ record (at_step 15 0x100000001) { hint = ring 0 } ∷ []) ≡ true ∷ true ∷ false ∷ false ∷ []
+unfolding lib.Count.ones
+hints = refl
+
 -- ---- what is saved
 
 abbrev poisoned : Saved
 poisoned = record { device = record (at_step 3 0) { poison = 7 }; held = nothing_held }
 
-saved_or_not : save_denial (holding 15 0x100000003 64) 200
-    ∷ save_denial (holding 15 0x100000003 64) 199 ∷ save_denial (holding 15 0x100000003 65) 200
-    ∷ save_denial (asking 15 1 0x100001) 200 ∷ save_denial poisoned 200 ∷ []
+saved_or_not : save_denial (holding 15 0x100000003 64) 240
+    ∷ save_denial (holding 15 0x100000003 64) 239 ∷ save_denial (holding 15 0x100000003 65) 240
+    ∷ save_denial (asking 15 1 0x100001) 240 ∷ save_denial poisoned 240 ∷ []
     ≡ None ∷ Some BadLength ∷ Some Impossible ∷ Some Impossible ∷ Some Impossible ∷ []
 unfolding lib.Count.ones
 saved_or_not = refl

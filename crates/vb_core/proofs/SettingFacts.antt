@@ -1,8 +1,8 @@
 -- The limits of settings, as plain numbers.
 use Rattle.std.proofs.Common.{◌≡◌, ℕ, true, false, [], ◌∷◌, map, refl}
 use Rattle.vb_core.{proofs.Examples.offering, specs.declared.settings.Settings.Settings}
-use Rattle.vb_core.specs.Settings.{are_settings, memory_pages, needs_must_tell, skips, holds_chains, longest_request}
-use Rattle.vb_core.specs.declared.kinds.Kind.TheVariants.{Inflate, Deflate, Statistics, Report}
+use Rattle.vb_core.specs.Settings.{are_settings, memory_pages, needs_must_tell, skips, holds_chains, longest_request, discards_hints}
+use Rattle.vb_core.specs.declared.kinds.Kind.TheVariants.{Inflate, Deflate, Statistics, Hint, Report}
 use Rattle.vb_core.specs.declared.settings.TheConstants.{MEMORY_LIMIT}
 use Rattle.vb_core.specs.declared.report.TheConstants.{MAX_REPORT_RUNS}
 
@@ -32,15 +32,16 @@ longest : map (λ memory_end. longest_request (ending memory_end))
 longest = refl
 
 switches : needs_must_tell (record (ending 8192) { needs_must_tell = 7 }) ∷ needs_must_tell (ending 8192)
-    ∷ skips (record (ending 8192) { skips_bad_pages = 7 }) ∷ skips (ending 8192) ∷ []
-    ≡ true ∷ false ∷ true ∷ false ∷ []
+    ∷ skips (record (ending 8192) { skips_bad_pages = 7 }) ∷ skips (ending 8192)
+    ∷ discards_hints (record (ending 8192) { discards_hints = 7 }) ∷ discards_hints (ending 8192) ∷ []
+    ≡ true ∷ false ∷ true ∷ false ∷ true ∷ false ∷ []
 switches = refl
 
 -- which chains are held: statistics always, deflates by the setting, and no others
 held : map (λ kind. holds_chains kind (record (ending 8192) { holds_deflates = 7 }))
-    (Inflate ∷ Deflate ∷ Statistics ∷ Report ∷ []) ≡ false ∷ true ∷ true ∷ false ∷ []
+    (Inflate ∷ Deflate ∷ Statistics ∷ Hint ∷ Report ∷ []) ≡ false ∷ true ∷ true ∷ false ∷ false ∷ []
 held = refl
 
-not_held : map (λ kind. holds_chains kind (ending 8192)) (Inflate ∷ Deflate ∷ Statistics ∷ Report ∷ [])
-    ≡ false ∷ false ∷ true ∷ false ∷ []
+not_held : map (λ kind. holds_chains kind (ending 8192)) (Inflate ∷ Deflate ∷ Statistics ∷ Hint ∷ Report ∷ [])
+    ≡ false ∷ false ∷ true ∷ false ∷ false ∷ []
 not_held = refl

@@ -8,7 +8,8 @@ use Rattle.vb_virtio.specs.Tests.{is_in}
 use Rattle.vb_bits.specs.declared.word.TheConstants.{WORD_BITS}
 use Rattle.vb_bits.specs.Words.{in_words}
 use Rattle.vb_core.specs.declared.kinds.Kind.{Kind}
-use Rattle.vb_core.specs.declared.kinds.Kind.TheVariants.{Inflate, Deflate, Statistics, Report}
+use Rattle.vb_core.specs.declared.kinds.Kind.TheVariants.{Inflate, Deflate, Statistics, Hint}
+use Rattle.vb_core.specs.declared.kinds.Kind.TheVariants.{Report}
 use Rattle.vb_core.specs.declared.ballooned.Marking.{Marking}
 use Rattle.vb_core.specs.declared.ballooned.Marking.TheVariants.{Enter, Leave}
 use Rattle.vb_core.specs.declared.runs.Run.{Run}
@@ -60,6 +61,7 @@ abbrev pub puts_in : Kind → Bool
 puts_in Inflate = true
 puts_in Deflate = false
 puts_in Statistics = false
+puts_in Hint = false
 puts_in Report = false
 
 -- What is refused, with n words: what isn't a request, and a page that has no bit.

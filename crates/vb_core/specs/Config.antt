@@ -1,20 +1,29 @@
 -- The configuration space (VIRTIO 1.1, 5.5.4; poison_val: VIRTIO 1.2, 5.5.4).
-use Rattle.std.specs.Prelude.{ℕ, ◌+◌, ◌-◌, Bool, not, ◌==◌, ◌&&◌, nat_le, List, ◌++◌, length}
+use Rattle.std.specs.Prelude.{ℕ, ◌+◌, ◌-◌, Bool, not, true, false, ◌==◌, ◌&&◌, ◌||◌, nat_le, List}
+use Rattle.std.specs.Prelude.{◌++◌, length}
 use Rattle.std.specs.Prelude.{take, drop, if◌then◌else◌}
 use Rattle.std.specs.Int.{w32, to_le_bytes, from_le_bytes}
 use Rattle.vb_core.specs.declared.device.Device.{Device}
 use Rattle.vb_core.specs.declared.config.TheConstants.{ACTUAL_AT, POISON_AT, FIELD_BYTES}
-use Rattle.vb_core.specs.Settings.{page_poison}
+use Rattle.vb_core.specs.declared.hints.TheConstants.{STOP}
+use Rattle.vb_core.specs.declared.kinds.Kind.{Kind}
+use Rattle.vb_core.specs.declared.kinds.Kind.TheVariants.{Inflate, Deflate, Statistics, Hint}
+use Rattle.vb_core.specs.declared.kinds.Kind.TheVariants.{Report}
+use Rattle.vb_core.specs.Settings.{page_poison, free_page_hint, discards_hints}
 
 -- What is in poison_val: 0 where PAGE_POISON isn't offered.
 abbrev pub shown_poison : Device → ℕ
 shown_poison d = if page_poison d.settings.offered then d.poison else 0
 
--- num_pages, actual, 0 in the place of free_page_hint_cmd_id, and poison_val.
+-- What is in free_page_hint_cmd_id (VIRTIO 1.2, 5.5.6.6): STOP where FREE_PAGE_HINT isn't offered.
+abbrev pub shown_id : Device → ℕ
+shown_id d = if free_page_hint d.settings.offered then d.round.shown else STOP
+
+-- num_pages, actual, free_page_hint_cmd_id, and poison_val.
 abbrev pub config_bytes : Device → List ℕ
 config_bytes d =
     to_le_bytes w32 d.target ++ to_le_bytes w32 d.actual
-    ++ to_le_bytes w32 0 ++ to_le_bytes w32 (shown_poison d)
+    ++ to_le_bytes w32 (shown_id d) ++ to_le_bytes w32 (shown_poison d)
 
 -- n bytes from an offset on cover the field that begins there whole.
 abbrev pub covers : ℕ → ℕ → ℕ → Bool
@@ -48,3 +57,12 @@ with_written offset bytes d = record d {
 -- hold something else than zeros (VIRTIO 1.2, 5.5.4).
 abbrev pub keeps_reports : Device → Bool
 keeps_reports d = page_poison d.features && not (d.poison == 0)
+
+-- The free pages that a chain of the kind names keep what is in them: those of a report where
+-- reports do, and those of a hint there and where the settings don't discard hints.
+abbrev pub keeps_free : Kind → Device → Bool
+keeps_free Inflate d = false
+keeps_free Deflate d = false
+keeps_free Statistics d = false
+keeps_free Hint d = keeps_reports d || not (discards_hints d.settings)
+keeps_free Report d = keeps_reports d

@@ -2,18 +2,19 @@
 use Rattle.std.specs.Prelude.{ℕ, Bool, true, not, ◌||◌, List, [], ◌∷◌, if◌then◌else◌, Option, Some}
 use Rattle.std.specs.Prelude.{None, bit_or}
 use Rattle.vb_virtio.specs.Status.{contains, driver_ok, needs_reset, is_not_ready, has_fault}
-use Rattle.vb_virtio.specs.Queues.{lacks_feature}
 use Rattle.vb_core.specs.declared.settings.Settings.{Settings}
 use Rattle.vb_core.specs.declared.ring.Virtqueue.{Virtqueue}
 use Rattle.vb_core.specs.declared.kinds.Kind.{Kind}
-use Rattle.vb_core.specs.declared.kinds.Kind.TheVariants.{Inflate, Deflate, Statistics, Report}
+use Rattle.vb_core.specs.declared.kinds.Kind.TheVariants.{Inflate, Deflate, Statistics, Hint}
+use Rattle.vb_core.specs.declared.kinds.Kind.TheVariants.{Report}
 use Rattle.vb_core.specs.declared.device.Denial.{Denial}
 use Rattle.vb_core.specs.declared.device.Denial.TheVariants.{NoQueue, BadArgument, NotReady}
 use Rattle.vb_core.specs.declared.device.Denial.TheVariants.{NeedsReset, Misplaced}
 use Rattle.vb_core.specs.declared.device.Device.{Device}
 use Rattle.vb_core.specs.Settings.{are_settings}
 use Rattle.vb_core.specs.Rings.{no_ring, has_place, with_taken}
-use Rattle.vb_core.specs.Kinds.{queue_of}
+use Rattle.vb_core.specs.Kinds.{lacks}
+use Rattle.vb_core.specs.Hints.{no_round}
 
 -- ---- the state
 
@@ -27,8 +28,10 @@ new_device settings = record {
   inflate = no_ring;
   deflate = no_ring;
   statistics = no_ring;
+  hint = no_ring;
   report = no_ring;
   poison = 0;
+  round = no_round;
   status = 0;
 }
 
@@ -36,6 +39,7 @@ abbrev pub ring_of : Kind → Device → Virtqueue
 ring_of Inflate d = d.inflate
 ring_of Deflate d = d.deflate
 ring_of Statistics d = d.statistics
+ring_of Hint d = d.hint
 ring_of Report d = d.report
 
 -- The device with this ring of the kind's queue.
@@ -43,6 +47,7 @@ abbrev pub with_ring : Kind → Virtqueue → Device → Device
 with_ring Inflate r d = record d { inflate = r }
 with_ring Deflate r d = record d { deflate = r }
 with_ring Statistics r d = record d { statistics = r }
+with_ring Hint r d = record d { hint = r }
 with_ring Report r d = record d { report = r }
 
 -- One more available entry of the kind's queue is taken.
@@ -88,7 +93,7 @@ call_denial kind known fits d =
     ∷ ((not fits || not (are_settings d.settings)) ⇛ BadArgument)
     ∷ (is_not_ready d.status ⇛ NotReady)
     ∷ (has_fault d.status ⇛ NeedsReset)
-    ∷ (lacks_feature d.features (queue_of kind) ⇛ NoQueue)
+    ∷ (lacks d.features kind ⇛ NoQueue)
     ∷ (not (has_place d.settings.memory_end (ring_of kind d)) ⇛ Misplaced)
     ∷ [])
 
@@ -101,6 +106,6 @@ abbrev pub place_denial : Kind → Virtqueue → Device → Option Denial
 place_denial kind ring d =
     first_denial
     (((contains d.status driver_ok || not (are_settings d.settings)) ⇛ BadArgument)
-    ∷ (lacks_feature d.features (queue_of kind) ⇛ NoQueue)
+    ∷ (lacks d.features kind ⇛ NoQueue)
     ∷ (not (has_place d.settings.memory_end ring) ⇛ Misplaced)
     ∷ [])

@@ -1,6 +1,7 @@
 pub mod Settings
 pub mod Rings
 pub mod Kinds
+pub mod Hints
 pub mod Held
 pub mod Devices
 pub mod Starting

@@ -7,7 +7,8 @@ use Rattle.vb_virtio.specs.declared.layout.TheConstants.{REQUEST_BUFFER_SIZE}
 use Rattle.vb_chain.specs.declared.fault.ChainFault.{ChainFault}
 use Rattle.vb_request.specs.Request.{numbers_of, number_fault, first_number_fault}
 use Rattle.vb_core.specs.declared.kinds.Kind.{Kind}
-use Rattle.vb_core.specs.declared.kinds.Kind.TheVariants.{Inflate, Deflate, Statistics, Report}
+use Rattle.vb_core.specs.declared.kinds.Kind.TheVariants.{Inflate, Deflate, Statistics, Hint}
+use Rattle.vb_core.specs.declared.kinds.Kind.TheVariants.{Report}
 use Rattle.vb_core.specs.declared.runs.Run.{Run}
 use Rattle.vb_core.specs.declared.name.Named.{Named}
 use Rattle.vb_core.specs.declared.device.Denial.{Denial}
@@ -27,6 +28,7 @@ abbrev pub is_request : Kind → Bool
 is_request Inflate = true
 is_request Deflate = true
 is_request Statistics = false
+is_request Hint = false
 is_request Report = false
 
 -- The numbers that may be named, where memory has n pages, of which the first are reserved.

@@ -4,10 +4,10 @@ use Rattle.std.specs.Prelude.{if◌then◌else◌, Option, Some, None, Result, O
 use Rattle.vb_virtio.specs.Features.{version_1, must_tell_host}
 use Rattle.vb_virtio.specs.Status.{contains, acknowledge, driver, driver_ok, features_ok}
 use Rattle.vb_virtio.specs.Status.{needs_reset}
-use Rattle.vb_virtio.specs.Queues.{lacks_feature}
 use Rattle.vb_core.specs.declared.ring.Virtqueue.{Virtqueue}
 use Rattle.vb_core.specs.declared.kinds.Kind.{Kind}
-use Rattle.vb_core.specs.declared.kinds.Kind.TheVariants.{Inflate, Deflate, Statistics, Report}
+use Rattle.vb_core.specs.declared.kinds.Kind.TheVariants.{Inflate, Deflate, Statistics, Hint}
+use Rattle.vb_core.specs.declared.kinds.Kind.TheVariants.{Report}
 use Rattle.vb_core.specs.declared.device.Device.{Device}
 use Rattle.vb_core.specs.declared.saved.Saved.{Saved}
 use Rattle.vb_core.specs.declared.saved.StateDenial.{StateDenial}
@@ -16,11 +16,13 @@ use Rattle.vb_core.specs.declared.saved.StateDenial.TheVariants.{OtherVersion, B
 use Rattle.vb_core.specs.declared.format.TheConstants.{MAGIC, FORMAT_VERSION, HEADER_LENGTH}
 use Rattle.vb_core.specs.declared.format.TheConstants.{VERSION_AT, LENGTH_AT, CHECKSUM_LENGTH}
 use Rattle.vb_core.specs.declared.format.TheConstants.{SAVED_LENGTH, OLDER_VERSION, OLDER_LENGTH}
+use Rattle.vb_core.specs.declared.format.TheConstants.{OLDEST_VERSION, OLDEST_LENGTH}
 use Rattle.vb_core.specs.Settings.{longest_request, are_settings, needs_must_tell, page_poison}
-use Rattle.vb_core.specs.Settings.{holds_chains}
+use Rattle.vb_core.specs.Settings.{holds_chains, free_page_hint}
 use Rattle.vb_core.specs.Held.{held_of, held_pages}
 use Rattle.vb_core.specs.Rings.{has_place}
-use Rattle.vb_core.specs.Kinds.{queue_of}
+use Rattle.vb_core.specs.Kinds.{lacks}
+use Rattle.vb_core.specs.Hints.{is_id}
 use Rattle.vb_core.specs.Devices.{ring_of}
 use Rattle.vb_core.specs.Format.{u32_at, u64_at, checksum, state_in}
 
@@ -67,9 +69,9 @@ abbrev pub is_ring : Kind → Device → Bool
 is_ring kind d =
     is_blank (ring_of kind d)
     || has_place d.settings.memory_end (ring_of kind d)
-    && not (lacks_feature (offered_so_far d) (queue_of kind))
+    && not (lacks (offered_so_far d) kind)
     && (not (has_moved (ring_of kind d))
-    || contains d.status features_ok && not (lacks_feature d.features (queue_of kind)))
+    || contains d.status features_ok && not (lacks d.features kind))
 
 -- Nothing is held of the kind's queue; or it is one of the queue's chains, which the device holds
 -- since the driver was done, and which names no more pages than a request has numbers.
@@ -77,7 +79,7 @@ abbrev pub is_held : Kind → Saved → Bool
 is_held kind s =
     if held_of kind s.held == 0 then held_pages kind s.held == 0
     else
-    contains s.device.status driver_ok && not (lacks_feature s.device.features (queue_of kind))
+    contains s.device.status driver_ok && not (lacks s.device.features kind)
     && holds_chains kind s.device.settings
     && nat_le (held_of kind s.held) (ring_of kind s.device).size
     && nat_le (held_pages kind s.held) (longest_request s.device.settings)
@@ -86,11 +88,22 @@ is_held kind s =
 abbrev pub is_poison : Device → Bool
 is_poison d = (d.poison == 0) || page_poison d.settings.offered
 
+-- A round that is shown is the last one that began, and began once the driver was done, with hints
+-- negotiated; ids are given only where hints are offered; and only a round that is shown is open.
+abbrev pub is_round : Device → Bool
+is_round d =
+    ((d.round.last == 0) || is_id d.round.last && free_page_hint d.settings.offered)
+    && (not (is_id d.round.shown)
+    || (d.round.shown == d.round.last) && contains d.status driver_ok
+    && not (lacks d.features Hint))
+    && ((d.round.opened == 0) || (d.round.opened == 1) && is_id d.round.shown)
+
 abbrev pub can_be : Saved → Bool
 can_be s =
     are_settings s.device.settings && is_status s.device.status && are_agreed s.device
     && is_ring Inflate s.device && is_ring Deflate s.device && is_ring Statistics s.device
-    && is_ring Report s.device && is_held Statistics s && is_held Deflate s && is_poison s.device
+    && is_ring Hint s.device && is_ring Report s.device && is_held Statistics s && is_held Deflate s
+    && is_poison s.device && is_round s.device
 
 -- ---- refusals
 
@@ -104,19 +117,23 @@ save_denial s room =
 abbrev pub is_state : List ℕ → Bool
 is_state bytes = u64_at bytes 0 == MAGIC
 
--- a version that is read: the newest, or the one before it
+-- a version that is read: the newest, or one of the two before it
 abbrev pub is_version : ℕ → Bool
-is_version version = (version == FORMAT_VERSION) || (version == OLDER_VERSION)
+is_version version =
+    (version == FORMAT_VERSION) || (version == OLDER_VERSION) || (version == OLDEST_VERSION)
 
 abbrev pub has_version : List ℕ → Bool
 has_version bytes = is_version (u32_at bytes VERSION_AT)
 
 -- how many bytes a version has
 abbrev pub length_of : ℕ → ℕ
-length_of version = if version == OLDER_VERSION then OLDER_LENGTH else SAVED_LENGTH
+length_of version =
+    if version == OLDEST_VERSION then OLDEST_LENGTH
+    else if version == OLDER_VERSION then OLDER_LENGTH
+    else SAVED_LENGTH
 
 abbrev pub is_length : ℕ → Bool
-is_length len = (len == SAVED_LENGTH) || (len == OLDER_LENGTH)
+is_length len = (len == SAVED_LENGTH) || (len == OLDER_LENGTH) || (len == OLDEST_LENGTH)
 
 abbrev pub are_so_long : ℕ → List ℕ → Bool
 are_so_long len bytes = (u32_at bytes LENGTH_AT == len) && (length bytes == len)

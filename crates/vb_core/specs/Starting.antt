@@ -1,7 +1,6 @@
 -- A queue that starts at an index, and one that stops.
 use Rattle.std.specs.Prelude.{ℕ, Bool, not, ◌&&◌, ◌==◌, [], ◌∷◌, if◌then◌else◌, Option, Some, None}
 use Rattle.vb_virtio.specs.Status.{contains, features_ok, failed, has_fault}
-use Rattle.vb_virtio.specs.Queues.{lacks_feature}
 use Rattle.vb_core.specs.declared.ring.Virtqueue.{Virtqueue}
 use Rattle.vb_core.specs.declared.starting.QueueStart.{QueueStart}
 use Rattle.vb_core.specs.declared.kinds.Kind.{Kind}
@@ -11,7 +10,7 @@ use Rattle.vb_core.specs.declared.device.Denial.TheVariants.{NeedsReset, Misplac
 use Rattle.vb_core.specs.declared.device.Device.{Device}
 use Rattle.vb_core.specs.Settings.{are_settings}
 use Rattle.vb_core.specs.Rings.{has_place}
-use Rattle.vb_core.specs.Kinds.{queue_of}
+use Rattle.vb_core.specs.Kinds.{lacks}
 use Rattle.vb_core.specs.Devices.{ring_of, first_denial, ◌⇛◌}
 
 -- The ring of a queue that has just started: each chain that was taken was given back.
@@ -37,7 +36,7 @@ start_denial kind ring d =
     ((not (are_settings d.settings) ⇛ BadArgument)
     ∷ (not (may_have_queues d.status) ⇛ NotReady)
     ∷ (has_fault d.status ⇛ NeedsReset)
-    ∷ (lacks_feature d.features (queue_of kind) ⇛ NoQueue)
+    ∷ (lacks d.features kind ⇛ NoQueue)
     ∷ (not (has_place d.settings.memory_end ring) ⇛ Misplaced)
     ∷ [])
 

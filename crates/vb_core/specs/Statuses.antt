@@ -14,7 +14,9 @@ use Rattle.vb_status.specs.declared.bits.StatusFault.TheVariants.{FeatureNotOffe
 use Rattle.vb_status.specs.declared.bits.StatusFault.TheVariants.{MustTellHostMissing}
 use Rattle.vb_status.specs.declared.bits.StatusFault.TheVariants.{VersionMissing}
 use Rattle.vb_core.specs.declared.device.Device.{Device}
-use Rattle.vb_core.specs.Settings.{needs_must_tell, without_poison}
+use Rattle.vb_core.specs.Settings.{needs_must_tell, without_later}
+use Rattle.vb_core.specs.declared.hints.TheConstants.{STOP}
+use Rattle.vb_core.specs.Hints.{showing}
 use Rattle.vb_core.specs.Devices.{new_device}
 
 -- The fault that says a refusal of the definitions: no write meets another one than these.
@@ -42,14 +44,19 @@ status_denial write d =
     denied_or (if lacks_must_tell write d then Some MustTellHostMissing else None)
     (status_refusal d.status d.features write)
 
+-- The device once its driver reset it: settings and target stay, and ids of rounds go on.
+abbrev pub reset : Device → Device
+reset d =
+    record (new_device d.settings) { target = d.target; round = showing STOP d.round }
+
 -- The device after a write that is accepted: one of 0 resets.
 abbrev pub after_write : ℕ → Device → Device
 after_write write d =
-    if write == 0 then record (new_device d.settings) { target = d.target }
-    else record d { status = write }
+    if write == 0 then reset d else record d { status = write }
 
--- What a set of features is refused for: the definitions judge all but PAGE_POISON.
+-- What a set of features is refused for: the definitions judge all but FREE_PAGE_HINT
+-- and PAGE_POISON.
 abbrev pub negotiate_denial : ℕ → Device → Option StatusFault
 negotiate_denial wanted d =
     denied_or (if contains d.settings.offered wanted then None else Some FeatureNotOffered)
-    (negotiate_refusal d.status (without_poison wanted))
+    (negotiate_refusal d.status (without_later wanted))

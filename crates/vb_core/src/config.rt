@@ -1,14 +1,16 @@
-//! The configuration space (VIRTIO 1.1, 5.5.4): `num_pages`, `actual` and `poison_val`,
-//! little-endian.
+//! The configuration space (VIRTIO 1.2, 5.5.4): `num_pages`, `actual`, `free_page_hint_cmd_id` and
+//! `poison_val`, little-endian.
 
 ghost use Rattle.std.specs.Prelude.{◌≡◌, ℕ, ◌+◌, ◌≤◌, ◌<◌, true, false, Ok, Err, length};
 ghost use Rattle.std.specs.Prelude.{slice_index};
 ghost use Rattle.vb_core.specs.declared.device.Denial.{Denial};
-ghost use Rattle.vb_core.specs.Config.{shown_poison, config_bytes, covers, word_from};
+ghost use Rattle.vb_core.specs.Config.{shown_poison, shown_id, config_bytes, covers, word_from};
 ghost use Rattle.vb_core.specs.Config.{takes_poison, config_denies, with_written, keeps_reports};
+ghost use Rattle.vb_core.specs.Config.{keeps_free};
 
-use crate::settings::has_page_poison;
-use crate::{Denial, Device};
+use crate::hints::STOP;
+use crate::settings::{has_free_page_hint, has_page_poison};
+use crate::{Denial, Device, Kind};
 
 /// Where `actual` is.
 const ACTUAL_AT: u32 = 4;
@@ -48,22 +50,34 @@ impl Device {
         }
     }
 
+    /// What is in `free_page_hint_cmd_id`.
+    fn shown_id(&self) -> u32
+        ensures { result ≡ shown_id self.now }
+    {
+        if has_free_page_hint(self.settings.offered) {
+            self.round.shown
+        } else {
+            STOP
+        }
+    }
+
     /// The bytes of the configuration space.
     fn config_bytes(&self) -> [u8; 16]
         ensures { result ≡ config_bytes self.now }
     {
         let target: [u8; 4] = self.target.to_le_bytes();
         let actual: [u8; 4] = self.actual.to_le_bytes();
+        let id: [u8; 4] = self.shown_id().to_le_bytes();
         let poison: [u8; 4] = self.shown_poison().to_le_bytes();
         [
             target[0], target[1], target[2], target[3], actual[0], actual[1], actual[2], actual[3],
-            0, 0, 0, 0, poison[0], poison[1], poison[2], poison[3],
+            id[0], id[1], id[2], id[3], poison[0], poison[1], poison[2], poison[3],
         ]
     }
 
     /// The driver reads the configuration space from an offset on: `num_pages` from 0, `actual`
-    /// from 4, and `poison_val` from 12 where PAGE_POISON is offered (VIRTIO 1.2, 5.5.4). All other
-    /// bytes read as 0.
+    /// from 4, `free_page_hint_cmd_id` from 8 where FREE_PAGE_HINT is offered, and `poison_val`
+    /// from 12 where PAGE_POISON is (VIRTIO 1.2, 5.5.4). All other bytes read as 0.
     pub fn read_config(&self, offset: u32, out: &mut [u8])
         ensures { (k : ℕ) → k < length out.old →
             slice_index out.new k ≡ slice_index (config_bytes self.now) (offset + k) }
@@ -115,5 +129,18 @@ impl Device {
         ensures { result ≡ keeps_reports self.now }
     {
         has_page_poison(self.features) && self.poison != 0
+    }
+
+    /// Whether the free pages that a chain of this kind names keep what is in them: those of a
+    /// report where `keeps_reports` says so, and those of a hint there and where the settings don't
+    /// discard hints.
+    pub fn keeps_free(&self, kind: Kind) -> bool
+        ensures { result ≡ keeps_free kind self.now }
+    {
+        match kind {
+            Kind::Inflate | Kind::Deflate | Kind::Statistics => false,
+            Kind::Hint => self.keeps_reports() || !self.settings.discards_hints(),
+            Kind::Report => self.keeps_reports(),
+        }
     }
 }

@@ -1,17 +1,16 @@
 //! A device's state, and what its calls are refused for.
 
 ghost use Rattle.std.specs.Prelude.{◌≡◌, Some, None, Ok, Err};
-ghost use Rattle.vb_virtio.specs.Queues.{lacks_feature};
 ghost use Rattle.vb_core.specs.declared.device.Denial.{Denial};
-ghost use Rattle.vb_core.specs.Kinds.{queue_of};
+ghost use Rattle.vb_core.specs.Kinds.{lacks};
 ghost use Rattle.vb_core.specs.Devices.{new_device, ring_of, with_ring, needing_reset};
 ghost use Rattle.vb_core.specs.Devices.{call_denial, queue_denial, place_denial, placed};
 
-use crate::{Kind, Settings, Virtqueue};
+use crate::{Kind, Round, Settings, Virtqueue};
 use bitflags::Flags;
 use vb_chain::ChainFault;
-use vb_request::{has_fault, is_not_ready, lacks_feature};
-use vb_status::{Features, Status};
+use vb_request::{has_fault, is_not_ready};
+use vb_status::Status;
 
 /// The bit of the status that tells of a broken rule.
 const NEEDS_RESET: u8 = 64;
@@ -50,9 +49,12 @@ pub struct Device {
     pub inflate: Virtqueue,
     pub deflate: Virtqueue,
     pub statistics: Virtqueue,
+    pub hint: Virtqueue,
     pub report: Virtqueue,
     /// What the driver says that its free pages hold, in 4 bytes (`poison_val`).
     pub poison: u32,
+    /// The round of hints.
+    pub round: Round,
     /// The status register (VIRTIO 1.1, 2.1).
     pub status: u8,
 }
@@ -70,8 +72,10 @@ impl Device {
             inflate: Virtqueue::NONE,
             deflate: Virtqueue::NONE,
             statistics: Virtqueue::NONE,
+            hint: Virtqueue::NONE,
             report: Virtqueue::NONE,
             poison: 0,
+            round: Round::NONE,
             status: 0,
         }
     }
@@ -85,6 +89,7 @@ impl Device {
             Kind::Inflate => &self.inflate,
             Kind::Deflate => &self.deflate,
             Kind::Statistics => &self.statistics,
+            Kind::Hint => &self.hint,
             Kind::Report => &self.report,
         }
     }
@@ -105,6 +110,7 @@ impl Device {
             Kind::Inflate => self.inflate = ring,
             Kind::Deflate => self.deflate = ring,
             Kind::Statistics => self.statistics = ring,
+            Kind::Hint => self.hint = ring,
             Kind::Report => self.report = ring,
         }
     }
@@ -119,9 +125,9 @@ impl Device {
 
     /// Whether the features that were negotiated leave a kind's queue out.
     pub(crate) fn lacks(&self, kind: Kind) -> bool
-        ensures { result ≡ lacks_feature self.now.features (queue_of kind) }
+        ensures { result ≡ lacks self.now.features kind }
     {
-        lacks_feature(kind.queue(), Features::from_bits_retain(self.features))
+        kind.is_lacked(self.features)
     }
 
     /// What a call on a kind's queue is refused for, where the call is for that kind, and its

@@ -33,7 +33,7 @@ impl Held {
         match kind {
             Kind::Statistics => self.statistics,
             Kind::Deflate => self.deflate,
-            Kind::Inflate | Kind::Report => 0,
+            Kind::Inflate | Kind::Hint | Kind::Report => 0,
         }
     }
 
@@ -43,7 +43,7 @@ impl Held {
     {
         match kind {
             Kind::Deflate => self.pages,
-            Kind::Inflate | Kind::Statistics | Kind::Report => 0,
+            Kind::Inflate | Kind::Statistics | Kind::Hint | Kind::Report => 0,
         }
     }
 
@@ -57,12 +57,12 @@ impl Held {
                 self.deflate = held;
                 self.pages = pages;
             }
-            Kind::Inflate | Kind::Report => {}
+            Kind::Inflate | Kind::Hint | Kind::Report => {}
         }
     }
 
     /// Holds the chain of this head of a kind's queue, which names `pages` pages, in place of what
-    /// was held of it; chains of inflates and of reports aren't held.
+    /// was held of it; chains of inflates, hints and reports aren't held.
     pub fn hold(&mut self, kind: Kind, head: u16, pages: u32)
         ensures { self.new ≡ with_held kind (head + 1) pages self.old }
     {

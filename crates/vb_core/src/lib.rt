@@ -8,11 +8,14 @@ mod config;
 mod device;
 mod format;
 mod held;
+mod hint_laws;
+mod hints;
 mod kinds;
 mod laws;
 mod name;
 mod pieces;
 mod possible;
+mod reading;
 mod report;
 mod ring;
 mod runs;
@@ -28,6 +31,10 @@ pub use ballooned::{Marking, count_ballooned, is_ballooned, mark, unmark};
 pub use device::{Denial, Device};
 pub use format::{FORMAT_VERSION, SAVED_LENGTH};
 pub use held::Held;
+pub use hint_laws::{
+    a_round_that_was_heard_is_open, an_id_is_not_the_one_before, an_open_round_was_heard,
+};
+pub use hints::{DONE, Round, STOP};
 pub use kinds::Kind;
 pub use laws::{
     a_used_entry_is_the_rings_next, numbers_are_told_by_one_list_of_runs,
@@ -42,6 +49,6 @@ pub use saved::{Saved, StateDenial};
 pub use saved_laws::{
     an_older_state_is_restored, only_what_was_saved_is_restored, what_was_saved_is_restored,
 };
-pub use settings::{LONGEST_REQUEST, MEMORY_LIMIT, PAGE_POISON, Settings};
+pub use settings::{FREE_PAGE_HINT, LONGEST_REQUEST, MEMORY_LIMIT, PAGE_POISON, Settings};
 pub use starting::QueueStart;
 pub use statistics::Statistic;

@@ -86,7 +86,7 @@ impl Kind {
     {
         match self {
             Kind::Inflate | Kind::Deflate => true,
-            Kind::Statistics | Kind::Report => false,
+            Kind::Statistics | Kind::Hint | Kind::Report => false,
         }
     }
 }

@@ -4,13 +4,13 @@ ghost use Rattle.std.specs.Prelude.{◌≡◌};
 ghost use Rattle.vb_virtio.specs.Status.{contains};
 ghost use Rattle.vb_status.specs.Bits.{status_bits};
 ghost use Rattle.vb_core.specs.Saved.{comes_after, is_status, are_agreed, offered_so_far, is_blank};
-ghost use Rattle.vb_core.specs.Saved.{has_moved, is_ring, is_held, is_poison, can_be};
+ghost use Rattle.vb_core.specs.Saved.{has_moved, is_ring, is_held, is_poison, is_round, can_be};
 
+use crate::hints::is_id;
 use crate::saved::Saved;
-use crate::settings::has_page_poison;
+use crate::settings::{has_free_page_hint, has_page_poison};
 use crate::{Device, Kind, Virtqueue};
 use bitflags::Flags;
-use vb_request::lacks_feature;
 use vb_status::{Features, Status};
 
 /// Whether a bit of the status is only with the one that comes before it.
@@ -91,10 +91,8 @@ impl Device {
         ensures { result ≡ is_ring kind self.now }
     {
         let ring = self.ring(kind);
-        let queue = kind.queue();
-        let lacked = lacks_feature(queue, Features::from_bits_retain(self.offered_so_far()));
-        let lacks = lacks_feature(queue, Features::from_bits_retain(self.features));
-        let may_move = self.has(Status::FEATURES_OK) && !lacks;
+        let lacked = kind.is_lacked(self.offered_so_far());
+        let may_move = self.has(Status::FEATURES_OK) && !self.lacks(kind);
         let placed = ring.has_place(self.settings.memory_end) && !lacked;
         ring.is_blank() || placed && (!ring.has_moved() || may_move)
     }
@@ -104,6 +102,20 @@ impl Device {
         ensures { result ≡ is_poison self.now }
     {
         self.poison == 0 || has_page_poison(self.settings.offered)
+    }
+
+    /// Whether calls may have led to its round of hints.
+    fn is_round(&self) -> bool
+        ensures { result ≡ is_round self.now }
+    {
+        let round = &self.round;
+        let offered = has_free_page_hint(self.settings.offered);
+        let given = round.last == 0 || is_id(round.last) && offered;
+        let begun = round.shown == round.last
+            && self.has(Status::DRIVER_OK)
+            && !self.lacks(Kind::Hint);
+        let shown = !is_id(round.shown) || begun;
+        given && shown && (round.opened == 0 || round.opened == 1 && is_id(round.shown))
     }
 }
 
@@ -119,9 +131,8 @@ impl Saved {
         if held == 0 {
             return pages == 0;
         }
-        let lacks = lacks_feature(kind.queue(), Features::from_bits_retain(device.features));
         let may_take = device.has(Status::DRIVER_OK)
-            && !lacks
+            && !device.lacks(kind)
             && device.settings.holds_chains(kind);
         let some = held <= u32::from(device.ring(kind).size);
         may_take && some && pages <= device.settings.longest_request()
@@ -138,9 +149,11 @@ impl Saved {
             && device.is_ring(Kind::Inflate)
             && device.is_ring(Kind::Deflate)
             && device.is_ring(Kind::Statistics)
+            && device.is_ring(Kind::Hint)
             && device.is_ring(Kind::Report)
             && self.is_held(Kind::Statistics)
             && self.is_held(Kind::Deflate)
             && device.is_poison()
+            && device.is_round()
     }
 }

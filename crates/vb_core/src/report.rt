@@ -1,4 +1,4 @@
-//! Reports: chains of pages that are free in the guest.
+//! Reports and hints: chains of pages that are free in the guest.
 
 ghost use Rattle.std.specs.Prelude.{◌≡◌, ℕ, ◌≤◌, ◌<◌, ◌*◌, ◌^◌, not, false, true, All};
 ghost use Rattle.std.specs.Prelude.{OnOk, Ok, Err};
@@ -8,7 +8,7 @@ ghost use Rattle.vb_virtio.specs.Limits.{page_size};
 ghost use Rattle.vb_request.specs.Report.{report_request};
 ghost use Rattle.std.specs.List.{list_any};
 ghost use Rattle.vb_core.specs.Pieces.{piece_in, pieces_in};
-ghost use Rattle.vb_core.specs.Report.{run_of, is_beyond, report_named};
+ghost use Rattle.vb_core.specs.Report.{run_of, is_beyond, names_by_pieces, report_named};
 ghost use Rattle.vb_core.specs.Report.{NamesPiecesBy};
 
 use crate::pieces::piece_in;
@@ -113,26 +113,44 @@ fn name_pieces(reserved: u32, pieces: &[ChainPiece], runs: &mut [Run]) -> Result
     }
 }
 
+impl Kind {
+    /// Whether its chains name pages by their pieces: reports do, and hints.
+    pub fn names_by_pieces(self) -> bool
+        ensures { result ≡ names_by_pieces self }
+    {
+        match self {
+            Kind::Hint | Kind::Report => true,
+            Kind::Inflate | Kind::Deflate | Kind::Statistics => false,
+        }
+    }
+}
+
 impl Device {
-    /// Takes the chain of these pieces, in order, that was next on the queue of reports: its
-    /// pages, which are free in the guest, as runs in the front of `runs`, one for each piece.
+    /// Takes the chain of these pieces, in order, that was next on the queue of reports or of
+    /// hints: its pages, which are free in the guest, as runs in the front of `runs`, one for each
+    /// piece.
     ///
-    /// Refused, tested in this order: `BadArgument` where `runs` has room for fewer than 32, or a
-    /// piece begins where no guest has memory; `NotReady`; `NeedsReset`; `NoQueue` without
-    /// REPORTING; `Misplaced`. Then `Broken`, which sets DEVICE_NEEDS_RESET and takes nothing,
-    /// where a piece isn't some whole unreserved pages that the device may write: nothing is
-    /// skipped here.
-    pub fn name_report(&mut self, pieces: &[ChainPiece], runs: &mut [Run]) -> Result<Named, Denial>
-        ensures { NamesPiecesBy (pieces_in pieces.now) (length runs.old) runs.new
+    /// Refused, tested in this order: `NoQueue` for a kind that the call isn't for; `BadArgument`
+    /// where `runs` has room for fewer than 32, or a piece begins where no guest has memory;
+    /// `NotReady`; `NeedsReset`; `NoQueue` for a feature; `Misplaced`. Then `Broken`, which sets
+    /// DEVICE_NEEDS_RESET and takes nothing, where a piece isn't some whole unreserved pages that
+    /// the device may write: nothing is skipped here.
+    pub fn name_pieces(
+        &mut self,
+        kind: Kind,
+        pieces: &[ChainPiece],
+        runs: &mut [Run],
+    ) -> Result<Named, Denial>
+        ensures { NamesPiecesBy kind (pieces_in pieces.now) (length runs.old) runs.new
             self.old self.new result }
     {
         let fits = runs.len() >= MAX_REPORT_RUNS && !is_any_beyond(pieces);
-        if let Some(why) = self.call_denial(Kind::Report, true, fits) {
+        if let Some(why) = self.call_denial(kind, kind.names_by_pieces(), fits) {
             return Err(why);
         }
         match name_pieces(self.settings.reserved_pages, pieces, runs) {
             Ok(named) => {
-                self.count_taken(Kind::Report);
+                self.count_taken(kind);
                 Ok(named)
             }
             Err(fault) => {

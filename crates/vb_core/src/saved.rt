@@ -9,8 +9,9 @@ ghost use Rattle.vb_core.specs.Saved.{is_length};
 
 use crate::format::{
     CHECKSUM_LENGTH, FORMAT_VERSION, HEADER_LENGTH, LENGTH_AT, MAGIC, OLDER_LENGTH, OLDER_VERSION,
-    SAVED_LENGTH, VERSION_AT, checksum, push_saved, state_in, u32_at, u64_at,
+    OLDEST_LENGTH, OLDEST_VERSION, SAVED_LENGTH, VERSION_AT, checksum, push_saved,
 };
+use crate::reading::{state_in, u32_at, u64_at};
 use crate::{Device, Held};
 use arrayvec::ArrayVec;
 
@@ -60,7 +61,7 @@ fn is_state(bytes: &[u8]) -> bool
 fn is_version(version: u32) -> bool
     ensures { result ≡ is_version version }
 {
-    version == FORMAT_VERSION || version == OLDER_VERSION
+    version == FORMAT_VERSION || version == OLDER_VERSION || version == OLDEST_VERSION
 }
 
 /// Whether they have a version that is read here.
@@ -77,10 +78,10 @@ fn length_of(version: u32) -> usize
     ensures length { is_length result ≡ true }
     ensures few { result ≤ SAVED_LENGTH }
 {
-    if version == OLDER_VERSION {
-        OLDER_LENGTH
-    } else {
-        SAVED_LENGTH
+    match version {
+        OLDEST_VERSION => OLDEST_LENGTH,
+        OLDER_VERSION => OLDER_LENGTH,
+        _ => SAVED_LENGTH,
     }
 }
 
@@ -176,8 +177,8 @@ impl Saved {
         }
     }
 
-    /// The device of these bytes, which `Saved::save` made, of this version or the older one, whose
-    /// devices hold no deflates.
+    /// The device of these bytes, which `Saved::save` made, of this version or one of the two
+    /// before: devices of both have no hints, and those of the oldest hold no deflates.
     ///
     /// Refused, tested in this order: `BadLength` where they aren't even a header; `NotAState`;
     /// `OtherVersion`; `BadLength`; `BadSum`; `Impossible`.

@@ -2,7 +2,8 @@
 
 ghost use Rattle.std.specs.Prelude.{◌≡◌, ◌<◌, ◌^◌, ◌==◌, true};
 ghost use Rattle.vb_core.specs.Settings.{are_settings, memory_pages, needs_must_tell, skips};
-ghost use Rattle.vb_core.specs.Settings.{page_poison, without_poison, holds_chains};
+ghost use Rattle.vb_core.specs.Settings.{discards_hints};
+ghost use Rattle.vb_core.specs.Settings.{page_poison, free_page_hint, without_later, holds_chains};
 ghost use Rattle.vb_core.specs.Settings.{longest_request};
 
 use crate::Kind;
@@ -17,15 +18,18 @@ pub const MEMORY_LIMIT: u64 = 1 << 44;
 /// How many page numbers each request may have, however small memory is.
 pub const LONGEST_REQUEST: u32 = 1 << 20;
 
+/// The feature FREE_PAGE_HINT: the driver hints pages that it keeps free (VIRTIO 1.2, 5.5.3).
+pub const FREE_PAGE_HINT: u64 = 8;
+
 /// The feature PAGE_POISON: the driver says in `poison_val` what its free pages hold (VIRTIO 1.2,
 /// 5.5.3).
 pub const PAGE_POISON: u64 = 16;
 
-/// All features but PAGE_POISON.
-const OTHERS: u64 = !PAGE_POISON;
+/// All features but FREE_PAGE_HINT and PAGE_POISON.
+const OTHERS: u64 = !(FREE_PAGE_HINT | PAGE_POISON);
 
 /// The features that a device may offer.
-const KNOWN: u64 = OFFERED_FEATURES | PAGE_POISON;
+const KNOWN: u64 = OFFERED_FEATURES | FREE_PAGE_HINT | PAGE_POISON;
 
 /// Whether PAGE_POISON is one of these features.
 pub(crate) fn has_page_poison(features: u64) -> bool
@@ -34,9 +38,16 @@ pub(crate) fn has_page_poison(features: u64) -> bool
     features & PAGE_POISON == PAGE_POISON
 }
 
-/// These features but PAGE_POISON.
-pub(crate) fn without_poison(features: u64) -> u64
-    ensures { result ≡ without_poison features }
+/// Whether FREE_PAGE_HINT is one of these features.
+pub(crate) fn has_free_page_hint(features: u64) -> bool
+    ensures { result ≡ free_page_hint features }
+{
+    features & FREE_PAGE_HINT == FREE_PAGE_HINT
+}
+
+/// These features but FREE_PAGE_HINT and PAGE_POISON.
+pub(crate) fn without_later(features: u64) -> u64
+    ensures { result ≡ without_later features }
 {
     features & OTHERS
 }
@@ -49,7 +60,8 @@ pub struct Settings {
     /// the monitor's.
     pub memory_end: u64,
     /// The features that the device offers: some of those that it knows, VERSION_1 among them
-    /// (VIRTIO 1.1, 5.5.3 and 6). It knows PAGE_POISON too (VIRTIO 1.2, 5.5.3).
+    /// (VIRTIO 1.1, 5.5.3 and 6). It knows FREE_PAGE_HINT and PAGE_POISON
+    /// too (VIRTIO 1.2, 5.5.3).
     pub offered: u64,
     /// How many pages at the start of memory no request may name.
     pub reserved_pages: u32,
@@ -61,6 +73,8 @@ pub struct Settings {
     /// Unless 0, a deflate is held until it is granted: its chain isn't given back before. A driver
     /// waits for that only with MUST_TELL_HOST (VIRTIO 1.1, 5.5.6).
     pub holds_deflates: u8,
+    /// Unless 0, pages that are hinted are discarded once they were told; else they are kept.
+    pub discards_hints: u8,
 }
 
 impl Settings {
@@ -108,6 +122,13 @@ impl Settings {
         self.skips_bad_pages != 0
     }
 
+    /// Whether pages that are hinted are discarded.
+    pub fn discards_hints(&self) -> bool
+        ensures { result ≡ discards_hints self.now }
+    {
+        self.discards_hints != 0
+    }
+
     /// Whether a chain of a kind's queue is held once it was taken, until it is asked for: buffers
     /// of statistics are (VIRTIO 1.1, 5.5.6.3), and deflates where `holds_deflates` says so.
     pub fn holds_chains(&self, kind: Kind) -> bool
@@ -116,7 +137,7 @@ impl Settings {
         match kind {
             Kind::Statistics => true,
             Kind::Deflate => self.holds_deflates != 0,
-            Kind::Inflate | Kind::Report => false,
+            Kind::Inflate | Kind::Hint | Kind::Report => false,
         }
     }
 }

@@ -2,11 +2,12 @@
 
 ghost use Rattle.std.specs.Prelude.{◌≡◌, Some, None, Ok, Err};
 ghost use Rattle.vb_status.specs.declared.bits.StatusFault.{StatusFault};
-ghost use Rattle.vb_core.specs.Statuses.{lacks_must_tell, status_denial, after_write};
-ghost use Rattle.vb_core.specs.Statuses.{negotiate_denial};
+ghost use Rattle.vb_core.specs.Statuses.{lacks_must_tell, status_denial, reset};
+ghost use Rattle.vb_core.specs.Statuses.{after_write, negotiate_denial};
 
 use crate::Device;
-use crate::settings::without_poison;
+use crate::hints::STOP;
+use crate::settings::without_later;
 use bitflags::Flags;
 use vb_status::{Features, Status, StatusFault, negotiate, write_status};
 
@@ -40,17 +41,21 @@ impl Device {
         }
     }
 
-    /// Forgets what the driver did and said (VIRTIO 1.1, 2.1): settings and target stay.
+    /// Forgets what the driver did and said (VIRTIO 1.1, 2.1): settings and target stay, and the
+    /// ids of rounds go on, so that a late one opens none.
     fn reset(&mut self)
-        ensures { self.new ≡ after_write 0 self.old }
+        ensures { self.new ≡ reset self.old }
     {
         let target = self.target;
+        let mut round = self.round;
+        round.show(STOP);
         *self = Device::new(self.settings);
         self.target = target;
+        self.round = round;
     }
 
     /// The driver writes the status register. A write of 0 resets: features, `actual`, `poison_val`
-    /// and all places are gone.
+    /// and all places are gone, and no round of hints is shown.
     ///
     /// Refused, tested in this order, and then nothing is changed: `ClearsBit`; `OutOfOrder`;
     /// where FEATURES_OK is added, `VersionMissing`, and then `MustTellHostMissing` where the
@@ -77,7 +82,7 @@ impl Device {
         ensures { result ≡ negotiate_denial wanted self.now }
     {
         let features = Features::from_bits_retain(wanted);
-        let others = Features::from_bits_retain(without_poison(wanted));
+        let others = Features::from_bits_retain(without_later(wanted));
         match negotiate(Status::from_bits_retain(self.status), others) {
             Err(fault) => Some(fault),
             Ok(_) => {

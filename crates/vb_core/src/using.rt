@@ -18,6 +18,7 @@ impl Device {
             Kind::Inflate => self.inflate.count_taken(),
             Kind::Deflate => self.deflate.count_taken(),
             Kind::Statistics => self.statistics.count_taken(),
+            Kind::Hint => self.hint.count_taken(),
             Kind::Report => self.report.count_taken(),
         }
     }
@@ -40,6 +41,7 @@ impl Device {
             Kind::Inflate => self.inflate.count_used(),
             Kind::Deflate => self.deflate.count_used(),
             Kind::Statistics => self.statistics.count_used(),
+            Kind::Hint => self.hint.count_used(),
             Kind::Report => self.report.count_used(),
         }
     }

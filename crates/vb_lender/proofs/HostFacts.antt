@@ -4,7 +4,7 @@ use Rattle.std.specs.List.{AllByRecursion}
 use Rattle.vb_lender.specs.declared.event.Event.TheVariants.{Arrives, Leaves, Gives, Asks, Resets, Grants}
 use Rattle.vb_lender.specs.declared.event.Event.TheVariants.{Takes, Uncounts, Recounts, Figures, Budget}
 use Rattle.vb_lender.specs.declared.loan.Loan.{Loan}
-use Rattle.vb_lender.specs.declared.loan.WaitingLine.TheVariants.{First}
+use Rattle.vb_lender.specs.declared.loan.WaitingLine.TheVariants.{First, Second}
 use Rattle.vb_lender.specs.Loans.{vacant}
 use Rattle.vb_lender.specs.Lending.{Lending, AreSound, IsOrdinary, NeverLowers, happens, run}
 use Rattle.vb_lender.specs.Line.{AreApart, KeepsAsk, KeepsCount, IsOfLoans}
@@ -32,14 +32,15 @@ each : (happens (host 90 vacant) (Arrives 1 60 First) ≡ host 90 (loan 60 0 60 
     × (happens (host 90 (loan 60 0 60 1)) (Leaves 1) ≡ host 90 vacant)
     × (happens (host 90 (loan 10 50 0 0)) (Gives 1 5) ≡ host 90 (loan 15 45 0 0))
     × (happens (host 90 (loan 10 50 0 0)) (Asks 1 5) ≡ host 90 (loan 10 50 5 1))
-    × (happens (host 90 (loan 10 50 3 4)) (Resets 1) ≡ host 90 (loan 10 50 10 5))
+    × (happens (host 90 (loan 10 50 3 4)) (Resets 1 First) ≡ host 90 (loan 10 50 10 5))
+    × (happens (host 90 (loan 10 50 3 4)) (Resets 1 Second) ≡ host 90 (record (loan 10 50 10 5) { line = 1 }))
     × (happens (host 110 (loan 60 0 60 1)) (Grants 1) ≡ host 110 (loan 60 60 0 0))
     × (happens (host 90 (loan 10 55 0 0)) (Takes 1 5) ≡ host 90 (loan 5 55 0 0))
     × (happens (host 90 (loan 10 50 5 1)) (Uncounts 1) ≡ host 90 (record (loan 0 60 0 0) { uncounted = 1 }))
     × (happens (host 90 (record (loan 0 60 0 0) { uncounted = 1 })) (Recounts 1) ≡ host 90 (loan 0 60 0 0))
     × (happens (host 90 (loan 10 50 0 0)) (Figures 1 7) ≡ host 90 (record (loan 10 50 0 0) { spare = 7 }))
     × (happens (host 90 vacant) (Budget 70) ≡ host 70 vacant)
-each = (refl, refl, refl, refl, refl, refl, refl, refl, refl, refl, refl)
+each = (refl, refl, refl, refl, refl, refl, refl, refl, refl, refl, refl, refl)
 
 -- no room for the first, a guest that doesn't wait, a place that isn't there, and no turn left
 without_effect : (happens (host 109 (loan 60 0 60 1)) (Grants 1) ≡ host 109 (loan 60 0 60 1))
@@ -66,7 +67,7 @@ sound = (
 not_sound : AreSound (loan 10 50 0 0 ∷ loan 10 49 0 0 ∷ []) → ⊥
 not_sound a = let e : 60 ≤ 59 = a.1.0.enough in absurd (omega arith)
 
-ordinary : AllByRecursion IsOrdinary (Arrives 0 1 First ∷ Leaves 0 ∷ Gives 0 1 ∷ Asks 0 1 ∷ Resets 0 ∷ Grants 0
+ordinary : AllByRecursion IsOrdinary (Arrives 0 1 First ∷ Leaves 0 ∷ Gives 0 1 ∷ Asks 0 1 ∷ Resets 0 First ∷ Grants 0
     ∷ Takes 0 1 ∷ Recounts 0 ∷ Figures 0 1 ∷ [])
 ordinary = (tt, (tt, (tt, (tt, (tt, (tt, (tt, (tt, (tt, tt)))))))))
 
@@ -88,14 +89,14 @@ abbrev Apart : ℕ → ℕ → Type 0
 Apart a b = a ≢ b
 
 -- what its own guest does ends an ask, and what another's does leaves it
-keeps_ask : AllByRecursion (KeepsAsk 1) (Arrives 0 1 First ∷ Leaves 0 ∷ Asks 0 1 ∷ Resets 0 ∷ Grants 0
+keeps_ask : AllByRecursion (KeepsAsk 1) (Arrives 0 1 First ∷ Leaves 0 ∷ Asks 0 1 ∷ Resets 0 First ∷ Grants 0
     ∷ Uncounts 0 ∷ Gives 1 1 ∷ Takes 1 1 ∷ Recounts 1 ∷ Figures 1 1 ∷ Budget 9 ∷ [])
 keeps_ask = (other, (other, (other, (other, (other, (other, (tt, (tt, (tt, (tt, (tt, tt))))))))))) where
   other : Apart 1 0
   other = λ e. absurd (omega (arith, e))
 
 ends_ask : (KeepsAsk 1 (Arrives 1 1 First) → ⊥) × (KeepsAsk 1 (Leaves 1) → ⊥) × (KeepsAsk 1 (Asks 1 1) → ⊥)
-    × (KeepsAsk 1 (Resets 1) → ⊥) × (KeepsAsk 1 (Grants 1) → ⊥) × (KeepsAsk 1 (Uncounts 1) → ⊥)
+    × (KeepsAsk 1 (Resets 1 First) → ⊥) × (KeepsAsk 1 (Grants 1) → ⊥) × (KeepsAsk 1 (Uncounts 1) → ⊥)
 ends_ask = (λ k. k refl, λ k. k refl, λ k. k refl, λ k. k refl, λ k. k refl, λ k. k refl)
 
 keeps_count : KeepsCount 1 (Uncounts 0) × KeepsCount 1 (Leaves 1) × (KeepsCount 1 (Uncounts 1) → ⊥)

@@ -1,12 +1,13 @@
 -- Worked facts of a line of guests, of grants, and of what happens to a host.
-use Rattle.std.proofs.Common.{◌≡◌, ◌⊎◌, inl, inr, ℕ, zero, suc, ◌+◌, ◌<◌, ◌≤◌, true, false, List, [], ◌∷◌, Some, None, refl, ap, subst, arith}
-use Rattle.vb_lender.specs.declared.event.Event.TheVariants.{Arrives, Asks, Resets, Grants}
+use Rattle.std.proofs.Common.{◌≡◌, ◌⊎◌, inl, inr, ℕ, zero, suc, ◌+◌, ◌<◌, ◌≤◌, true, false, List, [], ◌∷◌, Some, None, map, refl, ap, subst, arith}
+use Rattle.vb_lender.specs.declared.event.Event.TheVariants.{Arrives, Gives, Asks, Resets, Grants}
 use Rattle.vb_lender.specs.declared.loan.Loan.{Loan}
 use Rattle.vb_lender.specs.declared.loan.WaitingLine.TheVariants.{First, Second}
-use Rattle.vb_lender.specs.Loans.{arrived, granted, may_give, may_reset, resetting, uncounted, vacant}
+use Rattle.vb_lender.specs.declared.loan.WaitingLine.{WaitingLine}
+use Rattle.vb_lender.specs.Loans.{arrived, granted, may_give, may_reset, uncounted, vacant}
 use Rattle.vb_lender.specs.Lending.{Lending, asked_at, comes_at}
 use Rattle.vb_lender.specs.Lending.{each_at, happens, has_turn, is_first, last_turn, lent_at}
-use Rattle.vb_lender.specs.Lending.{may_grant, next_turn, rank, rank_at, owed, test_at, turn_at}
+use Rattle.vb_lender.specs.Lending.{may_grant, next_turn, rank, rank_at, run, owed, test_at, turn_at}
 use Rattle.vb_lender.specs.Line.{FirstBelow, GrantsNext, IsAfter, IsFirst, IsInFirstLine, KeepsOut}
 
 -- a guest of 60 pages: how many are lent to it, what it asks for and its turn
@@ -162,16 +163,47 @@ after_of_two = (inr (omega arith), inr (omega arith), by) where
 
 -- once it is granted its pages, a newcomer is one no longer, nor where its balloon is uncounted
 runs : ((granted (newcomer 1)).line ≡ 0) × ((uncounted (record (newcomer 1) { lent = 1 })).line ≡ 0)
-    × ((resetting 5 (newcomer 1)).line ≡ 1) × ((arrived 60 Second 5 vacant).line ≡ 1)
+    × ((arrived 60 First 5 vacant).line ≡ 0) × ((arrived 60 Second 5 vacant).line ≡ 1)
 runs = (refl, refl, refl, refl)
 
--- asks, resets and newcomers of the guest itself come to the first line
-keeps_out : KeepsOut 1 (Arrives 1 60 Second) × KeepsOut 1 (Asks 0 1) × KeepsOut 1 (Grants 1) × KeepsOut 1 (Arrives 0 60 First)
-    × KeepsOut 1 (Resets 0)
-keeps_out = (tt, λ e. absurd (omega (arith, e)), tt, λ e. absurd (omega (arith, e)), λ e. absurd (omega (arith, e)))
+-- the guest's own deflates come to the first line, and its start and its resets where that is theirs
+keeps_out : KeepsOut 1 (Arrives 1 60 Second) × KeepsOut 1 (Resets 1 Second) × KeepsOut 1 (Grants 1) × KeepsOut 1 (Asks 0 1)
+    × KeepsOut 1 (Arrives 0 60 First) × KeepsOut 1 (Resets 0 First)
+keeps_out = (tt, tt, tt, λ e. absurd (omega (arith, e)), λ e. absurd (omega (arith, e)), λ e. absurd (omega (arith, e)))
 
-keeps_out_not : (KeepsOut 1 (Arrives 1 60 First) → ⊥) × (KeepsOut 1 (Asks 1 1) → ⊥) × (KeepsOut 1 (Resets 1) → ⊥)
+keeps_out_not : (KeepsOut 1 (Arrives 1 60 First) → ⊥) × (KeepsOut 1 (Asks 1 1) → ⊥) × (KeepsOut 1 (Resets 1 First) → ⊥)
 keeps_out_not = (λ k. k refl, λ k. k refl, λ k. k refl)
+
+-- ---- a reset in either line
+
+-- A guest is reset in this line, and asks for 30 pages; then another one asks for 10. For these there is room, and for those there
+-- is none.
+abbrev after_reset : WaitingLine → Lending
+after_reset line = run (Resets 1 line ∷ Asks 0 10 ∷ [])
+    (record { frames = 85; loans = loan 40 0 0 ∷ record (loan 30 0 0) { ballooned = 30 } ∷ [] })
+
+both_wait : map (λ s. s.asked) (after_reset First).loans ∷ map (λ s. s.asked) (after_reset Second).loans ∷ []
+    ≡ (10 ∷ 30 ∷ []) ∷ (10 ∷ 30 ∷ []) ∷ []
+both_wait = refl
+
+-- in the second line the reset is passed, and granted once there is room for it
+is_passed : (may_grant (after_reset Second) 0 ≡ true) × (may_grant (after_reset Second) 1 ≡ false)
+    × (lent_at (run (Grants 0 ∷ Grants 1 ∷ []) (after_reset Second)).loans 0 ≡ 50)
+    × (lent_at (run (Grants 0 ∷ Gives 0 25 ∷ Grants 1 ∷ []) (after_reset Second)).loans 1 ≡ 60)
+is_passed = (refl, refl, refl, refl)
+
+-- in the first line it isn't: nobody is lent anything
+is_not_passed : (may_grant (after_reset First) 0 ≡ false) × (may_grant (after_reset First) 1 ≡ false)
+    × (run (Grants 0 ∷ Grants 1 ∷ []) (after_reset First) ≡ after_reset First)
+is_not_passed = (refl, refl, refl)
+
+-- a deflate that waited is a reset now, and comes after another that asks later
+abbrev reset_later : WaitingLine → Lending
+reset_later line = run (Asks 1 5 ∷ Asks 0 10 ∷ Resets 1 line ∷ []) (record { frames = 85; loans = loan 40 0 0 ∷ loan 30 0 0 ∷ [] })
+
+changes_line : map (λ s. s.line) (reset_later First).loans ∷ map (λ s. s.line) (reset_later Second).loans
+    ∷ map (λ s. s.turn) (reset_later Second).loans ∷ [] ≡ (0 ∷ 0 ∷ []) ∷ (0 ∷ 1 ∷ []) ∷ (2 ∷ 3 ∷ []) ∷ []
+changes_line = refl
 
 -- ---- the first that waits of those below a number
 

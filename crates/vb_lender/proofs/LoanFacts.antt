@@ -96,20 +96,30 @@ may_ask_which = refl
 asks_not : (asking 21 4 (loan 20 40 0) ≡ loan 20 40 0) × (asking 1 4 (loan 20 40 1) ≡ loan 20 40 1)
 asks_not = (refl, refl)
 
--- ---- a reset asks for all that isn't lent, in place of what was asked for, at a new turn
+-- ---- a reset asks for all that isn't lent, in place of what was asked for, at a new turn and in its line
 
-resets : (resetting 4 (loan 20 45 0) ≡ record (loan 20 45 15) { turn = 4 })
-    × (resetting 4 (loan 20 40 3) ≡ record (loan 20 40 20) { turn = 4 })
-    × (resetting 4 (loan 20 60 0) ≡ loan 20 60 0)
+resets : (resetting First 4 (loan 20 45 0) ≡ record (loan 20 45 15) { turn = 4 })
+    × (resetting First 4 (loan 20 40 3) ≡ record (loan 20 40 20) { turn = 4 })
+    × (resetting First 4 (loan 20 60 0) ≡ loan 20 60 0)
 resets = (refl, refl, refl)
+
+-- of a deflate that waited the line is changed, and of a newcomer; where nothing is to be lent it stays
+resets_line : (resetting Second 4 (loan 20 40 3) ≡ record (loan 20 40 20) { turn = 4; line = 1 })
+    × (resetting Second 3 (loan 20 40 20) ≡ record (loan 20 40 20) { line = 1 })
+    × (resetting First 3 (record (loan 60 0 60) { line = 1 }) ≡ loan 60 0 60)
+    × (resetting Second 4 (loan 20 60 0) ≡ loan 20 60 0)
+    × (resetting First 4 (record (loan 20 60 0) { line = 1 }) ≡ record (loan 20 60 0) { line = 1 })
+resets_line = (refl, refl, refl, refl, refl)
 
 may_reset_which : may_reset (loan 20 59 0) ∷ may_reset (loan 20 60 0) ∷ [] ≡ true ∷ false ∷ []
 may_reset_which = refl
 
 -- ---- what it asks for is lent
 
-is_granted : granted (loan 20 40 15) ≡ record (loan 20 55 0) { turn = 0 }
-is_granted = refl
+-- and it has left its line
+is_granted : (granted (loan 20 40 15) ≡ record (loan 20 55 0) { turn = 0 })
+    × (granted (resetting Second 4 (loan 20 40 0)) ≡ record (loan 20 60 0) { turn = 0 })
+is_granted = (refl, refl)
 
 -- ---- pages leave its balloon: no more than are in it, nor than were lent for it
 

@@ -49,7 +49,7 @@ keeps v l (Arrives n k line) i h g t r f = same_lists v i (has_turn l.loans) l.l
 keeps v l (Leaves n) i h g t r f = value_elsewhere v n (λ _. vacant) l.loans i h
 keeps v l (Gives n k) i h g t r f = value_same v n (gave k) l.loans i (g k)
 keeps v l (Asks n k) i h g t r f = same_lists v i (has_turn l.loans) l.loans _ (value_elsewhere v n (asking k (next_turn l.loans)) l.loans i h)
-keeps v l (Resets n) i h g t r f = same_lists v i (has_turn l.loans) l.loans _ (value_elsewhere v n (resetting (next_turn l.loans)) l.loans i h)
+keeps v l (Resets n line) i h g t r f = same_lists v i (has_turn l.loans) l.loans _ (value_elsewhere v n (resetting line (next_turn l.loans)) l.loans i h)
 keeps v l (Grants n) i h g t r f = same_lists v i (may_grant l n) l.loans _ (value_elsewhere v n granted l.loans i h)
 keeps v l (Takes n k) i h g t r f = value_same v n (took k) l.loans i (t k)
 keeps v l (Uncounts n) i h g t r f = value_elsewhere v n uncounted l.loans i h
@@ -96,7 +96,7 @@ Late t s = (s.asked ≡ 0) ⊎ (t < rank s)
 abbrev ComesLater : ℕ → Lending → Event → ℕ → Type 0
 ComesLater t l (Arrives n k line) j = n ≡ j → t < line_start (line_of (line_number line)) + next_turn l.loans
 ComesLater t l (Asks n k) j = n ≡ j → t < next_turn l.loans
-ComesLater t l (Resets n) j = n ≡ j → t < next_turn l.loans
+ComesLater t l (Resets n line) j = n ≡ j → t < line_start (line_of (line_number line)) + next_turn l.loans
 ComesLater t l _ j = ⊤
 
 -- what holds of the guest at a place, if there is one
@@ -126,7 +126,7 @@ late_after t l (Arrives n k line) j h a = at_lists (Late t) j (has_turn l.loans)
 late_after t l (Leaves n) j h a = at_kept (Late t) n (λ _. vacant) l.loans j (λ e s p. inl refl) a
 late_after t l (Gives n k) j h a = at_kept (Late t) n (gave k) l.loans j (λ e s p. late_either t (may_give k s) s _ p p) a
 late_after t l (Asks n k) j h a = at_lists (Late t) j (has_turn l.loans) l.loans _ (at_kept (Late t) n (asking k (next_turn l.loans)) l.loans j (λ e s p. late_either t (may_ask k s) s _ (inr (let less = h e in omega (arith, less))) p) a) a
-late_after t l (Resets n) j h a = at_lists (Late t) j (has_turn l.loans) l.loans _ (at_kept (Late t) n (resetting (next_turn l.loans)) l.loans j (λ e s p. late_either t (nat_lt s.lent s.pages) s _ (inr (let less = h e in omega (arith, less))) p) a) a
+late_after t l (Resets n line) j h a = at_lists (Late t) j (has_turn l.loans) l.loans _ (at_kept (Late t) n (resetting line (next_turn l.loans)) l.loans j (λ e s p. late_either t (nat_lt s.lent s.pages) s _ (inr (h e)) p) a) a
 late_after t l (Grants n) j h a = at_lists (Late t) j (may_grant l n) l.loans _ (at_kept (Late t) n granted l.loans j (λ e s p. inl refl) a) a
 late_after t l (Takes n k) j h a = at_kept (Late t) n (took k) l.loans j (λ e s p. late_either t (may_take k s) s _ p p) a
 late_after t l (Uncounts n) j h a = at_kept (Late t) n uncounted l.loans j (λ e s p. late_either t (nat_lt 0 s.lent) s _ (inl refl) p) a
@@ -140,7 +140,7 @@ later_than_first l (Arrives n k line) i j first = λ same. let r = (rank_before 
 later_than_first l (Leaves n) i j first = tt
 later_than_first l (Gives n k) i j first = tt
 later_than_first l (Asks n k) i j first = λ same. let r = (rank_before l.loans i).0 in omega (arith, r, first, turn_before l.loans i)
-later_than_first l (Resets n) i j first = λ same. let r = (rank_before l.loans i).0 in omega (arith, r, first, turn_before l.loans i)
+later_than_first l (Resets n line) i j first = λ same. let r = (rank_before l.loans i).0 in omega (arith, r, first, turn_before l.loans i)
 later_than_first l (Grants n) i j first = tt
 later_than_first l (Takes n k) i j first = tt
 later_than_first l (Uncounts n) i j first = tt
@@ -154,7 +154,8 @@ later_than_all l (Arrives n k Second) i j out = λ same. let r = rank_before l.l
 later_than_all l (Leaves n) i j out = tt
 later_than_all l (Gives n k) i j out = tt
 later_than_all l (Asks n k) i j out = λ same. absurd (out (sym same))
-later_than_all l (Resets n) i j out = λ same. absurd (out (sym same))
+later_than_all l (Resets n First) i j out = λ same. absurd (out (sym same))
+later_than_all l (Resets n Second) i j out = λ same. let r = rank_before l.loans i in omega (arith, r.0, r.1, turn_before l.loans i)
 later_than_all l (Grants n) i j out = tt
 later_than_all l (Takes n k) i j out = tt
 later_than_all l (Uncounts n) i j out = tt
@@ -196,7 +197,7 @@ lends_after l (Arrives n k line) i j o w h = less_lists lent j (has_turn l.loans
 lends_after l (Leaves n) i j o w h = value_less lent n (λ _. vacant) l.loans j (λ s. omega arith)
 lends_after l (Gives n k) i j o w h = value_less lent n (gave k) l.loans j (λ s. less_either lent (may_give k s) s _ (omega arith))
 lends_after l (Asks n k) i j o w h = less_lists lent j (has_turn l.loans) l.loans _ (λ _. value_less lent n (asking k (next_turn l.loans)) l.loans j (λ s. less_either lent (may_ask k s) s _ (omega arith)))
-lends_after l (Resets n) i j o w h = less_lists lent j (has_turn l.loans) l.loans _ (λ _. value_less lent n (resetting (next_turn l.loans)) l.loans j (λ s. less_either lent (nat_lt s.lent s.pages) s _ (omega arith)))
+lends_after l (Resets n line) i j o w h = less_lists lent j (has_turn l.loans) l.loans _ (λ _. value_less lent n (resetting line (next_turn l.loans)) l.loans j (λ s. less_either lent (nat_lt s.lent s.pages) s _ (omega arith)))
 lends_after l (Grants n) i j o w h = grant_lends l n j (λ f e. not_before l i j w h (subst (λ (m : ℕ). may_grant l m ≡ true) f e))
 lends_after l (Takes n k) i j o w h = value_less lent n (took k) l.loans j (λ s. less_either lent (may_take k s) s _ (omega arith))
 lends_after l (Uncounts n) i j o w h = omega (arith, value_elsewhere lent n uncounted l.loans j o)

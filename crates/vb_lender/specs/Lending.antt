@@ -99,7 +99,7 @@ happens l (Arrives n pages line) = record l { loans = queued n (arrived pages li
 happens l (Leaves n) = record l { loans = each_at n (λ _. vacant) l.loans }
 happens l (Gives n pages) = record l { loans = each_at n (gave pages) l.loans }
 happens l (Asks n pages) = record l { loans = queued n (asking pages) l.loans }
-happens l (Resets n) = record l { loans = queued n resetting l.loans }
+happens l (Resets n line) = record l { loans = queued n (resetting line) l.loans }
 happens l (Grants n) =
     record l { loans = if may_grant l n then each_at n granted l.loans else l.loans }
 happens l (Takes n pages) = record l { loans = each_at n (took pages) l.loans }

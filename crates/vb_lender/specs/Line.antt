@@ -23,7 +23,7 @@ abbrev pub KeepsAsk : ℕ → Event → Type 0
 KeepsAsk i (Arrives n pages line) = i ≢ n
 KeepsAsk i (Leaves n) = i ≢ n
 KeepsAsk i (Asks n pages) = i ≢ n
-KeepsAsk i (Resets n) = i ≢ n
+KeepsAsk i (Resets n line) = i ≢ n
 KeepsAsk i (Grants n) = i ≢ n
 KeepsAsk i (Uncounts n) = i ≢ n
 KeepsAsk i _ = ⊤
@@ -41,7 +41,7 @@ IsInFirstLine loans i = value_at (λ s. line_start (line_of s.line)) loans i ≡
 abbrev pub KeepsOut : ℕ → Event → Type 0
 KeepsOut j (Arrives n pages First) = j ≢ n
 KeepsOut j (Asks n pages) = j ≢ n
-KeepsOut j (Resets n) = j ≢ n
+KeepsOut j (Resets n First) = j ≢ n
 KeepsOut j _ = ⊤
 
 -- no two guests that wait have the same turn

@@ -82,12 +82,15 @@ abbrev pub asking : ℕ → ℕ → Loan → Loan
 asking pages turn s = if may_ask pages s then record s { asked = pages; turn = turn } else s
 
 -- A reset is pending, in place of all requests: the guest asks for all pages that aren't lent to
--- it.
+-- it, in this line.
 abbrev pub may_reset : Loan → Bool
 may_reset s = nat_lt s.lent s.pages
 
-abbrev pub resetting : ℕ → Loan → Loan
-resetting turn s = if may_reset s then record s { asked = s.pages - s.lent; turn = turn } else s
+abbrev pub resetting : WaitingLine → ℕ → Loan → Loan
+resetting line turn s =
+    if may_reset s
+    then record s { asked = s.pages - s.lent; turn = turn; line = line_number line }
+    else s
 
 -- What it asks for is lent to it, and then it is no newcomer.
 abbrev pub granted : Loan → Loan

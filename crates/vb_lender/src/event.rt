@@ -26,9 +26,10 @@ pub enum Event {
         guest: usize,
         pages: u32,
     },
-    /// A reset is pending.
+    /// A reset is pending, and waits in a line.
     Resets {
         guest: usize,
+        line: WaitingLine,
     },
     /// What a guest asks for is lent to it, if it is the first that waits and there is room.
     Grants {

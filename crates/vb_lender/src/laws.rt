@@ -36,8 +36,8 @@ pub fn each_has_what_it_may_use()
 
 /// No guest that waits in the first line is overtaken: as long as its ask is pending, no guest is
 /// lent more that doesn't wait, or waits after it, nor one that comes later; but for one whose
-/// balloon ceases to count. Where no guest arrives in the second line, that is each guest that
-/// waits.
+/// balloon ceases to count. Where none arrives or is reset in the second line, that is each guest
+/// that waits.
 pub fn nobody_is_overtaken()
     ensures { (l : Lending) (events : List Event) (i j : ℕ) → 0 < asked_at l.loans i →
         IsInFirstLine l.loans i →

@@ -69,17 +69,17 @@ pub fn ask(loans: &mut [Loan], guest: usize, pages: u32) -> bool
     false
 }
 
-/// A reset is pending, in place of all requests: the guest waits until all its pages are lent to
-/// it. `false` where they are, and where no turn is left; then nothing is changed.
+/// A reset is pending, in place of all requests: the guest waits in a line until all its pages are
+/// lent to it. `false` where they are, and where no turn is left; then nothing is changed.
 #[tactic(auto, using(crate::proofs::Places::at_places))]
-pub fn reset(loans: &mut [Loan], guest: usize) -> bool
+pub fn reset(loans: &mut [Loan], guest: usize, line: WaitingLine) -> bool
     ensures heard { result ≡ (has_turn loans.old && test_at may_reset loans.old guest) }
-    ensures loans { loans.new ≡ queued guest resetting loans.old }
+    ensures loans { loans.new ≡ queued guest (resetting line) loans.old }
 {
     if let Some(turn) = next_turn(loans)
         && guest < loans.len()
     {
-        return loans[guest].reset(turn);
+        return loans[guest].reset(line, turn);
     }
     false
 }
@@ -203,8 +203,8 @@ fn change(loans: &mut [Loan], event: Event)
         Event::Asks { guest, pages } => {
             ask(loans, guest, pages);
         }
-        Event::Resets { guest } => {
-            reset(loans, guest);
+        Event::Resets { guest, line } => {
+            reset(loans, guest, line);
         }
         Event::Takes { guest, pages } => {
             take(loans, guest, pages);

@@ -11,10 +11,10 @@ ghost use Rattle.vb_lender.specs.Loans.{line_of, line_number};
 #[repr(u8)]
 #[derive(Clone, Copy, Debug, Default, PartialEq, Eq)]
 pub enum WaitingLine {
-    /// Of guests that run, and of all where a host has one line.
+    /// Of deflates, and of all asks where a host has one line.
     #[default]
     First,
-    /// Of newcomers, until they are granted their pages, where a host has two lines.
+    /// Of newcomers and resets, until they are granted their pages, where a host has two lines.
     Second,
 }
 
@@ -153,15 +153,16 @@ impl Loan {
     }
 
     /// A reset is pending.
-    pub(crate) fn reset(&mut self, turn: u64) -> bool
+    pub(crate) fn reset(&mut self, line: WaitingLine, turn: u64) -> bool
         ensures done { result ≡ may_reset self.old }
-        ensures value { self.new ≡ resetting turn self.old }
+        ensures value { self.new ≡ resetting line turn self.old }
     {
         if self.lent >= self.pages {
             return false;
         }
         self.asked = self.pages - self.lent;
         self.turn = turn;
+        self.line = line.number();
         true
     }
 

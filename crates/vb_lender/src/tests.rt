@@ -126,7 +126,9 @@ fn a_day_of_a_host(rt: HostRuntime) {
     let row = first_other_row(&mut frames, &mut loans);
     assert!(rt; row == None && frames == 90);
     assert!(rt; grant_next(frames, &mut loans) == Some(1) && owed(&loans) == 42);
-    assert!(rt; reset(&mut loans, 1) && grant_next(frames, &mut loans) == Some(1));
+    assert!(rt;
+        reset(&mut loans, 1, WaitingLine::First) && grant_next(frames, &mut loans) == Some(1)
+    );
     assert!(rt; take(&mut loans, 1, 20) && owed(&loans) == 60 && loans[1].ballooned == 0);
 }
 
@@ -190,4 +192,16 @@ fn a_deflate_passes_a_newcomer_in_the_second_line(rt: HostRuntime) {
     assert!(rt; grant_next(64, &mut loans) == Some(0) && owed(&loans) == 64);
     assert!(rt; first_in_line(&loans) == Some(1) && grant_next(127, &mut loans) == None);
     assert!(rt; grant_next(128, &mut loans) == Some(1) && owed(&loans) == 128);
+}
+
+#[test]
+fn a_deflate_passes_a_reset_in_the_second_line(rt: HostRuntime) {
+    // 70 of 85 frames are lent: there is room for the deflate of 10, and none for the reset's 30.
+    for line in [WaitingLine::First, WaitingLine::Second] {
+        let mut loans = [guest(60, 40, 0, 0), guest(60, 30, 0, 0)];
+        assert!(rt; reset(&mut loans, 1, line) && ask(&mut loans, 0, 10));
+        let passes = line == WaitingLine::Second;
+        assert!(rt; grant_next(85, &mut loans).is_some() == passes && loans[1].lent == 30);
+        assert!(rt; grant_next(85, &mut loans) == None && (loans[0].lent == 50) == passes);
+    }
 }

@@ -3,7 +3,7 @@
 use Rattle.std.proofs.Common.{◌≡◌, refl, ℕ, Bool, true, false, List, [], ◌∷◌, map, Option, Some, None}
 use Rattle.std.specs.Prelude.{option_map}
 use Rattle.vb_core.specs.declared.kinds.Kind.{Kind}
-use Rattle.vb_core.specs.declared.kinds.Kind.TheVariants.{Inflate, Deflate, Statistics, Report}
+use Rattle.vb_core.specs.declared.kinds.Kind.TheVariants.{Inflate, Deflate, Statistics, Hint, Report}
 use Rattle.vb_core.specs.declared.device.{Denial.TheVariants.NotReady}
 use Rattle.vb_core.specs.{Devices.new_device, Held.nothing_held, declared.held.Held.Held}
 use Rattle.vb_monitor.specs.declared.{balloon.Balloon.Balloon, outcome.Outcome.Outcome}
@@ -20,7 +20,7 @@ abbrev both : Held
 both = record { statistics = 4; deflate = 9; pages = 3 }
 
 abbrev kinds : List Kind
-kinds = Inflate ∷ Deflate ∷ Statistics ∷ Report ∷ []
+kinds = Inflate ∷ Deflate ∷ Statistics ∷ Hint ∷ Report ∷ []
 
 -- ---- the head of the buffer: one less than the number, and none for 0
 
@@ -32,7 +32,7 @@ heads : map head_in (0 ∷ 1 ∷ 256 ∷ 65535 ∷ 65536 ∷ 65537 ∷ [])
 heads = refl
 
 -- with its pages, of a deflate, and of no other kind
-chains : map (λ kind. held_chain kind both) kinds ≡ None ∷ chain_of 8 3 ∷ chain_of 3 0 ∷ None ∷ []
+chains : map (λ kind. held_chain kind both) kinds ≡ None ∷ chain_of 8 3 ∷ chain_of 3 0 ∷ None ∷ None ∷ []
 chains = refl
 
 -- ---- which queues may be looked at: all, but those of which a chain is held
@@ -40,14 +40,14 @@ chains = refl
 abbrev looks : ℕ → List Bool
 looks n = map (λ kind. may_look kind (holding n)) kinds
 
-none_held : looks 0 ≡ true ∷ true ∷ true ∷ true ∷ []
+none_held : looks 0 ≡ true ∷ true ∷ true ∷ true ∷ true ∷ []
 none_held = refl
 
-one_held : looks 1 ≡ true ∷ true ∷ false ∷ true ∷ []
+one_held : looks 1 ≡ true ∷ true ∷ false ∷ true ∷ true ∷ []
 one_held = refl
 
 both_held : map (λ kind. may_look kind (record { device = ready; held = both })) kinds
-    ≡ true ∷ false ∷ false ∷ true ∷ []
+    ≡ true ∷ false ∷ false ∷ true ∷ true ∷ []
 both_held = refl
 
 -- ---- what is held after a notice
@@ -65,33 +65,33 @@ held_next held outcome = map (λ kind. held_after kind outcome (record { device 
 
 -- the chain that was taken is held of its kind's queue, with a deflate's pages
 taken : held_next nothing_held (came (chain_of 6 2) false)
-    ≡ nothing_held ∷ record nothing_held { deflate = 7; pages = 2 } ∷ a_buffer 7 ∷ nothing_held ∷ []
+    ≡ nothing_held ∷ record nothing_held { deflate = 7; pages = 2 } ∷ a_buffer 7 ∷ nothing_held ∷ nothing_held ∷ []
 taken = refl
 
 first_one_taken : held_next nothing_held (came (chain_of 0 0) false)
-    ≡ nothing_held ∷ record nothing_held { deflate = 1 } ∷ a_buffer 1 ∷ nothing_held ∷ []
+    ≡ nothing_held ∷ record nothing_held { deflate = 1 } ∷ a_buffer 1 ∷ nothing_held ∷ nothing_held ∷ []
 first_one_taken = refl
 
 -- what is held stays so until it is given back: no second one of its kind is
-still_held : held_next both (came (chain_of 6 2) false) ≡ both ∷ both ∷ both ∷ both ∷ []
+still_held : held_next both (came (chain_of 6 2) false) ≡ both ∷ both ∷ both ∷ both ∷ both ∷ []
 still_held = refl
 
 -- once it was, nothing of its kind is held; a deflate's pages go with it, and the other kind's
 -- stays
 given_back : held_next both (came (chain_of 6 2) true)
-    ≡ both ∷ a_buffer 4 ∷ record both { statistics = 0 } ∷ both ∷ []
+    ≡ both ∷ a_buffer 4 ∷ record both { statistics = 0 } ∷ both ∷ both ∷ []
 given_back = refl
 
 given_back_of_others : held_next both (came None true)
-    ≡ both ∷ a_buffer 4 ∷ record both { statistics = 0 } ∷ both ∷ []
+    ≡ both ∷ a_buffer 4 ∷ record both { statistics = 0 } ∷ both ∷ both ∷ []
 given_back_of_others = refl
 
-neither : held_next both (came None false) ≡ both ∷ both ∷ both ∷ both ∷ []
+neither : held_next both (came None false) ≡ both ∷ both ∷ both ∷ both ∷ both ∷ []
 neither = refl
 
 -- a notice that was refused leaves it too
 refused : held_next both (record (came (chain_of 8 3) false) { why = Some NotReady })
-    ≡ both ∷ both ∷ both ∷ both ∷ []
+    ≡ both ∷ both ∷ both ∷ both ∷ both ∷ []
 refused = refl
 
 -- ---- the status: DRIVER_OK is the bit of 4

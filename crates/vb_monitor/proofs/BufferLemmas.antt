@@ -1,8 +1,8 @@
 -- Lists of buffers, and of the pieces that they say.
-use Rattle.vb_core.{proofs.PieceLemmas.{join_in, get_in}, specs.declared.pieces.ChainPiece.ChainPiece}
+use Rattle.vb_core.{proofs.PieceLemmas.{join_in}, specs.declared.pieces.ChainPiece.ChainPiece}
 use Rattle.vb_core.specs.Pieces.{piece_in, pieces_in}
-use Rattle.std.proofs.Common.{◌≡◌, ◌∙◌, ap, sym, subst, refl, ℕ, ◌+◌, ◌<◌, ◌≤◌, Bool, false, true}
-use Rattle.std.proofs.Common.{List, [], ◌∷◌, ◌++◌, length, map, take, drop, get_or, slice_set}
+use Rattle.std.proofs.Common.{◌≡◌, ◌∙◌, ap, sym, refl, ℕ, ◌+◌, ◌<◌, false, true}
+use Rattle.std.proofs.Common.{List, [], ◌∷◌, ◌++◌, length, map, take, slice_set}
 use Rattle.std.{specs.Prelude.{sum_by, fold, MatchOption, not, ◌==◌}, proofs.lemmas.List.take_more_set}
 use Rattle.std.{specs.List.list_any, proofs.Common.{Option, Some, None}}
 use Rattle.vb_core.proofs.PieceLemmas.{any_in}

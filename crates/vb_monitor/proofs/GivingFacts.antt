@@ -1,7 +1,7 @@
 -- How a chain is given back, and what comes before, worked out, and what isn't done.
 use Rattle.std.proofs.Common.{◌≡◌, refl, ap, arith, ℕ, true, false, List, [], ◌∷◌, map, Some, None, Ok, Err}
 use Rattle.vb_core.specs.declared.{kinds.Kind.Kind, name.Named.Named}
-use Rattle.vb_core.specs.declared.kinds.Kind.TheVariants.{Inflate, Deflate, Statistics, Report}
+use Rattle.vb_core.specs.declared.kinds.Kind.TheVariants.{Inflate, Deflate, Statistics, Hint, Report}
 use Rattle.vb_core.specs.{declared.device.Denial.TheVariants.BadArgument, Rings.used_entry}
 use Rattle.vb_core.specs.Devices.{ring_of}
 use Rattle.vb_core.specs.declared.ring.UsedEntry.{UsedEntry}
@@ -83,9 +83,10 @@ now_held = refl
 abbrev of_kind : ℕ → Kind → Tally
 of_kind setting kind = with_named kind (record settings { holds_deflates = setting }) 3 2 tally
 
-named_and_held : map (of_kind 1) (Inflate ∷ Deflate ∷ Statistics ∷ Report ∷ []) ≡
+named_and_held : map (of_kind 1) (Inflate ∷ Deflate ∷ Statistics ∷ Hint ∷ Report ∷ []) ≡
     record tally { pages = 1; told = 2 } ∷ record tally { pages = 1; told = 2; held = chain_of 3 2 }
-    ∷ record tally { pages = 1; told = 2; held = chain_of 3 2 } ∷ record tally { pages = 1; told = 2 } ∷ []
+    ∷ record tally { pages = 1; told = 2; held = chain_of 3 2 } ∷ record tally { pages = 1; told = 2 }
+    ∷ record tally { pages = 1; told = 2 } ∷ []
 named_and_held = refl
 
 named_alone : of_kind 0 Deflate ≡ record tally { pages = 1; told = 2 }
@@ -111,15 +112,15 @@ no_more_than_all = refl
 abbrev of_each : Kind → List Cut
 of_each kind = cuts_for kind false two (over_the_hole ∷ page_5 ∷ [])
 
-inflates_and_reports : map of_each (Inflate ∷ Deflate ∷ Statistics ∷ Report ∷ []) ≡
-    (cut_20 ∷ cut_22 ∷ cut_5 ∷ []) ∷ [] ∷ [] ∷ (cut_20 ∷ cut_22 ∷ cut_5 ∷ []) ∷ []
-inflates_and_reports = refl
+what_is_given_up : map of_each (Inflate ∷ Deflate ∷ Statistics ∷ Hint ∷ Report ∷ []) ≡
+    (cut_20 ∷ cut_22 ∷ cut_5 ∷ []) ∷ [] ∷ [] ∷ (cut_20 ∷ cut_22 ∷ cut_5 ∷ []) ∷ (cut_20 ∷ cut_22 ∷ cut_5 ∷ []) ∷ []
+what_is_given_up = refl
 
 -- nothing of what is kept
 abbrev of_each_kept : Kind → List Cut
 of_each_kept kind = cuts_for kind true two (page_5 ∷ [])
 
-none_kept : map of_each_kept (Inflate ∷ Deflate ∷ Statistics ∷ Report ∷ []) ≡ [] ∷ [] ∷ [] ∷ [] ∷ []
+none_kept : map of_each_kept (Inflate ∷ Deflate ∷ Statistics ∷ Hint ∷ Report ∷ []) ≡ [] ∷ [] ∷ [] ∷ [] ∷ [] ∷ []
 none_kept = refl
 
 -- ---- what is done, in its order

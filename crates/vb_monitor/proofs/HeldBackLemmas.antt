@@ -14,7 +14,7 @@ use Rattle.vb_monitor.specs.declared.{giving.UsedSpots.UsedSpots, outcome.Outcom
 use Rattle.vb_monitor.specs.declared.outcome.{HeldChain.HeldChain, Tally.Tally}
 use Rattle.vb_monitor.specs.declared.{regions.Region.Region, regions.Spot.Spot}
 
-abbrev then_ends : Whole → Then
+abbrev pub then_ends : Whole → Then
 then_ends w = AfterGiven w (ServesPublished 0 w)
 
 flags : (w : Whole) (d1 : Device) (t : Tally) (o : Option Spot) (log : List Access) →

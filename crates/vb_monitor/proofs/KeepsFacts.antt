@@ -1,38 +1,38 @@
 -- Notices that keep all pages, worked out: what they name is told, and nothing is discarded.
 use Rattle.std.proofs.Common.{◌≡◌, refl, ap, subst, Bool, true, false, List, [], ◌∷◌, map, None, Ok}
 use Rattle.vb_core.specs.declared.kinds.Kind.{Kind}
-use Rattle.vb_core.specs.declared.kinds.Kind.TheVariants.{Inflate, Deflate, Statistics, Report}
+use Rattle.vb_core.specs.declared.kinds.Kind.TheVariants.{Inflate, Deflate, Statistics, Hint, Report}
 use Rattle.vb_core.{specs.declared.device.Device.Device}
 use Rattle.vb_monitor.specs.declared.{cuts.Cut.Cut, outcome.{Budget.Budget, Outcome.Outcome, Tally.Tally}}
 use Rattle.vb_core.specs.declared.runs.Run.{Run}
-use Rattle.vb_monitor.specs.Accesses.{Access, ReadWord, CopyBytes, Acquire, Release, Full, TellPages, TellFigures, Discard, WriteNumber, WriteWord}
+use Rattle.vb_monitor.specs.Accesses.{Access, ReadWord, CopyBytes, Acquire, Release, Full, TellPages, TellFigures, TellId, Discard, WriteNumber, WriteWord}
 use Rattle.vb_monitor.specs.{Ends.Whole, Notices.{Serves, fresh, with_chains}, SoFar.{left, without_first}}
 use Rattle.vb_monitor.specs.Giving.{Then, is_kept, kept_pages, cuts_for, with_given, spent, after_use, TellsThen}
 use Rattle.vb_monitor.{specs.Turns.{TellsInTurn, IsNext}, proofs.TurnLaws.tells_in_turn, proofs.TurnLaws.in_order}
 use Rattle.vb_monitor.proofs.Samples.{two, at, ready, tally, page_5, one_page, pages, discard, id, used_length, used_index}
 use Rattle.vb_monitor.proofs.Samples.{flags_are_read, index, entry, descriptor, part, number, last_descriptor, flags, given, budget, outcome}
-use Rattle.vb_monitor.proofs.WholeFacts.{taken, used, names_5}
+use Rattle.vb_monitor.proofs.WholeFacts.{used, names_5}
 
 -- ---- what is kept
 
 abbrev kinds : List Kind
-kinds = Inflate ∷ Deflate ∷ Statistics ∷ Report ∷ []
+kinds = Inflate ∷ Deflate ∷ Statistics ∷ Hint ∷ Report ∷ []
 
 abbrev each_kept : Bool → Bool → List Bool
-each_kept all reports = map (λ kind. is_kept kind all reports) kinds
+each_kept all free = map (λ kind. is_kept kind all free) kinds
 
--- inflates and reports, of a notice that keeps all; what a deflate requests back wasn't given up
-by_the_notice : each_kept true false ≡ true ∷ false ∷ false ∷ true ∷ []
+-- inflates, hints and reports, of a notice that keeps all; what a deflate requests back wasn't given up
+by_the_notice : each_kept true false ≡ true ∷ false ∷ false ∷ true ∷ true ∷ []
 by_the_notice = refl
 
--- reports alone, of a device that keeps these
-by_the_device : each_kept false true ≡ false ∷ false ∷ false ∷ true ∷ []
+-- hints and reports alone, of a device that keeps these
+by_the_device : each_kept false true ≡ false ∷ false ∷ false ∷ true ∷ true ∷ []
 by_the_device = refl
 
-by_both : each_kept true true ≡ true ∷ false ∷ false ∷ true ∷ []
+by_both : each_kept true true ≡ true ∷ false ∷ false ∷ true ∷ true ∷ []
 by_both = refl
 
-by_none : each_kept false false ≡ false ∷ false ∷ false ∷ false ∷ []
+by_none : each_kept false false ≡ false ∷ false ∷ false ∷ false ∷ false ∷ []
 by_none = refl
 
 -- each page or none
@@ -220,6 +220,7 @@ none_of_kept : (kind : Kind) (runs : List Run) → cuts_for kind true two runs �
 none_of_kept Inflate runs = refl
 none_of_kept Deflate runs = refl
 none_of_kept Statistics runs = refl
+none_of_kept Hint runs = refl
 none_of_kept Report runs = refl
 
 none_left : (log : List Access) → left true two log ≡ []
@@ -231,6 +232,7 @@ none_left (Release ∷ xs) = none_left xs
 none_left (Full ∷ xs) = none_left xs
 none_left (TellPages kind runs named ∷ xs) = none_of_kept kind runs
 none_left (TellFigures figures ∷ xs) = none_left xs
+none_left (TellId n ∷ xs) = none_left xs
 none_left (Discard cut ∷ xs) = ap (λ (cuts : List Cut). without_first cuts) (none_left xs)
 none_left (WriteNumber at number ∷ xs) = none_left xs
 none_left (WriteWord at word ∷ xs) = none_left xs

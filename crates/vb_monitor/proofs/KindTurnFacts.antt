@@ -83,7 +83,7 @@ kept_and_given_back : TellsInTurn two Inflate true (only Inflate) (pages ∷ rea
 kept_and_given_back = refl
 
 abbrev keeping : Device
-keeping = record (only Report) { features = 0x100000037; poison = 1 }
+keeping = record (only Report) { features = 0x10000003f; poison = 1 }
 
 report_kept_and_discarded : TellsInTurn two Report false keeping (told ∷ of_page_5 ∷ taken) discard → ⊥
 unfolding lib.Count.ones

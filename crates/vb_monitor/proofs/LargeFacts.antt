@@ -73,6 +73,7 @@ device = new_device (record {
   needs_must_tell = 0;
   skips_bad_pages = 0;
   holds_deflates = 0;
+  discards_hints = 0;
 })
 
 counts : counted (record device { features = 0x100000001 }) (7 ∷ []) ≡ 7 ∷ []

@@ -5,7 +5,7 @@ use Rattle.std.specs.Prelude.{IfSome}
 use Rattle.vb_core.specs.declared.runs.Run.{Run}
 use Rattle.vb_monitor.{specs.declared.step.Phase.Phase, specs.declared.room.TheConstants.MAX_RUNS}
 use Rattle.vb_monitor.{specs.declared.outcome.Tally.Tally, specs.declared.cuts.NextCut.NextCut}
-use Rattle.vb_monitor.specs.declared.step.Phase.TheVariants.{TellsPages, TellsFigures, Discards}
+use Rattle.vb_monitor.specs.declared.step.Phase.TheVariants.{TellsPages, TellsFigures, TellsId, Discards}
 use Rattle.vb_monitor.specs.declared.step.Phase.TheVariants.{GivesBack, AwaitsFlags, Ended}
 use Rattle.vb_monitor.specs.declared.step.Phase.TheVariants.{AwaitsDescriptor, AwaitsPart}
 use Rattle.vb_monitor.specs.declared.step.Phase.TheVariants.{AwaitsIndex, AwaitsEntry}
@@ -72,6 +72,7 @@ not_over (AwaitsDescriptor at walk) t e = refl
 not_over (AwaitsPart at place into len) t e = refl
 not_over (TellsPages place named further) t e = refl
 not_over (TellsFigures head count) t e = refl
+not_over (TellsId head id) t e = refl
 not_over (Discards cut x) t e = refl
 not_over (GivesBack spots entry) t e = refl
 not_over (AwaitsFlags at why more) t e = refl

@@ -30,8 +30,11 @@ pub mod NamedLemmas
 pub mod TurnNames
 pub mod TurnRows
 pub mod TurnWalks
+pub mod HintTurns
 pub mod TurnLaws
 pub mod HeldBackLemmas
+pub mod RoundLemmas
+mod HintFacts
 pub mod PartsOfRunLemmas
 mod Samples
 mod RowFacts
@@ -62,6 +65,7 @@ pub mod LargeLaws
 mod LargeFacts
 mod LargeWaitFacts
 mod WholeReportFacts
+mod WholeHintFacts
 mod KeepsFacts
 pub mod RoomLemmas
 pub mod OpenLemmas

@@ -14,7 +14,7 @@ use Rattle.vb_monitor.specs.declared.step.Place.{Place}
 use Rattle.vb_monitor.specs.declared.step.Discarding.{Discarding}
 use Rattle.vb_monitor.specs.declared.step.Phase.{Phase}
 use Rattle.vb_monitor.specs.declared.step.Phase.TheVariants.{AwaitsIndex, AwaitsEntry, AwaitsDescriptor, AwaitsPart}
-use Rattle.vb_monitor.specs.declared.step.Phase.TheVariants.{TellsPages, TellsFigures, Discards, GivesBack, AwaitsFlags, Ended}
+use Rattle.vb_monitor.specs.declared.step.Phase.TheVariants.{TellsPages, TellsFigures, TellsId, Discards, GivesBack, AwaitsFlags, Ended}
 use Rattle.vb_monitor.specs.Accesses.{Access, Steps, Makes, ReadWord, CopyBytes, Acquire, Release, Full, TellPages, TellFigures}
 use Rattle.vb_monitor.specs.Machine.{cuts_after, is_ended, stage, waits, outcome_at, Fits, Does, GoesOn}
 use Rattle.vb_monitor.specs.{declared.cuts.NextCut.NextCut, Orders.cuts_left}
@@ -42,26 +42,26 @@ spots = record { id = at 0x204; length = at 0x208; index = at 0x202 }
 abbrev phases : List Phase
 phases =
     AwaitsIndex (at 0x102) ∷ AwaitsEntry (at 0x104) ∷ AwaitsDescriptor (at 0x30) walk ∷ AwaitsPart (at 0x400) place 0 4
-    ∷ TellsPages place named false ∷ TellsFigures 3 1 ∷ Discards cut_5 discarding ∷ GivesBack spots (used_entry ring 3)
+    ∷ TellsPages place named false ∷ TellsFigures 3 1 ∷ TellsId 3 6 ∷ Discards cut_5 discarding ∷ GivesBack spots (used_entry ring 3)
     ∷ AwaitsFlags (at 0x100) None false ∷ Ended None true false ∷ []
 
 -- the last one alone has ended, and it alone has an outcome
 ended : map is_ended phases ≡
-    false ∷ false ∷ false ∷ false ∷ false ∷ false ∷ false ∷ false ∷ false ∷ true ∷ []
+    false ∷ false ∷ false ∷ false ∷ false ∷ false ∷ false ∷ false ∷ false ∷ false ∷ true ∷ []
 ended = refl
 
 -- something is told, bytes are discarded, the chain is given back, and then an answer is awaited
-stages : map stage phases ≡ 3 ∷ 3 ∷ 3 ∷ 3 ∷ 0 ∷ 0 ∷ 1 ∷ 2 ∷ 3 ∷ 3 ∷ []
+stages : map stage phases ≡ 3 ∷ 3 ∷ 3 ∷ 3 ∷ 0 ∷ 0 ∷ 0 ∷ 1 ∷ 2 ∷ 3 ∷ 3 ∷ []
 stages = refl
 
 waiting : map waits phases ≡
-    true ∷ true ∷ true ∷ true ∷ false ∷ false ∷ true ∷ false ∷ true ∷ true ∷ []
+    true ∷ true ∷ true ∷ true ∷ false ∷ false ∷ false ∷ true ∷ false ∷ true ∷ true ∷ []
 waiting = refl
 
 abbrev outcome_of : Phase → Option Outcome
 outcome_of phase = outcome_at phase tally
 
-outcomes : map outcome_of phases ≡ None ∷ None ∷ None ∷ None ∷ None ∷ None ∷ None ∷ None ∷ None
+outcomes : map outcome_of phases ≡ None ∷ None ∷ None ∷ None ∷ None ∷ None ∷ None ∷ None ∷ None ∷ None
     ∷ Some (record { tally = tally; why = None; interrupt = true; more = false }) ∷ []
 outcomes = refl
 
@@ -72,7 +72,7 @@ as_it_ended = refl
 -- what is left of a chain, over two regions: 515 once its pages are named, and 516 times as much as
 -- bytes are left and one before that
 left_of_each : map (left_of two) phases ≡
-    2 ∷ 567347999933705 ∷ 567347999933704 ∷ 567347999931384 ∷ 515 ∷ 2 ∷ 514 ∷ 2 ∷ 1 ∷ 0 ∷ []
+    2 ∷ 567347999933705 ∷ 567347999933704 ∷ 567347999931384 ∷ 515 ∷ 2 ∷ 3 ∷ 514 ∷ 2 ∷ 1 ∷ 0 ∷ []
 unfolding parts_left copies_left
 left_of_each = refl
 

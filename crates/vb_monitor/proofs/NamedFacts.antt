@@ -1,16 +1,16 @@
 -- What the bytes of a request, and the pieces of a report, come to, worked out: their pages are
 -- named and told, or the notice ends for what is wrong with them.
-use Rattle.std.proofs.Common.{◌≡◌, refl, Option, ap, subst, arith, ℕ, false, List, [], ◌∷◌, Some, None, Result, Ok, Err}
+use Rattle.std.proofs.Common.{◌≡◌, refl, Option, ap, subst, arith, ℕ, true, false, List, [], ◌∷◌, Some, None, Result, Ok, Err}
 use Rattle.vb_request.specs.Request.{numbers_of}
 use Rattle.vb_chain.specs.declared.fault.ChainFault.TheVariants.{WrongDirection, BadLength, OutOfRam}
 use Rattle.vb_core.specs.declared.kinds.Kind.{Kind}
-use Rattle.vb_core.specs.declared.kinds.Kind.TheVariants.{Inflate, Deflate, Statistics, Report}
+use Rattle.vb_core.specs.declared.kinds.Kind.TheVariants.{Inflate, Deflate, Statistics, Hint, Report}
 use Rattle.vb_core.specs.declared.{name.Named.Named, runs.Run.Run, device.{Device.Device, Denial.{Denial, TheVariants.{Broken, BadArgument, NoQueue}}}}
 use Rattle.vb_core.specs.{Devices.with_one_taken, Name.NamesNumbersBy, Report.NamesPiecesBy, Runs.Tell}
 use Rattle.vb_monitor.specs.declared.outcome.{Outcome.Outcome}
 use Rattle.vb_monitor.specs.Accesses.{Access, CopyBytes, Release, TellPages, Discard}
 use Rattle.vb_monitor.specs.{Ends.{Whole, Stops}, Giving.{Then, after_use, with_given, spent, AfterName, after_last}}
-use Rattle.vb_monitor.specs.Chains.{AfterBytes, CopiesBy, ServesPieces}
+use Rattle.vb_monitor.specs.Chains.{AfterBytes, CopiesBy, ServesPieces, told_if}
 use Rattle.vb_monitor.proofs.Samples.{Same, two, at, ready, tally, piece, page_5, cut_5, one_page, number, part, id, used_length, used_index}
 use Rattle.vb_monitor.proofs.AheadFacts.{over, ends, needs_reset}
 
@@ -26,6 +26,7 @@ abbrev denied_for : Kind → Denial
 denied_for Inflate = BadArgument
 denied_for Deflate = BadArgument
 denied_for Statistics = NoQueue
+denied_for Hint = NoQueue
 denied_for Report = NoQueue
 
 abbrev refusal : Option Denial → Result Named Denial
@@ -40,6 +41,7 @@ unfolding lib.Count.ones
 no_number Inflate = record { denied = λ why e. (ap refusal e, refl); names = λ e. absurd cc }
 no_number Deflate = record { denied = λ why e. (ap refusal e, refl); names = λ e. absurd cc }
 no_number Statistics = record { denied = λ why e. (ap refusal e, refl); names = λ e. absurd cc }
+no_number Hint = record { denied = λ why e. (ap refusal e, refl); names = λ e. absurd cc }
 no_number Report = record { denied = λ why e. (ap refusal e, refl); names = λ e. absurd cc }
 
 abbrev Refused : Kind → Device → Option Denial → List Access → Type 0
@@ -223,7 +225,7 @@ both_told o = record {
 
 -- ---- a report of a piece that the device may not write
 
-to_read : NamesPiecesBy (piece ∷ []) 256 [] ready needs_reset (Err (Broken WrongDirection))
+to_read : NamesPiecesBy Report (piece ∷ []) 256 [] ready needs_reset (Err (Broken WrongDirection))
 unfolding lib.Count.ones
 to_read = record {
   denied = λ why e. absurd cc;
@@ -247,21 +249,21 @@ report_breaks = record {
 report_told : (d : Device) (why : Option Denial) (x : Access) (rest : List Access) → Reported d why (x ∷ rest) → ⊥
 unfolding lib.Count.ones
 report_told d why x rest h =
-    let says = h.names.answer refl in
-    let e = (stops _ h.device h.runs h.answer (Broken WrongDirection) _ says h.goes_on).nothing in absurd cc
+    let says = ap (λ (a : Result Named Denial). told_if true a) (h.names.answer refl) in
+    let e = (stops _ h.device h.runs (told_if true h.answer) (Broken WrongDirection) _ says h.goes_on).nothing in absurd cc
 
 for_another_reason : (d : Device) → Reported d (Some (Broken BadLength)) [] → ⊥
 unfolding lib.Count.ones
 for_another_reason d h =
-    let says = h.names.answer refl in
-    let stop = stops _ h.device h.runs h.answer (Broken WrongDirection) _ says h.goes_on in
+    let says = ap (λ (a : Result Named Denial). told_if true a) (h.names.answer refl) in
+    let stop = stops _ h.device h.runs (told_if true h.answer) (Broken WrongDirection) _ says h.goes_on in
     let e = ap (λ (o : Outcome). o.why) stop.outcome in absurd cc
 
 unbroken : (why : Option Denial) → Reported ready why [] → ⊥
 unfolding lib.Count.ones
 unbroken why h =
-    let says = h.names.answer refl in
-    let stop = stops _ h.device h.runs h.answer (Broken WrongDirection) _ says h.goes_on in
+    let says = ap (λ (a : Result Named Denial). told_if true a) (h.names.answer refl) in
+    let stop = stops _ h.device h.runs (told_if true h.answer) (Broken WrongDirection) _ says h.goes_on in
     let e : Same 15 h.device.status = ap (λ (d : Device). d.status) stop.device in
     let f : Same h.device.status 79 = ap (λ (d : Device). d.status) (h.names.device refl) in omega (arith, e, f)
 

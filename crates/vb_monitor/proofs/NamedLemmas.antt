@@ -1,68 +1,73 @@
 -- What is told of pages and figures, where something is told.
-use Rattle.std.proofs.Common.{◌≡◌, ◌∙◌, ap, subst, refl, ℕ, List}
+use Rattle.std.proofs.Common.{◌≡◌, ◌∙◌, ap, sym, subst, refl, ℕ, List, Bool, true, false}
 use Rattle.std.proofs.Common.{◌+◌, length, map, take, Option, Some, None, Result, Ok, Err}
 use Rattle.vb_chain.{specs.declared.pieces.Piece.Piece, specs.declared.fault.ChainFault.ChainFault}
 use Rattle.vb_request.{specs.Request.numbers_of, specs.Report.report_request}
-use Rattle.vb_core.specs.{Devices.{ring_of, with_one_taken}, Name.{NamesNumbersBy, NamesRuns, fault_in}}
+use Rattle.vb_core.specs.{Devices.{with_one_taken}, Name.{NamesNumbersBy, NamesRuns, fault_in}}
 use Rattle.vb_core.specs.{Name.{name_denial, after_chain, after_numbers, told}, Report.NamesPiecesBy}
 use Rattle.vb_core.specs.Report.{pieces_denial, named_by, report_named, run_of}
 use Rattle.vb_core.specs.{Settings.{memory_pages, skips}, declared.device.Denial.Denial}
 use Rattle.vb_core.specs.declared.device.{Denial.TheVariants.NoQueue, Device.Device}
 use Rattle.vb_core.specs.declared.{kinds.Kind.Kind, kinds.Kind.TheVariants.Report, name.Named.Named}
-use Rattle.vb_core.specs.declared.{ring.Virtqueue.Virtqueue, runs.Run.Run}
-use Rattle.vb_monitor.specs.{Giving.after_last, Turns.{TellNumbers, TellPieces}}
-use Rattle.vb_monitor.proofs.TurnEnds.{moves}
+use Rattle.vb_core.specs.declared.{runs.Run.Run}
+use Rattle.vb_monitor.specs.{Giving.after_last, Turns.{TellNumbers, TellPieces, TellHint}}
+use Rattle.vb_monitor.specs.Chains.{told_if}
+use Rattle.vb_monitor.proofs.TurnEnds.{IsLike, flawed_like, taken_like}
 
--- ---- where the flags lie is no other
+-- ---- where the flags lie is no other, and the round is the same
 
-answered_avail : (kind : Kind) (d d2 : Device) (answer : Result Named ChainFault) →
-    d2 ≡ after_chain kind answer d → (ring_of kind d2).avail ≡ (ring_of kind d).avail
-answered_avail kind d d2 (Ok named) e = ap (λ (x : Device). (ring_of kind x).avail) e
-    ∙ ap (λ (r : Virtqueue). r.avail) (moves kind d).taken_ring
-answered_avail kind d d2 (Err fault) e = ap (λ (x : Device). (ring_of kind x).avail) e
-    ∙ ap (λ (r : Virtqueue). r.avail) (moves kind d).same_ring
+-- a device that takes what was named, or notes a rule that is broken
+answered_like : (kind : Kind) (d d2 : Device) (answer : Result Named ChainFault) →
+    d2 ≡ after_chain kind answer d → IsLike kind d2 d
+answered_like kind d d2 (Ok named) e =
+    subst (λ (x : Device). IsLike kind x d) (sym e) (taken_like kind d)
+answered_like kind d d2 (Err fault) e =
+    subst (λ (x : Device). IsLike kind x d) (sym e) (flawed_like kind d)
 
-numbered_avail : (kind : Kind) (d d2 : Device) (answer : Result Named ChainFault) →
-    d2 ≡ after_numbers answer d → (ring_of kind d2).avail ≡ (ring_of kind d).avail
-numbered_avail kind d d2 (Ok named) e = ap (λ (x : Device). (ring_of kind x).avail) e
-numbered_avail kind d d2 (Err fault) e = ap (λ (x : Device). (ring_of kind x).avail) e
-    ∙ ap (λ (r : Virtqueue). r.avail) (moves kind d).same_ring
+numbered_like : (kind : Kind) (d d2 : Device) (answer : Result Named ChainFault) →
+    d2 ≡ after_numbers answer d → IsLike kind d2 d
+numbered_like kind d d2 (Ok named) e =
+    subst (λ (x : Device). IsLike kind x d) (sym e) (record { avail = refl; round = refl })
+numbered_like kind d d2 (Err fault) e =
+    subst (λ (x : Device). IsLike kind x d) (sym e) (flawed_like kind d)
 
-last_avail : (kind : Kind) (d : Device) (result : Result Named Denial) →
-    (ring_of kind (after_last kind result d)).avail ≡ (ring_of kind d).avail
-last_avail kind d (Ok named) = ap (λ (r : Virtqueue). r.avail) (moves kind d).taken_ring
-last_avail kind d (Err why) = refl
+last_like : (kind : Kind) (d d2 : Device) (result : Result Named Denial) → IsLike kind d2 d →
+    IsLike kind (after_last kind result d2) d
+last_like kind d d2 (Ok named) is = record {
+  avail = (taken_like kind d2).avail ∙ is.avail;
+  round = (taken_like kind d2).round ∙ is.round;
+}
+last_like kind d d2 (Err why) is = is
 
-avail_by : (kind : Kind) (bytes : List ℕ) (room : ℕ) (runs : List Run) (d d2 : Device)
+names_by : (kind : Kind) (bytes : List ℕ) (room : ℕ) (runs : List Run) (d d2 : Device)
     (result : Result Named Denial) (denial : Option Denial) →
     name_denial kind (length bytes) room d ≡ denial → NamesNumbersBy kind bytes room runs d d2 result →
-    (ring_of kind d2).avail ≡ (ring_of kind d).avail
-avail_by kind bytes room runs d d2 result (Some why) e h =
-    ap (λ (x : Device). (ring_of kind x).avail) (h.denied why e).1
-avail_by kind bytes room runs d d2 result None e h =
-    let x = h.names e in numbered_avail kind d d2 x.0 x.3
+    IsLike kind d2 d
+names_by kind bytes room runs d d2 result (Some why) e h = subst (λ (x : Device). IsLike kind x d)
+    (sym (h.denied why e).1) (record { avail = refl; round = refl })
+names_by kind bytes room runs d d2 result None e h =
+    let x = h.names e in numbered_like kind d d2 x.0 x.3
 
-pub names_avail : (kind : Kind) (bytes : List ℕ) (room : ℕ) (runs : List Run) (d d2 : Device)
+pub names_like : (kind : Kind) (bytes : List ℕ) (room : ℕ) (runs : List Run) (d d2 : Device)
     (result : Result Named Denial) → NamesNumbersBy kind bytes room runs d d2 result →
-    (ring_of kind (after_last kind result d2)).avail ≡ (ring_of kind d).avail
-names_avail kind bytes room runs d d2 result h =
-    last_avail kind d2 result
-    ∙ avail_by kind bytes room runs d d2 result (name_denial kind (length bytes) room d) refl h
+    IsLike kind (after_last kind result d2) d
+names_like kind bytes room runs d d2 result h = last_like kind d d2 result
+    (names_by kind bytes room runs d d2 result (name_denial kind (length bytes) room d) refl h)
 
-pieces_avail_by : (pieces : List Piece) (room : ℕ) (runs : List Run) (d d2 : Device)
+pieces_by : (kind : Kind) (pieces : List Piece) (room : ℕ) (runs : List Run) (d d2 : Device)
     (result : Result Named Denial) (denial : Option Denial) →
-    pieces_denial pieces room d ≡ denial → NamesPiecesBy pieces room runs d d2 result →
-    (ring_of Report d2).avail ≡ (ring_of Report d).avail
-pieces_avail_by pieces room runs d d2 result (Some why) e h =
-    ap (λ (x : Device). (ring_of Report x).avail) (h.denied why e).1
-pieces_avail_by pieces room runs d d2 result None e h =
-    answered_avail Report d d2 (report_named pieces d.settings.reserved_pages) (h.device e)
+    pieces_denial kind pieces room d ≡ denial → NamesPiecesBy kind pieces room runs d d2 result →
+    IsLike kind d2 d
+pieces_by kind pieces room runs d d2 result (Some why) e h = subst (λ (x : Device). IsLike kind x d)
+    (sym (h.denied why e).1) (record { avail = refl; round = refl })
+pieces_by kind pieces room runs d d2 result None e h =
+    answered_like kind d d2 (report_named pieces d.settings.reserved_pages) (h.device e)
 
-pub pieces_avail : (pieces : List Piece) (room : ℕ) (runs : List Run) (d d2 : Device)
-    (result : Result Named Denial) → NamesPiecesBy pieces room runs d d2 result →
-    (ring_of Report d2).avail ≡ (ring_of Report d).avail
-pieces_avail pieces room runs d d2 result h =
-    pieces_avail_by pieces room runs d d2 result (pieces_denial pieces room d) refl h
+pub pieces_like : (kind : Kind) (pieces : List Piece) (room : ℕ) (runs : List Run) (d d2 : Device)
+    (result : Result Named Denial) → NamesPiecesBy kind pieces room runs d d2 result →
+    IsLike kind d2 d
+pieces_like kind pieces room runs d d2 result h =
+    pieces_by kind pieces room runs d d2 result (pieces_denial kind pieces room d) refl h
 
 -- ---- numbers
 
@@ -115,17 +120,18 @@ no_report bytes room runs d d2 named h = let x = (h.denied NoQueue refl).0 in ab
 
 -- ---- pieces
 
-abbrev pub Pieces : List Piece → List Run → Device → Device → Named → Type 0
-Pieces pieces runs d d2 named =
-    TellPieces d.settings pieces (take named.runs runs) named × (d2 ≡ with_one_taken Report d)
+abbrev Pieces : Kind → List Piece → List Run → Device → Device → Named → Type 0
+Pieces kind pieces runs d d2 named =
+    TellPieces d.settings pieces (take named.runs runs) named × (d2 ≡ with_one_taken kind d)
 
-pieces_answered : (pieces : List Piece) (room : ℕ) (runs : List Run) (d d2 : Device) (named : Named)
-    (request : Result (List ℕ) ChainFault) → report_request pieces d.settings.reserved_pages
+pieces_answered : (kind : Kind) (pieces : List Piece) (runs : List Run) (d d2 : Device)
+    (named : Named) (request : Result (List ℕ) ChainFault) →
+    report_request pieces d.settings.reserved_pages
     ≡ request → Ok named ≡ told (named_by (length pieces) request)
-    → d2 ≡ after_chain Report (named_by (length pieces) request) d
-    → take (length pieces) runs ≡ map run_of pieces → Pieces pieces runs d d2 named
-pieces_answered pieces room runs d d2 named (Err fault) is e after are = absurd cc
-pieces_answered pieces room runs d d2 named (Ok pages) is e after are =
+    → d2 ≡ after_chain kind (named_by (length pieces) request) d
+    → take (length pieces) runs ≡ map run_of pieces → Pieces kind pieces runs d d2 named
+pieces_answered kind pieces runs d d2 named (Err fault) is e after are = absurd cc
+pieces_answered kind pieces runs d d2 named (Ok pages) is e after are =
     let count_so : named.runs ≡ length pieces = cc in (
       record {
         free = pages;
@@ -137,15 +143,45 @@ pieces_answered pieces room runs d d2 named (Ok pages) is e after are =
       after,
     )
 
-pieces_so : (pieces : List Piece) (room : ℕ) (runs : List Run) (d d2 : Device) (named : Named)
-    (denial : Option Denial) → pieces_denial pieces room d ≡ denial →
-    NamesPiecesBy pieces room runs d d2 (Ok named) → Pieces pieces runs d d2 named
-pieces_so pieces room runs d d2 named (Some why) e h = let x = (h.denied why e).0 in absurd cc
-pieces_so pieces room runs d d2 named None e h = pieces_answered pieces room runs d d2 named
+pieces_so : (kind : Kind) (pieces : List Piece) (room : ℕ) (runs : List Run) (d d2 : Device)
+    (named : Named) (denial : Option Denial) → pieces_denial kind pieces room d ≡ denial →
+    NamesPiecesBy kind pieces room runs d d2 (Ok named) → Pieces kind pieces runs d d2 named
+pieces_so kind pieces room runs d d2 named (Some why) e h =
+    let x = (h.denied why e).0 in absurd cc
+pieces_so kind pieces room runs d d2 named None e h = pieces_answered kind pieces runs d d2 named
     (report_request pieces d.settings.reserved_pages) refl (h.answer e) (h.device e)
     (h.runs_are refl)
 
-pub named_pieces : (pieces : List Piece) (room : ℕ) (runs : List Run) (d d2 : Device)
-    (named : Named) → NamesPiecesBy pieces room runs d d2 (Ok named) → Pieces pieces runs d d2 named
-named_pieces pieces room runs d d2 named h =
-    pieces_so pieces room runs d d2 named (pieces_denial pieces room d) refl h
+-- what is told of them, where their pages are told, or else skipped
+abbrev pub ToldPieces : Bool → Kind → List Piece → List Run → Device → Device → Named → Type 0
+ToldPieces told_so kind pieces runs d d2 named =
+    TellHint told_so d.settings pieces (take named.runs runs) named × (d2 ≡ with_one_taken kind d)
+
+skipped_so : (kind : Kind) (pieces : List Piece) (runs : List Run) (d d2 : Device)
+    (named now : Named) → record { runs = 0; pages = 0; skipped = named.pages } ≡ now →
+    Pieces kind pieces runs d d2 named → ToldPieces false kind pieces runs d d2 now
+skipped_so kind pieces runs d d2 named now e h = (
+  record {
+    free = h.0.free;
+    sound = h.0.sound;
+    none = ap (λ (x : Named). take x.runs runs) (sym e);
+    pages = ap (λ (x : Named). x.pages) (sym e);
+    skipped = ap (λ (x : Named). x.skipped) (sym e) ∙ h.0.pages;
+  },
+  h.1,
+)
+
+pub named_pieces : (told_so : Bool) (kind : Kind) (pieces : List Piece) (room : ℕ) (runs : List Run)
+    (d d2 : Device) (answer : Result Named Denial) (now : Named) →
+    NamesPiecesBy kind pieces room runs d d2 answer → told_if told_so answer ≡ Ok now →
+    ToldPieces told_so kind pieces runs d d2 now
+named_pieces true kind pieces room runs d d2 (Err why) now h e = absurd cc
+named_pieces false kind pieces room runs d d2 (Err why) now h e = absurd cc
+named_pieces true kind pieces room runs d d2 (Ok named) now h e =
+    let same : named ≡ now = cc in
+    subst (λ (x : Named). ToldPieces true kind pieces runs d d2 x) same
+    (pieces_so kind pieces room runs d d2 named (pieces_denial kind pieces room d) refl h)
+named_pieces false kind pieces room runs d d2 (Ok named) now h e =
+    let same : record { runs = 0; pages = 0; skipped = named.pages } ≡ now = cc in
+    skipped_so kind pieces runs d d2 named now same
+    (pieces_so kind pieces room runs d d2 named (pieces_denial kind pieces room d) refl h)

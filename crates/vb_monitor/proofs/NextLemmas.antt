@@ -1,6 +1,6 @@
 -- What is still to come, where a number counts down or a list gets shorter.
 use Rattle.std.proofs.Common.{◌≡◌, sym, subst, arith, ℕ, suc, ◌-◌, ◌<◌, Bool, true, false, List}
-use Rattle.std.{proofs.Common.{[], ◌∷◌, None}, specs.Prelude.◌==◌}
+use Rattle.std.{proofs.Common.{None}, specs.Prelude.◌==◌}
 use Rattle.vb_core.specs.declared.device.Device.{Device}
 use Rattle.vb_monitor.specs.Notices.{TakesChain, TakesNext, TakesUnlessSpent, AfterGiven}
 use Rattle.vb_monitor.specs.{Notices.{with_chains, ServesPublished}, declared.outcome.Tally.Tally}

@@ -95,6 +95,7 @@ waiting = record {
     needs_must_tell = 0;
     skips_bad_pages = 0;
     holds_deflates = 0;
+    discards_hints = 0;
   });
   held = record { statistics = 4; deflate = 9; pages = 3 };
 }

@@ -1,12 +1,12 @@
 -- What is done at once, worked out, and what isn't.
 use Rattle.vb_monitor.specs.declared.room.Room.{Room}
 use Rattle.std.proofs.Common.{◌≡◌, ◌≤◌, refl, arith, ℕ, true, false, List, [], ◌∷◌}
-use Rattle.vb_core.specs.declared.kinds.Kind.TheVariants.{Inflate, Statistics}
+use Rattle.vb_core.specs.declared.kinds.Kind.TheVariants.{Inflate, Statistics, Hint}
 use Rattle.vb_core.{specs.declared.runs.Run.Run, specs.declared.statistics.Statistic.Statistic}
-use Rattle.vb_monitor.specs.Accesses.{Access, ReadWord, Acquire, TellPages, TellFigures, Discard}
+use Rattle.vb_monitor.specs.Accesses.{Access, ReadWord, Acquire, TellPages, TellFigures, TellId, Discard}
 use Rattle.vb_monitor.specs.{Accesses.{WriteNumber, WriteWord, Release}, declared.regions.Spot.Spot}
 use Rattle.vb_monitor.specs.declared.{cuts.Cut.Cut, orders.Told.TheVariants.{Nothing, Pages}}
-use Rattle.vb_monitor.specs.declared.orders.{Told.TheVariants.Figures, Asked.Asked, Orders.Orders}
+use Rattle.vb_monitor.specs.declared.orders.{Told.TheVariants.{Figures, Id}, Asked.Asked, Orders.Orders}
 use Rattle.vb_monitor.specs.{declared.step.Phase.Phase, Machine.{Awaited, waits}}
 use Rattle.vb_monitor.specs.declared.step.Phase.TheVariants.{AwaitsIndex, Discards}
 use Rattle.vb_monitor.specs.Orders.{at_once, HasRoom, FillsList}
@@ -27,6 +27,7 @@ orders = record {
   cuts = 2;
   kept = 0;
   waits = 0;
+  hint_id = 6;
   used = record {
     spots = record { id = spot 8; length = spot 12; index = spot 2 };
     id = 5;
@@ -63,6 +64,11 @@ figures_alone : at_once (record { told = Figures; gives = false }) Statistics
     (record orders { cuts = 0 }) cuts runs figures [] ≡
     TellFigures (record { tag = 4; value = 9 } ∷ []) ∷ []
 figures_alone = refl
+
+-- an id is told, and its chain given back
+an_id : at_once (record { told = Id; gives = true }) Hint (record orders { cuts = 0 }) cuts runs figures [] ≡
+    TellId 6 ∷ WriteNumber (spot 8) 5 ∷ WriteNumber (spot 12) 0 ∷ Release ∷ WriteWord (spot 2) 7 ∷ []
+an_id = refl
 
 nothing_at_all : at_once (record { told = Nothing; gives = false }) Inflate
     (record orders { cuts = 0 }) cuts runs figures read ≡ read

@@ -2,13 +2,13 @@
 use Rattle.std.proofs.Common.{◌≡◌, ◌∙◌, ap, sym, refl, arith, ℕ, ◌+◌, ◌<◌, true, List, [], ◌∷◌}
 use Rattle.std.proofs.Common.{◌++◌, length, map, take, slice_set, Option, Some, None}
 use Rattle.std.proofs.lemmas.List.{append_assoc, map-append, take_more_set}
-use Rattle.vb_core.{specs.declared.device.Device.Device, specs.declared.runs.Run.Run}
-use Rattle.vb_monitor.specs.{Accesses.{Access, Discard}, Ends.Whole, Machine.{stage, waits}}
+use Rattle.vb_core.{specs.declared.runs.Run.Run}
+use Rattle.vb_monitor.specs.{Accesses.{Access, Discard}, Machine.{stage, waits}}
 use Rattle.vb_monitor.specs.{Orders.cuts_left, declared.cuts.Cut.Cut, declared.cuts.NextCut.NextCut}
-use Rattle.vb_monitor.specs.declared.{outcome.Tally.Tally, regions.Region.Region, step.Phase.Phase}
+use Rattle.vb_monitor.specs.declared.{regions.Region.Region, step.Phase.Phase}
 use Rattle.vb_monitor.specs.declared.step.Phase.TheVariants.{AwaitsIndex, AwaitsEntry}
 use Rattle.vb_monitor.specs.declared.step.Phase.TheVariants.{AwaitsDescriptor, AwaitsPart}
-use Rattle.vb_monitor.specs.declared.step.Phase.TheVariants.{TellsPages, TellsFigures, Discards}
+use Rattle.vb_monitor.specs.declared.step.Phase.TheVariants.{TellsPages, TellsFigures, TellsId, Discards}
 use Rattle.vb_monitor.specs.declared.step.Phase.TheVariants.{GivesBack, AwaitsFlags, Ended}
 use Rattle.vb_monitor.specs.Giving.{DiscardsThen}
 
@@ -22,6 +22,7 @@ stage_waits (Ended why interrupt more) e = refl
 stage_waits (Discards cut x) e = refl
 stage_waits (TellsPages place named further) e = absurd (grind arith)
 stage_waits (TellsFigures head count) e = absurd (grind arith)
+stage_waits (TellsId head id) e = absurd (grind arith)
 stage_waits (GivesBack spots entry) e = absurd (grind arith)
 
 -- ---- parts in a list

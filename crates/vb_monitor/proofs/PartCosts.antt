@@ -1,16 +1,16 @@
 -- How many parts the pieces of a chain have, and how many portions these make.
 use Rattle.std.proofs.Common.{◌≡◌, ◌∙◌, ap, sym, subst, refl, arith, ℕ, zero, suc, ◌+◌, ◌-◌, ◌*◌, ◌/◌}
-use Rattle.std.proofs.Common.{◌<◌, ◌≤◌, Bool, true, false, List, [], ◌∷◌, ◌++◌, length, Result, Ok, Err}
+use Rattle.std.proofs.Common.{◌<◌, ◌≤◌, Bool, true, false, List, [], ◌∷◌, ◌++◌, length, Ok, Err}
 use Rattle.std.specs.Prelude.{◌==◌, ◌%◌, if◌then◌else◌, not, fold, min}
-use Rattle.std.proofs.{Common.{inl, inr, ◌⊎◌}, lemmas.Bool.cases_lt}
+use Rattle.std.proofs.{Common.{inl, inr}, lemmas.Bool.cases_lt}
 use Rattle.std.{specs.List.list_any, proofs.lemmas.Bool.Decides.nat_tests}
 use Rattle.std.proofs.lemmas.List.{length-append}
-use Rattle.vb_chain.specs.declared.{pieces.Piece.Piece, fault.ChainFault.ChainFault}
+use Rattle.vb_chain.specs.declared.{pieces.Piece.Piece}
 use Rattle.vb_chain.specs.declared.fault.ChainFault.TheVariants.{WrongDirection, BadLength}
 use Rattle.vb_request.specs.{Request.total_length, Statistics.{statistics_length, is_statistics_length}}
 use Rattle.vb_monitor.specs.declared.{parts.Part.Part, room.TheConstants.MAX_BYTES}
 use Rattle.vb_monitor.specs.Pieces.{next_part, parts_of, parts_on, all_parts}
-use Rattle.vb_monitor.specs.Chains.{is_length_within, request_length_within}
+use Rattle.vb_monitor.specs.Chains.{is_length_within, request_length_within, id_length}
 use Rattle.vb_monitor.proofs.PartLemmas.{some_bytes, few_bytes, more_parts, no_parts}
 
 -- how often a portion is told before the last one, where n bytes of it were copied
@@ -274,7 +274,7 @@ of_pieces (p ∷ ps) into =
 pub some_all : (ps : List Piece) → AreSome (all_parts ps)
 some_all ps = (of_pieces ps 0).some
 
--- ---- requests and statistics
+-- ---- requests, statistics and ids
 
 total_from : (n : ℕ) (ps : List Piece) →
     fold (λ (m : ℕ) (p : Piece). m + p.len) n ps ≡ n + bytes_in ps
@@ -316,13 +316,25 @@ statistics_by true fine total n e h = absurd cc
 statistics_by false false total n e h = absurd cc
 statistics_by false true total n e h = grind (arith, nat_tests)
 
-few_figures : (most : ℕ) (ps : List Piece) → total_length ps ≤ 1020 →
+few_short : (most : ℕ) (ps : List Piece) → total_length ps ≤ 1020 →
     cost 0 (all_parts ps) ≤ 2 * length ps + further_cost most
-few_figures most ps le =
+few_short most ps le =
     let few = few_all 0 255 ps (omega (arith, le)) in omega (arith, few)
 
 pub statistics_cost : (most : ℕ) (ps : List Piece) (n : ℕ) → statistics_length ps ≡ Ok n →
     cost 0 (all_parts ps) ≤ 2 * length ps + further_cost most
-statistics_cost most ps n e = few_figures most ps
+statistics_cost most ps n e = few_short most ps
     (statistics_by (list_any (λ (p : Piece). p.writable) ps) (is_statistics_length (total_length ps))
     (total_length ps) n refl e)
+
+id_by : (bad fine : Bool) (total n : ℕ) → (total == 4) ≡ fine →
+    (if bad then Err WrongDirection else (if not fine then Err BadLength else Ok total)) ≡ Ok n →
+    total ≤ 1020
+id_by true fine total n e h = absurd cc
+id_by false false total n e h = absurd cc
+id_by false true total n e h = grind (arith, nat_tests)
+
+pub id_cost : (most : ℕ) (ps : List Piece) (n : ℕ) → id_length ps ≡ Ok n →
+    cost 0 (all_parts ps) ≤ 2 * length ps + further_cost most
+id_cost most ps n e = few_short most ps
+    (id_by (list_any (λ (p : Piece). p.writable) ps) (total_length ps == 4) (total_length ps) n refl e)

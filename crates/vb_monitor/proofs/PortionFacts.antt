@@ -1,20 +1,20 @@
 -- The portions of a request, worked out: what is told of one, what comes after it, and what doesn't.
 use Rattle.std.specs.Prelude.{replicate}
-use Rattle.std.proofs.Common.{◌≡◌, refl, ap, arith, ℕ, ◌+◌, ◌≤◌, true, false, List, [], ◌∷◌, map, Result, Ok, Err, Some}
+use Rattle.std.proofs.Common.{◌≡◌, refl, arith, ℕ, ◌+◌, ◌≤◌, true, false, List, [], ◌∷◌, map, Result, Ok, Err, Some}
 use Rattle.vb_chain.specs.declared.fault.ChainFault.TheVariants.{BadPage, BadLength, WrongDirection}
-use Rattle.vb_core.specs.declared.kinds.Kind.{Kind, TheVariants.{Inflate, Deflate, Report}}
+use Rattle.vb_core.specs.declared.kinds.Kind.{Kind, TheVariants.{Inflate, Deflate}}
 use Rattle.vb_core.specs.declared.{runs.Run.Run, name.Named.Named, device.Device.Device}
 use Rattle.vb_core.specs.declared.device.{Denial.Denial, Denial.TheVariants.Broken}
 use Rattle.vb_core.specs.{Devices.needing_reset, Pieces.pieces_in}
 use Rattle.vb_monitor.specs.declared.{parts.Part.Part, outcome.Tally.Tally, outcome.Outcome.Outcome}
-use Rattle.vb_monitor.specs.declared.step.{Place.Place, Discarding.Discarding}
-use Rattle.vb_monitor.specs.declared.step.Phase.TheVariants.{TellsPages, Discards}
+use Rattle.vb_monitor.specs.declared.step.{Place.Place}
+use Rattle.vb_monitor.specs.declared.step.Phase.TheVariants.{Discards}
 use Rattle.vb_monitor.specs.declared.room.Room.{Room}
 use Rattle.vb_monitor.specs.{Accesses.{Access, CopyBytes, TellPages}, Ends.Whole, Machine.AheadAt}
 use Rattle.vb_monitor.specs.{Pieces.PartAt, Regions.spot, Still.{in_portion, AreInPortions, bytes_of_parts}}
 use Rattle.vb_monitor.specs.Chains.{request_length_within}
-use Rattle.vb_monitor.specs.Portions.{AfterPortion, NamesPortion, CopiesParts, CopiesFurther}
-use Rattle.vb_monitor.proofs.Samples.{Same, two, at, ready, tally, piece, page_5, cut_5, one_page, number, part, pages, discard, id, used_length, used_index, room_of}
+use Rattle.vb_monitor.specs.Portions.{AfterPortion, CopiesParts, CopiesFurther}
+use Rattle.vb_monitor.proofs.Samples.{two, at, ready, tally, piece, page_5, cut_5, one_page, number, part, pages, discard, id, used_length, room_of}
 
 abbrev outcome : Outcome
 outcome = record { tally = tally; why = Some (Broken BadPage); interrupt = false; more = false }

@@ -3,7 +3,7 @@
 use Rattle.std.proofs.Common.{◌≡◌, refl, ℕ, false, true, List, [], ◌∷◌, ◌++◌, Some, None}
 use Rattle.vb_chain.specs.declared.fault.ChainFault.TheVariants.{BadNext}
 use Rattle.vb_core.specs.declared.kinds.Kind.{Kind}
-use Rattle.vb_core.specs.declared.kinds.Kind.TheVariants.{Inflate, Deflate, Statistics, Report}
+use Rattle.vb_core.specs.declared.kinds.Kind.TheVariants.{Inflate, Deflate, Statistics, Hint, Report}
 use Rattle.vb_core.specs.declared.device.{Device.Device, Denial.TheVariants.{Broken, NotReady, NoQueue}}
 use Rattle.vb_core.specs.Devices.{with_ring, needing_reset}
 use Rattle.vb_monitor.specs.declared.outcome.{Outcome.Outcome, Tally.Tally}
@@ -22,6 +22,7 @@ looks : (kind : Kind) (d : Device) (o : Outcome) → LooksBy None (over kind d o
 looks Inflate d o = record { index = 1; rest = []; asks = refl; goes_on = refl }
 looks Deflate d o = record { index = 1; rest = []; asks = refl; goes_on = refl }
 looks Statistics d o = record { index = 1; rest = []; asks = refl; goes_on = refl }
+looks Hint d o = record { index = 1; rest = []; asks = refl; goes_on = refl }
 looks Report d o = record { index = 1; rest = []; asks = refl; goes_on = refl }
 
 -- none is where the device isn't ready, or where the queue's feature wasn't negotiated
@@ -30,11 +31,18 @@ unready : Looks 1 (over Inflate (record ready { status = 11 }) (ends tally (Some
 unready = record { nothing = refl; device = refl; outcome = refl }
 
 abbrev no_reports : Device
-no_reports = record ready { features = 0x100000007 }
+no_reports = record ready { features = 0x10000000f }
 
 without_its_feature : Looks 1 (over Report no_reports (ends tally (Some NoQueue) false false)) no_reports tally []
 unfolding lib.Count.ones
 without_its_feature = record { nothing = refl; device = refl; outcome = refl }
+
+abbrev no_hints : Device
+no_hints = record ready { features = 0x100000027 }
+
+without_hints : Looks 1 (over Hint no_hints (ends tally (Some NoQueue) false false)) no_hints tally []
+unfolding lib.Count.ones
+without_hints = record { nothing = refl; device = refl; outcome = refl }
 
 -- what it publishes is taken, or is more than the queue has
 abbrev published : ℕ → Tally
@@ -48,6 +56,7 @@ eight_published : (kind : Kind) → Serves kind 8 []
 eight_published Inflate = record { nothing = refl; device = refl; outcome = refl }
 eight_published Deflate = record { nothing = refl; device = refl; outcome = refl }
 eight_published Statistics = record { nothing = refl; device = refl; outcome = refl }
+eight_published Hint = record { nothing = refl; device = refl; outcome = refl }
 eight_published Report = record { nothing = refl; device = refl; outcome = refl }
 
 -- ---- a chain: head 7, after it a row of the table's last three descriptors, and then the fifth
@@ -139,6 +148,30 @@ takes Statistics = record {
     };
   };
 }
+takes Hint = record {
+  head = 7;
+  rest = CopyBytes (at 0x70) (naming 5) ∷ rows;
+  asks = refl;
+  goes_on = record {
+    bytes = naming 5;
+    rest = rows;
+    asks = refl;
+    long = refl;
+    goes_on = record {
+      bytes = three;
+      rest = CopyBytes (at 0x40) four ∷ [];
+      asks = refl;
+      long = refl;
+      goes_on = record {
+        bytes = four;
+        rest = [];
+        asks = refl;
+        long = refl;
+        goes_on = record { nothing = refl; device = refl; outcome = refl };
+      };
+    };
+  };
+}
 takes Report = record {
   head = 7;
   rest = CopyBytes (at 0x70) (naming 5) ∷ rows;
@@ -173,6 +206,7 @@ goes_on : (kind : Kind) → after_use kind (only kind) ≡ used kind
 goes_on Inflate = refl
 goes_on Deflate = refl
 goes_on Statistics = refl
+goes_on Hint = refl
 goes_on Report = refl
 
 gives : (kind : Kind) → GivesBack (over kind (used kind) (ends (with_given tally) None true false))
@@ -182,6 +216,7 @@ unfolding lib.Count.ones
 gives Inflate = record { rest = Full ∷ flags ∷ []; asks = refl; goes_on = flags_are_read refl refl }
 gives Deflate = record { rest = Full ∷ flags ∷ []; asks = refl; goes_on = flags_are_read refl refl }
 gives Statistics = record { rest = Full ∷ flags ∷ []; asks = refl; goes_on = flags_are_read refl refl }
+gives Hint = record { rest = Full ∷ flags ∷ []; asks = refl; goes_on = flags_are_read refl refl }
 gives Report = record { rest = Full ∷ flags ∷ []; asks = refl; goes_on = flags_are_read refl refl }
 
 -- a chain that is held is given back to its own queue
@@ -194,4 +229,5 @@ unfolding lib.Count.ones
 held_back Inflate = record { rest = Full ∷ flags ∷ []; asks = refl; goes_on = flags_are_read refl refl }
 held_back Deflate = record { rest = Full ∷ flags ∷ []; asks = refl; goes_on = flags_are_read refl refl }
 held_back Statistics = record { rest = Full ∷ flags ∷ []; asks = refl; goes_on = flags_are_read refl refl }
+held_back Hint = record { rest = Full ∷ flags ∷ []; asks = refl; goes_on = flags_are_read refl refl }
 held_back Report = record { rest = Full ∷ flags ∷ []; asks = refl; goes_on = flags_are_read refl refl }

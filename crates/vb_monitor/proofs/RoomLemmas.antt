@@ -13,7 +13,7 @@ use Rattle.vb_chain.{specs.declared.fault.ChainFault.ChainFault, specs.declared.
 use Rattle.vb_request.{specs.Request.numbers_of, proofs.Once.numbers_of-length}
 use Rattle.vb_request.specs.Report.{report_request}
 use Rattle.vb_virtio.specs.declared.limits.TheConstants.{MAX_QUEUE_SIZE}
-use Rattle.vb_monitor.specs.declared.room.TheConstants.{MAX_RUNS}
+use Rattle.vb_monitor.specs.{declared.room.TheConstants.MAX_RUNS, Chains.told_if}
 
 fits_then : (kind : Kind) (known fits : Bool) (d : Device) →
     call_denial kind known fits d ≡ None → fits ≡ true
@@ -80,20 +80,30 @@ runs_of_report (Ok pages) count named e =
     let is : record { runs = count; pages = length pages; skipped = 0 } ≡ named = cc in
     sym (ap (λ (x : Named). x.runs) is)
 
-few_by_pieces : (o : Option Denial) (pieces : List Piece) (room : ℕ) (runs : List Run)
-    (d1 d2 : Device) (named : Named) → pieces_denial pieces room d1 ≡ o →
-    NamesPiecesBy pieces room runs d1 d2 (Ok named) → named.runs ≡ length pieces
-few_by_pieces (Some why) pieces room runs d1 d2 named e n =
+few_by_pieces : (o : Option Denial) (kind : Kind) (pieces : List Piece) (room : ℕ)
+    (runs : List Run) (d1 d2 : Device) (named : Named) → pieces_denial kind pieces room d1 ≡ o →
+    NamesPiecesBy kind pieces room runs d1 d2 (Ok named) → named.runs ≡ length pieces
+few_by_pieces (Some why) kind pieces room runs d1 d2 named e n =
     let wrong : Ok named ≡ Err why = (n.denied why e).0 in cc
-few_by_pieces None pieces room runs d1 d2 named e n = runs_of_report
+few_by_pieces None kind pieces room runs d1 d2 named e n = runs_of_report
     (report_request pieces d1.settings.reserved_pages) (length pieces) named (n.answer e)
 
--- a report's pieces are copied buffers
-pub few_reported : (buffers : List ChainPiece) (room : ℕ) (runs : List Run) (d1 d2 : Device)
-    (named : Named) → length buffers ≤ MAX_QUEUE_SIZE →
-    NamesPiecesBy (pieces_in buffers) room runs d1 d2 (Ok named) → named.runs ≤ MAX_RUNS
-few_reported buffers room runs d1 d2 named short n =
+few_when_told : (told_so : Bool) (named now : Named) → told_if told_so (Ok named) ≡ Ok now →
+    named.runs ≤ MAX_RUNS → now.runs ≤ MAX_RUNS
+few_when_told true named now e few = let same : named ≡ now = cc in
+    subst (λ (x : Named). x.runs ≤ MAX_RUNS) same few
+few_when_told false named now e few =
+    let same : record { runs = 0; pages = 0; skipped = named.pages } ≡ now = cc in
+    subst (λ (x : Named). x.runs ≤ MAX_RUNS) same (omega arith)
+
+-- the pieces of a report or a hint are copied buffers, and none of their runs may be told
+pub few_reported : (kind : Kind) (buffers : List ChainPiece) (room : ℕ) (runs : List Run)
+    (d1 d2 : Device) (told_so : Bool) (named now : Named) → length buffers ≤ MAX_QUEUE_SIZE →
+    NamesPiecesBy kind (pieces_in buffers) room runs d1 d2 (Ok named) →
+    told_if told_so (Ok named) ≡ Ok now → now.runs ≤ MAX_RUNS
+few_reported kind buffers room runs d1 d2 told_so named now short n e =
     let is : named.runs ≡ length (pieces_in buffers) = few_by_pieces
-    (pieces_denial (pieces_in buffers) room d1) (pieces_in buffers) room runs d1 d2 named refl n in
+    (pieces_denial kind (pieces_in buffers) room d1) kind (pieces_in buffers) room runs d1 d2 named
+    refl n in
     let long : length (pieces_in buffers) ≡ length buffers = length_in buffers in
-    omega (arith, is, long, short)
+    few_when_told told_so named now e (omega (arith, is, long, short))

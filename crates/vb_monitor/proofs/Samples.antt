@@ -10,7 +10,7 @@ use Rattle.vb_core.specs.declared.{held.Held.Held, pieces.ChainPiece.ChainPiece}
 use Rattle.vb_core.specs.declared.statistics.Statistic.{Statistic}
 use Rattle.vb_monitor.specs.declared.room.Room.{Room}
 use Rattle.vb_monitor.specs.declared.outcome.HeldChain.{HeldChain}
-use Rattle.vb_monitor.specs.Accesses.{Access, ReadWord, CopyBytes, TellPages, TellFigures, Discard}
+use Rattle.vb_monitor.specs.Accesses.{Access, ReadWord, CopyBytes, TellPages, TellFigures, TellId, Discard}
 use Rattle.vb_monitor.specs.Accesses.{Full, Release}
 use Rattle.vb_monitor.specs.{Accesses.{WriteNumber, WriteWord}, declared.regions.Region.Region}
 use Rattle.vb_monitor.specs.declared.{regions.Spot.Spot, cuts.Cut.Cut, outcome.Tally.Tally}
@@ -63,11 +63,12 @@ cut_22 = record { region = 1; offset = 0; in_file = 0x100000; length = 0x1000 }
 abbrev pub settings : Settings
 settings = record {
   memory_end = 0x20000;
-  offered = 0x100000027;
+  offered = 0x10000002f;
   reserved_pages = 0;
   needs_must_tell = 0;
   skips_bad_pages = 0;
   holds_deflates = 0;
+  discards_hints = 0;
 }
 
 -- eight descriptors: a table at 0, an available ring at 0x100, a used ring at 0x200
@@ -77,11 +78,12 @@ ring = placed 0 0x100 0x200 8
 -- one that is ready, with this ring for each queue
 abbrev pub ready : Device
 ready = record (new_device settings) {
-  features = 0x100000027;
+  features = 0x10000002f;
   status = 15;
   inflate = ring;
   deflate = ring;
   statistics = ring;
+  hint = ring;
   report = ring;
 }
 
@@ -94,6 +96,7 @@ far = record ready {
   inflate = elsewhere;
   deflate = elsewhere;
   statistics = elsewhere;
+  hint = elsewhere;
   report = elsewhere;
 }
 
@@ -166,6 +169,10 @@ pages = TellPages Inflate (page_5 ∷ []) one_page
 
 abbrev pub figures : Access
 figures = TellFigures []
+
+-- an id of hints
+abbrev pub told_id : Access
+told_id = TellId 5
 
 abbrev pub discard : Access
 discard = Discard cut_5

@@ -1,12 +1,12 @@
 -- What accesses say so far, worked out. Of a list the last access is first.
 use Rattle.std.proofs.Common.{◌≡◌, refl, ℕ, Bool, true, false, List, [], ◌∷◌, map, Option, Some, None}
 use Rattle.vb_chain.specs.declared.pieces.Piece.{Piece}
-use Rattle.vb_core.specs.declared.kinds.Kind.TheVariants.{Inflate, Deflate, Statistics, Report}
+use Rattle.vb_core.specs.declared.kinds.Kind.TheVariants.{Inflate, Deflate, Statistics, Hint, Report}
 use Rattle.vb_monitor.specs.declared.cuts.Cut.{Cut}
 use Rattle.vb_monitor.specs.declared.parts.Part.{Part}
 use Rattle.vb_monitor.specs.Accesses.{Access, CopyBytes, Acquire, Release, Full, TellPages}
 use Rattle.vb_monitor.specs.SoFar.{Each, Known, Unknown, Walks, Has, parts_read, walked_by, with_copied, is_fenced, known, ring_after, index_read, left, with_told, is_whole, pages_told}
-use Rattle.vb_monitor.proofs.Samples.{two, ring, page_5, one_page, over_the_hole, cut_5, cut_20, cut_22, piece, first_descriptor, last_descriptor, number, index, entry, descriptor, part, pages, figures, discard, id, used_length, used_index, flags}
+use Rattle.vb_monitor.proofs.Samples.{two, ring, page_5, one_page, over_the_hole, cut_5, cut_20, cut_22, piece, first_descriptor, last_descriptor, number, index, entry, descriptor, part, pages, figures, told_id, discard, id, used_length, used_index, flags}
 
 -- ---- what is known of a chain
 
@@ -61,6 +61,13 @@ of_the_last = refl
 of_a_report : known Report (descriptor ∷ taken) ≡ Has 3 (piece ∷ []) [] []
 of_a_report = refl
 
+-- the bytes of an id are to be read, and not those of hinted pages
+of_an_id : known Hint (descriptor ∷ taken) ≡ Has 3 (piece ∷ []) (of_piece ∷ []) []
+of_an_id = refl
+
+of_a_hint : parts_read Hint (record piece { writable = true } ∷ piece ∷ []) ∷ parts_read Hint [] ∷ [] ≡ [] ∷ [] ∷ []
+of_a_hint = refl
+
 of_statistics : parts_read Statistics (piece ∷ []) ≡ of_piece ∷ []
 of_statistics = refl
 
@@ -88,10 +95,10 @@ whole = part ∷ descriptor ∷ taken
 abbrev kept_after : Access → Known
 kept_after x = known Inflate (x ∷ whole)
 
-kept : map kept_after (Acquire ∷ Release ∷ Full ∷ pages ∷ figures ∷ discard ∷ id ∷ []) ≡
+kept : map kept_after (Acquire ∷ Release ∷ Full ∷ pages ∷ figures ∷ told_id ∷ discard ∷ id ∷ []) ≡
     Has 3 (piece ∷ []) [] number ∷ Has 3 (piece ∷ []) [] number ∷ Has 3 (piece ∷ []) [] number
     ∷ Has 3 (piece ∷ []) [] [] ∷ Has 3 (piece ∷ []) [] number ∷ Has 3 (piece ∷ []) [] number
-    ∷ Has 3 (piece ∷ []) [] number ∷ []
+    ∷ Has 3 (piece ∷ []) [] number ∷ Has 3 (piece ∷ []) [] number ∷ []
 kept = refl
 
 once_used : known Inflate (used_index ∷ Release ∷ used_length ∷ id ∷ discard ∷ pages ∷ whole) ≡ Unknown
@@ -104,8 +111,8 @@ fenced = refl
 abbrev is_last : Access → Bool
 is_last x = is_fenced (x ∷ Acquire ∷ [])
 
-others_last : map is_last (index ∷ part ∷ Release ∷ Full ∷ pages ∷ figures ∷ discard ∷ id ∷ used_index ∷ []) ≡
-    false ∷ false ∷ false ∷ false ∷ false ∷ false ∷ false ∷ false ∷ false ∷ []
+others_last : map is_last (index ∷ part ∷ Release ∷ Full ∷ pages ∷ figures ∷ told_id ∷ discard ∷ id ∷ used_index ∷ []) ≡
+    false ∷ false ∷ false ∷ false ∷ false ∷ false ∷ false ∷ false ∷ false ∷ false ∷ []
 others_last = refl
 
 nothing_last : is_fenced [] ≡ false
@@ -119,14 +126,14 @@ taken_after x = (ring_after Inflate ring (x ∷ whole)).next_avail
 abbrev used_after : Access → ℕ
 used_after x = (ring_after Inflate ring (x ∷ whole)).next_used
 
--- an entry is taken where the last pages of a chain or figures are told
+-- an entry is taken where the last pages of a chain, figures or an id are told
 one_taken : map taken_after (index ∷ part ∷ Acquire ∷ Release ∷ Full
-    ∷ pages ∷ figures ∷ discard ∷ id ∷ used_index ∷ []) ≡ 0 ∷ 0 ∷ 0 ∷ 0 ∷ 0 ∷ 1 ∷ 1 ∷ 0 ∷ 0 ∷ 0 ∷ []
+    ∷ pages ∷ figures ∷ told_id ∷ discard ∷ id ∷ used_index ∷ []) ≡ 0 ∷ 0 ∷ 0 ∷ 0 ∷ 0 ∷ 1 ∷ 1 ∷ 1 ∷ 0 ∷ 0 ∷ 0 ∷ []
 one_taken = refl
 
 -- an element is used where an index is written
 one_used : map used_after (index ∷ part ∷ Acquire ∷ Release ∷ Full
-    ∷ pages ∷ figures ∷ discard ∷ id ∷ used_index ∷ []) ≡ 0 ∷ 0 ∷ 0 ∷ 0 ∷ 0 ∷ 0 ∷ 0 ∷ 0 ∷ 0 ∷ 1 ∷ []
+    ∷ pages ∷ figures ∷ told_id ∷ discard ∷ id ∷ used_index ∷ []) ≡ 0 ∷ 0 ∷ 0 ∷ 0 ∷ 0 ∷ 0 ∷ 0 ∷ 0 ∷ 0 ∷ 0 ∷ 1 ∷ []
 one_used = refl
 
 twice : ring_after Inflate ring (used_index ∷ pages ∷ part ∷ descriptor ∷ entry ∷ Acquire ∷ used_index ∷ pages ∷ whole) ≡
@@ -174,8 +181,8 @@ none_was_read = refl
 abbrev read_by : Access → Option ℕ
 read_by x = index_read (x ∷ [])
 
-one_reads : map read_by (index ∷ part ∷ Acquire ∷ Release ∷ Full ∷ pages ∷ figures ∷ discard ∷ id ∷ used_index ∷ []) ≡
-    Some 1 ∷ None ∷ None ∷ None ∷ None ∷ None ∷ None ∷ None ∷ None ∷ None ∷ []
+one_reads : map read_by (index ∷ part ∷ Acquire ∷ Release ∷ Full ∷ pages ∷ figures ∷ told_id ∷ discard ∷ id ∷ used_index ∷ []) ≡
+    Some 1 ∷ None ∷ None ∷ None ∷ None ∷ None ∷ None ∷ None ∷ None ∷ None ∷ None ∷ []
 one_reads = refl
 
 -- ---- what is left to discard
@@ -208,6 +215,13 @@ left_of_a_report = refl
 left_of_a_kept_report : left true two (TellPages Report (page_5 ∷ []) one_page ∷ whole) ≡ []
 left_of_a_kept_report = refl
 
+-- of a hint as of a report
+left_of_a_hint : left_of (TellPages Hint (page_5 ∷ []) one_page ∷ whole) ≡ cut_5 ∷ []
+left_of_a_hint = refl
+
+left_of_a_kept_hint : left true two (TellPages Hint (page_5 ∷ []) one_page ∷ whole) ≡ []
+left_of_a_kept_hint = refl
+
 left_at_first : left_of whole ≡ []
 left_at_first = refl
 
@@ -219,8 +233,8 @@ of_the_last_told = refl
 abbrev left_after : Access → List Cut
 left_after x = left_of (x ∷ pages ∷ whole)
 
-still_left : map left_after (index ∷ part ∷ Acquire ∷ Release ∷ Full ∷ figures ∷ id ∷ used_index ∷ []) ≡
-    (cut_5 ∷ []) ∷ (cut_5 ∷ []) ∷ (cut_5 ∷ []) ∷ (cut_5 ∷ []) ∷ (cut_5 ∷ []) ∷ (cut_5 ∷ []) ∷ (cut_5 ∷ [])
+still_left : map left_after (index ∷ part ∷ Acquire ∷ Release ∷ Full ∷ figures ∷ told_id ∷ id ∷ used_index ∷ []) ≡
+    (cut_5 ∷ []) ∷ (cut_5 ∷ []) ∷ (cut_5 ∷ []) ∷ (cut_5 ∷ []) ∷ (cut_5 ∷ []) ∷ (cut_5 ∷ []) ∷ (cut_5 ∷ []) ∷ (cut_5 ∷ [])
     ∷ (cut_5 ∷ []) ∷ []
 still_left = refl
 

@@ -9,7 +9,7 @@ use Rattle.vb_monitor.specs.declared.{regions.Spot.Spot, progress.Progress.Progr
 use Rattle.vb_monitor.specs.declared.step.{Walk.Walk, Place.Place}
 use Rattle.vb_monitor.specs.declared.step.Phase.TheVariants.{AwaitsIndex, AwaitsEntry}
 use Rattle.vb_monitor.specs.declared.step.Phase.TheVariants.{AwaitsDescriptor, AwaitsPart, Discards}
-use Rattle.vb_monitor.specs.declared.step.Phase.TheVariants.{TellsPages, TellsFigures}
+use Rattle.vb_monitor.specs.declared.step.Phase.TheVariants.{TellsPages, TellsFigures, TellsId}
 use Rattle.vb_monitor.specs.declared.step.Phase.TheVariants.{GivesBack, AwaitsFlags, Ended}
 use Rattle.vb_monitor.specs.Codes.{code_of, rule_in, fault_of, why_of, why_code, end_rule}
 use Rattle.vb_monitor.specs.Steps.{tally_of, walk_of, phase_at, phase_of, step_of}
@@ -62,7 +62,7 @@ numbers = record {
 abbrev place : Place
 place = record { head = 11; count = 12; piece = 21; done = 22 }
 
-each_phase : map (λ n. phase_at n numbers) (0 ∷ 1 ∷ 2 ∷ 3 ∷ 4 ∷ 5 ∷ 6 ∷ 7 ∷ 8 ∷ 9 ∷ 10 ∷ []) ≡
+each_phase : map (λ n. phase_at n numbers) (0 ∷ 1 ∷ 2 ∷ 3 ∷ 4 ∷ 5 ∷ 6 ∷ 7 ∷ 8 ∷ 9 ∷ 10 ∷ 11 ∷ []) ≡
     Ended (Some (Broken TooLong)) true false
     ∷ AwaitsIndex spot
     ∷ AwaitsEntry spot
@@ -74,6 +74,7 @@ each_phase : map (λ n. phase_at n numbers) (0 ∷ 1 ∷ 2 ∷ 3 ∷ 4 ∷ 5 ∷
     ∷ TellsPages place (record { runs = 16; pages = 17; skipped = 18 }) true
     ∷ TellsFigures 11 4
     ∷ GivesBack numbers.spots numbers.entry
+    ∷ TellsId 11 4
     ∷ GivesBack numbers.spots numbers.entry ∷ []
 each_phase = refl
 

@@ -6,7 +6,7 @@ use Rattle.vb_monitor.{specs.Accesses.Access, specs.Giving.Then, specs.Ends.Whol
 use Rattle.vb_monitor.specs.Still.{AfterReads, ServesTaken, DoesNext, HasNext, in_memory, head_in}
 use Rattle.vb_monitor.specs.Still.{is_read, length_of}
 use Rattle.vb_core.{specs.declared.kinds.Kind.Kind, specs.declared.device.Denial.TheVariants.Broken}
-use Rattle.vb_core.specs.declared.kinds.Kind.TheVariants.{Inflate, Deflate, Statistics, Report}
+use Rattle.vb_core.specs.declared.kinds.Kind.TheVariants.{Inflate, Deflate, Statistics, Hint, Report}
 use Rattle.vb_core.{specs.declared.device.Device.Device, specs.declared.ring.Virtqueue.Virtqueue}
 use Rattle.vb_core.specs.Devices.{needing_reset}
 use Rattle.std.proofs.Common.{◌≡◌, ◌∙◌, ap, sym, subst, refl, inl, inr, ℕ, Bool, true, false, List, []}
@@ -34,6 +34,7 @@ served_broken still Deflate w next d t head pieces f log read none stays e h =
 served_broken still Statistics w next d t head pieces f log read none stays e h =
     ends_so still t.given w (needing_reset d) t (Some (Broken f)) false log none stays
     (subst (λ (o : Result ℕ ChainFault). CopiesBy o w next d t head pieces log) e h)
+served_broken still Hint w next d t head pieces f log read none stays e h = absurd cc
 served_broken still Report w next d t head pieces f log read none stays e h = absurd cc
 
 pub by_length : (still : List Access → Type 0) (w : Whole) (d : Device) (t : Tally)

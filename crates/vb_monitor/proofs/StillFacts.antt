@@ -2,7 +2,7 @@
 use Rattle.std.proofs.Common.{◌≡◌, ◌≢◌, ◌∙◌, refl, ap, arith, length-append, ◌+◌, ◌*◌, ◌<◌, zero, suc}
 use Rattle.std.proofs.Common.{length, map, ℕ, true, false, List, [], ◌∷◌, ◌++◌, Option, Some, None, Result, Ok, Err}
 use Rattle.vb_core.specs.declared.device.Denial.{Denial, TheVariants.{NotReady, Broken}}
-use Rattle.vb_core.specs.declared.kinds.Kind.TheVariants.{Inflate, Deflate, Statistics, Report}
+use Rattle.vb_core.specs.declared.kinds.Kind.TheVariants.{Inflate, Deflate, Statistics, Hint, Report}
 use Rattle.vb_core.specs.declared.{device.Device.Device}
 use Rattle.vb_chain.specs.declared.fault.ChainFault.{ChainFault, TheVariants.{OutOfRam, IndexJump, BadLength, WrongDirection}}
 use Rattle.vb_chain.specs.declared.{pieces.Piece.Piece}
@@ -11,9 +11,9 @@ use Rattle.vb_core.specs.{Devices.with_one_taken}
 use Rattle.vb_monitor.specs.{Regions.spot, Ends.Whole}
 use Rattle.vb_monitor.specs.Accesses.{Access, Acquire, TellPages, TellFigures}
 use Rattle.vb_monitor.specs.Machine.{whole, serves}
-use Rattle.vb_monitor.specs.Still.{IsMapped, AfterReads, DoesNext, ReportsNext, ArePartsMapped, is_read, length_of}
+use Rattle.vb_monitor.specs.Still.{IsMapped, AfterReads, DoesNext, ReportsNext, ArePartsMapped, has_pages, is_read, length_of}
 use Rattle.vb_monitor.proofs.Samples.{Same, two, ring, ready, tally, index, discard}
-use Rattle.vb_monitor.proofs.Samples.{one_page, pages, piece, chain_of, head_of}
+use Rattle.vb_monitor.proofs.Samples.{one_page, page_5, piece, chain_of, head_of}
 use Rattle.vb_monitor.proofs.StillReadFacts.{Rest, Any}
 use lib.Count
 
@@ -163,34 +163,38 @@ unfolding lib.Count.ones
 of_another_head h = let e : Same 4 3 = ap head_of h.is.tells.ends.outcome in omega arith
 
 -- what the device reads, and which lengths it takes
-reads : map is_read (Inflate ∷ Deflate ∷ Statistics ∷ Report ∷ []) ≡ true ∷ true ∷ true ∷ false ∷ []
+reads : map is_read (Inflate ∷ Deflate ∷ Statistics ∷ Hint ∷ Report ∷ []) ≡ true ∷ true ∷ true ∷ false ∷ false ∷ []
 reads = refl
 
 lengths : length_of Statistics 256 (record piece { len = 8 } ∷ []) ∷ length_of Statistics 256 (record piece { len = 10 } ∷ [])
     ∷ length_of Inflate 256 (record piece { writable = true } ∷ []) ∷ length_of Deflate 257 (record piece { len = 1028 } ∷ [])
-    ∷ length_of Inflate 256 (record piece { len = 1028 } ∷ []) ∷ []
-    ≡ Err BadLength ∷ Ok 10 ∷ Err WrongDirection ∷ Ok 1028 ∷ Err BadLength ∷ []
+    ∷ length_of Inflate 256 (record piece { len = 1028 } ∷ []) ∷ length_of Hint 256 (piece ∷ [])
+    ∷ length_of Hint 256 (record piece { len = 8 } ∷ []) ∷ []
+    ≡ Err BadLength ∷ Ok 10 ∷ Err WrongDirection ∷ Ok 1028 ∷ Err BadLength ∷ Ok 4 ∷ Err BadLength ∷ []
 lengths = refl
 
 -- ---- reports
 
+abbrev reports : Option Denial → Device → Whole
+reports why d = record (over why d) { kind = Report }
+
 abbrev page_of : ℕ → Piece
 page_of n = record { addr = 4096 * n; len = 4096; writable = true }
 
-none_reported : ReportsNext Any (over None ready) tally ready [] (Ok None)
+none_reported : ReportsNext Any (reports None ready) tally ready [] (Ok None)
 none_reported = (refl, refl, tt)
 
-refused_although_none_is_reported : ReportsNext Any (over (Some NotReady) ready) tally ready [] (Ok None) → ⊥
+refused_although_none_is_reported : ReportsNext Any (reports (Some NotReady) ready) tally ready [] (Ok None) → ⊥
 refused_although_none_is_reported h = let e = h.0 in absurd cc
 
-reports_end_with_accesses : ReportsNext Rest (over None ready) tally ready [] (Ok None) → ⊥
+reports_end_with_accesses : ReportsNext Rest (reports None ready) tally ready [] (Ok None) → ⊥
 reports_end_with_accesses h = let e = h.2 in absurd cc
 
-another_device_then : ReportsNext Any (over None ready) tally (record ready { target = 9 }) [] (Ok None) → ⊥
+another_device_then : ReportsNext Any (reports None ready) tally (record ready { target = 9 }) [] (Ok None) → ⊥
 another_device_then h = let e : Same 0 9 = ap (λ (d : Device). d.target) h.1 in omega arith
 
 -- a piece that may only be read is no report
-unwritable : ReportsNext Any (over (Some (Broken WrongDirection)) (record ready { status = 79 })) tally ready []
+unwritable : ReportsNext Any (reports (Some (Broken WrongDirection)) (record ready { status = 79 })) tally ready []
     (Ok (Some (taken (record (page_of 5) { writable = false }))))
 unwritable = (refl, refl, tt)
 
@@ -198,7 +202,7 @@ told_in : (read rest more : List Access) (x : Access) → [] ≡ read ++ rest �
 told_in [] rest more x e f = absurd cc
 told_in (y ∷ ys) rest more x e f = absurd cc
 
-untold : (w : Whole) → ReportsNext Any w tally ready [] (Ok (Some (taken (page_of 5)))) → ⊥
+untold : (w : Whole) → ReportsNext Any (record w { kind = Report }) tally ready [] (Ok (Some (taken (page_of 5)))) → ⊥
 untold w h = told_in h.read h.rest h.is.rest _ h.all h.is.asks
 
 -- the pages of the report, and no others
@@ -207,14 +211,29 @@ first_told (TellPages kind (run ∷ more) count ∷ xs) = run.first
 first_told xs = 0
 
 abbrev page_9 : Access
-page_9 = TellPages Inflate (record { first = 9; count = 1 } ∷ []) one_page
+page_9 = TellPages Report (record { first = 9; count = 1 } ∷ []) one_page
 
-others_in : (read rest more : List Access) → page_9 ∷ [] ≡ read ++ rest → rest ≡ pages ∷ more → ⊥
+abbrev page_5_told : Access
+page_5_told = TellPages Report (page_5 ∷ []) one_page
+
+others_in : (read rest more : List Access) → page_9 ∷ [] ≡ read ++ rest → rest ≡ page_5_told ∷ more → ⊥
 others_in [] rest more e f = let x : Same 9 5 = ap first_told (e ∙ f) in omega arith
 others_in (x ∷ read) rest more e f =
     let all = ap (λ (l : List Access). length l) e in
     let some = ap (λ (l : List Access). length l) f in
     omega (arith, all, some, length-append read rest)
 
-others_told : ReportsNext Any (over None ready) tally ready (page_9 ∷ []) (Ok (Some (taken (page_of 5)))) → ⊥
+others_told : ReportsNext Any (reports None ready) tally ready (page_9 ∷ []) (Ok (Some (taken (page_of 5)))) → ⊥
 others_told h = others_in h.read h.rest h.is.rest h.all h.is.asks
+
+-- which chains name pages by their pieces: hints that have no id, and reports
+names_pages : map (λ pieces. has_pages Hint pieces) ((piece ∷ []) ∷ (page_of 5 ∷ []) ∷ [] ∷ []) ≡ false ∷ true ∷ true ∷ []
+names_pages = refl
+
+which_name_pages : map (λ kind. has_pages kind (page_of 5 ∷ [])) (Inflate ∷ Deflate ∷ Statistics ∷ Report ∷ []) ≡
+    false ∷ false ∷ false ∷ true ∷ []
+which_name_pages = refl
+
+-- a hint's pages are those that are taken from the queue of hints
+hint_untold : (w : Whole) → ReportsNext Any (record w { kind = Hint }) tally ready [] (Ok (Some (taken (page_of 5)))) → ⊥
+hint_untold w h = told_in h.read h.rest h.is.rest _ h.all h.is.asks

@@ -2,11 +2,11 @@
 use Rattle.std.proofs.Common.{◌≡◌, ◌≢◌, ◌∙◌, ap, sym, subst, refl, arith, ℕ, zero, suc, ◌+◌, ◌-◌}
 use Rattle.std.proofs.Common.{◌<◌, ◌≤◌, Bool, true, false, List, [], ◌∷◌, ◌++◌, length, Option, Some}
 use Rattle.std.{proofs.Common.{None, Result, Ok}, specs.Prelude.◌==◌}
-use Rattle.std.{specs.List.flat_map, proofs.lemmas.List.{append_assoc, append-nil, length-append}}
+use Rattle.std.{proofs.lemmas.List.{append_assoc, append-nil, length-append}}
 use Rattle.std.proofs.lemmas.{List.Concat.flat_map-append, Bool.Decides.nat_tests}
 use Rattle.std.proofs.lemmas.List.FromFn.{length-map-range_with_len}
 use Rattle.vb_chain.{specs.declared.pieces.Piece.Piece, specs.declared.fault.ChainFault.ChainFault}
-use Rattle.vb_core.specs.declared.kinds.Kind.TheVariants.{Inflate, Deflate, Statistics, Report}
+use Rattle.vb_core.specs.declared.kinds.Kind.TheVariants.{Inflate, Deflate, Statistics, Hint, Report}
 use Rattle.vb_core.{specs.declared.kinds.Kind.Kind, specs.declared.device.Device.Device}
 use Rattle.vb_monitor.specs.declared.{parts.Part.Part, regions.Spot.Spot, outcome.Tally.Tally}
 use Rattle.vb_monitor.specs.{declared.room.TheConstants.MAX_BYTES, Regions.spot, Accesses.Access}
@@ -177,7 +177,7 @@ copies onward byte w does d t (part ∷ parts) so_far log some mapped room stays
 
 -- ---- a chain
 
-read_whole : (onward : List Access → Type 0) (byte : ℕ → ℕ) (w : Whole) (does : Does) (d : Device)
+pub read_whole : (onward : List Access → Type 0) (byte : ℕ → ℕ) (w : Whole) (does : Does) (d : Device)
     (t : Tally) (pieces : List Piece) (log : List Access) →
     ArePartsMapped w.regions (all_parts pieces) → length (bytes_of byte pieces) ≤ MAX_BYTES →
     StaysUntil onward byte w.regions log → CopiesParts w does d t (all_parts pieces) [] log →
@@ -204,6 +204,7 @@ by_kind onward byte Deflate w next d t head pieces n log read e mapped room stay
 by_kind onward byte Statistics w next d t head pieces n log read e mapped room stays h =
     read_whole onward byte w (ServesBytes w next head) d t pieces log mapped room stays
     (subst (λ (o : Result ℕ ChainFault). CopiesBy o w next d t head pieces log) e h)
+by_kind onward byte Hint w next d t head pieces n log read e mapped room stays h = absurd cc
 by_kind onward byte Report w next d t head pieces n log read e mapped room stays h = absurd cc
 
 pub served_by_bytes : (onward : List Access → Type 0) (byte : ℕ →

@@ -5,13 +5,13 @@ use Rattle.std.{proofs.Common.{None, Result, Ok, Err}, specs.Prelude.{◌==◌, 
 use Rattle.std.proofs.{lemmas.List.{append_assoc, append-nil, length-append}, Math.Seq.{take-append_seam, drop-append_seam}}
 use Rattle.std.proofs.lemmas.{Bool.Decides.nat_tests, List.FromFn.length-map-range_with_len}
 use Rattle.vb_chain.{specs.declared.pieces.Piece.Piece, specs.declared.fault.ChainFault.ChainFault}
-use Rattle.vb_core.specs.declared.kinds.Kind.TheVariants.{Inflate, Deflate, Statistics, Report}
+use Rattle.vb_core.specs.declared.kinds.Kind.TheVariants.{Inflate, Deflate, Statistics, Hint, Report}
 use Rattle.vb_core.{specs.declared.kinds.Kind.Kind, specs.declared.device.Device.Device}
 use Rattle.vb_monitor.specs.declared.{parts.Part.Part, regions.Spot.Spot, outcome.Tally.Tally}
 use Rattle.vb_monitor.specs.{declared.room.TheConstants.MAX_BYTES, Regions.spot, Accesses.Access}
 use Rattle.vb_monitor.specs.{Accesses.CopyBytes, Ends.Whole}
 use Rattle.vb_monitor.specs.Pieces.{next_part, parts_of, parts_on, all_parts, PartAt}
-use Rattle.vb_monitor.specs.Portions.{is_full, CopiesPart, CopiesParts, CopiesFurther, ServesPortion}
+use Rattle.vb_monitor.specs.Portions.{CopiesPart, CopiesParts, CopiesFurther, ServesPortion}
 use Rattle.vb_monitor.specs.Chains.{ServesBytes, ServesPieces, CopiesBy}
 use Rattle.vb_monitor.specs.{Giving.Then, Machine.{next_chain, serves, served}}
 use Rattle.vb_monitor.specs.Still.{ArePartsMapped, Holds, is_read, length_of}
@@ -255,6 +255,7 @@ begins_by : (kind : Kind) (n : ℕ) (w : Whole) (next : Then) (d : Device) (t : 
 begins_by Inflate n w next d t head pieces log read e some h = by_length _ n w next d t head pieces log e some h
 begins_by Deflate n w next d t head pieces log read e some h = by_length _ n w next d t head pieces log e some h
 begins_by Statistics n w next d t head pieces log read e some h = by_length _ n w next d t head pieces log e some h
+begins_by Hint n w next d t head pieces log read e some h = absurd cc
 begins_by Report n w next d t head pieces log read e some h = absurd cc
 
 pub serves_begin : (w : Whole) (t : Tally) (d : Device) (head : ℕ) (pieces : List Piece) (n : ℕ)

@@ -12,7 +12,7 @@ use Rattle.vb_monitor.specs.declared.cuts.Cut.{Cut}
 use Rattle.vb_monitor.specs.Accesses.{Access, Acquire, Release, TellPages, Discard, WriteNumber, WriteWord}
 use Rattle.vb_monitor.specs.SoFar.{Unknown, Walks, Has}
 use Rattle.vb_monitor.specs.Turns.{TellNumbers, TellPieces, TellsOf, FiguresOf, TellsInTurn, ends_in_number, WritesUsedAlone}
-use Rattle.vb_monitor.proofs.Samples.{Same, two, at, settings, ready, page_5, cut_5, cut_20, cut_22, over_the_hole, piece, one_page, number, index, entry, descriptor, part, pages, figures, discard, id, used_length, used_index}
+use Rattle.vb_monitor.proofs.Samples.{Same, two, at, settings, ready, page_5, cut_5, cut_20, cut_22, over_the_hole, piece, one_page, number, index, entry, descriptor, part, pages, figures, told_id, discard, id, used_length, used_index}
 
 abbrev taken : List Access
 taken = entry ∷ Acquire ∷ index ∷ []
@@ -110,26 +110,26 @@ to_read runs named h = let e = h.sound in absurd cc
 -- ---- which chain's
 
 -- only once all of it was read, and by its kind
-unread : TellsOf Inflate settings (Walks 3 3 []) (page_5 ∷ []) one_page → ⊥
+unread : TellsOf false Inflate settings (Walks 3 3 []) (page_5 ∷ []) one_page → ⊥
 unread h = absurd h
 
-no_chain : TellsOf Inflate settings Unknown (page_5 ∷ []) one_page → ⊥
+no_chain : TellsOf false Inflate settings Unknown (page_5 ∷ []) one_page → ⊥
 no_chain h = absurd h
 
-half_read : TellsOf Inflate settings (Has 3 (piece ∷ []) (record { address = 0x400; plus = 0; length = 4 } ∷ []) number) (page_5 ∷ []) one_page → ⊥
+half_read : TellsOf false Inflate settings (Has 3 (piece ∷ []) (record { address = 0x400; plus = 0; length = 4 } ∷ []) number) (page_5 ∷ []) one_page → ⊥
 half_read h = let e : Same 4 1024 = h.0 in omega arith
 
-of_an_inflate : TellsOf Inflate settings (Has 3 (piece ∷ []) [] number) (page_5 ∷ []) one_page
+of_an_inflate : TellsOf false Inflate settings (Has 3 (piece ∷ []) [] number) (page_5 ∷ []) one_page
 of_an_inflate = named
 
-of_a_deflate : TellsOf Deflate settings (Has 3 (piece ∷ []) [] number) (page_5 ∷ []) one_page
+of_a_deflate : TellsOf false Deflate settings (Has 3 (piece ∷ []) [] number) (page_5 ∷ []) one_page
 of_a_deflate = named
 
-of_a_report : TellsOf Report settings (Has 3 (page_2 ∷ []) [] []) (record { first = 2; count = 1 } ∷ [])
+of_a_report : TellsOf false Report settings (Has 3 (page_2 ∷ []) [] []) (record { first = 2; count = 1 } ∷ [])
     one_page
 of_a_report = reported
 
-of_statistics : TellsOf Statistics settings (Has 3 (piece ∷ []) [] number) (page_5 ∷ []) one_page → ⊥
+of_statistics : TellsOf false Statistics settings (Has 3 (piece ∷ []) [] number) (page_5 ∷ []) one_page → ⊥
 of_statistics h = absurd h
 
 -- ---- figures
@@ -288,6 +288,6 @@ index_twice h = absurd h
 abbrev numbers_last : Access → Bool
 numbers_last x = ends_in_number (x ∷ id ∷ [])
 
-last_is_a_number : map numbers_last (index ∷ part ∷ Acquire ∷ Release ∷ pages ∷ figures ∷ discard ∷ id ∷ used_index ∷ []) ≡
-    false ∷ false ∷ false ∷ false ∷ false ∷ false ∷ false ∷ true ∷ false ∷ []
+last_is_a_number : map numbers_last (index ∷ part ∷ Acquire ∷ Release ∷ pages ∷ figures ∷ told_id ∷ discard ∷ id ∷ used_index ∷ []) ≡
+    false ∷ false ∷ false ∷ false ∷ false ∷ false ∷ false ∷ false ∷ true ∷ false ∷ []
 last_is_a_number = refl

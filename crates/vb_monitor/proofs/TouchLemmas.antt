@@ -3,7 +3,7 @@ use Rattle.std.proofs.Common.{◌≡◌, subst, refl, arith, ℕ, suc, ◌+◌, 
 use Rattle.std.proofs.Common.{Bool, true, false, List, [], ◌∷◌, ◌++◌, Some}
 use Rattle.std.{specs.Prelude.{slice_get, if◌then◌else◌}, proofs.lemmas.Bool.Decides.nat_tests}
 use Rattle.vb_core.specs.declared.{kinds.Kind.Kind, runs.Run.Run}
-use Rattle.vb_core.specs.declared.kinds.Kind.TheVariants.{Inflate, Deflate, Statistics, Report}
+use Rattle.vb_core.specs.declared.kinds.Kind.TheVariants.{Inflate, Deflate, Statistics, Hint, Report}
 use Rattle.vb_monitor.specs.Regions.{is_region, holds, spot_from, spot, meets, cut_of, cuts_from}
 use Rattle.vb_monitor.specs.{Regions.cuts_of, Giving.cuts_for, Touched.IsWithin}
 use Rattle.vb_monitor.specs.declared.{cuts.Cut.Cut, regions.Region.Region, regions.Spot.Spot}
@@ -103,5 +103,7 @@ cuts_within all Inflate true runs = tt
 cuts_within all Inflate false runs = runs_within all runs
 cuts_within all Deflate kept runs = tt
 cuts_within all Statistics kept runs = tt
+cuts_within all Hint true runs = tt
+cuts_within all Hint false runs = runs_within all runs
 cuts_within all Report true runs = tt
 cuts_within all Report false runs = runs_within all runs

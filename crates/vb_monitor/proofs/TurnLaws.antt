@@ -10,7 +10,7 @@ use Rattle.vb_core.specs.Devices.{ring_of}
 use Rattle.vb_monitor.proofs.TurnEnds.{newest, Goes, one_more, asked, more_room, Stands, NoneLeft, Agrees}
 use Rattle.vb_monitor.proofs.PartCosts.{further_cost}
 use Rattle.std.specs.Prelude.{◌||◌}
-use Rattle.vb_monitor.proofs.{TurnEnds.{one_on, flags_of, ends_go, breaks_go}, TurnLemmas.After}
+use Rattle.vb_monitor.proofs.{TurnEnds.{Flags, round_on, one_on, flags_of, ends_go, breaks_go}, TurnLemmas.After}
 use Rattle.vb_monitor.{proofs.TurnRows.{pieces_go}, specs.Accesses.{Access, ReadWord}}
 use Rattle.vb_monitor.{proofs.TouchLemmas.within, specs.Counts.others, specs.Touched.Touches}
 use Rattle.vb_monitor.specs.Order.{is_word, is_read, is_told, Row, MayFollow}
@@ -24,7 +24,8 @@ use Rattle.vb_monitor.specs.Notices.{TakesUnlessSpent}
 use Rattle.vb_monitor.specs.{Notices.{TakesNext, with_chains, Serves, fresh}, Regions.spot}
 use Rattle.vb_monitor.specs.Notices.{ServesPublished}
 use Rattle.vb_monitor.specs.SoFar.{Each, Unknown, Walks, known, ring_after}
-use Rattle.vb_monitor.specs.Turns.{IsPublished, ReadsInTurn, TellsInTurn, WritesUsedAlone}
+use Rattle.vb_monitor.specs.Turns.{IsPublished, ReadsInTurn, TellsInTurn, WritesUsedAlone, HintsInRound}
+use Rattle.vb_monitor.proofs.HintTurns.{hints_by}
 use Rattle.vb_monitor.specs.declared.outcome.{Budget.Budget, HeldChain.HeldChain, Outcome.Outcome, Tally.Tally}
 use Rattle.vb_monitor.specs.Holding.{HoldsTold}
 use Rattle.vb_monitor.specs.declared.regions.{Region.Region, Spot.Spot}
@@ -64,7 +65,7 @@ entry_at : (w : Whole) (d0 : Device) (most m : ℕ) (next : Then) (on : After w 
 entry_at w d0 most m next on d t None b log long none is there e h =
     breaks_go w d0 d t _ _ b log (omega arith) (flags_of w d0 _ b d is.agrees) h
 entry_at w d0 most m next on d t (Some at) b log long none is there e h =
-    let fenced = one_on w d0 _ Acquire b d is.agrees refl refl in
+    let fenced = one_on w d0 _ Acquire b d is.agrees refl refl refl in
     let x : Access = ReadWord at h.head in
     asked w d0 t.keeps _ b log _ h.asks
     (one_more w d0 t.keeps (774 + (further_cost most + m)) _ Acquire b _ (omega arith) (record {
@@ -90,7 +91,7 @@ entry_at w d0 most m next on d t (Some at) b log long none is there e h =
       holds = tt;
     })
     (head_by w d0 most m next on d t h.head _ (x ∷ Acquire ∷ b) h.rest long (record {
-      stands = one_on w d0 _ x (Acquire ∷ b) d fenced refl refl;
+      stands = one_on w d0 _ x (Acquire ∷ b) d fenced refl refl refl;
       done = is.done;
       told_so = none;
     }) refl refl h.goes_on)))
@@ -164,12 +165,16 @@ takes_next (suc n) w d0 d most t long b log is there h =
     (with_chains n t) (t.pages == 0) long refl b log
     (record { agrees = is.agrees; done = is.done; unknown = is.unknown; word = is.word }) there h)
 
+-- where nothing was read yet
+at_once : (w : Whole) (d : Device) → Flags w d [] d
+at_once w d = record { avail = refl; lasts = refl; round = refl }
+
 index_at : (w : Whole) (d : Device) (most m : ℕ) (next : Then) (on : Next w d most m next)
     (t : Tally) (o : Option Spot) (log : List Access) → 2 ≤ m → t.longest ≡ most →
     spot w.regions ((ring_of w.kind d).avail + 2) 2 ≡ o → IndexAt w next d t o log →
     Goes w d t.keeps (1 + m) [] log
 index_at w d most m next on t None log le long e h =
-    breaks_go w d d t _ (1 + m) [] log (omega (arith, le)) (refl, refl) h
+    breaks_go w d d t _ (1 + m) [] log (omega (arith, le)) (at_once w d) h
 index_at w d most m next on t (Some at) log le long e h =
     let x : Access = ReadWord at h.index in
     asked w d t.keeps (1 + m) [] log _ h.asks (one_more w d t.keeps m (1 + m) x [] _ (omega arith)
@@ -181,7 +186,14 @@ index_at w d most m next on t (Some at) log le long e h =
       touches = within w.regions ((ring_of w.kind d).avail + 2) 2 at e;
       holds = tt;
     }) (on d _ (x ∷ []) h.rest long (record {
-      agrees = record { ring = refl; settings = refl; keeps = refl; lasts = refl; index = refl };
+      agrees = record {
+        ring = refl;
+        settings = refl;
+        keeps = refl;
+        round = refl;
+        lasts = refl;
+        index = refl;
+      };
       done = refl;
       unknown = refl;
       word = refl;
@@ -191,7 +203,7 @@ looks_by : (w : Whole) (d : Device) (most m : ℕ) (next : Then) (on : Next w d 
     (t : Tally) (denial : Option Denial) (log : List Access) → 2 ≤ m → t.longest ≡ most → LooksBy denial w next d t log →
     Goes w d t.keeps (1 + m) [] log
 looks_by w d most m next on t (Some why) log le long h =
-    ends_go w d d t _ false (1 + m) [] log (omega (arith, le)) (refl, refl) h
+    ends_go w d d t _ false (1 + m) [] log (omega (arith, le)) (at_once w d) h
 looks_by w d most m next on t None log le long h = index_at w d most m next on t _ log le long refl h
 
 -- ---- the laws
@@ -212,7 +224,7 @@ all_go regions kind budget d1 d2 outcome log h =
     index_by w d1 d t m _ (takes_next budget.chains w d1 d budget.longest t long) _ b rest (omega arith)
     is refl) (fresh budget) _ log (omega arith) refl h)
 
-each_so : (may so : List Access → Access → Type 0) (b log : List Access) →
+pub each_so : (may so : List Access → Access → Type 0) (b log : List Access) →
     ((before : List Access) (x : Access) → may before x → so before x) → Each may b log →
     Each so b log
 each_so may so b [] is h = tt
@@ -241,6 +253,19 @@ pub holds_told : (regions : List Region) (kind : Kind) (budget : Budget) (d1 d2 
     Each (HoldsTold kind d1.settings outcome) [] log
 holds_told regions kind budget d1 d2 outcome log h =
     each_so _ _ [] log (λ b x is. is.holds) (all_go regions kind budget d1 d2 outcome log h).come
+
+pub hints_in_round : (regions : List Region) (kind : Kind) (budget : Budget) (d1 d2 : Device)
+    (outcome : Outcome) (log : List Access) → Serves regions kind budget d1 d2 outcome log →
+    Each (HintsInRound d1) [] log
+hints_in_round regions kind budget d1 d2 outcome log h =
+    each_so _ _ [] log (λ b x is. hints_by regions kind budget.keeps d1 b x is.tells)
+    (all_go regions kind budget d1 d2 outcome log h).come
+
+pub round_left : (regions : List Region) (kind : Kind) (budget : Budget) (d1 d2 : Device)
+    (outcome : Outcome) (log : List Access) → Serves regions kind budget d1 d2 outcome log →
+    d2.round ≡ round_on d1.round log
+round_left regions kind budget d1 d2 outcome log h =
+    (all_go regions kind budget d1 d2 outcome log h).round
 
 row_so : (may : Option Access → Access → Type 0) (b log : List Access) →
     Each (λ before x. may (newest before) x) b log → Row may (newest b) log

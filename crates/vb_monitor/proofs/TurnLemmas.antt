@@ -7,7 +7,7 @@ use Rattle.vb_core.{specs.Rings.{used_entry, with_used}}
 use Rattle.vb_core.{specs.declared.runs.Run.Run, specs.declared.name.Named.Named}
 use Rattle.vb_core.{specs.declared.ring.Virtqueue.Virtqueue, specs.declared.device.Device.Device}
 use Rattle.vb_core.{specs.declared.device.Denial.Denial, specs.declared.settings.Settings.Settings}
-use Rattle.vb_core.{specs.Using.use_denial, specs.Config.keeps_reports}
+use Rattle.vb_core.{specs.Using.use_denial, specs.Config.keeps_free}
 use Rattle.vb_core.specs.Devices.{ring_of, with_one_taken}
 use Rattle.vb_monitor.specs.Accesses.{Access, Release}
 use Rattle.vb_monitor.specs.Accesses.{TellPages, Discard, WriteNumber, WriteWord}
@@ -21,13 +21,14 @@ use Rattle.vb_monitor.specs.Order.{is_copied, is_told, is_named}
 use Rattle.vb_monitor.specs.SoFar.{Known, Has, known, ring_after, left, without_first, with_told, pages_told}
 use Rattle.vb_monitor.specs.{Portions.TellsPortion, Giving.more_told, declared.parts.Part.Part}
 use Rattle.vb_monitor.specs.declared.room.TheConstants.{MAX_BYTES}
-use Rattle.vb_core.specs.declared.kinds.Kind.{Kind, TheVariants.{Inflate, Deflate, Statistics, Report}}
-use Rattle.vb_monitor.specs.SoFar.{earlier}
+use Rattle.vb_core.specs.declared.kinds.Kind.{Kind, TheVariants.{Inflate, Deflate, Statistics, Hint, Report}}
+use Rattle.vb_monitor.specs.SoFar.{earlier, round_so_far}
+use Rattle.vb_core.specs.{Hints.is_open, declared.hints.Round.Round}
 use Rattle.vb_monitor.specs.Turns.{TellsOf, TellNamed, IsNext}
 use Rattle.vb_monitor.specs.Turns.{ends_in_number, NumberFor, IndexFor}
 use Rattle.vb_monitor.{specs.Regions.spot, specs.Ends.{Whole, Breaks}}
 use Rattle.vb_monitor.specs.declared.regions.{Region.Region, Spot.Spot}
-use Rattle.vb_monitor.proofs.TurnEnds.{Stands, NoneLeft, Agrees, Comes, Goes, asked, breaks_go, ends_go, ends_say, flags_of, moves, newest, one_more, one_on, one_taken, one_portion}
+use Rattle.vb_monitor.proofs.TurnEnds.{Stands, NoneLeft, Agrees, Comes, Goes, asked, breaks_go, ends_go, ends_say, flags_of, like_flags, used_like, moves, newest, one_more, one_on, one_taken, one_portion}
 
 -- ---- a chain that is given back
 
@@ -64,7 +65,7 @@ pub record Served (w : Whole) (d0 : Device) (all : Bool) (n head : ℕ) (pieces 
     (bytes : List ℕ) (b : List Access) (d : Device) : Type 0 where
   pub agrees : Stands w d0 n b d
   pub read : Read w head pieces bytes b
-  pub done : left (is_kept w.kind all (keeps_reports d0)) w.regions b ≡ []
+  pub done : left (is_kept w.kind all (keeps_free w.kind d0)) w.regions b ≡ []
   pub first : ends_in_number b ≡ false
   pub named : is_named (newest b) ≡ true
   pub unheld : holds_chains w.kind d0.settings ≡ false
@@ -74,7 +75,7 @@ no_used_place : (w : Whole) (d0 d : Device) (t : Tally) (fault : ChainFault) (m 
     Goes w d0 t.keeps (4 + m) b log
 no_used_place w d0 d t fault m n b log is h =
     breaks_go w d0 (after_use w.kind d) t fault (4 + m) b log (omega arith)
-    (ap (λ (r : Virtqueue). r.avail) ((moves w.kind d).used_ring) ∙ (flags_of w d0 n b d is).0, is.lasts) h
+    (like_flags w d0 n b d (after_use w.kind d) (used_like w.kind d) is) h
 
 used_at : (w : Whole) (d0 : Device) (most m : ℕ) (next : Then) (on : After w d0 most m next) (d : Device)
     (t : Tally) (head : ℕ) (pieces : List Piece) (bytes : List ℕ) (id len index : Option Spot)
@@ -131,11 +132,12 @@ used_at w d0 most m next on d t head pieces bytes (Some id) (Some len) (Some ind
       ring = (moves w.kind d).used_ring ∙ ap (λ (r : Virtqueue). with_used r) is.agrees.ring;
       settings = (moves w.kind d).used_settings ∙ is.agrees.settings;
       keeps = (moves w.kind d).used_keeps ∙ is.agrees.keeps;
+      round = (moves w.kind d).used_round ∙ is.agrees.round;
       lasts = refl;
       index = ap (λ (o : Option ℕ). earlier (earlier (earlier (earlier o (WriteNumber id e.id)) (WriteNumber len e.length)) Release) (WriteWord index e.index)) is.agrees.index;
     }) is.done h.goes_on)))))
 
-gives_by : (w : Whole) (d0 : Device) (most m : ℕ) (next : Then) (on : After w d0 most m next) (d : Device)
+pub gives_by : (w : Whole) (d0 : Device) (most m : ℕ) (next : Then) (on : After w d0 most m next) (d : Device)
     (t : Tally) (head : ℕ) (pieces : List Piece) (bytes : List ℕ) (denial : Option Denial)
     (b log : List Access) → t.longest ≡ most →
     Served w d0 t.keeps t.published head pieces bytes b d →
@@ -163,7 +165,7 @@ discards_go : (w : Whole) (d0 d : Device) (all : Bool) (m n told : ℕ) (known_s
     (then_go : (b2 : List Access) → Discarded w d0 all n told known_so b2 d → Goes w d0 all m b2 rest)
     → (cuts ≡ [] ⊎ (holds_chains w.kind d0.settings ≡ false)) →
     Stands w d0 n b d → known w.kind b ≡ known_so →
-    left (is_kept w.kind all (keeps_reports d0)) w.regions b ≡ cuts → ends_in_number b ≡ false →
+    left (is_kept w.kind all (keeps_free w.kind d0)) w.regions b ≡ cuts → ends_in_number b ≡ false →
     is_told (newest b) ≡ true → is_named (newest b) ≡ true → pages_told b ≡ told →
     AllWithin w.regions cuts → Goes w d0 all m b (map Discard cuts ++ rest)
 discards_go w d0 d all m n told known_so [] b rest then_go may is read left_so first last named count inside =
@@ -181,7 +183,7 @@ discards_go w d0 d all m n told known_so (cut ∷ cuts) b rest then_go (inl none
 discards_go w d0 d all m n told known_so (cut ∷ cuts) b rest then_go (inr unheld) is read left_so first last named count inside =
     let x : Access = Discard cut in
     let on = discards_go w d0 d all m n told known_so cuts (x ∷ b) rest then_go (inr unheld)
-    (one_on w d0 n x b d is refl refl) read (ap (λ (l : List Cut). without_first l) left_so) refl refl refl
+    (one_on w d0 n x b d is refl refl refl) read (ap (λ (l : List Cut). without_first l) left_so) refl refl refl
     count inside.1 in
     let comes : Comes w d0 all b x = record {
       reads = tt;
@@ -191,7 +193,11 @@ discards_go w d0 d all m n told known_so (cut ∷ cuts) b rest then_go (inr unhe
       touches = inside.0;
       holds = unheld;
     } in
-    record { come = (comes, on.come); few = let few = on.few in omega (arith, few) }
+    record {
+      come = (comes, on.come);
+      few = let few = on.few in omega (arith, few);
+      round = on.round;
+    }
 
 -- the chain is held where its kind's are, and only there
 abbrev pub HeldSo : Whole → Device → ℕ → ℕ → Tally → Type 0
@@ -204,7 +210,7 @@ once_told : (w : Whole) (d0 : Device) (most m : ℕ) (next : Then) (on : After w
     (d : Device) (t : Tally) (held : Option HeldChain) (head told : ℕ) (pieces : List Piece)
     (bytes : List ℕ) (cuts : List Cut) (b log : List Access) → t.longest ≡ most → t.held ≡ held →
     Stands w d0 t.published b d → Read w head pieces bytes b →
-    left (is_kept w.kind t.keeps (keeps_reports d0)) w.regions b ≡ cuts →
+    left (is_kept w.kind t.keeps (keeps_free w.kind d0)) w.regions b ≡ cuts →
     ends_in_number b ≡ false → is_told (newest b) ≡ true → is_named (newest b) ≡ true →
     pages_told b ≡ told →
     AllWithin w.regions cuts → (t.held ≡ None → holds_chains w.kind d0.settings ≡ false) →
@@ -234,6 +240,16 @@ told_held w next d t (Some x) head pages cuts log e so h =
     let says = ends_say w d t None false log h in
     (ap (λ (y : Tally). y.held) says.0 ∙ (e ∙ so), says.1)
 
+-- what may be told by the device now may be by the one at first, and what was read since
+at_first : (w : Whole) (d0 d : Device) (n : ℕ) (pieces : List Piece) (bytes : List ℕ)
+    (runs : List Run) (named : Named) (b : List Access) → Stands w d0 n b d →
+    TellNamed (is_open d.round) w.kind d.settings pieces bytes runs named →
+    TellNamed (is_open (round_so_far d0.round b)) w.kind d0.settings pieces bytes runs named
+at_first w d0 d n pieces bytes runs named b is right =
+    subst (λ (r : Round). TellNamed (is_open r) w.kind d0.settings pieces bytes runs named) is.round
+    (subst (λ (s : Settings). TellNamed (is_open d.round) w.kind s pieces bytes runs named) is.settings
+    right)
+
 -- pages that may be told are told; then they are discarded, and their chain is given back, or it is
 -- held
 pub tells_go : (w : Whole) (d0 : Device) (most m : ℕ) (next : Then) (on : After w d0 most m next)
@@ -241,14 +257,14 @@ pub tells_go : (w : Whole) (d0 : Device) (most m : ℕ) (next : Then) (on : Afte
     (runs : List Run) (named : Named) (b log : List Access) → t.longest ≡ most →
     t.published ≡ t0.published → t.keeps ≡ t0.keeps → Agrees w d0 t0 b d →
     Read w head pieces bytes b → is_copied (newest b) ≡ true →
-    TellNamed w.kind d.settings pieces bytes runs named →
+    TellNamed (is_open d.round) w.kind d.settings pieces bytes runs named →
     HeldSo w d0 head (more_told (pages_told b) named.pages) t →
     TellsThen w next (with_one_taken w.kind d) t head runs named log →
     Goes w d0 t.keeps (5 + m) b log
 tells_go w d0 most m next on d t0 t head pieces bytes runs named b log long pub_so keeps_so is read copied right held h =
     let x : Access = TellPages w.kind runs named in
     let d2 = with_one_taken w.kind d in
-    let kept = is_kept w.kind t.keeps (keeps_reports d2) in
+    let kept = is_kept w.kind t.keeps (keeps_free w.kind d2) in
     let cuts = cuts_for w.kind kept w.regions runs in
     let pages = more_told (pages_told b) named.pages in
     let stands : Stands w d0 t.published b d =
@@ -260,8 +276,8 @@ tells_go w d0 most m next on d t0 t head pieces bytes runs named b log long pub_
       reads = tt;
       tells = (
         refl,
-        subst (λ (k : Known). TellsOf w.kind d0.settings k runs named) (sym read)
-            (subst (λ (s : Settings). TellNamed w.kind s pieces bytes runs named) stands.settings right),
+        subst (λ (k : Known). TellsOf (is_open (round_so_far d0.round b)) w.kind d0.settings k runs named)
+            (sym read) (at_first w d0 d t.published pieces bytes runs named b stands right),
         done,
       );
       writes = tt;
@@ -286,6 +302,7 @@ no_cuts_held kind s kept regions runs false e = inr e
 no_cuts_held Deflate s kept regions runs true e = inl refl
 no_cuts_held Statistics s kept regions runs true e = inl refl
 no_cuts_held Inflate s kept regions runs true e = absurd cc
+no_cuts_held Hint s kept regions runs true e = absurd cc
 no_cuts_held Report s kept regions runs true e = absurd cc
 
 -- pages of a portion are told, and discarded; then this goes on
@@ -297,11 +314,11 @@ pub portion_go : (w : Whole) (d0 d : Device) (t0 t : Tally) (m head : ℕ) (piec
     Goes w d0 t.keeps m b2 rest) →
     t.published ≡ t0.published → t.keeps ≡ t0.keeps → Agrees w d0 t0 b d →
     known w.kind b ≡ Has head pieces (part ∷ parts) bytes → is_copied (newest b) ≡ true →
-    length bytes ≡ MAX_BYTES → TellNamed w.kind d.settings pieces bytes runs named →
+    length bytes ≡ MAX_BYTES → TellNamed (is_open d.round) w.kind d.settings pieces bytes runs named →
     TellsPortion w on d t runs named log → Goes w d0 t.keeps (1 + m) b log
 portion_go w d0 d t0 t m head pieces part parts bytes runs named on b log then_go pub_so keeps_so is read copied full right h =
     let x : Access = TellPages w.kind runs named in
-    let kept = is_kept w.kind t.keeps (keeps_reports d) in
+    let kept = is_kept w.kind t.keeps (keeps_free w.kind d) in
     let cuts = cuts_for w.kind kept w.regions runs in
     let stands : Stands w d0 t.published b d =
     subst (λ (n : ℕ). Stands w d0 n b d) (sym pub_so) is.stands in
@@ -311,8 +328,8 @@ portion_go w d0 d t0 t m head pieces part parts bytes runs named on b log then_g
       reads = tt;
       tells = (
         refl,
-        subst (λ (k : Known). TellsOf w.kind d0.settings k runs named) (sym read)
-            (full, subst (λ (s : Settings). TellNamed w.kind s pieces bytes runs named) stands.settings right),
+        subst (λ (k : Known). TellsOf (is_open (round_so_far d0.round b)) w.kind d0.settings k runs named)
+            (sym read) (full, at_first w d0 d t.published pieces bytes runs named b stands right),
         done,
       );
       writes = tt;

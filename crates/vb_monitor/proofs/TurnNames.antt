@@ -1,35 +1,33 @@
 -- What each access of a notice is, by those before it, and how many there are: what the bytes of a
 -- chain's last portion come to.
-use Rattle.std.{specs.Prelude.{◌||◌, ◌==◌, if◌then◌else◌}, proofs.lemmas.{List.length-append, Bool.Decides.nat_tests}}
-use Rattle.std.proofs.Common.{◌≡◌, ◌∙◌, ap, sym, subst, refl, arith, ℕ, suc, ◌+◌, ◌*◌, ◌/◌, ◌≤◌, Bool}
+use Rattle.std.{specs.Prelude.{◌||◌}}
+use Rattle.std.proofs.Common.{◌≡◌, ◌∙◌, ap, sym, subst, refl, arith, ℕ, ◌+◌, ◌/◌, Bool}
 use Rattle.std.proofs.Common.{true, false, List}
-use Rattle.std.proofs.Common.{[], ◌∷◌, ◌++◌, length, take, Option, Some, None, Result, Ok, Err}
+use Rattle.std.proofs.Common.{[], ◌∷◌, length, take, Option, Some, None, Result, Ok, Err}
 use Rattle.vb_virtio.specs.declared.layout.TheConstants.{STATISTIC_SIZE}
 use Rattle.vb_virtio.specs.declared.limits.TheConstants.{MAX_REQUEST_PAGES}
-use Rattle.vb_chain.specs.declared.{pieces.Piece.Piece, fault.ChainFault.ChainFault}
-use Rattle.vb_request.{specs.Statistics.statistics_length}
-use Rattle.vb_core.specs.declared.kinds.Kind.TheVariants.{Inflate, Deflate, Statistics, Report}
+use Rattle.vb_chain.specs.declared.{pieces.Piece.Piece}
+use Rattle.vb_core.specs.declared.kinds.Kind.TheVariants.{Inflate, Deflate, Statistics, Hint, Report}
 use Rattle.vb_core.specs.{Devices.{ring_of, with_one_taken}, declared.device.Denial.Denial}
 use Rattle.vb_core.specs.{declared.device.Device.Device, Statistics.statistics_denial}
 use Rattle.vb_core.specs.declared.{name.Named.Named, kinds.Kind.Kind, runs.Run.Run}
-use Rattle.vb_core.specs.{Report.NamesPiecesBy, Name.NamesNumbersBy}
-use Rattle.vb_monitor.specs.Chains.{FiguresBy, AfterBytes, NamesBytes, CopiesBy, ServesPieces}
-use Rattle.vb_monitor.specs.SoFar.{Known, Has, known, ring_after, parts_read, with_copied}
+use Rattle.vb_core.specs.{Name.NamesNumbersBy}
+use Rattle.vb_monitor.specs.Chains.{FiguresBy, AfterBytes, NamesBytes, id_of, IdBy, after_id}
+use Rattle.vb_core.specs.{Hints.{is_open, heard}, declared.hints.Round.Round, Rings.with_taken}
+use Rattle.vb_core.specs.{Config.keeps_free, Using.use_denial, declared.ring.Virtqueue.Virtqueue}
+use Rattle.vb_monitor.specs.SoFar.{Known, Has, known, earlier}
 use Rattle.vb_monitor.specs.Order.{is_copied, is_read, is_told}
-use Rattle.vb_monitor.proofs.TurnEnds.{newest, Goes, one_more, asked, more_room, Stands, Agrees, one_copied}
-use Rattle.vb_monitor.proofs.TurnEnds.{copy_comes, flags_of, ends_go, ends_say, breaks_go, moves}
-use Rattle.vb_monitor.proofs.{TurnLemmas.{After, Discarded, tells_go, portion_go}, NamedLemmas.names_avail}
-use Rattle.vb_monitor.proofs.PartCosts.{tells_in, cost, further_cost, request_cost, statistics_cost}
-use Rattle.vb_monitor.proofs.NamedLemmas.{pieces_avail, named_numbers, no_report, named_pieces}
-use Rattle.vb_monitor.specs.{Accesses.{Access, CopyBytes, TellFigures}, Pieces.{PartAt, all_parts}}
-use Rattle.vb_monitor.specs.Portions.{CopiesParts, CopiesPart, AfterPortion, ServesPortion, TellsPortion, is_full}
-use Rattle.vb_monitor.specs.{Turns.CopiesNext, Chains.{ServesBytes, request_length_within}}
-use Rattle.vb_monitor.specs.{Turns.{TellNamed, TellNumbers, FiguresOf}, Regions.spot, Giving.Then}
+use Rattle.vb_monitor.proofs.TurnEnds.{newest, Goes, one_more, asked, Stands, Agrees}
+use Rattle.vb_monitor.proofs.TurnEnds.{flags_of, like_flags, IsLike, ends_go, ends_say, breaks_go, moves}
+use Rattle.vb_monitor.proofs.{TurnLemmas.{After, gives_by, tells_go}, NamedLemmas.names_like}
+use Rattle.vb_monitor.proofs.NamedLemmas.{named_numbers, no_report}
+use Rattle.vb_monitor.specs.Accesses.{Access, TellFigures, TellId}
+use Rattle.vb_monitor.specs.{Turns.{TellNamed, TellNumbers, FiguresOf, IdOf}, Giving.Then}
 use Rattle.vb_monitor.specs.Giving.{AfterName, after_last, TellsThen, spent, more_told, held_if, with_held, with_named}
 use Rattle.vb_monitor.specs.Holding.{HoldsChain}
 use Rattle.vb_core.specs.{Settings.holds_chains, declared.settings.Settings.Settings}
-use Rattle.vb_monitor.specs.declared.{room.TheConstants.{MAX_FIGURES, MAX_BYTES}, parts.Part.Part}
-use Rattle.vb_monitor.specs.{declared.regions.Spot.Spot, declared.outcome.Tally.Tally, Ends.Whole}
+use Rattle.vb_monitor.specs.declared.{room.TheConstants.{MAX_FIGURES}, parts.Part.Part}
+use Rattle.vb_monitor.specs.{declared.outcome.Tally.Tally, Ends.Whole}
 
 -- after bytes of a chain's pieces, of which these parts are left
 pub record Reads (w : Whole) (d0 d : Device) (t : Tally) (head : ℕ) (pieces : List Piece)
@@ -47,15 +45,16 @@ pub record Copied (w : Whole) (d0 d : Device) (t : Tally) (head : ℕ) (pieces :
 -- what is told of a chain may be
 abbrev pub Right : Whole → Device → Device → List Piece → List ℕ → List Run → Result Named Denial →
     Type 0
-Right w d d2 pieces bytes runs answer = (named : Named) → answer ≡ Ok named → TellNamed
-    w.kind d.settings pieces bytes (take named.runs runs) named × (d2 ≡ with_one_taken w.kind d)
+Right w d d2 pieces bytes runs answer = (named : Named) → answer ≡ Ok named →
+    TellNamed (is_open d.round) w.kind d.settings pieces bytes (take named.runs runs) named
+    × (d2 ≡ with_one_taken w.kind d)
 
 -- pages are told of a chain that is held, or isn't
 held_go : (w : Whole) (d0 : Device) (most m : ℕ) (next : Then) (on : After w d0 most m next)
     (d : Device) (t : Tally) (head : ℕ) (pieces : List Piece) (bytes : List ℕ) (runs : List Run)
     (named : Named) (held : Bool) (b log : List Access) → t.longest ≡ most →
     holds_chains w.kind d.settings ≡ held → Copied w d0 d t head pieces [] bytes b →
-    TellNamed w.kind d.settings pieces bytes runs named →
+    TellNamed (is_open d.round) w.kind d.settings pieces bytes runs named →
     TellsThen w next (with_one_taken w.kind d)
     (held_if held head (more_told t.told named.pages) (spent named.pages t)) head runs named log →
     Goes w d0 t.keeps (5 + m) b log
@@ -79,11 +78,11 @@ pub names_go : (w : Whole) (d0 : Device) (most m : ℕ) (next : Then) (on : Afte
     (d d2 : Device) (t : Tally) (head : ℕ) (pieces : List Piece) (bytes : List ℕ)
     (runs : List Run) (answer : Result Named Denial) (b log : List Access) →
     t.longest ≡ most → Copied w d0 d t head pieces [] bytes b →
-    (ring_of w.kind d2).avail ≡ (ring_of w.kind d).avail → Right w d d2 pieces bytes runs answer →
+    IsLike w.kind d2 d → Right w d d2 pieces bytes runs answer →
     AfterName w next d2 t head runs answer log → Goes w d0 t.keeps (5 + m) b log
 names_go w d0 most m next on d d2 t head pieces bytes runs (Err why) b log long is same right h =
     ends_go w d0 d2 t _ false (5 + m) b log (omega arith)
-    (same ∙ (flags_of w d0 _ b d is.reads.agrees.stands).0, is.reads.agrees.stands.lasts) h
+    (like_flags w d0 _ b d d2 same is.reads.agrees.stands) h
 names_go w d0 most m next on d d2 t head pieces bytes runs (Ok named) b log long is same right h =
     let x = right named refl in
     held_go w d0 most m next on d t head pieces bytes (take named.runs runs) named
@@ -119,22 +118,30 @@ figures_go w d0 d m t head pieces bytes None b log e is h =
           h.tells.rest h.tells.ends in (ap (λ (y : Tally). y.held) says.0, says.1));
     }) (ends_go w d0 (with_one_taken Statistics d) _ _ false (4 + m) (TellFigures told ∷ b)
     h.tells.rest (omega arith)
-    ((moves w.kind d).figures_avail ∙ (flags_of w d0 _ b d is.reads.agrees.stands).0, refl) h.tells.ends))
+    (record {
+      avail = (moves w.kind d).figures_avail ∙ (flags_of w d0 _ b d is.reads.agrees.stands).avail;
+      lasts = refl;
+      round = is.reads.agrees.stands.round;
+    }) h.tells.ends))
 
 pub right_of : (w : Whole) (d : Device) (pieces : List Piece) (bytes : List ℕ) (runs : List Run)
     (d2 : Device) (kind : Kind) (named : Named) → w.kind ≡ kind →
-    TellNamed kind d.settings pieces bytes (take named.runs runs) named →
+    TellNamed (is_open d.round) kind d.settings pieces bytes (take named.runs runs) named →
     (d2 ≡ with_one_taken w.kind d) →
-    TellNamed w.kind d.settings pieces bytes (take named.runs runs) named
+    TellNamed (is_open d.round) w.kind d.settings pieces bytes (take named.runs runs) named
     × (d2 ≡ with_one_taken w.kind d)
-right_of w d pieces bytes runs d2 kind named e x y =
-    (subst (λ (k : Kind). TellNamed k d.settings pieces bytes (take named.runs runs) named) (sym e) x, y)
+right_of w d pieces bytes runs d2 kind named e x y = (
+  subst (λ (k : Kind). TellNamed (is_open d.round) k d.settings pieces bytes (take named.runs runs) named)
+      (sym e) x,
+  y,
+)
 
 numbers_right : (w : Whole) (kind : Kind) (d d2 : Device) (pieces : List Piece) (bytes : List ℕ)
     (room : ℕ) (runs : List Run) (answer : Result Named Denial) → w.kind ≡ kind →
     NamesNumbersBy w.kind bytes room runs d d2 answer →
     ((named : Named) → TellNumbers d.settings bytes (take named.runs runs) named →
-    answer ≡ Ok named → TellNamed kind d.settings pieces bytes (take named.runs runs) named) →
+    answer ≡ Ok named →
+    TellNamed (is_open d.round) kind d.settings pieces bytes (take named.runs runs) named) →
     Right w d (after_last w.kind answer d2) pieces bytes runs answer
 numbers_right w kind d d2 pieces bytes room runs answer e h so named is =
     let x = named_numbers w.kind bytes room runs d d2 named
@@ -148,12 +155,53 @@ bytes_named : (w : Whole) (d0 : Device) (most m : ℕ) (kind : Kind) (e : w.kind
     (bytes : List ℕ) (b log : List Access) → t.longest ≡ most →
     Copied w d0 d t head pieces [] bytes b → (h : NamesBytes w next d t head bytes log) →
     ((named : Named) → TellNumbers d.settings bytes (take named.runs h.runs) named →
-    h.answer ≡ Ok named → TellNamed kind d.settings pieces bytes (take named.runs h.runs) named) →
+    h.answer ≡ Ok named →
+    TellNamed (is_open d.round) kind d.settings pieces bytes (take named.runs h.runs) named) →
     Goes w d0 t.keeps (5 + m) b log
 bytes_named w d0 most m kind e next on d t head pieces bytes b log long is h so = names_go w d0 most m next on
     d (after_last w.kind h.answer h.device) t head pieces bytes h.runs h.answer b log long is
-    (names_avail w.kind bytes _ h.runs d h.device h.answer h.names)
+    (names_like w.kind bytes _ h.runs d h.device h.answer h.names)
     (numbers_right w kind d h.device pieces bytes _ h.runs h.answer e h.names so) h.goes_on
+
+-- a device that read an id is as far as the access says that told it
+id_stands : (w : Whole) (d0 : Device) (n id : ℕ) (b : List Access) (d : Device) → w.kind ≡ Hint →
+    Stands w d0 n b d → Stands w d0 n (TellId id ∷ b) (after_id id d)
+id_stands w d0 n id b d e is = record {
+  ring = subst (λ (k : Kind). ring_of k (after_id id d) ≡ with_taken (ring_of k d)) (sym e) refl
+      ∙ ap (λ (r : Virtqueue). with_taken r) is.ring;
+  settings = is.settings;
+  keeps = subst (λ (k : Kind). keeps_free k (after_id id d) ≡ keeps_free k d) (sym e) refl ∙ is.keeps;
+  round = ap (λ (r : Round). heard id r) is.round;
+  lasts = refl;
+  index = ap (λ (o : Option ℕ). earlier o (TellId id)) is.index;
+}
+
+-- an id that is told, whose chain is given back
+id_go : (w : Whole) (d0 : Device) (most m : ℕ) (next : Then) (on : After w d0 most m next) (d : Device)
+    (t : Tally) (head : ℕ) (pieces : List Piece) (bytes : List ℕ) (o : Option ℕ)
+    (b log : List Access) → t.longest ≡ most → w.kind ≡ Hint → id_of bytes ≡ o →
+    Copied w d0 d t head pieces [] bytes b → IdBy o w next d t head log →
+    Goes w d0 t.keeps (5 + m) b log
+id_go w d0 most m next on d t head pieces bytes None b log long e is_id is h =
+    breaks_go w d0 d t _ (5 + m) b log (omega arith) (flags_of w d0 _ b d is.reads.agrees.stands) h
+id_go w d0 most m next on d t head pieces bytes (Some id) b log long e is_id is h =
+    asked w d0 t.keeps (5 + m) b log _ h.asks
+    (one_more w d0 t.keeps (4 + m) (5 + m) (TellId id) b _ (omega arith) (record {
+      reads = tt;
+      tells = (e, subst (λ (k : Known). IdOf k id) (sym is.reads.known_so) is_id);
+      writes = tt;
+      follows = is.copied;
+      touches = tt;
+      holds = tt;
+    }) (gives_by w d0 most m next on (after_id id d) t head pieces bytes
+    (use_denial w.kind head (after_id id d)) (TellId id ∷ b) h.rest long (record {
+      agrees = id_stands w d0 t.published id b d e is.reads.agrees.stands;
+      read = is.reads.known_so;
+      done = is.reads.agrees.done;
+      first = refl;
+      named = refl;
+      unheld = subst (λ (k : Kind). holds_chains k d0.settings ≡ false) (sym e) refl;
+    }) h.goes_on))
 
 pub bytes_go : (w : Whole) (d0 : Device) (most m : ℕ) (kind : Kind) (e : w.kind ≡ kind) (next : Then)
     (on : After w d0 most m next) (d : Device) (t : Tally) (head : ℕ) (pieces : List Piece)
@@ -165,6 +213,8 @@ bytes_go w d0 most m Deflate e next on d t head pieces bytes b log long is h =
     bytes_named w d0 most m Deflate e next on d t head pieces bytes b log long is h (λ named x ok. x)
 bytes_go w d0 most m Statistics e next on d t head pieces bytes b log long is h = figures_go
     w d0 d m t head pieces bytes (statistics_denial (length bytes) MAX_FIGURES d) b log e is h
+bytes_go w d0 most m Hint e next on d t head pieces bytes b log long is h =
+    id_go w d0 most m next on d t head pieces bytes (id_of bytes) b log long e refl is h
 bytes_go w d0 most m Report e next on d t head pieces bytes b log long is h =
     bytes_named w d0 most m Report e next on d t head pieces bytes b log long is h (λ named x ok.
     let names : NamesNumbersBy Report bytes MAX_REQUEST_PAGES h.runs d h.device (Ok named) =

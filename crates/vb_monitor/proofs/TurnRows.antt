@@ -1,35 +1,34 @@
 -- What each access of a notice is, by those before it, and how many there are: from a chain's
 -- pieces to what their bytes come to.
 use Rattle.std.{specs.Prelude.{◌||◌, ◌==◌, if◌then◌else◌}, proofs.lemmas.{List.length-append, Bool.Decides.nat_tests}}
-use Rattle.std.proofs.Common.{◌≡◌, ◌∙◌, ap, sym, subst, refl, arith, ℕ, suc, ◌+◌, ◌*◌, ◌/◌, ◌≤◌, Bool}
+use Rattle.std.proofs.Common.{◌≡◌, ◌∙◌, ap, sym, subst, refl, arith, ℕ, suc, ◌+◌, ◌*◌, ◌≤◌, Bool}
 use Rattle.std.proofs.Common.{true, false, List}
 use Rattle.std.proofs.Common.{[], ◌∷◌, ◌++◌, length, take, Option, Some, None, Result, Ok, Err}
-use Rattle.vb_virtio.specs.declared.layout.TheConstants.{STATISTIC_SIZE}
 use Rattle.vb_virtio.specs.declared.limits.TheConstants.{MAX_REQUEST_PAGES}
 use Rattle.vb_chain.specs.declared.{pieces.Piece.Piece, fault.ChainFault.ChainFault}
 use Rattle.vb_request.{specs.Statistics.statistics_length}
-use Rattle.vb_core.specs.declared.kinds.Kind.TheVariants.{Inflate, Deflate, Statistics, Report}
+use Rattle.vb_core.specs.declared.kinds.Kind.TheVariants.{Inflate, Deflate, Statistics, Hint, Report}
 use Rattle.vb_core.specs.{Devices.{ring_of, with_one_taken}, declared.device.Denial.Denial}
-use Rattle.vb_core.specs.{declared.device.Device.Device, Statistics.statistics_denial}
+use Rattle.vb_core.specs.{declared.device.Device.Device}
 use Rattle.vb_core.specs.declared.{name.Named.Named, kinds.Kind.Kind, runs.Run.Run}
 use Rattle.vb_core.specs.{Report.NamesPiecesBy, Name.NamesNumbersBy}
-use Rattle.vb_monitor.specs.Chains.{FiguresBy, AfterBytes, NamesBytes, CopiesBy, ServesPieces}
-use Rattle.vb_monitor.specs.SoFar.{Known, Has, known, ring_after, parts_read, with_copied}
-use Rattle.vb_monitor.specs.Order.{is_copied, is_read, is_told}
-use Rattle.vb_monitor.proofs.TurnEnds.{newest, Goes, one_more, asked, more_room, Stands, Agrees, one_copied}
-use Rattle.vb_monitor.proofs.TurnEnds.{copy_comes, flags_of, ends_go, ends_say, breaks_go, moves}
+use Rattle.vb_monitor.specs.Chains.{CopiesBy, ServesPieces, ServesHint, NamesReport, has_id, id_length}
+use Rattle.vb_monitor.specs.Chains.{told_if, tells_pages}
+use Rattle.vb_core.specs.Hints.{is_open}
+use Rattle.vb_monitor.specs.SoFar.{Known, ring_after, parts_read, parts_of_hint, with_copied}
+use Rattle.vb_monitor.specs.Order.{is_read, is_told}
+use Rattle.vb_monitor.proofs.TurnEnds.{newest, Goes, one_more, asked, more_room, one_copied}
+use Rattle.vb_monitor.proofs.TurnEnds.{copy_comes, flags_of, like_flags, IsLike, ends_go, breaks_go}
 use Rattle.vb_monitor.proofs.TurnNames.{Reads, Copied, Right, right_of, bytes_go, names_go}
-use Rattle.vb_monitor.proofs.{TurnLemmas.{After, Discarded, tells_go, portion_go}, NamedLemmas.names_avail}
-use Rattle.vb_monitor.proofs.PartCosts.{tells_in, cost, further_cost, request_cost, statistics_cost}
-use Rattle.vb_monitor.proofs.NamedLemmas.{pieces_avail, named_numbers, no_report, named_pieces}
-use Rattle.vb_monitor.specs.{Accesses.{Access, CopyBytes, TellFigures}, Pieces.{PartAt, all_parts}}
+use Rattle.vb_monitor.proofs.{TurnLemmas.{After, portion_go}, NamedLemmas.names_like}
+use Rattle.vb_monitor.proofs.PartCosts.{tells_in, cost, further_cost, request_cost, statistics_cost, id_cost}
+use Rattle.vb_monitor.proofs.NamedLemmas.{pieces_like, named_numbers, named_pieces}
+use Rattle.vb_monitor.specs.{Accesses.{Access, CopyBytes}, Pieces.{PartAt, all_parts}}
 use Rattle.vb_monitor.specs.Portions.{CopiesParts, CopiesPart, AfterPortion, ServesPortion, TellsPortion, is_full}
 use Rattle.vb_monitor.specs.{Turns.CopiesNext, Chains.{ServesBytes, request_length_within}}
-use Rattle.vb_monitor.specs.{Turns.{TellNamed, TellNumbers, FiguresOf}, Regions.spot, Giving.Then}
-use Rattle.vb_monitor.specs.Giving.{AfterName, after_last, TellsThen, spent, more_told, held_if, with_held, with_named}
-use Rattle.vb_monitor.specs.Holding.{HoldsChain}
-use Rattle.vb_core.specs.{Settings.holds_chains, declared.settings.Settings.Settings}
-use Rattle.vb_monitor.specs.declared.{room.TheConstants.{MAX_FIGURES, MAX_BYTES}, parts.Part.Part}
+use Rattle.vb_monitor.specs.{Turns.{TellNamed, TellHint, TellNumbers}, Regions.spot, Giving.Then}
+use Rattle.vb_monitor.specs.Giving.{AfterName, after_last, spent, more_told}
+use Rattle.vb_monitor.specs.declared.{room.TheConstants.{MAX_BYTES}, parts.Part.Part}
 use Rattle.vb_monitor.specs.{declared.regions.Spot.Spot, declared.outcome.Tally.Tally, Ends.Whole}
 
 -- ---- parts
@@ -85,12 +84,12 @@ portion_right : (w : Whole) (kind : Kind) (d d2 : Device) (pieces : List Piece) 
     (runs : List Run) (named : Named) → w.kind ≡ kind →
     NamesNumbersBy w.kind bytes MAX_REQUEST_PAGES runs d d2 (Ok named) →
     (TellNumbers d.settings bytes (take named.runs runs) named →
-    TellNamed kind d.settings pieces bytes (take named.runs runs) named) →
-    TellNamed w.kind d.settings pieces bytes (take named.runs runs) named × (d2 ≡ d)
+    TellNamed (is_open d.round) kind d.settings pieces bytes (take named.runs runs) named) →
+    TellNamed (is_open d.round) w.kind d.settings pieces bytes (take named.runs runs) named × (d2 ≡ d)
 portion_right w kind d d2 pieces bytes runs named e h so =
     let x = named_numbers w.kind bytes MAX_REQUEST_PAGES runs d d2 named h in (
-      subst (λ (k : Kind). TellNamed k d.settings pieces bytes (take named.runs runs) named) (sym e)
-          (so x.0),
+      subst (λ (k : Kind). TellNamed (is_open d.round) k d.settings pieces bytes (take named.runs runs)
+          named) (sym e) (so x.0),
       x.1,
     )
 
@@ -106,14 +105,14 @@ portion_by : (w : Whole) (d0 : Device) (kind : Kind) (e : w.kind ≡ kind) (d d2
     (answer : Result Named Denial) (b log : List Access) → 2 ≤ m →
     length bytes ≡ MAX_BYTES →
     Copied w d0 d t head pieces (part ∷ parts) bytes b →
-    (ring_of w.kind (after_last w.kind answer d2)).avail ≡ (ring_of w.kind d).avail →
+    IsLike w.kind (after_last w.kind answer d2) d →
     NamesNumbersBy w.kind bytes MAX_REQUEST_PAGES runs d d2 answer →
     ((named : Named) → TellNumbers d.settings bytes (take named.runs runs) named →
-    TellNamed kind d.settings pieces bytes (take named.runs runs) named) →
+    TellNamed (is_open d.round) kind d.settings pieces bytes (take named.runs runs) named) →
     AfterPortion w (on d2) d2 t runs answer log → Goes w d0 t.keeps (1 + m) b log
 portion_by w d0 kind e d d2 t m head pieces part parts bytes on go runs (Err why) b log le full is same names so h =
     ends_go w d0 d2 t _ false (1 + m) b log (omega (arith, le))
-    (same ∙ (flags_of w d0 _ b d is.reads.agrees.stands).0, is.reads.agrees.stands.lasts) h
+    (like_flags w d0 _ b d d2 same is.reads.agrees.stands) h
 portion_by w d0 kind e d d2 t m head pieces part parts bytes on go runs (Ok named) b log le full is same names so h =
     let right = portion_right w kind d d2 pieces bytes runs named e names (so named) in
     let t2 = spent named.pages t in
@@ -138,13 +137,15 @@ portion_serves : (w : Whole) (d0 : Device) (kind : Kind) (e : w.kind ≡ kind) (
     ServesPortion kind w on d t bytes log → Goes w d0 t.keeps (1 + m) b log
 portion_serves w d0 Inflate e d t m head pieces part parts bytes on go b log le full is h =
     portion_by w d0 Inflate e d h.device t m head pieces part parts bytes on go h.runs h.answer b log le
-    full is (names_avail w.kind bytes _ h.runs d h.device h.answer h.names) h.names (λ named x. x)
+    full is (names_like w.kind bytes _ h.runs d h.device h.answer h.names) h.names (λ named x. x)
     h.goes_on
 portion_serves w d0 Deflate e d t m head pieces part parts bytes on go b log le full is h =
     portion_by w d0 Deflate e d h.device t m head pieces part parts bytes on go h.runs h.answer b log le
-    full is (names_avail w.kind bytes _ h.runs d h.device h.answer h.names) h.names (λ named x. x)
+    full is (names_like w.kind bytes _ h.runs d h.device h.answer h.names) h.names (λ named x. x)
     h.goes_on
 portion_serves w d0 Statistics e d t m head pieces part parts bytes on go b log le full is h =
+    breaks_go w d0 d t _ (1 + m) b log (omega (arith, le)) (flags_of w d0 _ b d is.reads.agrees.stands) h
+portion_serves w d0 Hint e d t m head pieces part parts bytes on go b log le full is h =
     breaks_go w d0 d t _ (1 + m) b log (omega (arith, le)) (flags_of w d0 _ b d is.reads.agrees.stands) h
 portion_serves w d0 Report e d t m head pieces part parts bytes on go b log le full is h =
     breaks_go w d0 d t _ (1 + m) b log (omega (arith, le)) (flags_of w d0 _ b d is.reads.agrees.stands) h
@@ -241,18 +242,48 @@ copies_by w d0 most m next on d t head pieces (Ok n) b log long few is h =
     bytes_go w d0 most m w.kind refl next on d2 t2 head pieces bytes b2 rest (same.0 ∙ long) is2 h2)
     (all_parts pieces) [] b log (omega arith) (refl, refl, refl) is h)
 
-pieces_right : (w : Whole) (d d2 : Device) (pieces : List Piece) (room : ℕ) (runs : List Run)
-    (answer : Result Named Denial) → w.kind ≡ Report →
-    NamesPiecesBy pieces room runs d d2 answer → Right w d d2 pieces [] runs answer
-pieces_right w d d2 pieces room runs answer e h named is =
-    let x = named_pieces pieces room runs d d2 named
-    (subst (λ (a : Result Named Denial). NamesPiecesBy pieces room runs d d2 a) is h) in
-    right_of w d pieces [] runs d2 Report named e x.0
+-- a kind whose pieces are told or skipped as this says
+abbrev Tells : Device → Kind → List Piece → Type 0
+Tells d kind pieces = (runs : List Run) (named : Named) →
+    TellHint (tells_pages kind d) d.settings pieces runs named →
+    TellNamed (is_open d.round) kind d.settings pieces [] runs named
+
+pieces_right : (w : Whole) (d d2 : Device) (kind : Kind) (pieces : List Piece) (room : ℕ)
+    (runs : List Run) (answer : Result Named Denial) → w.kind ≡ kind → Tells d kind pieces →
+    NamesPiecesBy kind pieces room runs d d2 answer →
+    Right w d d2 pieces [] runs (told_if (tells_pages kind d) answer)
+pieces_right w d d2 kind pieces room runs answer e tells h named is =
+    let x = named_pieces (tells_pages kind d) kind pieces room runs d d2 answer named h is in
+    right_of w d pieces [] runs d2 kind named e (tells (take named.runs runs) named x.0)
     (subst (λ (k : Kind). d2 ≡ with_one_taken k d) (sym e) x.1)
 
-report_avail : (w : Whole) (d d2 : Device) → w.kind ≡ Report → (ring_of Report d2).avail
-    ≡ (ring_of Report d).avail → (ring_of w.kind d2).avail ≡ (ring_of w.kind d).avail
-report_avail w d d2 e h = subst (λ (k : Kind). (ring_of k d2).avail ≡ (ring_of k d).avail) (sym e) h
+-- a chain that names pages by its pieces
+reported_go : (w : Whole) (d0 : Device) (most m : ℕ) (kind : Kind) (e : w.kind ≡ kind) (next : Then)
+    (on : After w d0 most m next) (d : Device) (t : Tally) (head : ℕ) (pieces : List Piece)
+    (b log : List Access) → t.longest ≡ most → Copied w d0 d t head pieces [] [] b →
+    Tells d kind pieces → NamesReport w next d t head pieces log →
+    Goes w d0 t.keeps (2 * length pieces + (5 + (further_cost most + m))) b log
+reported_go w d0 most m kind e next on d t head pieces b log long is tells h =
+    let names : NamesPiecesBy kind pieces MAX_REQUEST_PAGES h.runs d h.device h.answer =
+    subst (λ (k : Kind). NamesPiecesBy k pieces MAX_REQUEST_PAGES h.runs d h.device h.answer) e h.names in
+    more_room w d0 t.keeps (5 + m) _ b log (omega arith)
+    (names_go w d0 most m next on d h.device t head pieces [] h.runs (told_if (tells_pages kind d) h.answer)
+    b log long is (pieces_like w.kind pieces _ h.runs d h.device h.answer h.names)
+    (pieces_right w d h.device kind pieces MAX_REQUEST_PAGES h.runs h.answer e tells names)
+    (subst (λ (k : Kind). AfterName w next h.device t head h.runs (told_if (tells_pages k d) h.answer) log)
+    e h.goes_on))
+
+hint_go : (w : Whole) (d0 : Device) (most m : ℕ) (e : w.kind ≡ Hint) (next : Then)
+    (on : After w d0 most m next) (d : Device) (t : Tally) (head : ℕ) (pieces : List Piece)
+    (has : Bool) (b log : List Access) → t.longest ≡ most → has_id pieces ≡ has →
+    Copied w d0 d t head pieces (parts_of_hint has pieces) [] b →
+    ServesHint has w next d t head pieces log →
+    Goes w d0 t.keeps (2 * length pieces + (5 + (further_cost most + m))) b log
+hint_go w d0 most m e next on d t head pieces true b log long has is h =
+    copies_by w d0 most m next on d t head pieces (id_length pieces) b log long
+    (λ n so. id_cost most pieces n so) is h
+hint_go w d0 most m e next on d t head pieces false b log long has is h =
+    reported_go w d0 most m Hint e next on d t head pieces b log long is (λ runs named x. x) h
 
 pub pieces_go : (w : Whole) (d0 : Device) (most m : ℕ) (kind : Kind) (e : w.kind ≡ kind)
     (next : Then) (on : After w d0 most m next) (d : Device) (t : Tally) (head : ℕ)
@@ -271,9 +302,9 @@ pieces_go w d0 most m Statistics e next on d t head pieces b log long begun h =
     copies_by w d0 most m next on d t head pieces (statistics_length pieces) b log long
     (λ n is. statistics_cost most pieces n is)
     (begun_of w d0 d t Statistics head pieces b e begun) h
+pieces_go w d0 most m Hint e next on d t head pieces b log long begun h =
+    hint_go w d0 most m e next on d t head pieces (has_id pieces) b log long refl
+    (begun_of w d0 d t Hint head pieces b e begun) h
 pieces_go w d0 most m Report e next on d t head pieces b log long begun h =
-    more_room w d0 t.keeps (5 + m) _ b log (omega arith)
-    (names_go w d0 most m next on d h.device t head pieces [] h.runs h.answer b log long
-    (begun_of w d0 d t Report head pieces b e begun)
-    (report_avail w d h.device e (pieces_avail pieces _ h.runs d h.device h.answer h.names))
-    (pieces_right w d h.device pieces _ h.runs h.answer e h.names) h.goes_on)
+    reported_go w d0 most m Report e next on d t head pieces b log long
+    (begun_of w d0 d t Report head pieces b e begun) (λ runs named x. x) h

@@ -31,7 +31,7 @@ used d = after_use Report (taken d)
 
 -- ---- one that is discarded
 
-names_it : NamesPiecesBy (free ∷ []) 256 (page_5 ∷ []) ready (taken ready) (Ok one_page)
+names_it : NamesPiecesBy Report (free ∷ []) 256 (page_5 ∷ []) ready (taken ready) (Ok one_page)
 unfolding lib.Count.ones
 names_it = record {
   denied = λ why e. absurd cc;
@@ -80,9 +80,9 @@ reported = record {
 -- a driver that poisons its free pages
 abbrev poisoned : Device
 poisoned =
-    record ready { settings = record settings { offered = 0x100000037 }; features = 0x100000037; poison = 7 }
+    record ready { settings = record settings { offered = 0x10000003f }; features = 0x10000003f; poison = 7 }
 
-names_it_too : NamesPiecesBy (free ∷ []) 256 (page_5 ∷ []) poisoned (taken poisoned) (Ok one_page)
+names_it_too : NamesPiecesBy Report (free ∷ []) 256 (page_5 ∷ []) poisoned (taken poisoned) (Ok one_page)
 unfolding lib.Count.ones
 names_it_too = record {
   denied = λ why e. absurd cc;
@@ -154,7 +154,7 @@ page_8 = record { first = 8; count = 1 }
 abbrev two_pages : Named
 two_pages = record { runs = 2; pages = 2; skipped = 0 }
 
-both_named : NamesPiecesBy (free ∷ free_8 ∷ []) 256 (page_5 ∷ page_8 ∷ []) ready (taken ready) (Ok two_pages)
+both_named : NamesPiecesBy Report (free ∷ free_8 ∷ []) 256 (page_5 ∷ page_8 ∷ []) ready (taken ready) (Ok two_pages)
 unfolding lib.Count.ones
 both_named = record {
   denied = λ why e. absurd cc;

@@ -17,6 +17,7 @@ pub data Access : Type 0 where
   Full : Access
   TellPages : (kind : Kind) (runs : List Run) (named : Named) → Access
   TellFigures : (figures : List Statistic) → Access
+  TellId : (id : ℕ) → Access
   Discard : (cut : Cut) → Access
   WriteNumber : (at : Spot) (number : ℕ) → Access
   WriteWord : (at : Spot) (word : ℕ) → Access

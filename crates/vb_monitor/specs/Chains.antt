@@ -18,7 +18,8 @@ use Rattle.vb_chain.specs.Rules.{has_next, is_writable, piece_of, first_fault}
 use Rattle.vb_request.specs.Request.{total_length}
 use Rattle.vb_request.specs.Statistics.{statistics_length}
 use Rattle.vb_core.specs.declared.kinds.Kind.{Kind}
-use Rattle.vb_core.specs.declared.kinds.Kind.TheVariants.{Inflate, Deflate, Statistics, Report}
+use Rattle.vb_core.specs.declared.kinds.Kind.TheVariants.{Inflate, Deflate, Statistics, Hint}
+use Rattle.vb_core.specs.declared.kinds.Kind.TheVariants.{Report}
 use Rattle.vb_core.specs.declared.runs.Run.{Run}
 use Rattle.vb_core.specs.declared.ring.Virtqueue.{Virtqueue}
 use Rattle.vb_core.specs.declared.name.Named.{Named}
@@ -34,10 +35,11 @@ use Rattle.vb_monitor.specs.declared.room.TheConstants.{MAX_FIGURES, ROW_DESCRIP
 use Rattle.vb_monitor.specs.declared.regions.Region.{Region}
 use Rattle.vb_monitor.specs.declared.regions.Spot.{Spot}
 use Rattle.vb_monitor.specs.declared.outcome.Tally.{Tally}
-use Rattle.vb_monitor.specs.Accesses.{Access, CopyBytes, TellFigures}
+use Rattle.vb_monitor.specs.Accesses.{Access, CopyBytes, TellFigures, TellId}
+use Rattle.vb_core.specs.Hints.{heard, is_open}
 use Rattle.vb_monitor.specs.Regions.{spot}
 use Rattle.vb_monitor.specs.Ends.{Whole, Ends, Breaks}
-use Rattle.vb_monitor.specs.Giving.{Then, AfterName, after_last, with_held}
+use Rattle.vb_monitor.specs.Giving.{Then, AfterName, GivesBack, after_last, with_held}
 use Rattle.vb_monitor.specs.Pieces.{all_parts}
 use Rattle.vb_monitor.specs.Portions.{CopiesParts}
 
@@ -52,14 +54,29 @@ pub record NamesBytes (w : Whole) (next : Then) (d : Device) (tally : Tally) (he
   pub names : NamesNumbersBy w.kind bytes MAX_REQUEST_PAGES runs d device answer
   pub goes_on : AfterName w next (after_last w.kind answer device) tally head runs answer log
 
--- The pages of a report are named, by its pieces alone: their bytes aren't read.
+-- What is told of pages that a chain names by its pieces, where its pages are told, or not: all of
+-- them, or none, and then each counts as skipped.
+abbrev pub told_if : Bool → Result Named Denial → Result Named Denial
+told_if told (Err why) = Err why
+told_if true (Ok named) = Ok named
+told_if false (Ok named) = Ok (record { runs = 0; pages = 0; skipped = named.pages })
+
+-- Pages of the kind's chains are told: of hints in a round that is open alone.
+abbrev pub tells_pages : Kind → Device → Bool
+tells_pages Inflate d = true
+tells_pages Deflate d = true
+tells_pages Statistics d = false
+tells_pages Hint d = is_open d.round
+tells_pages Report d = true
+
+-- The pages of a report or a hint are named, by its pieces alone: their bytes aren't read.
 pub record NamesReport (w : Whole) (next : Then) (d : Device) (tally : Tally) (head : ℕ)
     (pieces : List Piece) (log : List Access) : Type 0 where
   pub answer : Result Named Denial
   pub runs : List Run
   pub device : Device
-  pub names : NamesPiecesBy pieces MAX_REQUEST_PAGES runs d device answer
-  pub goes_on : AfterName w next device tally head runs answer log
+  pub names : NamesPiecesBy w.kind pieces MAX_REQUEST_PAGES runs d device answer
+  pub goes_on : AfterName w next device tally head runs (told_if (tells_pages w.kind d) answer) log
 
 -- These figures are told.
 pub record TellsThenEnds (w : Whole) (d : Device) (tally : Tally) (figures : List Statistic)
@@ -80,12 +97,32 @@ abbrev pub FiguresBy : Option Denial → Whole → Device → Tally → ℕ → 
 FiguresBy (Some why) w d tally head bytes log = Ends w d tally (Some why) false log
 FiguresBy None w d tally head bytes log = TellsFigures w d tally head bytes log
 
+-- The device once an id of its queue of hints was read, and its chain taken.
+abbrev pub after_id : ℕ → Device → Device
+after_id id d = record (with_one_taken Hint d) { round = heard id d.round }
+
+-- This id is told, and the chain of this head is given back.
+pub record TellsIdThen (w : Whole) (next : Then) (d : Device) (tally : Tally) (head id : ℕ)
+    (log : List Access) : Type 0 where
+  pub rest : List Access
+  pub asks : log ≡ TellId id ∷ rest
+  pub goes_on : GivesBack w next d tally head rest
+
+-- The id that these bytes are, if there are 4 (VIRTIO 1.2, 5.5.6.6).
+abbrev pub id_of : List ℕ → Option ℕ
+id_of bytes = if length bytes == 4 then Some (from_le_bytes w32 bytes) else None
+
+abbrev pub IdBy : Option ℕ → Whole → Then → Device → Tally → ℕ → List Access → Type 0
+IdBy None w next d tally head log = Breaks w d tally BadLength log
+IdBy (Some id) w next d tally head log = TellsIdThen w next (after_id id d) tally head id log
+
 -- What the bytes of a chain's last portion come to.
 abbrev pub AfterBytes : Kind → Whole → Then → Device → Tally → ℕ → List ℕ → List Access → Type 0
 AfterBytes Inflate w next d tally head bytes log = NamesBytes w next d tally head bytes log
 AfterBytes Deflate w next d tally head bytes log = NamesBytes w next d tally head bytes log
 AfterBytes Statistics w next d tally head bytes log =
     FiguresBy (statistics_denial (length bytes) MAX_FIGURES d) w d tally head bytes log
+AfterBytes Hint w next d tally head bytes log = IdBy (id_of bytes) w next d tally head log
 AfterBytes Report w next d tally head bytes log = NamesBytes w next d tally head bytes log
 
 -- ---- what the pieces come to
@@ -111,7 +148,23 @@ CopiesBy (Err fault) w next d tally head pieces log = Breaks w d tally fault log
 CopiesBy (Ok bytes) w next d tally head pieces log =
     CopiesParts w (ServesBytes w next head) d tally (all_parts pieces) [] log
 
--- A chain of these pieces is served: the bytes of a report aren't read.
+-- How many bytes an id of hints of these pieces has, or what is wrong with them.
+abbrev pub id_length : List Piece → Result ℕ ChainFault
+id_length pieces =
+    if list_any (λ piece. piece.writable) pieces then Err WrongDirection
+    else (if not (total_length pieces == 4) then Err BadLength else Ok (total_length pieces))
+
+-- A chain of hints has an id, or pages: an id, where its first piece is the device's to read.
+abbrev pub has_id : List Piece → Bool
+has_id [] = false
+has_id (piece ∷ pieces) = not piece.writable
+
+abbrev pub ServesHint : Bool → Whole → Then → Device → Tally → ℕ → List Piece → List Access → Type 0
+ServesHint true w next d tally head pieces log =
+    CopiesBy (id_length pieces) w next d tally head pieces log
+ServesHint false w next d tally head pieces log = NamesReport w next d tally head pieces log
+
+-- A chain of these pieces is served: the bytes of a report aren't read, nor of hinted pages.
 abbrev pub ServesPieces : Kind → Whole → Then → Device → Tally → ℕ → List Piece → List Access →
     Type 0
 ServesPieces Inflate w next d tally head pieces log =
@@ -120,6 +173,8 @@ ServesPieces Deflate w next d tally head pieces log =
     CopiesBy (request_length_within tally.longest pieces) w next d tally head pieces log
 ServesPieces Statistics w next d tally head pieces log =
     CopiesBy (statistics_length pieces) w next d tally head pieces log
+ServesPieces Hint w next d tally head pieces log =
+    ServesHint (has_id pieces) w next d tally head pieces log
 ServesPieces Report w next d tally head pieces log = NamesReport w next d tally head pieces log
 
 -- ---- the walk

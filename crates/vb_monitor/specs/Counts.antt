@@ -1,7 +1,8 @@
 -- How many accesses a notice makes.
 use Rattle.std.specs.Prelude.{ℕ, ◌+◌, List, [], ◌∷◌}
 use Rattle.vb_monitor.specs.Accesses.{Access, ReadWord, CopyBytes, Acquire, Release, Full}
-use Rattle.vb_monitor.specs.Accesses.{TellPages, TellFigures, Discard, WriteNumber, WriteWord}
+use Rattle.vb_monitor.specs.Accesses.{TellPages, TellFigures, TellId, Discard, WriteNumber}
+use Rattle.vb_monitor.specs.Accesses.{WriteWord}
 
 -- 1 for each access but a discard.
 abbrev pub no_discard : Access → ℕ
@@ -12,6 +13,7 @@ no_discard Release = 1
 no_discard Full = 1
 no_discard (TellPages kind runs named) = 1
 no_discard (TellFigures figures) = 1
+no_discard (TellId id) = 1
 no_discard (Discard cut) = 0
 no_discard (WriteNumber at number) = 1
 no_discard (WriteWord at word) = 1

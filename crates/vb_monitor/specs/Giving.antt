@@ -5,7 +5,8 @@ use Rattle.std.specs.Prelude.{map, take, min}
 use Rattle.std.specs.Prelude.{Option, Some, None, Result, Ok, Err}
 use Rattle.vb_chain.specs.declared.fault.ChainFault.TheVariants.{OutOfRam}
 use Rattle.vb_core.specs.declared.kinds.Kind.{Kind}
-use Rattle.vb_core.specs.declared.kinds.Kind.TheVariants.{Inflate, Deflate, Statistics, Report}
+use Rattle.vb_core.specs.declared.kinds.Kind.TheVariants.{Inflate, Deflate, Statistics, Hint}
+use Rattle.vb_core.specs.declared.kinds.Kind.TheVariants.{Report}
 use Rattle.vb_core.specs.declared.runs.Run.{Run}
 use Rattle.vb_core.specs.declared.name.Named.{Named}
 use Rattle.vb_core.specs.declared.ring.UsedEntry.{UsedEntry}
@@ -15,7 +16,7 @@ use Rattle.vb_core.specs.declared.settings.Settings.{Settings}
 use Rattle.vb_core.specs.Settings.{holds_chains}
 use Rattle.vb_core.specs.Rings.{used_entry, with_used}
 use Rattle.vb_core.specs.Devices.{ring_of, with_ring, with_one_taken}
-use Rattle.vb_core.specs.Config.{keeps_reports}
+use Rattle.vb_core.specs.Config.{keeps_free}
 use Rattle.vb_core.specs.Using.{use_denial}
 use Rattle.vb_monitor.specs.declared.regions.Region.{Region}
 use Rattle.vb_monitor.specs.declared.regions.Spot.{Spot}
@@ -83,12 +84,13 @@ GivesBack w next d tally head log =
 -- ---- discards
 
 -- The pages that a kind's chains give up are kept: by a notice that keeps all pages, or, where the
--- device keeps the pages of reports, those of reports. A deflate gives none up.
+-- device keeps the free pages of this kind, those of a report or a hint. A deflate gives none up.
 abbrev pub is_kept : Kind → Bool → Bool → Bool
-is_kept Inflate all reports = all
-is_kept Deflate all reports = false
-is_kept Statistics all reports = false
-is_kept Report all reports = all || reports
+is_kept Inflate all free = all
+is_kept Deflate all free = false
+is_kept Statistics all free = false
+is_kept Hint all free = all || free
+is_kept Report all free = all || free
 
 -- Of n pages m are kept.
 abbrev pub kept_pages : Bool → ℕ → ℕ
@@ -102,7 +104,9 @@ cuts_for Inflate true regions runs = []
 cuts_for Inflate false regions runs = cuts_of regions runs
 cuts_for Deflate kept regions runs = []
 cuts_for Statistics kept regions runs = []
+cuts_for Hint true regions runs = []
 cuts_for Report true regions runs = []
+cuts_for Hint false regions runs = cuts_of regions runs
 cuts_for Report false regions runs = cuts_of regions runs
 
 -- These parts are discarded, in order, and then this comes.
@@ -126,7 +130,7 @@ pub record TellsThen (w : Whole) (next : Then) (d : Device) (tally : Tally) (hea
   pub rest : List Access
   pub asks : log ≡ TellPages w.kind runs named ∷ rest
   pub goes_on : OnceTold tally.held w next d tally head
-      (cuts_for w.kind (is_kept w.kind tally.keeps (keeps_reports d)) w.regions runs) rest
+      (cuts_for w.kind (is_kept w.kind tally.keeps (keeps_free w.kind d)) w.regions runs) rest
 
 -- n pages more of the chain are told, as far as 32 bits count them.
 abbrev pub more_told : ℕ → ℕ → ℕ
@@ -174,4 +178,5 @@ abbrev pub is_discarded : Kind → Bool → Bool
 is_discarded Inflate kept = not kept
 is_discarded Deflate kept = false
 is_discarded Statistics kept = false
+is_discarded Hint kept = not kept
 is_discarded Report kept = not kept

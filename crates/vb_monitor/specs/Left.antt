@@ -7,7 +7,8 @@ use Rattle.vb_monitor.specs.Steps.{Step}
 use Rattle.vb_monitor.specs.declared.step.Phase.{Phase}
 use Rattle.vb_monitor.specs.declared.step.Phase.TheVariants.{AwaitsIndex, AwaitsEntry}
 use Rattle.vb_monitor.specs.declared.step.Phase.TheVariants.{AwaitsDescriptor, AwaitsPart}
-use Rattle.vb_monitor.specs.declared.step.Phase.TheVariants.{TellsPages, TellsFigures, Discards}
+use Rattle.vb_monitor.specs.declared.step.Phase.TheVariants.{TellsPages, TellsFigures, TellsId}
+use Rattle.vb_monitor.specs.declared.step.Phase.TheVariants.{Discards}
 use Rattle.vb_monitor.specs.declared.step.Phase.TheVariants.{GivesBack, AwaitsFlags, Ended}
 
 -- Parts that a chain's runs have at most, in n regions: one for each run and region. After a run's
@@ -56,6 +57,7 @@ left_of regions (Ended why interrupt more) = 0
 left_of regions (AwaitsFlags at why more) = 1
 left_of regions (AwaitsIndex at) = 2
 left_of regions (TellsFigures head count) = 2
+left_of regions (TellsId head id) = 3
 left_of regions (GivesBack spots entry) = 2
 left_of regions (Discards cut x) =
     3 + parts_left (length regions) x.run x.from

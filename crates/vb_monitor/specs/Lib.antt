@@ -26,3 +26,4 @@ pub mod PartsOfRuns
 pub mod Large
 pub mod Within
 pub mod Still
+pub mod Rounds

@@ -1,7 +1,7 @@
 -- A notice step by step: which accesses may still come.
 use Rattle.std.specs.Prelude.{◌≡◌, ℕ, ◌+◌, ◌-◌, ◌*◌, ◌≤◌, Bool, true, false, List, [], ◌∷◌, ◌++◌}
 use Rattle.std.specs.Prelude.{length, take}
-use Rattle.std.specs.Prelude.{drop, if◌then◌else◌, nat_le, Option, Some, None}
+use Rattle.std.specs.Prelude.{drop, nat_le, Option, Some, None}
 use Rattle.vb_chain.specs.declared.descriptor.TheConstants.{DESCRIPTOR_SIZE}
 use Rattle.vb_chain.specs.declared.pieces.Piece.{Piece}
 use Rattle.vb_core.specs.declared.kinds.Kind.{Kind}
@@ -23,10 +23,12 @@ use Rattle.vb_monitor.specs.Steps.{Step}
 use Rattle.vb_monitor.specs.declared.step.Phase.{Phase}
 use Rattle.vb_monitor.specs.declared.step.Phase.TheVariants.{AwaitsIndex, AwaitsEntry}
 use Rattle.vb_monitor.specs.declared.step.Phase.TheVariants.{AwaitsDescriptor, AwaitsPart}
-use Rattle.vb_monitor.specs.declared.step.Phase.TheVariants.{TellsPages, TellsFigures, Discards}
+use Rattle.vb_monitor.specs.declared.step.Phase.TheVariants.{TellsPages, TellsFigures, TellsId}
+use Rattle.vb_monitor.specs.declared.step.Phase.TheVariants.{Discards}
 use Rattle.vb_monitor.specs.declared.step.Phase.TheVariants.{GivesBack, AwaitsFlags, Ended}
 use Rattle.vb_monitor.specs.Accesses.{Access, Makes, ReadWord, CopyBytes, Acquire, Full}
 use Rattle.vb_monitor.specs.Accesses.{TellPages as ToldPages, TellFigures as ToldFigures}
+use Rattle.vb_monitor.specs.Accesses.{TellId as ToldId}
 use Rattle.vb_monitor.specs.Accesses.{Discard}
 use Rattle.vb_monitor.specs.Regions.{cuts_from, cuts_of}
 use Rattle.vb_monitor.specs.Ends.{Whole, Stops, AsksFlags}
@@ -36,7 +38,7 @@ use Rattle.vb_monitor.specs.Pieces.{parts_on, AsksPart}
 use Rattle.vb_core.specs.Pieces.{pieces_in}
 use Rattle.vb_monitor.specs.Portions.{TellsPortion, CopiesParts, CopiesFurther}
 use Rattle.vb_monitor.specs.Chains.{longest, TableRow, row_of, AsksRow, Follows, ServesPieces}
-use Rattle.vb_monitor.specs.Chains.{ServesBytes, TellsThenEnds}
+use Rattle.vb_monitor.specs.Chains.{ServesBytes, TellsThenEnds, TellsIdThen}
 use Rattle.vb_monitor.specs.Notices.{AsksIndex, AsksEntry, ServesPublished, AfterGiven}
 
 abbrev pub whole : List Region → Kind → Device → Outcome → Whole
@@ -78,6 +80,7 @@ is_ended (AwaitsDescriptor at walk) = false
 is_ended (AwaitsPart at place into len) = false
 is_ended (TellsPages place named further) = false
 is_ended (TellsFigures head count) = false
+is_ended (TellsId head id) = false
 is_ended (Discards cut x) = false
 is_ended (GivesBack spots entry) = false
 is_ended (AwaitsFlags at why more) = false
@@ -92,6 +95,7 @@ outcome_at (AwaitsDescriptor at walk) tally = None
 outcome_at (AwaitsPart at place into len) tally = None
 outcome_at (TellsPages place named further) tally = None
 outcome_at (TellsFigures head count) tally = None
+outcome_at (TellsId head id) tally = None
 outcome_at (Discards cut x) tally = None
 outcome_at (GivesBack spots entry) tally = None
 outcome_at (AwaitsFlags at why more) tally = None
@@ -104,6 +108,7 @@ Fits (AwaitsEntry at) = Unit {0}
 Fits (AwaitsDescriptor at walk) = row_bytes walk ≤ MAX_BYTES
 Fits (TellsPages place named further) = named.runs ≤ MAX_RUNS
 Fits (TellsFigures head count) = count ≤ MAX_FIGURES
+Fits (TellsId head id) = Unit {0}
 Fits (Discards cut x) = Unit {0}
 Fits (GivesBack spots entry) = Unit {0}
 Fits (AwaitsFlags at why more) = Unit {0}
@@ -114,6 +119,7 @@ Fits (Ended why interrupt more) = Unit {0}
 abbrev pub stage : Phase → ℕ
 stage (TellsPages place named further) = 0
 stage (TellsFigures head count) = 0
+stage (TellsId head id) = 0
 stage (Discards cut x) = 1
 stage (GivesBack spots entry) = 2
 stage (AwaitsIndex at) = 3
@@ -134,6 +140,7 @@ waits (Ended why interrupt more) = true
 waits (Discards cut x) = true
 waits (TellsPages place named further) = false
 waits (TellsFigures head count) = false
+waits (TellsId head id) = false
 waits (GivesBack spots entry) = false
 
 -- It waits, and what is copied has room.
@@ -147,6 +154,7 @@ may_go_on (Ended why interrupt more) = true
 may_go_on (Discards cut x) = true
 may_go_on (TellsPages place named further) = false
 may_go_on (TellsFigures head count) = false
+may_go_on (TellsId head id) = false
 may_go_on (GivesBack spots entry) = false
 
 -- ---- what may still come
@@ -203,6 +211,8 @@ AheadAt (TellsPages place named further) w tally d room log =
     TellsBy further w tally d place named room log
 AheadAt (TellsFigures head count) w tally d room log =
     TellsThenEnds w d tally (take count room.figures) log
+AheadAt (TellsId head id) w tally d room log =
+    TellsIdThen w (next_chain w tally) d tally head id log
 AheadAt (Discards cut x) w tally d room log =
     DiscardsThen (Onward x.further w tally d x.place room)
     (cut ∷ cuts_after x.from x.run w.regions (take x.runs room.runs)) log
@@ -236,6 +246,7 @@ Does (TellsPages place named further) kind answer before room done =
     done ≡ ToldPages kind (take named.runs room.runs) named ∷ []
 Does (TellsFigures head count) kind answer before room done =
     done ≡ ToldFigures (take count room.figures) ∷ []
+Does (TellsId head id) kind answer before room done = done ≡ ToldId id ∷ []
 Does (Discards cut x) kind answer before room done = done ≡ Discard cut ∷ []
 Does (GivesBack spots entry) kind answer before room done = done ≡ used_accesses spots entry
 Does (AwaitsFlags at why more) kind answer before room done =
@@ -251,6 +262,7 @@ is_discarding (AwaitsDescriptor at walk) = false
 is_discarding (AwaitsPart at place into len) = false
 is_discarding (TellsPages place named further) = false
 is_discarding (TellsFigures head count) = false
+is_discarding (TellsId head id) = false
 is_discarding (GivesBack spots entry) = false
 is_discarding (AwaitsFlags at why more) = false
 is_discarding (Ended why interrupt more) = false

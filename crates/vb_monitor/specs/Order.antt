@@ -1,7 +1,8 @@
 -- What comes directly after what in a list of accesses.
 use Rattle.std.specs.Prelude.{◌≡◌, Bool, true, false, ◌||◌, List, [], ◌∷◌, Option, Some, None}
 use Rattle.vb_monitor.specs.Accesses.{Access, ReadWord, CopyBytes, Acquire, Release, Full}
-use Rattle.vb_monitor.specs.Accesses.{TellPages, TellFigures, Discard, WriteNumber, WriteWord}
+use Rattle.vb_monitor.specs.Accesses.{TellPages, TellFigures, TellId, Discard, WriteNumber}
+use Rattle.vb_monitor.specs.Accesses.{WriteWord}
 
 -- Each access of a list may come directly after the one before it, the first after this one.
 abbrev pub Row : (Option Access → Access → Type 0) → Option Access → List Access → Type 0
@@ -20,6 +21,7 @@ is_copied (Some Release) = false
 is_copied (Some Full) = false
 is_copied (Some (TellPages kind runs named)) = false
 is_copied (Some (TellFigures figures)) = false
+is_copied (Some (TellId id)) = false
 is_copied (Some (Discard cut)) = false
 is_copied (Some (WriteNumber at number)) = false
 is_copied (Some (WriteWord at word)) = false
@@ -35,6 +37,7 @@ is_word (Some Release) = false
 is_word (Some Full) = false
 is_word (Some (TellPages kind runs named)) = false
 is_word (Some (TellFigures figures)) = false
+is_word (Some (TellId id)) = false
 is_word (Some (Discard cut)) = false
 is_word (Some (WriteNumber at number)) = false
 
@@ -48,6 +51,7 @@ is_read (Some Release) = false
 is_read (Some Full) = false
 is_read (Some (TellPages kind runs named)) = false
 is_read (Some (TellFigures figures)) = false
+is_read (Some (TellId id)) = false
 is_read (Some (Discard cut)) = false
 is_read (Some (WriteNumber at number)) = false
 is_read (Some (WriteWord at word)) = false
@@ -63,10 +67,11 @@ is_told (Some Acquire) = false
 is_told (Some Release) = false
 is_told (Some Full) = false
 is_told (Some (TellFigures figures)) = false
+is_told (Some (TellId id)) = false
 is_told (Some (WriteNumber at number)) = false
 is_told (Some (WriteWord at word)) = false
 
--- Pages were told, some of them discarded, or a number of a used element was written.
+-- Pages or an id were told, some pages discarded, or a number of a used element was written.
 abbrev pub is_named : Option Access → Bool
 is_named (Some (TellPages kind runs named)) = true
 is_named (Some (Discard cut)) = true
@@ -78,6 +83,7 @@ is_named (Some Acquire) = false
 is_named (Some Release) = false
 is_named (Some Full) = false
 is_named (Some (TellFigures figures)) = false
+is_named (Some (TellId id)) = true
 is_named (Some (WriteWord at word)) = false
 
 -- A number was written.
@@ -91,16 +97,18 @@ is_number (Some Release) = false
 is_number (Some Full) = false
 is_number (Some (TellPages kind runs named)) = false
 is_number (Some (TellFigures figures)) = false
+is_number (Some (TellId id)) = false
 is_number (Some (Discard cut)) = false
 is_number (Some (WriteWord at word)) = false
 
 -- ---- the order
 
 -- Bytes are copied directly after what was read, or after pages of a portion that were told or
--- discarded. Pages and figures are told directly after bytes that were copied. Pages are discarded
--- directly after pages that were told or discarded, and an element's numbers are written directly
--- after these; after them a release fence, and directly after that the index. An acquire fence is
--- directly after a word that was read, or after an index that was written.
+-- discarded. Pages, figures and ids are told directly after bytes that were copied. Pages are
+-- discarded directly after pages that were told or discarded, and an element's numbers are written
+-- directly after these, or after an id; after them a release fence, and directly after that the
+-- index. An acquire fence is directly after a word that was read, or after an index that was
+-- written.
 abbrev pub MayFollow : Option Access → Access → Type 0
 MayFollow before (ReadWord at answer) = Unit {0}
 MayFollow before (CopyBytes at answer) = (is_read before || is_told before) ≡ true
@@ -109,6 +117,7 @@ MayFollow before Release = is_number before ≡ true
 MayFollow before Full = Unit {0}
 MayFollow before (TellPages kind runs named) = is_copied before ≡ true
 MayFollow before (TellFigures figures) = is_copied before ≡ true
+MayFollow before (TellId id) = is_copied before ≡ true
 MayFollow before (Discard cut) = is_told before ≡ true
 MayFollow before (WriteNumber at number) = is_named before ≡ true
 MayFollow before (WriteWord at word) = before ≡ Some Release

@@ -5,12 +5,13 @@ use Rattle.std.specs.Prelude.{take, Result, Ok, Err, Some}
 use Rattle.vb_virtio.specs.declared.limits.TheConstants.{MAX_REQUEST_PAGES}
 use Rattle.vb_chain.specs.declared.fault.ChainFault.TheVariants.{BadLength}
 use Rattle.vb_core.specs.declared.kinds.Kind.{Kind}
-use Rattle.vb_core.specs.declared.kinds.Kind.TheVariants.{Inflate, Deflate, Statistics, Report}
+use Rattle.vb_core.specs.declared.kinds.Kind.TheVariants.{Inflate, Deflate, Statistics, Hint}
+use Rattle.vb_core.specs.declared.kinds.Kind.TheVariants.{Report}
 use Rattle.vb_core.specs.declared.runs.Run.{Run}
 use Rattle.vb_core.specs.declared.name.Named.{Named}
 use Rattle.vb_core.specs.declared.device.Denial.{Denial}
 use Rattle.vb_core.specs.declared.device.Device.{Device}
-use Rattle.vb_core.specs.Config.{keeps_reports}
+use Rattle.vb_core.specs.Config.{keeps_free}
 use Rattle.vb_core.specs.Name.{NamesNumbersBy}
 use Rattle.vb_monitor.specs.declared.room.TheConstants.{MAX_BYTES}
 use Rattle.vb_monitor.specs.declared.parts.Part.{Part}
@@ -31,7 +32,7 @@ pub record TellsPortion (w : Whole) (on : List Access → Type 0) (d : Device) (
   pub rest : List Access
   pub asks : log ≡ TellPages w.kind runs named ∷ rest
   pub goes_on : DiscardsThen on
-      (cuts_for w.kind (is_kept w.kind tally.keeps (keeps_reports d)) w.regions runs) rest
+      (cuts_for w.kind (is_kept w.kind tally.keeps (keeps_free w.kind d)) w.regions runs) rest
 
 -- What was named of a portion is told, or the notice ends.
 abbrev pub AfterPortion : Whole → (Tally → List Access → Type 0) → Device → Tally → List Run →
@@ -56,6 +57,7 @@ abbrev pub ServesPortion : Kind → Whole → (Device → Tally → List Access 
 ServesPortion Inflate w on d tally bytes log = NamesPortion w on d tally bytes log
 ServesPortion Deflate w on d tally bytes log = NamesPortion w on d tally bytes log
 ServesPortion Statistics w on d tally bytes log = Breaks w d tally BadLength log
+ServesPortion Hint w on d tally bytes log = Breaks w d tally BadLength log
 ServesPortion Report w on d tally bytes log = Breaks w d tally BadLength log
 
 -- A part is copied, unless the portion so far is full: then that is served first.

@@ -6,17 +6,21 @@ use Rattle.vb_virtio.specs.declared.limits.TheConstants.{MAX_QUEUE_SIZE}
 use Rattle.vb_chain.specs.declared.pieces.Piece.{Piece}
 use Rattle.vb_chain.specs.Rules.{has_next, piece_of}
 use Rattle.vb_core.specs.declared.kinds.Kind.{Kind}
-use Rattle.vb_core.specs.declared.kinds.Kind.TheVariants.{Inflate, Deflate, Statistics, Report}
+use Rattle.vb_core.specs.declared.kinds.Kind.TheVariants.{Inflate, Deflate, Statistics, Hint}
+use Rattle.vb_core.specs.declared.kinds.Kind.TheVariants.{Report}
 use Rattle.vb_core.specs.declared.ring.Virtqueue.{Virtqueue}
 use Rattle.vb_core.specs.Rings.{with_taken, with_used}
 use Rattle.vb_monitor.specs.declared.regions.Region.{Region}
 use Rattle.vb_monitor.specs.declared.cuts.Cut.{Cut}
 use Rattle.vb_monitor.specs.declared.parts.Part.{Part}
 use Rattle.vb_monitor.specs.Accesses.{Access, ReadWord, CopyBytes, Acquire, Release, Full}
-use Rattle.vb_monitor.specs.Accesses.{TellPages, TellFigures, Discard, WriteNumber, WriteWord}
+use Rattle.vb_monitor.specs.Accesses.{TellPages, TellFigures, TellId, Discard, WriteNumber}
+use Rattle.vb_monitor.specs.Accesses.{WriteWord}
 use Rattle.vb_monitor.specs.Giving.{cuts_for, more_told}
 use Rattle.vb_monitor.specs.Pieces.{all_parts}
-use Rattle.vb_monitor.specs.Chains.{TableRow, row_of, in_row, descriptor_of}
+use Rattle.vb_monitor.specs.Chains.{TableRow, row_of, in_row, descriptor_of, has_id}
+use Rattle.vb_core.specs.declared.hints.Round.{Round}
+use Rattle.vb_core.specs.Hints.{heard}
 
 -- Each access of a list may come after all those before it, of which the last one is first.
 abbrev pub Each : (List Access → Access → Type 0) → List Access → List Access → Type 0
@@ -33,11 +37,17 @@ pub data Known : Type 0 where
   Walks : (head number : ℕ) (pieces : List Piece) → Known
   Has : (head : ℕ) (pieces : List Piece) (parts : List Part) (bytes : List ℕ) → Known
 
+-- The parts of a chain of hints that are read: of an id all (VIRTIO 1.2, 5.5.6.6).
+abbrev pub parts_of_hint : Bool → List Piece → List Part
+parts_of_hint true pieces = all_parts pieces
+parts_of_hint false pieces = []
+
 -- The parts of pieces that are read: the bytes of a report aren't (VIRTIO 1.1, 5.5.6).
 abbrev pub parts_read : Kind → List Piece → List Part
 parts_read Inflate pieces = all_parts pieces
 parts_read Deflate pieces = all_parts pieces
 parts_read Statistics pieces = all_parts pieces
+parts_read Hint pieces = parts_of_hint (has_id pieces) pieces
 parts_read Report pieces = []
 
 -- A descriptor goes on with the one that it names, or it is the chain's last.
@@ -90,6 +100,7 @@ is_fenced (Release ∷ xs) = false
 is_fenced (Full ∷ xs) = false
 is_fenced (TellPages kind runs named ∷ xs) = false
 is_fenced (TellFigures figures ∷ xs) = false
+is_fenced (TellId id ∷ xs) = false
 is_fenced (Discard cut ∷ xs) = false
 is_fenced (WriteNumber at number ∷ xs) = false
 is_fenced (WriteWord at word ∷ xs) = false
@@ -109,6 +120,7 @@ known kind (Release ∷ xs) = known kind xs
 known kind (Full ∷ xs) = known kind xs
 known kind (TellPages of runs named ∷ xs) = with_told (known kind xs)
 known kind (TellFigures figures ∷ xs) = known kind xs
+known kind (TellId id ∷ xs) = known kind xs
 known kind (Discard cut ∷ xs) = known kind xs
 known kind (WriteNumber at number ∷ xs) = known kind xs
 known kind (WriteWord at word ∷ xs) = Unknown
@@ -132,6 +144,7 @@ ring_after kind r (Full ∷ xs) = ring_after kind r xs
 ring_after kind r (TellPages of runs named ∷ xs) =
     with_taken_if (is_whole (known kind xs)) (ring_after kind r xs)
 ring_after kind r (TellFigures figures ∷ xs) = with_taken (ring_after kind r xs)
+ring_after kind r (TellId id ∷ xs) = with_taken (ring_after kind r xs)
 ring_after kind r (Discard cut ∷ xs) = ring_after kind r xs
 ring_after kind r (WriteNumber at number ∷ xs) = ring_after kind r xs
 ring_after kind r (WriteWord at word ∷ xs) = with_used (ring_after kind r xs)
@@ -146,6 +159,7 @@ earlier None Release = None
 earlier None Full = None
 earlier None (TellPages kind runs named) = None
 earlier None (TellFigures figures) = None
+earlier None (TellId id) = None
 earlier None (Discard cut) = None
 earlier None (WriteNumber at number) = None
 earlier None (WriteWord at word) = None
@@ -172,6 +186,7 @@ left kept regions (Release ∷ xs) = left kept regions xs
 left kept regions (Full ∷ xs) = left kept regions xs
 left kept regions (TellPages kind runs named ∷ xs) = cuts_for kind kept regions runs
 left kept regions (TellFigures figures ∷ xs) = left kept regions xs
+left kept regions (TellId id ∷ xs) = left kept regions xs
 left kept regions (Discard cut ∷ xs) = without_first (left kept regions xs)
 left kept regions (WriteNumber at number ∷ xs) = left kept regions xs
 left kept regions (WriteWord at word ∷ xs) = left kept regions xs
@@ -188,6 +203,28 @@ pages_told (Release ∷ xs) = pages_told xs
 pages_told (Full ∷ xs) = pages_told xs
 pages_told (TellPages kind runs named ∷ xs) = more_told (pages_told xs) named.pages
 pages_told (TellFigures figures ∷ xs) = pages_told xs
+pages_told (TellId id ∷ xs) = pages_told xs
 pages_told (Discard cut ∷ xs) = pages_told xs
 pages_told (WriteNumber at number ∷ xs) = pages_told xs
 pages_told (WriteWord at word ∷ xs) = pages_told xs
+
+-- ---- the round of hints
+
+-- A round once this access came: an id that is told opens it or closes it.
+abbrev pub hears : Access → Round → Round
+hears (TellId id) r = heard id r
+hears (ReadWord at answer) r = r
+hears (CopyBytes at answer) r = r
+hears Acquire r = r
+hears Release r = r
+hears Full r = r
+hears (TellPages kind runs named) r = r
+hears (TellFigures figures) r = r
+hears (Discard cut) r = r
+hears (WriteNumber at number) r = r
+hears (WriteWord at word) r = r
+
+-- A device's round once these accesses came, of which the last one is first.
+abbrev pub round_so_far : Round → List Access → Round
+round_so_far r [] = r
+round_so_far r (x ∷ xs) = hears x (round_so_far r xs)

@@ -12,7 +12,8 @@ use Rattle.vb_monitor.specs.declared.step.Discarding.{Discarding}
 use Rattle.vb_monitor.specs.declared.step.Phase.{Phase}
 use Rattle.vb_monitor.specs.declared.step.Phase.TheVariants.{AwaitsIndex, AwaitsEntry}
 use Rattle.vb_monitor.specs.declared.step.Phase.TheVariants.{AwaitsDescriptor, AwaitsPart}
-use Rattle.vb_monitor.specs.declared.step.Phase.TheVariants.{TellsPages, TellsFigures, Discards}
+use Rattle.vb_monitor.specs.declared.step.Phase.TheVariants.{TellsPages, TellsFigures, TellsId}
+use Rattle.vb_monitor.specs.declared.step.Phase.TheVariants.{Discards}
 use Rattle.vb_monitor.specs.declared.step.Phase.TheVariants.{GivesBack, AwaitsFlags, Ended}
 use Rattle.vb_monitor.specs.Codes.{why_of}
 
@@ -83,6 +84,7 @@ phase_at n c =
     else if n == 6 then Discards (part_of c) (discarding_of c)
     else if n == 7 then TellsPages (place_of c) c.named (says_yes c.flag)
     else if n == 8 then TellsFigures c.head c.length
+    else if n == 10 then TellsId c.head c.length
     else GivesBack c.spots c.entry
 
 unfoldable pub phase_of : Progress → Phase

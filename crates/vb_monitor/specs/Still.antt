@@ -1,7 +1,7 @@
 -- A notice over memory that stays as it is for as long as the notice reads of it: it does what the
 -- bytes of memory say.
 use Rattle.std.specs.Prelude.{◌≡◌, ◌≢◌, ◌⊎◌, ℕ, ◌+◌, ◌*◌, ◌%◌, ◌<◌, List, [], ◌∷◌, ◌++◌, length}
-use Rattle.std.specs.Prelude.{map, take, drop, ◌==◌, ◌≤◌, if◌then◌else◌, Bool, true, false}
+use Rattle.std.specs.Prelude.{map, take, drop, ◌==◌, ◌≤◌, if◌then◌else◌, Bool, true, false, not}
 use Rattle.std.specs.Prelude.{Option, Some, None, Result, Ok, Err}
 use Rattle.std.specs.List.{range_with_len, flat_map, AllByRecursion}
 use Rattle.std.specs.Int.{w16, from_le_bytes}
@@ -14,7 +14,8 @@ use Rattle.vb_ring.specs.Entries.{ahead, next_by}
 use Rattle.vb_request.specs.Statistics.{statistics_length}
 use Rattle.vb_request.specs.Report.{report_request}
 use Rattle.vb_core.specs.declared.kinds.Kind.{Kind}
-use Rattle.vb_core.specs.declared.kinds.Kind.TheVariants.{Inflate, Deflate, Statistics, Report}
+use Rattle.vb_core.specs.declared.kinds.Kind.TheVariants.{Inflate, Deflate, Statistics, Hint}
+use Rattle.vb_core.specs.declared.kinds.Kind.TheVariants.{Report}
 use Rattle.vb_core.specs.declared.ring.Virtqueue.{Virtqueue}
 use Rattle.vb_core.specs.declared.device.Denial.{Denial}
 use Rattle.vb_core.specs.declared.device.Denial.TheVariants.{Broken}
@@ -26,9 +27,11 @@ use Rattle.vb_monitor.specs.declared.parts.Part.{Part}
 use Rattle.vb_monitor.specs.declared.room.TheConstants.{MAX_BYTES}
 use Rattle.vb_monitor.specs.declared.outcome.{Budget.Budget, Tally.Tally}
 use Rattle.vb_monitor.specs.Accesses.{Access, ReadWord, CopyBytes, Acquire, Release, Full}
-use Rattle.vb_monitor.specs.Accesses.{TellPages, TellFigures, Discard, WriteNumber, WriteWord}
+use Rattle.vb_monitor.specs.Accesses.{TellPages, TellFigures, TellId, Discard, WriteNumber}
+use Rattle.vb_monitor.specs.Accesses.{WriteWord}
 use Rattle.vb_monitor.specs.Regions.{spot}
-use Rattle.vb_monitor.specs.Chains.{descriptor_of, memory_end, request_length_within}
+use Rattle.vb_monitor.specs.Chains.{descriptor_of, memory_end, request_length_within, id_length}
+use Rattle.vb_monitor.specs.Chains.{has_id}
 use Rattle.vb_monitor.specs.Within.{ChainWithin, FaultWithin}
 use Rattle.vb_monitor.specs.Ends.{Whole}
 use Rattle.vb_monitor.specs.Notices.{entry_offset, fresh, with_chains, with_published}
@@ -52,6 +55,7 @@ Holds byte regions Release = Unit {0}
 Holds byte regions Full = Unit {0}
 Holds byte regions (TellPages kind runs named) = Unit {0}
 Holds byte regions (TellFigures figures) = Unit {0}
+Holds byte regions (TellId id) = Unit {0}
 Holds byte regions (Discard cut) = Unit {0}
 Holds byte regions (WriteNumber at number) = Unit {0}
 Holds byte regions (WriteWord at word) = Unit {0}
@@ -70,6 +74,7 @@ StaysUntil onward byte regions (Full ∷ xs) = onward (Full ∷ xs)
 StaysUntil onward byte regions (TellPages kind runs named ∷ xs) =
     onward (TellPages kind runs named ∷ xs)
 StaysUntil onward byte regions (TellFigures figures ∷ xs) = onward (TellFigures figures ∷ xs)
+StaysUntil onward byte regions (TellId id ∷ xs) = onward (TellId id ∷ xs)
 StaysUntil onward byte regions (Discard cut ∷ xs) = onward (Discard cut ∷ xs)
 StaysUntil onward byte regions (WriteNumber at number ∷ xs) = onward (WriteNumber at number ∷ xs)
 StaysUntil onward byte regions (WriteWord at word ∷ xs) = onward (WriteWord at word ∷ xs)
@@ -134,6 +139,7 @@ abbrev pub is_read : Kind → Bool
 is_read Inflate = true
 is_read Deflate = true
 is_read Statistics = true
+is_read Hint = false
 is_read Report = false
 
 -- How many bytes the pieces of a chain of this kind have, or what is wrong with them; a request may
@@ -142,6 +148,7 @@ abbrev pub length_of : Kind → ℕ → List Piece → Result ℕ ChainFault
 length_of Inflate most pieces = request_length_within most pieces
 length_of Deflate most pieces = request_length_within most pieces
 length_of Statistics most pieces = statistics_length pieces
+length_of Hint most pieces = id_length pieces
 length_of Report most pieces = request_length_within most pieces
 
 -- ---- what is done
@@ -180,25 +187,42 @@ DoesNext still w tally d log (Ok None) = EndsSo still None w d
 DoesNext still w tally d log (Ok (Some taken)) =
     ServesTaken still taken (length_of w.kind tally.longest taken.chain) w tally d log
 
--- The pages of a report are told, a run for each piece, and then discarded, if they may be; or a
--- rule is broken, as the pieces are no report.
+-- The chain's pieces name pages: those of a report, and of a hint that has no id.
+abbrev pub has_pages : Kind → List Piece → Bool
+has_pages Inflate pieces = false
+has_pages Deflate pieces = false
+has_pages Statistics pieces = false
+has_pages Hint pieces = not (has_id pieces)
+has_pages Report pieces = true
+
+-- The pages of a report or a hint are told, a run for each piece, and then discarded, if they may
+-- be; or a rule is broken, as the pieces name no free pages.
 abbrev pub TellsTaken : (List Access → Type 0) → Taken → Result (List ℕ) ChainFault → Whole →
     Tally → Device → List Access → Type 0
 TellsTaken still taken (Err fault) w tally d log =
     EndsSo still (Some (Broken fault)) w (needing_reset d)
 TellsTaken still taken (Ok pages) w tally d log =
-    AfterReads still (TellsThen w (next_chain w tally) (with_one_taken Report d)
+    AfterReads still (TellsThen w (next_chain w tally) (with_one_taken w.kind d)
     (spent (length pages) tally) taken.head (map run_of taken.chain)
     (record { runs = length taken.chain; pages = length pages; skipped = 0 })) log
 
--- A notice of reports does what memory has next: it ends as above, or the report's pages are told.
+-- A chain whose pieces name pages tells them; another one is served by its pieces.
+abbrev pub ReportsTaken : Bool → (List Access → Type 0) → Taken → Whole → Tally → Device →
+    List Access → Type 0
+ReportsTaken true still taken w tally d log =
+    TellsTaken still taken (report_request taken.chain d.settings.reserved_pages) w tally d log
+ReportsTaken false still taken w tally d log =
+    AfterReads still (serves w tally d taken.head taken.chain) log
+
+-- A notice of reports or hints does what memory has next: it ends as above, or the pages of the
+-- chain are told.
 abbrev pub ReportsNext : (List Access → Type 0) → Whole → Tally → Device → List Access →
     Result (Option Taken) ChainFault → Type 0
 ReportsNext still w tally d log (Err fault) =
     EndsSo still (Some (Broken fault)) w (needing_reset d)
 ReportsNext still w tally d log (Ok None) = EndsSo still None w d
 ReportsNext still w tally d log (Ok (Some taken)) =
-    TellsTaken still taken (report_request taken.chain d.settings.reserved_pages) w tally d log
+    ReportsTaken (has_pages w.kind taken.chain) still taken w tally d log
 
 -- ---- the bytes of its pieces
 

@@ -6,7 +6,8 @@ use Rattle.vb_chain.specs.declared.pieces.Piece.{Piece}
 use Rattle.vb_request.specs.Request.{numbers_of}
 use Rattle.vb_request.specs.Report.{report_request}
 use Rattle.vb_core.specs.declared.kinds.Kind.{Kind}
-use Rattle.vb_core.specs.declared.kinds.Kind.TheVariants.{Inflate, Deflate, Statistics, Report}
+use Rattle.vb_core.specs.declared.kinds.Kind.TheVariants.{Inflate, Deflate, Statistics, Hint}
+use Rattle.vb_core.specs.declared.kinds.Kind.TheVariants.{Report}
 use Rattle.vb_core.specs.declared.runs.Run.{Run}
 use Rattle.vb_core.specs.declared.name.Named.{Named}
 use Rattle.vb_core.specs.declared.ring.Virtqueue.{Virtqueue}
@@ -18,7 +19,7 @@ use Rattle.vb_core.specs.Settings.{memory_pages, skips}
 use Rattle.vb_core.specs.Rings.{used_entry}
 use Rattle.vb_core.specs.Runs.{Tell}
 use Rattle.vb_core.specs.Devices.{ring_of}
-use Rattle.vb_core.specs.Config.{keeps_reports}
+use Rattle.vb_core.specs.Config.{keeps_free}
 use Rattle.vb_core.specs.Name.{fault_in, right_numbers}
 use Rattle.vb_core.specs.Report.{run_of}
 use Rattle.vb_core.specs.Statistics.{AreFigures}
@@ -27,12 +28,15 @@ use Rattle.vb_monitor.specs.declared.regions.Spot.{Spot}
 use Rattle.vb_monitor.specs.declared.cuts.Cut.{Cut}
 use Rattle.vb_monitor.specs.declared.room.TheConstants.{MAX_BYTES}
 use Rattle.vb_monitor.specs.Accesses.{Access, ReadWord, CopyBytes, Acquire, Release, Full}
-use Rattle.vb_monitor.specs.Accesses.{TellPages, TellFigures, Discard, WriteNumber, WriteWord}
+use Rattle.vb_monitor.specs.Accesses.{TellPages, TellFigures, TellId, Discard, WriteNumber}
+use Rattle.vb_monitor.specs.Accesses.{WriteWord}
 use Rattle.vb_monitor.specs.Regions.{spot}
-use Rattle.vb_monitor.specs.Chains.{further_in_row}
+use Rattle.vb_monitor.specs.Chains.{further_in_row, id_of}
 use Rattle.vb_monitor.specs.Giving.{is_kept}
 use Rattle.vb_monitor.specs.Notices.{entry_offset, stands}
 use Rattle.vb_monitor.specs.SoFar.{Known, Unknown, Walks, Has, known, ring_after, index_read, left}
+use Rattle.vb_monitor.specs.SoFar.{round_so_far}
+use Rattle.vb_core.specs.Hints.{is_open}
 
 -- ---- what is read
 
@@ -48,6 +52,7 @@ ReadsWord regions r (CopyBytes before answer ∷ xs) at = ⊥
 ReadsWord regions r (Release ∷ xs) at = ⊥
 ReadsWord regions r (TellPages kind runs named ∷ xs) at = ⊥
 ReadsWord regions r (TellFigures figures ∷ xs) at = ⊥
+ReadsWord regions r (TellId id ∷ xs) at = ⊥
 ReadsWord regions r (Discard cut ∷ xs) at = ⊥
 ReadsWord regions r (WriteNumber before number ∷ xs) at = ⊥
 ReadsWord regions r (WriteWord before word ∷ xs) at = ⊥
@@ -62,6 +67,7 @@ ends_in_full (Acquire ∷ xs) = false
 ends_in_full (Release ∷ xs) = false
 ends_in_full (TellPages kind runs named ∷ xs) = false
 ends_in_full (TellFigures figures ∷ xs) = false
+ends_in_full (TellId id ∷ xs) = false
 ends_in_full (Discard cut ∷ xs) = false
 ends_in_full (WriteNumber at number ∷ xs) = false
 ends_in_full (WriteWord at word ∷ xs) = false
@@ -76,6 +82,7 @@ is_over (Release ∷ xs) = false
 is_over (Full ∷ xs) = false
 is_over (TellPages kind runs named ∷ xs) = false
 is_over (TellFigures figures ∷ xs) = false
+is_over (TellId id ∷ xs) = false
 is_over (Discard cut ∷ xs) = false
 is_over (WriteNumber at number ∷ xs) = false
 is_over (WriteWord at word ∷ xs) = false
@@ -117,6 +124,7 @@ ReadsInTurn regions kind d before Release = Unit {0}
 ReadsInTurn regions kind d before Full = is_over before ≡ false
 ReadsInTurn regions kind d before (TellPages of runs named) = Unit {0}
 ReadsInTurn regions kind d before (TellFigures figures) = Unit {0}
+ReadsInTurn regions kind d before (TellId id) = Unit {0}
 ReadsInTurn regions kind d before (Discard cut) = Unit {0}
 ReadsInTurn regions kind d before (WriteNumber at number) = Unit {0}
 ReadsInTurn regions kind d before (WriteWord at word) = Unit {0}
@@ -134,7 +142,7 @@ pub record TellNumbers (s : Settings) (bytes : List ℕ) (runs : List Run) (name
         length (right_numbers s.reserved_pages (memory_pages s) (numbers_of bytes))
     pub skipped : named.skipped + named.pages ≡ length (numbers_of bytes)
 
--- The runs are the pages of these pieces, which are a report: n, and none is skipped.
+-- The runs are the pages of these pieces, which are a report or a hint: n, and none is skipped.
 pub record TellPieces (s : Settings) (pieces : List Piece) (runs : List Run) (named : Named) :
     Type 0 where
   pub free : List ℕ
@@ -143,20 +151,36 @@ pub record TellPieces (s : Settings) (pieces : List Piece) (runs : List Run) (na
   pub pages : named.pages ≡ length free
   pub skipped : named.skipped ≡ 0
 
-abbrev pub TellNamed : Kind → Settings → List Piece → List ℕ → List Run → Named → Type 0
-TellNamed Inflate s pieces bytes runs named = TellNumbers s bytes runs named
-TellNamed Deflate s pieces bytes runs named = TellNumbers s bytes runs named
-TellNamed Statistics s pieces bytes runs named = ⊥
-TellNamed Report s pieces bytes runs named = TellPieces s pieces runs named
+-- Of a hint no page is told, and each is skipped, n.
+pub record SkipPieces (s : Settings) (pieces : List Piece) (runs : List Run) (named : Named) :
+    Type 0 where
+  pub free : List ℕ
+  pub sound : report_request pieces s.reserved_pages ≡ Ok free
+  pub none : runs ≡ []
+  pub pages : named.pages ≡ 0
+  pub skipped : named.skipped ≡ length free
+
+-- The pages of a hint are told where the round is open.
+abbrev pub TellHint : Bool → Settings → List Piece → List Run → Named → Type 0
+TellHint true s pieces runs named = TellPieces s pieces runs named
+TellHint false s pieces runs named = SkipPieces s pieces runs named
+
+abbrev pub TellNamed : Bool → Kind → Settings → List Piece → List ℕ → List Run → Named → Type 0
+TellNamed open_now Inflate s pieces bytes runs named = TellNumbers s bytes runs named
+TellNamed open_now Deflate s pieces bytes runs named = TellNumbers s bytes runs named
+TellNamed open_now Statistics s pieces bytes runs named = ⊥
+TellNamed open_now Hint s pieces bytes runs named = TellHint open_now s pieces runs named
+TellNamed open_now Report s pieces bytes runs named = TellPieces s pieces runs named
 
 -- Pages are told once all of a chain was read, or a portion of it: those that the bytes name that
--- were copied and weren't told yet, or the pieces of a report.
-abbrev pub TellsOf : Kind → Settings → Known → List Run → Named → Type 0
-TellsOf kind s Unknown runs named = ⊥
-TellsOf kind s (Walks head number pieces) runs named = ⊥
-TellsOf kind s (Has head pieces [] bytes) runs named = TellNamed kind s pieces bytes runs named
-TellsOf kind s (Has head pieces (part ∷ parts) bytes) runs named =
-    (length bytes ≡ MAX_BYTES) × TellNamed kind s pieces bytes runs named
+-- were copied and weren't told yet, or the pieces of a report or a hint.
+abbrev pub TellsOf : Bool → Kind → Settings → Known → List Run → Named → Type 0
+TellsOf open_now kind s Unknown runs named = ⊥
+TellsOf open_now kind s (Walks head number pieces) runs named = ⊥
+TellsOf open_now kind s (Has head pieces [] bytes) runs named =
+    TellNamed open_now kind s pieces bytes runs named
+TellsOf open_now kind s (Has head pieces (part ∷ parts) bytes) runs named =
+    (length bytes ≡ MAX_BYTES) × TellNamed open_now kind s pieces bytes runs named
 
 -- The figures that are in these bytes.
 pub record TellFiguresOf (bytes : List ℕ) (told : List Statistic) : Type 0 where
@@ -170,28 +194,37 @@ FiguresOf (Walks head number pieces) figures = ⊥
 FiguresOf (Has head pieces [] bytes) figures = TellFiguresOf bytes figures
 FiguresOf (Has head pieces (part ∷ parts) bytes) figures = ⊥
 
+-- All of a chain was read, and its bytes are this id.
+abbrev pub IdOf : Known → ℕ → Type 0
+IdOf Unknown id = ⊥
+IdOf (Walks head number pieces) id = ⊥
+IdOf (Has head pieces [] bytes) id = id_of bytes ≡ Some id
+IdOf (Has head pieces (part ∷ parts) bytes) id = ⊥
+
 -- The part is the next one that is left.
 abbrev pub IsNext : Cut → List Cut → Type 0
 IsNext cut [] = ⊥
 IsNext cut (next ∷ others) = cut ≡ next
 
--- Pages and figures are told of what was copied, and of pages that were told those parts are
+-- Pages, figures and ids are told of what was copied, and of pages that were told those parts are
 -- discarded that may be, in their order; all of them before anything else is copied or told, and
--- before an element is written. Where a notice keeps all pages none is, and none is of a report
--- whose pages the device keeps.
+-- before an element is written. Where a notice keeps all pages none is, and none is of a report or
+-- a hint whose pages the device keeps.
 abbrev pub TellsInTurn : List Region → Kind → Bool → Device → List Access → Access → Type 0
 TellsInTurn regions kind all d before (TellPages of runs named) =
-    (of ≡ kind) × TellsOf kind d.settings (known kind before) runs named ×
-    (left (is_kept kind all (keeps_reports d)) regions before ≡ [])
+    (of ≡ kind) ×
+    TellsOf (is_open (round_so_far d.round before)) kind d.settings (known kind before) runs named ×
+    (left (is_kept kind all (keeps_free kind d)) regions before ≡ [])
 TellsInTurn regions kind all d before (TellFigures figures) =
     (kind ≡ Statistics) × FiguresOf (known kind before) figures
+TellsInTurn regions kind all d before (TellId id) = (kind ≡ Hint) × IdOf (known kind before) id
 TellsInTurn regions kind all d before (Discard cut) =
-    IsNext cut (left (is_kept kind all (keeps_reports d)) regions before)
+    IsNext cut (left (is_kept kind all (keeps_free kind d)) regions before)
 TellsInTurn regions kind all d before (WriteNumber at number) =
-    left (is_kept kind all (keeps_reports d)) regions before ≡ []
+    left (is_kept kind all (keeps_free kind d)) regions before ≡ []
 TellsInTurn regions kind all d before (ReadWord at answer) = Unit {0}
 TellsInTurn regions kind all d before (CopyBytes at answer) =
-    left (is_kept kind all (keeps_reports d)) regions before ≡ []
+    left (is_kept kind all (keeps_free kind d)) regions before ≡ []
 TellsInTurn regions kind all d before Acquire = Unit {0}
 TellsInTurn regions kind all d before Release = Unit {0}
 TellsInTurn regions kind all d before Full = Unit {0}
@@ -210,6 +243,7 @@ ends_in_number (Release ∷ xs) = false
 ends_in_number (Full ∷ xs) = false
 ends_in_number (TellPages kind runs named ∷ xs) = false
 ends_in_number (TellFigures figures ∷ xs) = false
+ends_in_number (TellId id ∷ xs) = false
 ends_in_number (Discard cut ∷ xs) = false
 ends_in_number (WriteWord at word ∷ xs) = false
 
@@ -251,4 +285,26 @@ WritesUsedAlone regions kind d before Release = Unit {0}
 WritesUsedAlone regions kind d before Full = Unit {0}
 WritesUsedAlone regions kind d before (TellPages of runs named) = Unit {0}
 WritesUsedAlone regions kind d before (TellFigures figures) = Unit {0}
+WritesUsedAlone regions kind d before (TellId id) = Unit {0}
 WritesUsedAlone regions kind d before (Discard cut) = Unit {0}
+
+-- ---- hints
+
+-- Pages are told as hinted only while the round is open, by each id that was told before.
+abbrev pub HintsInRound : Device → List Access → Access → Type 0
+HintsInRound d before (TellPages Hint runs named) =
+    is_open (round_so_far d.round before) ≡ false → runs ≡ []
+HintsInRound d before (TellPages Inflate runs named) = Unit {0}
+HintsInRound d before (TellPages Deflate runs named) = Unit {0}
+HintsInRound d before (TellPages Statistics runs named) = Unit {0}
+HintsInRound d before (TellPages Report runs named) = Unit {0}
+HintsInRound d before (ReadWord at answer) = Unit {0}
+HintsInRound d before (CopyBytes at answer) = Unit {0}
+HintsInRound d before Acquire = Unit {0}
+HintsInRound d before Release = Unit {0}
+HintsInRound d before Full = Unit {0}
+HintsInRound d before (TellFigures figures) = Unit {0}
+HintsInRound d before (TellId id) = Unit {0}
+HintsInRound d before (Discard cut) = Unit {0}
+HintsInRound d before (WriteNumber at number) = Unit {0}
+HintsInRound d before (WriteWord at word) = Unit {0}

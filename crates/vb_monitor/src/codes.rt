@@ -29,3 +29,6 @@ pub(crate) const FIGURES: u8 = 8;
 
 /// A chain is given back.
 pub(crate) const USED: u8 = 9;
+
+/// An id of hints is told.
+pub(crate) const ID: u8 = 10;

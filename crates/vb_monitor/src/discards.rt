@@ -7,7 +7,7 @@ ghost use Rattle.vb_monitor.specs.declared.outcome.Outcome.{Outcome};
 ghost use Rattle.vb_monitor.specs.declared.step.Phase.TheVariants.{Discards};
 ghost use Rattle.vb_monitor.specs.Accesses.{Access};
 ghost use Rattle.vb_monitor.specs.Regions.{cuts_of};
-ghost use Rattle.vb_core.specs.Config.{keeps_reports};
+ghost use Rattle.vb_core.specs.Config.{keeps_free};
 ghost use Rattle.vb_monitor.specs.declared.regions.Region.{Region};
 ghost use Rattle.vb_monitor.specs.Giving.{cuts_for, is_kept, kept_pages, DiscardsThen};
 ghost use Rattle.vb_monitor.specs.Giving.{is_discarded};
@@ -40,11 +40,11 @@ pub(crate) fn first_runs(runs: &[Run; MAX_RUNS], count: usize) -> &[Run]
 /// doesn't.
 #[inline(always)]
 fn is_kept(device: &Device, kind: Kind, keeps: bool) -> bool
-    ensures { result ≡ is_kept kind keeps (keeps_reports device.now) }
+    ensures { result ≡ is_kept kind keeps (keeps_free kind device.now) }
 {
     match kind {
         Kind::Inflate => keeps,
-        Kind::Report => keeps || device.keeps_reports(),
+        Kind::Hint | Kind::Report => keeps || device.keeps_free(kind),
         Kind::Deflate | Kind::Statistics => false,
     }
 }
@@ -52,7 +52,7 @@ fn is_kept(device: &Device, kind: Kind, keeps: bool) -> bool
 /// How many of `pages` pages that a kind's chains name are kept, by such a notice.
 #[inline(always)]
 pub(crate) fn kept_pages(device: &Device, kind: Kind, keeps: bool, pages: u32) -> u32
-    ensures { result ≡ kept_pages (is_kept kind keeps (keeps_reports device.now)) pages }
+    ensures { result ≡ kept_pages (is_kept kind keeps (keeps_free kind device.now)) pages }
 {
     if is_kept(device, kind, keeps) {
         pages
@@ -64,15 +64,15 @@ pub(crate) fn kept_pages(device: &Device, kind: Kind, keeps: bool, pages: u32) -
 /// Whether what a kind's chains name is discarded, by such a notice.
 #[inline(always)]
 fn discards(device: &Device, kind: Kind, keeps: bool) -> bool
-    ensures value { result ≡ is_discarded kind (is_kept kind keeps (keeps_reports device.now)) }
+    ensures value { result ≡ is_discarded kind (is_kept kind keeps (keeps_free kind device.now)) }
     ensures yes { result ≡ true → (regions : List Region) (runs : List Run) →
-        cuts_for kind (is_kept kind keeps (keeps_reports device.now)) regions runs ≡
+        cuts_for kind (is_kept kind keeps (keeps_free kind device.now)) regions runs ≡
         cuts_of regions runs }
     ensures no { result ≡ false → (regions : List Region) (runs : List Run) →
-        cuts_for kind (is_kept kind keeps (keeps_reports device.now)) regions runs ≡ [] }
+        cuts_for kind (is_kept kind keeps (keeps_free kind device.now)) regions runs ≡ [] }
 {
     match kind {
-        Kind::Inflate | Kind::Report => !is_kept(device, kind, keeps),
+        Kind::Inflate | Kind::Hint | Kind::Report => !is_kept(device, kind, keeps),
         Kind::Statistics | Kind::Deflate => false,
     }
 }
@@ -172,7 +172,7 @@ pub(crate) fn after_told(
         OnceToldBy discarding.further (whole regions.now kind after outcome) (tally_of step.old)
         device.old discarding.place room.now
         (cuts_for kind (is_kept kind (tally_of step.old).keeps
-        (keeps_reports device.old)) regions.now
+        (keeps_free kind device.old)) regions.now
         (drop discarding.run (take discarding.runs room.now.runs))) log }
     ensures fits { Fits (phase_of step.new) }
     ensures stage { 1 ≤ stage (phase_of step.new) }

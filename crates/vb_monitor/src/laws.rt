@@ -7,7 +7,8 @@ ghost use Rattle.vb_chain.specs.declared.fault.ChainFault.{ChainFault};
 ghost use Rattle.vb_ring.specs.declared.device.Taken.{Taken};
 ghost use Rattle.vb_core.specs.declared.ring.Virtqueue.{Virtqueue};
 ghost use Rattle.vb_core.specs.declared.kinds.Kind.{Kind};
-ghost use Rattle.vb_core.specs.declared.kinds.Kind.TheVariants.{Report};
+ghost use Rattle.vb_core.specs.Report.{names_by_pieces};
+ghost use Rattle.vb_monitor.specs.Chains.{tells_pages};
 ghost use Rattle.vb_core.specs.declared.device.Device.{Device};
 ghost use Rattle.vb_monitor.specs.declared.regions.Region.{Region};
 ghost use Rattle.vb_monitor.specs.declared.outcome.Budget.{Budget};
@@ -58,10 +59,10 @@ pub fn nothing_outside_the_regions_is_touched()
 {}
 
 /// The accesses of a notice come in their order: bytes directly after what was read, or after a
-/// portion that was told or discarded, pages that are told directly after bytes that were copied,
-/// discards directly after these pages or other discards, a used element's numbers directly after
-/// those, a release fence directly after the numbers, and the index directly after that fence
-/// (VIRTIO 1.1, 2.6.8).
+/// portion that was told or discarded, what is told directly after bytes that were copied, discards
+/// directly after pages that were told or other discards, a used element's numbers directly after
+/// those or after an id that was told, a release fence directly after the numbers, and the index
+/// directly after that fence (VIRTIO 1.1, 2.6.8).
 #[tactic(auto, using(crate::proofs::TurnLaws::in_order))]
 pub fn accesses_come_in_their_order()
     ensures { (regions : List Region) (kind : Kind) (budget : Budget) (d1 d2 : Device)
@@ -103,11 +104,12 @@ pub fn what_counts_is_read_once()
 {}
 
 /// Only pages are told that the bytes name which were copied since the chain's entry was read and
-/// weren't told yet, or the pieces of a report: of bytes once all of the chain was read, or a whole
-/// portion of 1,024 of them. Only parts of pages that were told are discarded, each once and in
-/// order, and all of them before more is copied or told, and before the chain's used element is
-/// written. None of a deflate's is, nor of a report's where the device keeps the pages of reports
-/// (VIRTIO 1.1, 5.5.6; 1.2, 5.5.4), and none at all where the notice keeps all pages.
+/// weren't told yet, or the pieces of a report, or of a hint in a round that is open: of bytes once
+/// all of the chain was read, or a whole portion of 1,024 of them. Only parts of pages that were
+/// told are discarded, each once and in order, and all of them before more is copied or told, and
+/// before the chain's used element is written. None of a deflate's is, nor of a report's or a
+/// hint's where the device keeps the free pages of that kind (VIRTIO 1.1, 5.5.6; 1.2, 5.5.4), and
+/// none at all where the notice keeps all pages.
 #[tactic(auto, using(crate::proofs::TurnLaws::tells_in_turn))]
 pub fn only_named_pages_are_discarded()
     ensures { (regions : List Region) (kind : Kind) (budget : Budget) (d1 d2 : Device)
@@ -211,18 +213,20 @@ pub fn a_notice_does_what_memory_says()
         log) }
 {}
 
-/// Where memory stays as it is while a notice of reports reads of it, the notice does what the
-/// bytes of memory say: it ends where nothing is next, or where a rule is broken, so that the
-/// device needs a reset; or it tells just the report's pages, a run for each piece, and takes the
-/// report.
+/// Where memory stays as it is while a notice of reports reads of it, or one of hints while the
+/// round is open, the notice does what the bytes of memory say: it ends where nothing is next, or
+/// where a rule is broken, so that the device needs a reset; or it tells just the chain's pages, a
+/// run for each piece, and takes the chain. A chain of hints that has an id is served by its
+/// pieces.
 pub fn a_notice_reports_what_memory_says()
-    ensures { (rest : List Access) (byte : ℕ → ℕ) (regions : List Region) (budget : Budget)
-        (n : ℕ) (d1 d2 : Device) (outcome : Outcome) (log : List Access) →
-        budget.chains ≡ suc n → (budget.pages == 0) ≡ false → queue_denial Report d1 ≡ None →
-        IsMapped regions (ring_of Report d1) → StaysUntil (AreThese rest) byte regions log →
-        Serves regions Report budget d1 d2 outcome log →
-        Finds byte Report d1 (ReportsNext (StaysUntil (AreThese rest) byte regions)
-        (whole regions Report d2 outcome) (as_read n budget (index_in byte (ring_of Report d1))) d1
+    ensures { (rest : List Access) (byte : ℕ → ℕ) (regions : List Region) (kind : Kind)
+        (budget : Budget) (n : ℕ) (d1 d2 : Device) (outcome : Outcome) (log : List Access) →
+        names_by_pieces kind ≡ true → tells_pages kind d1 ≡ true →
+        budget.chains ≡ suc n → (budget.pages == 0) ≡ false → queue_denial kind d1 ≡ None →
+        IsMapped regions (ring_of kind d1) → StaysUntil (AreThese rest) byte regions log →
+        Serves regions kind budget d1 d2 outcome log →
+        Finds byte kind d1 (ReportsNext (StaysUntil (AreThese rest) byte regions)
+        (whole regions kind d2 outcome) (as_read n budget (index_in byte (ring_of kind d1))) d1
         log) }
 {}
 

@@ -10,6 +10,7 @@ mod cuts;
 mod discards;
 mod ends;
 mod filling;
+mod free_pages;
 mod giving;
 mod large;
 mod laws;
@@ -26,6 +27,7 @@ mod progress;
 mod queues;
 mod regions;
 mod room;
+mod round_laws;
 mod rows;
 mod rules;
 mod serving;
@@ -61,5 +63,9 @@ pub use placing::{QueuePlace, RestoreDenial, are_memory, memory_end_of};
 pub use progress::Progress;
 pub use regions::{FILE_LIMIT, Region, Spot, find};
 pub use room::{MAX_BYTES, MAX_FIGURES, MAX_PIECES, MAX_RUNS, ROW_DESCRIPTORS, Room};
+pub use round_laws::{
+    a_round_goes_by_the_ids_that_are_told, hinted_pages_are_of_a_round_that_was_heard,
+    hints_are_told_in_their_round,
+};
 pub use serving::{Notice, serve};
 pub use step::{Discarding, Phase, Place, Walk};

@@ -1,7 +1,7 @@
 //! Memory that a notice goes over.
 
 ghost use Rattle.vb_monitor.specs.Accesses.{Access, ReadWord, CopyBytes, Acquire, Release, Full};
-ghost use Rattle.vb_monitor.specs.Accesses.{TellPages, TellFigures, Discard, WriteNumber};
+ghost use Rattle.vb_monitor.specs.Accesses.{TellPages, TellFigures, TellId, Discard, WriteNumber};
 ghost use Rattle.vb_monitor.specs.Accesses.{WriteWord};
 
 use crate::{Cut, Spot};
@@ -34,15 +34,19 @@ pub trait LiveMemory {
     fn full(&mut self)
         ensures { goes self.old Full self.new };
 
-    /// These pages were given up (inflates), are requested back (deflates), or are free (reports).
-    /// `named` says how many pages the runs have together, and how many of the request's numbers
-    /// were skipped.
+    /// These pages were given up (inflates), are requested back (deflates), or are free (reports
+    /// and hints). `named` says how many pages the runs have together, and how many of the
+    /// request's numbers were skipped, or of a hint's pages that came outside their round.
     fn tell_pages(&mut self, kind: Kind, runs: &[Run], named: Named)
         ensures { goes self.old (TellPages kind runs.now named) self.new };
 
     /// The guest told these figures.
     fn tell_figures(&mut self, figures: &[Statistic])
         ensures { goes self.old (TellFigures figures.now) self.new };
+
+    /// The guest told this id of hints: the VMM knows then whether a round of its own is open.
+    fn tell_id(&mut self, id: u32)
+        ensures { goes self.old (TellId id) self.new };
 
     /// Gives pages back to the machine, where it can.
     fn discard(&mut self, cut: Cut)

@@ -11,7 +11,7 @@ ghost use Rattle.vb_monitor.specs.declared.step.Phase.TheVariants.{TellsPages};
 ghost use Rattle.vb_monitor.specs.Giving.{spent, with_named};
 ghost use Rattle.vb_monitor.specs.Portions.{ServesPortion, NamesPortion, CopiesFurther};
 ghost use Rattle.vb_core.specs.Pieces.{pieces_in};
-ghost use Rattle.vb_monitor.specs.Chains.{NamesBytes, NamesReport, FiguresBy, CopiesBy};
+ghost use Rattle.vb_monitor.specs.Chains.{NamesBytes, FiguresBy, CopiesBy};
 ghost use Rattle.vb_monitor.specs.Machine.{Fits, Ahead, AheadAt, whole, next_chain, serves, served};
 ghost use Rattle.vb_monitor.specs.Machine.{parts_from};
 ghost use Rattle.vb_monitor.specs.declared.room.Room.{Room};
@@ -23,7 +23,8 @@ ghost use Rattle.std.specs.Prelude.{◌+◌};
 
 use crate::copying::{copy_on, first_bytes};
 use crate::ends::{end, fail};
-use crate::pieces::{first_pieces, report_named, request_length, statistics_length};
+use crate::free_pages::{hear_id, name_report, serve_hint};
+use crate::pieces::{first_pieces, request_length, statistics_length};
 use crate::{Place, Progress, Region, Room, Walk};
 use vb_chain::ChainFault;
 use vb_core::{Device, Kind, Named, Settings};
@@ -51,7 +52,13 @@ fn count_named(step: &mut Progress, settings: &Settings, kind: Kind, head: u16, 
 
 /// Tells the pages that were named, of a chain that is held, where the settings say so.
 #[inline(always)]
-fn tell_pages(step: &mut Progress, settings: &Settings, kind: Kind, place: Place, named: Named)
+pub(crate) fn tell_pages(
+    step: &mut Progress,
+    settings: &Settings,
+    kind: Kind,
+    place: Place,
+    named: Named,
+)
     ensures step { (w : Whole) (d : Device) (room : Room) (log : List Access) →
         Ahead w (step_of step.new) d room log → AheadAt (TellsPages place named false) w
         (with_named kind settings.now place.head named.pages (tally_of step.old)) d room log }
@@ -130,7 +137,7 @@ pub(crate) fn name_portion(
         + (once_named regions.now + copies_left regions.now place.piece place.done) }
 {
     match kind {
-        Kind::Statistics | Kind::Report => {
+        Kind::Statistics | Kind::Hint | Kind::Report => {
             fail(step, device, regions, kind, ChainFault::BadLength)
         }
         Kind::Inflate | Kind::Deflate => name_numbers(step, device, regions, kind, place, room),
@@ -165,33 +172,6 @@ fn name_bytes(
             device.take_request(kind);
             tell_pages(step, &device.settings, kind, place, named)
         }
-    }
-}
-
-/// Names the pages of a report of a place's pieces.
-#[tactic(auto, using(crate::proofs::RoomLemmas::few_reported))]
-fn name_report(
-    step: &mut Progress,
-    device: &mut Device,
-    regions: &[Region],
-    kind: Kind,
-    place: Place,
-    room: &mut Room,
-)
-    ensures step { (after : Device) (outcome : Outcome) (log : List Access) →
-        Ahead (whole regions.now kind after outcome) (step_of step.new) device.new room.new log →
-        NamesReport (whole regions.now kind after outcome)
-        (next_chain (whole regions.now kind after outcome) (tally_of step.old))
-        device.old (tally_of step.old) place.head (pieces_in (take place.count room.old.pieces))
-        log }
-    ensures fits { Fits (phase_of step.new) }
-    ensures left { left regions.now (step_of step.new) ≤
-        of_chains regions.now (tally_of step.old).chains + once_named regions.now }
-{
-    let chain = first_pieces(&room.pieces, place.count);
-    match report_named(device, chain, &mut room.runs) {
-        Err(why) => end(step, device, regions, kind, Some(why), false),
-        Ok(named) => tell_pages(step, &device.settings, kind, place, named),
     }
 }
 
@@ -248,9 +228,22 @@ pub(crate) fn serve_bytes(
 {
     match kind {
         Kind::Statistics => keep_figures(step, device, regions, kind, place, into, room),
+        Kind::Hint => hear_id(step, device, regions, kind, place, into, room),
         Kind::Inflate | Kind::Deflate | Kind::Report => {
             name_bytes(step, device, regions, kind, place, into, room)
         }
+    }
+}
+
+/// The place before the first piece of a walk that is over.
+fn first_place(walk: Walk) -> Place
+    ensures { result ≡ record { head = walk.head; count = walk.count; piece = 0; done = 0 } }
+{
+    Place {
+        head: walk.head,
+        count: walk.count,
+        piece: 0,
+        done: 0,
     }
 }
 
@@ -273,13 +266,9 @@ pub(crate) fn serve_pieces(
         of_chains regions.now (tally_of step.old).chains + once_whole regions.now }
 {
     let chain = first_pieces(&room.pieces, walk.count);
-    let place = Place {
-        head: walk.head,
-        count: walk.count,
-        piece: 0,
-        done: 0,
-    };
+    let place = first_place(walk);
     match kind {
+        Kind::Hint => serve_hint(step, device, regions, kind, place, room),
         Kind::Report => name_report(step, device, regions, kind, place, room),
         Kind::Statistics => match statistics_length(chain) {
             Err(fault) => fail(step, device, regions, kind, fault),

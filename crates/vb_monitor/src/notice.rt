@@ -116,6 +116,7 @@ impl Progress {
                 after_told(self, device, regions, kind, discarding, room)
             }
             Phase::TellsFigures { .. } => end(self, device, regions, kind, None, false),
+            Phase::TellsId { head, .. } => give_back(self, device, regions, kind, head),
             Phase::Discards { discarding, .. } => {
                 after_discard(self, device, regions, kind, discarding, room)
             }

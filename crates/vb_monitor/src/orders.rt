@@ -4,7 +4,7 @@ ghost use Rattle.std.specs.Prelude.{◌≡◌, ◌≤◌, ◌++◌, ◌∷◌, t
 ghost use Rattle.vb_monitor.specs.declared.cuts.NextCut.{NextCut};
 ghost use Rattle.vb_core.specs.declared.device.Device.{Device};
 ghost use Rattle.vb_virtio.specs.Tests.{one_if};
-ghost use Rattle.vb_core.specs.Config.{keeps_reports};
+ghost use Rattle.vb_core.specs.Config.{keeps_free};
 ghost use Rattle.vb_core.specs.Settings.{holds_chains};
 ghost use Rattle.vb_monitor.specs.Giving.{is_kept, kept_pages};
 ghost use Rattle.vb_monitor.specs.declared.orders.TheConstants.{MAX_CUTS};
@@ -22,6 +22,7 @@ use crate::cuts::NextCut;
 use crate::discards::{after_told, discard_next, first_runs, go_onward, kept_pages};
 use crate::ends::end;
 use crate::filling::fill;
+use crate::giving::give_back;
 use crate::looks::after_given;
 use crate::{Cut, Discarding, Phase, Progress, Region, Room, UsedSpots};
 use vb_core::{Device, Kind, Named};
@@ -37,6 +38,8 @@ pub enum Told {
     Pages,
     /// The first figures.
     Figures,
+    /// An id of hints.
+    Id,
 }
 
 /// A used element, and where it goes.
@@ -68,6 +71,8 @@ pub struct Orders {
     /// 1 where the pages wait for a grant, since their chain is held once all of it was told; else
     /// 0.
     pub waits: u32,
+    /// The id of hints that it is told.
+    pub hint_id: u32,
     /// What is written of a used chain.
     pub used: Used,
 }
@@ -88,7 +93,7 @@ pub struct Asked {
     pub gives: bool,
 }
 
-/// Tells pages or figures, where that is to be done next.
+/// Tells pages, figures or an id, where that is to be done next.
 #[inline(always)]
 fn tell(
     step: &mut Progress,
@@ -102,13 +107,12 @@ fn tell(
     ensures step { (after : Device) (outcome : Outcome) (rest : List Access) →
         Ahead (whole regions.now kind after outcome) (step_of step.new) device.new room.now rest →
         Ahead (whole regions.now kind after outcome) (step_of step.old) device.old room.now
-        (telling result kind orders.new.named orders.new.figures room.now.runs room.now.figures
-        ++ rest) }
+        (telling result kind orders.new room.now.runs room.now.figures ++ rest) }
     ensures fits { Fits (phase_of step.new) }
     ensures stage { 1 ≤ stage (phase_of step.new) }
     ensures runs { result ≡ Pages → orders.new.named.runs ≤ MAX_RUNS }
     ensures kept { result ≡ Pages → orders.new.kept ≡
-        kept_pages (is_kept kind (tally_of step.old).keeps (keeps_reports device.old))
+        kept_pages (is_kept kind (tally_of step.old).keeps (keeps_free kind device.old))
         orders.new.named.pages }
     ensures waits { result ≡ Pages →
         orders.new.waits ≡ one_if (holds_chains kind device.old.settings) }
@@ -131,6 +135,11 @@ fn tell(
             orders.figures = count;
             end(step, device, regions, kind, None, false);
             Told::Figures
+        }
+        Phase::TellsId { head, id } => {
+            orders.hint_id = id;
+            give_back(step, device, regions, kind, head);
+            Told::Id
         }
         Phase::Discards { .. }
         | Phase::GivesBack { .. }
@@ -182,6 +191,7 @@ fn discard(
         }
         Phase::TellsPages { .. }
         | Phase::TellsFigures { .. }
+        | Phase::TellsId { .. }
         | Phase::GivesBack { .. }
         | Phase::AwaitsIndex { .. }
         | Phase::AwaitsEntry { .. }
@@ -224,6 +234,7 @@ fn give(
         }
         Phase::TellsPages { .. }
         | Phase::TellsFigures { .. }
+        | Phase::TellsId { .. }
         | Phase::Discards { .. }
         | Phase::AwaitsIndex { .. }
         | Phase::AwaitsEntry { .. }
@@ -248,6 +259,7 @@ fn waits(step: &Progress) -> bool
         | Phase::Ended { .. } => true,
         Phase::TellsPages { .. }
         | Phase::TellsFigures { .. }
+        | Phase::TellsId { .. }
         | Phase::Discards { .. }
         | Phase::GivesBack { .. } => false,
     }
@@ -276,8 +288,9 @@ pub fn at_once(
     ensures stays { room.new ≡ record room.old { cuts = room.new.cuts } }
     ensures fits { Fits (phase_of step.new) }
     ensures room { HasRoom result orders.new }
-    ensures kept { result.told ≡ Pages → orders.new.kept ≡ kept_pages
-        (is_kept kind (tally_of step.old).keeps (keeps_reports device.old)) orders.new.named.pages }
+    ensures kept { result.told ≡ Pages → orders.new.kept ≡
+        kept_pages (is_kept kind (tally_of step.old).keeps (keeps_free kind device.old))
+        orders.new.named.pages }
     ensures held { result.told ≡ Pages →
         orders.new.waits ≡ one_if (holds_chains kind device.old.settings) }
     ensures full { FillsList (phase_of step.new) orders.new }

@@ -6,7 +6,8 @@ ghost use Rattle.std.specs.List.{list_any};
 ghost use Rattle.vb_chain.specs.Rules.{piece_of};
 ghost use Rattle.vb_virtio.specs.declared.limits.TheConstants.{MAX_QUEUE_SIZE, MAX_REQUEST_PAGES};
 ghost use Rattle.vb_request.specs.Request.{total_length};
-ghost use Rattle.vb_monitor.specs.Chains.{is_length_within, request_length_within};
+ghost use Rattle.vb_monitor.specs.Chains.{is_length_within, request_length_within, id_length};
+ghost use Rattle.vb_monitor.specs.Chains.{has_id};
 ghost use Rattle.vb_request.specs.Statistics.{statistics_length};
 ghost use Rattle.vb_core.specs.Report.{NamesPiecesBy};
 ghost use Rattle.vb_core.specs.Pieces.{piece_in, pieces_in};
@@ -113,15 +114,42 @@ pub(crate) fn statistics_length(pieces: &[ChainPiece]) -> Result<u32, ChainFault
     }
 }
 
-/// Names the pages of a report of these pieces.
+/// How many bytes an id of hints of these pieces has, or the rule that they break.
+pub(crate) fn id_length(pieces: &[ChainPiece]) -> Result<u32, ChainFault>
+    requires { length pieces.now ≤ MAX_QUEUE_SIZE }
+    ensures { result ≡ id_length (pieces_in pieces.now) }
+{
+    match readable_length(pieces) {
+        None => Err(ChainFault::WrongDirection),
+        Some(total) => {
+            if total != 4 {
+                return Err(ChainFault::BadLength);
+            }
+            Ok(total as u32)
+        }
+    }
+}
+
+/// Whether a chain of hints of these pieces has an id, and no pages.
+pub(crate) fn has_id(pieces: &[ChainPiece]) -> bool
+    ensures { result ≡ has_id (pieces_in pieces.now) }
+{
+    if pieces.is_empty() {
+        return false;
+    }
+    pieces[0].writable == 0
+}
+
+/// Names the pages of a report or a hint of these pieces.
 pub(crate) fn report_named(
     device: &mut Device,
+    kind: Kind,
     pieces: &[ChainPiece],
     runs: &mut [Run; MAX_RUNS],
 ) -> Result<Named, Denial>
     requires { length pieces.now ≤ MAX_QUEUE_SIZE }
-    ensures { NamesPiecesBy (pieces_in pieces.now) MAX_REQUEST_PAGES runs.new device.old device.new
-        result }
+    ensures { NamesPiecesBy kind (pieces_in pieces.now) MAX_REQUEST_PAGES runs.new device.old
+        device.new result }
 {
-    device.name_report(pieces, runs)
+    device.name_pieces(kind, pieces, runs)
 }

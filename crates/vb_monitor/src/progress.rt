@@ -6,7 +6,7 @@ ghost use Rattle.vb_monitor.specs.Steps.{phase_of, tally_of, walk_of, place_of};
 ghost use Rattle.vb_monitor.specs.Steps.{discarding_of, part_of, phase_at};
 
 use crate::answers::why_of;
-use crate::codes::{CUT, DESCRIPTOR, ENDED, ENTRY, FIGURES, FLAGS, INDEX, PAGES, PART};
+use crate::codes::{CUT, DESCRIPTOR, ENDED, ENTRY, FIGURES, FLAGS, ID, INDEX, PAGES, PART};
 use crate::rows::row_bytes;
 use crate::step::has_room;
 use crate::{
@@ -261,6 +261,10 @@ impl Progress {
                 named: self.named,
                 further: self.flag != 0,
             },
+            ID => Phase::TellsId {
+                head: self.head,
+                id: self.length,
+            },
             FIGURES => Phase::TellsFigures {
                 head: self.head,
                 count: self.length,
@@ -286,8 +290,10 @@ impl Progress {
             | Phase::AwaitsFlags { .. }
             | Phase::Discards { .. }
             | Phase::Ended { .. } => true,
-            Phase::TellsPages { .. } | Phase::TellsFigures { .. } | Phase::GivesBack { .. } =>
-                false,
+            Phase::TellsPages { .. }
+            | Phase::TellsFigures { .. }
+            | Phase::TellsId { .. }
+            | Phase::GivesBack { .. } => false,
         }
     }
 

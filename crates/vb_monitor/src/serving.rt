@@ -80,6 +80,10 @@ pub(crate) fn perform<M: LiveMemory>(
             memory.tell_figures(&room.figures[..(count as usize).min(MAX_FIGURES)]);
             0
         }
+        Phase::TellsId { id, .. } => {
+            memory.tell_id(id);
+            0
+        }
         Phase::Discards { cut, .. } => {
             memory.discard(cut);
             0

@@ -8,6 +8,7 @@ ghost use Rattle.vb_monitor.specs.declared.room.TheConstants.{MAX_BYTES, MAX_RUN
 ghost use Rattle.vb_monitor.specs.declared.step.Phase.TheVariants.{AwaitsIndex, AwaitsEntry};
 ghost use Rattle.vb_monitor.specs.declared.step.Phase.TheVariants.{AwaitsDescriptor, AwaitsPart};
 ghost use Rattle.vb_monitor.specs.declared.step.Phase.TheVariants.{TellsPages, TellsFigures};
+ghost use Rattle.vb_monitor.specs.declared.step.Phase.TheVariants.{TellsId};
 ghost use Rattle.vb_monitor.specs.declared.step.Phase.TheVariants.{Discards, GivesBack};
 ghost use Rattle.vb_monitor.specs.declared.step.Phase.TheVariants.{AwaitsFlags, Ended};
 ghost use Rattle.vb_monitor.specs.Accesses.{Access};
@@ -18,7 +19,7 @@ ghost use Rattle.vb_monitor.specs.Left.{left, left_of, of_chains};
 ghost use Rattle.vb_monitor.specs.Steps.{phase_of, step_of, tally_of};
 
 use crate::answers::{end_rule, why_code};
-use crate::codes::{CUT, DESCRIPTOR, ENDED, ENTRY, FIGURES, FLAGS, INDEX, PAGES, PART, USED};
+use crate::codes::{CUT, DESCRIPTOR, ENDED, ENTRY, FIGURES, FLAGS, ID, INDEX, PAGES, PART, USED};
 use crate::{Cut, Discarding, Place, Progress, Spot, UsedSpots, Walk};
 use vb_core::{Denial, Named, UsedEntry};
 
@@ -192,6 +193,22 @@ impl Progress {
         self.phase = FIGURES;
         self.head = head;
         self.length = count;
+    }
+
+    /// An id of hints is to be told.
+    #[inline(always)]
+    pub(crate) fn await_id(&mut self, head: u16, id: u32)
+        ensures step { (w : Whole) (d : Device) (room : Room) (log : List Access) →
+            Ahead w (step_of self.new) d room log →
+            AheadAt (TellsId head id) w (tally_of self.old) d room log }
+        ensures fits { Fits (phase_of self.new) }
+        ensures stage { stage (phase_of self.new) ≡ 0 }
+        ensures left { (regions : List Region) → left regions (step_of self.new) ≤
+            of_chains regions (tally_of self.old).chains + left_of regions (TellsId head id) }
+    {
+        self.phase = ID;
+        self.head = head;
+        self.length = id;
     }
 
     /// A used element is to be written.

@@ -115,6 +115,11 @@ pub enum Phase {
         head: u16,
         count: u32,
     },
+    /// The VMM is to be told the id of hints that was read.
+    TellsId {
+        head: u16,
+        id: u32,
+    },
     /// The bytes there are to be discarded.
     Discards {
         cut: Cut,

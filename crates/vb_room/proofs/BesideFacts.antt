@@ -116,7 +116,7 @@ budgets = (
   λ a. let l : 201 ≤ 200 = a.1 in absurd (omega arith),
 )
 
-free_to_lend : LoanIsAsked (Asks 0 1) (both [] 0 []) × LoanIsAsked (Resets 0) (both [] 0 []) × LoanIsAsked (Grants 0) (both [] 0 [])
+free_to_lend : LoanIsAsked (Asks 0 1) (both [] 0 []) × LoanIsAsked (Resets 0 First) (both [] 0 []) × LoanIsAsked (Grants 0) (both [] 0 [])
     × LoanIsAsked (Takes 0 1) (both [] 0 []) × LoanIsAsked (Recounts 0) (both [] 0 []) × LoanIsAsked (Figures 0 1) (both [] 0 [])
 free_to_lend = (tt, tt, tt, tt, tt, tt)
 

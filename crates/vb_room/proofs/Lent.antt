@@ -84,7 +84,7 @@ lends_have b (Arrives n k line) asked have = have_if (has_turn b.lending.loans) 
 lends_have b (Leaves n) asked have = no_guest_there n (λ _. vacant) b.lending.loans b.world asked have
 lends_have b (Gives n k) asked have = gives n k b.lending.loans b.world asked have
 lends_have b (Asks n k) asked have = loan_events_leave_loans b.lending (Asks n k) b.world tt have
-lends_have b (Resets n) asked have = loan_events_leave_loans b.lending (Resets n) b.world tt have
+lends_have b (Resets n line) asked have = loan_events_leave_loans b.lending (Resets n line) b.world tt have
 lends_have b (Grants n) asked have = loan_events_leave_loans b.lending (Grants n) b.world tt have
 lends_have b (Takes n k) asked have = loan_events_leave_loans b.lending (Takes n k) b.world tt have
 lends_have b (Uncounts n) asked have = loan_events_leave_loans b.lending (Uncounts n) b.world tt have
@@ -108,7 +108,7 @@ lends_within b (Arrives n k line) asked h = ordinary_within b.lending (Arrives n
 lends_within b (Leaves n) asked h = ordinary_within b.lending (Leaves n) b.world.frames tt h
 lends_within b (Gives n k) asked h = ordinary_within b.lending (Gives n k) b.world.frames tt h
 lends_within b (Asks n k) asked h = ordinary_within b.lending (Asks n k) b.world.frames tt h
-lends_within b (Resets n) asked h = ordinary_within b.lending (Resets n) b.world.frames tt h
+lends_within b (Resets n line) asked h = ordinary_within b.lending (Resets n line) b.world.frames tt h
 lends_within b (Grants n) asked h = ordinary_within b.lending (Grants n) b.world.frames tt h
 lends_within b (Takes n k) asked h = ordinary_within b.lending (Takes n k) b.world.frames tt h
 lends_within b (Uncounts n) asked h = record { owed = asked; budget = h.budget }

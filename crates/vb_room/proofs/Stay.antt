@@ -60,8 +60,8 @@ loan_events_leave_loans l (Leaves n) w o h = absurd o
 loan_events_leave_loans l (Gives n k) w o h = absurd o
 loan_events_leave_loans l (Asks n k) w o h = have_if (has_turn l.loans) l.loans _ w
     (have_at n (asking k (next_turn l.loans)) l.loans w (λ s. less_either (may_ask k s) s _ (record { pages = refl; ballooned = omega arith })) h) h
-loan_events_leave_loans l (Resets n) w o h = have_if (has_turn l.loans) l.loans _ w
-    (have_at n (resetting (next_turn l.loans)) l.loans w (λ s. less_either (may_reset s) s _ (record { pages = refl; ballooned = omega arith })) h) h
+loan_events_leave_loans l (Resets n line) w o h = have_if (has_turn l.loans) l.loans _ w
+    (have_at n (resetting line (next_turn l.loans)) l.loans w (λ s. less_either (may_reset s) s _ (record { pages = refl; ballooned = omega arith })) h) h
 loan_events_leave_loans l (Grants n) w o h = have_if (may_grant l n) l.loans _ w
     (have_at n granted l.loans w (λ s. record { pages = refl; ballooned = omega arith }) h) h
 loan_events_leave_loans l (Takes n k) w o h = have_at n (took k) l.loans w (λ s. less_either (may_take k s) s _ (record { pages = refl; ballooned = omega arith })) h

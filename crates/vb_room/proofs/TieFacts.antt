@@ -124,7 +124,7 @@ lowers = (
       let less : 3 ≤ 0 = subst (λ (g : Guest). counted g ≤ counted rogue) (sym same) x.2 in absurd (omega arith),
 )
 
-keeps : KeepsBalloons (Asks 0 1) × KeepsBalloons (Resets 0) × KeepsBalloons (Grants 0)
+keeps : KeepsBalloons (Asks 0 1) × KeepsBalloons (Resets 0 First) × KeepsBalloons (Grants 0)
     × KeepsBalloons (Takes 0 1) × KeepsBalloons (Uncounts 0) × KeepsBalloons (Recounts 0)
     × KeepsBalloons (Figures 0 1) × KeepsBalloons (Budget 1)
 keeps = (tt, tt, tt, tt, tt, tt, tt, tt)

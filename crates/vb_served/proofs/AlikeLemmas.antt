@@ -7,7 +7,7 @@ use Rattle.vb_virtio.specs.Layout.{reserved_pages}
 use Rattle.vb_ram.specs.{Pages.{Page, Pages, page_at, frame_at, number_of}, Part.{Part}}
 use Rattle.vb_ring.specs.{Layout.{IsSize, IsBacked}}
 use Rattle.vb_core.specs.declared.kinds.Kind.{Kind}
-use Rattle.vb_core.specs.declared.kinds.Kind.TheVariants.{Inflate, Deflate, Statistics, Report}
+use Rattle.vb_core.specs.declared.kinds.Kind.TheVariants.{Inflate, Deflate, Statistics, Hint, Report}
 use Rattle.vb_core.specs.declared.device.Device.{Device}
 use Rattle.vb_core.specs.Kinds.{queue_of}
 use Rattle.vb_core.specs.Devices.{needing_reset, ring_of}
@@ -37,6 +37,14 @@ reset_ring Deflate d p r = record {
   used = r.used;
 }
 reset_ring Statistics d p r = record {
+  size = r.size;
+  next_avail = r.next_avail;
+  next_used = r.next_used;
+  table = r.table;
+  avail = r.avail;
+  used = r.used;
+}
+reset_ring Hint d p r = record {
   size = r.size;
   next_avail = r.next_avail;
   next_used = r.next_used;

@@ -9,6 +9,7 @@ pub mod FigureLemmas
 pub mod StaysLemmas
 pub mod EndLemmas
 pub mod OneLemmas
+pub mod OneKinds
 pub mod NextLemmas
 pub mod WordLemmas
 pub mod ElementLemmas

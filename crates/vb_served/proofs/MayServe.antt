@@ -6,7 +6,7 @@ use Rattle.std.proofs.lemmas.Bool.Decides.{nat_tests}
 use Rattle.vb_chain.specs.declared.fault.ChainFault.{ChainFault, TheVariants.IndexJump}
 use Rattle.vb_ring.specs.Entries.{ahead}
 use Rattle.vb_core.specs.declared.kinds.Kind.{Kind}
-use Rattle.vb_core.specs.declared.kinds.Kind.TheVariants.{Inflate, Deflate, Statistics, Report}
+use Rattle.vb_core.specs.declared.kinds.Kind.TheVariants.{Inflate, Deflate, Statistics, Hint, Report}
 use Rattle.vb_core.specs.declared.ring.Virtqueue.{Virtqueue}
 use Rattle.vb_core.specs.declared.runs.Run.{Run}
 use Rattle.vb_core.specs.declared.name.Named.{Named}
@@ -77,18 +77,19 @@ named_device kind bytes runs d1 d answer named is names =
     ∙ ap (λ (x : Device). with_one_taken kind x) (named_or kind bytes runs d1 d named _ refl
     (subst (λ (a : Result Named Denial). NamesNumbersBy kind bytes 256 runs d1 d a) is names))
 
-reported_or : (pieces : List Piece) (runs : List Run) (d1 d : Device) (named : Named)
-    (o : Option Denial) → pieces_denial pieces 256 d1 ≡ o →
-    NamesPiecesBy pieces 256 runs d1 d (Ok named) → d ≡ with_one_taken Report d1
-reported_or pieces runs d1 d named (Some why) e names =
+reported_or : (kind : Kind) (pieces : List Piece) (runs : List Run) (d1 d : Device) (named : Named)
+    (o : Option Denial) → pieces_denial kind pieces 256 d1 ≡ o →
+    NamesPiecesBy kind pieces 256 runs d1 d (Ok named) → d ≡ with_one_taken kind d1
+reported_or kind pieces runs d1 d named (Some why) e names =
     let refused : Ok named ≡ Err why = (names.denied why e).0 in absurd cc
-reported_or pieces runs d1 d named None e names =
-    named_by Report runs d1 d named (report_named pieces d1.settings.reserved_pages)
+reported_or kind pieces runs d1 d named None e names =
+    named_by kind runs d1 d named (report_named pieces d1.settings.reserved_pages)
     (names.answer e) (names.device e)
 
-pub reported_device : (pieces : List Piece) (runs : List Run) (d1 d : Device) (named : Named) →
-    NamesPiecesBy pieces 256 runs d1 d (Ok named) → d ≡ with_one_taken Report d1
-reported_device pieces runs d1 d named names = reported_or pieces runs d1 d named _ refl names
+pub reported_device : (kind : Kind) (pieces : List Piece) (runs : List Run) (d1 d : Device)
+    (named : Named) → NamesPiecesBy kind pieces 256 runs d1 d (Ok named) → d ≡ with_one_taken kind d1
+reported_device kind pieces runs d1 d named names =
+    reported_or kind pieces runs d1 d named _ refl names
 
 -- ---- memory
 
@@ -136,6 +137,7 @@ ring_taken : (kind : Kind) (d : Device) →
 ring_taken Inflate d = refl
 ring_taken Deflate d = refl
 ring_taken Statistics d = refl
+ring_taken Hint d = refl
 ring_taken Report d = refl
 
 ring_used : (kind : Kind) (d : Device) → ring_of kind (after_use kind d) ≡ with_used
@@ -143,6 +145,7 @@ ring_used : (kind : Kind) (d : Device) → ring_of kind (after_use kind d) ≡ w
 ring_used Inflate d = refl
 ring_used Deflate d = refl
 ring_used Statistics d = refl
+ring_used Hint d = refl
 ring_used Report d = refl
 
 used_open : (kind : Kind) (head : ℕ) (d : Device) (b : Bool) →
@@ -154,6 +157,8 @@ used_open Deflate head d b e f open_so =
     ap (λ (c : Bool). call_denial Deflate true c d) (e ∙ f) ∙ open_so
 used_open Statistics head d b e f open_so =
     ap (λ (c : Bool). call_denial Statistics true c d) (e ∙ f) ∙ open_so
+used_open Hint head d b e f open_so =
+    ap (λ (c : Bool). call_denial Hint true c d) (e ∙ f) ∙ open_so
 used_open Report head d b e f open_so =
     ap (λ (c : Bool). call_denial Report true c d) (e ∙ f) ∙ open_so
 

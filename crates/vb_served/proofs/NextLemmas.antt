@@ -26,7 +26,7 @@ use Rattle.vb_served.specs.One.{byte, all_of, head_in, descriptor_in, BreaksRule
 use Rattle.vb_served.specs.One.{ServesNext, Denied, Jumped, NoneThere, Broke, Found}
 use Rattle.vb_served.proofs.StaysLemmas.{Between, stays_so}
 use Rattle.vb_virtio.specs.declared.limits.TheConstants.{MAX_REQUEST_PAGES}
-use Rattle.vb_served.proofs.OneLemmas.{over, by_kind}
+use Rattle.vb_served.proofs.{OneLemmas.over, OneKinds.by_kind}
 use Rattle.vb_served.proofs.MayServe.{IsOf, MayServe, ring_mapped, parts_mapped, may_give}
 use Rattle.vb_served.proofs.WholeMemory.{plain_all}
 

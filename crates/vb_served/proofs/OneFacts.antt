@@ -1,7 +1,7 @@
 -- One chain that is served over memory that a device owns, worked out.
 use Rattle.std.proofs.Common.{◌≡◌, ◌∙◌, refl, ap, arith, ℕ, List, [], ◌∷◌, length, take, Option, Some}
 use Rattle.std.proofs.Common.{None, Ok, Err, true, false}
-use Rattle.vb_core.specs.declared.kinds.Kind.TheVariants.{Inflate, Deflate, Report}
+use Rattle.vb_core.specs.declared.kinds.Kind.TheVariants.{Inflate, Deflate, Hint, Report}
 use Rattle.vb_core.specs.declared.{runs.Run.Run, settings.Settings.Settings}
 use Rattle.vb_core.specs.declared.device.{Device.Device, Denial.Denial}
 use Rattle.vb_core.specs.declared.device.Denial.TheVariants.{Broken, NotReady, NeedsReset}
@@ -13,7 +13,8 @@ use Rattle.vb_ram.specs.Pages.{byte_at}
 use Rattle.vb_core.specs.declared.ring.Virtqueue.{Virtqueue}
 use Rattle.vb_monitor.specs.declared.outcome.Outcome.{Outcome}
 use Rattle.vb_served.specs.One.{all_of, byte, head_in, descriptor_in, Discards, Settles, Leaves}
-use Rattle.vb_served.specs.One.{NamesOne, HoldsBuffer, BreaksRule}
+use Rattle.vb_monitor.specs.Chains.{told_if, tells_pages}
+use Rattle.vb_served.specs.One.{NamesOne, HoldsBuffer, BreaksRule, HearsId}
 use Rattle.vb_served.proofs.StoreFacts.{Same, old, cut, without}
 
 -- ---- all of memory
@@ -54,6 +55,7 @@ settings = record {
   needs_must_tell = 0;
   skips_bad_pages = 0;
   holds_deflates = 0;
+  discards_hints = 0;
 }
 
 abbrev ready : Device
@@ -155,6 +157,51 @@ counts_the_report : (why : Option Denial) (new : Store) →
     Settles Report 3 (page_2 ∷ []) ready ready why old new → ⊥
 counts_the_report why new h =
     let e : Same 0 1 = ap (λ (d : Device). d.report.next_used) h.device in omega arith
+
+-- hinted pages of an open round lose their frames where the settings discard hints, and aren't
+-- ballooned by it
+abbrev hinting : Device
+hinting = record ready {
+  settings = record settings { discards_hints = 1 };
+  hint = placed 0 0x100 0x200 8;
+  round = record { shown = 2; last = 2; opened = 1 };
+}
+
+abbrev closed : Device
+closed = record hinting { round = record hinting.round { opened = 0 } }
+
+-- what a hint of one page of this device comes to
+abbrev HintsOne : Device → Device → Option Denial → Store → Type 0
+HintsOne d after why new = NamesOne Hint 3 (page_2 ∷ []) d after why old new
+    (told_if (tells_pages Hint d) (Ok (record { runs = 1; pages = 1; skipped = 0 })))
+
+its_hinted_frame_goes : (why : Option Denial) (after : Device) (new : Store)
+    (h : HintsOne hinting after why new) → h.between.loose ≡ 3 ∷ 9 ∷ []
+its_hinted_frame_goes why after new h =
+    let (next, lost, same) = h.discards in ap (λ (s : Store). s.loose) same ∙ lost.1
+
+kept_by_settings : (why : Option Denial) (after : Device) (new : Store)
+    (h : HintsOne (record hinting { settings = settings }) after why new) → h.between ≡ old
+kept_by_settings why after new h = h.discards
+
+kept_of_no_round : (why : Option Denial) (after : Device) (new : Store)
+    (h : HintsOne closed after why new) → h.between ≡ old
+kept_of_no_round why after new h = h.discards
+
+-- its id opens a round, and another one closes it; both are given back, and no frame is lost
+an_id : (why : Option Denial) (after : Device) (new : Store) (h : HearsId 3 2 closed after why old new) →
+    (after.round.opened ≡ 1) × (after.hint.next_avail ≡ 1) × (after.hint.next_used ≡ 1)
+    × (new.loose ≡ 3 ∷ [])
+an_id why after new h = (
+  ap (λ (d : Device). d.round.opened) h.device,
+  ap (λ (d : Device). d.hint.next_avail) h.device,
+  ap (λ (d : Device). d.hint.next_used) h.device,
+  h.gives.index.loose ∙ (h.gives.long.loose ∙ h.gives.id.loose),
+)
+
+another_id : (why : Option Denial) (after : Device) (new : Store)
+    (h : HearsId 3 0 hinting after why old new) → after.round.opened ≡ 0
+another_id why after new h = ap (λ (d : Device). d.round.opened) h.device
 
 -- a buffer of one figure: it is taken and held, and its figure is known; no frame is lost
 abbrev twenty : List ℕ

@@ -1,46 +1,42 @@
--- A chain of each kind is served.
+-- Pages that a chain named are told and given up, and a request is served.
 use Rattle.std.proofs.Common.{◌≡◌, ◌≢◌, ◌∙◌, ap, sym, subst, refl, arith, ℕ, ◌+◌, ◌≤◌, Bool}
-use Rattle.std.proofs.Common.{true, false, List, ◌++◌, length, map, take, Option, Some}
+use Rattle.std.proofs.Common.{false, List, ◌++◌, length, map, take, Option, Some}
 use Rattle.std.proofs.Common.{None, Result, Ok, Err}
-use Rattle.std.specs.Prelude.{IsOk, ◌&&◌, ◌/◌, nat_le}
-use Rattle.std.proofs.lemmas.Bool.Decides.{nat_tests}
+use Rattle.std.specs.{Prelude.{IsOk, ◌&&◌, ◌/◌, nat_le}, Int.{w32, from_le_bytes}}
 use Rattle.vb_chain.specs.declared.{fault.ChainFault.ChainFault, pieces.Piece.Piece}
 use Rattle.vb_request.specs.Request.{request_length}
-use Rattle.vb_request.specs.Statistics.{statistics_length, is_statistics_length}
 use Rattle.vb_core.specs.declared.kinds.Kind.{Kind}
-use Rattle.vb_core.specs.declared.kinds.Kind.TheVariants.{Inflate, Deflate, Statistics, Report}
+use Rattle.vb_core.specs.declared.kinds.Kind.TheVariants.{Inflate, Deflate, Statistics, Hint, Report}
 use Rattle.vb_core.specs.declared.{runs.Run.Run, name.Named.Named}
 use Rattle.vb_core.specs.declared.device.{Denial.Denial, Device.Device, Denial.TheVariants.Broken}
-use Rattle.vb_core.specs.Report.{NamesPiecesBy}
 use Rattle.vb_core.specs.Rings.{used_entry}
-use Rattle.vb_core.specs.Devices.{ring_of, needing_reset, queue_denial, with_one_taken, call_denial}
-use Rattle.vb_core.specs.Config.{keeps_reports}
-use Rattle.vb_core.specs.Statistics.{statistics_denial}
+use Rattle.vb_core.specs.Devices.{ring_of, needing_reset, queue_denial, with_one_taken}
+use Rattle.vb_core.specs.Config.{keeps_free}
 use Rattle.vb_core.specs.Using.{use_denial}
 use Rattle.vb_monitor.specs.declared.{regions.Region.Region}
 use Rattle.vb_monitor.specs.declared.outcome.{Tally.Tally, Outcome.Outcome}
 use Rattle.vb_monitor.specs.Accesses.{Access, Discard, Steps}
 use Rattle.vb_monitor.specs.Regions.{spot}
-use Rattle.vb_monitor.specs.Ends.{Whole, Breaks, EndsWhere}
+use Rattle.vb_monitor.specs.Ends.{Whole, Breaks}
 use Rattle.vb_monitor.specs.Giving.{GivesBack, more_told, GivesBackBy, AfterName, after_use, cuts_for, is_kept, spent}
-use Rattle.vb_monitor.specs.Giving.{after_last, used_spots, TellsThen, OnceTold, with_held, with_named, held_if, DiscardsThen}
+use Rattle.vb_monitor.specs.Giving.{after_last, used_spots, TellsThen, OnceTold, with_named, held_if, DiscardsThen}
 use Rattle.vb_monitor.specs.Notices.{stands}
 use Rattle.vb_virtio.specs.declared.limits.TheConstants.{MAX_REQUEST_PAGES}
-use Rattle.vb_monitor.specs.Chains.{request_length_within, CopiesBy, FiguresBy, TellsFigures, NamesReport}
+use Rattle.vb_monitor.specs.Chains.{request_length_within, CopiesBy}
 use Rattle.vb_monitor.specs.{Pieces.all_parts}
 use Rattle.vb_monitor.specs.declared.outcome.{HeldChain.HeldChain}
 use Rattle.vb_core.specs.Settings.{holds_chains}
 use Rattle.vb_core.specs.declared.settings.Settings.{Settings}
 use Rattle.vb_monitor.specs.Machine.{next_chain, serves, whole}
 use Rattle.vb_monitor.specs.Still.{bytes_of, StaysUntil, ArePartsMapped}
-use Rattle.vb_monitor.proofs.{StillFound.ends_so, StillParts.served_by_bytes}
+use Rattle.vb_monitor.proofs.{StillFound.ends_so, StillParts.{served_by_bytes, read_whole}}
 use Rattle.vb_served.specs.Store.{Store, After, with_marks}
-use Rattle.vb_served.specs.One.{byte, Discards, NamesOne, Settles, ServesReport}
-use Rattle.vb_served.specs.One.{BreaksRule, HoldsBuffer, RequestBy, BufferBy, ServesChain, all_of}
+use Rattle.vb_served.specs.One.{byte, Discards, NamesOne, Settles}
+use Rattle.vb_served.specs.One.{BreaksRule, RequestBy, all_of}
 use Rattle.vb_served.proofs.StaysLemmas.{IsPlain, Between, from_same}
 use Rattle.vb_served.proofs.EndLemmas.{apart, used_so}
-use Rattle.vb_served.proofs.MayServe.{MayServe, named_device, reported_device}
-use Rattle.vb_served.proofs.RoomLemmas.{request_room, buffer_room, buffer_bytes}
+use Rattle.vb_served.proofs.MayServe.{MayServe, named_device}
+use Rattle.vb_served.proofs.RoomLemmas.{request_room}
 
 -- ---- what was named
 
@@ -48,6 +44,7 @@ settings_kept : (kind : Kind) (d : Device) → (with_one_taken kind d).settings 
 settings_kept Inflate d = refl
 settings_kept Deflate d = refl
 settings_kept Statistics d = refl
+settings_kept Hint d = refl
 settings_kept Report d = refl
 
 -- runs are told, and the chain is given back
@@ -65,7 +62,7 @@ by_telling w d t head pages runs named s u log is free none keeps plain all open
     let h = subst (λ (b : Bool). TellsThen w (next_chain w t) d
     (held_if b head (more_told t.told pages) (spent pages t)) head runs named log) is h0 in
     let e = used_entry (ring_of w.kind d) head in
-    let cuts = cuts_for w.kind (is_kept w.kind t.keeps (keeps_reports d)) w.regions runs in
+    let cuts = cuts_for w.kind (is_kept w.kind t.keeps (keeps_free w.kind d)) w.regions runs in
     let gone : DiscardsThen (GivesBack w (next_chain w t) d (spent pages t) head) cuts h.rest =
     subst (λ (o : Option HeldChain). OnceTold o w (next_chain w t) d (spent pages t) head cuts h.rest) free
     h.goes_on in
@@ -85,9 +82,9 @@ by_telling w d t head pages runs named s u log is free none keeps plain all open
     record {
       between = parts.between;
       discards = subst (λ (rs : List Region). Discards marked (cuts_for w.kind
-          (is_kept w.kind false (keeps_reports d)) rs runs) parts.between) all
+          (is_kept w.kind false (keeps_free w.kind d)) rs runs) parts.between) all
           (subst (λ (k : Bool). Discards marked (cuts_for w.kind
-          (is_kept w.kind k (keeps_reports d)) w.regions runs) parts.between)
+          (is_kept w.kind k (keeps_free w.kind d)) w.regions runs) parts.between)
           keeps parts.first);
       gives = given_back;
       device = device;
@@ -95,7 +92,7 @@ by_telling w d t head pages runs named s u log is free none keeps plain all open
     }
 
 -- pages that were named are told and given up, and else nothing is done
-by_name : (w : Whole) (d1 d : Device) (t : Tally) (head : ℕ) (runs : List Run) (s u : Store)
+pub by_name : (w : Whole) (d1 d : Device) (t : Tally) (head : ℕ) (runs : List Run) (s u : Store)
     (answer : Result Named Denial) (log : List Access) → holds_chains w.kind d1.settings ≡ false →
     t.held ≡ None → t.chains ≡ 0 →
     t.given ≡ false → t.keeps ≡ false → IsPlain w.regions → w.regions ≡ all_of (length s.mem) →
@@ -139,10 +136,10 @@ pub record IsFound (kind : Kind) (d1 : Device) (t : Tally) (head : ℕ) (pieces 
   pub may : MayServe (all_of (length s.mem)) kind d1 head t.published
   pub parts : ArePartsMapped (all_of (length s.mem)) (all_parts pieces)
 
-abbrev Still : Store → Store → List Access → Type 0
+abbrev pub Still : Store → Store → List Access → Type 0
 Still s u log = StaysUntil (Between s u) (byte s) (all_of (length s.mem)) log
 
-broken_so : (kind : Kind) (d1 d2 : Device) (outcome : Outcome) (t : Tally) (s u : Store)
+pub broken_so : (kind : Kind) (d1 d2 : Device) (outcome : Outcome) (t : Tally) (s u : Store)
     (fault : ChainFault) (log : List Access) → t.given ≡ false → Still s u log →
     Breaks (over (length s.mem) kind d2 outcome) d1 t fault log →
     BreaksRule fault d1 d2 outcome.why s u
@@ -157,7 +154,7 @@ request_so : (t : Tally) (pieces : List Piece) (n : ℕ) → t.longest ≡ MAX_R
 request_so t pieces n longest e =
     ap (λ (most : ℕ). request_length_within most pieces) longest ∙ e
 
-by_inflate : (d1 d2 : Device) (outcome : Outcome) (t : Tally) (head : ℕ) (pieces : List Piece)
+pub by_inflate : (d1 d2 : Device) (outcome : Outcome) (t : Tally) (head : ℕ) (pieces : List Piece)
     (s u : Store) (o : Result ℕ ChainFault) (log : List Access) →
     IsFound Inflate d1 t head pieces s → request_length pieces ≡ o → Still s u log →
     CopiesBy o (over (length s.mem) Inflate d2 outcome)
@@ -185,7 +182,7 @@ by_inflate d1 d2 outcome t head pieces s u (Ok n) log is e stays h =
 held_not : (d : Device) → d.settings.holds_deflates ≡ 0 → holds_chains Deflate d.settings ≡ false
 held_not d e = grind (arith, e)
 
-by_deflate : (d1 d2 : Device) (outcome : Outcome) (t : Tally) (head : ℕ) (pieces : List Piece)
+pub by_deflate : (d1 d2 : Device) (outcome : Outcome) (t : Tally) (head : ℕ) (pieces : List Piece)
     (s u : Store) (o : Result ℕ ChainFault) (log : List Access) →
     IsFound Deflate d1 t head pieces s → request_length pieces ≡ o → Still s u log →
     CopiesBy o (over (length s.mem) Deflate d2 outcome)
@@ -209,115 +206,3 @@ by_deflate d1 d2 outcome t head pieces s u (Ok n) log is e stays h =
           is.keeps is.plain refl is.may (λ named same. named_device Deflate
           (bytes_of (byte s) pieces) x.runs d1 x.device x.answer named same x.names) on.still_so x.goes_on;
     }
-
-by_report : (d1 d2 : Device) (outcome : Outcome) (t : Tally) (head : ℕ) (pieces : List Piece)
-    (s u : Store) (log : List Access) → IsFound Report d1 t head pieces s → Still s u log →
-    NamesReport (over (length s.mem) Report d2 outcome)
-    (next_chain (over (length s.mem) Report d2 outcome) t) d1 t head pieces log →
-    ServesReport head pieces d1 d2 outcome.why s u
-by_report d1 d2 outcome t head pieces s u log is stays h =
-    let w = over (length s.mem) Report d2 outcome in
-    record {
-      runs = h.runs;
-      device = h.device;
-      answer = h.answer;
-      names = h.names;
-      serves = by_name w d1 h.device t head h.runs s u h.answer log refl is.held is.none is.given is.keeps
-          is.plain refl is.may (λ named same. reported_device pieces h.runs d1 h.device named
-          (subst (λ (r : Result Named Denial). NamesPiecesBy pieces 256 h.runs d1 h.device r) same
-          h.names)) stays h.goes_on;
-    }
-
--- ---- statistics
-
--- figures are told, and the buffer is held
-by_figures : (d1 d2 : Device) (outcome : Outcome) (t : Tally) (head : ℕ) (bytes : List ℕ)
-    (s u : Store) (log : List Access) → t.given ≡ false → Still s u log →
-    TellsFigures (over (length s.mem) Statistics d2 outcome) d1 t head bytes log →
-    HoldsBuffer head bytes d1 d2 outcome s u
-by_figures d1 d2 outcome t head bytes s u log given stays h =
-    let figures = take (length bytes / 10) h.figures in
-    let (s1, told, rest) = subst (λ (l : List Access). Still s u l) h.tells.asks stays in
-    let (so, device, still) = ends_so (Steps_to s1 u) t.given
-    (over (length s.mem) Statistics d2 outcome) (with_one_taken Statistics d1) (with_held head 0 t)
-    None false h.tells.rest given rest h.tells.ends in
-    record {
-      figures = h.figures;
-      are = h.are;
-      told = still ∙ told;
-      device = device;
-      ends = so;
-      held = held_so t.given (over (length s.mem) Statistics d2 outcome)
-          (with_one_taken Statistics d1) (with_held head 0 t) None false h.tells.rest given
-          h.tells.ends;
-    }
-  where
-    Steps_to : Store → Store → List Access → Type 0
-    Steps_to a b l = Steps After a l b
-
-    held_so : (given : Bool) (w : Whole) (d : Device) (t : Tally) (why : Option Denial)
-        (more : Bool) (log : List Access) → given ≡ false →
-        EndsWhere given w d t why more log →
-        w.outcome.tally.held ≡ t.held
-    held_so true w d t why more log e h = absurd cc
-    held_so false w d t why more log e h = ap (λ (o : Outcome). o.tally.held) h.outcome
-
-few_so : (len : ℕ) → len ≤ 1020 → nat_le (len / 10) 102 ≡ true
-few_so len le = let some : len / 10 ≤ 102 = omega (arith, le) in grind (arith, nat_tests)
-
-open_buffer : (len : ℕ) (d : Device) (a b : Bool) → is_statistics_length len ≡ a →
-    nat_le (len / 10) 102 ≡ b → a ≡ true → b ≡ true → queue_denial Statistics d ≡ None →
-    statistics_denial len 102 d ≡ None
-open_buffer len d a b e f at bt open_so =
-    ap (λ (x : Bool). call_denial Statistics true (x && nat_le (len / 10) 102) d) (e ∙ at)
-    ∙ (ap (λ (x : Bool). call_denial Statistics true (true && x) d) (f ∙ bt) ∙ open_so)
-
-length_so : (pieces : List Piece) (n : ℕ) → statistics_length pieces ≡ Ok n →
-    is_statistics_length n ≡ true
-length_so pieces n e = grind (arith, nat_tests)
-
-by_buffer : (d1 d2 : Device) (outcome : Outcome) (t : Tally) (head : ℕ) (pieces : List Piece)
-    (s u : Store) (o : Result ℕ ChainFault) (log : List Access) →
-    IsFound Statistics d1 t head pieces s → statistics_length pieces ≡ o → Still s u log →
-    CopiesBy o (over (length s.mem) Statistics d2 outcome)
-    (next_chain (over (length s.mem) Statistics d2 outcome) t) d1 t head pieces log →
-    BufferBy o head pieces d1 d2 outcome s u
-by_buffer d1 d2 outcome t head pieces s u (Err f) log is e stays h =
-    broken_so Statistics d1 d2 outcome t s u f log is.given stays h
-by_buffer d1 d2 outcome t head pieces s u (Ok n) log is e stays h =
-    let w = over (length s.mem) Statistics d2 outcome in
-    let bytes = bytes_of (byte s) pieces in
-    let room : length bytes ≤ 1020 = buffer_room (byte s) pieces n e in
-    let on = served_by_bytes (Between s u) (byte s) w t d1 head pieces n log refl e is.parts
-    (omega (arith, room)) stays
-    (subst (λ (o : Result ℕ ChainFault). CopiesBy o w (next_chain w t) d1 t head pieces log) (sym e)
-    h) in
-    let long : length bytes ≡ n = buffer_bytes (byte s) pieces n e
-    in
-    let unrefused : statistics_denial (length bytes) 102 d1 ≡ None = open_buffer (length bytes) d1 _ _
-    refl refl
-    (subst (λ (m : ℕ). is_statistics_length m ≡ true) (sym long) (length_so pieces n e))
-    (few_so (length bytes) room) is.open_so in
-    by_figures d1 d2 outcome t head bytes s u on.rest is.given on.still_so
-    (subst (λ (o : Option Denial). FiguresBy o w d1 t head bytes on.rest) unrefused on.is)
-
--- ---- all of them
-
-pub by_kind : (kind : Kind) (d1 d2 : Device) (outcome : Outcome) (t : Tally) (head : ℕ)
-    (pieces : List Piece) (s u : Store) (log : List Access) → IsFound kind d1 t head pieces s →
-    Still s u log → serves (over (length s.mem) kind d2 outcome) t d1 head pieces log →
-    ServesChain kind head pieces d1 d2 outcome s u
-by_kind Inflate d1 d2 outcome t head pieces s u log is stays h =
-    by_inflate d1 d2 outcome t head pieces s u (request_length pieces) log is refl stays
-    (subst (λ (most : ℕ). CopiesBy (request_length_within most pieces)
-    (over (length s.mem) Inflate d2 outcome)
-    (next_chain (over (length s.mem) Inflate d2 outcome) t) d1 t head pieces log) is.longest h)
-by_kind Deflate d1 d2 outcome t head pieces s u log is stays h =
-    by_deflate d1 d2 outcome t head pieces s u (request_length pieces) log is refl stays
-    (subst (λ (most : ℕ). CopiesBy (request_length_within most pieces)
-    (over (length s.mem) Deflate d2 outcome)
-    (next_chain (over (length s.mem) Deflate d2 outcome) t) d1 t head pieces log) is.longest h)
-by_kind Statistics d1 d2 outcome t head pieces s u log is stays h =
-    by_buffer d1 d2 outcome t head pieces s u (statistics_length pieces) log is refl stays h
-by_kind Report d1 d2 outcome t head pieces s u log is stays h =
-    by_report d1 d2 outcome t head pieces s u log is stays h

@@ -15,13 +15,13 @@ use Rattle.vb_status.specs.Bits.{feature_bits}
 use Rattle.vb_ring.specs.Layout.{IsSize, IsBacked, Fits, layout_of}
 use Rattle.vb_ring.proofs.Shapes.{fits_at}
 use Rattle.vb_core.specs.declared.kinds.Kind.{Kind}
-use Rattle.vb_core.specs.declared.kinds.Kind.TheVariants.{Inflate, Deflate, Statistics, Report}
+use Rattle.vb_core.specs.declared.kinds.Kind.TheVariants.{Inflate, Deflate, Statistics, Hint, Report}
 use Rattle.vb_core.specs.declared.device.{Device.Device}
 use Rattle.vb_core.specs.declared.device.Denial.TheVariants.{NoQueue as NoQueueDenied, BadArgument}
 use Rattle.vb_core.specs.declared.device.Denial.TheVariants.{NotReady as NotReadyDenied}
 use Rattle.vb_core.specs.declared.device.Denial.TheVariants.{NeedsReset as NeedsResetDenied, Misplaced}
 use Rattle.vb_core.specs.declared.settings.TheConstants.{MEMORY_LIMIT}
-use Rattle.vb_core.specs.{Kinds.queue_of, Settings.are_settings}
+use Rattle.vb_core.specs.{Kinds.{queue_of, lacks}, Settings.are_settings}
 use Rattle.vb_core.specs.Rings.{has_place, is_part, is_size}
 use Rattle.vb_core.specs.Devices.{ring_of, first_denial, ◌⇛◌}
 use Rattle.vb_device.specs.Queues.{queue_part}
@@ -186,11 +186,21 @@ empty_so (x ∷ xs) e = absurd (let few = ltb-false 0 (length (x ∷ xs)) e in o
 
 -- ---- the tie
 
+-- a queue that a device of the model has is left out by the same features
+lacks_so : (kind : Kind) (features : ℕ) → has_chains (queue_of kind) ≡ true →
+    lacks features kind ≡ lacks_feature features (queue_of kind)
+lacks_so Inflate features known = refl
+lacks_so Deflate features known = refl
+lacks_so Statistics features known = refl
+lacks_so Hint features known = absurd cc
+lacks_so Report features known = refl
+
 -- a device is alike whose ring is the one of the registers, whatever the kind
 pub ring_same : (kind : Kind) (r : QueueRegisters) (q n : ℕ) → ring_of kind (device_for r q n) ≡ ring_for r q
 ring_same Inflate r q n = refl
 ring_same Deflate r q n = refl
 ring_same Statistics r q n = refl
+ring_same Hint r q n = refl
 ring_same Report r q n = refl
 
 rings_so : (kind : Kind) (r : QueueRegisters) (p : Part) (n : ℕ) → HasRegisters r (queue_of kind) p →
@@ -256,11 +266,12 @@ tie_so kind r p s size backed none_loose few avail used has lie free =
         few = omega (arith, few);
       };
       open_so = open_denial (are_settings d.settings) (is_not_ready d.status) (has_fault d.status)
-          (lacks_feature d.features q) (has_place d.settings.memory_end (ring_of kind d))
+          (lacks d.features kind) (has_place d.settings.memory_end (ring_of kind d))
           (settings_so r.queue_size (length s.mem) few)
           (ap (λ (n : ℕ). is_not_ready n) (sym has.status) ∙ ready)
           (ap (λ (n : ℕ). has_fault n) (sym has.status) ∙ right)
-          (ap (λ (n : ℕ). lacks_feature n q) (sym has.features) ∙ there)
+          (lacks_so kind d.features known
+          ∙ (ap (λ (n : ℕ). lacks_feature n q) (sym has.features) ∙ there))
           (ap (λ (x : Virtqueue). has_place (4096 * length s.mem) x) (ring_same kind r q (length s.mem))
           ∙ place_of r q s.mem size backed);
       may_take = five_so (has_chains q) (is_not_ready p.status) (has_fault p.status)

@@ -11,7 +11,7 @@ use Rattle.vb_chain.specs.declared.fault.ChainFault.{ChainFault}
 use Rattle.vb_ring.specs.Layout.{IsSize, IsBacked, layout_of}
 use Rattle.vb_request.specs.Refusals.{rule_of, take_refusal_by}
 use Rattle.vb_core.specs.declared.kinds.Kind.{Kind}
-use Rattle.vb_core.specs.declared.kinds.Kind.TheVariants.{Inflate, Deflate, Statistics, Report}
+use Rattle.vb_core.specs.declared.kinds.Kind.TheVariants.{Inflate, Deflate, Statistics, Hint, Report}
 use Rattle.vb_core.specs.declared.device.{Denial.Denial, Device.Device}
 use Rattle.vb_core.specs.declared.settings.TheConstants.{MEMORY_LIMIT}
 use Rattle.vb_core.specs.{Kinds.queue_of}
@@ -87,6 +87,8 @@ stand_has Deflate r s =
     record { status = refl; features = refl; size = refl; next_avail = refl; next_used = refl }
 stand_has Statistics r s =
     record { status = refl; features = refl; size = refl; next_avail = refl; next_used = refl }
+stand_has Hint r s =
+    record { status = refl; features = refl; size = refl; next_avail = refl; next_used = refl }
 stand_has Report r s =
     record { status = refl; features = refl; size = refl; next_avail = refl; next_used = refl }
 
@@ -95,6 +97,7 @@ stand_lies : (kind : Kind) (r : QueueRegisters) (s : Store) → s.loose ≡ [] �
 stand_lies Inflate r s e = record { loose = sym e; ballooned = refl; last = refl }
 stand_lies Deflate r s e = record { loose = sym e; ballooned = refl; last = refl }
 stand_lies Statistics r s e = record { loose = sym e; ballooned = refl; last = refl }
+stand_lies Hint r s e = record { loose = sym e; ballooned = refl; last = refl }
 stand_lies Report r s e = record { loose = sym e; ballooned = refl; last = refl }
 
 stand_open : (kind : Kind) (r : QueueRegisters) (s : Store) →
@@ -103,6 +106,7 @@ stand_open : (kind : Kind) (r : QueueRegisters) (s : Store) →
 stand_open Inflate r s e = serve_open 0 (stand Inflate r s) e
 stand_open Deflate r s e = serve_open 1 (stand Deflate r s) e
 stand_open Statistics r s e = serve_open 2 (stand Statistics r s) e
+stand_open Hint r s e = absurd cc
 stand_open Report r s e = serve_open 4 (stand Report r s) e
 
 -- ---- a notice in place of a device's calls
@@ -112,6 +116,7 @@ held_below : (kind : Kind) (result : Result (Option ℕ) Refusal) (n : ℕ) →
     IfSome (held_by kind result) (λ head. head < n)
 held_below Inflate result n below = search rules
 held_below Deflate result n below = search rules
+held_below Hint result n below = search rules
 held_below Report result n below = search rules
 held_below Statistics (Ok None) n below = search rules
 held_below Statistics (Err why) n below = search rules

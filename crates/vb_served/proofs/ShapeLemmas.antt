@@ -7,7 +7,7 @@ use Rattle.vb_virtio.specs.declared.refusals.Refusal.{Refusal}
 use Rattle.vb_virtio.specs.declared.statistics.LastStatistics.{LastStatistics}
 use Rattle.vb_ram.specs.Part.{Part}
 use Rattle.vb_core.specs.declared.kinds.Kind.{Kind}
-use Rattle.vb_core.specs.declared.kinds.Kind.TheVariants.{Inflate, Deflate, Statistics, Report}
+use Rattle.vb_core.specs.declared.kinds.Kind.TheVariants.{Inflate, Deflate, Statistics, Hint, Report}
 use Rattle.vb_core.specs.declared.device.Device.{Device}
 use Rattle.vb_core.specs.{Kinds.queue_of, Devices.ring_of}
 use Rattle.vb_device.specs.Faults.{needing_reset}
@@ -45,12 +45,14 @@ pub put_same : (kind : Kind) (p : Part) → DiffersThere kind p p
 put_same Inflate p = refl
 put_same Deflate p = refl
 put_same Statistics p = refl
+put_same Hint p = refl
 put_same Report p = refl
 
 pub put_reset : (kind : Kind) (p : Part) → DiffersThere kind (needing_reset p) p
 put_reset Inflate p = refl
 put_reset Deflate p = refl
 put_reset Statistics p = refl
+put_reset Hint p = refl
 put_reset Report p = refl
 
 pub shape_so : (kind : Kind) (d : Device) (new p : Part) (t : Store)

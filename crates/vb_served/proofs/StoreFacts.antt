@@ -3,8 +3,8 @@ use Rattle.std.proofs.Common.{◌≡◌, refl, ap, arith, ℕ, List, [], ◌∷�
 use Rattle.vb_ram.specs.Pages.{Page, Pages, byte_at}
 use Rattle.vb_monitor.specs.declared.{regions.Spot.Spot, cuts.Cut.Cut}
 use Rattle.vb_monitor.specs.Accesses.{Full, ReadWord, CopyBytes, Discard, WriteNumber, WriteWord}
-use Rattle.vb_monitor.specs.Accesses.{TellPages, TellFigures}
-use Rattle.vb_core.specs.declared.kinds.Kind.TheVariants.{Inflate, Deflate, Report}
+use Rattle.vb_monitor.specs.Accesses.{TellPages, TellFigures, TellId}
+use Rattle.vb_core.specs.declared.kinds.Kind.TheVariants.{Inflate, Deflate, Hint, Report}
 use Rattle.vb_core.specs.declared.{runs.Run.Run, name.Named.Named, statistics.Statistic.Statistic}
 use Rattle.std.proofs.Common.{Bool, true, false}
 use Rattle.vb_served.specs.Store.{Store, After, pages_of_cut}
@@ -130,6 +130,15 @@ past_the_end = refl
 
 reported : After old (TellPages Report (pages 0 2) one) old
 reported = refl
+
+hinted : After old (TellPages Hint (pages 0 2) one) old
+hinted = refl
+
+an_id : After old (TellId 2) old
+an_id = refl
+
+an_id_that_discards : After old (TellId 2) (record old { loose = [] }) → ⊥
+an_id_that_discards h = let e : Same 0 1 = ap (λ (s : Store). length s.loose) h in omega arith
 
 abbrev first_flag : List Bool → Bool
 first_flag [] = false

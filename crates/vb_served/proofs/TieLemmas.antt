@@ -28,7 +28,7 @@ use Rattle.vb_monitor.specs.Still.{index_in}
 use Rattle.vb_served.specs.{Store.Store, Alike.{IsAlike}, Tied.{IsServedAlike, held_by}}
 use Rattle.vb_device.specs.ServedChains.{with_held}
 use Rattle.vb_served.proofs.ShapeLemmas.{shape_so, put_same, put_reset}
-use Rattle.vb_core.specs.declared.kinds.Kind.TheVariants.{Inflate, Deflate, Statistics, Report}
+use Rattle.vb_core.specs.declared.kinds.Kind.TheVariants.{Inflate, Deflate, Statistics, Hint, Report}
 use Rattle.vb_served.specs.One.{byte, head_in, descriptor_in, Leaves, BreaksRule, NextGives, NextFault}
 use Rattle.vb_monitor.proofs.StillFound.{found_by}
 use Rattle.vb_served.proofs.WordLemmas.{same_next, same_table}
@@ -146,6 +146,7 @@ none_tied kind d1 d2 outcome s t p1 tie next left =
     none_held Inflate = refl
     none_held Deflate = refl
     none_held Statistics = refl
+    none_held Hint = refl
     none_held Report = refl
 
 pub broken_tied : (kind : Kind) (d1 d2 : Device) (outcome : Outcome) (s t : Store) (p1 : Part)
@@ -186,6 +187,7 @@ broken_tied kind d1 d2 outcome s t p1 fault tie takes left =
     still_taken Inflate = refl
     still_taken Deflate = refl
     still_taken Statistics = refl
+    still_taken Hint = refl
     still_taken Report = refl
 
     reset_count : (kind : Kind) (d : Device) → (ring_of kind (needing_reset d)).next_avail
@@ -193,6 +195,7 @@ broken_tied kind d1 d2 outcome s t p1 fault tie takes left =
     reset_count Inflate d = refl
     reset_count Deflate d = refl
     reset_count Statistics d = refl
+    reset_count Hint d = refl
     reset_count Report d = refl
 
 -- the first of the taken ones

@@ -5,7 +5,7 @@ use Rattle.vb_ram.specs.{Part.Part}
 use Rattle.vb_chain.specs.declared.{pieces.Piece.Piece}
 use Rattle.vb_request.specs.{Request.request_length, Statistics.statistics_length}
 use Rattle.vb_core.specs.declared.kinds.Kind.{Kind}
-use Rattle.vb_core.specs.declared.kinds.Kind.TheVariants.{Inflate, Deflate, Statistics, Report}
+use Rattle.vb_core.specs.declared.kinds.Kind.TheVariants.{Inflate, Deflate, Statistics, Hint, Report}
 use Rattle.vb_core.specs.declared.{device.{Device.Device}, settings.TheConstants.MEMORY_LIMIT}
 use Rattle.vb_core.specs.{Kinds.queue_of, Devices.ring_of}
 use Rattle.vb_device.specs.Queues.{next_available}
@@ -31,6 +31,8 @@ chain_tied Deflate d1 d2 outcome s t p1 pieces tie small next gives did =
     tie_deflate d1 d2 outcome s t p1 pieces (request_length pieces) tie next gives refl did
 chain_tied Statistics d1 d2 outcome s t p1 pieces tie small next gives did =
     tie_statistics d1 d2 outcome s t p1 pieces (statistics_length pieces) tie next gives refl did
+chain_tied Hint d1 d2 outcome s t p1 pieces tie small next gives did =
+    absurd (let none = tie.may_take in cc)
 chain_tied Report d1 d2 outcome s t p1 pieces tie small next gives did =
     tie_report d1 d2 outcome s t p1 pieces tie next small gives did
 

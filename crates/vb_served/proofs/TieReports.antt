@@ -27,7 +27,7 @@ use Rattle.vb_device.specs.{Calls.{HasChain, taking}, Discards.discarded}
 use Rattle.vb_device.specs.{Finishes.{Uses, settled, using}, Queues.{queue_layout, queue_end, next_available}}
 use Rattle.vb_device.proofs.Discards.{discarded-length}
 use Rattle.vb_monitor.specs.declared.{outcome.Outcome.Outcome}
-use Rattle.vb_monitor.specs.{Chains.memory_end, Giving.{after_use, cuts_for, is_kept}}
+use Rattle.vb_monitor.specs.{Chains.{memory_end, told_if}, Giving.{after_use, cuts_for, is_kept}}
 use Rattle.vb_served.specs.{Store.{Store, with_marks}, Alike.{IsAlike, AreRings}, Tied.IsServedAlike}
 use Rattle.vb_served.specs.One.{byte, all_of, head_in, descriptor_in, Discards, NextGives, NamesOne}
 use Rattle.vb_served.specs.One.{ServesReport, Settles}
@@ -50,7 +50,7 @@ none_beyond end pieces fits lt =
     list_any_none is_beyond pieces (λ k d l. not_beyond end (get_or pieces k d) (fits k d l) lt)
 
 pub report_open : (end : ℕ) (pieces : List Piece) (d : Device) → All (λ p. p.addr + p.len ≤ end) pieces →
-    end < MEMORY_LIMIT → queue_denial Report d ≡ None → pieces_denial pieces 256 d ≡ None
+    end < MEMORY_LIMIT → queue_denial Report d ≡ None → pieces_denial Report pieces 256 d ≡ None
 report_open end pieces d fits lt open_so =
     ap (λ (b : Bool). call_denial Report true (true && not b) d) (none_beyond end pieces fits lt)
     ∙ open_so
@@ -275,12 +275,17 @@ by_request h d1 d2 device outcome s t p1 pieces runs answer (Ok pages) tie below
 few_heads : (h size n : ℕ) → h < n → n ≡ size → size ≤ 256 → h < 65536
 few_heads h size n lt e most = omega (arith, lt, e, most)
 
+-- all pages of a report are told
+told_all : (answer : Result Named Denial) → told_if true answer ≡ answer
+told_all (Ok named) = refl
+told_all (Err why) = refl
+
 pub tie_report : (d1 d2 : Device) (outcome : Outcome) (s t : Store) (p1 : Part)
     (pieces : List Piece) → IsTie Report d1 p1 s →
     next_available 4 s.mem p1 ≡ Ok (Some (head_in (byte s) d1.report)) →
     4096 * length s.mem < MEMORY_LIMIT →
     NextGives (byte s) d1.report (memory_end d1) pieces →
-    ServesReport (head_in (byte s) d1.report) pieces d1 d2 outcome.why s t →
+    ServesReport Report (head_in (byte s) d1.report) pieces d1 d2 outcome.why s t →
     IsServedAlike Report d1 d2 outcome s t p1
 tie_report d1 d2 outcome s t p1 pieces tie next small gives did =
     let h = head_in (byte s) d1.report in
@@ -298,4 +303,6 @@ tie_report d1 d2 outcome s t p1 pieces tie next small gives did =
     ∙ ap (λ (o : Result (List ℕ) ChainFault). told (named_by (length pieces) o)) reserved)
     (did.names.device open_so
     ∙ ap (λ (o : Result (List ℕ) ChainFault). after_chain Report (named_by (length pieces) o) d1)
-    reserved) did.names.runs_are did.serves
+    reserved) did.names.runs_are
+    (subst (λ (r : Result Named Denial). NamesOne Report h did.runs did.device d2 outcome.why s t r)
+    (told_all did.answer) did.serves)

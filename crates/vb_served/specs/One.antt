@@ -1,5 +1,5 @@
 -- The next chain of a queue is served over guest memory: what becomes of memory and of the device.
-use Rattle.std.specs.Prelude.{◌≡◌, ◌+◌, ◌*◌, ◌/◌, ℕ, true, false, List, [], ◌∷◌, length, take}
+use Rattle.std.specs.Prelude.{◌≡◌, ◌+◌, ◌*◌, ◌/◌, ℕ, Bool, true, false, List, [], ◌∷◌, length, take}
 use Rattle.std.specs.Prelude.{Option, Some, None, Result, Ok, Err}
 use Rattle.std.specs.Int.{w16, w32, from_le_bytes, to_le_bytes}
 use Rattle.vb_virtio.specs.declared.limits.TheConstants.{MAX_REQUEST_PAGES}
@@ -11,7 +11,8 @@ use Rattle.vb_chain.specs.declared.pieces.Piece.{Piece}
 use Rattle.vb_request.specs.Request.{byte_of_address, request_length}
 use Rattle.vb_request.specs.Statistics.{statistics_length}
 use Rattle.vb_core.specs.declared.kinds.Kind.{Kind}
-use Rattle.vb_core.specs.declared.kinds.Kind.TheVariants.{Inflate, Deflate, Statistics, Report}
+use Rattle.vb_core.specs.declared.kinds.Kind.TheVariants.{Inflate, Deflate, Statistics, Hint}
+use Rattle.vb_core.specs.declared.kinds.Kind.TheVariants.{Report}
 use Rattle.vb_core.specs.declared.runs.Run.{Run}
 use Rattle.vb_core.specs.declared.name.Named.{Named}
 use Rattle.vb_core.specs.declared.statistics.Statistic.{Statistic}
@@ -20,7 +21,7 @@ use Rattle.vb_core.specs.declared.ring.Virtqueue.{Virtqueue}
 use Rattle.vb_core.specs.declared.device.Denial.{Denial}
 use Rattle.vb_core.specs.declared.device.Denial.TheVariants.{Broken}
 use Rattle.vb_core.specs.declared.device.Device.{Device}
-use Rattle.vb_core.specs.Config.{keeps_reports}
+use Rattle.vb_core.specs.Config.{keeps_free}
 use Rattle.vb_core.specs.Rings.{used_entry}
 use Rattle.vb_core.specs.Devices.{ring_of, needing_reset, queue_denial, with_one_taken}
 use Rattle.vb_core.specs.Name.{NamesNumbersBy}
@@ -29,7 +30,8 @@ use Rattle.vb_core.specs.Statistics.{AreFigures}
 use Rattle.vb_monitor.specs.declared.regions.Region.{Region}
 use Rattle.vb_monitor.specs.declared.cuts.Cut.{Cut}
 use Rattle.vb_monitor.specs.declared.outcome.Outcome.{Outcome}
-use Rattle.vb_monitor.specs.Chains.{descriptor_of, memory_end}
+use Rattle.vb_monitor.specs.Chains.{descriptor_of, memory_end, has_id, id_length, after_id}
+use Rattle.vb_monitor.specs.Chains.{told_if, tells_pages}
 use Rattle.vb_monitor.specs.Within.{ChainWithin, FaultWithin}
 use Rattle.vb_monitor.specs.Giving.{after_use, after_last, cuts_for, is_kept}
 use Rattle.vb_monitor.specs.Notices.{entry_offset, stands}
@@ -94,7 +96,7 @@ pub record Settles (kind : Kind) (head : ℕ) (runs : List Run) (d1 d2 : Device)
     (why : Option Denial) (s t : Store) : Type 0 where
   pub between : Store
   pub discards : Discards (with_marks kind runs s)
-      (cuts_for kind (is_kept kind false (keeps_reports d1)) (all_of (length s.mem)) runs) between
+      (cuts_for kind (is_kept kind false (keeps_free kind d1)) (all_of (length s.mem)) runs) between
   pub gives : Gives (used_entry (ring_of kind d1) head) between t
   pub device : d2 ≡ after_use kind d1
   pub ends : why ≡ None
@@ -117,14 +119,34 @@ pub record ServesRequest (kind : Kind) (head : ℕ) (bytes : List ℕ) (d1 d2 : 
   pub names : NamesNumbersBy kind bytes MAX_REQUEST_PAGES runs d1 device answer
   pub serves : NamesOne kind head runs (after_last kind answer device) d2 why s t answer
 
--- A report of these pieces is served.
-pub record ServesReport (head : ℕ) (pieces : List Piece) (d1 d2 : Device) (why : Option Denial)
-    (s t : Store) : Type 0 where
+-- A report of these pieces is served, or hints: of these no pages are told unless their round is
+-- open.
+pub record ServesReport (kind : Kind) (head : ℕ) (pieces : List Piece) (d1 d2 : Device)
+    (why : Option Denial) (s t : Store) : Type 0 where
   pub runs : List Run
   pub device : Device
   pub answer : Result Named Denial
-  pub names : NamesPiecesBy pieces MAX_REQUEST_PAGES runs d1 device answer
-  pub serves : NamesOne Report head runs device d2 why s t answer
+  pub names : NamesPiecesBy kind pieces MAX_REQUEST_PAGES runs d1 device answer
+  pub serves : NamesOne kind head runs device d2 why s t (told_if (tells_pages kind d1) answer)
+
+-- An id of hints was read: the device's round opens or closes by it, and the chain of this head was
+-- given back.
+pub record HearsId (head id : ℕ) (d1 d2 : Device) (why : Option Denial) (s t : Store) : Type 0 where
+  pub gives : Gives (used_entry (ring_of Hint (after_id id d1)) head) s t
+  pub device : d2 ≡ after_use Hint (after_id id d1)
+  pub ends : why ≡ None
+
+abbrev pub HearsBy : Result ℕ ChainFault → ℕ → List Piece → Device → Device → Option Denial →
+    Store → Store → Type 0
+HearsBy (Err fault) head pieces d1 d2 why s t = BreaksRule fault d1 d2 why s t
+HearsBy (Ok total) head pieces d1 d2 why s t =
+    HearsId head (from_le_bytes w32 (bytes_of (byte s) pieces)) d1 d2 why s t
+
+-- A chain of hints is served: of an id, or of pages.
+abbrev pub ServesHint : Bool → ℕ → List Piece → Device → Device → Option Denial → Store → Store →
+    Type 0
+ServesHint true head pieces d1 d2 why s t = HearsBy (id_length pieces) head pieces d1 d2 why s t
+ServesHint false head pieces d1 d2 why s t = ServesReport Hint head pieces d1 d2 why s t
 
 -- A buffer of statistics of these bytes is taken and held: its figures are the last ones.
 pub record HoldsBuffer (head : ℕ) (bytes : List ℕ) (d1 d2 : Device) (outcome : Outcome)
@@ -157,8 +179,10 @@ ServesChain Deflate head pieces d1 d2 outcome s t =
     RequestBy (request_length pieces) Deflate head pieces d1 d2 outcome s t
 ServesChain Statistics head pieces d1 d2 outcome s t =
     BufferBy (statistics_length pieces) head pieces d1 d2 outcome s t
+ServesChain Hint head pieces d1 d2 outcome s t =
+    ServesHint (has_id pieces) head pieces d1 d2 outcome.why s t
 ServesChain Report head pieces d1 d2 outcome s t =
-    ServesReport head pieces d1 d2 outcome.why s t
+    ServesReport Report head pieces d1 d2 outcome.why s t
 
 -- ---- the next chain
 

@@ -8,6 +8,7 @@ use Rattle.vb_ring.specs.Layout.{layout_of}
 use Rattle.vb_core.specs.declared.device.Device.{Device}
 use Rattle.vb_core.specs.declared.ring.Virtqueue.{Virtqueue}
 use Rattle.vb_core.specs.declared.settings.Settings.{Settings}
+use Rattle.vb_core.specs.Hints.{no_round}
 use Rattle.vb_device.specs.declared.serving.QueueRegisters.{QueueRegisters}
 use Rattle.vb_served.specs.Alike.{address_of}
 
@@ -20,6 +21,7 @@ settings_for size pages = record {
   needs_must_tell = 0;
   skips_bad_pages = 0;
   holds_deflates = 0;
+  discards_hints = 0;
 }
 
 -- The ring of a queue.
@@ -43,7 +45,9 @@ device_for r q pages = record {
   inflate = ring_for r q;
   deflate = ring_for r q;
   statistics = ring_for r q;
+  hint = ring_for r q;
   report = ring_for r q;
   poison = 0;
+  round = no_round;
   status = status_bits r.status;
 }

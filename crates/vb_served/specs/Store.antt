@@ -11,13 +11,15 @@ use Rattle.vb_request.specs.Request.{bytes_from, each_once}
 use Rattle.vb_request.specs.Statistics.{Statistic as SaidStatistic, last_of}
 use Rattle.vb_device.specs.Discards.{discarded, frames_behind, flagged}
 use Rattle.vb_core.specs.declared.kinds.Kind.{Kind}
-use Rattle.vb_core.specs.declared.kinds.Kind.TheVariants.{Inflate, Deflate, Statistics, Report}
+use Rattle.vb_core.specs.declared.kinds.Kind.TheVariants.{Inflate, Deflate, Statistics, Hint}
+use Rattle.vb_core.specs.declared.kinds.Kind.TheVariants.{Report}
 use Rattle.vb_core.specs.declared.runs.Run.{Run}
 use Rattle.vb_core.specs.declared.statistics.Statistic.{Statistic}
 use Rattle.vb_core.specs.Runs.{pages_of_runs}
 use Rattle.vb_monitor.specs.declared.cuts.Cut.{Cut}
 use Rattle.vb_monitor.specs.Accesses.{Access, ReadWord, CopyBytes, Acquire, Release, Full}
-use Rattle.vb_monitor.specs.Accesses.{TellPages, TellFigures, Discard, WriteNumber, WriteWord}
+use Rattle.vb_monitor.specs.Accesses.{TellPages, TellFigures, TellId, Discard, WriteNumber}
+use Rattle.vb_monitor.specs.Accesses.{WriteWord}
 
 -- Guest memory, the numbers of the frames that were taken from its pages and are kept, which pages
 -- are ballooned, and what the last buffer of statistics said.
@@ -49,6 +51,7 @@ abbrev pub marked_by : Kind → List Run → List Bool → List Bool
 marked_by Inflate runs flags = flagged (pages_of_runs runs) true flags
 marked_by Deflate runs flags = flagged (pages_of_runs runs) false flags
 marked_by Statistics runs flags = flags
+marked_by Hint runs flags = flags
 marked_by Report runs flags = flags
 
 abbrev pub with_marks : Kind → List Run → Store → Store
@@ -74,7 +77,8 @@ with_figures figures s = record s { last = last_in figures }
 
 -- What an access makes of memory, which is one region: what is read is what memory has then, as
 -- zeros where a page has no frame; pages that are told are ballooned, or no more, and figures are
--- the last ones; what is discarded loses its frames, which are loose then.
+-- the last ones; an id of hints changes nothing; what is discarded loses its frames, which are
+-- loose then.
 abbrev pub After : Store → Access → Store → Type 0
 After s (ReadWord at answer) t =
     (answer ≡ from_le_bytes w16 (bytes_from s.mem at.offset 2)) × (t ≡ s)
@@ -85,6 +89,7 @@ After s Release t = t ≡ s
 After s Full t = t ≡ s
 After s (TellPages kind runs named) t = t ≡ with_marks kind runs s
 After s (TellFigures figures) t = t ≡ with_figures figures s
+After s (TellId id) t = t ≡ s
 After s (Discard cut) t =
     (t.mem ≡ discarded (pages_of_cut cut) s.mem)
     × (t.loose ≡ s.loose ++ frames_behind s.mem (each_once (pages_of_cut cut)))

@@ -7,7 +7,8 @@ use Rattle.vb_chain.specs.declared.fault.ChainFault.{ChainFault}
 use Rattle.vb_ram.specs.Part.{Part}
 use Rattle.vb_request.specs.Refusals.{rule_of}
 use Rattle.vb_core.specs.declared.kinds.Kind.{Kind}
-use Rattle.vb_core.specs.declared.kinds.Kind.TheVariants.{Inflate, Deflate, Statistics, Report}
+use Rattle.vb_core.specs.declared.kinds.Kind.TheVariants.{Inflate, Deflate, Statistics, Hint}
+use Rattle.vb_core.specs.declared.kinds.Kind.TheVariants.{Report}
 use Rattle.vb_core.specs.Kinds.{queue_of}
 use Rattle.vb_core.specs.declared.device.Denial.{Denial}
 use Rattle.vb_core.specs.declared.device.Denial.TheVariants.{Broken as BreaksIt}
@@ -39,6 +40,7 @@ held_by Statistics (Ok head) = head
 held_by Statistics (Err why) = None
 held_by Inflate result = None
 held_by Deflate result = None
+held_by Hint result = None
 held_by Report result = None
 
 -- How many entries are taken then, where n were.

@@ -174,13 +174,15 @@ impl LiveMemory for LooseRam {
         match kind {
             Kind::Inflate => mark_runs(&mut self.ballooned, runs, Marking::Enter),
             Kind::Deflate => mark_runs(&mut self.ballooned, runs, Marking::Leave),
-            Kind::Statistics | Kind::Report => {}
+            Kind::Statistics | Kind::Hint | Kind::Report => {}
         }
     }
 
     fn tell_figures(&mut self, figures: &[Statistic]) {
         self.last = last_in(figures);
     }
+
+    fn tell_id(&mut self, _id: u32) {}
 
     fn discard(&mut self, cut: Cut) {
         self.discard_pages(cut.offset / PAGE_BYTES, cut.length / PAGE_BYTES);

@@ -23,7 +23,7 @@ use bitflags::Flags;
 use std::alloc::Global;
 use std::mem;
 use vb_bits::BitSet;
-use vb_core::{Denial, Device, Kind, Settings, Virtqueue};
+use vb_core::{Denial, Device, Kind, Round, Settings, Virtqueue};
 use vb_device::{OpenQueue, QueueRegisters, ServedChain, ServesChains};
 use vb_monitor::{Outcome, Room};
 use vb_ram::{Frame, GuestBytes, Ram, Shape};
@@ -88,6 +88,7 @@ fn device_for(registers: QueueRegisters, queue: u32, pages: u32) -> Device
             needs_must_tell: 0,
             skips_bad_pages: 0,
             holds_deflates: 0,
+            discards_hints: 0,
         },
         features: registers.features.bits(),
         target: 0,
@@ -95,8 +96,10 @@ fn device_for(registers: QueueRegisters, queue: u32, pages: u32) -> Device
         inflate: ring,
         deflate: ring,
         statistics: ring,
+        hint: ring,
         report: ring,
         poison: 0,
+        round: Round::NONE,
         status: registers.status.bits(),
     }
 }
@@ -140,7 +143,7 @@ fn held_by(kind: Kind, answer: Result<Option<u16>, Refusal>) -> Option<u16>
             Ok(head) => head,
             Err(_) => None,
         },
-        Kind::Inflate | Kind::Deflate | Kind::Report => None,
+        Kind::Inflate | Kind::Deflate | Kind::Hint | Kind::Report => None,
     }
 }
 

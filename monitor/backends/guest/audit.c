@@ -69,7 +69,7 @@ static uint16_t word_at(const struct backend *backend, uint64_t address)
 static const VbQueue *queue_of(const struct backend *backend, uint32_t kind)
 {
     const VbDevice *device = &backend->balloon.state.device;
-    const VbQueue *queues[] = {&device->inflate, &device->deflate, &device->statistics, &device->report};
+    const VbQueue *queues[] = {&device->inflate, &device->deflate, &device->statistics, &device->report, &device->hint};
     return kind < VB_NO_KIND && queues[kind]->size > 0 ? queues[kind] : NULL;
 }
 
@@ -109,15 +109,22 @@ void audit_after(struct backend *backend, unsigned number)
         return;
     uint16_t used = word_at(backend, queue->used + RING_INDEX_AT), available = word_at(backend, queue->avail + RING_INDEX_AT);
     uint16_t given = (uint16_t)(used - audit.used), stood = (uint16_t)(audit.available - audit.used);
-    bool keeps = vb_kind(&backend->balloon.state.device, number) == VB_STATISTICS;
+    uint32_t kind = vb_kind(&backend->balloon.state.device, number);
+    bool leaves = kind == VB_STATISTICS || kind == VB_HINT; /* a buffer is kept, and a turn ends after a hint of many pages */
     audit.services++;
     if (given > (uint16_t)(available - audit.used))
         fault("queue %u: the used index is %u, and %u were available", number, used, available);
-    else if (given < stood && !keeps)
+    else if (given < stood && !leaves)
         fault("queue %u: the used index is %u, and %u were available before", number, used, audit.available);
     else
         for (uint16_t i = 0; i < given; i++)
             check_entry(backend, number, queue, (uint16_t)(audit.used + i));
+}
+
+/* Whether the pages that are told now stay. */
+static bool keeps(const struct balloon *balloon)
+{
+    return balloon->keeps_pages || (audit.kind == VB_HINT && !balloon->state.device.settings.discards_hints);
 }
 
 /* Notes that pages may be holes from now on; they have to be, after their discarding. */
@@ -132,7 +139,7 @@ static void name_pages(struct backend *backend, uint64_t address, uint64_t lengt
             audit.may_be_hole[i][page + k] = 1;
         audit.named += count;
         off_t at = (off_t)(region->offset + in), data = lseek(region->fd, at, SEEK_DATA);
-        if (data >= 0 && data < at + (off_t)length && !backend->balloon.keeps_pages)
+        if (data >= 0 && data < at + (off_t)length && !keeps(&backend->balloon))
             fault("page 0x%" PRIx64 " was named, and isn't discarded before its request is used", address / BALLOON_PAGE);
     }
 }

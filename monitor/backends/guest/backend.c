@@ -28,6 +28,7 @@ static void count_pages(void *context, uint32_t kind, const VbRun *runs, uint32_
     backend->counters.deflated += kind == VB_DEFLATE ? pages : 0;
     backend->counters.reported += kind == VB_REPORT ? pages : 0;
     backend->counters.reports += kind == VB_REPORT;
+    backend->hints.pages += kind == VB_HINT ? pages : 0;
     audit_pages(backend, kind);
 }
 
@@ -40,8 +41,9 @@ bool backend_start(struct backend *backend, const struct options *options)
 {
     /* Where memory ends is known when the client hands it over. */
     VbSettings settings = {
-        .memory_end = 2 * BALLOON_PAGE, .offered = options->features, .skips_bad_pages = !options->strict,
-        .holds_deflates = options->holds, .needs_must_tell = options->holds};
+        .memory_end = 2 * BALLOON_PAGE, .offered = options->features | (options->hints ? VB_F_FREE_PAGE_HINT : 0),
+        .skips_bad_pages = !options->strict, .holds_deflates = options->holds, .needs_must_tell = options->holds,
+        .discards_hints = options->discards_hints};
     backend->options = options;
     backend->socket = backend->listener = backend->channel = -1;
     rings_clear(backend);
@@ -135,6 +137,7 @@ static void count_marks(struct backend *backend, uint32_t kind, uint32_t marked)
 bool backend_finish(struct backend *backend, uint32_t kind, const struct balloon_result *result)
 {
     counters_add(&backend->counters, result);
+    backend->hints.late += result->late;
     count_marks(backend, kind, (uint32_t)result->marked);
     if (result->error)
         remark(backend, "%llu pages can't be discarded: %s", (unsigned long long)result->kept, strerror(result->error));

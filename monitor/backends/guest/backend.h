@@ -30,6 +30,7 @@ struct options {
     bool events;                /* in-band notifications aren't offered */
     bool is_lent;               /* a lender has started the process, for the guest of the name `client` */
     bool holds;                 /* deflates and resets wait for a grant */
+    bool hints, discards_hints; /* free page hints are offered, and discarded */
     bool ends_with_lender;      /* the kernel ends it as its lender ends */
     bool open;                  /* it isn't shut in a sandbox */
     bool lives_on;              /* the end of the control pipe isn't the end of the process */
@@ -43,6 +44,7 @@ struct backend {
     struct told told;
     struct ring rings[QUEUES];
     struct counters counters;
+    struct hint_counters hints;
     VbStatistic figures[MOST_TAGS];
     uint32_t figure_count;
     uint32_t pending;           /* bit 1 << number: more is available on this queue */
@@ -80,6 +82,7 @@ void remark(struct backend *backend, const char *format, ...) __attribute__((for
     {"features", .read = read_features, .at = &(its)->features}, {"lines", .read = read_lines, .at = &most_lines},                 \
         {"state", .read = read_word, .at = &(its)->state}, {"strict", .flag = &(its)->strict}, {"keep", .flag = &(its)->keep},     \
         {"events", .flag = &(its)->events}, {"lent", .flag = &(its)->is_lent}, {"holds", .flag = &(its)->holds},                   \
+        {"hints", .flag = &(its)->hints}, {"discard-hints", .flag = &(its)->discards_hints},                                       \
         {"end-with-lender", .flag = &(its)->ends_with_lender}, {"no-sandbox", .flag = &(its)->open},                               \
         {"goes-on", .flag = &(its)->goes_on}, {"layout", .read = read_layout, .at = &(its)->layout}
 

@@ -1,12 +1,14 @@
 /* The control pipe: a line in, a line out. */
 #include "backend.h"
 #include "audit.h"
+#include "hints.h"
 
 #include <inttypes.h>
 #include <stdio.h>
 #include <unistd.h>
 
 #define PRINT_COUNTER(name) printf(" " #name " %" PRIu64, it->name);
+#define PRINT_HINTS(name) printf(" hints_" #name " %" PRIu64, backend->hints.name);
 
 static void print_counters(const struct backend *backend)
 {
@@ -15,6 +17,7 @@ static void print_counters(const struct backend *backend)
     printf("target %" PRIu32 " actual %" PRIu32 " status %u held_kib %" PRIu64 " end %" PRIu64, device->target,
            device->actual, device->status, memory_held(&backend->memory), device->settings.memory_end / BALLOON_PAGE);
     COUNTERS(PRINT_COUNTER)
+    HINT_COUNTERS(PRINT_HINTS)
     putchar('\n');
 }
 
@@ -96,7 +99,7 @@ int control_obey(struct backend *backend, const char *line)
         print_statistics(backend);
     else if (!strcmp(line, "ask"))
         served = ask(backend);
-    else if (!audit_line(backend, line))
-        puts("error: target PAGES, counters, statistics, ask or quit");
+    else if (!hints_line(backend, line) && !audit_line(backend, line))
+        puts("error: target PAGES, counters, statistics, ask, hint start, hint stop, hint done or quit");
     return served ? 1 : -1;
 }

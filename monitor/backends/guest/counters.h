@@ -16,6 +16,14 @@ struct counters {
     COUNTERS(COUNTER_FIELD)
 };
 
+/* What it counts of free page hints, each with `hints_` before its name in that line. Of the guest of a host there are none: these are in no
+ * message to a lender. */
+#define HINT_COUNTERS(COUNT) COUNT(rounds) COUNT(pages) COUNT(late)
+
+struct hint_counters {
+    HINT_COUNTERS(COUNTER_FIELD)
+};
+
 struct balloon_result;
 
 /* Counts what a result says. */

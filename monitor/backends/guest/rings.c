@@ -18,7 +18,7 @@ static uint32_t kind_of(const struct backend *backend, unsigned number)
 static const VbQueue *queue_of(const struct backend *backend, uint32_t kind)
 {
     const VbDevice *device = &backend->balloon.state.device;
-    const VbQueue *queues[] = {&device->inflate, &device->deflate, &device->statistics, &device->report};
+    const VbQueue *queues[] = {&device->inflate, &device->deflate, &device->statistics, &device->report, &device->hint};
     return kind < VB_NO_KIND ? queues[kind] : NULL;
 }
 
@@ -49,8 +49,8 @@ void configuration_write(VbDevice *device, uint32_t offset, uint32_t number)
     vb_write_config(device, offset, bytes, sizeof bytes);
 }
 
-/* No ring runs any longer. The rings may go on where they were, so `actual` and the set of pages in the balloon stay
- * until the first ring starts anew. So does poison_val, which QEMU writes before it tells the features, until it is written
+/* No ring runs any longer: a round of hints is stopped, as by a driver's reset, which this may be. The rings may go on where they
+ * were, so `actual` and the set of pages in the balloon stay until the first ring starts anew. So does poison_val, which QEMU writes before it tells the features, until it is written
  * again, as each driver does that knows it. */
 static bool rest(struct backend *backend)
 {

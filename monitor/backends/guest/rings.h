@@ -8,8 +8,8 @@
 #include <poll.h>
 #include <stdint.h>
 
-/* How many queues a client may tell of. Linux from 7.2 on asks for five, whatever features it takes: one for free page hints,
- * which aren't offered. A queue that the features give no kind never runs. */
+/* How many queues a client may tell of. Linux from 7.2 on asks for five, whatever features it takes. A queue that the features give
+ * no kind never runs. */
 enum { QUEUES = 5 };
 
 /* What a client has told of one queue; addresses are the client's. */

@@ -1,5 +1,6 @@
 #include "state.h"
 #include "backend.h"
+#include "hints.h"
 
 #include <libgen.h>
 #include <stdio.h>
@@ -29,9 +30,9 @@ static int open_state(const char *path)
 bool state_load(struct backend *backend)
 {
     const char *path = backend->options->state;
-    VbDevice device = backend->balloon.state.device;
+    VbBalloon before = backend->balloon.state;
+    const VbDevice *device = &before.device;
     uint8_t bytes[VB_STATE_BYTES + 1];
-    VbHeld held = { 0, 0, 0 };
     int file = path ? open_state(path) : -1;
     if (file < 0)
         return !path || errno == ENOENT || refuse("%s: %s", path, strerror(errno));
@@ -40,12 +41,13 @@ bool state_load(struct backend *backend)
     file_close(file);
     if (length < 0)
         return refuse("%s: %s", path, strerror(why));
-    uint32_t code = vb_restore(&device, &held, bytes, (size_t)length);
+    uint32_t code = vb_restore(&before.device, &before.held, bytes, (size_t)length);
     if (code != VB_OK)
         return refuse("%s is no saved state: it is answered %u", path, code);
-    balloon_set_target(&backend->balloon, device.target);
-    configuration_write(&backend->balloon.state.device, POISON_AT, device.poison);
-    backend->told.actual = device.actual;
+    hints_go_on(backend, before);
+    balloon_set_target(&backend->balloon, device->target);
+    configuration_write(&backend->balloon.state.device, POISON_AT, device->poison);
+    backend->told.actual = device->actual;
     backend->told.goes_on = true;
     return true;
 }

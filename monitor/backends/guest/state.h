@@ -5,7 +5,7 @@
 
 struct backend;
 
-/* Takes the target and `actual` of the device that its options' file has, if there is one: its rings go on once a client
+/* Takes the target, `actual` and the last round of hints of the device that its options' file has, if there is one: its rings go on once a client
  * tells of them anew. False, which is said, where the file has no such device. */
 bool state_load(struct backend *backend);
 

@@ -78,7 +78,7 @@ struct seat {
     enum guest_wait waits_for;
     int64_t waits_since;
     uint32_t wait_answered;     /* the last of its waits that was answered, and how */
-    bool wait_admitted;
+    bool wait_admitted, wait_named;     /* named: it was said that its wait is long */
     size_t place;               /* of its loan */
     enum guest_wait asked_for;  /* what its loan asks for */
     uint32_t held_granted, granted_pages;       /* the last of its deflates that was granted, and of how many pages */
@@ -289,7 +289,7 @@ uint64_t host_held(const struct host *host);
 void loan_follow(struct seat *seat);
 
 /* Lends it pages that it is to be told to take out of its balloon, as far as there is room, so that it doesn't wait for them: it couldn't
- * give any meanwhile. Returns how many. */
+ * give any meanwhile. Returns how many: none where its driver isn't ready. */
 uint32_t loan_ahead(struct seat *seat, uint32_t pages);
 
 /* Nothing is lent to it any longer. */
@@ -301,7 +301,7 @@ void loans_grant(struct host *host);
 /* Frames that it holds above its loan. */
 uint32_t loan_excess(const struct seat *seat);
 
-/* Names each guest that holds more than its loan and its overhead: its balloon doesn't count any longer. */
+/* Names each guest that holds more than its loan and its overhead, whose balloon doesn't count any longer; and each that waits in vain, once. */
 void loans_audit(struct host *host);
 
 /* Whether somebody waits; and how many frames are left that nobody has, waits for, or was told to take out of its balloon. */

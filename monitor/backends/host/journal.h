@@ -1,7 +1,7 @@
 /* What was decided, and why: the last decisions are kept. */
 #ifndef JOURNAL_H
 #define JOURNAL_H
-#include "vb.h"
+#include "vb_lending.h"
 
 struct host;
 

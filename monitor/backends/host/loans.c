@@ -4,8 +4,12 @@
 
 #include <inttypes.h>
 
-/* Pages that a deflate of Linux's driver takes at most; milliseconds in which a driver that begins to take pages hears that it is to take no more. */
-enum { PAGES_OF_REQUEST = VB_MAX_BYTES / sizeof(uint32_t), LINGERS = 500 };
+/* Pages that a deflate of Linux's driver takes at most; milliseconds in which a driver that begins to take pages hears that it is to take no more;
+ * milliseconds after which a wait is long. */
+enum { PAGES_OF_REQUEST = VB_MAX_BYTES / sizeof(uint32_t), LINGERS = 500, LONG_WAIT = 10000 };
+
+/* Deflates wait in the first line, and all else in the second. */
+enum { FIRST_LINE, SECOND_LINE };
 
 static uint32_t smaller(uint32_t one, uint32_t other)
 {
@@ -143,13 +147,14 @@ static void grant(struct seat *seat, enum guest_wait what)
     seat_answer(seat, true);
 }
 
-/* Asks for what its process waits for. Where nothing has to be lent for it, it has it at once. */
+/* Asks for what its process waits for. Where nothing has to be lent for it, it has it at once. Deflates come first: a driver that is in one
+ * gives no pages meanwhile, and the others may wait for these. */
 static void ask(struct seat *seat, enum guest_wait what)
 {
     VbLoan *loans = seat->host->loans, *loan = loan_of(seat);
     seat->asked_for = what;
     if (what == WAITS_FOR_ROOM && loan->pages == 0) {
-        vb_loan_arrive(loans, MOST_PLACES, seat->place, seat->report.wanted, 1);
+        vb_loan_arrive(loans, MOST_PLACES, seat->place, seat->report.wanted, SECOND_LINE);
         return;
     }
     if (what == WAITS_FOR_ROOM && seat->report.wanted > loan->pages) {
@@ -158,12 +163,14 @@ static void ask(struct seat *seat, enum guest_wait what)
     }
     uint32_t pages = wanted_pages(seat, what), has = loan->lent + loan->ballooned - loan->pages;
     uint32_t wanted = smaller(pages > has ? pages - has : 0, loan->pages - loan->lent);
-    if (wanted == 0)
+    if (wanted == 0) {
         grant(seat, what);
-    else if (what == WAITS_FOR_RESET)
-        vb_loan_reset(loans, MOST_PLACES, seat->place);
-    else
+    } else if (what == WAITS_FOR_RESET) {
+        vb_loan_reset(loans, MOST_PLACES, seat->place, SECOND_LINE);
+    } else {
+        loan->line = what == WAITS_FOR_DEFLATE ? FIRST_LINE : SECOND_LINE;
         vb_loan_ask(loans, MOST_PLACES, seat->place, wanted);
+    }
 }
 
 void loan_follow(struct seat *seat)
@@ -201,14 +208,32 @@ static bool holds_too_much(const struct seat *seat)
     return seat_is_ready(seat) && seat_reports(seat) && !loan_of(seat)->uncounted && loan_excess(seat) > seat->terms.overhead;
 }
 
+/* Whether it has waited for long, while the guests can't give what is missing. */
+static bool waits_in_vain(const struct seat *seat)
+{
+    bool is_long = seat->waits_for != WAITS_FOR_NOTHING && loop_now() - seat->waits_since >= LONG_WAIT;
+    return is_long && seat->host->missing > 0 && loan_of(seat)->asked > 0;
+}
+
+/* It waits in vain: it is named, once for each wait. */
+static void name_wait(struct seat *seat)
+{
+    if (seat->wait_named)
+        return;
+    seat->wait_named = true;
+    complain("has waited %d seconds for %" PRIu32 " pages (%s): all guests together can't give %" PRIu64 " of those that are missing",
+             LONG_WAIT / 1000, loan_of(seat)->asked, guest_wait_word(seat->waits_for), seat->host->missing);
+}
+
 void loans_audit(struct host *host)
 {
     for (unsigned i = 0; i < host->count; i++) {
         struct seat *seat = host->seats[i];
-        if (!holds_too_much(seat))
-            continue;
         speaker_begins(&seat->speaker);
-        name_taker(seat, loan_excess(seat) - seat->terms.overhead);
+        if (holds_too_much(seat))
+            name_taker(seat, loan_excess(seat) - seat->terms.overhead);
+        if (waits_in_vain(seat))
+            name_wait(seat);
         speaker_ends();
     }
 }
@@ -252,7 +277,7 @@ uint32_t loan_ahead(struct seat *seat, uint32_t pages)
     VbLoan *loan = loan_of(seat);
     uint64_t room = loans_room(host);
     uint32_t lent = room < pages ? (uint32_t)room : pages;
-    if (loan->asked > 0 || vb_loan_ask(host->loans, MOST_PLACES, seat->place, lent) != VB_OK)
+    if (!seat_is_ready(seat) || loan->asked > 0 || vb_loan_ask(host->loans, MOST_PLACES, seat->place, lent) != VB_OK)
         return 0;
     loans_grant(host);
     if (loan->asked > 0) {

@@ -60,8 +60,10 @@ static void note_wait(struct seat *seat)
     enum guest_wait now = report->held_pages > 0 ? WAITS_FOR_DEFLATE : WAITS_FOR_NOTHING;
     if (report->waits == WAIT_ROOM || report->waits == WAIT_RESET)
         now = report->waits == WAIT_ROOM ? WAITS_FOR_ROOM : WAITS_FOR_RESET;
-    if (now != seat->waits_for)
+    if (now != seat->waits_for) {
         seat->waits_since = loop_now();
+        seat->wait_named = false;
+    }
     seat->waits_for = now;
 }
 

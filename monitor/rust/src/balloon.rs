@@ -38,6 +38,7 @@ impl Balloon {
             needs_must_tell: settings.needs_must_tell.into(),
             skips_bad_pages: settings.skips_bad_pages.into(),
             holds_deflates: settings.holds_deflates.into(),
+            discards_hints: settings.discards_hints.into(),
         };
         let mut balloon = Balloon::restore(State(raw::Balloon::default()));
         let (state, regions) = balloon.look_at(memory);
@@ -295,7 +296,7 @@ impl Balloon {
             raw::OK | raw::NOTHING => None,
             code => Some(refusal(code, notice.rule)),
         };
-        served.interrupts = notice.interrupt << (notice.kind & 3);
+        served.interrupts = notice.interrupt << (notice.kind & 7);
         served.configuration = notice.configuration != 0;
         served.more = notice.more != 0;
         let holds = notice.taken != 0 && notice.given == 0 && notice.code == raw::OK && notice.kind == raw::DEFLATE;

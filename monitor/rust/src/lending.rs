@@ -8,7 +8,7 @@ use crate::raw::*;
 
 pub use crate::raw::{Budget, HostGuest, Loan, Need, Share, Terms};
 
-/// In which line a newcomer waits: those of the first come before all of the second.
+/// In which line a newcomer or a reset waits: those of the first, as deflates, come before all of the second.
 #[derive(Clone, Copy, Debug, PartialEq, Eq)]
 pub enum Line {
     First = 0,
@@ -61,10 +61,11 @@ pub fn ask(loans: &mut [Loan], guest: usize, pages: u32) -> bool {
     unsafe { vb_loan_ask(loans.as_mut_ptr(), loans.len(), guest, pages) == OK }
 }
 
-/// A reset is pending, in place of all requests; `false` too where all pages are lent to the guest, so that nothing waits.
-pub fn reset(loans: &mut [Loan], guest: usize) -> bool {
+/// A reset is pending, in place of all requests, and waits in a line; `false` too where all pages are lent to the guest, so that nothing
+/// waits.
+pub fn reset(loans: &mut [Loan], guest: usize, line: Line) -> bool {
     // SAFETY: the pointer is of a slice with its length.
-    unsafe { vb_loan_reset(loans.as_mut_ptr(), loans.len(), guest) == OK }
+    unsafe { vb_loan_reset(loans.as_mut_ptr(), loans.len(), guest, line as u16) == OK }
 }
 
 /// Pages that were granted are about to leave a guest's balloon.

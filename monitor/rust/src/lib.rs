@@ -6,6 +6,7 @@
 
 mod balloon;
 mod held;
+mod hints;
 pub mod lending;
 mod obey;
 mod raw;

@@ -127,12 +127,16 @@ impl<M: GuestMemory> LiveMemory for M {
 
 /// What a monitor may want to know, or to do in its own way. `()` does nothing of its own.
 pub trait Monitor {
-    /// These pages are given up (inflate) or free (report), before any of them is discarded; or they are requested back (deflate).
+    /// These pages are given up (inflate) or free (report, and hint until its round ends), before any of them is discarded; or they
+    /// are requested back (deflate).
     /// It is called once for each portion of 256 numbers of a request, which is given back once, after the last portion.
     fn pages(&mut self, _kind: Kind, _runs: &[Run]) {}
 
     /// The guest told its statistics, any tags in any order.
     fn statistics(&mut self, _figures: &[Statistic]) {}
+
+    /// The driver sent this id of hints: a round of hints begins with its own, and ends with any other one.
+    fn hint_id(&mut self, _id: u32) {}
 
     /// Bytes of the pages of the machine that back the region of this number: a power of two from 4096 to 1 GiB; 0 is
     /// 4096. A larger page is discarded once all of it is given up.
@@ -166,7 +170,8 @@ impl Hands<'_> {
     fn tell_pages(&mut self, notice: &Notice, room: &Room) {
         let runs = &room.runs[..notice.runs as usize];
         self.served.pages += u64::from(notice.pages);
-        self.served.skipped += u64::from(notice.skipped);
+        let skipped = if notice.kind == raw::HINT { &mut self.served.late } else { &mut self.served.skipped };
+        *skipped += u64::from(notice.skipped);
         self.served.kept += u64::from(notice.kept);
         if !self.ballooned.is_empty() {
             let marked = match notice.waits {
@@ -176,7 +181,8 @@ impl Hands<'_> {
             self.served.marked += if notice.waits == 0 { marked.pages } else { 0 };
             self.served.unmarked += if marked.code == raw::BAD_ARGUMENT { u64::from(notice.pages) } else { 0 };
         }
-        if let Some(kind) = Kind::of(notice.kind) {
+        let some = !runs.is_empty() || notice.kind != raw::HINT;
+        if let Some(kind) = Kind::of(notice.kind).filter(|_| some) {
             self.monitor.pages(kind, runs);
         }
     }
@@ -219,6 +225,9 @@ impl Hands<'_> {
         if is_asked(raw::TELL_FIGURES) {
             self.monitor.statistics(&room.figures[..notice.figures as usize]);
             self.served.chains += 1;
+        }
+        if is_asked(raw::TELL_ID) {
+            self.monitor.hint_id(notice.hint_id);
         }
         if is_asked(raw::DISCARD) {
             room.cuts[..notice.cuts as usize].iter().for_each(|cut| self.discard(cut));

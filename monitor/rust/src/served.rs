@@ -17,7 +17,7 @@ pub struct Served {
     pub more: bool,
     /// A deflate is held now, which names this many pages ([`Balloon::give_deflate`](crate::Balloon::give_deflate) grants it).
     pub held: Option<u32>,
-    /// Pages that inflates, deflates and reports named.
+    /// Pages that inflates, deflates, reports and hints named.
     pub pages: u64,
     /// Of these, discarded.
     pub discarded: u64,
@@ -25,6 +25,8 @@ pub struct Served {
     pub waiting: u64,
     /// Numbers past the end or of reserved pages.
     pub skipped: u64,
+    /// Pages of hints that came while no round was open: they aren't named.
+    pub late: u64,
     /// Pages put into the set of ballooned pages, or taken out of it.
     pub marked: u64,
     /// Pages of requests that the set hasn't enough words for: it is as before them.
@@ -33,7 +35,7 @@ pub struct Served {
     pub in_holes: u64,
     /// Pages that the machine failed to discard, those of a balloon that keeps its pages
     /// ([`Balloon::keeps_pages`](crate::Balloon::keeps_pages)), and those of reports that keep what is in them
-    /// ([`Balloon::keeps_reports`](crate::Balloon::keeps_reports)).
+    /// ([`Balloon::keeps_reports`](crate::Balloon::keeps_reports)), and of hints likewise, or where the settings don't discard them.
     pub kept: u64,
     /// Why it failed last: the system's number.
     pub error: Option<i32>,
@@ -55,6 +57,7 @@ impl Served {
         self.discarded += other.discarded;
         self.waiting += other.waiting;
         self.skipped += other.skipped;
+        self.late += other.late;
         self.marked += other.marked;
         self.unmarked += other.unmarked;
         self.in_holes += other.in_holes;

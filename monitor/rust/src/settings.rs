@@ -7,6 +7,8 @@ pub mod features {
     pub const MUST_TELL_HOST: u64 = 1;
     pub const STATS_VQ: u64 = 2;
     pub const DEFLATE_ON_OOM: u64 = 4;
+    /// The driver hints which pages are free, in rounds that the host begins (VIRTIO 1.2, 5.5.3).
+    pub const FREE_PAGE_HINT: u64 = 8;
     /// The driver says in `poison_val` what its free pages hold (VIRTIO 1.2, 5.5.3).
     pub const PAGE_POISON: u64 = 16;
     pub const REPORTING: u64 = 32;
@@ -20,11 +22,12 @@ pub enum Kind {
     Deflate = raw::DEFLATE as isize,
     Statistics = raw::STATISTICS as isize,
     Report = raw::REPORT as isize,
+    Hint = raw::HINT as isize,
 }
 
 impl Kind {
     /// All of them.
-    pub const ALL: [Kind; 4] = [Kind::Inflate, Kind::Deflate, Kind::Statistics, Kind::Report];
+    pub const ALL: [Kind; 5] = [Kind::Inflate, Kind::Deflate, Kind::Statistics, Kind::Report, Kind::Hint];
 
     /// What the queue of this number is for, with these features: queues are numbered without gaps.
     pub fn of_number(features: u64, number: u32) -> Option<Kind> {
@@ -49,6 +52,8 @@ pub struct Settings {
     /// A deflate waits until it is granted ([`Balloon::give_deflate`](crate::Balloon::give_deflate)); ask for
     /// `needs_must_tell` with it.
     pub holds_deflates: bool,
+    /// Pages that are hinted are discarded once they were told; else they are kept.
+    pub discards_hints: bool,
 }
 
 /// Why a call is refused.

@@ -56,9 +56,19 @@ fn asks_are_granted_in_order_and_newcomers_of_the_second_line_last() {
 #[test]
 fn a_reset_asks_for_all_that_is_not_lent() {
     let mut loans = host();
-    assert!(ask(&mut loans, 1, 1) && reset(&mut loans, 1));
-    assert_eq!((loans[1].asked, loans[1].turn), (20, 2));
-    assert!(!reset(&mut loans, 0), "all is lent to it");
+    assert!(ask(&mut loans, 1, 1) && reset(&mut loans, 1, Line::First));
+    assert_eq!((loans[1].asked, loans[1].turn, loans[1].line), (20, 2, 0));
+    assert!(!reset(&mut loans, 0, Line::First), "all is lent to it");
+}
+
+#[test]
+fn a_deflate_passes_a_reset_of_the_second_line_alone() {
+    for (line, first) in [(Line::First, 1), (Line::Second, 0)] {
+        let mut loans = host();
+        assert!(give(&mut loans, 0, 5) && reset(&mut loans, 1, line) && ask(&mut loans, 0, 5));
+        assert_eq!((loans[1].asked, loans[1].line), (20, line as u16));
+        assert_eq!(grant(FRAMES + 60, &mut loans), Some(first));
+    }
 }
 
 #[test]

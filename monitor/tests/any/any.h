@@ -25,6 +25,7 @@ bool same(const VbDevice *one, const VbDevice *other);
 /* One call of each kind. */
 void call_driver(void);
 void call_config(void);
+void call_hints(void);
 void call_mark(void);
 void call_over(void);
 void call_notice(void);

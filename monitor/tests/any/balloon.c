@@ -26,7 +26,7 @@ static void call_queues(VbBalloon *balloon, VbBalloon *twin, const VbRegion *reg
     VbQueueStart start = { any() % (24 << 20) & ~UINT64_C(15), any() % (24 << 20) & ~UINT64_C(1), any() % (24 << 20) & ~UINT64_C(3),
                            (uint16_t)(once_in(4) ? any_number() : 2u << any() % 8), (uint16_t)any_number() };
     const VbBalloon before = *balloon;
-    uint32_t kind = once_in(16) ? (uint32_t)any_number() : any() % 4;
+    uint32_t kind = once_in(16) ? (uint32_t)any_number() : any() % 5;
     uint16_t next = 7, why = 7;
     if (once_in(8))
         start.table = any_number();
@@ -37,7 +37,7 @@ static void call_queues(VbBalloon *balloon, VbBalloon *twin, const VbRegion *reg
     code = vb_stop_queue(balloon, kind, &next);
     EXPECT(code == reference_stop_queue(twin, kind, &why) && next == why && same_balloon(balloon, twin));
     uint32_t pages = 7, other = 8;
-    kind = once_in(2) ? kind : any() % 4;
+    kind = once_in(2) ? kind : any() % 5;
     EXPECT(vb_held(balloon, kind, &pages) == reference_held(twin, kind, &other) && pages == other);
     EXPECT(once_in(2) || (vb_forget_held(balloon, kind) == reference_forget_held(twin, kind) && same_balloon(balloon, twin)));
     EXPECT(vb_kind_of(start.table, kind) == reference_kind_of(start.table, kind));
@@ -64,8 +64,8 @@ void call_over(void)
     EXPECT(code == VB_OK || same_balloon(&balloon, &before));
     balloon.device.status = twin.device.status = before.device.status = once_in(8) ? (uint8_t)any() : 11;
     before = balloon;
-    code = vb_place_over(&balloon, regions, count, kind % 5, at);
-    EXPECT(code == reference_place_over(&twin, regions, count, kind % 5, at));
+    code = vb_place_over(&balloon, regions, count, kind % 6, at);
+    EXPECT(code == reference_place_over(&twin, regions, count, kind % 6, at));
     EXPECT(same_balloon(&balloon, &twin));
     EXPECT(code == VB_OK || same_balloon(&balloon, &before));
     answers[code]++;
@@ -84,7 +84,7 @@ void call_notice(void)
     VbRegion *regions = any_regions(&count);
     VbNotice *notice = list_of(1, sizeof *notice), why;
     VbRoom *room = list_of(2, sizeof *room);
-    uint32_t kind = once_in(8) ? (uint32_t)any_number() : any() % 4, chains = any() % 3, pages = (uint32_t)any_number();
+    uint32_t kind = once_in(8) ? (uint32_t)any_number() : any() % 5, chains = any() % 3, pages = (uint32_t)any_number();
     uint32_t keeps = once_in(2) ? (uint32_t)any_number() : 0;
     uint32_t what = vb_begin(notice, &balloon, regions, count, room, kind, chains, pages, keeps);
     uint32_t first = reference_begin(&why, &twin, regions, count, &other, kind, chains, pages, keeps);

@@ -50,14 +50,15 @@ static VbQueue any_queue(void)
 VbDevice any_device(void)
 {
     VbDevice device = { .settings = { .memory_end = 16ull << 20 } };
-    device.settings.offered = LINUX_FEATURES | (once_in(2) ? VB_F_PAGE_POISON : 0);
+    device.settings.offered = LINUX_FEATURES | (once_in(2) ? VB_F_PAGE_POISON : 0) | (once_in(4) ? 0 : VB_F_FREE_PAGE_HINT);
     device.settings.reserved_pages = once_in(2) ? 0 : (uint32_t)any_number();
     device.settings.skips_bad_pages = once_in(2);
+    device.settings.discards_hints = once_in(2);
     if (once_in(8))
         device.settings.memory_end = any_number();
     if (once_in(16))
         device.settings.offered = any();
-    device.features = once_in(8) ? any() : once_in(4) ? VERSION_1 | any() % 64 : LINUX_FEATURES;
+    device.features = once_in(8) ? any() : once_in(4) ? VERSION_1 | any() % 64 : LINUX_FEATURES | VB_F_FREE_PAGE_HINT;
     device.target = (uint32_t)any();
     device.actual = (uint32_t)any();
     device.poison = once_in(2) ? 0 : (uint32_t)any_number();
@@ -65,7 +66,9 @@ VbDevice any_device(void)
     device.inflate = any_queue();
     device.deflate = any_queue();
     device.statistics = any_queue();
+    device.hint = any_queue();
     device.report = any_queue();
+    device.round = (VbRound){ (uint32_t)any_number(), (uint32_t)any_number(), once_in(2) };
     return device;
 }
 

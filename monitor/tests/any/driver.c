@@ -18,6 +18,22 @@ void call_driver(void)
     EXPECT(device.target == kind && (device.target = twin.target, same(&device, &twin)));
 }
 
+/* Rounds begin, stop and end; a refusal changes nothing. */
+void call_hints(void)
+{
+    VbDevice device = any_device(), twin = device, before = device;
+    uint32_t id = 7, other = 8, code = vb_begin_hints(&device, &id);
+    EXPECT(code == reference_begin_hints(&twin, &other) && id == other && same(&device, &twin));
+    EXPECT(code == VB_OK ? id >= 2 && id != before.round.last : id == 0 && same(&device, &before));
+    EXPECT(vb_hints_open(&device) == reference_hints_open(&twin));
+    if (once_in(2))
+        vb_stop_hints(&device), reference_stop_hints(&twin);
+    else
+        vb_end_hints(&device), reference_end_hints(&twin);
+    EXPECT(same(&device, &twin) && vb_hints_open(&device) == 0);
+    answers[code]++;
+}
+
 /* Reads and writes of the configuration space: usually of a field, of all fields, or beside one. */
 void call_config(void)
 {

@@ -13,5 +13,7 @@ bool same(const VbDevice *one, const VbDevice *other)
         && one->poison == other->poison
         && one->status == other->status && same_queue(&one->inflate, &other->inflate)
         && same_queue(&one->deflate, &other->deflate) && same_queue(&one->statistics, &other->statistics)
-        && same_queue(&one->report, &other->report);
+        && same_queue(&one->hint, &other->hint) && same_queue(&one->report, &other->report)
+        && one->settings.discards_hints == other->settings.discards_hints && one->round.shown == other->round.shown
+        && one->round.last == other->round.last && one->round.opened == other->round.opened;
 }

@@ -25,7 +25,7 @@ static uint32_t any_notice(VbNotice *notice, const VbBalloon *of, const VbRegion
     Frama_C_make_unknown((char *)room, sizeof *room);   /* what is discarded: below */
     Frama_C_make_unknown((char *)notice, sizeof *notice);
     notice->what = any_u32() & ~(uint32_t)VB_COPY;      /* copies: below */
-    notice->kind = ANY_UP_TO(VB_REPORT);
+    notice->kind = ANY_UP_TO(VB_NO_KIND - 1);
     notice->id_at = any_spot(4);
     notice->length_at = any_spot(4);
     notice->index_at = any_spot(2);
@@ -37,6 +37,7 @@ static uint32_t any_notice(VbNotice *notice, const VbBalloon *of, const VbRegion
     notice->skipped = any_u32();
     notice->kept = any_u32();
     notice->waits = ANY_UP_TO(1);
+    notice->hint_id = any_u32();
     notice->figures = ANY_UP_TO(VB_MAX_FIGURES);        /* vb_core, AreFigures */
     notice->code = any_u32();
     notice->rule = any_u32();
@@ -146,6 +147,14 @@ uint32_t vb_write_config(VbDevice *device, uint32_t offset, const uint8_t *bytes
 void vb_read_config(const VbDevice *device, uint32_t offset, uint8_t *out, size_t length) { }
 void vb_set_target(VbDevice *device, uint32_t pages) { device->target = pages; }
 
+uint32_t vb_begin_hints(VbDevice *device, uint32_t *id)
+{
+    *id = any_u32();
+    return any_u32();
+}
+
+void vb_stop_hints(VbDevice *device) { device->round.shown = 0; }
+void vb_end_hints(VbDevice *device) { device->round.shown = 1; }
 uint32_t vb_may_tell(const VbDevice *device) { return ANY_UP_TO(1); }
 uint32_t vb_save(const VbDevice *device, VbHeld held, uint8_t *out, size_t room) { return any_u32(); }
 

@@ -198,7 +198,7 @@ static int comes(void)
     now = (struct timespec){1, 0};
     unsigned kind = next_byte();
     options = (struct options){.client = "fuzzed", .features = UINT64_C(1) << 32 | 0x27, .is_lent = true, .holds = kind & 1,
-                               .strict = kind & 2, .events = kind & 4};
+                               .strict = kind & 2, .events = kind & 4, .hints = kind & 8, .discards_hints = kind & 16};
     memset(&kept, 0, offsetof(struct kept, set));
     kept_clear(&kept);
     demand(outbox_begin(&kept.outbox));

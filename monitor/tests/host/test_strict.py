@@ -245,29 +245,16 @@ def test_memory_that_grows_waits(two):
     grows = Later(lambda: client.accepted(ADD_MEM_REG, client.region_body(1), client.files[1:]))
     assert grows.waits()
     lender.become("c", waits="room", lent=64)
-    b.give(GIVEN[:64])
+    b.give(GIVEN[:10])
+    lender.become("b", ballooned=10, lent=118)
+    # A deflate is before it.
+    a.take(GIVEN[:10])
+    used(a, DEFLATE, 1)
+    lender.become("a", waits="nothing", ballooned=54, lent=74)
+    b.give(GIVEN[10:74])
     grows.ends()
     lender.become("c", pages=128, lent=128, waits="nothing")
     client.leave()
-
-
-def test_a_new_life_waits_for_what_was_in_the_balloon(two):
-    lender, (a, b) = two
-    a.give(GIVEN[:50])
-    lender.become("a", ballooned=50, lent=78)
-    lender.demand("budget 0")
-    a.ended.set(), a.join()
-    client = a.client
-    for number in range(4):
-        assert client.enable(number, 0) == bytes(8)
-    for number in range(4):
-        client.place(number)
-    begins = Later(lambda: [client.enable(number) for number in range(4)])
-    assert begins.waits(), (begins.fault, lender.guests()["a"], lender.said())
-    lender.become("a", waits="reset", ballooned=50, lent=78)
-    lender.demand("budget 1")
-    begins.ends()
-    lender.become("a", waits="nothing", ballooned=0, lent=128)
 
 
 def test_the_next_lender_grants_what_waits(two, lend):

@@ -19,7 +19,8 @@ def version():
 
 
 def older_program(folder):
-    """Builds the programs of a host as they were in an older version; returns the path of the host's."""
+    """Builds the programs of a host as they were in an older version; returns the path of the host's. A header takes others of its folder."""
+    shutil.copy(os.path.join(linux_kit.HEADERS, "vb_lending.h"), folder)
     with open(os.path.join(linux_kit.HEADERS, "vb.h"), encoding="utf-8") as header, open(f"{folder}/vb.h", "w", encoding="utf-8") as copy:
         text = header.read()
         copy.write(text.replace(f'#define VB_VERSION "{version()}"', f'#define VB_VERSION "{OLDER}"'))

@@ -16,7 +16,7 @@ LIBRARY = os.path.join(ROOT, "crates", "vb_c", "out", "libvb_c.a")
 # The backends' files, from monitor/backends: of all, of one guest's, of each, and what a build for tests has besides.
 COMMON_PARTS = (*(f"guest/{it}" for it in ("levels", "numbers", "options", "process", "say", "tags")), "loop/loop")
 PARTS = (
-    *(f"guest/{it}" for it in ("backend", "control", "counters", "events", "guard", "guest_memory", "kicks", "rings", "statistics", "stream")),
+    *(f"guest/{it}" for it in ("backend", "control", "counters", "events", "guard", "guest_memory", "hints", "kicks", "rings", "statistics", "stream")),
     *COMMON_PARTS,
 )
 VHOST_PARTS = tuple(
@@ -60,7 +60,7 @@ WRONG_WRAPPED = {
     "vhost_user_balloon": (
         "event_signal", "ring_end", "message_answer", "message_wants_answer", "message_tell", "memory_remove", "rings_forget",
         "memory_of_user", "statistics_room", "memory_clear", "backend_tell_change", "backend_serve_pending", "slots_forget",
-        "event_take_kick", "backend_start", "stream_fill", "file_number", "fsync", "vb_start_queue",
+        "event_take_kick", "backend_start", "stream_fill", "file_number", "fsync", "vb_start_queue", "vb_begin", "hints_go_on",
     ),
     "vhost_user_host": (
         "vb_guest_targets", "vb_guest_need", "vb_needs_guest_targets", "host_changed", "limits_follow", "limit_allows",

@@ -11,7 +11,7 @@ PAGE = 4096
 PAGES_OF_REGION = 64
 
 # Bytes of a saved device (docs/INTEGRATION.md, "A saved state").
-STATE_BYTES = 200
+STATE_BYTES = 240
 
 # Two regions with a hole between them: where they are in the guest and in the client.
 REGIONS = ((0x100000, 0x7F0000000000), (0x180000, 0x7F1000000000))

@@ -85,9 +85,10 @@ struct event any_event(const struct day *day)
     size_t guest = chance(20) ? chance((uint32_t)day->count + 1) : chance(50) ? day->count : (size_t)any();
     bool likely = guest < day->count && chance(3) != 0;
     struct event event = { .kind = likely ? likely_kind(&day->loans[guest]) : any_kind(), .guest = guest };
+    if (event.kind == ARRIVE || event.kind == RESET)
+        event.line = chance(2) ? 0 : chance(4) ? 1 : (uint16_t)any();
     if (event.kind == ARRIVE) {
         event.pages = chance(8) ? 1 + chance(60) : chance(3) ? (uint32_t)any() : 0;
-        event.line = chance(2) ? 0 : chance(4) ? 1 : (uint16_t)any();
     } else if (event.kind == BUDGET) {
         event.pages = any_frames(day);
     } else if (guest < day->count) {

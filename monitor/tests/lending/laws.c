@@ -7,6 +7,7 @@ unsigned long long effects[KINDS][2];
 
 struct calls {
     uint32_t (*arrive)(VbLoan *, size_t, size_t, uint32_t, uint16_t);
+    uint32_t (*reset)(VbLoan *, size_t, size_t, uint16_t);
     uint32_t (*plain[KINDS])(VbLoan *, size_t, size_t);
     uint32_t (*paged[KINDS])(VbLoan *, size_t, size_t, uint32_t);
     VbGrant (*grant)(uint32_t, VbLoan *, size_t);
@@ -15,8 +16,8 @@ struct calls {
 
 #define CALLS_OF(name)                                                                                                          \
     {                                                                                                                           \
-        .arrive = name##_arrive,                                                                                                \
-        .plain = { [LEAVE] = name##_leave, [RESET] = name##_reset, [UNCOUNT] = name##_uncount, [RECOUNT] = name##_recount },    \
+        .arrive = name##_arrive, .reset = name##_reset,                                                                         \
+        .plain = { [LEAVE] = name##_leave, [UNCOUNT] = name##_uncount, [RECOUNT] = name##_recount },                            \
         .paged = { [GIVE] = name##_give, [ASK] = name##_ask, [TAKE] = name##_take, [FIGURE] = name##_figure },                  \
         .grant = name##_grant, .owed = name##_owed,                                                                             \
     }
@@ -32,6 +33,8 @@ static VbGrant happen(const struct calls *to, const struct day *day, VbLoan *loa
     VbGrant said = { .code = VB_OK, .guest = event->guest };
     if (event->kind == ARRIVE)
         said.code = to->arrive(loans, day->count, event->guest, event->pages, event->line);
+    else if (event->kind == RESET)
+        said.code = to->reset(loans, day->count, event->guest, event->line);
     else if (to->plain[event->kind])
         said.code = to->plain[event->kind](loans, day->count, event->guest);
     else if (to->paged[event->kind])
@@ -68,6 +71,7 @@ static void note(struct day *day, size_t guest)
     case ASK:
     case RESET:
         book->waits = true;
+        book->second = event->kind == RESET && event->line != 0;
         book->since = ++day->asks;
         return;
     case UNCOUNT:

@@ -2,8 +2,7 @@
 
 import linux_kit
 import pytest
-from linux_bench import ALL_RUNS, WRONG_DEVICES, Bench
-from linux_runs import RUNS
+from linux_bench import ALL_RUNS, SHARED_RUNS, WRONG_DEVICES, Bench
 from linux_vmms import FORMS, VMMS
 
 
@@ -24,7 +23,7 @@ def forms_of(config):
 
 def names_of(config):
     """Returns the names of the VMM's runs."""
-    return ALL_RUNS if VMMS[config.getoption("--vmm")].has_control else RUNS
+    return ALL_RUNS if VMMS[config.getoption("--vmm")].has_control else SHARED_RUNS
 
 
 def cases(names, forms, seeds):

@@ -6,6 +6,7 @@ import random
 
 import linux_kit
 from linux_guest import Guest, Machine, Unbound
+from linux_hint_runs import HINT_RUNS
 from linux_kit import Fault, demand
 from linux_machine_runs import MACHINE_RUNS
 from linux_runs import RUNS, SIZES, DeviceFault, audit
@@ -13,7 +14,8 @@ from linux_vmms import FORMS, Shape, vmm_of
 from programs import CHECKS
 
 WRONG_DEVICES = ("1", "2", "3", "4", "5")
-ALL_RUNS = {**RUNS, **MACHINE_RUNS}
+SHARED_RUNS = {**RUNS, **HINT_RUNS}
+ALL_RUNS = {**SHARED_RUNS, **MACHINE_RUNS}
 
 
 class Bench:

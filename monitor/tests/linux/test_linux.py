@@ -5,6 +5,8 @@
     oom       a process that wants more than the balloon leaves lives, by DEFLATE_ON_OOM; the balloon is refilled
     unload    the driver is unloaded with pages in the balloon, and loaded again
     compact   the guest's kernel moves pages that are in the balloon
+    hints     a hog is freed, and a round of free page hints, which are discarded, brings it back; after DONE memory is filled again
+    amid      rounds of hints end amid, beside reports
     zeroed    a kernel that fills free pages with zeros (init_on_free=1) reports, since PAGE_POISON is offered, and not else
 
 Under QEMU also:

@@ -19,6 +19,10 @@
  *     long-turn         a notice serves as many pages as its chains name
  *     no-ctrunc         files for which a message had no room aren't missed
  *     small-rings       a ring of more than 256 entries is refused
+ *     old-round         hints are told whose round's id wasn't read
+ *     after-done        hints are told whose round has ended
+ *     discards-kept     hints are discarded that are to be kept
+ *     ids-anew          the ids of rounds begin anew with each process
  *
  * Two are right, but for their machine:
  *
@@ -26,6 +30,7 @@
  *     bad-disk          no file can be kept on the disk
  */
 #include "../../backends/guest/handlers.h"
+#include "../../backends/guest/hints.h"
 
 #include <stdlib.h>
 #include <unistd.h>
@@ -135,6 +140,7 @@ WRAPPED(bool, event_take_kick, struct event *event, int file)
 WRAPPED(bool, backend_start, struct backend *backend, const struct options *options)
 {
     bool started = __real_backend_start(backend, options);
+    backend->balloon.state.device.settings.discards_hints |= is("discards-kept");
     if (is("long-turn"))
         backend->balloon.most_pages = UINT32_MAX;
     return started;
@@ -150,6 +156,21 @@ WRAPPED(enum stream_state, stream_fill, int socket, void *to, size_t length, siz
 WRAPPED(uint32_t, vb_start_queue, VbBalloon *balloon, const VbRegion *regions, size_t count, uint32_t kind, VbQueueStart at)
 {
     return is("small-rings") && at.size > 256 ? VB_MISPLACED : __real_vb_start_queue(balloon, regions, count, kind, at);
+}
+
+WRAPPED(uint32_t, vb_begin, VbNotice *notice, VbBalloon *balloon, const VbRegion *regions, size_t count, VbRoom *room, uint32_t kind,
+        uint32_t chains, uint32_t pages, uint32_t keeps)
+{
+    VbRound *round = &balloon->device.round;
+    if (kind == VB_HINT && ((is("old-round") && round->shown >= 2) || (is("after-done") && round->shown == 1)))
+        *round = (VbRound){round->last, round->last, 1};
+    return __real_vb_begin(notice, balloon, regions, count, room, kind, chains, pages, keeps);
+}
+
+WRAPPED(void, hints_go_on, struct backend *backend, VbBalloon before)
+{
+    if (!is("ids-anew"))
+        __real_hints_go_on(backend, before);
 }
 
 WRAPPED(int, file_number, int file, const char *name)

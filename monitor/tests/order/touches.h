@@ -11,8 +11,8 @@ enum { SIZE = 8, PAGES = 32, MOST_TOUCHES = 4096, TRAP_FLAG = 0x100, WRITE_FAULT
 static const uint64_t AVAIL = 0x1ffc, USED = 0x6ffc, BUFFER = 0x8ffd, SET_AT = 0xa000, NAMED = 16, BORDER = 0x5000;
 static uint64_t table = 0x4000;
 
-enum what { INDEX, ENTRY, DESCRIPTOR, BYTES, TOLD, FIGURES, DISCARD, ELEMENT, USED_INDEX, FLAGS, FENCE, SET, OTHER };
-static const char *const WORDS[] = { "index", "entry", "descriptor", "bytes", "told", "figures", "discard", "element", "used index",
+enum what { INDEX, ENTRY, DESCRIPTOR, BYTES, TOLD, FIGURES, ID, DISCARD, ELEMENT, USED_INDEX, FLAGS, FENCE, SET, OTHER };
+static const char *const WORDS[] = { "index", "entry", "descriptor", "bytes", "told", "figures", "id", "discard", "element", "used index",
                                      "flags", "fence", "set", "other" };
 
 /* `number`: which entry, descriptor or word of an element, where a discard begins, the order of a fence. */

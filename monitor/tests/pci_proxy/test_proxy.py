@@ -32,7 +32,7 @@ def test_configuration_space(client):
 
 def test_start(client):
     client.start()
-    assert [client.read(it) for it in (OFFERED, QUEUES, STATUS)] == [0x27, 4, 15]
+    assert [client.read(it) for it in (OFFERED, QUEUES, STATUS)] == [0x27, 5, 15]
     assert client.backend.counters()["end"] == PAGES
 
 

@@ -54,7 +54,7 @@ def test_features(client):
         client.write(ACCEPT_SELECT, select), client.write(ACCEPTED, accepted)
         assert (client.read(ACCEPT_SELECT), client.read(ACCEPTED)) == (select, accepted if select < 2 else 0)
     client.write(ACCEPT_SELECT, 0)
-    assert (client.read(ACCEPTED), client.read(MSIX, 2), client.read(QUEUES, 2)) == (5, 0xFFFF, 4)
+    assert (client.read(ACCEPTED), client.read(MSIX, 2), client.read(QUEUES, 2)) == (5, 0xFFFF, 5)
 
 
 # Not offered; without VERSION_1.

@@ -20,9 +20,9 @@ def day_of(**guests):
 TWO = day_of(a=((0, 10), (10, 80), 30), b=((0, 90), (20, 20), 30))
 
 # Of 300 pages 100 are missing: a gives 60, b 40. At 10 a is reset, and asks for 60; b can spare 50, and c 20: 30 too few. b gives 10 and c 20:
-# 40 + 50 + 80 are lent. At 20 b can spare 30, and asks for 20, for which there would be room, after a in the line. At 30 c can spare
-# 80, and gives 60: a gets its 60, b its 20. After the grants targets are decided anew: a can spare most, and gives its 100; b takes its 30, and c
-# its 80, for which there is room.
+# 40 + 50 + 80 are lent. At 20 b can spare 30, and asks for 20, for which there is room: it gets them before a. Now 50 are too few. At 30 c can
+# spare 80, and gives 60: a gets its 60. After the grant targets are decided anew: a can spare most, and gives its 100; b takes its 30, and c its
+# 80, for which there is room.
 RESET = day_of(a=((0, 40), (10, 0), 40), b=((0, 50), (20, 70), 40), c=((0, 80), (30, 20), 40))
 
 # b comes at 10 and asks for its 100; a can spare 20. At 30 a can spare 60, and gives up to 50.
@@ -52,7 +52,7 @@ FULL = day_of(a=((0, 50), (10, 0), 20))
 WORKED_OUT = {
     "two guests": (TWO, Terms(150), (10.0, 0.0), 10.0, 60.0, 1, 10.0, 20, 150),
     "two guests on all that they need at once": (TWO, Terms(170), (0.0,), 0.0, 60.0, 0, 0.0, 0, 50),
-    "a deflate waits for a reset": (RESET, Terms(200), (20.0, 10.0, 0.0, 0.0), 30.0, 120.0, 1, 20.0, 50, 480),
+    "a deflate comes before a reset": (RESET, Terms(200), (0.0, 20.0, 0.0, 0.0), 20.0, 120.0, 1, 20.0, 50, 480),
     "a newcomer waits": (NEWCOMER, Terms(150), (20.0,), 20.0, 90.0, 1, 20.0, 30, 50),
     "a deflate comes before a newcomer": (OVERTAKEN, Terms(150), (0.0, 20.0), 20.0, 80.0, 1, 20.0, 70, 180),
     "a budget that is short": (REFUSED, Terms(150), (40.0,), 40.0, 90.0, 1, 40.0, 30, 20),
@@ -72,7 +72,7 @@ def test_worked_out(library, name):
 
 def test_who_waits_longest_and_what_is_promised(library):
     it = replay(library, RESET, Terms(200))
-    assert (it.worst_guest, it.promised, it.guests, it.share(), it.wait_a_day()) == ("a", 300, 3, 0.25, 21600.0)
+    assert (it.worst_guest, it.promised, it.guests, it.share(), it.wait_a_day()) == ("a", 300, 3, 1 / 6, 14400.0)
     assert promised_by(day_of(a=((0, 1), 10), b=((10, 1), 20), c=((15, 1), 20))) == 200
 
 

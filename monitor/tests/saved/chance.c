@@ -16,12 +16,12 @@ static void all_calls_work(void)
 {
     struct balloon_result result;
     uint8_t word[8];
-    for (uint32_t kind = 0; kind < 5; kind++)
+    for (uint32_t kind = 0; kind <= VB_NO_KIND; kind++)
         balloon_notify(&guest.balloon, kind);
     balloon_ask_statistics(&guest.balloon);
     balloon_give_deflate(&guest.balloon);
     balloon_read_config(&guest.balloon, chance(9), word, sizeof word);
-    balloon_place(&guest.balloon, chance(4), chance(1 << 24), chance(1 << 24), chance(1 << 24), (uint16_t)chance(300));
+    balloon_place(&guest.balloon, chance(5), chance(1 << 24), chance(1 << 24), chance(1 << 24), (uint16_t)chance(300));
     balloon_write_status(&guest.balloon, (uint8_t)chance(256), &result);
 }
 
@@ -49,10 +49,11 @@ void any_restored_device_works(void)
 static void any_request(uint32_t kind)
 {
     if (guest.balloon.state.device.status == 0) {
-        for (uint32_t each = 0; each < 4; each++)
+        for (uint32_t each = 0; each < VB_NO_KIND; each++)
             put(&guest, avail_of(each) + 2, guest.published[each] = 0, 2);
-    } else if (kind == VB_STATISTICS) {
-        describe(&guest, kind, 0, buffer_of(kind), 10, 0, 0);
+    } else if (kind == VB_STATISTICS || kind == VB_HINT) {
+        put(&guest, buffer_of(kind), guest.balloon.state.device.round.last + (chance(4) == 0), 4);
+        describe(&guest, kind, 0, buffer_of(kind), kind == VB_HINT ? 4 : 10, 0, 0);
         publish(&guest, kind, 0);
     } else {
         name_pages(&guest, kind, (const uint32_t[]){ chance(3000), chance(3000) }, 2);
@@ -75,15 +76,25 @@ static void any_stop(uint32_t kind)
         balloon_start_queue(&guest.balloon, kind, (VbQueueStart){ table_of(kind), avail_of(kind), used_of(kind), 64, next });
 }
 
+static void any_round(struct balloon *balloon)
+{
+    uint32_t id;
+    switch (chance(4)) {
+    case 0: balloon_stop_hints(balloon); break;
+    case 1: balloon_end_hints(balloon); break;
+    default: balloon_begin_hints(balloon, &id); break;
+    }
+}
+
 /* One random call of a driver, or of a host. */
 static void any_step(void)
 {
     static const uint8_t statuses[] = { 0, 1, 3, 11, 15, 128, 129, 131, 139, 143, 79, 207 };
-    static const uint64_t features[] = { 0, 1, 2, 0x30, 1ull << 32, 1ull << 32 | 2, 1ull << 32 | 0x22, 1ull << 32 | 0x27 };
+    static const uint64_t features[] = { 0, 1, 2, 0x30, 1ull << 32, 1ull << 32 | 2, 1ull << 32 | 0x2a, 1ull << 32 | 0x2f };
     struct balloon *balloon = &guest.balloon;
     struct balloon_result result;
-    uint32_t kind = chance(4);
-    switch (chance(12)) {
+    uint32_t kind = chance(VB_NO_KIND);
+    switch (chance(13)) {
     case 0: balloon_write_status(balloon, statuses[chance(5) * (chance(4) > 0) + chance(2) * chance(8)], &result); break;
     case 1: balloon_write_status(balloon, (uint8_t)(balloon->state.device.status | 1u << chance(8)), &result); break;
     case 2: balloon_negotiate(balloon, features[chance(8)]); break;
@@ -95,6 +106,7 @@ static void any_step(void)
     case 8: chance(2) ? balloon_ask_statistics(balloon) : balloon_give_deflate(balloon); break;
     case 9: balloon_write_config(balloon, 4 * chance(5), (const uint8_t[]){ (uint8_t)chance(3), 0, 0, 0 }, 4); break;
     case 10: balloon_start_queue(balloon, kind, any_start(kind)); break;
+    case 11: any_round(balloon); break;
     default: any_stop(kind); break;
     }
 }
@@ -102,7 +114,7 @@ static void any_step(void)
 /* Whatever calls lead to is saved, and restored as it was. */
 void all_that_calls_lead_to_is_saved(void)
 {
-    unsigned kinds[256] = { 0 }, held = 0, deflates = 0;
+    unsigned kinds[256] = { 0 }, held = 0, deflates = 0, rounds = 0;
     EXPECT(reach(0));
     for (unsigned round = 0; round < 5 * ROUNDS; round++) {
         uint8_t bytes[VB_STATE_BYTES];
@@ -114,10 +126,11 @@ void all_that_calls_lead_to_is_saved(void)
         kinds[it->device.status]++;
         held += it->held.statistics > 0;
         deflates += it->held.deflate > 0;
+        rounds += it->device.round.opened;
     }
     unsigned seen = 0;
     for (unsigned status = 0; status < 256; status++)
         seen += kinds[status] > 0;
-    printf("saved: %u statuses, %u held buffers and %u held deflates on the way\n", seen, held, deflates);
-    EXPECT(seen == 12 && held > 0 && deflates > 0);
+    printf("saved: %u statuses, %u held buffers, %u held deflates and %u open rounds on the way\n", seen, held, deflates, rounds);
+    EXPECT(seen == 12 && held > 0 && deflates > 0 && rounds > 0);
 }

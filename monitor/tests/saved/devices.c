@@ -3,9 +3,21 @@
 
 struct guest guest;
 
-const VbSettings SETTINGS = { .offered = 1ull << 32 | 0x37, .reserved_pages = 16, .skips_bad_pages = 7, .holds_deflates = 1 };
+const VbSettings SETTINGS = { .offered = 1ull << 32 | 0x3f, .reserved_pages = 16, .skips_bad_pages = 7, .holds_deflates = 1, .discards_hints = 1 };
 
 enum { BEFORE_FEATURES = 3, BEFORE_CONFIGURATION = 4 };
+
+/* Four rounds begin, of which the last one has an id of 5, and opens. */
+static void open_round(struct balloon *balloon)
+{
+    uint32_t id;
+    for (int i = 0; i < 4; i++)
+        EXPECT(balloon_begin_hints(balloon, &id) == VB_OK);
+    put(&guest, buffer_of(VB_HINT), id, 4);
+    describe(&guest, VB_HINT, 0, buffer_of(VB_HINT), 4, 0, 0);
+    publish(&guest, VB_HINT, 0);
+    EXPECT(id == 5 && balloon_notify(balloon, VB_HINT).chains == 1 && balloon->state.device.round.opened);
+}
 
 /* The states before a driver's features are set. */
 static bool reach_unset(struct balloon *balloon, unsigned state)
@@ -43,6 +55,7 @@ static bool reach_running(struct balloon *balloon, unsigned state)
         return true;
     name_pages(&guest, VB_DEFLATE, (const uint32_t[]){ 513, 512, 600 }, 3);
     EXPECT(balloon_notify(balloon, VB_DEFLATE).held && balloon->state.held.pages == 3);
+    open_round(balloon);
     if (state == 8)
         return true;
     describe(&guest, VB_INFLATE, 0, buffer_of(VB_INFLATE), 3, 0, 0);
@@ -64,7 +77,7 @@ bool reach(unsigned state)
     memset(guest.published, 0, sizeof guest.published);
     if (state <= BEFORE_FEATURES)
         return reach_unset(balloon, state);
-    start_features(&guest, LINUX_FEATURES, 64);     /* placed, and status 11 */
+    start_features(&guest, LINUX_FEATURES | VB_F_FREE_PAGE_HINT, 64);       /* placed, and status 11 */
     if (state == BEFORE_CONFIGURATION)
         return balloon_write_status(balloon, 139, &result) == 0;
     return reach_running(balloon, state);

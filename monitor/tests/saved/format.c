@@ -24,7 +24,7 @@ void put_sum_at(uint8_t *bytes, size_t at)
 
 void put_sum(uint8_t *bytes) { put_sum_at(bytes, SUM_AT); }
 
-/* What both versions have. */
+/* What all versions have. */
 static uint8_t *put_first(const VbDevice *device, VbHeld held, uint8_t *bytes, unsigned version, unsigned length)
 {
     const VbSettings *settings = &device->settings;
@@ -39,17 +39,26 @@ static uint8_t *put_first(const VbDevice *device, VbHeld held, uint8_t *bytes, u
     return put_number(at, device->poison, 4);
 }
 
+static uint8_t *put_holds(uint8_t *at, const VbDevice *device, VbHeld held)
+{
+    return put_number(put_number(put_number(at, device->settings.holds_deflates, 1), held.deflate, 4), held.pages, 4);
+}
+
 void encode(const VbDevice *device, VbHeld held, uint8_t *bytes)
 {
-    uint8_t *at = put_first(device, held, bytes, 3, 200);
-    at = put_number(at, device->settings.holds_deflates, 1);
-    at = put_number(put_number(at, held.deflate, 4), held.pages, 4);
-    EXPECT(at == bytes + SUM_AT);
+    const VbRound *round = &device->round;
+    uint8_t *at = put_ring(put_holds(put_first(device, held, bytes, 4, 240), device, held), &device->hint);
+    at = put_number(put_number(put_number(at, round->shown, 4), round->last, 4), round->opened, 1);
+    EXPECT(put_number(at, device->settings.discards_hints, 1) == bytes + SUM_AT);
     put_sum(bytes);
 }
 
-void encode_older(const VbDevice *device, VbHeld held, uint8_t *bytes)
+size_t encode_older(const VbDevice *device, VbHeld held, unsigned version, uint8_t *bytes)
 {
-    EXPECT(put_first(device, held, bytes, 2, 191) == bytes + HOLD_AT);
-    put_sum_at(bytes, HOLD_AT);
+    const unsigned length = version == 2 ? 191 : 200;
+    uint8_t *at = put_first(device, held, bytes, version, length);
+    at = version == 2 ? at : put_holds(at, device, held);
+    EXPECT(at == bytes + length - 8);
+    put_sum_at(bytes, length - 8);
+    return length;
 }

@@ -3,13 +3,15 @@
 #define SAVED_H
 #include "../guest.h"
 
-enum { SUM_AT = VB_STATE_BYTES - 8, HOLD_AT = 183, POISON_AT = HOLD_AT - 4, RINGS_AT = 59, RING_BYTES = 30, OLDER_BYTES = 191 };
+enum { SUM_AT = VB_STATE_BYTES - 8, HOLD_AT = 183, POISON_AT = HOLD_AT - 4, RINGS_AT = 59, RING_BYTES = 30, HINT_AT = HOLD_AT + 9,
+       ROUND_AT = HINT_AT + RING_BYTES, OPENED_AT = ROUND_AT + 8 };
 
 uint8_t *put_number(uint8_t *at, uint64_t value, int bytes);
 void put_sum_at(uint8_t *bytes, size_t at);
 void put_sum(uint8_t *bytes);
 void encode(const VbDevice *device, VbHeld held, uint8_t *bytes);
-void encode_older(const VbDevice *device, VbHeld held, uint8_t *bytes);
+/* The same in a version before this one, 2 or 3: how many bytes it is. */
+size_t encode_older(const VbDevice *device, VbHeld held, unsigned version, uint8_t *bytes);
 
 extern struct guest guest;
 extern const VbSettings SETTINGS;

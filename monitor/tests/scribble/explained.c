@@ -26,6 +26,8 @@ static void expect_same(const VbBalloon *balloon)
     EXPECT(one->target == other->target && one->actual == other->actual);
     EXPECT(same_queue(&one->inflate, &other->inflate) && same_queue(&one->deflate, &other->deflate));
     EXPECT(same_queue(&one->statistics, &other->statistics) && same_queue(&one->report, &other->report));
+    EXPECT(same_queue(&one->hint, &other->hint) && one->round.shown == other->round.shown && one->round.last == other->round.last);
+    EXPECT(one->round.opened == other->round.opened);
 }
 
 static bool same_spot(VbSpot one, VbSpot other) { return one.region == other.region && one.offset == other.offset; }
@@ -55,6 +57,9 @@ static void expect_thing(uint32_t what, const VbNotice *notice, const VbRoom *ro
         EXPECT(notice->figures == why->figures);
         for (uint32_t i = 0; i < why->figures; i++)
             EXPECT(room->figures[i].tag == twin.room.figures[i].tag && room->figures[i].value == twin.room.figures[i].value);
+        break;
+    case VB_TELL_ID:
+        EXPECT(notice->hint_id == why->hint_id);
         break;
     case VB_DISCARD:
         EXPECT(why->cuts == 1 && memcmp(&room->cuts[cut], &twin.room.cuts[0], sizeof room->cuts[0]) == 0);

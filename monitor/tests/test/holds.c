@@ -145,7 +145,7 @@ static void a_stopped_queue_forgets_it(void)
     EXPECT(balloon_notify(&guest.balloon, VB_DEFLATE).held_pages == 2 && balloon_give_deflate(&guest.balloon).marked == 2);
     name_pages(&guest, VB_DEFLATE, (const uint32_t[]){ 702 }, 1);
     EXPECT(balloon_notify(&guest.balloon, VB_DEFLATE).held && balloon_forget_held(&guest.balloon, VB_DEFLATE) == VB_OK);
-    EXPECT(waiting_of(&guest) == 0 && balloon_forget_held(&guest.balloon, VB_DEFLATE) == VB_NOTHING && balloon_forget_held(&guest.balloon, 4) == VB_NO_QUEUE);
+    EXPECT(waiting_of(&guest) == 0 && balloon_forget_held(&guest.balloon, VB_DEFLATE) == VB_NOTHING && balloon_forget_held(&guest.balloon, VB_NO_KIND) == VB_NO_QUEUE);
     EXPECT(balloon_notify(&guest.balloon, VB_DEFLATE).code == VB_NOTHING && used_index(&guest, VB_DEFLATE) == 1);
     EXPECT(count_of(&guest) == 8);
     free_memory(&guest);

@@ -157,7 +157,7 @@ static void kinds_are_told_by_features(void)
 {
     EXPECT(vb_kind_of(0, 1) == VB_DEFLATE && vb_kind_of(0, 2) == VB_NO_KIND && vb_kind_of(REPORTING, 2) == VB_REPORT);
     EXPECT(vb_kind_of(STATS_VQ | REPORTING, 3) == VB_REPORT && vb_kind_of(STATS_VQ, 2) == VB_STATISTICS);
-    EXPECT(vb_kind_of(UINT64_MAX, 4) == VB_NO_KIND && vb_kind_of(UINT64_MAX, UINT32_MAX) == VB_NO_KIND);
+    EXPECT(vb_kind_of(UINT64_MAX, 4) == VB_REPORT && vb_kind_of(UINT64_MAX, 5) == VB_NO_KIND && vb_kind_of(UINT64_MAX, UINT32_MAX) == VB_NO_KIND);
 }
 
 void test_queues(void)

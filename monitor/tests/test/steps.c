@@ -17,9 +17,9 @@ static void settings_have_bounds(void)
     it = good;
     it.offered = 0x27;          /* without VERSION_1 */
     EXPECT(vb_new(&device, it) == VB_BAD_ARGUMENT);
-    it.offered = VERSION_1 | VB_F_PAGE_POISON;
+    it.offered = VERSION_1 | VB_F_PAGE_POISON | VB_F_FREE_PAGE_HINT;
     EXPECT(vb_new(&device, it) == VB_OK);
-    const uint64_t never[] = { 1 << 3, 1 << 6, 1ull << 28, 1ull << 29, 1ull << 33, 1ull << 63 };
+    const uint64_t never[] = { 1 << 6, 1 << 7, 1ull << 28, 1ull << 29, 1ull << 33, 1ull << 63 };
     for (size_t i = 0; i < sizeof never / sizeof never[0]; i++) {
         it.offered = VERSION_1 | never[i];
         EXPECT(vb_new(&device, it) == VB_BAD_ARGUMENT);

@@ -36,6 +36,7 @@ void test_set(void);
 void test_statistics(void);
 void test_holds(void);
 void test_reports(void);
+void test_hints(void);
 void test_large_pages(void);
 void test_holes(void);
 void test_moves(void);

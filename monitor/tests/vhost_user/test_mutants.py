@@ -26,6 +26,10 @@ WRONG = {
     "long-turn": "test_tenants.py::test_a_turn_of_many_pages",
     "no-ctrunc": "test_refuses.py::test_messages",
     "small-rings": "test_sizes.py::test_a_ring_is_served_whole",
+    "old-round": "test_hints.py::test_a_story[the id of the round before]",
+    "after-done": "test_hints.py::test_a_story[after DONE]",
+    "discards-kept": "test_hints.py::test_hints_are_kept",
+    "ids-anew": "test_hints.py::test_ids_go_on_over_a_restart",
 }
 
 # Each wrong event loop, and the test that has to refuse it; tests/host has others, by a lender.

@@ -118,6 +118,7 @@ def test_what_each_counter_counts(start):
         "target": 6, "actual": 6, "status": 15, "held_kib": 472, "end": end, "messages": 30, "kicks": 5, "interrupts": 5,
         "told": 1, "chains": 6, "pages": 13, "discarded": 10, "waiting": 0, "skipped": 1, "in_holes": 1, "kept": 0, "marked": 0,
         "unmarked": 0, "inflated": 4, "deflated": 2, "reported": 7, "reports": 2, "statistics": 1, "taken": 0,
+        "hints_rounds": 0, "hints_pages": 0, "hints_late": 0,
     }
 
 

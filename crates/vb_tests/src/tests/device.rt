@@ -1,6 +1,7 @@
 //! What no clause says: requests from outside, and each call once.
 
 mod ballooned;
+mod rounds;
 
 use bitflags::Flags;
 use std::process::Abort;
@@ -16,6 +17,7 @@ const SETTINGS: Settings = Settings {
     needs_must_tell: 0,
     skips_bad_pages: 0,
     holds_deflates: 0,
+    discards_hints: 0,
 };
 
 /// A ring of eight descriptors.
@@ -37,6 +39,7 @@ fn ready(settings: Settings, kind: Kind, ring: Virtqueue) -> Device {
         Kind::Inflate => device.inflate = ring,
         Kind::Deflate => device.deflate = ring,
         Kind::Statistics => device.statistics = ring,
+        Kind::Hint => device.hint = ring,
         Kind::Report => device.report = ring,
     }
     device
@@ -201,7 +204,7 @@ fn requests_name_runs(rt: HostRuntime) {
 }
 
 /// Features, the number of a queue, and its kind.
-static KINDS: [(u64, u32, Option<Kind>); 7] = [
+static KINDS: [(u64, u32, Option<Kind>); 16] = [
     (0x1_0000_0000, 1, Some(Kind::Deflate)),
     (0x1_0000_0000, 2, None),
     (0x1_0000_0002, 2, Some(Kind::Statistics)),
@@ -209,6 +212,15 @@ static KINDS: [(u64, u32, Option<Kind>); 7] = [
     (0x1_0000_0022, 2, Some(Kind::Statistics)),
     (0x1_0000_0022, 3, Some(Kind::Report)),
     (0x1_0000_0022, 4, None),
+    (0x1_0000_0008, 2, Some(Kind::Hint)),
+    (0x1_0000_0008, 3, None),
+    (0x1_0000_0028, 2, Some(Kind::Hint)),
+    (0x1_0000_0028, 3, Some(Kind::Report)),
+    (0x1_0000_0028, 4, None),
+    (0x1_0000_000a, 3, Some(Kind::Hint)),
+    (0x1_0000_002a, 3, Some(Kind::Hint)),
+    (0x1_0000_002a, 4, Some(Kind::Report)),
+    (0x1_0000_002a, 5, None),
 ];
 
 /// The number of the first row that is answered otherwise.

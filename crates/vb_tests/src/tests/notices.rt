@@ -11,11 +11,12 @@ use vb_monitor::{Budget, Cut, Outcome, Region, Room, Spot, serve};
 /// A guest of 32 pages.
 const SETTINGS: Settings = Settings {
     memory_end: 0x2_0000,
-    offered: 0x1_0000_0027,
+    offered: 0x1_0000_002f,
     reserved_pages: 0,
     needs_must_tell: 0,
     skips_bad_pages: 0,
     holds_deflates: 0,
+    discards_hints: 0,
 };
 
 /// Its first 21 pages, and the others.
@@ -127,11 +128,12 @@ const ITS_NEXT: Spot = Spot {
     offset: 0x3400,
 };
 
-/// Which request is there: that of `put_request`, or that of `put_long_request`.
+/// Which chain is there: that of `put_request`, of `put_long_request`, or of `put_id`.
 #[derive(Clone, Copy)]
 enum Request {
     Short,
     Long,
+    Id,
 }
 
 /// A notice of a request: what it is, which request it is of, how many chains it may serve, whether
@@ -148,7 +150,7 @@ struct Case {
     accesses: &'static [Row],
 }
 
-static CASES: [Case; 5] = [
+static CASES: [Case; 6] = [
     Case {
         name: "an inflate",
         request: Request::Short,
@@ -253,6 +255,29 @@ static CASES: [Case; 5] = [
         ],
     },
     Case {
+        name: "an id of hints",
+        request: Request::Id,
+        kind: Kind::Hint,
+        chains: 8,
+        keeps: false,
+        interrupt: true,
+        more: false,
+        accesses: &[
+            Row::Word(INDEX, 1),
+            Row::Acquire,
+            Row::Word(ENTRY, 0),
+            Row::Bytes(TABLE, 16),
+            Row::Bytes(REQUEST, 4),
+            Row::Id(0x0403_0201),
+            Row::Number(USED_ID, 0),
+            Row::Number(USED_LENGTH, 0),
+            Row::Release,
+            Row::Written(USED_INDEX, 1),
+            Row::Full,
+            Row::Word(FLAGS, 0),
+        ],
+    },
+    Case {
         name: "a budget of no chain, after which more is there",
         request: Request::Short,
         kind: Kind::Inflate,
@@ -296,6 +321,20 @@ fn put_long_request(bytes: &mut [u8]) {
     bytes[0x102] = 1;
 }
 
+/// One available entry, a chain of one descriptor with 4 bytes, from 0x400 on: an id of hints.
+fn put_id(bytes: &mut [u8]) {
+    if bytes.len() < MEMORY {
+        return;
+    }
+    bytes[1] = 4;
+    bytes[8] = 4;
+    bytes[0x102] = 1;
+    bytes[0x400] = 1;
+    bytes[0x401] = 2;
+    bytes[0x402] = 3;
+    bytes[0x403] = 4;
+}
+
 /// Serves the request that the case has, as the case has it.
 fn serve_request<R: Abort>(memory: &mut Scribbled<R>, case: &Case) -> Outcome {
     let mut device = Device::new(SETTINGS);
@@ -303,9 +342,11 @@ fn serve_request<R: Abort>(memory: &mut Scribbled<R>, case: &Case) -> Outcome {
     device.status = 15;
     device.inflate = RING;
     device.deflate = RING;
+    device.hint = RING;
     match case.request {
         Request::Short => put_request(&mut memory.bytes),
         Request::Long => put_long_request(&mut memory.bytes),
+        Request::Id => put_id(&mut memory.bytes),
     }
     let mut room = Room::EMPTY;
     serve(

@@ -18,6 +18,7 @@ const MOST_REGIONS: usize = 64;
 
 type OnPages = unsafe extern "C" fn(*mut c_void, u32, *const Run, u32);
 type OnStatistics = unsafe extern "C" fn(*mut c_void, *const Statistic, u32);
+type OnHintId = unsafe extern "C" fn(*mut c_void, u32);
 type OnDiscard = unsafe extern "C" fn(*mut c_void, *const Mapped, u64, u64) -> c_int;
 
 /// `struct balloon_region`.
@@ -45,6 +46,7 @@ pub struct Struct {
     context: *mut c_void,
     on_pages: Option<OnPages>,
     on_statistics: Option<OnStatistics>,
+    on_hint_id: Option<OnHintId>,
     discard: Option<OnDiscard>,
     ballooned: *mut u64,
     ballooned_words: usize,
@@ -60,6 +62,7 @@ pub struct VbSettings {
     needs_must_tell: u8,
     skips_bad_pages: u8,
     holds_deflates: u8,
+    discards_hints: u8,
 }
 
 /// The hooks of the struct.
@@ -77,6 +80,13 @@ impl Monitor for Hooks<'_> {
         if let Some(tell) = self.0.on_statistics {
             // SAFETY: the pointer is of a slice with its length.
             unsafe { tell(self.0.context, figures.as_ptr(), figures.len() as u32) }
+        }
+    }
+
+    fn hint_id(&mut self, id: u32) {
+        if let Some(tell) = self.0.on_hint_id {
+            // SAFETY: the pointer is of a function of the struct.
+            unsafe { tell(self.0.context, id) }
         }
     }
 
@@ -150,6 +160,7 @@ pub unsafe extern "C" fn balloon_init(it: &mut Struct, regions: *const Mapped, c
         needs_must_tell: settings.needs_must_tell != 0,
         skips_bad_pages: settings.skips_bad_pages != 0,
         holds_deflates: settings.holds_deflates != 0,
+        discards_hints: settings.discards_hints != 0,
     };
     match Balloon::new(&Memory::new(regions, count), settings) {
         Err(why) => codes(why).0,
@@ -265,6 +276,22 @@ pub unsafe extern "C" fn balloon_write_config(it: &mut Struct, offset: u32, byte
 #[no_mangle]
 pub unsafe extern "C" fn balloon_set_target(it: &mut Struct, pages: u32) {
     it.run(|balloon, _, _| balloon.set_target(pages));
+}
+
+#[no_mangle]
+pub unsafe extern "C" fn balloon_begin_hints(it: &mut Struct, id: &mut u32) -> u32 {
+    *id = 0;
+    code_of(it.run(|balloon, _, _| balloon.begin_hints()).map(|begun| *id = begun))
+}
+
+#[no_mangle]
+pub unsafe extern "C" fn balloon_stop_hints(it: &mut Struct) {
+    it.run(|balloon, _, _| balloon.stop_hints());
+}
+
+#[no_mangle]
+pub unsafe extern "C" fn balloon_end_hints(it: &mut Struct) {
+    it.run(|balloon, _, _| balloon.end_hints());
 }
 
 #[no_mangle]

@@ -13,7 +13,7 @@ const AVAIL: u64 = 0x11000;
 const USED: u64 = 0x12000;
 const BUFFER: u64 = 0x20000;
 const SIZE: u64 = 4;
-const LINUX: u64 = features::VERSION_1 | 0x27;
+const FEATURES: u64 = features::VERSION_1 | features::FREE_PAGE_HINT | 0x27;
 
 /// Guest memory, what was noted of it, and a device whose queues lie on three pages each.
 struct Guest {
@@ -36,14 +36,14 @@ impl Guest {
             Watched { region, log: log.clone() }
         });
         let memory = Memory { regions: regions.into_iter().collect() };
-        let settings = Settings { offered: LINUX, skips_bad_pages: true, ..Settings::default() };
+        let settings = Settings { offered: FEATURES, skips_bad_pages: true, ..Settings::default() };
         let mut balloon = Balloon::new(&memory, settings).expect("settings");
         for status in [1, 3] {
             balloon.write_status(&memory, status, &mut ()).expect("a step");
         }
-        balloon.negotiate(LINUX).expect("features");
+        balloon.negotiate(FEATURES).expect("features");
         balloon.write_status(&memory, 11, &mut ()).expect("a step");
-        for number in 0..4 {
+        for number in 0..5 {
             let kind = balloon.kind(number).expect("a queue");
             let at = |part| place(kind, part);
             balloon.place(&memory, kind, at(TABLE), at(AVAIL), at(USED), SIZE as u16).expect("a place");
@@ -154,6 +154,32 @@ fn a_report_is_told_and_discarded_before_it_is_given_back() {
     expected.extend(given_back(Kind::Report));
     expected.extend(ended(Kind::Report));
     assert_eq!(guest.notified(Kind::Report), expected);
+}
+
+#[test]
+fn an_id_of_hints_is_read_once_and_told() {
+    let mut guest = Guest::new();
+    let id = guest.balloon.begin_hints().expect("a round");
+    guest.put(BUFFER, &id.to_le_bytes());
+    guest.publish(Kind::Hint, &[(BUFFER, 4, 0)]);
+    let mut expected = taken(Kind::Hint, 1);
+    expected.extend([Access::Read(BUFFER, 4), Access::Id(2)]);
+    expected.extend(given_back(Kind::Hint));
+    expected.extend(ended(Kind::Hint));
+    assert_eq!(guest.notified(Kind::Hint), expected);
+    assert!(guest.balloon.hints_open());
+}
+
+/// Hints that come before their round's id are given back, and nothing is told of them.
+#[test]
+fn late_hints_are_given_back_alone() {
+    let mut guest = Guest::new();
+    assert_eq!(guest.balloon.begin_hints(), Ok(2));
+    guest.publish(Kind::Hint, &[(400 * 4096, 8192, 2)]);
+    let mut expected = taken(Kind::Hint, 1);
+    expected.extend(given_back(Kind::Hint));
+    expected.extend(ended(Kind::Hint));
+    assert_eq!(guest.notified(Kind::Hint), expected);
 }
 
 #[test]

@@ -25,6 +25,7 @@ pub enum Access {
     Fence(Ordering),
     Told(Kind, Vec<(u32, u32)>),
     Figures(usize),
+    Id(u32),
     Discard(u64, u64),
 }
 
@@ -189,6 +190,10 @@ impl Monitor for Noting {
     fn pages(&mut self, kind: Kind, runs: &[Run]) {
         let runs = runs.iter().map(|it| (it.first, it.count)).collect();
         self.0.borrow_mut().push(Access::Told(kind, runs));
+    }
+
+    fn hint_id(&mut self, id: u32) {
+        self.0.borrow_mut().push(Access::Id(id));
     }
 
     fn statistics(&mut self, figures: &[vb_balloon::Statistic]) {

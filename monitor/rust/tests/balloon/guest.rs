@@ -29,7 +29,7 @@ impl Monitor for Told {
 /// A guest's memory with its driver's counts.
 pub struct Guest {
     pub memory: GuestMemoryMmap,
-    published: [u16; 4],
+    published: [u16; 5],
 }
 
 pub fn file_of(length: u64) -> File {
@@ -52,7 +52,7 @@ impl Guest {
         let low = (GuestAddress(0), 8 << 20, Some(FileOffset::new(file_of(8 << 20), 0)));
         let high = (GuestAddress(HIGH), 8 << 20, None);
         let memory = GuestMemoryMmap::from_ranges_with_files([low, high]).expect("memory");
-        Guest { memory, published: [0; 4] }
+        Guest { memory, published: [0; 5] }
     }
 
     pub fn put(&self, address: u64, bytes: &[u8]) {

@@ -3,6 +3,7 @@
 mod calls;
 mod failing;
 mod guest;
+mod hints;
 mod holds;
 mod memory;
 mod queues;

@@ -16,7 +16,7 @@ fn damaged_states_are_refused() {
             bytes[at] ^= change;
             let expected = match at {
                 0..=7 => StateError::NotAState,
-                8 if bytes[8] == 2 => StateError::BadLength, // the older version has another one
+                8 if bytes[8] == 2 || bytes[8] == 3 => StateError::BadLength, // older versions have others
                 8..=11 => StateError::OtherVersion,
                 12..=15 => StateError::BadLength,
                 _ => StateError::BadSum,

@@ -1,6 +1,6 @@
 use Rattle.std.proofs.Common.{[], ◌∷◌}
 use Rattle.vb_core.specs.Format.{u32_bytes, u64_bytes, header_parts, settings_parts, ring_parts}
-use Rattle.vb_core.specs.Format.{hold_parts}
+use Rattle.vb_core.specs.Format.{hold_parts, round_parts}
 use Rattle.vb_core.specs.declared.format.TheConstants.{FORMAT_VERSION, SAVED_LENGTH}
 use Rattle.vb_core.proofs.Rows.{joins, adds}
 use Rattle.vb_core.proofs.format.push_body.Goals as goal
@@ -21,4 +21,7 @@ returns-clause-items c = let s = c.args.saved.now in
     let e10 = joins _ (ring_parts d.statistics) _ _ e9 c.push_ring-3.ensures.items in
     let e11 = joins _ (ring_parts d.report) _ _ e10 c.push_ring-4.ensures.items in
     let e12 = adds _ (u32_bytes d.poison) _ _ e11 c.push_u32-4.ensures.items in
-    let e13 = joins _ (hold_parts s) _ _ e12 c.push_holds.ensures.items in e13.is
+    let e13 = joins _ (hold_parts s) _ _ e12 c.push_holds.ensures.items in
+    let e14 = joins _ (ring_parts d.hint) _ _ e13 c.push_ring-5.ensures.items in
+    let e15 = joins _ (round_parts d.round) _ _ e14 c.push_round.ensures.items in
+    let e16 = adds _ (d.settings.discards_hints ∷ []) _ _ e15 c.push_u8-2.ensures.items in e16.is

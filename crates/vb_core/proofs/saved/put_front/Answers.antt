@@ -2,8 +2,8 @@ use Rattle.std.{proofs.Common.{sym, ◌∙◌}, proofs.lemmas.List.length-take-l
 use Rattle.vb_core.proofs.saved.put_front.Goals as goal
 
 pub slice_bounds-copy_from_slice-end-2 : goal.slice_bounds-copy_from_slice-end-2
-slice_bounds-copy_from_slice-end-2 c = sym (length-take-le 200 c.args.out.now c.requires.room)
+slice_bounds-copy_from_slice-end-2 c = sym (length-take-le 240 c.args.out.now c.requires.room)
 
 pub copy_from_slice-requires : goal.copy_from_slice-requires
 copy_from_slice-requires c =
-    length-take-le 200 c.args.out.now c.requires.room ∙ sym c.requires.count
+    length-take-le 240 c.args.out.now c.requires.room ∙ sym c.requires.count

@@ -1,7 +1,7 @@
 use Rattle.std.proofs.Common.{refl, ap, rules, ◌∷◌, [], List, ℕ, take}
 use Rattle.vb_core.specs.declared.runs.Run.{Run}
 use Rattle.vb_monitor.specs.Giving.{used_accesses}
-use Rattle.vb_monitor.specs.Accesses.{ReadWord, Acquire, Full, TellPages, TellFigures, Discard}
+use Rattle.vb_monitor.specs.Accesses.{ReadWord, Acquire, Full, TellPages, TellFigures, TellId, Discard}
 use Rattle.vb_monitor.proofs.StepLemmas.{performs}
 use Rattle.vb_monitor.proofs.serving.perform.Goals as goal
 
@@ -28,6 +28,12 @@ returns-in-TellsFigures-clause-does g c = performs g.M.LiveMemory.goes c.args.me
     c.args.phase _ c.args.kind 0 c.args.room.now.bytes
     c.args.room.now
     (TellFigures (take c.min.result c.args.room.now.figures) ∷ []) c.in-TellsFigures.is (_, c.tell_figures.ensures, refl) (ap (λ (n : ℕ). TellFigures (take n c.args.room.now.figures) ∷ []) (search rules))
+
+pub returns-in-TellsId-clause-does : goal.returns-in-TellsId-clause-does
+returns-in-TellsId-clause-does g c = performs g.M.LiveMemory.goes c.args.memory.now c.tell_id.new.self
+    c.args.phase _ c.args.kind 0 c.args.room.now.bytes
+    c.args.room.now
+    (TellId c.in-TellsId.id ∷ []) c.in-TellsId.is (_, c.tell_id.ensures, refl) refl
 
 pub returns-in-Discards-clause-does : goal.returns-in-Discards-clause-does
 returns-in-Discards-clause-does g c = performs g.M.LiveMemory.goes c.args.memory.now c.discard.new.self

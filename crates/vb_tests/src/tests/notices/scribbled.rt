@@ -21,6 +21,7 @@ pub(super) enum Row {
     Full,
     Pages(usize, u32),
     Figures(usize),
+    Id(u32),
     Discarded(Cut),
     Number(Spot, u32),
     Written(Spot, u16),
@@ -48,6 +49,9 @@ pub(super) enum Entry {
     Figures {
         figures: Vec<Statistic>,
     },
+    Id {
+        id: u32,
+    },
     Discarded {
         cut: Cut,
     },
@@ -72,6 +76,7 @@ impl Entry {
             Entry::FullFence => Row::Full,
             Entry::Pages { runs, named, .. } => Row::Pages(runs.len(), named.pages),
             Entry::Figures { figures } => Row::Figures(figures.len()),
+            Entry::Id { id } => Row::Id(*id),
             Entry::Discarded { cut } => Row::Discarded(*cut),
             Entry::NumberWritten { at, number } => Row::Number(*at, *number),
             Entry::WordWritten { at, word } => Row::Written(*at, *word),
@@ -132,13 +137,14 @@ impl<R: Abort> LiveMemory for Scribbled<'_, R> {
       FullFence,
       Pages,
       Figures,
+      Id,
       Discarded,
       NumberWritten,
       WordWritten,
     };
     ghost use Rattle.vb_monitor.specs.Accesses.{ReadWord, CopyBytes, Acquire, Release, Full};
-    ghost use Rattle.vb_monitor.specs.Accesses.{TellPages, TellFigures, Discard, WriteNumber};
-    ghost use Rattle.vb_monitor.specs.Accesses.{WriteWord};
+    ghost use Rattle.vb_monitor.specs.Accesses.{TellPages, TellFigures, TellId, Discard};
+    ghost use Rattle.vb_monitor.specs.Accesses.{WriteNumber, WriteWord};
     ghost use Rattle.std.specs.Prelude.{List};
     ghost use Rattle.vb_monitor.specs.Accesses.{Access};
 
@@ -153,6 +159,7 @@ impl<R: Abort> LiveMemory for Scribbled<'_, R> {
           | FullFence ↦ Full
           | Pages kind runs named ↦ TellPages kind runs.items named
           | Figures figures ↦ TellFigures figures.items
+          | Id id ↦ TellId id
           | Discarded cut ↦ Discard cut
           | NumberWritten at number ↦ WriteNumber at number
           | WordWritten at word ↦ WriteWord at word
@@ -192,6 +199,10 @@ impl<R: Abort> LiveMemory for Scribbled<'_, R> {
     fn tell_figures(&mut self, figures: &[Statistic]) {
         let figures = figures.to_vec(self.alloc).expect(self.rt, "memory");
         self.note(Entry::Figures { figures });
+    }
+
+    fn tell_id(&mut self, id: u32) {
+        self.note(Entry::Id { id });
     }
 
     fn discard(&mut self, cut: Cut) {

@@ -1,0 +1,87 @@
+"""Who comes first on a strict host: deflates come before new lives of guests. Guests have 128 pages."""
+
+import time
+
+import pytest
+from bigvasta.connection import Connection
+from tenants import FREE, eventually
+from test_strict import GIVEN, STRICT, Later, lent, used, waits_of
+from vhost_client import DEFLATE, PAGE
+
+
+@pytest.fixture
+def given(lend, come):
+    """A host with two guests, which have given 50 and 60 pages; and what sets its budget to these pages."""
+    lender = lend(1, *STRICT)
+    a, b = (come(lender, it, {FREE: 100}) for it in "ab")
+    a.give(GIVEN[:50]), b.give(GIVEN[:60])
+    lender.become("a", ballooned=50, lent=78), lender.become("b", ballooned=60, lent=68)
+    with Connection(f"{lender.folder}/.control") as it:
+        yield lender, a, b, lambda pages: it.ask("budget", bytes=pages * PAGE)
+
+
+def begin_anew(guest):
+    """A guest's driver ends, to which nothing is lent ahead then though its target falls, and begins anew, which may have to wait."""
+    guest.ended.set(), guest.join()
+    for number in range(4):
+        assert guest.client.enable(number, 0) == bytes(8)
+    guest.lender.become(guest.name_of, ready=0, target=0)
+    for number in range(4):
+        guest.client.place(number)
+    return Later(lambda: [guest.client.enable(number) for number in range(4)])
+
+
+def test_a_new_life_waits_for_what_was_in_the_balloon(given):
+    lender, a, _, set_budget = given
+    set_budget(146)
+    begins = begin_anew(a)
+    assert begins.waits(), (begins.fault, lender.guests()["a"], lender.said())
+    lender.become("a", waits="reset", ballooned=50, lent=78)
+    set_budget(196)  # 68 are lent to the other one
+    begins.ends()
+    lender.become("a", waits="nothing", ballooned=0, lent=128)
+
+
+def test_a_deflate_passes_a_new_life(given):
+    """A driver in a deflate can give no pages, for which the new life of another guest waits: so the deflate comes first, where there is room for
+    it."""
+    lender, a, b, set_budget = given
+    set_budget(160)  # 146 are lent
+    begins = begin_anew(a)
+    lender.become("a", waits="reset", lent=78)
+    b.take(GIVEN[:10])
+    used(b, DEFLATE, 1)
+    lender.become("b", waits="nothing", ballooned=50, lent=78)
+    assert begins.waits() and (waits_of(lender, "a"), lent(lender)) == ("reset", 156)
+    b.give(GIVEN[60:105])
+    lender.become("b", ballooned=95, lent=33)
+    assert begins.waits()  # a page is missing
+    b.give(GIVEN[105:106])
+    begins.ends()
+    lender.become("a", waits="nothing", ballooned=0, lent=128)
+    assert lent(lender) == 160
+
+
+def test_who_waits_for_pages_that_nobody_can_give_is_named_once(given):
+    """There is no room for the deflate either: each waits for the other, and only a larger budget helps, or the end of one."""
+    lender, a, b, set_budget = given
+    set_budget(150)  # 146 are lent
+    begins = begin_anew(a)
+    lender.become("a", waits="reset", lent=78)
+    b.take(GIVEN[:10])
+    lender.become("b", waits="deflate")
+    said = [f"{it}: all guests together can't give 56 of those that are missing" for it in ("50 pages (reset)", "10 pages (deflate)")]
+
+    def named():
+        return [it for it in lender.said() if "seconds for" in it]
+
+    eventually(lambda: len(named()) == 2, lender.said)
+    assert sorted(named()) == [f"{name}: has waited 10 seconds for {it}" for name, it in zip("ab", said)]
+    set_budget(155), time.sleep(1)
+    assert len(named()) == 2 and b.client.used(DEFLATE)[0] == 0
+    set_budget(156)
+    used(b, DEFLATE, 1)
+    assert begins.waits()
+    b.leave()
+    begins.ends()
+    assert lent(lender) == 128
