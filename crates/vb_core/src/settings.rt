@@ -73,7 +73,9 @@ pub struct Settings {
     /// Unless 0, a deflate is held until it is granted: its chain isn't given back before. A driver
     /// waits for that only with MUST_TELL_HOST (VIRTIO 1.1, 5.5.6).
     pub holds_deflates: u8,
-    /// Unless 0, pages that are hinted are discarded once they were told; else they are kept.
+    /// Unless 0, pages that are hinted are discarded once they were told, with what the driver
+    /// wrote to them since; else they are kept. A driver may write to one before its round ends
+    /// (VIRTIO 1.2, 5.5.6.6), as Linux does where its memory runs out.
     pub discards_hints: u8,
 }
 

@@ -52,7 +52,8 @@ pub struct Settings {
     /// A deflate waits until it is granted ([`Balloon::give_deflate`](crate::Balloon::give_deflate)); ask for
     /// `needs_must_tell` with it.
     pub holds_deflates: bool,
-    /// Pages that are hinted are discarded once they were told; else they are kept.
+    /// Pages that are hinted are discarded once they were told, with what the driver wrote to them since; else they are
+    /// kept. A driver may write to one before its round ends, as Linux does where its memory runs out.
     pub discards_hints: bool,
 }
 
