@@ -83,8 +83,8 @@ struct seat {
     enum guest_wait asked_for;  /* what its loan asks for */
     uint32_t held_granted, granted_pages;       /* the last of its deflates that was granted, and of how many pages */
     uint64_t granted;           /* frames that were lent to it since it came, as it asked for them or was told to take them */
-    uint32_t ahead;             /* frames that were lent to it before it asks, as it was told to take them */
-    int64_t ahead_until;        /* until then its driver may still take some, though it was told otherwise meanwhile */
+    uint32_t ahead, kept;       /* frames that are lent to it before it asks: as it was told to take them, or gave them for an earlier target */
+    int64_t obeys_until;        /* its target fell: until then its driver may still obey an earlier one, higher or lower */
     bool adopted;               /* its loan is to follow the first report of a process of an earlier lender */
     bool cooperates;            /* it hasn't taken pages that nobody granted */
 };
@@ -289,7 +289,7 @@ uint64_t host_held(const struct host *host);
 void loan_follow(struct seat *seat);
 
 /* Lends it pages that it is to be told to take out of its balloon, as far as there is room, so that it doesn't wait for them: it couldn't
- * give any meanwhile. Returns how many: none where its driver isn't ready. */
+ * give any meanwhile. Returns how many: none where its driver isn't ready. What it gives soon for an earlier target stays lent to it. */
 uint32_t loan_ahead(struct seat *seat, uint32_t pages);
 
 /* Nothing is lent to it any longer. */

@@ -4,9 +4,9 @@
 
 #include <inttypes.h>
 
-/* Pages that a deflate of Linux's driver takes at most; milliseconds in which a driver that begins to take pages hears that it is to take no more;
+/* Pages that a deflate of Linux's driver takes at most; milliseconds for which a driver may still obey its target before the last one;
  * milliseconds after which a wait is long. */
-enum { PAGES_OF_REQUEST = VB_MAX_BYTES / sizeof(uint32_t), LINGERS = 500, LONG_WAIT = 10000 };
+enum { PAGES_OF_REQUEST = VB_MAX_BYTES / sizeof(uint32_t), LINGERS = 3000, LONG_WAIT = 10000 };
 
 /* Deflates wait in the first line, and all else in the second. */
 enum { FIRST_LINE, SECOND_LINE };
@@ -31,14 +31,16 @@ static uint32_t counted_balloon(const struct seat *seat)
     return report->ballooned - smaller(granted, report->ballooned);
 }
 
-/* A guest that doesn't wait: it has what isn't in its balloon. */
+/* A guest that doesn't wait: it has what isn't in its balloon. An earlier lender has lent it what it is told to take out of it, too. */
 static void follow_report(struct seat *seat)
 {
     uint32_t pages = seat->pages, ballooned = smaller(seat->report.ballooned, pages);
     if (!seat->cooperates)
         ballooned = 0;
-    seat->ahead = 0;
-    *loan_of(seat) = (VbLoan){.pages = pages, .ballooned = ballooned, .lent = pages - ballooned, .uncounted = !seat->cooperates};
+    seat->kept = 0;
+    seat->ahead = seat->report.holds ? ballooned - smaller(ballooned, seat->told) : 0;
+    *loan_of(seat) = (VbLoan){.pages = pages, .ballooned = ballooned, .lent = pages - ballooned + seat->ahead,
+                              .uncounted = !seat->cooperates};
 }
 
 static void withdraw(VbLoan *loan)
@@ -47,14 +49,16 @@ static void withdraw(VbLoan *loan)
 }
 
 /* What it has asked for isn't waited for any longer; nothing is lent beyond its pages that aren't in its balloon, but for those that it is
- * told to take out of it. A driver that was told otherwise meanwhile may just take those of one request of Linux's. */
+ * told to take out of it. A driver that may still obey an earlier target takes those of one request of Linux's, and what it gave beyond. */
 static void trim(struct seat *seat)
 {
     VbLoan *loan = loan_of(seat);
-    uint32_t taken = seat->told < loan->ballooned ? loan->ballooned - seat->told : 0;
-    uint32_t most = loop_now() < seat->ahead_until && taken < PAGES_OF_REQUEST ? PAGES_OF_REQUEST : taken;
-    seat->ahead = smaller(seat->ahead, smaller(most, loan->ballooned));
-    uint32_t lent = loan->pages - loan->ballooned + seat->ahead;
+    uint32_t beyond = loan->ballooned - smaller(loan->ballooned, seat->told);
+    bool obeys_earlier = loop_now() < seat->obeys_until;
+    uint32_t most = smaller(obeys_earlier && beyond < PAGES_OF_REQUEST ? PAGES_OF_REQUEST : beyond, loan->ballooned);
+    seat->kept = obeys_earlier ? smaller(seat->kept, most) : 0;
+    seat->ahead = smaller(seat->ahead, most - seat->kept);
+    uint32_t lent = loan->pages - loan->ballooned + seat->ahead + seat->kept;
     withdraw(loan);
     if (loan->lent > lent)
         loan->lent = lent;
@@ -65,7 +69,7 @@ static void shrink(struct seat *seat, uint32_t pages, uint32_t ballooned)
 {
     VbLoan *loan = loan_of(seat);
     ballooned = smaller(ballooned, pages);
-    seat->ahead = 0;
+    seat->ahead = seat->kept = 0;
     *loan = (VbLoan){.pages = pages, .ballooned = ballooned, .lent = pages - ballooned, .spare = loan->spare};
 }
 
@@ -83,16 +87,28 @@ static void name_taker(struct seat *seat, uint32_t pages)
     host_changed(seat->host, BY_GUESTS);
 }
 
+/* Pages have joined its balloon. Those that its driver gave for an earlier target, and takes back at once, stay lent to it for a while: else it
+ * would wait for them, and couldn't give any meanwhile. */
+static void take_in(struct seat *seat, uint32_t pages)
+{
+    VbLoan *loan = loan_of(seat);
+    uint32_t now = loan->ballooned + pages, beyond = now - smaller(now, seat->told);
+    bool keeps = loan->asked == 0 && loop_now() < seat->obeys_until;
+    uint32_t kept = keeps ? smaller(pages, beyond) : 0;
+    vb_loan_give(seat->host->loans, MOST_PLACES, seat->place, pages - kept);
+    loan->ballooned += kept;
+    seat->kept += kept;
+}
+
 /* What its last report says of its balloon. */
 static void follow_balloon(struct seat *seat)
 {
-    struct host *host = seat->host;
     VbLoan *loan = loan_of(seat);
     uint32_t now = counted_balloon(seat);
     if (loan->uncounted)
         return;
     if (now > loan->ballooned)
-        vb_loan_give(host->loans, MOST_PLACES, seat->place, smaller(now - loan->ballooned, loan->pages - loan->ballooned));
+        take_in(seat, smaller(now, loan->pages) - loan->ballooned);
     else if (now < loan->ballooned && seat->waits_for != WAITS_FOR_ROOM)
         name_taker(seat, loan->ballooned - now);
 }
@@ -277,6 +293,7 @@ uint32_t loan_ahead(struct seat *seat, uint32_t pages)
     VbLoan *loan = loan_of(seat);
     uint64_t room = loans_room(host);
     uint32_t lent = room < pages ? (uint32_t)room : pages;
+    seat->obeys_until = loop_now() + LINGERS;
     if (!seat_is_ready(seat) || loan->asked > 0 || vb_loan_ask(host->loans, MOST_PLACES, seat->place, lent) != VB_OK)
         return 0;
     loans_grant(host);
@@ -285,7 +302,6 @@ uint32_t loan_ahead(struct seat *seat, uint32_t pages)
         return 0;
     }
     seat->ahead += lent;
-    seat->ahead_until = loop_now() + LINGERS;
     return lent;
 }
 
@@ -304,8 +320,9 @@ uint64_t loans_room(const struct host *host)
         gone += host->loans[i].asked;
     for (unsigned i = 0; i < host->count; i++) {
         const struct seat *seat = host->seats[i];
-        uint32_t ballooned = loan_of(seat)->ballooned, told = ballooned > seat->told ? ballooned - seat->told : 0;
-        gone += seat->report.holds && loan_of(seat)->asked == 0 && told > seat->ahead ? told - seat->ahead : 0;
+        uint32_t ballooned = loan_of(seat)->ballooned, beyond = ballooned > seat->told ? ballooned - seat->told : 0;
+        uint32_t has = seat->ahead + seat->kept;
+        gone += seat->report.holds && loan_of(seat)->asked == 0 && beyond > has ? beyond - has : 0;
     }
     return gone < host->frames ? host->frames - gone : 0;
 }

@@ -46,10 +46,8 @@ static bool goes_by_steps(const struct seat *seat)
 static void lower(struct seat *seat)
 {
     uint32_t ballooned = seat->host->loans[seat->place].ballooned, from = seat->told > ballooned ? ballooned : seat->told;
-    bool waits = seat->report.holds && from > seat->target;
-    seat->told = waits ? from : seat->target;
-    if (waits)
-        seat->told = from - loan_ahead(seat, from - seat->target);
+    uint32_t falls = from > seat->target ? from - seat->target : 0;
+    seat->told = seat->target + (seat->report.holds ? falls - loan_ahead(seat, falls) : 0);
 }
 
 /* Tells it as much of its target as it may hear now, whether it rises or falls. */

@@ -5,8 +5,9 @@ import threading
 import time
 
 import pytest
+from bigvasta.connection import Connection
 from tenants import FREE, PAGES, PAGES_OF_ALL, eventually, go_on, has_ended, process_of, stop
-from vhost_client import DEFLATE, Client
+from vhost_client import DEFLATE, PAGE, Client
 
 QUICK = ("--floor", "0", "--period", "100", "--step", "0")
 
@@ -112,8 +113,7 @@ def stuck(lend, come):
     frames a has 68, b, which stands still, 60, and c 128."""
     first = lend(1, *QUICK, "--strict")
     a, b = (come(first, it, {FREE: 100}) for it in "ab")
-    a.give(list(range(PAGES, PAGES + 60))), b.give(list(range(PAGES, PAGES + 64)))
-    b.give([PAGES_OF_ALL + it for it in range(20, 24)])
+    a.give(list(range(PAGES, PAGES + 60))), b.give([*range(PAGES, PAGES + 64), *range(PAGES_OF_ALL + 20, PAGES_OF_ALL + 24)])
     come(first, "c", {FREE: 0})
     assert first.counters()["lent"] == 256
     process = process_of(first, "b")
@@ -150,3 +150,25 @@ def test_a_later_lender_waits_for_no_process_for_good(stuck):
     a.take(list(range(PAGES, PAGES + 10)))
     eventually(lambda: a.client.used(DEFLATE)[0] == 1)
     second.become("a", waits="nothing")
+
+
+@pytest.mark.parametrize("end", WAYS, ids=("leave", "killed"))
+def test_a_later_lender_keeps_what_is_lent_to_a_driver_that_is_told_to_take_it(lend, come, end):
+    first = lend(1, *QUICK, "--strict")
+    a, _ = (come(first, it, {FREE: pages}) for it, pages in zip("ab", (50, 0)))
+    pages = list(range(PAGES, PAGES + 50))
+    with Connection(f"{first.folder}/.control") as it:
+        it.ask("budget", bytes=206 * PAGE)
+        first.become("a", asked=50)
+        a.give(pages)
+        first.become("a", ballooned=50, lent=78)
+        a.figures[FREE] = 0
+        it.ask("budget", bytes=256 * PAGE)
+    first.become("a", ballooned=50, asked=0, lent=128)
+    end(first)
+    second = lend(1, *QUICK, "--strict", folder=first.folder)
+    second.become("a", ready=1, ballooned=50, asked=0, lent=128)
+    a.take(pages)
+    eventually(lambda: a.client.used(DEFLATE)[0] == 1)
+    second.become("a", waits="nothing", ballooned=0, lent=128)
+    assert second.counters()["lent"] == 256

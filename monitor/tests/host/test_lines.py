@@ -85,3 +85,22 @@ def test_who_waits_for_pages_that_nobody_can_give_is_named_once(given):
     b.leave()
     begins.ends()
     assert lent(lender) == 128
+
+
+def test_what_was_given_for_an_earlier_target_is_taken_back_at_once(given):
+    """A target falls while the driver's request for the one before is on its way. The driver takes back what is beyond its target now: it doesn't
+    wait for these pages, though another guest does, since it could give none meanwhile."""
+    lender, a, b, set_budget = given
+    a.figures, b.figures = {FREE: 30}, {FREE: 0}
+    set_budget(146)
+    lender.become("a", asked=80), lender.become("b", target=30)
+    a.figures = {FREE: 0}
+    lender.become("a", asked=50), lender.become("b", asked=60)
+    b.take(GIVEN[:10])
+    lender.become("b", waits="deflate")
+    a.give(GIVEN[50:80])
+    lender.become("a", ballooned=80, lent=78)
+    a.take(GIVEN[50:80])
+    used(a, DEFLATE, 1)
+    lender.become("a", waits="nothing", ballooned=50, lent=78)
+    assert (waits_of(lender, "b"), lent(lender)) == ("deflate", 146)
