@@ -85,7 +85,7 @@ struct seat {
     uint64_t granted;           /* frames that were lent to it since it came, as it asked for them or was told to take them */
     uint32_t ahead, kept;       /* frames that are lent to it before it asks: as it was told to take them, or gave them for an earlier target */
     int64_t obeys_until;        /* its target fell: until then its driver may still obey an earlier one, higher or lower */
-    bool adopted;               /* its loan is to follow the first report of a process of an earlier lender */
+    bool adopted, regains;      /* its loan is to follow the first report of a process of an earlier lender; what that lent ahead is to be lent again */
     bool cooperates;            /* it hasn't taken pages that nobody granted */
 };
 
@@ -282,31 +282,6 @@ void policy_decide(struct host *host);
 
 /* What all guests hold, in KiB. */
 uint64_t host_held(const struct host *host);
-
-/* ---- loans.c */
-
-/* Follows what its last report says: lends less once pages have joined its balloon, and asks for what its process waits for. */
-void loan_follow(struct seat *seat);
-
-/* Lends it pages that it is to be told to take out of its balloon, as far as there is room, so that it doesn't wait for them: it couldn't
- * give any meanwhile. Returns how many: none where its driver isn't ready. What it gives soon for an earlier target stays lent to it. */
-uint32_t loan_ahead(struct seat *seat, uint32_t pages);
-
-/* Nothing is lent to it any longer. */
-void loan_leave(struct seat *seat);
-
-/* Lends to those that wait, as long as there is room for the first of them, and answers their processes. */
-void loans_grant(struct host *host);
-
-/* Frames that it holds above its loan. */
-uint32_t loan_excess(const struct seat *seat);
-
-/* Names each guest that holds more than its loan and its overhead, whose balloon doesn't count any longer; and each that waits in vain, once. */
-void loans_audit(struct host *host);
-
-/* Whether somebody waits; and how many frames are left that nobody has, waits for, or was told to take out of its balloon. */
-bool loans_wait(const struct host *host);
-uint64_t loans_room(const struct host *host);
 
 /* ---- limits.c */
 

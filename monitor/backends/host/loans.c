@@ -1,25 +1,13 @@
 /* What is lent to guests, and who waits for more. The library decides (vb_lending.h); what is written here into a loan by hand keeps
  * lent + ballooned >= pages >= lent + asked, and lends nothing. */
-#include "host.h"
+#include "loans.h"
 
 #include <inttypes.h>
 
-/* Pages that a deflate of Linux's driver takes at most; milliseconds for which a driver may still obey its target before the last one;
- * milliseconds after which a wait is long. */
-enum { PAGES_OF_REQUEST = VB_MAX_BYTES / sizeof(uint32_t), LINGERS = 3000, LONG_WAIT = 10000 };
+enum { LONG_WAIT = 10000 };     /* milliseconds */
 
 /* Deflates wait in the first line, and all else in the second. */
 enum { FIRST_LINE, SECOND_LINE };
-
-static uint32_t smaller(uint32_t one, uint32_t other)
-{
-    return one < other ? one : other;
-}
-
-static VbLoan *loan_of(const struct seat *seat)
-{
-    return &seat->host->loans[seat->place];
-}
 
 /* The pages in its balloon, as the lender counts them: without those that it may take already. */
 static uint32_t counted_balloon(const struct seat *seat)
@@ -31,37 +19,16 @@ static uint32_t counted_balloon(const struct seat *seat)
     return report->ballooned - smaller(granted, report->ballooned);
 }
 
-/* A guest that doesn't wait: it has what isn't in its balloon. An earlier lender has lent it what it is told to take out of it, too. */
+/* A guest that doesn't wait: it has what isn't in its balloon. */
 static void follow_report(struct seat *seat)
 {
     uint32_t pages = seat->pages, ballooned = smaller(seat->report.ballooned, pages);
     if (!seat->cooperates)
         ballooned = 0;
-    seat->kept = 0;
-    seat->ahead = seat->report.holds ? ballooned - smaller(ballooned, seat->told) : 0;
-    *loan_of(seat) = (VbLoan){.pages = pages, .ballooned = ballooned, .lent = pages - ballooned + seat->ahead,
-                              .uncounted = !seat->cooperates};
-}
-
-static void withdraw(VbLoan *loan)
-{
-    loan->asked = 0, loan->turn = 0, loan->line = 0;
-}
-
-/* What it has asked for isn't waited for any longer; nothing is lent beyond its pages that aren't in its balloon, but for those that it is
- * told to take out of it. A driver that may still obey an earlier target takes those of one request of Linux's, and what it gave beyond. */
-static void trim(struct seat *seat)
-{
-    VbLoan *loan = loan_of(seat);
-    uint32_t beyond = loan->ballooned - smaller(loan->ballooned, seat->told);
-    bool obeys_earlier = loop_now() < seat->obeys_until;
-    uint32_t most = smaller(obeys_earlier && beyond < PAGES_OF_REQUEST ? PAGES_OF_REQUEST : beyond, loan->ballooned);
-    seat->kept = obeys_earlier ? smaller(seat->kept, most) : 0;
-    seat->ahead = smaller(seat->ahead, most - seat->kept);
-    uint32_t lent = loan->pages - loan->ballooned + seat->ahead + seat->kept;
-    withdraw(loan);
-    if (loan->lent > lent)
-        loan->lent = lent;
+    seat->ahead = seat->kept = 0;
+    seat->regains = seat->adopted;
+    seat->adopted = false;
+    *loan_of(seat) = (VbLoan){.pages = pages, .ballooned = ballooned, .lent = pages - ballooned, .uncounted = !seat->cooperates};
 }
 
 /* Memory that was taken away, with what was in the balloon of it. */
@@ -87,19 +54,6 @@ static void name_taker(struct seat *seat, uint32_t pages)
     host_changed(seat->host, BY_GUESTS);
 }
 
-/* Pages have joined its balloon. Those that its driver gave for an earlier target, and takes back at once, stay lent to it for a while: else it
- * would wait for them, and couldn't give any meanwhile. */
-static void take_in(struct seat *seat, uint32_t pages)
-{
-    VbLoan *loan = loan_of(seat);
-    uint32_t now = loan->ballooned + pages, beyond = now - smaller(now, seat->told);
-    bool keeps = loan->asked == 0 && loop_now() < seat->obeys_until;
-    uint32_t kept = keeps ? smaller(pages, beyond) : 0;
-    vb_loan_give(seat->host->loans, MOST_PLACES, seat->place, pages - kept);
-    loan->ballooned += kept;
-    seat->kept += kept;
-}
-
 /* What its last report says of its balloon. */
 static void follow_balloon(struct seat *seat)
 {
@@ -108,7 +62,7 @@ static void follow_balloon(struct seat *seat)
     if (loan->uncounted)
         return;
     if (now > loan->ballooned)
-        take_in(seat, smaller(now, loan->pages) - loan->ballooned);
+        loan_take_in(seat, smaller(now, loan->pages) - loan->ballooned);
     else if (now < loan->ballooned && seat->waits_for != WAITS_FOR_ROOM)
         name_taker(seat, loan->ballooned - now);
 }
@@ -141,8 +95,7 @@ static uint32_t wanted_pages(const struct seat *seat, enum guest_wait what)
     return what == WAITS_FOR_RESET ? loan_of(seat)->ballooned : report->wanted - seat->pages;
 }
 
-/* It has what it waits for: they leave its balloon, and its process is told. */
-static void grant(struct seat *seat, enum guest_wait what)
+void loan_grant(struct seat *seat, enum guest_wait what)
 {
     struct host *host = seat->host;
     VbLoan *loan = loan_of(seat);
@@ -154,6 +107,7 @@ static void grant(struct seat *seat, enum guest_wait what)
     host->counters.grants++;
     if (what == WAITS_FOR_DEFLATE) {
         seat->granted_pages = taken;
+        loan_obeys(seat);
         seat_grant(seat);
         return;
     }
@@ -180,7 +134,7 @@ static void ask(struct seat *seat, enum guest_wait what)
     uint32_t pages = wanted_pages(seat, what), has = loan->lent + loan->ballooned - loan->pages;
     uint32_t wanted = smaller(pages > has ? pages - has : 0, loan->pages - loan->lent);
     if (wanted == 0) {
-        grant(seat, what);
+        loan_grant(seat, what);
     } else if (what == WAITS_FOR_RESET) {
         vb_loan_reset(loans, MOST_PLACES, seat->place, SECOND_LINE);
     } else {
@@ -192,10 +146,8 @@ static void ask(struct seat *seat, enum guest_wait what)
 void loan_follow(struct seat *seat)
 {
     VbLoan *loan = loan_of(seat);
-    if (!seat->report.holds || seat->adopted) {
+    if (!seat->report.holds || seat->adopted)
         follow_report(seat);
-        seat->adopted = false;
-    }
     if (!seat->report.holds)
         return;
     if (seat->pages < loan->pages && seat->waits_for != WAITS_FOR_ROOM)
@@ -205,7 +157,7 @@ void loan_follow(struct seat *seat)
     vb_loan_figure(seat->host->loans, MOST_PLACES, seat->place, policy_spare(seat));
     if (is_wanted(seat) && loan->asked > 0)
         return;
-    trim(seat);
+    loan_trim(seat);
     if (waits_for(seat) == WAITS_FOR_NOTHING)
         return;
     ask(seat, waits_for(seat));
@@ -272,6 +224,7 @@ void loans_grant(struct host *host)
 {
     if (host_awaits(host))
         return;
+    loans_regain(host);
     uint64_t owed = vb_loan_owed(host->loans, MOST_PLACES);
     for (VbGrant next; (next = vb_loan_grant(host->frames, host->loans, MOST_PLACES)).code == VB_OK;) {
         struct seat *seat = seat_at(host, next.guest);
@@ -282,27 +235,9 @@ void loans_grant(struct host *host)
         seat->granted += owed - before;
         if (seat->asked_for == WAITS_FOR_NOTHING)
             continue; /* lent ahead */
-        grant(seat, seat->asked_for);
+        loan_grant(seat, seat->asked_for);
         host_changed(host, BY_GUESTS);
     }
-}
-
-uint32_t loan_ahead(struct seat *seat, uint32_t pages)
-{
-    struct host *host = seat->host;
-    VbLoan *loan = loan_of(seat);
-    uint64_t room = loans_room(host);
-    uint32_t lent = room < pages ? (uint32_t)room : pages;
-    seat->obeys_until = loop_now() + LINGERS;
-    if (!seat_is_ready(seat) || loan->asked > 0 || vb_loan_ask(host->loans, MOST_PLACES, seat->place, lent) != VB_OK)
-        return 0;
-    loans_grant(host);
-    if (loan->asked > 0) {
-        withdraw(loan);
-        return 0;
-    }
-    seat->ahead += lent;
-    return lent;
 }
 
 bool loans_wait(const struct host *host)
@@ -311,18 +246,4 @@ bool loans_wait(const struct host *host)
         if (host->loans[i].asked > 0)
             return true;
     return false;
-}
-
-uint64_t loans_room(const struct host *host)
-{
-    uint64_t gone = vb_loan_owed(host->loans, MOST_PLACES);
-    for (unsigned i = 0; i < MOST_PLACES; i++)
-        gone += host->loans[i].asked;
-    for (unsigned i = 0; i < host->count; i++) {
-        const struct seat *seat = host->seats[i];
-        uint32_t ballooned = loan_of(seat)->ballooned, beyond = ballooned > seat->told ? ballooned - seat->told : 0;
-        uint32_t has = seat->ahead + seat->kept;
-        gone += seat->report.holds && loan_of(seat)->asked == 0 && beyond > has ? beyond - has : 0;
-    }
-    return gone < host->frames ? host->frames - gone : 0;
 }

@@ -1,5 +1,5 @@
 /* What a lender does in its loop: all sockets where clients come, the channels of their processes, its lines, and a look each period. */
-#include "host.h"
+#include "loans.h"
 #include "measures.h"
 
 #include <unistd.h>

@@ -1,5 +1,5 @@
 /* What the lender says to a guest's process. Nothing waits: what finds no room is said again at the next look. */
-#include "host.h"
+#include "loans.h"
 
 /* Sends an order; one that finds no room is counted. */
 static void order(struct seat *seat, struct lending_message *message)

@@ -1,5 +1,5 @@
 /* What a guest's process has sent, and what the lender makes of it. */
-#include "host.h"
+#include "loans.h"
 #include "measures.h"
 
 enum { MOST_VERSION = 32 };

@@ -1,5 +1,5 @@
 /* A guest's process: how it begins, is taken over, and ends. */
-#include "host.h"
+#include "loans.h"
 #include "measures.h"
 
 #include <limits.h>

@@ -1,5 +1,5 @@
 /* What the lender shows of itself and of each guest, and what may be changed. */
-#include "host.h"
+#include "loans.h"
 #include "view.h"
 
 struct guest_terms host_usual_terms(const struct host *host)
@@ -35,7 +35,7 @@ static enum guest_state state_of(const struct seat *seat)
 }
 
 /* Frames that are lent to a guest. */
-static uint32_t loan_of(const struct seat *seat)
+static uint32_t lent_pages(const struct seat *seat)
 {
     return seat->host->loans[seat->place].lent;
 }
@@ -56,7 +56,7 @@ void host_see(const struct host *host, struct host_view *view)
         .admitted = its->admitted, .refused = its->refused, .gone = its->gone, .dropped = lines_dropped};
     for (unsigned i = 0; i < host->count; i++) {
         const struct seat *seat = host->seats[i];
-        view->lent += loan_of(seat);
+        view->lent += lent_pages(seat);
         view->waiting += seat->waits_for != WAITS_FOR_NOTHING;
         view->silent += seat_is_ready(seat) && !seat_answers(seat);
         view->uncooperative += !cooperates(seat);

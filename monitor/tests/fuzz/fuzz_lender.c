@@ -1,7 +1,7 @@
 /* A lender, fuzzed: any messages of three guests' processes, which may obey it, or lie, or go; and budgets, floors and terms that change. After
  * each step every loan is one that the library may be given, and in the end no file is left open. */
 #define _GNU_SOURCE
-#include "../../backends/host/host.h"
+#include "../../backends/host/loans.h"
 #include "script.h"
 
 #include <stddef.h>

@@ -23,7 +23,7 @@ VHOST_PARTS = tuple(
     f"guest/{it}" for it in ("features", "inbox", "messages", "ring_messages", "slots", "vhost_user")
 )
 HOST_PARTS = (
-    "folder", "input", "journal", "limit", "limit_writer", "limits", "lines", "loans", "loop", "measures", "message", "orders", "policy",
+    "ahead", "folder", "input", "journal", "limit", "limit_writer", "limits", "lines", "loans", "loop", "measures", "message", "orders", "policy",
     "reports", "rest", "seats", "start", "upgrade", "view",
 )
 LENT_PARTS = tuple(f"guest/{it}" for it in ("keeper", "kept", "lent", "lent_channel", "marks", "outbox", "sandbox")) + ("host/message",)

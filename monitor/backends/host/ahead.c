@@ -1,0 +1,104 @@
+/* What is lent to a guest before it asks: what it is told to take out of its balloon, and what it gave for an earlier target. A driver that has to wait in
+ * a deflate gives no pages meanwhile, and the others may wait for just these. */
+#include "loans.h"
+
+/* Pages that a deflate of Linux's driver takes at most; milliseconds for which a driver may still obey its target before the last one. */
+enum { PAGES_OF_REQUEST = VB_MAX_BYTES / sizeof(uint32_t), LINGERS = 3000 };
+
+void loan_obeys(struct seat *seat)
+{
+    seat->obeys_until = loop_now() + LINGERS;
+}
+
+static void withdraw(VbLoan *loan)
+{
+    loan->asked = 0, loan->turn = 0, loan->line = 0;
+}
+
+void loan_trim(struct seat *seat)
+{
+    VbLoan *loan = loan_of(seat);
+    uint32_t beyond = loan->ballooned - smaller(loan->ballooned, seat->told);
+    bool obeys_earlier = loop_now() < seat->obeys_until;
+    uint32_t most = smaller(obeys_earlier && beyond < PAGES_OF_REQUEST ? PAGES_OF_REQUEST : beyond, loan->ballooned);
+    seat->kept = obeys_earlier ? smaller(seat->kept, most) : 0;
+    seat->ahead = smaller(seat->ahead, most - seat->kept);
+    uint32_t lent = loan->pages - loan->ballooned + seat->ahead + seat->kept;
+    withdraw(loan);
+    if (loan->lent > lent)
+        loan->lent = lent;
+}
+
+void loan_take_in(struct seat *seat, uint32_t pages)
+{
+    VbLoan *loan = loan_of(seat);
+    uint32_t now = loan->ballooned + pages, beyond = now - smaller(now, seat->told);
+    bool keeps = loan->asked == 0 && loop_now() < seat->obeys_until;
+    uint32_t kept = keeps ? smaller(pages, beyond) : 0;
+    vb_loan_give(seat->host->loans, MOST_PLACES, seat->place, pages - kept);
+    loan->ballooned += kept;
+    seat->kept += kept;
+}
+
+/* Lends a guest again, as far as there is room, what an earlier lender had lent it ahead: its driver is told to take it, and may be in that
+ * deflate by now, which is granted then where nothing more is missing. */
+static void regain(struct seat *seat, uint64_t room)
+{
+    VbLoan *loan = loan_of(seat);
+    uint32_t beyond = loan->ballooned - smaller(loan->ballooned, seat->told);
+    uint32_t regained = room < beyond ? (uint32_t)room : beyond;
+    bool deflates = seat->asked_for == WAITS_FOR_DEFLATE && loan->asked > 0;
+    if (loan->asked > 0 && !deflates)
+        return;
+    loan->asked -= smaller(loan->asked, regained);
+    loan->lent += regained;
+    seat->kept = regained;
+    loan_obeys(seat);
+    if (!deflates || loan->asked > 0)
+        return;
+    withdraw(loan);
+    loan_grant(seat, WAITS_FOR_DEFLATE);
+}
+
+void loans_regain(struct host *host)
+{
+    for (unsigned i = 0; i < host->count; i++) {
+        struct seat *seat = host->seats[i];
+        uint64_t owed = vb_loan_owed(host->loans, MOST_PLACES);
+        if (seat->regains && !loan_of(seat)->uncounted)
+            regain(seat, owed < host->frames ? host->frames - owed : 0);
+        seat->regains = false;
+    }
+}
+
+uint32_t loan_ahead(struct seat *seat, uint32_t pages)
+{
+    struct host *host = seat->host;
+    VbLoan *loan = loan_of(seat);
+    uint64_t room = loans_room(host);
+    uint32_t lent = room < pages ? (uint32_t)room : pages;
+    loan_obeys(seat);
+    if (!seat_is_ready(seat) || loan->asked > 0 || vb_loan_ask(host->loans, MOST_PLACES, seat->place, lent) != VB_OK)
+        return 0;
+    loans_grant(host);
+    if (loan->asked > 0) {
+        withdraw(loan);
+        return 0;
+    }
+    seat->ahead += lent;
+    return lent;
+}
+
+uint64_t loans_room(const struct host *host)
+{
+    uint64_t gone = vb_loan_owed(host->loans, MOST_PLACES);
+    for (unsigned i = 0; i < MOST_PLACES; i++)
+        gone += host->loans[i].asked;
+    for (unsigned i = 0; i < host->count; i++) {
+        const struct seat *seat = host->seats[i];
+        uint32_t ballooned = loan_of(seat)->ballooned, beyond = ballooned > seat->told ? ballooned - seat->told : 0;
+        uint32_t has = seat->ahead + seat->kept;
+        gone += seat->report.holds && loan_of(seat)->asked == 0 && beyond > has ? beyond - has : 0;
+    }
+    return gone < host->frames ? host->frames - gone : 0;
+}
