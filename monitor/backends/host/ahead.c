@@ -42,13 +42,15 @@ void loan_take_in(struct seat *seat, uint32_t pages)
 
 /* Lends a guest again, as far as there is room, what an earlier lender had lent it ahead: its driver is told to take it, and may be in that
  * deflate by now, which is granted then where nothing more is missing. */
-static void regain(struct seat *seat, uint64_t room)
+static void regain(struct seat *seat)
 {
+    const struct host *host = seat->host;
     VbLoan *loan = loan_of(seat);
+    uint64_t owed = vb_loan_owed(host->loans, MOST_PLACES), room = owed < host->frames ? host->frames - owed : 0;
     uint32_t beyond = loan->ballooned - smaller(loan->ballooned, seat->told);
     uint32_t regained = room < beyond ? (uint32_t)room : beyond;
     bool deflates = seat->asked_for == WAITS_FOR_DEFLATE && loan->asked > 0;
-    if (loan->asked > 0 && !deflates)
+    if (loan->uncounted || (loan->asked > 0 && !deflates))
         return;
     loan->asked -= smaller(loan->asked, regained);
     loan->lent += regained;
@@ -64,9 +66,8 @@ void loans_regain(struct host *host)
 {
     for (unsigned i = 0; i < host->count; i++) {
         struct seat *seat = host->seats[i];
-        uint64_t owed = vb_loan_owed(host->loans, MOST_PLACES);
-        if (seat->regains && !loan_of(seat)->uncounted)
-            regain(seat, owed < host->frames ? host->frames - owed : 0);
+        if (seat->regains)
+            regain(seat);
         seat->regains = false;
     }
 }
