@@ -13,6 +13,8 @@
  *     a deflate request, a reset  vb_loan_ask or vb_loan_reset; the request, or the status that isn't 0, waits
  *     a newcomer                  vb_loan_arrive; it starts once it is granted
  *     a grant to a guest          the limit up to `lent`, vb_loan_take of what was asked, and only then the answer to its driver
+ *     memory is taken away        its pages are discarded, then vb_loan_shrink, the limit down, and vb_loan_grant until VB_NOTHING
+ *     memory is to be added       vb_loan_grow; the guest gets it once it is granted
  *     a guest has ended           its memory is given up, then vb_loan_leave
  */
 #ifndef VB_LENDING_H
@@ -129,6 +131,19 @@ uint32_t vb_loan_uncount(VbLoan *loans, size_t count, size_t guest);
 uint32_t vb_loan_recount(VbLoan *loans, size_t count, size_t guest);
 /* It can spare this many pages, those in its balloon included (vb_spare). */
 uint32_t vb_loan_figure(VbLoan *loans, size_t count, size_t guest, uint32_t pages);
+/* Pages joined its balloon, and stay lent to it, since its driver is to take them out again: ballooned + pages. Doesn't fit: its balloon
+ * doesn't count, or more would be in its balloon than it has. */
+uint32_t vb_loan_keep(VbLoan *loans, size_t count, size_t guest, uint32_t pages);
+/* What it asks for isn't waited for any longer, and of what is lent to it beyond its pages outside its balloon at most `ahead` pages stay
+ * lent. */
+uint32_t vb_loan_withdraw(VbLoan *loans, size_t count, size_t guest, uint32_t ahead);
+/* Memory was taken away: it has this many pages from now on, `ballooned` of them in its balloon, and all others are lent to it; its ask is
+ * gone. Doesn't fit: no pages, more than it has, more in its balloon than pages, or fewer are lent to it than would be. */
+uint32_t vb_loan_shrink(VbLoan *loans, size_t count, size_t guest, uint32_t pages, uint32_t ballooned);
+/* Memory was added to a guest that is there: these pages have no frame, as if they were in its balloon, and it asks for them, in the line
+ * of this number and after all that wait there. Doesn't fit: no pages, more than 2^32 - 1 with its own, a vacant place, it waits already,
+ * or more is lent to it, or in its balloon, than it has. */
+uint32_t vb_loan_grow(VbLoan *loans, size_t count, size_t guest, uint32_t pages, uint16_t line);
 
 /* Lends to the first guest that waits what it asks for, where that and what is lent to all are no more than these frames: VB_OK and
  * which guest. VB_NOTHING (and guest 0) where nobody waits, or there is no room for the first: then nothing is changed. */

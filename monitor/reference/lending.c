@@ -100,6 +100,53 @@ uint32_t vb_loan_figure(VbLoan *loans, size_t count, size_t guest, uint32_t page
     return fits(guest < count);
 }
 
+uint32_t vb_loan_keep(VbLoan *loans, size_t count, size_t guest, uint32_t pages)
+{
+    if (guest >= count || loans[guest].uncounted || loans[guest].ballooned > loans[guest].pages
+        || loans[guest].pages - loans[guest].ballooned < pages)
+        return VB_BAD_ARGUMENT;
+    loans[guest].ballooned += pages;
+    return VB_OK;
+}
+
+uint32_t vb_loan_withdraw(VbLoan *loans, size_t count, size_t guest, uint32_t ahead)
+{
+    if (guest >= count)
+        return VB_BAD_ARGUMENT;
+    VbLoan *loan = &loans[guest];
+    uint64_t most = ahead;
+    if (loan->pages > loan->ballooned)
+        most += loan->pages - loan->ballooned;
+    if (loan->lent > most)
+        loan->lent = (uint32_t)most;
+    loan->asked = loan->line = 0;
+    loan->turn = 0;
+    return VB_OK;
+}
+
+uint32_t vb_loan_shrink(VbLoan *loans, size_t count, size_t guest, uint32_t pages, uint32_t ballooned)
+{
+    if (guest >= count || pages == 0 || pages > loans[guest].pages || ballooned > pages || pages - ballooned > loans[guest].lent)
+        return VB_BAD_ARGUMENT;
+    loans[guest] = (VbLoan){ .pages = pages, .ballooned = ballooned, .lent = pages - ballooned, .spare = loans[guest].spare,
+                             .uncounted = loans[guest].uncounted };
+    return VB_OK;
+}
+
+uint32_t vb_loan_grow(VbLoan *loans, size_t count, size_t guest, uint32_t pages, uint16_t line)
+{
+    if (guest >= count || loans[guest].pages == 0 || loans[guest].asked != 0 || pages == 0 || pages > UINT32_MAX - loans[guest].pages
+        || loans[guest].lent > loans[guest].pages || loans[guest].ballooned > loans[guest].pages)
+        return VB_BAD_ARGUMENT;
+    uint32_t code = line_up(loans, count, &loans[guest], pages);
+    if (code == VB_OK) {
+        loans[guest].pages += pages;
+        loans[guest].ballooned += pages;
+        loans[guest].line = line != 0;
+    }
+    return code;
+}
+
 static Sum lent_to_all(const VbLoan *loans, size_t count)
 {
     Sum pages = 0;

@@ -11,12 +11,12 @@
 enum { DAYS = 1000000, EVENTS = 32 };
 
 static const char *const names[KINDS] = { "arrive", "leave", "give", "ask", "reset", "take", "uncount", "recount", "figure",
-                                          "grant", "budget" };
+                                          "keep", "withdraw", "shrink", "grow", "grant", "budget" };
 
 void fail(const struct day *day, const char *what)
 {
-    fprintf(stderr, "lending: %s: day %llu, %s of guest %zu, %u pages, line %u; %u frames\n", what, day->number,
-            names[day->event.kind], day->event.guest, day->event.pages, day->event.line, day->frames);
+    fprintf(stderr, "lending: %s: day %llu, %s of guest %zu, %u pages, %u ballooned, line %u; %u frames\n", what, day->number,
+            names[day->event.kind], day->event.guest, day->event.pages, day->event.ballooned, day->event.line, day->frames);
     for (size_t i = 0; i < day->count; i++)
         fprintf(stderr, "  %zu: pages %u, ballooned %u, lent %u, asked %u, turn %llu, line %u, uncounted %u\n", i,
                 day->loans[i].pages, day->loans[i].ballooned, day->loans[i].lent, day->loans[i].asked,

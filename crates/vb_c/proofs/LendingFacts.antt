@@ -6,6 +6,7 @@ use Rattle.vb_lender.specs.declared.loan.WaitingLine.TheVariants.{First}
 use Rattle.vb_lender.specs.declared.terms.Share.{Share}
 use Rattle.vb_lender.specs.declared.terms.Terms.{Terms}
 use Rattle.vb_lender.specs.Loans.{vacant, line_of, may_arrive, arrived, may_give, gave, may_reset, resetting, granted, figured}
+use Rattle.vb_lender.specs.Loans.{may_keep, retained, withdrawn, may_shrink, shrunk, may_grow, grown}
 use Rattle.vb_lender.specs.Lending.{asked_at, each_at, owed}
 use Rattle.vb_lender.specs.Line.{IsFirst}
 use Rattle.vb_c.specs.declared.lending.VbGrant.{VbGrant}
@@ -84,7 +85,40 @@ left_from_nowhere new n h = (h.code, h.loans)
 says_nothing_of_another : Changes (λ _. true) (figured 12) 1 host (record (loan 20 40 0 0) { spare = 12 } ∷ loan 30 30 7 3 ∷ vacant ∷ []) 0 → ⊥
 says_nothing_of_another h = let e : Same 12 9 = ap spare_of_first h.loans in omega arith
 
+-- pages that stay lent, less memory, and an ask that isn't waited for any longer
+keeps : (new : List Loan) (n : ℕ) → Changes (may_keep 15) (retained 15) 1 host new n
+    → (n ≡ 0) × (new ≡ loan 20 40 0 0 ∷ loan 45 30 7 3 ∷ vacant ∷ [])
+keeps new n h = (h.code, h.loans)
+
+keeps_not : (new : List Loan) (n : ℕ) → Changes (may_keep 31) (retained 31) 1 host new n → (n ≡ 7) × (new ≡ host)
+keeps_not new n h = (h.code, h.loans)
+
+shrinks : (new : List Loan) (n : ℕ) → Changes (may_shrink 50 20) (shrunk 50 20) 1 host new n
+    → (n ≡ 0) × (new ≡ loan 20 40 0 0 ∷ record (loan 20 30 0 0) { pages = 50 } ∷ vacant ∷ [])
+shrinks new n h = (h.code, h.loans)
+
+shrinks_not : (new : List Loan) (n : ℕ) → Changes (may_shrink 50 19) (shrunk 50 19) 1 host new n → (n ≡ 7) × (new ≡ host)
+shrinks_not new n h = (h.code, h.loans)
+
+withdraws : (new : List Loan) (n : ℕ) → Changes (λ _. true) (withdrawn 0) 1 host new n
+    → (n ≡ 0) × (new ≡ loan 20 40 0 0 ∷ loan 30 30 0 0 ∷ vacant ∷ [])
+withdraws new n h = (h.code, h.loans)
+
+withdraws_nowhere : (new : List Loan) (n : ℕ) → Changes (λ _. true) (withdrawn 0) 3 host new n → (n ≡ 7) × (new ≡ host)
+withdraws_nowhere new n h = (h.code, h.loans)
+
 -- ---- what comes to a line: at the next turn, in the line of its number
+
+grows : (new : List Loan) (n : ℕ) → Queues (may_grow 5) (grown 5 (line_of 2)) 0 host new n
+    → (n ≡ 0) × (new ≡ record (loan 25 40 5 4) { pages = 65; line = 1 } ∷ loan 30 30 7 3 ∷ vacant ∷ [])
+grows new n h = (h.code, h.loans)
+
+-- a guest that waits, and a place without one
+grows_not : (new : List Loan) (n : ℕ) → Queues (may_grow 5) (grown 5 (line_of 0)) 1 host new n → (n ≡ 7) × (new ≡ host)
+grows_not new n h = (h.code, h.loans)
+
+grows_none : (new : List Loan) (n : ℕ) → Queues (may_grow 5) (grown 5 (line_of 0)) 2 host new n → (n ≡ 7) × (new ≡ host)
+grows_none new n h = (h.code, h.loans)
 
 arrives : (new : List Loan) (n : ℕ) → Queues (may_arrive 8) (arrived 8 (line_of 2)) 2 host new n → (n ≡ 0)
     × (new ≡ loan 20 40 0 0 ∷ loan 30 30 7 3

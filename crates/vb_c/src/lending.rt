@@ -3,7 +3,8 @@
 ghost use Rattle.std.specs.Prelude.{◌≡◌, ◌-◌, ◌^◌, min, true};
 ghost use Rattle.vb_lender.specs.Loans.{vacant, line_of, may_arrive, arrived, may_give, gave};
 ghost use Rattle.vb_lender.specs.Loans.{may_ask, asking, may_reset, resetting, may_take, took};
-ghost use Rattle.vb_lender.specs.Loans.{may_uncount, uncounted, recounted, figured};
+ghost use Rattle.vb_lender.specs.Loans.{may_uncount, uncounted, recounted, figured, may_keep};
+ghost use Rattle.vb_lender.specs.Loans.{retained, withdrawn, may_shrink, shrunk, may_grow, grown};
 ghost use Rattle.vb_lender.specs.Lending.{owed, test_at};
 ghost use Rattle.vb_c.specs.Lending.{code_if, grant_of, Changes, Queues, GrantsFor, AsksGuests};
 ghost use Rattle.vb_c.specs.Lending.{AsksClasses};
@@ -12,7 +13,7 @@ use crate::sharing::{VbTargets, targets_of};
 use vb_balance::{GuestNeed, NoTargets};
 use vb_lender::{
     Loan, Share, Terms, WaitingLine, arrive, ask, ask_by_class, ask_targets, figure, give,
-    grant_next, leave, owed, recount, reset, take, uncount,
+    grant_next, grow, keep, leave, owed, recount, reset, shrink, take, uncount, withdraw,
 };
 use vb_monitor::{BAD_ARGUMENT, NOTHING, OK};
 
@@ -128,6 +129,47 @@ pub extern "C" fn vb_loan_figure(loans: &mut [Loan], guest: usize, pages: u32) -
     let there = is_there(loans, guest);
     figure(loans, guest, pages);
     code_if(there)
+}
+
+/// Pages joined a guest's balloon, and stay lent to it.
+#[unsafe(no_mangle)]
+pub extern "C" fn vb_loan_keep(loans: &mut [Loan], guest: usize, pages: u32) -> u32
+    ensures { Changes (may_keep pages) (retained pages) guest loans.old loans.new result }
+{
+    code_if(keep(loans, guest, pages))
+}
+
+/// What a guest asks for isn't waited for any longer.
+#[unsafe(no_mangle)]
+pub extern "C" fn vb_loan_withdraw(loans: &mut [Loan], guest: usize, ahead: u32) -> u32
+    ensures { Changes (λ _. true) (withdrawn ahead) guest loans.old loans.new result }
+{
+    let there = is_there(loans, guest);
+    withdraw(loans, guest, ahead);
+    code_if(there)
+}
+
+/// Memory of a guest was taken away.
+#[unsafe(no_mangle)]
+pub extern "C" fn vb_loan_shrink(
+    loans: &mut [Loan],
+    guest: usize,
+    pages: u32,
+    ballooned: u32,
+) -> u32
+    ensures { Changes (may_shrink pages ballooned) (shrunk pages ballooned) guest loans.old
+        loans.new result }
+{
+    code_if(shrink(loans, guest, pages, ballooned))
+}
+
+/// Memory was added to a guest, which asks for it in a line.
+#[unsafe(no_mangle)]
+pub extern "C" fn vb_loan_grow(loans: &mut [Loan], guest: usize, pages: u32, line: u16) -> u32
+    ensures { Queues (may_grow pages) (grown pages (line_of line)) guest loans.old loans.new
+        result }
+{
+    code_if(grow(loans, guest, pages, WaitingLine::of(line)))
 }
 
 /// Lends to the first guest that waits what it waits for, if there is room.

@@ -3,6 +3,7 @@ use Rattle.std.proofs.Common.{◌≡◌, ◌≢◌, ℕ, zero, suc, ◌≤◌, [
 use Rattle.std.specs.List.{AllByRecursion}
 use Rattle.vb_lender.specs.declared.event.Event.TheVariants.{Arrives, Leaves, Gives, Asks, Resets, Grants}
 use Rattle.vb_lender.specs.declared.event.Event.TheVariants.{Takes, Uncounts, Recounts, Figures, Budget}
+use Rattle.vb_lender.specs.declared.event.Event.TheVariants.{Keeps, Withdraws, Shrinks, Grows}
 use Rattle.vb_lender.specs.declared.loan.Loan.{Loan}
 use Rattle.vb_lender.specs.declared.loan.WaitingLine.TheVariants.{First, Second}
 use Rattle.vb_lender.specs.Loans.{vacant}
@@ -39,8 +40,13 @@ each : (happens (host 90 vacant) (Arrives 1 60 First) ≡ host 90 (loan 60 0 60 
     × (happens (host 90 (loan 10 50 5 1)) (Uncounts 1) ≡ host 90 (record (loan 0 60 0 0) { uncounted = 1 }))
     × (happens (host 90 (record (loan 0 60 0 0) { uncounted = 1 })) (Recounts 1) ≡ host 90 (loan 0 60 0 0))
     × (happens (host 90 (loan 10 50 0 0)) (Figures 1 7) ≡ host 90 (record (loan 10 50 0 0) { spare = 7 }))
+    × (happens (host 90 (loan 10 50 3 4)) (Keeps 1 5) ≡ host 90 (loan 15 50 3 4))
+    × (happens (host 90 (loan 10 55 3 4)) (Withdraws 1 2) ≡ host 90 (loan 10 52 0 0))
+    × (happens (host 90 (loan 10 50 3 4)) (Shrinks 1 55 6) ≡ host 90 (record (loan 6 49 0 0) { pages = 55 }))
+    × (happens (host 90 (loan 10 50 0 0)) (Grows 1 5 First) ≡ host 90 (record (loan 15 50 5 1) { pages = 65 }))
+    × (happens (host 90 (loan 10 50 0 0)) (Grows 1 5 Second) ≡ host 90 (record (loan 15 50 5 1) { pages = 65; line = 1 }))
     × (happens (host 90 vacant) (Budget 70) ≡ host 70 vacant)
-each = (refl, refl, refl, refl, refl, refl, refl, refl, refl, refl, refl, refl)
+each = (refl, refl, refl, refl, refl, refl, refl, refl, refl, refl, refl, refl, refl, refl, refl, refl, refl)
 
 -- no room for the first, a guest that doesn't wait, a place that isn't there, and no turn left
 without_effect : (happens (host 109 (loan 60 0 60 1)) (Grants 1) ≡ host 109 (loan 60 0 60 1))
@@ -48,7 +54,11 @@ without_effect : (happens (host 109 (loan 60 0 60 1)) (Grants 1) ≡ host 109 (l
     × (happens (host 90 vacant) (Arrives 2 60 First) ≡ host 90 vacant)
     × (happens (host 90 (loan 60 0 60 18446744073709551615)) (Asks 0 1)
     ≡ host 90 (loan 60 0 60 18446744073709551615))
-without_effect = (refl, refl, refl, refl)
+    × (happens (host 90 (loan 60 0 60 18446744073709551615)) (Grows 0 1 First)
+    ≡ host 90 (loan 60 0 60 18446744073709551615))
+    × (run (Keeps 2 1 ∷ Withdraws 2 0 ∷ Shrinks 2 1 1 ∷ Grows 2 1 First ∷ []) (host 90 (loan 10 50 0 0)) ≡ host 90 (loan 10 50 0 0))
+    × (run (Keeps 1 51 ∷ Shrinks 1 61 0 ∷ Grows 1 0 First ∷ []) (host 90 (loan 10 50 0 0)) ≡ host 90 (loan 10 50 0 0))
+without_effect = (refl, refl, refl, refl, refl, refl, refl)
 
 -- one after another, in their order
 in_order : (run (Arrives 1 60 First ∷ Grants 1 ∷ []) (host 110 vacant) ≡ host 110 (loan 60 60 0 0))
@@ -68,14 +78,18 @@ not_sound : AreSound (loan 10 50 0 0 ∷ loan 10 49 0 0 ∷ []) → ⊥
 not_sound a = let e : 60 ≤ 59 = a.1.0.enough in absurd (omega arith)
 
 ordinary : AllByRecursion IsOrdinary (Arrives 0 1 First ∷ Leaves 0 ∷ Gives 0 1 ∷ Asks 0 1 ∷ Resets 0 First ∷ Grants 0
-    ∷ Takes 0 1 ∷ Recounts 0 ∷ Figures 0 1 ∷ [])
-ordinary = (tt, (tt, (tt, (tt, (tt, (tt, (tt, (tt, (tt, tt)))))))))
+    ∷ Takes 0 1 ∷ Recounts 0 ∷ Figures 0 1 ∷ Keeps 0 1 ∷ Withdraws 0 1 ∷ Shrinks 0 1 1 ∷ Grows 0 1 First ∷ [])
+ordinary = (tt, (tt, (tt, (tt, (tt, (tt, (tt, (tt, (tt, (tt, (tt, (tt, (tt, tt)))))))))))))
 
 not_ordinary : (IsOrdinary (Budget 9) → ⊥) × (IsOrdinary (Uncounts 0) → ⊥)
 not_ordinary = (λ o. o, λ o. o)
 
 lowers_none : NeverLowers 90 (Asks 0 1 ∷ Budget 90 ∷ Grants 0 ∷ Budget 95 ∷ [])
 lowers_none = (omega arith, (omega arith, tt))
+
+-- nor does what happens to one guest
+others_lower_none : NeverLowers 90 (Keeps 0 1 ∷ Withdraws 0 1 ∷ Shrinks 0 1 1 ∷ Grows 0 1 First ∷ Budget 90 ∷ [])
+others_lower_none = (omega arith, tt)
 
 lowers : (NeverLowers 90 (Asks 0 1 ∷ Budget 89 ∷ []) → ⊥)
     × (NeverLowers 90 (Budget 95 ∷ Budget 94 ∷ []) → ⊥) × (NeverLowers 90 (Uncounts 0 ∷ []) → ⊥)
@@ -90,22 +104,26 @@ Apart a b = a ≢ b
 
 -- what its own guest does ends an ask, and what another's does leaves it
 keeps_ask : AllByRecursion (KeepsAsk 1) (Arrives 0 1 First ∷ Leaves 0 ∷ Asks 0 1 ∷ Resets 0 First ∷ Grants 0
-    ∷ Uncounts 0 ∷ Gives 1 1 ∷ Takes 1 1 ∷ Recounts 1 ∷ Figures 1 1 ∷ Budget 9 ∷ [])
-keeps_ask = (other, (other, (other, (other, (other, (other, (tt, (tt, (tt, (tt, (tt, tt))))))))))) where
+    ∷ Uncounts 0 ∷ Withdraws 0 1 ∷ Shrinks 0 1 1 ∷ Grows 0 1 First ∷ Gives 1 1 ∷ Takes 1 1 ∷ Recounts 1 ∷ Figures 1 1 ∷ Keeps 1 1
+    ∷ Budget 9 ∷ [])
+keeps_ask = (other, (other, (other, (other, (other, (other, (other, (other, (other, (tt, (tt, (tt, (tt, (tt, (tt, tt))))))))))))))) where
   other : Apart 1 0
   other = λ e. absurd (omega (arith, e))
 
 ends_ask : (KeepsAsk 1 (Arrives 1 1 First) → ⊥) × (KeepsAsk 1 (Leaves 1) → ⊥) × (KeepsAsk 1 (Asks 1 1) → ⊥)
     × (KeepsAsk 1 (Resets 1 First) → ⊥) × (KeepsAsk 1 (Grants 1) → ⊥) × (KeepsAsk 1 (Uncounts 1) → ⊥)
-ends_ask = (λ k. k refl, λ k. k refl, λ k. k refl, λ k. k refl, λ k. k refl, λ k. k refl)
+    × (KeepsAsk 1 (Withdraws 1 1) → ⊥) × (KeepsAsk 1 (Shrinks 1 1 1) → ⊥) × (KeepsAsk 1 (Grows 1 1 First) → ⊥)
+ends_ask = (λ k. k refl, λ k. k refl, λ k. k refl, λ k. k refl, λ k. k refl, λ k. k refl, λ k. k refl, λ k. k refl, λ k. k refl)
 
 keeps_count : KeepsCount 1 (Uncounts 0) × KeepsCount 1 (Leaves 1) × (KeepsCount 1 (Uncounts 1) → ⊥)
-keeps_count = (λ e. absurd (omega (arith, e)), tt, λ k. k refl)
+    × KeepsCount 1 (Keeps 1 1) × KeepsCount 1 (Withdraws 1 1) × KeepsCount 1 (Shrinks 1 1 1) × KeepsCount 1 (Grows 1 1 First)
+keeps_count = (λ e. absurd (omega (arith, e)), tt, λ k. k refl, tt, tt, tt, tt)
 
 -- which events `change` is for
 of_loans : IsOfLoans (Gives 0 1) × IsOfLoans (Uncounts 0) × (IsOfLoans (Grants 0) → ⊥)
-    × (IsOfLoans (Budget 1) → ⊥)
-of_loans = (tt, tt, λ o. o, λ o. o)
+    × (IsOfLoans (Budget 1) → ⊥) × IsOfLoans (Keeps 0 1) × IsOfLoans (Withdraws 0 1) × IsOfLoans (Shrinks 0 1 1)
+    × IsOfLoans (Grows 0 1 First)
+of_loans = (tt, tt, λ o. o, λ o. o, tt, tt, tt, tt)
 
 -- two that wait at one turn
 not_apart : AreApart (loan 10 50 1 4 ∷ loan 10 50 1 4 ∷ []) → ⊥

@@ -1,6 +1,7 @@
 -- Worked facts of a line of guests, of grants, and of what happens to a host.
-use Rattle.std.proofs.Common.{◌≡◌, ◌⊎◌, inl, inr, ℕ, zero, suc, ◌+◌, ◌<◌, ◌≤◌, true, false, List, [], ◌∷◌, Some, None, map, refl, ap, subst, arith}
+use Rattle.std.proofs.Common.{◌≡◌, ◌≢◌, ◌⊎◌, inl, inr, ℕ, zero, suc, ◌+◌, ◌<◌, ◌≤◌, true, false, List, [], ◌∷◌, Some, None, map, refl, ap, subst, arith}
 use Rattle.vb_lender.specs.declared.event.Event.TheVariants.{Arrives, Gives, Asks, Resets, Grants}
+use Rattle.vb_lender.specs.declared.event.Event.TheVariants.{Keeps, Withdraws, Shrinks, Grows}
 use Rattle.vb_lender.specs.declared.loan.Loan.{Loan}
 use Rattle.vb_lender.specs.declared.loan.WaitingLine.TheVariants.{First, Second}
 use Rattle.vb_lender.specs.declared.loan.WaitingLine.{WaitingLine}
@@ -166,13 +167,20 @@ runs : ((granted (newcomer 1)).line ≡ 0) × ((uncounted (record (newcomer 1) {
     × ((arrived 60 First 5 vacant).line ≡ 0) × ((arrived 60 Second 5 vacant).line ≡ 1)
 runs = (refl, refl, refl, refl)
 
+abbrev Apart : ℕ → ℕ → Type 0
+Apart a b = a ≢ b
+
 -- the guest's own deflates come to the first line, and its start and its resets where that is theirs
 keeps_out : KeepsOut 1 (Arrives 1 60 Second) × KeepsOut 1 (Resets 1 Second) × KeepsOut 1 (Grants 1) × KeepsOut 1 (Asks 0 1)
-    × KeepsOut 1 (Arrives 0 60 First) × KeepsOut 1 (Resets 0 First)
-keeps_out = (tt, tt, tt, λ e. absurd (omega (arith, e)), λ e. absurd (omega (arith, e)), λ e. absurd (omega (arith, e)))
+    × KeepsOut 1 (Arrives 0 60 First) × KeepsOut 1 (Resets 0 First) × KeepsOut 1 (Grows 0 5 First) × KeepsOut 1 (Grows 1 5 Second)
+    × KeepsOut 1 (Keeps 1 1) × KeepsOut 1 (Withdraws 1 1) × KeepsOut 1 (Shrinks 1 1 1)
+keeps_out = (tt, tt, tt, other, other, other, other, tt, tt, tt, tt) where
+  other : Apart 1 0
+  other = λ e. absurd (omega (arith, e))
 
 keeps_out_not : (KeepsOut 1 (Arrives 1 60 First) → ⊥) × (KeepsOut 1 (Asks 1 1) → ⊥) × (KeepsOut 1 (Resets 1 First) → ⊥)
-keeps_out_not = (λ k. k refl, λ k. k refl, λ k. k refl)
+    × (KeepsOut 1 (Grows 1 5 First) → ⊥)
+keeps_out_not = (λ k. k refl, λ k. k refl, λ k. k refl, λ k. k refl)
 
 -- ---- a reset in either line
 
@@ -204,6 +212,22 @@ reset_later line = run (Asks 1 5 ∷ Asks 0 10 ∷ Resets 1 line ∷ []) (record
 changes_line : map (λ s. s.line) (reset_later First).loans ∷ map (λ s. s.line) (reset_later Second).loans
     ∷ map (λ s. s.turn) (reset_later Second).loans ∷ [] ≡ (0 ∷ 0 ∷ []) ∷ (0 ∷ 1 ∷ []) ∷ (2 ∷ 3 ∷ []) ∷ []
 changes_line = refl
+
+-- ---- memory is added in either line
+
+-- A guest gets 30 pages more in this line, and then another one asks for 10, for which alone there is room.
+abbrev after_growth : WaitingLine → Lending
+after_growth line = run (Grows 1 30 line ∷ Asks 0 10 ∷ []) (record { frames = 85; loans = loan 40 0 0 ∷ loan 30 0 0 ∷ [] })
+
+growth_is_passed : (may_grant (after_growth Second) 0 ≡ true) × (may_grant (after_growth Second) 1 ≡ false)
+    × (may_grant (after_growth First) 0 ≡ false) × (may_grant (after_growth First) 1 ≡ false)
+    × (lent_at (run (Grants 1 ∷ []) (record (after_growth First) { frames = 100 })).loans 1 ≡ 60)
+growth_is_passed = (refl, refl, refl, refl, refl)
+
+-- What isn't waited for any longer lets the next one be granted, and so does memory that was taken away.
+lets_the_next : map (λ e. lent_at (run (e ∷ Grants 0 ∷ []) (after_growth First)).loans 0) (Withdraws 1 0 ∷ Shrinks 1 50 25 ∷ Keeps 1 5 ∷ [])
+    ≡ 50 ∷ 50 ∷ 40 ∷ []
+lets_the_next = refl
 
 -- ---- the first that waits of those below a number
 

@@ -8,11 +8,14 @@ use Rattle.vb_lender.specs.declared.loan.WaitingLine.{WaitingLine}
 use Rattle.vb_lender.specs.declared.loan.WaitingLine.TheVariants.{First, Second}
 use Rattle.vb_lender.specs.declared.event.Event.{Event}
 use Rattle.vb_lender.specs.declared.event.Event.TheVariants.{Arrives, Leaves, Gives, Asks, Resets, Grants, Takes, Uncounts, Recounts, Figures, Budget}
+use Rattle.vb_lender.specs.declared.event.Event.TheVariants.{Keeps, Withdraws, Shrinks, Grows}
 use Rattle.vb_lender.specs.Loans.{vacant, may_arrive, arrived, may_give, gave, may_ask, asking, resetting, granted, may_take, took, uncounted, recounted, figured, line_of, line_number}
+use Rattle.vb_lender.specs.Loans.{may_keep, retained, withdrawn, may_shrink, shrunk, may_grow, grown}
 use Rattle.vb_lender.specs.Lending.{Lending, asked_at, turn_at, rank, rank_at, line_start, lent_at, value_at, last_turn, next_turn, has_turn, may_grant, each_at, happens, run}
 use Rattle.vb_lender.specs.Line.{IsAfter, IsInFirstLine, KeepsAsk, KeepsCount, KeepsOut}
 use Rattle.vb_lender.proofs.Places.{value_elsewhere, value_same, value_less}
 use Rattle.vb_lender.proofs.Grants.{granted_by}
+use Rattle.vb_lender.proofs.Sums.{shrunk_lends}
 
 abbrev asked : Loan → ℕ
 asked s = s.asked
@@ -43,31 +46,35 @@ less_lists v i false xs ys e = omega arith
 -- an event that keeps guest i's ask keeps its rank
 keeps : (v : Loan → ℕ) (l : Lending) (e : Event) (i : ℕ) → KeepsAsk i e
     → ((k : ℕ) (s : Loan) → v (gave k s) ≡ v s) → ((k : ℕ) (s : Loan) → v (took k s) ≡ v s)
-    → ((s : Loan) → v (recounted s) ≡ v s) → ((k : ℕ) (s : Loan) → v (figured k s) ≡ v s)
+    → ((s : Loan) → v (recounted s) ≡ v s) → ((k : ℕ) (s : Loan) → v (figured k s) ≡ v s) → ((k : ℕ) (s : Loan) → v (retained k s) ≡ v s)
     → value_at v (happens l e).loans i ≡ value_at v l.loans i
-keeps v l (Arrives n k line) i h g t r f = same_lists v i (has_turn l.loans) l.loans _ (value_elsewhere v n (arrived k line (next_turn l.loans)) l.loans i h)
-keeps v l (Leaves n) i h g t r f = value_elsewhere v n (λ _. vacant) l.loans i h
-keeps v l (Gives n k) i h g t r f = value_same v n (gave k) l.loans i (g k)
-keeps v l (Asks n k) i h g t r f = same_lists v i (has_turn l.loans) l.loans _ (value_elsewhere v n (asking k (next_turn l.loans)) l.loans i h)
-keeps v l (Resets n line) i h g t r f = same_lists v i (has_turn l.loans) l.loans _ (value_elsewhere v n (resetting line (next_turn l.loans)) l.loans i h)
-keeps v l (Grants n) i h g t r f = same_lists v i (may_grant l n) l.loans _ (value_elsewhere v n granted l.loans i h)
-keeps v l (Takes n k) i h g t r f = value_same v n (took k) l.loans i (t k)
-keeps v l (Uncounts n) i h g t r f = value_elsewhere v n uncounted l.loans i h
-keeps v l (Recounts n) i h g t r f = value_same v n recounted l.loans i r
-keeps v l (Figures n k) i h g t r f = value_same v n (figured k) l.loans i (f k)
-keeps v l (Budget frames) i h g t r f = refl
+keeps v l (Arrives n k line) i h g t r f p = same_lists v i (has_turn l.loans) l.loans _ (value_elsewhere v n (arrived k line (next_turn l.loans)) l.loans i h)
+keeps v l (Leaves n) i h g t r f p = value_elsewhere v n (λ _. vacant) l.loans i h
+keeps v l (Gives n k) i h g t r f p = value_same v n (gave k) l.loans i (g k)
+keeps v l (Asks n k) i h g t r f p = same_lists v i (has_turn l.loans) l.loans _ (value_elsewhere v n (asking k (next_turn l.loans)) l.loans i h)
+keeps v l (Resets n line) i h g t r f p = same_lists v i (has_turn l.loans) l.loans _ (value_elsewhere v n (resetting line (next_turn l.loans)) l.loans i h)
+keeps v l (Grants n) i h g t r f p = same_lists v i (may_grant l n) l.loans _ (value_elsewhere v n granted l.loans i h)
+keeps v l (Takes n k) i h g t r f p = value_same v n (took k) l.loans i (t k)
+keeps v l (Uncounts n) i h g t r f p = value_elsewhere v n uncounted l.loans i h
+keeps v l (Recounts n) i h g t r f p = value_same v n recounted l.loans i r
+keeps v l (Figures n k) i h g t r f p = value_same v n (figured k) l.loans i (f k)
+keeps v l (Keeps n k) i h g t r f p = value_same v n (retained k) l.loans i (p k)
+keeps v l (Withdraws n k) i h g t r f p = value_elsewhere v n (withdrawn k) l.loans i h
+keeps v l (Shrinks n k b) i h g t r f p = value_elsewhere v n (shrunk k b) l.loans i h
+keeps v l (Grows n k line) i h g t r f p = same_lists v i (has_turn l.loans) l.loans _ (value_elsewhere v n (grown k line (next_turn l.loans)) l.loans i h)
+keeps v l (Budget frames) i h g t r f p = refl
 
 pub keeps_asked : (l : Lending) (e : Event) (i : ℕ) → KeepsAsk i e → asked_at (happens l e).loans i ≡ asked_at l.loans i
-keeps_asked l e i h = keeps asked l e i h (λ k s. same_either asked (may_give k s) s _ refl) (λ k s. same_either asked (may_take k s) s _ refl) (λ s. refl) (λ k s. refl)
+keeps_asked l e i h = keeps asked l e i h (λ k s. same_either asked (may_give k s) s _ refl) (λ k s. same_either asked (may_take k s) s _ refl) (λ s. refl) (λ k s. refl) (λ k s. same_either asked (may_keep k s) s _ refl)
 
 pub keeps_rank : (l : Lending) (e : Event) (i : ℕ) → KeepsAsk i e → rank_at (happens l e).loans i ≡ rank_at l.loans i
-keeps_rank l e i h = keeps rank l e i h (λ k s. same_either rank (may_give k s) s _ refl) (λ k s. same_either rank (may_take k s) s _ refl) (λ s. refl) (λ k s. refl)
+keeps_rank l e i h = keeps rank l e i h (λ k s. same_either rank (may_give k s) s _ refl) (λ k s. same_either rank (may_take k s) s _ refl) (λ s. refl) (λ k s. refl) (λ k s. same_either rank (may_keep k s) s _ refl)
 
 abbrev start : Loan → ℕ
 start s = line_start (line_of s.line)
 
 keeps_line : (l : Lending) (e : Event) (i : ℕ) → KeepsAsk i e → value_at start (happens l e).loans i ≡ value_at start l.loans i
-keeps_line l e i h = keeps start l e i h (λ k s. same_either start (may_give k s) s _ refl) (λ k s. same_either start (may_take k s) s _ refl) (λ s. refl) (λ k s. refl)
+keeps_line l e i h = keeps start l e i h (λ k s. same_either start (may_give k s) s _ refl) (λ k s. same_either start (may_take k s) s _ refl) (λ s. refl) (λ k s. refl) (λ k s. same_either start (may_keep k s) s _ refl)
 
 -- ---- a guest that comes now comes after all
 
@@ -97,6 +104,7 @@ abbrev ComesLater : ℕ → Lending → Event → ℕ → Type 0
 ComesLater t l (Arrives n k line) j = n ≡ j → t < line_start (line_of (line_number line)) + next_turn l.loans
 ComesLater t l (Asks n k) j = n ≡ j → t < next_turn l.loans
 ComesLater t l (Resets n line) j = n ≡ j → t < line_start (line_of (line_number line)) + next_turn l.loans
+ComesLater t l (Grows n k line) j = n ≡ j → t < line_start (line_of (line_number line)) + next_turn l.loans
 ComesLater t l _ j = ⊤
 
 -- what holds of the guest at a place, if there is one
@@ -132,6 +140,10 @@ late_after t l (Takes n k) j h a = at_kept (Late t) n (took k) l.loans j (λ e s
 late_after t l (Uncounts n) j h a = at_kept (Late t) n uncounted l.loans j (λ e s p. late_either t (nat_lt 0 s.lent) s _ (inl refl) p) a
 late_after t l (Recounts n) j h a = at_kept (Late t) n recounted l.loans j (λ e s p. p) a
 late_after t l (Figures n k) j h a = at_kept (Late t) n (figured k) l.loans j (λ e s p. p) a
+late_after t l (Keeps n k) j h a = at_kept (Late t) n (retained k) l.loans j (λ e s p. late_either t (may_keep k s) s _ p p) a
+late_after t l (Withdraws n k) j h a = at_kept (Late t) n (withdrawn k) l.loans j (λ e s p. inl refl) a
+late_after t l (Shrinks n k b) j h a = at_kept (Late t) n (shrunk k b) l.loans j (λ e s p. late_either t (may_shrink k b s) s _ (inl refl) p) a
+late_after t l (Grows n k line) j h a = at_lists (Late t) j (has_turn l.loans) l.loans _ (at_kept (Late t) n (grown k line (next_turn l.loans)) l.loans j (λ e s p. late_either t (may_grow k s) s _ (inr (h e)) p) a) a
 late_after t l (Budget frames) j h a = a
 
 -- what comes now comes later than all in the first line; and in the second one later than all
@@ -146,6 +158,10 @@ later_than_first l (Takes n k) i j first = tt
 later_than_first l (Uncounts n) i j first = tt
 later_than_first l (Recounts n) i j first = tt
 later_than_first l (Figures n k) i j first = tt
+later_than_first l (Keeps n k) i j first = tt
+later_than_first l (Withdraws n k) i j first = tt
+later_than_first l (Shrinks n k b) i j first = tt
+later_than_first l (Grows n k line) i j first = λ same. let r = (rank_before l.loans i).0 in omega (arith, r, first, turn_before l.loans i)
 later_than_first l (Budget frames) i j first = tt
 
 later_than_all : (l : Lending) (e : Event) (i j : ℕ) → KeepsOut j e → ComesLater (rank_at l.loans i) l e j
@@ -161,6 +177,11 @@ later_than_all l (Takes n k) i j out = tt
 later_than_all l (Uncounts n) i j out = tt
 later_than_all l (Recounts n) i j out = tt
 later_than_all l (Figures n k) i j out = tt
+later_than_all l (Keeps n k) i j out = tt
+later_than_all l (Withdraws n k) i j out = tt
+later_than_all l (Shrinks n k b) i j out = tt
+later_than_all l (Grows n k First) i j out = λ same. absurd (out (sym same))
+later_than_all l (Grows n k Second) i j out = λ same. let r = rank_before l.loans i in omega (arith, r.0, r.1, turn_before l.loans i)
 later_than_all l (Budget frames) i j out = tt
 
 -- in the words of places
@@ -191,6 +212,13 @@ elsewhere l n j (inr d) h = omega (arith, value_elsewhere lent n granted l.loans
 grant_lends : (l : Lending) (n j : ℕ) → ((n ≡ j) → may_grant l n ≡ true → ⊥) → lent_at (happens l (Grants n)).loans j ≤ lent_at l.loans j
 grant_lends l n j h = less_lists lent j (may_grant l n) l.loans _ (λ e. elsewhere l n j (different n j (n == j) refl) (λ f. h f e))
 
+-- a loan with less memory has no more lent
+less_shrunk : (k b : ℕ) (s : Loan) → lent (shrunk k b s) ≤ lent s
+less_shrunk k b s = by (may_shrink k b s) refl where
+  by : (fits : Bool) → may_shrink k b s ≡ fits → lent (shrunk k b s) ≤ lent s
+  by true e = rw e (shrunk_lends k b s e)
+  by false e = rw e (omega arith)
+
 -- no event lends more to a guest that comes after one that waits
 lends_after : (l : Lending) (e : Event) (i j : ℕ) → KeepsCount j e → 0 < asked_at l.loans i → IsAfter l.loans i j → lent_at (happens l e).loans j ≤ lent_at l.loans j
 lends_after l (Arrives n k line) i j o w h = less_lists lent j (has_turn l.loans) l.loans _ (λ _. value_less lent n (arrived k line (next_turn l.loans)) l.loans j (λ s. less_either lent (may_arrive k s) s _ (omega arith)))
@@ -203,6 +231,10 @@ lends_after l (Takes n k) i j o w h = value_less lent n (took k) l.loans j (λ s
 lends_after l (Uncounts n) i j o w h = omega (arith, value_elsewhere lent n uncounted l.loans j o)
 lends_after l (Recounts n) i j o w h = value_less lent n recounted l.loans j (λ s. omega arith)
 lends_after l (Figures n k) i j o w h = value_less lent n (figured k) l.loans j (λ s. omega arith)
+lends_after l (Keeps n k) i j o w h = value_less lent n (retained k) l.loans j (λ s. less_either lent (may_keep k s) s _ (omega arith))
+lends_after l (Withdraws n k) i j o w h = value_less lent n (withdrawn k) l.loans j (λ s. omega arith)
+lends_after l (Shrinks n k b) i j o w h = value_less lent n (shrunk k b) l.loans j (less_shrunk k b)
+lends_after l (Grows n k line) i j o w h = less_lists lent j (has_turn l.loans) l.loans _ (λ _. value_less lent n (grown k line (next_turn l.loans)) l.loans j (λ s. less_either lent (may_grow k s) s _ (omega arith)))
 lends_after l (Budget frames) i j o w h = omega arith
 
 -- a guest that comes after another does so while the ask is pending

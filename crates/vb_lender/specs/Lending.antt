@@ -6,12 +6,14 @@ use Rattle.std.specs.List.{list_all, AllByRecursion}
 use Rattle.vb_lender.specs.declared.event.Event.{Event}
 use Rattle.vb_lender.specs.declared.event.Event.TheVariants.{Arrives, Leaves, Gives, Asks, Resets}
 use Rattle.vb_lender.specs.declared.event.Event.TheVariants.{Grants, Takes, Uncounts, Recounts}
-use Rattle.vb_lender.specs.declared.event.Event.TheVariants.{Figures, Budget}
+use Rattle.vb_lender.specs.declared.event.Event.TheVariants.{Figures, Keeps, Withdraws, Shrinks}
+use Rattle.vb_lender.specs.declared.event.Event.TheVariants.{Grows, Budget}
 use Rattle.vb_lender.specs.declared.loan.Loan.{Loan}
 use Rattle.vb_lender.specs.declared.loan.WaitingLine.{WaitingLine}
 use Rattle.vb_lender.specs.declared.loan.WaitingLine.TheVariants.{First, Second}
 use Rattle.vb_lender.specs.Loans.{vacant, IsSound, arrived, gave, asking, resetting, granted, took}
 use Rattle.vb_lender.specs.Loans.{uncounted, recounted, figured, line_of}
+use Rattle.vb_lender.specs.Loans.{retained, withdrawn, shrunk, grown}
 
 -- how many frames a host has to lend, and the guests by their numbers
 pub record Lending : Type 0 where
@@ -106,6 +108,11 @@ happens l (Takes n pages) = record l { loans = each_at n (took pages) l.loans }
 happens l (Uncounts n) = record l { loans = each_at n uncounted l.loans }
 happens l (Recounts n) = record l { loans = each_at n recounted l.loans }
 happens l (Figures n pages) = record l { loans = each_at n (figured pages) l.loans }
+happens l (Keeps n pages) = record l { loans = each_at n (retained pages) l.loans }
+happens l (Withdraws n ahead) = record l { loans = each_at n (withdrawn ahead) l.loans }
+happens l (Shrinks n pages ballooned) =
+    record l { loans = each_at n (shrunk pages ballooned) l.loans }
+happens l (Grows n pages line) = record l { loans = queued n (grown pages line) l.loans }
 happens l (Budget frames) = record l { frames = frames }
 
 -- a whole list of events

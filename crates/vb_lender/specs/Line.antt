@@ -4,7 +4,8 @@ use Rattle.std.specs.Prelude.{◌+◌}
 use Rattle.vb_lender.specs.declared.loan.Loan.{Loan}
 use Rattle.vb_lender.specs.declared.event.Event.{Event}
 use Rattle.vb_lender.specs.declared.event.Event.TheVariants.{Arrives, Leaves, Asks, Resets, Grants}
-use Rattle.vb_lender.specs.declared.event.Event.TheVariants.{Uncounts, Budget}
+use Rattle.vb_lender.specs.declared.event.Event.TheVariants.{Uncounts, Withdraws, Shrinks, Grows}
+use Rattle.vb_lender.specs.declared.event.Event.TheVariants.{Budget}
 use Rattle.vb_lender.specs.Loans.{granted, line_of}
 use Rattle.vb_lender.specs.declared.loan.WaitingLine.TheVariants.{First}
 use Rattle.vb_lender.specs.Lending.{owed, asked_at, turn_at, rank_at, each_at, line_start, value_at}
@@ -26,6 +27,9 @@ KeepsAsk i (Asks n pages) = i ≢ n
 KeepsAsk i (Resets n line) = i ≢ n
 KeepsAsk i (Grants n) = i ≢ n
 KeepsAsk i (Uncounts n) = i ≢ n
+KeepsAsk i (Withdraws n ahead) = i ≢ n
+KeepsAsk i (Shrinks n pages ballooned) = i ≢ n
+KeepsAsk i (Grows n pages line) = i ≢ n
 KeepsAsk i _ = ⊤
 
 -- the event leaves guest j's balloon counted, if it was
@@ -42,6 +46,7 @@ abbrev pub KeepsOut : ℕ → Event → Type 0
 KeepsOut j (Arrives n pages First) = j ≢ n
 KeepsOut j (Asks n pages) = j ≢ n
 KeepsOut j (Resets n First) = j ≢ n
+KeepsOut j (Grows n pages First) = j ≢ n
 KeepsOut j _ = ⊤
 
 -- no two guests that wait have the same turn

@@ -1,7 +1,7 @@
 -- What a guest on a host has, may hold and waits for, all in pages, and what each event makes of
 -- it.
 use Rattle.std.specs.Prelude.{ℕ, zero, suc, ◌+◌, ◌-◌, ◌≤◌, Bool, not, ◌&&◌, ◌==◌, nat_lt, nat_le}
-use Rattle.std.specs.Prelude.{if◌then◌else◌}
+use Rattle.std.specs.Prelude.{if◌then◌else◌, min}
 use Rattle.vb_lender.specs.declared.loan.Loan.{Loan}
 use Rattle.vb_lender.specs.declared.loan.WaitingLine.{WaitingLine}
 use Rattle.vb_lender.specs.declared.loan.WaitingLine.TheVariants.{First, Second}
@@ -73,6 +73,14 @@ gave pages s =
     then record s { ballooned = s.ballooned + pages; lent = s.lent - pages }
     else s
 
+-- Pages joined its balloon, and stay lent to it, since its driver is to take them out again.
+abbrev pub may_keep : ℕ → Loan → Bool
+may_keep pages s = not (is_uncounted s) && nat_le (s.ballooned + pages) s.pages
+
+abbrev pub retained : ℕ → Loan → Loan
+retained pages s =
+    if may_keep pages s then record s { ballooned = s.ballooned + pages } else s
+
 -- A deflate request is pending: the guest asks for its pages. One ask of a guest is pending at a
 -- time.
 abbrev pub may_ask : ℕ → Loan → Bool
@@ -102,6 +110,57 @@ may_take pages s = nat_le pages s.ballooned && nat_le (s.pages + pages) (s.lent 
 
 abbrev pub took : ℕ → Loan → Loan
 took pages s = if may_take pages s then record s { ballooned = s.ballooned - pages } else s
+
+-- What it asks for isn't waited for any longer. Of what is lent to it beyond its pages outside its
+-- balloon at most this many pages stay lent.
+abbrev pub withdrawn : ℕ → Loan → Loan
+withdrawn ahead s =
+    record s {
+      lent = min s.lent (s.pages - s.ballooned + ahead);
+      asked = 0;
+      turn = 0;
+      line = 0;
+    }
+
+-- Memory was taken away from it: it has this many pages from now on, some of which are in its
+-- balloon, and all others are lent to it. That lends nothing, and its ask is gone.
+abbrev pub may_shrink : ℕ → ℕ → Loan → Bool
+may_shrink pages ballooned s =
+    nat_lt 0 pages && nat_le pages s.pages && nat_le ballooned pages
+    && nat_le pages (s.lent + ballooned)
+
+abbrev pub shrunk : ℕ → ℕ → Loan → Loan
+shrunk pages ballooned s =
+    if may_shrink pages ballooned s
+    then record s {
+      pages = pages;
+      ballooned = ballooned;
+      lent = pages - ballooned;
+      asked = 0;
+      turn = 0;
+      line = 0;
+    }
+    else s
+
+-- Memory was added to a guest that is there and doesn't wait: the new pages have no frame, as if
+-- they were in its balloon, and it asks for them, in this line. A guest has fewer than 2^32 pages,
+-- and no more of them are lent to it, or in its balloon, than it has.
+abbrev pub may_grow : ℕ → Loan → Bool
+may_grow pages s =
+    nat_lt 0 s.pages && (s.asked == 0) && nat_lt 0 pages && nat_le (s.pages + pages) 4294967295
+    && nat_le s.lent s.pages && nat_le s.ballooned s.pages
+
+abbrev pub grown : ℕ → WaitingLine → ℕ → Loan → Loan
+grown pages line turn s =
+    if may_grow pages s
+    then record s {
+      pages = s.pages + pages;
+      ballooned = s.ballooned + pages;
+      asked = pages;
+      turn = turn;
+      line = line_number line;
+    }
+    else s
 
 -- Its balloon counts no longer: it uses ballooned pages without an ask, or never agreed to ask. All
 -- its pages are lent to it from now on. (A guest that wasn't let in yet uses none.)

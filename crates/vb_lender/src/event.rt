@@ -53,6 +53,29 @@ pub enum Event {
         guest: usize,
         pages: u32,
     },
+    /// Pages joined a guest's balloon, and stay lent to it.
+    Keeps {
+        guest: usize,
+        pages: u32,
+    },
+    /// What a guest asks for isn't waited for any longer, and what is lent to it ahead of its asks
+    /// is at most this many pages.
+    Withdraws {
+        guest: usize,
+        ahead: u32,
+    },
+    /// Memory of a guest was taken away: it has this many pages, some of them in its balloon.
+    Shrinks {
+        guest: usize,
+        pages: u32,
+        ballooned: u32,
+    },
+    /// Memory was added to a guest, and it asks for the new pages in a line.
+    Grows {
+        guest: usize,
+        pages: u32,
+        line: WaitingLine,
+    },
     /// The host has this many frames to lend from now on.
     Budget {
         frames: u32,

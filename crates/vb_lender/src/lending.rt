@@ -3,7 +3,8 @@
 ghost use Rattle.std.specs.Prelude.{◌≡◌, ℕ, ◌+◌, ◌<◌, ◌≤◌, ◌^◌, ◌&&◌, nat_le, length};
 ghost use Rattle.vb_lender.specs.Loans.{vacant, may_arrive, arrived, may_give, gave, may_ask};
 ghost use Rattle.vb_lender.specs.Loans.{asking, may_reset, resetting, granted, may_take, took};
-ghost use Rattle.vb_lender.specs.Loans.{may_uncount, uncounted, recounted, figured};
+ghost use Rattle.vb_lender.specs.Loans.{may_uncount, uncounted, recounted, figured, may_keep};
+ghost use Rattle.vb_lender.specs.Loans.{retained, withdrawn, may_shrink, shrunk, may_grow, grown};
 ghost use Rattle.vb_lender.specs.Lending.{owed, has_turn, asked_at, each_at, test_at, queued};
 ghost use Rattle.vb_lender.specs.Lending.{may_grant, happens, run};
 ghost use Rattle.vb_lender.specs.Line.{GrantsNext, IsOfLoans};
@@ -130,6 +131,63 @@ pub fn figure(loans: &mut [Loan], guest: usize, pages: u32)
     }
 }
 
+/// Pages joined a guest's balloon, and stay lent to it, since its driver is to take them out again.
+/// `false` where its balloon doesn't count, or it hasn't as many outside its balloon; then nothing
+/// is changed.
+#[tactic(auto, using(crate::proofs::Places::at_places))]
+pub fn keep(loans: &mut [Loan], guest: usize, pages: u32) -> bool
+    ensures heard { result ≡ test_at (may_keep pages) loans.old guest }
+    ensures loans { loans.new ≡ each_at guest (retained pages) loans.old }
+{
+    if guest >= loans.len() {
+        return false;
+    }
+    loans[guest].keep(pages)
+}
+
+/// What a guest asks for isn't waited for any longer, and of what is lent to it beyond its pages
+/// outside its balloon at most `ahead` pages stay lent. A place that isn't there changes nothing.
+#[tactic(auto, using(crate::proofs::Places::at_set, crate::proofs::Places::at_none))]
+pub fn withdraw(loans: &mut [Loan], guest: usize, ahead: u32)
+    ensures { loans.new ≡ each_at guest (withdrawn ahead) loans.old }
+{
+    if guest < loans.len() {
+        loans[guest].withdraw(ahead);
+    }
+}
+
+/// Memory of a guest was taken away: it has this many pages from now on, with these in its balloon
+/// and all others lent to it, and what it asks for isn't waited for any longer. `false` for no
+/// pages, for more than it has, for more in its balloon than pages, and where that would lend it
+/// any; then nothing is changed.
+#[tactic(auto, using(crate::proofs::Places::at_places))]
+pub fn shrink(loans: &mut [Loan], guest: usize, pages: u32, ballooned: u32) -> bool
+    ensures heard { result ≡ test_at (may_shrink pages ballooned) loans.old guest }
+    ensures loans { loans.new ≡ each_at guest (shrunk pages ballooned) loans.old }
+{
+    if guest >= loans.len() {
+        return false;
+    }
+    loans[guest].shrink(pages, ballooned)
+}
+
+/// Memory was added to a guest: it waits in a line until the new pages are lent to it. `false` for
+/// no pages, for more than 2^32 - 1 with those that it has, for a vacant place, while it waits,
+/// where more is lent to it or in its balloon than it has, and where no turn is left; then nothing
+/// is changed.
+#[tactic(auto, using(crate::proofs::Places::at_places))]
+pub fn grow(loans: &mut [Loan], guest: usize, pages: u32, line: WaitingLine) -> bool
+    ensures heard { result ≡ (has_turn loans.old && test_at (may_grow pages) loans.old guest) }
+    ensures loans { loans.new ≡ queued guest (grown pages line) loans.old }
+{
+    if let Some(turn) = next_turn(loans)
+        && guest < loans.len()
+    {
+        return loans[guest].grow(pages, line, turn);
+    }
+    false
+}
+
 /// Whether there is room for this many pages more.
 fn has_room(frames: u32, loans: &[Loan], pages: u32) -> bool
     ensures { result ≡ nat_le (owed loans.now + pages) frames }
@@ -214,6 +272,20 @@ fn change(loans: &mut [Loan], event: Event)
         }
         Event::Recounts { guest } => recount(loans, guest),
         Event::Figures { guest, pages } => figure(loans, guest, pages),
+        Event::Keeps { guest, pages } => {
+            keep(loans, guest, pages);
+        }
+        Event::Withdraws { guest, ahead } => withdraw(loans, guest, ahead),
+        Event::Shrinks {
+            guest,
+            pages,
+            ballooned,
+        } => {
+            shrink(loans, guest, pages, ballooned);
+        }
+        Event::Grows { guest, pages, line } => {
+            grow(loans, guest, pages, line);
+        }
         Event::Grants { .. } | Event::Budget { .. } => {}
     }
 }

@@ -32,8 +32,8 @@ pub use laws::{
     the_first_is_granted, turns_stay_apart,
 };
 pub use lending::{
-    arrive, ask, figure, give, grant, grant_next, happen, leave, may_grant, recount, reset, run,
-    take, uncount,
+    arrive, ask, figure, give, grant, grant_next, grow, happen, keep, leave, may_grant, recount,
+    reset, run, shrink, take, uncount, withdraw,
 };
 pub use line::{first_in_line, owed};
 pub use loan::{Loan, WaitingLine};

@@ -4,7 +4,8 @@ ghost use Rattle.std.specs.Prelude.{◌≡◌, ◌+◌, ◌^◌, ◌<◌};
 ghost use Rattle.vb_lender.specs.Loans.{vacant, may_arrive, arrived, may_give, gave, may_ask};
 ghost use Rattle.vb_lender.specs.Loans.{asking, may_reset, resetting, granted, may_take, took};
 ghost use Rattle.vb_lender.specs.Loans.{may_uncount, uncounted, recounted, figured, is_uncounted};
-ghost use Rattle.vb_lender.specs.Loans.{line_of, line_number};
+ghost use Rattle.vb_lender.specs.Loans.{line_of, line_number, may_keep, retained, withdrawn};
+ghost use Rattle.vb_lender.specs.Loans.{may_shrink, shrunk, may_grow, grown};
 
 /// In which of two lines a guest waits. Those of the first come before all of the
 /// second, and those of one in order of arrival.
@@ -130,6 +131,26 @@ impl Loan {
         true
     }
 
+    /// Whether this many pages can join its balloon and stay lent.
+    fn may_keep(&self, pages: u32) -> bool
+        ensures { result ≡ may_keep pages self.now }
+    {
+        !self.is_uncounted()
+            && u64::from(self.ballooned) + u64::from(pages) <= u64::from(self.pages)
+    }
+
+    /// Pages joined its balloon, and stay lent.
+    pub(crate) fn keep(&mut self, pages: u32) -> bool
+        ensures done { result ≡ may_keep pages self.old }
+        ensures value { self.new ≡ retained pages self.old }
+    {
+        if !self.may_keep(pages) {
+            return false;
+        }
+        self.ballooned += pages;
+        true
+    }
+
     /// Whether it may ask for this many pages.
     fn may_ask(&self, pages: u32) -> bool
         ensures { result ≡ may_ask pages self.now }
@@ -195,6 +216,73 @@ impl Loan {
             return false;
         }
         self.ballooned -= pages;
+        true
+    }
+
+    /// What it asks for isn't waited for any longer, and at most `ahead` pages of its balloon stay
+    /// lent.
+    pub(crate) fn withdraw(&mut self, ahead: u32)
+        ensures { self.new ≡ withdrawn ahead self.old }
+    {
+        let outside = self.pages.saturating_sub(self.ballooned);
+        self.lent = self.lent.min(outside.saturating_add(ahead));
+        self.asked = 0;
+        self.turn = 0;
+        self.line = 0;
+    }
+
+    /// Whether it may have this many pages from now on, with these in its balloon.
+    fn may_shrink(&self, pages: u32, ballooned: u32) -> bool
+        ensures { result ≡ may_shrink pages ballooned self.now }
+    {
+        pages > 0
+            && pages <= self.pages
+            && ballooned <= pages
+            && u64::from(pages) <= u64::from(self.lent) + u64::from(ballooned)
+    }
+
+    /// Its memory is smaller from now on.
+    pub(crate) fn shrink(&mut self, pages: u32, ballooned: u32) -> bool
+        ensures done { result ≡ may_shrink pages ballooned self.old }
+        ensures value { self.new ≡ shrunk pages ballooned self.old }
+    {
+        if !self.may_shrink(pages, ballooned) {
+            return false;
+        }
+        self.pages = pages;
+        self.ballooned = ballooned;
+        self.lent = pages - ballooned;
+        self.asked = 0;
+        self.turn = 0;
+        self.line = 0;
+        true
+    }
+
+    /// Whether this many pages may be added to its memory.
+    fn may_grow(&self, pages: u32) -> bool
+        ensures { result ≡ may_grow pages self.now }
+    {
+        self.pages > 0
+            && self.asked == 0
+            && pages > 0
+            && u64::from(self.pages) + u64::from(pages) <= u64::from(u32::MAX)
+            && self.lent <= self.pages
+            && self.ballooned <= self.pages
+    }
+
+    /// Its memory is larger from now on, and it asks for the new pages.
+    pub(crate) fn grow(&mut self, pages: u32, line: WaitingLine, turn: u64) -> bool
+        ensures done { result ≡ may_grow pages self.old }
+        ensures value { self.new ≡ grown pages line turn self.old }
+    {
+        if !self.may_grow(pages) {
+            return false;
+        }
+        self.pages += pages;
+        self.ballooned += pages;
+        self.asked = pages;
+        self.turn = turn;
+        self.line = line.number();
         true
     }
 

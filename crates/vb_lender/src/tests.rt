@@ -4,7 +4,7 @@ ghost use Rattle.std.specs.Prelude.{◌≤◌};
 
 use crate::{
     Event, Loan, Share, Terms, WaitingLine, arrive, ask, ask_by_class, ask_targets, first_in_line,
-    grant_next, happen, owed, reset, take,
+    give, grant_next, grow, happen, keep, owed, reset, shrink, take, withdraw,
 };
 use vb_balance::{GuestNeed, NoTargets, Short};
 
@@ -204,4 +204,63 @@ fn a_deflate_passes_a_reset_in_the_second_line(rt: HostRuntime) {
         assert!(rt; grant_next(85, &mut loans).is_some() == passes && loans[1].lent == 30);
         assert!(rt; grant_next(85, &mut loans) == None && (loans[0].lent == 50) == passes);
     }
+}
+
+/// What happens to a guest of 60 pages with 20 in its balloon, and its pages, those in its balloon,
+/// those lent to it and those that it asks for after that.
+type Change = (Event, [u32; 4]);
+
+static CHANGES: [Change; 7] = [
+    (Event::Keeps { guest: 0, pages: 5 }, [60, 25, 40, 0]),
+    (Event::Gives { guest: 0, pages: 5 }, [60, 30, 35, 0]),
+    (Event::Withdraws { guest: 0, ahead: 3 }, [60, 30, 33, 0]),
+    (
+        Event::Grows {
+            guest: 0,
+            pages: 7,
+            line: WaitingLine::Second,
+        },
+        [67, 37, 33, 7],
+    ),
+    (Event::Withdraws { guest: 0, ahead: 9 }, [67, 37, 33, 0]),
+    (
+        Event::Shrinks {
+            guest: 0,
+            pages: 50,
+            ballooned: 16,
+        },
+        [67, 37, 33, 0],
+    ),
+    (
+        Event::Shrinks {
+            guest: 0,
+            pages: 50,
+            ballooned: 17,
+        },
+        [50, 17, 33, 0],
+    ),
+];
+
+/// The first row after which the guest has something else.
+fn first_other_change(frames: &mut u32, loans: &mut [Loan; 1]) -> Option<usize> {
+    for (at, (event, numbers)) in CHANGES.iter().enumerate() {
+        happen(frames, loans, *event);
+        let loan = loans[0];
+        if [loan.pages, loan.ballooned, loan.lent, loan.asked] != *numbers {
+            return Some(at);
+        }
+    }
+    None
+}
+
+#[test]
+fn memory_and_what_is_lent_ahead_change(rt: HostRuntime) {
+    let mut frames = 100;
+    let mut loans = [guest(60, 40, 0, 0)];
+    assert!(rt; first_other_change(&mut frames, &mut loans) == None);
+    assert!(rt; !keep(&mut loans, 0, 34) && keep(&mut loans, 0, 33) && give(&mut loans, 0, 0));
+    assert!(rt; !shrink(&mut loans, 0, 51, 51) && !grow(&mut loans, 1, 1, WaitingLine::First));
+    assert!(rt; grow(&mut loans, 0, 1, WaitingLine::First) && loans[0].turn == 1);
+    withdraw(&mut loans, 0, 0);
+    assert!(rt; loans[0].turn == 0 && loans[0].lent == 0);
 }

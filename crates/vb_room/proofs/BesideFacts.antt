@@ -12,6 +12,7 @@ use Rattle.vb_model.specs.Guest.{Guest, fresh}
 use Rattle.vb_model.specs.HostEvents.{WorldStep}
 use Rattle.vb_model.specs.World.{World}
 use Rattle.vb_lender.specs.declared.event.Event.TheVariants.{Arrives, Asks, Budget, Figures, Gives, Grants, Leaves, Recounts, Resets, Takes, Uncounts}
+use Rattle.vb_lender.specs.declared.event.Event.TheVariants.{Grows, Keeps, Shrinks, Withdraws}
 use Rattle.vb_lender.specs.declared.loan.Loan.{Loan}
 use Rattle.vb_lender.specs.declared.loan.WaitingLine.TheVariants.{First}
 use Rattle.vb_lender.specs.Loans.{vacant}
@@ -99,6 +100,21 @@ gives = (
   λ a. let l : 1 ≤ 0 = a rogue refl in absurd (omega arith),
 )
 
+-- pages that stay lent join a balloon as others do
+keeps : LoanIsAsked (Keeps 0 2) (both (Some some ∷ []) 64 (loan 64 1 ∷ []))
+    × (LoanIsAsked (Keeps 0 3) (both (Some some ∷ []) 64 (loan 64 1 ∷ [])) → ⊥)
+    × (LoanIsAsked (Keeps 0 1) (both (Some rogue ∷ []) 64 (loan 64 0 ∷ [])) → ⊥)
+keeps = (
+  λ g e. let same : some ≡ g = cc in subst (λ (x : Guest). 3 ≤ counted x) same (omega arith),
+  λ a. let l : 4 ≤ 3 = a some refl in absurd (omega arith),
+  λ a. let l : 1 ≤ 0 = a rogue refl in absurd (omega arith),
+)
+
+-- where a guest is its memory stays
+same_memory : LoanIsAsked (Shrinks 1 60 0) (both (Some some ∷ []) 9 []) × LoanIsAsked (Grows 1 4 First) (both (Some some ∷ []) 9 [])
+    × (LoanIsAsked (Shrinks 0 60 0) (both (Some some ∷ []) 9 []) → ⊥) × (LoanIsAsked (Grows 0 4 First) (both (Some some ∷ []) 9 []) → ⊥)
+same_memory = (refl, refl, λ a. absurd cc, λ a. absurd cc)
+
 -- 24 of its pages are lent to a guest, and 40 more have to be
 abbrev lent : Loan
 lent = record (loan 64 40) { lent = 24 }
@@ -118,7 +134,8 @@ budgets = (
 
 free_to_lend : LoanIsAsked (Asks 0 1) (both [] 0 []) × LoanIsAsked (Resets 0 First) (both [] 0 []) × LoanIsAsked (Grants 0) (both [] 0 [])
     × LoanIsAsked (Takes 0 1) (both [] 0 []) × LoanIsAsked (Recounts 0) (both [] 0 []) × LoanIsAsked (Figures 0 1) (both [] 0 [])
-free_to_lend = (tt, tt, tt, tt, tt, tt)
+    × LoanIsAsked (Withdraws 0 1) (both [] 0 [])
+free_to_lend = (tt, tt, tt, tt, tt, tt, tt)
 
 -- each is asked of its own kind
 asks : AsksFirst (both [] 63 (lent ∷ [])) (Plays CountFrames Done) × (AsksFirst (both [] 63 (lent ∷ [])) (Lends (Uncounts 0)) → ⊥)

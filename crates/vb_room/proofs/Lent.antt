@@ -12,8 +12,9 @@ use Rattle.vb_model.specs.declared.calls.Event.TheVariants.{Plug}
 use Rattle.vb_model.specs.declared.replies.Reply.{Reply}
 use Rattle.vb_lender.specs.declared.event.Event.{Event as LoanEvent}
 use Rattle.vb_lender.specs.declared.event.Event.TheVariants.{Arrives, Asks, Budget, Figures, Gives, Grants, Leaves, Recounts, Resets, Takes, Uncounts}
+use Rattle.vb_lender.specs.declared.event.Event.TheVariants.{Grows, Keeps, Shrinks, Withdraws}
 use Rattle.vb_lender.specs.declared.loan.Loan.{Loan}
-use Rattle.vb_lender.specs.Loans.{arrived, gave, may_give, vacant}
+use Rattle.vb_lender.specs.Loans.{arrived, gave, grown, may_give, may_keep, retained, shrunk, vacant}
 use Rattle.vb_lender.specs.Lending.{Lending, each_at, happens, has_turn, next_turn, owed, value_at, IsOrdinary}
 use Rattle.vb_lender.proofs.Sums.{frames_stay, lends_no_more}
 use Rattle.vb_room.proofs.Bare.{AllBare}
@@ -66,23 +67,30 @@ gave_loan k s g is fits = by (may_give k s) where
   by true = record { pages = is.pages; ballooned = fits }
   by false = is
 
-gives : (n k : ℕ) (xs : List Loan) (w : World) → ((g : Guest) → guest_at w.guests n ≡ Some g → ballooned_at xs n + k ≤ counted g)
-    → HaveLoans xs w → HaveLoans (each_at n (gave k) xs) w
-gives n k xs w fits have m g at = elim (cases_eq m n) [
+retained_loan : (k : ℕ) (s : Loan) (g : Guest) → IsLoanOf s g → s.ballooned + k ≤ counted g → IsLoanOf (retained k s) g
+retained_loan k s g is fits = by (may_keep k s) where
+  by : (b : Bool) → IsLoanOf (if b then record s { ballooned = s.ballooned + k } else s) g
+  by true = record { pages = is.pages; ballooned = fits }
+  by false = is
+
+-- pages join a balloon that the device holds to be ballooned
+joins : (n k : ℕ) (f : Loan → Loan) (xs : List Loan) (w : World) → ((s : Loan) (g : Guest) → IsLoanOf s g → s.ballooned + k ≤ counted g → IsLoanOf (f s) g)
+    → ((g : Guest) → guest_at w.guests n ≡ Some g → ballooned_at xs n + k ≤ counted g) → HaveLoans xs w → HaveLoans (each_at n f xs) w
+joins n k f xs w keeps fits have m g at = elim (cases_eq m n) [
   | inl same ↦
       let x = have m g at in
       let here = ap (slice_get xs) (sym same) ∙ x.1 in
       let own = fits g (ap (guest_at w.guests) (sym same) ∙ at) in
       let value = value_of (λ s. s.ballooned) xs n x.0 here in
-      (gave k x.0, ap (slice_get (each_at n (gave k) xs)) same ∙ here_changed n (gave k) xs x.0 here, gave_loan k x.0 g x.2 (omega (arith, own, value)))
-  | inr other ↦ let x = have m g at in (x.0, elsewhere n m (gave k) xs other ∙ x.1, x.2)
+      (f x.0, ap (slice_get (each_at n f xs)) same ∙ here_changed n f xs x.0 here, keeps x.0 g x.2 (omega (arith, own, value)))
+  | inr other ↦ let x = have m g at in (x.0, elsewhere n m f xs other ∙ x.1, x.2)
 ]
 
 pub lends_have : (b : Both) (e : LoanEvent) → LoanIsAsked e b → HaveLoans b.lending.loans b.world → HaveLoans (happens b.lending e).loans b.world
 lends_have b (Arrives n k line) asked have = have_if (has_turn b.lending.loans) b.lending.loans _ b.world
     (no_guest_there n (arrived k line (next_turn b.lending.loans)) b.lending.loans b.world asked have) have
 lends_have b (Leaves n) asked have = no_guest_there n (λ _. vacant) b.lending.loans b.world asked have
-lends_have b (Gives n k) asked have = gives n k b.lending.loans b.world asked have
+lends_have b (Gives n k) asked have = joins n k (gave k) b.lending.loans b.world (gave_loan k) asked have
 lends_have b (Asks n k) asked have = loan_events_leave_loans b.lending (Asks n k) b.world tt have
 lends_have b (Resets n line) asked have = loan_events_leave_loans b.lending (Resets n line) b.world tt have
 lends_have b (Grants n) asked have = loan_events_leave_loans b.lending (Grants n) b.world tt have
@@ -90,6 +98,11 @@ lends_have b (Takes n k) asked have = loan_events_leave_loans b.lending (Takes n
 lends_have b (Uncounts n) asked have = loan_events_leave_loans b.lending (Uncounts n) b.world tt have
 lends_have b (Recounts n) asked have = loan_events_leave_loans b.lending (Recounts n) b.world tt have
 lends_have b (Figures n k) asked have = loan_events_leave_loans b.lending (Figures n k) b.world tt have
+lends_have b (Keeps n k) asked have = joins n k (retained k) b.lending.loans b.world (retained_loan k) asked have
+lends_have b (Withdraws n k) asked have = loan_events_leave_loans b.lending (Withdraws n k) b.world tt have
+lends_have b (Shrinks n k ballooned) asked have = no_guest_there n (shrunk k ballooned) b.lending.loans b.world asked have
+lends_have b (Grows n k line) asked have = have_if (has_turn b.lending.loans) b.lending.loans _ b.world
+    (no_guest_there n (grown k line (next_turn b.lending.loans)) b.lending.loans b.world asked have) have
 lends_have b (Budget frames) asked have = loan_events_leave_loans b.lending (Budget frames) b.world tt have
 
 -- what is lent, the budget and the frames there are
@@ -114,6 +127,10 @@ lends_within b (Takes n k) asked h = ordinary_within b.lending (Takes n k) b.wor
 lends_within b (Uncounts n) asked h = record { owed = asked; budget = h.budget }
 lends_within b (Recounts n) asked h = ordinary_within b.lending (Recounts n) b.world.frames tt h
 lends_within b (Figures n k) asked h = ordinary_within b.lending (Figures n k) b.world.frames tt h
+lends_within b (Keeps n k) asked h = ordinary_within b.lending (Keeps n k) b.world.frames tt h
+lends_within b (Withdraws n k) asked h = ordinary_within b.lending (Withdraws n k) b.world.frames tt h
+lends_within b (Shrinks n k ballooned) asked h = ordinary_within b.lending (Shrinks n k ballooned) b.world.frames tt h
+lends_within b (Grows n k line) asked h = ordinary_within b.lending (Grows n k line) b.world.frames tt h
 lends_within b (Budget frames) asked h = record { owed = asked.0; budget = asked.1 }
 
 -- ---- events of the host

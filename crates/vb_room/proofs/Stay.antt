@@ -6,7 +6,8 @@ use Rattle.vb_model.specs.Guest.{Config}
 use Rattle.vb_model.specs.World.{World}
 use Rattle.vb_lender.specs.declared.loan.Loan.{Loan}
 use Rattle.vb_lender.specs.declared.event.Event.TheVariants.{Arrives, Leaves, Gives, Asks, Resets, Grants, Takes, Uncounts, Recounts, Figures, Budget}
-use Rattle.vb_lender.specs.Loans.{asking, figured, granted, may_ask, may_reset, may_take, may_uncount, recounted, resetting, took, uncounted}
+use Rattle.vb_lender.specs.declared.event.Event.TheVariants.{Keeps, Withdraws, Shrinks, Grows}
+use Rattle.vb_lender.specs.Loans.{asking, figured, granted, may_ask, may_reset, may_take, may_uncount, recounted, resetting, took, uncounted, withdrawn}
 use Rattle.vb_lender.specs.Lending.{each_at, has_turn, may_grant, next_turn}
 use Rattle.vb_room.specs.Tie.{EventsLeaveLoans, HaveLoans, LoanEventsLeaveLoans}
 
@@ -68,4 +69,8 @@ loan_events_leave_loans l (Takes n k) w o h = have_at n (took k) l.loans w (λ s
 loan_events_leave_loans l (Uncounts n) w o h = have_at n uncounted l.loans w (λ s. less_either (may_uncount s) s _ (record { pages = refl; ballooned = omega arith })) h
 loan_events_leave_loans l (Recounts n) w o h = have_at n recounted l.loans w (λ s. record { pages = refl; ballooned = omega arith }) h
 loan_events_leave_loans l (Figures n k) w o h = have_at n (figured k) l.loans w (λ s. record { pages = refl; ballooned = omega arith }) h
+loan_events_leave_loans l (Keeps n k) w o h = absurd o
+loan_events_leave_loans l (Withdraws n k) w o h = have_at n (withdrawn k) l.loans w (λ s. record { pages = refl; ballooned = omega arith }) h
+loan_events_leave_loans l (Shrinks n k b) w o h = absurd o
+loan_events_leave_loans l (Grows n k line) w o h = absurd o
 loan_events_leave_loans l (Budget frames) w o h = h

@@ -7,6 +7,7 @@ use Rattle.vb_model.specs.World.{World}
 use Rattle.vb_lender.specs.declared.loan.Loan.{Loan}
 use Rattle.vb_lender.specs.declared.loan.WaitingLine.TheVariants.{First}
 use Rattle.vb_lender.specs.declared.event.Event.TheVariants.{Arrives, Asks, Budget, Figures, Gives, Grants, Leaves, Recounts, Resets, Takes, Uncounts}
+use Rattle.vb_lender.specs.declared.event.Event.TheVariants.{Grows, Keeps, Shrinks, Withdraws}
 use Rattle.vb_room.specs.Room.{HoldsNoneBallooned, all_may_hold, is_scribble, may_hold}
 use Rattle.vb_room.specs.Tie.{HaveLoans, IsLoanOf, KeepsBalloons, LowersNone, counted}
 
@@ -126,8 +127,9 @@ lowers = (
 
 keeps : KeepsBalloons (Asks 0 1) × KeepsBalloons (Resets 0 First) × KeepsBalloons (Grants 0)
     × KeepsBalloons (Takes 0 1) × KeepsBalloons (Uncounts 0) × KeepsBalloons (Recounts 0)
-    × KeepsBalloons (Figures 0 1) × KeepsBalloons (Budget 1)
-keeps = (tt, tt, tt, tt, tt, tt, tt, tt)
+    × KeepsBalloons (Figures 0 1) × KeepsBalloons (Budget 1) × KeepsBalloons (Withdraws 0 1)
+keeps = (tt, tt, tt, tt, tt, tt, tt, tt, tt)
 
 keeps_not : (KeepsBalloons (Arrives 0 1 First) → ⊥) × (KeepsBalloons (Leaves 0) → ⊥) × (KeepsBalloons (Gives 0 1) → ⊥)
-keeps_not = (λ k. k, λ k. k, λ k. k)
+    × (KeepsBalloons (Keeps 0 1) → ⊥) × (KeepsBalloons (Shrinks 0 1 1) → ⊥) × (KeepsBalloons (Grows 0 1 First) → ⊥)
+keeps_not = (λ k. k, λ k. k, λ k. k, λ k. k, λ k. k, λ k. k)

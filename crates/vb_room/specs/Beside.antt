@@ -13,7 +13,7 @@ use Rattle.vb_model.specs.HostEvents.{WorldStep}
 use Rattle.vb_model.specs.World.{World, guest_at, made}
 use Rattle.vb_lender.specs.declared.event.Event.{Event as LoanEvent}
 use Rattle.vb_lender.specs.declared.event.Event.TheVariants.{Arrives, Budget, Gives, Leaves}
-use Rattle.vb_lender.specs.declared.event.Event.TheVariants.{Uncounts}
+use Rattle.vb_lender.specs.declared.event.Event.TheVariants.{Uncounts, Keeps, Shrinks, Grows}
 use Rattle.vb_lender.specs.declared.loan.Loan.{Loan}
 use Rattle.vb_lender.specs.Loans.{uncounted, vacant}
 use Rattle.vb_lender.specs.Lending.{Lending, each_at, happens, owed, value_at}
@@ -61,14 +61,19 @@ EventIsAsked (OnGuest n call) reply w loans = (g : Guest) → guest_at w.guests 
 EventIsAsked event reply w loans = ⊤
 
 -- Before an event of the lender. A guest arrives before it is plugged in, and leaves once it was
--- unplugged. It gives no more pages than its device holds to be ballooned: once an inflate was
--- finished. A balloon is uncounted where there is room for all its pages (else the guest has to
+-- unplugged. A guest's memory never changes, so none shrinks or grows that is there. It gives, and
+-- keeps, no more pages than its device holds to be ballooned: once an inflate was finished. A
+-- balloon is uncounted where there is room for all its pages (else the guest has to
 -- go), and a budget is set that is enough for what is lent, and that the host has.
 abbrev pub LoanIsAsked : LoanEvent → Both → Type 0
 LoanIsAsked (Arrives n pages line) b = guest_at b.world.guests n ≡ None
 LoanIsAsked (Leaves n) b = guest_at b.world.guests n ≡ None
 LoanIsAsked (Gives n pages) b = (g : Guest) → guest_at b.world.guests n ≡ Some g
     → ballooned_at b.lending.loans n + pages ≤ counted g
+LoanIsAsked (Keeps n pages) b = (g : Guest) → guest_at b.world.guests n ≡ Some g
+    → ballooned_at b.lending.loans n + pages ≤ counted g
+LoanIsAsked (Shrinks n pages ballooned) b = guest_at b.world.guests n ≡ None
+LoanIsAsked (Grows n pages line) b = guest_at b.world.guests n ≡ None
 LoanIsAsked (Uncounts n) b = owed (each_at n uncounted b.lending.loans) ≤ b.lending.frames
 LoanIsAsked (Budget frames) b = (owed b.lending.loans ≤ frames) × (frames ≤ b.world.frames)
 LoanIsAsked event b = ⊤

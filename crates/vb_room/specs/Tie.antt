@@ -13,7 +13,8 @@ use Rattle.vb_lender.specs.declared.loan.Loan.{Loan}
 use Rattle.vb_model.specs.declared.calls.Event.{Event}
 use Rattle.vb_model.specs.declared.replies.Reply.{Reply}
 use Rattle.vb_lender.specs.declared.event.Event.{Event as LoanEvent}
-use Rattle.vb_lender.specs.declared.event.Event.TheVariants.{Arrives, Leaves, Gives}
+use Rattle.vb_lender.specs.declared.event.Event.TheVariants.{Arrives, Leaves, Gives, Keeps}
+use Rattle.vb_lender.specs.declared.event.Event.TheVariants.{Shrinks, Grows}
 use Rattle.vb_lender.specs.Lending.{AreSound, Lending, happens, owed}
 use Rattle.vb_room.specs.Room.{is_scribble}
 
@@ -54,14 +55,18 @@ abbrev pub EventsLeaveLoans : Type 0
 EventsLeaveLoans = (w : World) (event : Event) (reply : Reply) (v : World) (loans : List Loan)
     → WorldStep w event reply v → LowersNone w v → HaveLoans loans w → HaveLoans loans v
 
--- asks, resets, grants, takes, uncounting, figures and budgets
+-- asks, resets, withdrawals, grants, takes, uncounting, figures and budgets
 abbrev pub KeepsBalloons : LoanEvent → Type 0
 KeepsBalloons (Arrives n pages line) = ⊥
 KeepsBalloons (Leaves n) = ⊥
 KeepsBalloons (Gives n pages) = ⊥
+KeepsBalloons (Keeps n pages) = ⊥
+KeepsBalloons (Shrinks n pages ballooned) = ⊥
+KeepsBalloons (Grows n pages line) = ⊥
 KeepsBalloons _ = ⊤
 
--- What happens to the loans leaves them too; but for what comes, goes and gives.
+-- What happens to the loans leaves them too; but for what comes, goes or gets another memory, and
+-- for pages that join a balloon.
 abbrev pub LoanEventsLeaveLoans : Type 0
 LoanEventsLeaveLoans = (l : Lending) (e : LoanEvent) (w : World) → KeepsBalloons e
     → HaveLoans l.loans w → HaveLoans (happens l e).loans w

@@ -23,7 +23,8 @@ pub fn loans_suffice()
 {}
 
 /// The loans stay those of the guests while no guest comes and none has fewer ballooned pages; and
-/// whatever happens to the loans, but for what comes, goes and gives.
+/// whatever happens to the loans, but for what comes, goes or gets another memory, and for pages
+/// that join a balloon.
 pub fn loans_stay()
     ensures events { EventsLeaveLoans }
     ensures loans { LoanEventsLeaveLoans }

@@ -10,38 +10,31 @@ void loan_obeys(struct seat *seat)
     seat->obeys_until = loop_now() + LINGERS;
 }
 
-static void withdraw(VbLoan *loan)
-{
-    loan->asked = 0, loan->turn = 0, loan->line = 0;
-}
-
 void loan_trim(struct seat *seat)
 {
-    VbLoan *loan = loan_of(seat);
+    const VbLoan *loan = loan_of(seat);
     uint32_t beyond = loan->ballooned - smaller(loan->ballooned, seat->told);
     bool obeys_earlier = loop_now() < seat->obeys_until;
     uint32_t most = smaller(obeys_earlier && beyond < PAGES_OF_REQUEST ? PAGES_OF_REQUEST : beyond, loan->ballooned);
     seat->kept = obeys_earlier ? smaller(seat->kept, most) : 0;
     seat->ahead = smaller(seat->ahead, most - seat->kept);
-    uint32_t lent = loan->pages - loan->ballooned + seat->ahead + seat->kept;
-    withdraw(loan);
-    if (loan->lent > lent)
-        loan->lent = lent;
+    vb_loan_withdraw(seat->host->loans, MOST_PLACES, seat->place, seat->ahead + seat->kept);
 }
 
 void loan_take_in(struct seat *seat, uint32_t pages)
 {
-    VbLoan *loan = loan_of(seat);
+    VbLoan *loans = seat->host->loans;
+    const VbLoan *loan = loan_of(seat);
     uint32_t now = loan->ballooned + pages, beyond = now - smaller(now, seat->told);
     bool keeps = loan->asked == 0 && loop_now() < seat->obeys_until;
     uint32_t kept = keeps ? smaller(pages, beyond) : 0;
-    vb_loan_give(seat->host->loans, MOST_PLACES, seat->place, pages - kept);
-    loan->ballooned += kept;
+    vb_loan_give(loans, MOST_PLACES, seat->place, pages - kept);
+    vb_loan_keep(loans, MOST_PLACES, seat->place, kept);
     seat->kept += kept;
 }
 
 /* Lends a guest again, as far as there is room, what an earlier lender had lent it ahead: its driver is told to take it, and may be in that
- * deflate by now, which is granted then where nothing more is missing. */
+ * deflate by now, which is granted then where nothing more is missing. With this its loan is as that lender had it: it is written by hand. */
 static void regain(struct seat *seat)
 {
     const struct host *host = seat->host;
@@ -58,7 +51,7 @@ static void regain(struct seat *seat)
     loan_obeys(seat);
     if (!deflates || loan->asked > 0)
         return;
-    withdraw(loan);
+    loan->turn = 0;
     loan_grant(seat, WAITS_FOR_DEFLATE);
 }
 
@@ -83,7 +76,7 @@ uint32_t loan_ahead(struct seat *seat, uint32_t pages)
         return 0;
     loans_grant(host);
     if (loan->asked > 0) {
-        withdraw(loan);
+        vb_loan_withdraw(host->loans, MOST_PLACES, seat->place, seat->ahead + seat->kept);
         return 0;
     }
     seat->ahead += lent;

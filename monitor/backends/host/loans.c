@@ -1,13 +1,13 @@
-/* What is lent to guests, and who waits for more. The library decides (vb_lending.h); what is written here into a loan by hand keeps
- * lent + ballooned >= pages >= lent + asked, and lends nothing. */
+/* What is lent to guests, and who waits for more. The library decides (vb_lending.h); what a guest has that doesn't wait, or came before this lender,
+ * is written into its loan by hand. */
 #include "loans.h"
 
 #include <inttypes.h>
 
 enum { LONG_WAIT = 10000 };     /* milliseconds */
 
-/* Deflates wait in the first line, and all else in the second. */
-enum { FIRST_LINE, SECOND_LINE };
+/* Deflates wait in the first line, newcomers, resets and added memory in the second. */
+enum { SECOND_LINE = 1 };
 
 /* The pages in its balloon, as the lender counts them: without those that it may take already. */
 static uint32_t counted_balloon(const struct seat *seat)
@@ -31,13 +31,16 @@ static void follow_report(struct seat *seat)
     *loan_of(seat) = (VbLoan){.pages = pages, .ballooned = ballooned, .lent = pages - ballooned, .uncounted = !seat->cooperates};
 }
 
-/* Memory that was taken away, with what was in the balloon of it. */
+/* Memory that was taken away, with what was in the balloon of it. What isn't lent to it counts as in its balloon. */
 static void shrink(struct seat *seat, uint32_t pages, uint32_t ballooned)
 {
-    VbLoan *loan = loan_of(seat);
-    ballooned = smaller(ballooned, pages);
+    uint32_t lent = loan_of(seat)->lent, least = pages - smaller(pages, lent);
+    ballooned = smaller(ballooned > least ? ballooned : least, pages);
     seat->ahead = seat->kept = 0;
-    *loan = (VbLoan){.pages = pages, .ballooned = ballooned, .lent = pages - ballooned, .spare = loan->spare};
+    if (pages == 0)
+        vb_loan_leave(seat->host->loans, MOST_PLACES, seat->place);
+    else
+        vb_loan_shrink(seat->host->loans, MOST_PLACES, seat->place, pages, ballooned);
 }
 
 /* It has pages that nobody granted: it is named, once. It counts with all that it has, unless the kernel has it within its loan. */
@@ -117,30 +120,32 @@ void loan_grant(struct seat *seat, enum guest_wait what)
     seat_answer(seat, true);
 }
 
+/* Asks for room for its memory, or for what has come to that, as if it were in its balloon. */
+static bool ask_for_room(struct seat *seat)
+{
+    VbLoan *loans = seat->host->loans;
+    uint32_t pages = loan_of(seat)->pages, wanted = seat->report.wanted;
+    if (pages == 0)
+        return vb_loan_arrive(loans, MOST_PLACES, seat->place, wanted, SECOND_LINE) == VB_OK;
+    return wanted > pages && vb_loan_grow(loans, MOST_PLACES, seat->place, wanted - pages, SECOND_LINE) == VB_OK;
+}
+
 /* Asks for what its process waits for. Where nothing has to be lent for it, it has it at once. Deflates come first: a driver that is in one
  * gives no pages meanwhile, and the others may wait for these. */
 static void ask(struct seat *seat, enum guest_wait what)
 {
     VbLoan *loans = seat->host->loans, *loan = loan_of(seat);
     seat->asked_for = what;
-    if (what == WAITS_FOR_ROOM && loan->pages == 0) {
-        vb_loan_arrive(loans, MOST_PLACES, seat->place, seat->report.wanted, SECOND_LINE);
+    if (what == WAITS_FOR_ROOM && ask_for_room(seat))
         return;
-    }
-    if (what == WAITS_FOR_ROOM && seat->report.wanted > loan->pages) {
-        loan->ballooned += seat->report.wanted - loan->pages; /* new memory comes as if it were in the balloon */
-        loan->pages = seat->report.wanted;
-    }
     uint32_t pages = wanted_pages(seat, what), has = loan->lent + loan->ballooned - loan->pages;
     uint32_t wanted = smaller(pages > has ? pages - has : 0, loan->pages - loan->lent);
-    if (wanted == 0) {
+    if (wanted == 0)
         loan_grant(seat, what);
-    } else if (what == WAITS_FOR_RESET) {
+    else if (what == WAITS_FOR_RESET)
         vb_loan_reset(loans, MOST_PLACES, seat->place, SECOND_LINE);
-    } else {
-        loan->line = what == WAITS_FOR_DEFLATE ? FIRST_LINE : SECOND_LINE;
+    else
         vb_loan_ask(loans, MOST_PLACES, seat->place, wanted);
-    }
 }
 
 void loan_follow(struct seat *seat)

@@ -92,6 +92,31 @@ pub fn figure(loans: &mut [Loan], guest: usize, pages: u32) -> bool {
     unsafe { vb_loan_figure(loans.as_mut_ptr(), loans.len(), guest, pages) == OK }
 }
 
+/// Pages joined a guest's balloon, and stay lent to it, since its driver is to take them out again.
+pub fn keep(loans: &mut [Loan], guest: usize, pages: u32) -> bool {
+    // SAFETY: the pointer is of a slice with its length.
+    unsafe { vb_loan_keep(loans.as_mut_ptr(), loans.len(), guest, pages) == OK }
+}
+
+/// What a guest asks for isn't waited for any longer, and of what is lent to it beyond its pages outside its balloon at most `ahead` pages
+/// stay lent.
+pub fn withdraw(loans: &mut [Loan], guest: usize, ahead: u32) -> bool {
+    // SAFETY: the pointer is of a slice with its length.
+    unsafe { vb_loan_withdraw(loans.as_mut_ptr(), loans.len(), guest, ahead) == OK }
+}
+
+/// Memory of a guest was taken away: it has this many pages from now on, `ballooned` of them in its balloon.
+pub fn shrink(loans: &mut [Loan], guest: usize, pages: u32, ballooned: u32) -> bool {
+    // SAFETY: the pointer is of a slice with its length.
+    unsafe { vb_loan_shrink(loans.as_mut_ptr(), loans.len(), guest, pages, ballooned) == OK }
+}
+
+/// Memory was added to a guest that is there, and it asks for the new pages in a line.
+pub fn grow(loans: &mut [Loan], guest: usize, pages: u32, line: Line) -> bool {
+    // SAFETY: the pointer is of a slice with its length.
+    unsafe { vb_loan_grow(loans.as_mut_ptr(), loans.len(), guest, pages, line as u16) == OK }
+}
+
 /// Lends to the first guest that waits what it asks for: which guest. `None` where nobody waits, or there is no room for the
 /// first.
 pub fn grant(frames: u32, loans: &mut [Loan]) -> Option<usize> {

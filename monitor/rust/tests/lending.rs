@@ -1,8 +1,9 @@
 //! A host of 100 frames and its guests, by pencil: vb_lending.h over slices.
 
 use vb_balloon::lending::{
-    arrive, ask, figure, give, grant, leave, need_of, owed, recount, reset, take, targets, targets_by_terms,
-    targets_of_guests, targets_serve, uncount, Budget, Contact, HostGuest, Line, Loan, Need, NoTargets, Share, Terms,
+    arrive, ask, figure, give, grant, grow, keep, leave, need_of, owed, recount, reset, shrink, take, targets,
+    targets_by_terms, targets_of_guests, targets_serve, uncount, withdraw, Budget, Contact, HostGuest, Line, Loan,
+    Need, NoTargets, Share, Terms,
 };
 
 const FRAMES: u32 = 100;
@@ -80,6 +81,36 @@ fn a_balloon_that_does_not_count_has_all_its_pages_lent() {
     loans[1].uncounted = 256;
     assert!(!give(&mut loans, 1, 1), "any number but 0 says so");
     assert!(recount(&mut loans, 1) && give(&mut loans, 1, 1));
+}
+
+#[test]
+fn pages_that_stay_lent_are_withdrawn_but_for_those_ahead() {
+    let mut loans = host();
+    assert!(keep(&mut loans, 1, 30) && !keep(&mut loans, 1, 11));
+    assert_eq!((loans[1].ballooned, loans[1].lent, owed(&loans)), (50, 40, 100));
+    assert!(withdraw(&mut loans, 1, 8) && ask(&mut loans, 1, 1));
+    assert_eq!((loans[1].ballooned, loans[1].lent, loans[1].asked, loans[1].turn), (50, 18, 1, 1));
+    assert!(withdraw(&mut loans, 1, u32::MAX) && !withdraw(&mut loans, 3, 0));
+    assert_eq!((loans[1].lent, loans[1].asked, loans[1].turn), (18, 0, 0));
+    assert!(uncount(&mut loans, 1) && !keep(&mut loans, 1, 0), "its balloon doesn't count");
+}
+
+#[test]
+fn memory_is_taken_away_without_a_grant_and_added_by_one() {
+    let mut loans = host();
+    assert!(ask(&mut loans, 1, 2) && !shrink(&mut loans, 1, 61, 30) && !shrink(&mut loans, 1, 5, 6));
+    assert!(!shrink(&mut loans, 1, 50, 9), "41 would be lent then");
+    assert!(shrink(&mut loans, 1, 50, 15) && !shrink(&mut loans, 1, 0, 0) && !shrink(&mut loans, 2, 1, 1));
+    assert_eq!(loans[1], Loan { pages: 50, ballooned: 15, lent: 35, ..Loan::default() });
+    assert!(grow(&mut loans, 1, 6, Line::Second) && !grow(&mut loans, 1, 6, Line::First), "it waits already");
+    assert_eq!(loans[1], Loan { pages: 56, ballooned: 21, lent: 35, asked: 6, turn: 1, line: 1, ..Loan::default() });
+    assert!(!grow(&mut loans, 2, 1, Line::First) && !grow(&mut loans, 0, 0, Line::First));
+    assert!(!grow(&mut loans, 0, u32::MAX - 59, Line::First) && grow(&mut loans, 0, u32::MAX - 60, Line::First));
+    assert_eq!((loans[0].pages, loans[0].asked, loans[0].turn), (u32::MAX, u32::MAX - 60, 2));
+    assert_eq!((grant(100, &mut loans), grant(101, &mut loans)), (None, None), "the first line comes first");
+    assert!(withdraw(&mut loans, 0, 0));
+    assert_eq!((grant(100, &mut loans), grant(101, &mut loans)), (None, Some(1)));
+    assert!(take(&mut loans, 1, 6) && !take(&mut loans, 1, 1));
 }
 
 #[test]

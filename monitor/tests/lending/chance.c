@@ -29,8 +29,12 @@ static uint32_t most_pages(enum kind kind, const VbLoan *loan)
     uint32_t outside = loan->pages - loan->ballooned;
     if (kind == GIVE)
         return loan->lent < outside ? loan->lent : outside;
-    if (kind == TAKE)
+    if (kind == TAKE || kind == WITHDRAW)
         return loan->lent - outside;
+    if (kind == KEEP)
+        return outside;
+    if (kind == SHRINK)
+        return loan->pages;
     return loan->pages - loan->lent;
 }
 
@@ -51,6 +55,26 @@ static uint32_t any_pages(enum kind kind, const VbLoan *loan)
     }
 }
 
+/* In the balloon of a guest that has this many pages from now on: as few as may be, as many as there are pages, or any; and one less or
+ * one more. */
+static uint32_t any_ballooned(uint32_t pages, const VbLoan *loan)
+{
+    uint32_t least = pages > loan->lent ? pages - loan->lent : 0;
+    if (chance(3))
+        return least + chance_in(pages - least);
+    return chance(2) ? least - chance(2) : pages + chance(2);
+}
+
+/* Pages for a guest that comes, or that has as many already. */
+static uint32_t more_pages(uint32_t pages)
+{
+    if (chance(8))
+        return 1 + chance(60);
+    if (chance(3))
+        return (uint32_t)any();
+    return pages ? UINT32_MAX - pages + chance(2) : 0;
+}
+
 /* Few frames, so that guests wait; or about as many as all guests have pages. */
 static uint32_t any_frames(const struct day *day)
 {
@@ -63,7 +87,7 @@ static uint32_t any_frames(const struct day *day)
 /* What may well happen next to a guest with this loan, so that events fit. */
 static enum kind likely_kind(const VbLoan *loan)
 {
-    static const enum kind heard[] = { GIVE, ASK, ASK, ASK, ASK, RESET };
+    static const enum kind heard[] = { GIVE, ASK, ASK, ASK, ASK, RESET, GROW };
     if (loan->pages == 0)
         return ARRIVE;
     if (loan->asked != 0)
@@ -75,8 +99,8 @@ static enum kind likely_kind(const VbLoan *loan)
 
 static enum kind any_kind(void)
 {
-    static const enum kind often[] = { ARRIVE, LEAVE, GIVE, GIVE, ASK, ASK, RESET, TAKE, TAKE, UNCOUNT, RECOUNT, FIGURE, GRANT, GRANT,
-                                       BUDGET };
+    static const enum kind often[] = { ARRIVE, LEAVE, GIVE, GIVE, ASK, ASK, RESET, TAKE, TAKE, UNCOUNT, RECOUNT, FIGURE, KEEP, WITHDRAW,
+                                       SHRINK, GROW, GRANT, GRANT, BUDGET };
     return often[chance(sizeof often / sizeof *often)];
 }
 
@@ -85,15 +109,17 @@ struct event any_event(const struct day *day)
     size_t guest = chance(20) ? chance((uint32_t)day->count + 1) : chance(50) ? day->count : (size_t)any();
     bool likely = guest < day->count && chance(3) != 0;
     struct event event = { .kind = likely ? likely_kind(&day->loans[guest]) : any_kind(), .guest = guest };
-    if (event.kind == ARRIVE || event.kind == RESET)
+    if (event.kind == ARRIVE || event.kind == RESET || event.kind == GROW)
         event.line = chance(2) ? 0 : chance(4) ? 1 : (uint16_t)any();
-    if (event.kind == ARRIVE) {
-        event.pages = chance(8) ? 1 + chance(60) : chance(3) ? (uint32_t)any() : 0;
+    if (event.kind == ARRIVE || event.kind == GROW) {
+        event.pages = more_pages(event.kind == GROW && guest < day->count ? day->loans[guest].pages : 0);
     } else if (event.kind == BUDGET) {
         event.pages = any_frames(day);
     } else if (guest < day->count) {
         event.pages = any_pages(event.kind, &day->loans[guest]);
     }
+    if (event.kind == SHRINK && guest < day->count)
+        event.ballooned = any_ballooned(event.pages, &day->loans[guest]);
     return event;
 }
 

@@ -6,8 +6,9 @@
 unsigned long long effects[KINDS][2];
 
 struct calls {
-    uint32_t (*arrive)(VbLoan *, size_t, size_t, uint32_t, uint16_t);
     uint32_t (*reset)(VbLoan *, size_t, size_t, uint16_t);
+    uint32_t (*shrink)(VbLoan *, size_t, size_t, uint32_t, uint32_t);
+    uint32_t (*lined[KINDS])(VbLoan *, size_t, size_t, uint32_t, uint16_t);
     uint32_t (*plain[KINDS])(VbLoan *, size_t, size_t);
     uint32_t (*paged[KINDS])(VbLoan *, size_t, size_t, uint32_t);
     VbGrant (*grant)(uint32_t, VbLoan *, size_t);
@@ -16,9 +17,10 @@ struct calls {
 
 #define CALLS_OF(name)                                                                                                          \
     {                                                                                                                           \
-        .arrive = name##_arrive, .reset = name##_reset,                                                                         \
+        .reset = name##_reset, .shrink = name##_shrink, .lined = { [ARRIVE] = name##_arrive, [GROW] = name##_grow },            \
         .plain = { [LEAVE] = name##_leave, [UNCOUNT] = name##_uncount, [RECOUNT] = name##_recount },                            \
-        .paged = { [GIVE] = name##_give, [ASK] = name##_ask, [TAKE] = name##_take, [FIGURE] = name##_figure },                  \
+        .paged = { [GIVE] = name##_give, [ASK] = name##_ask, [TAKE] = name##_take, [FIGURE] = name##_figure,                    \
+                   [KEEP] = name##_keep, [WITHDRAW] = name##_withdraw },                                                        \
         .grant = name##_grant, .owed = name##_owed,                                                                             \
     }
 
@@ -31,10 +33,12 @@ static VbGrant happen(const struct calls *to, const struct day *day, VbLoan *loa
     if (event->kind == GRANT)
         return to->grant(day->frames, loans, day->count);
     VbGrant said = { .code = VB_OK, .guest = event->guest };
-    if (event->kind == ARRIVE)
-        said.code = to->arrive(loans, day->count, event->guest, event->pages, event->line);
-    else if (event->kind == RESET)
+    if (event->kind == RESET)
         said.code = to->reset(loans, day->count, event->guest, event->line);
+    else if (event->kind == SHRINK)
+        said.code = to->shrink(loans, day->count, event->guest, event->pages, event->ballooned);
+    else if (to->lined[event->kind])
+        said.code = to->lined[event->kind](loans, day->count, event->guest, event->pages, event->line);
     else if (to->plain[event->kind])
         said.code = to->plain[event->kind](loans, day->count, event->guest);
     else if (to->paged[event->kind])
@@ -63,6 +67,7 @@ static void note(struct day *day, size_t guest)
         *book = (struct book){ .pages = 0 };
         return;
     case GIVE:
+    case KEEP:
         book->inside += event->pages;
         return;
     case TAKE:
@@ -78,7 +83,14 @@ static void note(struct day *day, size_t guest)
         book->inside = 0;
         book->waits = book->second = false;
         return;
+    case SHRINK:
+        *book = (struct book){ .pages = event->pages, .inside = event->ballooned };
+        return;
+    case GROW:
+        *book = (struct book){ book->pages + event->pages, book->inside + event->pages, true, event->line != 0, ++day->asks };
+        return;
     case GRANT:
+    case WITHDRAW:
         book->waits = book->second = false;
         return;
     default:
@@ -118,6 +130,20 @@ static void check_order(const struct day *day, const VbLoan *before, VbGrant sai
     if (day->event.kind == GIVE && said.code == VB_OK
         && day->loans[said.guest].lent + day->event.pages != before[said.guest].lent)
         fail(day, "pages that were given stay lent");
+    if ((day->event.kind == KEEP || day->event.kind == GROW) && said.code == VB_OK
+        && day->loans[said.guest].lent != before[said.guest].lent)
+        fail(day, "pages join a balloon, and others are lent");
+}
+
+/* Once the books are written: what stays lent to a guest that asks no longer, or has less memory. */
+static void check_less(const struct day *day, const VbLoan *before, size_t guest)
+{
+    const struct book *book = &day->books[guest];
+    uint64_t most = book->pages - book->inside, was = before[guest].lent;
+    if (day->event.kind == WITHDRAW)
+        most += day->event.pages;
+    if ((day->event.kind == WITHDRAW || day->event.kind == SHRINK) && day->loans[guest].lent != (was < most ? was : most))
+        fail(day, "another number of pages stays lent");
 }
 
 /* Of each guest, once the books are written. */
@@ -178,7 +204,9 @@ void play(struct day *day)
     if (day->odd)
         return;
     check_order(day, before, said);
-    if (said.code == VB_OK)
+    if (said.code == VB_OK) {
         note(day, said.guest);
+        check_less(day, before, said.guest);
+    }
     check_guests(day);
 }

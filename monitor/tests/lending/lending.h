@@ -6,12 +6,14 @@
 
 enum { MOST_GUESTS = 6 };
 
-enum kind { ARRIVE, LEAVE, GIVE, ASK, RESET, TAKE, UNCOUNT, RECOUNT, FIGURE, GRANT, BUDGET, KINDS };
+enum kind { ARRIVE, LEAVE, GIVE, ASK, RESET, TAKE, UNCOUNT, RECOUNT, FIGURE, KEEP, WITHDRAW, SHRINK, GROW, GRANT, BUDGET,
+            KINDS };
 
 struct event {
     enum kind kind;
     size_t guest;
     uint32_t pages;             /* or frames, of a budget */
+    uint32_t ballooned;         /* of a guest whose memory was taken away */
     uint16_t line;
 };
 
