@@ -58,8 +58,8 @@ pub enum Event {
         guest: usize,
         pages: u32,
     },
-    /// What a guest asks for isn't waited for any longer, and what is lent to it ahead of its asks
-    /// is at most this many pages.
+    /// What a guest asks for isn't waited for any longer, and at most this many pages of its
+    /// balloon stay lent.
     Withdraws {
         guest: usize,
         ahead: u32,
