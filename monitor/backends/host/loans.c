@@ -31,16 +31,17 @@ static void follow_report(struct seat *seat)
     *loan_of(seat) = (VbLoan){.pages = pages, .ballooned = ballooned, .lent = pages - ballooned, .uncounted = !seat->cooperates};
 }
 
-/* Memory that was taken away, with what was in the balloon of it. What isn't lent to it counts as in its balloon. */
+/* Memory that was taken away, with what was in the balloon of it, where that counts. What isn't lent to it counts as in its balloon. */
 static void shrink(struct seat *seat, uint32_t pages, uint32_t ballooned)
 {
-    uint32_t lent = loan_of(seat)->lent, least = pages - smaller(pages, lent);
-    ballooned = smaller(ballooned > least ? ballooned : least, pages);
+    VbLoan *loans = seat->host->loans;
+    const VbLoan *loan = loan_of(seat);
+    uint32_t least = pages - smaller(pages, loan->lent), counted = loan->uncounted ? 0 : ballooned;
     seat->ahead = seat->kept = 0;
     if (pages == 0)
-        vb_loan_leave(seat->host->loans, MOST_PLACES, seat->place);
+        vb_loan_leave(loans, MOST_PLACES, seat->place);
     else
-        vb_loan_shrink(seat->host->loans, MOST_PLACES, seat->place, pages, ballooned);
+        vb_loan_shrink(loans, MOST_PLACES, seat->place, pages, smaller(counted > least ? counted : least, pages));
 }
 
 /* It has pages that nobody granted: it is named, once. It counts with all that it has, unless the kernel has it within its loan. */

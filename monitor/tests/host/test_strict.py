@@ -7,7 +7,7 @@ import time
 import pytest
 from bigvasta.connection import Connection
 from tenants import FREE, PAGES, PAGES_OF_ALL, eventually, process_of
-from vhost_client import ADD_MEM_REG, DEFLATE, OFFERED, PAGE, Client
+from vhost_client import ADD_MEM_REG, DEFLATE, OFFERED, PAGE, REM_MEM_REG, Client
 
 STRICT = ("--floor", "0", "--period", "100", "--step", "0", "--strict")
 
@@ -254,6 +254,24 @@ def test_memory_that_grows_waits(two):
     b.give(GIVEN[10:74])
     grows.ends()
     lender.become("c", pages=128, lent=128, waits="nothing")
+    client.leave()
+
+
+def test_memory_that_goes_makes_room(two):
+    """A deflate waits, and is granted once memory of another guest goes."""
+    lender, (a, b) = two
+    client = Client(lender.add("c"), lambda: "")
+    client.negotiate(protocol=OFFERED)
+    a.give(GIVEN[:64]), b.give(GIVEN[:64])
+    for number in range(2):
+        client.accepted(ADD_MEM_REG, client.region_body(number), client.files[number : number + 1])
+    lender.become("c", pages=128, lent=128)
+    a.take(GIVEN[:10])
+    lender.become("a", waits="deflate", lent=64)
+    client.accepted(REM_MEM_REG, client.region_body(1))
+    used(a, DEFLATE, 1)
+    lender.become("c", pages=64, lent=64, waits="nothing")
+    assert lent(lender) >= 64 + 10 + 64 + 64  # what the targets let go is lent, too
     client.leave()
 
 
