@@ -26,7 +26,7 @@ static void follow_report(struct seat *seat)
     if (!seat->cooperates)
         ballooned = 0;
     seat->ahead = seat->kept = 0;
-    seat->regains = seat->adopted;
+    seat->regains = seat->adopted && seat->report.holds;
     seat->adopted = false;
     *loan_of(seat) = (VbLoan){.pages = pages, .ballooned = ballooned, .lent = pages - ballooned, .uncounted = !seat->cooperates};
 }
@@ -121,14 +121,18 @@ void loan_grant(struct seat *seat, enum guest_wait what)
     seat_answer(seat, true);
 }
 
-/* Asks for room for its memory, or for what has come to that, as if it were in its balloon. */
+/* Asks for room for its memory, or for what has come to that, as if it were in its balloon; false where nothing has come. */
 static bool ask_for_room(struct seat *seat)
 {
     VbLoan *loans = seat->host->loans;
     uint32_t pages = loan_of(seat)->pages, wanted = seat->report.wanted;
+    if (pages > 0 && wanted <= pages)
+        return false;
     if (pages == 0)
-        return vb_loan_arrive(loans, MOST_PLACES, seat->place, wanted, SECOND_LINE) == VB_OK;
-    return wanted > pages && vb_loan_grow(loans, MOST_PLACES, seat->place, wanted - pages, SECOND_LINE) == VB_OK;
+        vb_loan_arrive(loans, MOST_PLACES, seat->place, wanted, SECOND_LINE);
+    else
+        vb_loan_grow(loans, MOST_PLACES, seat->place, wanted - pages, SECOND_LINE);
+    return true;
 }
 
 /* Asks for what its process waits for. Where nothing has to be lent for it, it has it at once. Deflates come first: a driver that is in one
