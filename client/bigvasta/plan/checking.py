@@ -49,6 +49,10 @@ class Guest:
         self.owes, self.asks, self.asked = 0, deque([look.asked] if look.asked else ()), look.granted
         self.total, self.granted, self.replayed, self.waited, self.replay_waited = look.granted, [], [], 0.0, 0.0
 
+    def size(self):
+        """Returns how many pages it has."""
+        return self.look.size
+
     def follow(self, look, at):
         """Notes what has happened since the look before."""
         before, self.look = self.look, look
@@ -112,13 +116,18 @@ class Follower(Lender):
             guest.owes -= part
         return part > 0
 
-    def ask(self, guest, waits):
-        """A guest asks for its next part, once it has got those before: one that the host has granted until now, or one that waits there, too."""
+    def room(self, frames):
+        """Returns how many frames are left that nobody has or has asked for."""
+        return max(frames - self.owed() - sum(it.asked for it in self.loans), 0)
+
+    def ask(self, guest, waits, most):
+        """A guest asks for its next part, once it has got those before: one that the host has granted until now, or one that waits there, too; and for
+        no more pages than these."""
         loan = self.loans[guest.number]
         if loan.asked or not guest.asks or (not waits and guest.asked + guest.asks[0] > guest.look.granted):
             return False
         # What it gave between its asks may be wanted first.
-        part = min(guest.asks[0], loan.pages - loan.lent)
+        part = min(guest.asks[0], loan.pages - loan.lent, most)
         if part == 0:
             return False
         guest.asks[0] -= part
@@ -158,13 +167,13 @@ class Follower(Lender):
 
     def rest(self, before, frames):
         """Has all be done that can be on these budgets, of the look before and of now: what the host has granted until now was asked for before what waits
-        there, and who has waited longest has asked first."""
+        there, and who has waited longest has asked first. How the host has parted what it granted isn't recorded: first it is what there is room for."""
         guests = sorted(self.guests.values(), key=lambda it: -it.look.waiting)
-        for waits in (False, True):
+        for waits, fits in ((False, True), (False, False), (True, False)):
             going = True
             while going:
                 going = any([self.give(it) for it in guests])
-                going |= any([self.ask(it, waits) for it in guests])
+                going |= any([self.ask(it, waits, self.room(frames) if fits else it.size()) for it in guests])
                 going |= not waits and before > frames and self.grant_before(before)
                 going |= self.grant(frames)
 

@@ -61,6 +61,8 @@ SAME = {
         [150, 150, 100, 100, 100], {"a": "90/0/0 90/0/0 70/0/0 70/0/0 70/0/0", "b": "50/30/0 50/30/0/1 50/30/0/2 50/30/0/3 50/30/0/4"},
         {"a": (0, 0), "b": (0, 4)},
     ),
+    # Between two looks b gives 40, and a gets them three times, and gives them twice: 120 at once would never fit.
+    "grants in parts": ([100] * 3, {"a": "20/0/0 60/0/120 60/0/120", "b": "80/0/0 40/0/0 40/0/0"}, {"a": (120, 0), "b": (0, 0)}),
     # One look late is within the time between two looks.
     "a grant at the look after": ([160] * 3, {"a": "90/0/0 90/10/0 100/0/10", "b": "60/0/0 60/0/0 60/0/0"}, {"a": (10, 1), "b": (0, 0)}),
 }
