@@ -65,14 +65,14 @@ void loans_regain(struct host *host)
     }
 }
 
-uint32_t loan_ahead(struct seat *seat, uint32_t pages)
+/* Lends it pages at once, as far as there is room; returns how many. */
+static uint32_t lend_at_once(struct seat *seat, uint32_t pages)
 {
     struct host *host = seat->host;
-    VbLoan *loan = loan_of(seat);
+    const VbLoan *loan = loan_of(seat);
     uint64_t room = loans_room(host);
     uint32_t lent = room < pages ? (uint32_t)room : pages;
-    loan_obeys(seat);
-    if (!seat_is_ready(seat) || loan->asked > 0 || vb_loan_ask(host->loans, MOST_PLACES, seat->place, lent) != VB_OK)
+    if (vb_loan_ask(host->loans, MOST_PLACES, seat->place, lent) != VB_OK)
         return 0;
     loans_grant(host);
     if (loan->asked > 0) {
@@ -81,6 +81,16 @@ uint32_t loan_ahead(struct seat *seat, uint32_t pages)
     }
     seat->ahead += lent;
     return lent;
+}
+
+uint32_t loan_ahead(struct seat *seat, uint32_t pages)
+{
+    const VbLoan *loan = loan_of(seat);
+    uint32_t beyond = loan->ballooned - smaller(loan->ballooned, seat->told), has = seat->ahead + seat->kept;
+    uint32_t had = smaller(has - smaller(has, beyond), pages);
+    if (!seat_is_ready(seat) || loan->asked > 0)
+        return 0;
+    return had + lend_at_once(seat, pages - had);
 }
 
 uint64_t loans_room(const struct host *host)

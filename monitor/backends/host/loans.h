@@ -26,8 +26,11 @@ bool loans_wait(const struct host *host);
 /* ---- ahead.c */
 
 /* Lends it pages that it is to be told to take out of its balloon, as far as there is room, so that it doesn't wait for them: it couldn't
- * give any meanwhile. Returns how many: none where its driver isn't ready. What it gives soon for an earlier target stays lent to it. */
+ * give any meanwhile. Returns how many it has, with those that are lent to it already: none where its driver isn't ready. */
 uint32_t loan_ahead(struct seat *seat, uint32_t pages);
+
+/* Its driver obeys a target, or hears a lower one: what it gives soon for an earlier target stays lent to it. */
+void loan_obeys(struct seat *seat);
 
 /* How many frames are left that nobody has, waits for, or was told to take out of its balloon. */
 uint64_t loans_room(const struct host *host);
@@ -53,9 +56,6 @@ void loan_trim(struct seat *seat);
 
 /* Pages have joined its balloon. Those that its driver gave for an earlier target, and takes back at once, stay lent to it for a while. */
 void loan_take_in(struct seat *seat, uint32_t pages);
-
-/* Its driver obeys a target. */
-void loan_obeys(struct seat *seat);
 
 /* What earlier lenders lent ahead to guests is lent to them again, as far as there is room. */
 void loans_regain(struct host *host);

@@ -46,8 +46,10 @@ static bool goes_by_steps(const struct seat *seat)
 static void lower(struct seat *seat)
 {
     uint32_t ballooned = seat->host->loans[seat->place].ballooned, from = seat->told > ballooned ? ballooned : seat->told;
-    uint32_t falls = from > seat->target ? from - seat->target : 0;
+    uint32_t falls = from > seat->target ? from - seat->target : 0, told = seat->told;
     seat->told = seat->target + (seat->report.holds ? falls - loan_ahead(seat, falls) : 0);
+    if (seat->told < told)
+        loan_obeys(seat);
 }
 
 /* Tells it as much of its target as it may hear now, whether it rises or falls. */

@@ -104,3 +104,22 @@ def test_what_was_given_for_an_earlier_target_is_taken_back_at_once(given):
     used(a, DEFLATE, 1)
     lender.become("a", waits="nothing", ballooned=50, lent=78)
     assert (waits_of(lender, "b"), lent(lender)) == ("deflate", 146)
+
+
+def test_what_is_lent_for_an_earlier_target_is_lent_for_a_moment_alone(given):
+    """A target falls, and rises again before the driver hears it. What was lent for it is free for others soon, also where the target falls again by a
+    few pages, for which there is no room."""
+    lender, a, b, set_budget = given
+    a.figures, b.figures = {FREE: 0}, {FREE: 0}
+    set_budget(146)
+    lender.become("a", asked=50)
+    set_budget(196)  # b is asked for all of the 60 that are missing
+    lender.become("a", asked=0, lent=128)
+    set_budget(146)
+    lender.become("a", asked=50)
+    b.take(GIVEN[:5])
+    lender.become("b", waits="deflate")
+    set_budget(156)
+    used(b, DEFLATE, 1)
+    lender.become("b", waits="nothing", ballooned=55, lent=73)
+    lender.become("a", ballooned=50, lent=83, asked=45)
