@@ -137,7 +137,7 @@ class Guest:
         with open(self.log, encoding="latin-1") as log:
             return last_line(log.read())
 
-    def end(self):
+    def how_it_ended(self):
         """Returns how its process ended, as words that follow others; none where it runs."""
         try:
             return f" (status {self.process.wait(1)})"
@@ -151,7 +151,7 @@ class Guest:
             try:
                 said.append(self.lines.next(end))
             except Fault as fault:
-                raise Fault(f"{fault} at its boot{self.end()}: {' / '.join([*said[-3:], *filter(None, [self.why()])])}") from None
+                raise Fault(f"{fault} at its boot{self.how_it_ended()}: {' / '.join([*said[-3:], *filter(None, [self.why()])])}") from None
         if said[-1] != "READY":
             raise Unbound(f"the guest boots, but its driver has no device: {said[-1].partition(' ')[2]}")
         if self.held is None:
