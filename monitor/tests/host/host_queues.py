@@ -136,6 +136,7 @@ def next_one_at_a_seat(town):
         client = Talker(path, town.host.why, 60)
         becomes(town, {"free": 60, "answers": 1, "statistics": 1}, "seat")
         town.host.demand("seat target 20")
+        town.host.ask("seat counters")  # its process has heard that
         client.post_pages(INFLATE, list(range(PAGES, PAGES + 20)))
         client.post_pages(DEFLATE, list(range(PAGES, PAGES + 5)))
         becomes(town, {"ballooned": 15, "taken": 5, "free": 0}, "seat")
