@@ -1,5 +1,6 @@
 """A guest of a host that lends: Linux with a balloon, and the bytes that it keeps."""
 
+import contextlib
 import os
 import signal
 
@@ -102,8 +103,9 @@ class Member:
         self.boot()
 
     def kill(self):
-        """Ends its processes at once."""
-        os.killpg(self.guest.process.pid, signal.SIGKILL)
+        """Ends its processes at once, if they haven't ended."""
+        with contextlib.suppress(ProcessLookupError):
+            os.killpg(self.guest.process.pid, signal.SIGKILL)
         self.guest.process.wait()
         self.guest.close()
         self.guest = None
