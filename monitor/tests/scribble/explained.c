@@ -32,9 +32,11 @@ static void expect_same(const VbBalloon *balloon)
 
 static bool same_spot(VbSpot one, VbSpot other) { return one.region == other.region && one.offset == other.offset; }
 
+/* Beside the pages that a portion of the same request has named before. */
 static void mark_runs(const VbRun *runs, uint32_t count)
 {
-    memset(is_named, 0, sizeof is_named);
+    if (!names)
+        memset(is_named, 0, sizeof is_named);
     for (uint32_t i = 0; i < count; i++)
         for (uint64_t page = runs[i].first; page < (uint64_t)runs[i].first + runs[i].count && page < PAGES; page++)
             is_named[page] = true;
@@ -96,6 +98,8 @@ static void expect_what(const VbNotice *notice, const VbBalloon *balloon, const 
     EXPECT(why->what == 0 && notice->code == why->code && (notice->code != VB_BROKEN || notice->rule == why->rule));
     EXPECT(notice->interrupt == why->interrupt && notice->configuration == why->configuration && notice->more == why->more);
     EXPECT(notice->code <= VB_BROKEN && !memcmp(&balloon->held, &twin.balloon.held, sizeof balloon->held));
+    if (names)
+        see_pages(notice->kind);    /* of a request that is held, or broken in a later portion */
 }
 
 /* Hands over the next thing, or all that is left; pages that were named are seen before their chain is given back. */
