@@ -10,15 +10,27 @@ void loan_obeys(struct seat *seat)
     seat->obeys_until = loop_now() + LINGERS;
 }
 
+/* The pages of its balloon that are lent to it. */
+static uint32_t lent_of_balloon(const VbLoan *loan)
+{
+    return loan->lent + loan->ballooned - loan->pages;
+}
+
+/* The pages of its balloon that it is told to take out of it. */
+static uint32_t beyond_target(const struct seat *seat)
+{
+    uint32_t ballooned = loan_of(seat)->ballooned;
+    return ballooned - smaller(ballooned, seat->told);
+}
+
 void loan_trim(struct seat *seat)
 {
     const VbLoan *loan = loan_of(seat);
-    uint32_t beyond = loan->ballooned - smaller(loan->ballooned, seat->told);
+    uint32_t lent = lent_of_balloon(loan), beyond = beyond_target(seat), ahead = lent - smaller(lent, seat->kept);
     bool obeys_earlier = loop_now() < seat->obeys_until;
-    uint32_t most = smaller(obeys_earlier && beyond < PAGES_OF_REQUEST ? PAGES_OF_REQUEST : beyond, loan->ballooned);
-    seat->kept = obeys_earlier ? smaller(seat->kept, most) : 0;
-    seat->ahead = smaller(seat->ahead, most - seat->kept);
-    vb_loan_withdraw(seat->host->loans, MOST_PLACES, seat->place, seat->ahead + seat->kept);
+    uint32_t most = obeys_earlier && beyond < PAGES_OF_REQUEST ? PAGES_OF_REQUEST : beyond;
+    seat->kept = obeys_earlier ? smaller(smaller(seat->kept, lent), most) : 0;
+    vb_loan_withdraw(seat->host->loans, MOST_PLACES, seat->place, smaller(ahead + seat->kept, most));
 }
 
 void loan_take_in(struct seat *seat, uint32_t pages)
@@ -40,7 +52,7 @@ static void regain(struct seat *seat)
     const struct host *host = seat->host;
     VbLoan *loan = loan_of(seat);
     uint64_t owed = vb_loan_owed(host->loans, MOST_PLACES), room = owed < host->frames ? host->frames - owed : 0;
-    uint32_t beyond = loan->ballooned - smaller(loan->ballooned, seat->told);
+    uint32_t beyond = beyond_target(seat);
     uint32_t regained = room < beyond ? (uint32_t)room : beyond;
     bool deflates = seat->asked_for == WAITS_FOR_DEFLATE && loan->asked > 0;
     if (loan->uncounted || (loan->asked > 0 && !deflates))
@@ -71,25 +83,22 @@ static uint32_t lend_at_once(struct seat *seat, uint32_t pages)
     struct host *host = seat->host;
     const VbLoan *loan = loan_of(seat);
     uint64_t room = loans_room(host);
-    uint32_t lent = room < pages ? (uint32_t)room : pages;
+    uint32_t lent = room < pages ? (uint32_t)room : pages, had = lent_of_balloon(loan);
     if (vb_loan_ask(host->loans, MOST_PLACES, seat->place, lent) != VB_OK)
         return 0;
     loans_grant(host);
-    if (loan->asked > 0) {
-        vb_loan_withdraw(host->loans, MOST_PLACES, seat->place, seat->ahead + seat->kept);
-        return 0;
-    }
-    seat->ahead += lent;
-    return lent;
+    if (loan->asked == 0)
+        return lent;
+    vb_loan_withdraw(host->loans, MOST_PLACES, seat->place, had);
+    return 0;
 }
 
 uint32_t loan_ahead(struct seat *seat, uint32_t pages)
 {
     const VbLoan *loan = loan_of(seat);
-    uint32_t beyond = loan->ballooned - smaller(loan->ballooned, seat->told), has = seat->ahead + seat->kept;
-    uint32_t had = smaller(has - smaller(has, beyond), pages);
     if (!seat_is_ready(seat) || loan->asked > 0)
         return 0;
+    uint32_t lent = lent_of_balloon(loan), had = smaller(lent - smaller(lent, beyond_target(seat)), pages);
     return had + lend_at_once(seat, pages - had);
 }
 
@@ -100,9 +109,9 @@ uint64_t loans_room(const struct host *host)
         gone += host->loans[i].asked;
     for (unsigned i = 0; i < host->count; i++) {
         const struct seat *seat = host->seats[i];
-        uint32_t ballooned = loan_of(seat)->ballooned, beyond = ballooned > seat->told ? ballooned - seat->told : 0;
-        uint32_t has = seat->ahead + seat->kept;
-        gone += seat->report.holds && loan_of(seat)->asked == 0 && beyond > has ? beyond - has : 0;
+        const VbLoan *loan = loan_of(seat);
+        if (seat->report.holds && loan->asked == 0)
+            gone += beyond_target(seat) - smaller(beyond_target(seat), lent_of_balloon(loan));
     }
     return gone < host->frames ? host->frames - gone : 0;
 }

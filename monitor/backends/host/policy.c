@@ -51,13 +51,13 @@ static bool has_loan(const struct seat *seat)
     return seat->report.holds || seat->host->loans[seat->place].uncounted;
 }
 
-/* What is known of a guest. */
+/* What is known of a guest. Pages that it may take already aren't in the balloon of its loan. */
 static VbHostGuest known_of(const struct seat *seat)
 {
+    VbLoan loan = has_loan(seat) ? seat->host->loans[seat->place] : (VbLoan){0};
     return (VbHostGuest){
-        .loan = has_loan(seat) ? seat->host->loans[seat->place] : (VbLoan){0},
-        .pages = seat->pages, .held = least(seat->report.held_kib / PAGE_KIB, UINT32_MAX),
-        .ballooned = seat->report.ballooned, .ballooned_then = seat->ballooned_then,
+        .loan = loan, .pages = seat->pages, .held = least(seat->report.held_kib / PAGE_KIB, UINT32_MAX),
+        .ballooned = loan.pages > 0 ? loan.ballooned : seat->report.ballooned, .ballooned_then = seat->ballooned_then,
         .available = seat->tells_available ? seat->available : seat->free,
         .contact = contact_of(seat), .rests = is_paused(seat),
         .least = seat->terms.least, .most = seat->terms.most, .priority = seat->terms.priority};

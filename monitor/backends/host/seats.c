@@ -47,7 +47,7 @@ void seat_clear(struct seat *seat)
     seat->moved_at = seat->passed_over = 0;
     seat->waits_for = WAITS_FOR_NOTHING;
     seat->wait_answered = seat->held_granted = seat->granted_pages = 0;
-    seat->granted = seat->ahead = seat->kept = seat->obeys_until = 0;
+    seat->granted = seat->kept = seat->obeys_until = 0;
     seat->wait_admitted = seat->adopted = seat->regains = false;
     seat->asked_for = WAITS_FOR_NOTHING;
     seat->cooperates = true;
