@@ -104,6 +104,12 @@ def test_what_was_given_for_an_earlier_target_is_taken_back_at_once(given):
     used(a, DEFLATE, 1)
     lender.become("a", waits="nothing", ballooned=50, lent=78)
     assert (waits_of(lender, "b"), lent(lender)) == ("deflate", 146)
+    # Nothing is lent to it ahead any longer: for a lower target there is no room.
+    with Connection(f"{lender.folder}/.control") as it:
+        it.ask("floor", bytes=10 * PAGE)
+    lender.become("a", target=40)
+    time.sleep(0.5)
+    assert (lender.guests()["a"]["asked"], lent(lender)) == (50, 146)
 
 
 def test_what_is_lent_for_an_earlier_target_is_lent_for_a_moment_alone(given):
