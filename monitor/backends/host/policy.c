@@ -202,7 +202,7 @@ static void note(struct host *host, const struct guests *guests, uint64_t missin
         strcpy(share->name, seat->name);
         share->need = vb_guest_need(&guests->known[i], host->floor);
         share->bound = bound_of(seat);
-        share->ballooned = seat->report.ballooned;
+        share->ballooned = guests->known[i].ballooned;
         share->most = most_of(guests, i, host);
         share->old = guests->old[i];
         share->target = guests->targets[i];
