@@ -175,7 +175,7 @@ def seats(all_seats):
     yield all_seats
     all_seats.serves()
     end = time.monotonic() + LIMIT
-    while all_seats.held() != before:  # its process ends after its client
+    while all_seats.held() > before:  # its process ends after its client; that of the test before may end only now
         assert time.monotonic() < end, f"the host has {all_seats.held()} files open, and had {before}"
         time.sleep(0.01)
 
