@@ -27,8 +27,8 @@ void loan_trim(struct seat *seat)
 {
     const VbLoan *loan = loan_of(seat);
     uint32_t lent = lent_of_balloon(loan), beyond = beyond_target(seat), ahead = lent - smaller(lent, seat->kept);
-    bool obeys_earlier = loop_now() < seat->obeys_until;
-    uint32_t most = obeys_earlier && beyond < PAGES_OF_REQUEST ? PAGES_OF_REQUEST : beyond;
+    bool obeys_earlier = loop_now() < seat->obeys_until, was_heard = seat->report.target == seat->told;
+    uint32_t most = !was_heard ? lent : obeys_earlier && beyond < PAGES_OF_REQUEST ? PAGES_OF_REQUEST : beyond;
     seat->kept = obeys_earlier ? smaller(smaller(seat->kept, lent), most) : 0;
     vb_loan_withdraw(seat->host->loans, MOST_PLACES, seat->place, smaller(ahead + seat->kept, most));
 }

@@ -51,7 +51,8 @@ static inline VbLoan *loan_of(const struct seat *seat)
 void loan_grant(struct seat *seat, enum guest_wait what);
 
 /* What it has asked for isn't waited for any longer; nothing is lent beyond its pages that aren't in its balloon, but for those that it is
- * told to take out of it. A driver that may still obey an earlier target takes those of one request of Linux's, and what it gave beyond. */
+ * told to take out of it. A driver that may still obey an earlier target takes those of one request of Linux's, and what it gave beyond; any
+ * number, until its process has heard the last one. */
 void loan_trim(struct seat *seat);
 
 /* Pages have joined its balloon. Those that its driver gave for an earlier target, and takes back at once, stay lent to it for a while. */
