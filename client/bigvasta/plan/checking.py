@@ -49,10 +49,6 @@ class Guest:
         self.owes, self.asks, self.asked = 0, deque([look.asked] if look.asked else ()), look.granted
         self.total, self.granted, self.replayed, self.waited, self.replay_waited = look.granted, [], [], 0.0, 0.0
 
-    def size(self):
-        """Returns how many pages it has."""
-        return self.look.size
-
     def follow(self, look, at):
         """Notes what has happened since the look before."""
         before, self.look = self.look, look
@@ -173,7 +169,7 @@ class Follower(Lender):
             going = True
             while going:
                 going = any([self.give(it) for it in guests])
-                going |= any([self.ask(it, waits, self.room(frames) if fits else it.size()) for it in guests])
+                going |= any([self.ask(it, waits, self.room(frames) if fits else it.look.size) for it in guests])
                 going |= not waits and before > frames and self.grant_before(before)
                 going |= self.grant(frames)
 

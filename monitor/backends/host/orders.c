@@ -45,7 +45,7 @@ static bool goes_by_steps(const struct seat *seat)
  * lent to it at once: else it would wait for pages that it doesn't need, and couldn't give any meanwhile. */
 static void lower(struct seat *seat)
 {
-    uint32_t ballooned = seat->host->loans[seat->place].ballooned, from = seat->told > ballooned ? ballooned : seat->told;
+    uint32_t ballooned = loan_of(seat)->ballooned, from = seat->told > ballooned ? ballooned : seat->told;
     uint32_t falls = from > seat->target ? from - seat->target : 0, told = seat->told;
     seat->told = seat->target + (seat->report.holds ? falls - loan_ahead(seat, falls) : 0);
     if (seat->told < told)

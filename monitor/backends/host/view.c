@@ -34,12 +34,6 @@ static enum guest_state state_of(const struct seat *seat)
     return seat_is_ready(seat) ? GUEST_READY : GUEST_STARTING;
 }
 
-/* Frames that are lent to a guest. */
-static uint32_t lent_pages(const struct seat *seat)
-{
-    return seat->host->loans[seat->place].lent;
-}
-
 /* Whether it has taken no pages unasked since it came. */
 static bool cooperates(const struct seat *seat)
 {
@@ -56,7 +50,7 @@ void host_see(const struct host *host, struct host_view *view)
         .admitted = its->admitted, .refused = its->refused, .gone = its->gone, .dropped = lines_dropped};
     for (unsigned i = 0; i < host->count; i++) {
         const struct seat *seat = host->seats[i];
-        view->lent += lent_pages(seat);
+        view->lent += loan_of(seat)->lent;
         view->waiting += seat->waits_for != WAITS_FOR_NOTHING;
         view->silent += seat_is_ready(seat) && !seat_answers(seat);
         view->uncooperative += !cooperates(seat);
