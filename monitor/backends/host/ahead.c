@@ -2,12 +2,28 @@
  * a deflate gives no pages meanwhile, and the others may wait for just these. */
 #include "loans.h"
 
-/* Pages that a deflate of Linux's driver takes at most; milliseconds for which a driver may still obey its target before the last one. */
+/* Pages that a deflate of Linux's driver takes at most; milliseconds for which a driver may still obey an earlier target once its process has heard
+ * the last one. */
 enum { PAGES_OF_REQUEST = VB_MAX_BYTES / sizeof(uint32_t), LINGERS = 3000 };
 
 void loan_obeys(struct seat *seat)
 {
-    seat->obeys_until = loop_now() + LINGERS;
+    seat->obeys_until = INT64_MAX;
+}
+
+/* Whether its driver may still obey an earlier target. */
+static bool obeys_earlier(const struct seat *seat)
+{
+    return loop_now() < seat->obeys_until;
+}
+
+/* Whether it isn't known yet that its process has heard its target; notes when it is. */
+static bool is_to_hear(struct seat *seat)
+{
+    bool hears = seat->obeys_until == INT64_MAX && seat->report.target == seat->told;
+    if (hears)
+        seat->obeys_until = loop_now() + LINGERS;
+    return seat->obeys_until == INT64_MAX;
 }
 
 /* The pages of its balloon that are lent to it. */
@@ -25,12 +41,12 @@ static uint32_t beyond_target(const struct seat *seat)
 
 void loan_trim(struct seat *seat)
 {
-    const VbLoan *loan = loan_of(seat);
-    uint32_t lent = lent_of_balloon(loan), beyond = beyond_target(seat), ahead = lent - smaller(lent, seat->kept);
-    bool obeys_earlier = loop_now() < seat->obeys_until, was_heard = seat->report.target == seat->told;
-    uint32_t most = !was_heard ? lent : obeys_earlier && beyond < PAGES_OF_REQUEST ? PAGES_OF_REQUEST : beyond;
-    seat->kept = obeys_earlier ? smaller(smaller(seat->kept, lent), most) : 0;
-    vb_loan_withdraw(seat->host->loans, MOST_PLACES, seat->place, smaller(ahead + seat->kept, most));
+    uint32_t beyond = beyond_target(seat), ahead = seat->regained ? 0 : beyond;
+    if (is_to_hear(seat))
+        ahead = loan_of(seat)->ballooned;
+    else if (obeys_earlier(seat))
+        ahead = beyond < PAGES_OF_REQUEST ? PAGES_OF_REQUEST : beyond;
+    vb_loan_withdraw(seat->host->loans, MOST_PLACES, seat->place, ahead);
 }
 
 void loan_take_in(struct seat *seat, uint32_t pages)
@@ -38,15 +54,14 @@ void loan_take_in(struct seat *seat, uint32_t pages)
     VbLoan *loans = seat->host->loans;
     const VbLoan *loan = loan_of(seat);
     uint32_t now = loan->ballooned + pages, beyond = now - smaller(now, seat->told);
-    bool keeps = loan->asked == 0 && loop_now() < seat->obeys_until;
-    uint32_t kept = keeps ? smaller(pages, beyond) : 0;
+    uint32_t kept = loan->asked == 0 && obeys_earlier(seat) ? smaller(pages, beyond) : 0;
     vb_loan_give(loans, MOST_PLACES, seat->place, pages - kept);
     vb_loan_keep(loans, MOST_PLACES, seat->place, kept);
-    seat->kept += kept;
 }
 
-/* Lends a guest again, as far as there is room, what an earlier lender had lent it ahead: its driver is told to take it, and may be in that
- * deflate by now, which is granted then where nothing more is missing. With this its loan is as that lender had it: it is written by hand. */
+/* Lends a guest again, as far as there is room, what an earlier lender may have lent it ahead: its driver is told to take it, and may be in that
+ * deflate by now, which is granted then where nothing more is missing. With this its loan is as that lender had it: it is written by hand. What
+ * its driver doesn't take soon wasn't lent. */
 static void regain(struct seat *seat)
 {
     const struct host *host = seat->host;
@@ -59,7 +74,7 @@ static void regain(struct seat *seat)
         return;
     loan->asked -= smaller(loan->asked, regained);
     loan->lent += regained;
-    seat->kept = regained;
+    seat->regained = true;
     loan_obeys(seat);
     if (!deflates || loan->asked > 0)
         return;

@@ -83,9 +83,9 @@ struct seat {
     enum guest_wait asked_for;  /* what its loan asks for */
     uint32_t held_granted, granted_pages;       /* the last of its deflates that was granted, and of how many pages */
     uint64_t granted;           /* frames that were lent to it since it came, as it asked for them or was told to take them */
-    uint32_t kept;              /* pages of its balloon that stay lent to it for a while, as it gave them for an earlier target, or an earlier lender lent them ahead */
-    int64_t obeys_until;        /* its target fell, or it took pages: until then its driver may still obey an earlier one */
+    int64_t obeys_until;        /* until then its driver may still obey an earlier target; INT64_MAX: its process has to hear the last one first */
     bool adopted, regains;      /* its loan is to follow the first report of a process of an earlier lender; what that lent ahead is to be lent again */
+    bool regained;              /* it was, and its driver hasn't been told another target */
     bool cooperates;            /* it hasn't taken pages that nobody granted */
 };
 

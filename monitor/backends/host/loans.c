@@ -25,7 +25,6 @@ static void follow_report(struct seat *seat)
     uint32_t pages = seat->pages, ballooned = smaller(seat->report.ballooned, pages);
     if (!seat->cooperates)
         ballooned = 0;
-    seat->kept = 0;
     seat->regains = seat->adopted && seat->report.holds;
     seat->adopted = false;
     *loan_of(seat) = (VbLoan){.pages = pages, .ballooned = ballooned, .lent = pages - ballooned, .uncounted = !seat->cooperates};
@@ -37,7 +36,6 @@ static void shrink(struct seat *seat, uint32_t pages, uint32_t ballooned)
     VbLoan *loans = seat->host->loans;
     const VbLoan *loan = loan_of(seat);
     uint32_t least = pages - smaller(pages, loan->lent), counted = loan->uncounted ? 0 : ballooned;
-    seat->kept = 0;
     if (pages == 0)
         vb_loan_leave(loans, MOST_PLACES, seat->place);
     else
@@ -107,7 +105,6 @@ void loan_grant(struct seat *seat, enum guest_wait what)
     uint32_t taken = smaller(wanted, smaller(most, loan->ballooned));
     vb_loan_take(host->loans, MOST_PLACES, seat->place, taken);
     seat->asked_for = WAITS_FOR_NOTHING;
-    seat->kept -= smaller(seat->kept, taken);
     host->counters.grants++;
     if (what == WAITS_FOR_DEFLATE) {
         seat->granted_pages = taken;

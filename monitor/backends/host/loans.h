@@ -29,7 +29,8 @@ bool loans_wait(const struct host *host);
  * give any meanwhile. Returns how many it has, with those that are lent to it already: none where its driver isn't ready. */
 uint32_t loan_ahead(struct seat *seat, uint32_t pages);
 
-/* Its driver obeys a target, or hears a lower one: what it gives soon for an earlier target stays lent to it. */
+/* It is told another target, or takes pages by the one that it has: its driver may obey an earlier one, until a moment after its process has
+ * heard the last one. */
 void loan_obeys(struct seat *seat);
 
 /* How many frames are left that nobody has, waits for, or was told to take out of its balloon. */
@@ -51,11 +52,11 @@ static inline VbLoan *loan_of(const struct seat *seat)
 void loan_grant(struct seat *seat, enum guest_wait what);
 
 /* What it has asked for isn't waited for any longer; nothing is lent beyond its pages that aren't in its balloon, but for those that it is
- * told to take out of it. A driver that may still obey an earlier target takes those of one request of Linux's, and what it gave beyond; any
- * number, until its process has heard the last one. */
+ * told to take out of it. A driver that may still obey an earlier target takes those of one request of Linux's; any number, until its process
+ * has heard the last one. */
 void loan_trim(struct seat *seat);
 
-/* Pages have joined its balloon. Those that its driver gave for an earlier target, and takes back at once, stay lent to it for a while. */
+/* Pages have joined its balloon. Those that its driver gave for an earlier target, and takes back at once, stay lent to it. */
 void loan_take_in(struct seat *seat, uint32_t pages);
 
 /* What earlier lenders lent ahead to guests is lent to them again, as far as there is room. */

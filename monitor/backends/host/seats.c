@@ -47,8 +47,8 @@ void seat_clear(struct seat *seat)
     seat->moved_at = seat->passed_over = 0;
     seat->waits_for = WAITS_FOR_NOTHING;
     seat->wait_answered = seat->held_granted = seat->granted_pages = 0;
-    seat->granted = seat->kept = seat->obeys_until = 0;
-    seat->wait_admitted = seat->adopted = seat->regains = false;
+    seat->granted = seat->obeys_until = 0;
+    seat->wait_admitted = seat->adopted = seat->regains = seat->regained = false;
     seat->asked_for = WAITS_FOR_NOTHING;
     seat->cooperates = true;
     limit_forget(seat);

@@ -96,8 +96,9 @@ def test_a_deflate_waits_for_its_grant(two):
     # As there is room again, it is given back.
     lender.demand("budget 1")
     used(a, DEFLATE, 1)
-    lender.become("a", waits="nothing", ballooned=40, lent=88)
     assert lender.counters()["grants"] == 3
+    # It is asked for none any longer: all that is left is lent ahead.
+    lender.become("a", waits="nothing", ballooned=40, asked=0, lent=128)
 
 
 def test_a_deflate_of_no_page_needs_no_grant(two):

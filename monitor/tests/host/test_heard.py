@@ -1,0 +1,75 @@
+"""Targets that change before a guest's driver obeys them, on a strict host. A test plays the guests' processes, which say when they have heard
+a target. Each guest is silent: it can spare what is in its balloon, and no more."""
+
+import time
+
+import pytest
+from bigvasta.connection import Connection
+from played import WAIT_ROOM, Played
+from test_strict import STRICT, lent
+from vhost_client import PAGE
+
+# Frames of the host, which the first guest has at the beginning; pages of a request of Linux's; and those for which the second one waits.
+ALL, OF_REQUEST, WANTED = 4096, 256, 3000
+
+# Seconds for which a driver may obey an earlier target, once its process has heard the last one; and more than these.
+LINGERS, LATER = 3, 3.5
+
+
+@pytest.fixture
+def play(lend):
+    """Plays the process of a guest that has all frames, and has put none into its balloon, or these; another one waits for room."""
+    played = []
+    lender = lend(ALL * PAGE >> 20, *STRICT)
+
+    def begin(**its):
+        played.append(Played(lender, "a", pages=ALL, **its))
+        played.append(Played(lender, "b", ready=0, waits=WAIT_ROOM, wait=1, wanted=WANTED))
+        return played[0]
+
+    yield begin
+    for it in played:
+        it.leave()
+
+
+def test_a_driver_takes_back_what_it_gave_before_its_process_heard_a_target(play):
+    """A driver at full speed inflates ten times before it hears that it is to give less. As it gives, it can spare more: so its target rises again, and
+    it obeys one between. It waits for none of the pages that it takes back by that."""
+    a = play(target=ALL)
+    a.lender.become("a", asked=0)
+    for number in range(1, 11):
+        a.report(ballooned=number * OF_REQUEST)
+        a.lender.become("a", asked=number * OF_REQUEST, lent=ALL)
+    a.report(target=OF_REQUEST)
+    for _ in range(9):
+        a.deflates(OF_REQUEST)
+        a.deflated()
+    a.lender.become("a", asked=OF_REQUEST, ballooned=OF_REQUEST, lent=ALL, waits="nothing")
+    # It has heard its last target: what it leaves in its balloon isn't lent to it any longer.
+    a.lender.become("a", lent=ALL - OF_REQUEST)
+    assert lent(a.lender) == ALL - OF_REQUEST and a.lender.guests()["b"]["waits"] == "room"
+
+
+def test_a_driver_has_a_moment_once_its_process_has_heard_a_target(play):
+    """Its target rises while it takes pages by the one before. One request of Linux's may be on its way then."""
+    a = play(ballooned=3 * OF_REQUEST)
+    a.lender.become("a", asked=3 * OF_REQUEST, lent=ALL)
+    time.sleep(LATER)
+    a.deflates(OF_REQUEST)
+    a.deflated()
+    a.lender.become("a", asked=2 * OF_REQUEST, lent=ALL)
+    begin = time.monotonic()
+    a.report(target=2 * OF_REQUEST)
+    a.lender.become("a", lent=ALL - OF_REQUEST)
+    a.deflates(OF_REQUEST)
+    a.deflated()
+    if time.monotonic() - begin >= LINGERS:
+        pytest.skip("the machine is too busy")
+    a.report(target=OF_REQUEST)
+    a.lender.become("a", asked=OF_REQUEST, lent=ALL - OF_REQUEST)
+    with Connection(f"{a.lender.folder}/.control") as it:
+        it.ask("budget", bytes=(ALL - OF_REQUEST) * PAGE)
+    a.deflates(OF_REQUEST)
+    a.lender.become("a", waits="deflate")
+    time.sleep(0.5)
+    assert not a.is_granted()
