@@ -33,10 +33,12 @@ struct notes {
     uint64_t heard, taken;      /* its counters when they were last looked at */
     uint32_t ballooned_then;
     bool taken_since, ready_then;
+    bool reads;                 /* its driver has read a target */
     uint32_t ballooned_before;  /* what was in the balloon at the last look */
     uint32_t ballooned_told;    /* what was in the balloon as it was last told of its target */
     struct kept_terms terms;
     bool has_terms;
+    uint32_t read_target;       /* the last one that its driver has read */
 };
 
 struct kept_state {

@@ -36,6 +36,8 @@ static bool empties(struct backend *backend)
 static bool answer(struct backend *backend, const struct message *message, const void *body, size_t size)
 {
     struct lent *lent = (struct lent *)backend;
+    if (message->request == GET_CONFIG)
+        lent_reads(lent);
     uint8_t bytes[MOST_MESSAGE];
     size_t length = message_answer_bytes(message, body, size, bytes);
     return length > 0 && outbox_send(&lent->kept->outbox, backend->socket, lent->messages + 1, bytes, length);
@@ -221,6 +223,7 @@ static bool begin(struct lent *lent, const struct options *options, struct kept 
         return false;
     lent->notes.channel = notes->channel;
     lent->look = loop_now() + LOOK_EVERY;
+    lent->reads_until = loop_now() + READS_IN;
     set_hooks(lent);
     if (kept->ended_by > 0)
         complain("its process has ended by signal %u: another one goes on", kept->ended_by);

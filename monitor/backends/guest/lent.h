@@ -12,6 +12,7 @@ struct lent {
     uint64_t messages, bytes;   /* of its client that were served */
     int64_t look;               /* when it looks after itself the next time, in milliseconds */
     int64_t report_at;          /* news aren't told before this */
+    int64_t reads_until;        /* until then its driver may still read its last target */
     uint64_t answers;           /* the order whose report waits for the guest's statistics, and until when; 0: none */
     int64_t answers_until;
     bool news;                  /* something has changed since the last report */
@@ -23,6 +24,9 @@ struct lent {
     enum lending_wait waits;
     int answered;               /* 1: they may be had; -1: they may not; 0: it waits */
 };
+
+/* Milliseconds in which a driver that reads targets has read a new one. */
+enum { READS_IN = 3000 };
 
 /* The status of a process that isn't the last one of its client. */
 enum { ENDS_ANEW = 75 };
@@ -48,6 +52,9 @@ void lent_take_lender(struct lent *lent);
 /* Waits until the lender has answered for pages that are wanted, and obeys it meanwhile; false where it refuses, or where the client
  * goes. */
 bool lent_await(struct lent *lent, enum lending_wait what, uint32_t pages);
+
+/* Its driver reads the configuration, with its target. */
+void lent_reads(struct lent *lent);
 
 /* Notes a deflate that is held. */
 void lent_holds(struct backend *backend, uint32_t pages);

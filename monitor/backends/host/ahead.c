@@ -2,9 +2,19 @@
  * a deflate gives no pages meanwhile, and the others may wait for just these. */
 #include "loans.h"
 
-/* Pages that a deflate of Linux's driver takes at most; milliseconds for which a driver may still obey an earlier target once its process has heard
- * the last one. */
+/* Pages that a deflate of Linux's driver takes at most; milliseconds for which a driver may still obey an earlier target once it has read the last
+ * one, or once its process has heard it, where a driver reads none. */
 enum { PAGES_OF_REQUEST = VB_MAX_BYTES / sizeof(uint32_t), LINGERS = 3000 };
+
+void loan_tell(struct seat *seat, uint32_t target)
+{
+    if (target == seat->told)
+        return;
+    seat->least_told = smaller(seat->least_told, target);
+    seat->told = target;
+    seat->regained = false;
+    loan_obeys(seat);
+}
 
 void loan_obeys(struct seat *seat)
 {
@@ -17,13 +27,19 @@ static bool obeys_earlier(const struct seat *seat)
     return loop_now() < seat->obeys_until;
 }
 
-/* Whether it isn't known yet that its process has heard its target; notes when it is. */
-static bool is_to_hear(struct seat *seat)
+/* Whether its driver is still to read its target. */
+static bool is_to_read(const struct seat *seat)
 {
-    bool hears = seat->obeys_until == INT64_MAX && seat->report.target == seat->told;
-    if (hears)
-        seat->obeys_until = loop_now() + LINGERS;
     return seat->obeys_until == INT64_MAX;
+}
+
+void loan_reads(struct seat *seat)
+{
+    if (seat->report.target != seat->told)
+        return;
+    seat->least_told = seat->told;
+    if (is_to_read(seat))
+        seat->obeys_until = loop_now() + LINGERS;
 }
 
 /* The pages of its balloon that are lent to it. */
@@ -42,7 +58,7 @@ static uint32_t beyond_target(const struct seat *seat)
 void loan_trim(struct seat *seat)
 {
     uint32_t beyond = beyond_target(seat), ahead = seat->regained ? 0 : beyond;
-    if (is_to_hear(seat))
+    if (is_to_read(seat))
         ahead = loan_of(seat)->ballooned;
     else if (obeys_earlier(seat))
         ahead = beyond < PAGES_OF_REQUEST ? PAGES_OF_REQUEST : beyond;
@@ -53,7 +69,7 @@ void loan_take_in(struct seat *seat, uint32_t pages)
 {
     VbLoan *loans = seat->host->loans;
     const VbLoan *loan = loan_of(seat);
-    uint32_t now = loan->ballooned + pages, beyond = now - smaller(now, seat->told);
+    uint32_t now = loan->ballooned + pages, beyond = now - smaller(now, seat->least_told);
     uint32_t kept = loan->asked == 0 && obeys_earlier(seat) ? smaller(pages, beyond) : 0;
     vb_loan_give(loans, MOST_PLACES, seat->place, pages - kept);
     vb_loan_keep(loans, MOST_PLACES, seat->place, kept);

@@ -157,6 +157,7 @@ void loan_follow(struct seat *seat)
         follow_report(seat);
     if (!seat->report.holds)
         return;
+    loan_reads(seat);
     if (seat->pages < loan->pages && seat->waits_for != WAITS_FOR_ROOM)
         shrink(seat, seat->pages, seat->report.ballooned);
     if (seat->pages > 0)

@@ -29,9 +29,14 @@ bool loans_wait(const struct host *host);
  * give any meanwhile. Returns how many it has, with those that are lent to it already: none where its driver isn't ready. */
 uint32_t loan_ahead(struct seat *seat, uint32_t pages);
 
-/* It is told another target, or takes pages by the one that it has: its driver may obey an earlier one, until a moment after its process has
- * heard the last one. */
+/* It is to be told this target. Its driver may obey an earlier one, until a moment after it has read this one. */
+void loan_tell(struct seat *seat, uint32_t target);
+
+/* It takes pages by a target: its driver may obey one that isn't the last, as above. */
 void loan_obeys(struct seat *seat);
+
+/* Notes whether its driver has read its target, by its last report. */
+void loan_reads(struct seat *seat);
 
 /* How many frames are left that nobody has, waits for, or was told to take out of its balloon. */
 uint64_t loans_room(const struct host *host);
@@ -52,11 +57,11 @@ static inline VbLoan *loan_of(const struct seat *seat)
 void loan_grant(struct seat *seat, enum guest_wait what);
 
 /* What it has asked for isn't waited for any longer; nothing is lent beyond its pages that aren't in its balloon, but for those that it is
- * told to take out of it. A driver that may still obey an earlier target takes those of one request of Linux's; any number, until its process
- * has heard the last one. */
+ * told to take out of it. A driver that may still obey an earlier target takes those of one request of Linux's; any number, until it has read
+ * the last one. */
 void loan_trim(struct seat *seat);
 
-/* Pages have joined its balloon. Those that its driver gave for an earlier target, and takes back at once, stay lent to it. */
+/* Pages have joined its balloon. Those that its driver gave for an earlier target, and takes back by a later one, stay lent to it. */
 void loan_take_in(struct seat *seat, uint32_t pages);
 
 /* What earlier lenders lent ahead to guests is lent to them again, as far as there is room. */

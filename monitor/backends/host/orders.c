@@ -41,23 +41,13 @@ static bool goes_by_steps(const struct seat *seat)
     return host->step > 0 && seat->target > seat->told && is_calm;
 }
 
-/* It is to be told this target. */
-static void set_told(struct seat *seat, uint32_t pages)
-{
-    if (pages == seat->told)
-        return;
-    seat->told = pages;
-    seat->regained = false;
-    loan_obeys(seat);
-}
-
 /* Tells it a target that falls, as far as it may fall now. One of a guest whose deflates wait falls only as far as there is room, which is
  * lent to it at once: else it would wait for pages that it doesn't need, and couldn't give any meanwhile. */
 static void lower(struct seat *seat)
 {
     uint32_t ballooned = loan_of(seat)->ballooned, from = seat->told > ballooned ? ballooned : seat->told;
     uint32_t falls = from > seat->target ? from - seat->target : 0;
-    set_told(seat, seat->target + (seat->report.holds ? falls - loan_ahead(seat, falls) : 0));
+    loan_tell(seat, seat->target + (seat->report.holds ? falls - loan_ahead(seat, falls) : 0));
 }
 
 /* Tells it as much of its target as it may hear now, whether it rises or falls. */
@@ -66,7 +56,7 @@ static void follow_target(struct seat *seat)
     if (seat->target < seat->told)
         lower(seat);
     else
-        set_told(seat, seat->target);
+        loan_tell(seat, seat->target);
 }
 
 void seat_set_target(struct seat *seat, uint32_t pages)
@@ -89,7 +79,7 @@ void seat_step(struct seat *seat, int64_t milliseconds)
     if (goes_by_steps(seat)) {
         uint64_t step = (uint64_t)seat->pages * (uint64_t)milliseconds / (UINT64_C(1000) * seat->host->step);
         step = step > 0 ? step : 1;
-        set_told(seat, seat->told + (step < left ? (uint32_t)step : left));
+        loan_tell(seat, seat->told + (step < left ? (uint32_t)step : left));
         tell_target(seat);
         return;
     }

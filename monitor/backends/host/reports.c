@@ -46,7 +46,7 @@ static void adopt(struct seat *seat)
 {
     const struct lending_message *report = &seat->report;
     seat->adopts = false;
-    seat->target = seat->told = report->target;
+    seat->target = seat->told = seat->least_told = report->target;
     seat->taken = report->counters.taken;
     if (report->has_terms)
         seat->terms = (struct guest_terms){.least = report->terms.least, .most = report->terms.most,

@@ -38,7 +38,7 @@ struct seat *seat_of(const struct host *host, const char *name)
 void seat_clear(struct seat *seat)
 {
     memset(&seat->report, 0, sizeof seat->report);
-    seat->pages = seat->free = seat->available = seat->ballooned_then = seat->target = seat->told = seat->silent = 0;
+    seat->pages = seat->free = seat->available = seat->ballooned_then = seat->target = seat->told = seat->least_told = seat->silent = 0;
     seat->known = seat->tells_available = seat->gone = seat->refused = seat->adopts = false;
     seat->heard = seat->taken = seat->number = seat->answered = seat->lost = 0;
     seat->heard_at = seat->paused_until = seat->asked_at = seat->waits_since = 0;

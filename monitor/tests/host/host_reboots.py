@@ -11,10 +11,9 @@ from linux_kit import demand
 
 # MiB for three guests of which two work; the lives of the third, of which there are half as many under emulation, and the MiB that it fills in
 # each; the most seconds of the work, which ends with those lives.
-BUDGET, LIVES, MOST_FILL, LONGEST_DAY = 480, 8, 90, 600
+BUDGET, LIVES, MOST_FILL, LONGEST_DAY = 560, 8, 90, 600
 
-# The budget of a pair, and the MiB of its floor: where the one that reboots wants all its memory at once, and the other one, which works, waits for
-# more than is left then, both would wait for good.
+# The budget of a pair, and the MiB of a floor.
 PAIR_BUDGET, FLOOR = 430, 12
 
 
@@ -40,10 +39,9 @@ class Lives(threading.Thread):
 
 
 def limit_of(town, budget):
-    """Returns the MiB that all may use together: of a pair what leaves the one that reboots all its memory."""
-    if len(town.members) > 2:
-        return budget - LEFT * len(town.members) - MOST_FILL
-    return budget - MEMORY - LEFT - FLOOR + town.used_mib(town.members[-1:])
+    """Returns the MiB that all may use together: what leaves the one that reboots all its memory, which it wants at once then. Where the others wait for
+    more than is left, all would wait for good."""
+    return budget - MEMORY - FLOOR - LEFT * (len(town.members) - 1) + town.used_mib(town.members[-1:])
 
 
 def reboots_run(bench):

@@ -43,6 +43,9 @@ LINKED = {
     "vhost_user_host": {"jansson": "libjansson-dev", "inih": "libinih-dev", "libsystemd": "libsystemd-dev"},
     "vhost_user_balloon": {"libseccomp": "libseccomp-dev"},
 }
+# What a lender has besides whose guests are simulated, and what of it they do.
+SIMULATED_PARTS = tuple(f"../tests/host/days/{it}" for it in ("driver", "process", "time", "town"))
+SIMULATED_WRAPPED = ("poll_some", "clock_gettime")
 AUDIT_PARTS = ("guest/audit", "../tests/mutants/wrong_device")
 FLAGS = ("-std=c11", "-O2", "-Wall", "-Wextra", "-Werror")
 
@@ -127,17 +130,18 @@ def build_shared(folder, core, flags=()):
     return path
 
 
-def build(folder, core, name="vhost_user_balloon", audited=False, wrong=False, flags=()):
+def build(folder, core, name="vhost_user_balloon", audited=False, wrong=False, simulated=False, flags=()):
     """Compiles a backend over this core into a folder, with more flags, and returns its path: one for tests that looks at the
     device, or one that is wrong on purpose, in its own way or in another program's (`wrong` is that one's name). A host's comes with
-    the program of its guests' processes."""
+    the program of its guests' processes, unless they are simulated."""
     program = os.path.join(folder, name)
-    if name == "vhost_user_host":
+    if name == "vhost_user_host" and not simulated:
         build(folder, core, wrong="lent" if wrong is True else wrong, flags=flags)
     which = name if wrong is True else wrong
-    names = (name, *CLIENT_PARTS[name], *(AUDIT_PARTS if audited else ()), *(WRONG_PARTS[which] if wrong else ()))
+    tested = (*(AUDIT_PARTS if audited else ()), *(SIMULATED_PARTS if simulated else ()), *(WRONG_PARTS[which] if wrong else ()))
+    names = (name, *CLIENT_PARTS[name], *tested)
     parts = [os.path.join(MONITOR, "backends", f"{it}.c") for it in names]
-    wrapped = (*(AUDIT_WRAPPED if audited else ()), *(WRONG_WRAPPED[which] if wrong else ()))
+    wrapped = (*(AUDIT_WRAPPED if audited else ()), *(SIMULATED_WRAPPED if simulated else ()), *(WRONG_WRAPPED[which] if wrong else ()))
     words = [need("cc", "gcc libc6-dev"), *FLAGS, *flags, "-I", SHIM, "-I", HEADERS, "-o", program, *parts, core, *linked(name)]
     words += [*(["-DBALLOON_AUDIT"] if audited else []), *(f"-Wl,--wrap={it}" for it in wrapped)]
     ran = subprocess.run(words, capture_output=True, text=True)

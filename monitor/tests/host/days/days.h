@@ -1,0 +1,111 @@
+/* Days of a strict host whose guests are simulated, in a time of its own. The lender is its program as it is: the linker puts these functions between
+ * it and the kernel's clock, and where it waits, what its guests do happens. Each guest has the process that a lender knows, a driver as
+ * Linux's, and work to do. Each of their steps takes a moment, at random a long one. Nothing else is random: a day of one number
+ * is always the same. */
+#ifndef DAYS_H
+#define DAYS_H
+#include "../../../backends/host/message.h"
+
+#include <stdbool.h>
+#include <stdint.h>
+
+/* Microseconds; pages of a request of Linux's. */
+enum { MILLISECOND = 1000, SECOND = 1000 * MILLISECOND, PAGES_OF_REQUEST = 256 };
+
+/* What somebody of a guest waits for. */
+struct wait {
+    bool waits;
+    int64_t since;
+};
+
+struct guest {
+    unsigned number;
+    uint32_t pages, used;       /* its memory, and what its kernel and its programs use of it */
+    /* Its process: what it reports, where it speaks to the lender, and what is on the queues of its device. */
+    struct lending_message report;
+    int listener, channel;
+    bool turns, news;           /* it is about to have a turn; it has something to report */
+    int64_t reports_at;
+    uint64_t answers;           /* the number of the question that is to be answered; 0: none */
+    int64_t answers_until;
+    uint32_t target;            /* the last one that it has heard; its driver may not have read it yet */
+    uint32_t reminded;          /* what was in the balloon at the last target or reminder */
+    uint32_t inflates, deflates;        /* pages of the requests that are on its queues */
+    struct wait held, reset;
+    /* Its driver: what it has in the balloon, and in the deflate that it waits for. */
+    uint32_t balloon, leaks;
+    bool locked;                /* a request is on its way, or about to be */
+    bool worker_waits, work_is_queued, out_of_memory;
+    uint32_t read_target;
+    /* Its work. */
+    bool reboots;               /* it reboots after each of its works */
+    uint32_t wants, filled;     /* pages that it still takes, and what it has filled */
+    uint64_t works;
+};
+
+/* ---- time.c */
+
+typedef void act(struct guest *guest);
+
+/* Since the day began. */
+extern int64_t now;
+
+/* Has something be done of a guest after a while, or after a moment as one of its steps takes; and nothing more of it. */
+void later(struct guest *guest, act *act, int64_t microseconds);
+void soon(struct guest *guest, act *act);
+void forget(const struct guest *guest);
+
+/* A number from `least` to `most`. */
+uint32_t chance(uint32_t least, uint32_t most);
+
+/* ---- process.c */
+
+/* Begins a process, of which the first report is made once the lender comes. */
+void process_begins(struct guest *guest, const char *folder);
+
+/* Takes a lender that comes, and has a turn where something is to be read. */
+void process_hears(struct guest *guest);
+
+/* Its driver reads its target. */
+void process_is_read(struct guest *guest);
+
+/* A request is on one of its queues. */
+void process_kicked(struct guest *guest);
+
+/* Its guest begins anew; calls driver_begins once what was in the balloon may be had. */
+void process_reset(struct guest *guest);
+
+/* ---- driver.c */
+
+/* The configuration has changed; a request of each queue is used. */
+void driver_is_told(struct guest *guest);
+void driver_inflated(struct guest *guest);
+void driver_deflated(struct guest *guest);
+
+/* It takes memory for its work, which then goes on with work_is_filled. */
+void driver_fills(struct guest *guest, uint32_t pages);
+
+/* A new life begins, whose balloon is empty. */
+void driver_begins(struct guest *guest);
+
+/* Pages that nobody has; those that may be had without more ado. */
+uint32_t driver_free(const struct guest *guest);
+uint32_t driver_spare(const struct guest *guest);
+
+/* ---- town.c */
+
+/* Its memory is filled; a new life has booted. */
+void work_is_filled(struct guest *guest);
+void work_begins(struct guest *guest);
+
+/* Demands that guests have no more than the budget, and that nobody waits for good. */
+void town_looks(void);
+
+/* The day ends, by a fault where words say so. */
+void town_ends(const char *fault, const struct guest *guest);
+
+/* All guests. */
+struct guest *town_guest(unsigned number);
+unsigned town_size(void);
+
+#endif

@@ -1,0 +1,77 @@
+"""Days of a strict host whose guests are simulated (days/): each of their steps takes a moment, at random a long one, in a time of their own, so
+that a day takes a second. The lender is the program as it is. At no step have guests more than the budget; and where what they want fits,
+nobody waits for good. DAYS in the environment is how many days of each kind there are."""
+
+import os
+import subprocess
+from typing import NamedTuple
+
+import pytest
+
+# How many days of each kind, and the seconds of each, of its time and of a real one at most.
+DAYS, SECONDS, LIMIT = int(os.environ.get("DAYS", "10")), 600, 60
+
+
+class Day(NamedTuple):
+    """Guests of 244 MiB, one of which may reboot after each of its works, and MiB for all; by how many MiB what they want passes what fits, and how
+    many times as long as usually their steps take."""
+
+    guests: int
+    budget: int
+    reboots: int = 0
+    beyond: int = 0
+    slow: int = 1
+
+
+# The last number is of works that are done on a day, at least.
+KINDS = {
+    "shift": (Day(4, 560), 700),
+    "two": (Day(2, 300), 300),
+    "many": (Day(6, 800), 1000),
+    "reboots": (Day(3, 480, reboots=1), 500),
+    "slow": (Day(4, 560, slow=30), 100),
+    "slow-reboots": (Day(3, 480, reboots=1, slow=30), 100),
+}
+
+
+def live(program, folder, number, day):
+    """Returns the status of a day, and its numbers by their names."""
+    numbers = {"DAY": number, "SECONDS": SECONDS, "FOLDER": folder, **{name.upper(): it for name, it in day._asdict().items()}}
+    words = [program, folder, "--budget", str(day.budget), "--strict", "--program", "/bin/true"]
+    ran = subprocess.run(
+        words, env=os.environ | {name: str(it) for name, it in numbers.items()}, stdin=subprocess.DEVNULL, capture_output=True, text=True, timeout=LIMIT,
+    )
+    return ran.returncode, ran.stdout.removeprefix("ready\n")
+
+
+def numbers_of(said):
+    """Returns the numbers of a day that has ended well."""
+    words = said.split()
+    return dict(zip(words[0::2], map(int, words[1::2])))
+
+
+@pytest.fixture(scope="session")
+def host(programs):
+    return programs("vhost_user_host", simulated=True, flags=())
+
+
+@pytest.mark.parametrize("kind", KINDS)
+def test_nobody_waits_for_good(host, kind, tmp_path_factory):
+    day, least = KINDS[kind]
+    for number in range(1, DAYS + 1):
+        status, said = live(host, str(tmp_path_factory.mktemp("d")), number, day)
+        assert status == 0, f"day {number}: {said}"
+        found = numbers_of(said)
+        assert found["works"] >= least and found["waited"] > 0, f"day {number}: {said}"
+
+
+def test_where_too_much_is_wanted_guests_wait_for_good(host, tmp_path_factory):
+    """Then all are out of memory, and nobody can give a page: that is seen."""
+    _, said = live(host, str(tmp_path_factory.mktemp("d")), 1, Day(3, 480, beyond=120))
+    assert said.startswith("fault: guest-") and "waits for a deflate" in said, said
+    assert said.count("out of memory") == 3, said
+
+
+def test_a_day_of_one_number_is_always_the_same(host, tmp_path_factory):
+    first, second, other = (live(host, str(tmp_path_factory.mktemp("d")), it, KINDS["reboots"][0]) for it in (1, 1, 2))
+    assert first == second != other
