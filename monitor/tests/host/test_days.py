@@ -50,6 +50,10 @@ def numbers_of(said):
     return dict(zip(words[0::2], map(int, words[1::2])))
 
 
+# Wrong hosts of tests/mutants/wrong_host.c, and what the first of the days says of each.
+WRONG = {"11": "waits for a deflate", "12": "waits for a deflate", "13": "have more than the budget"}
+
+
 @pytest.fixture(scope="session")
 def host(programs):
     return programs("vhost_user_host", simulated=True, flags=())
@@ -75,3 +79,12 @@ def test_where_too_much_is_wanted_guests_wait_for_good(host, tmp_path_factory):
 def test_a_day_of_one_number_is_always_the_same(host, tmp_path_factory):
     first, second, other = (live(host, str(tmp_path_factory.mktemp("d")), it, KINDS["reboots"][0]) for it in (1, 1, 2))
     assert first == second != other
+
+
+@pytest.mark.parametrize("number", [pytest.param(it, marks=pytest.mark.wrong(it)) for it in WRONG])
+def test_a_wrong_host_is_found(programs, number, tmp_path_factory, monkeypatch):
+    monkeypatch.setenv("HOST_WRONG", number)
+    host = programs("vhost_user_host", simulated=True, wrong=True, flags=())
+    status, said = live(host, str(tmp_path_factory.mktemp("d")), 1, KINDS["shift"][0])
+    print(f"wrong host {number}: {said.splitlines()[0]}")
+    assert status == 1 and WRONG[number] in said, said

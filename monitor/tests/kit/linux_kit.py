@@ -66,7 +66,7 @@ WRONG_WRAPPED = {
         "event_take_kick", "backend_start", "stream_fill", "file_number", "fsync", "vb_start_queue", "vb_begin", "hints_go_on",
     ),
     "vhost_user_host": (
-        "vb_guest_targets", "vb_guest_need", "vb_needs_guest_targets", "host_changed", "limits_follow", "limit_allows",
+        "vb_guest_targets", "vb_guest_need", "vb_needs_guest_targets", "host_changed", "limits_follow", "limit_allows", "loan_ahead", "loan_take_in", "vb_loan_grant",
         "fields_refusal", "client_new", "request_answer", "client_line_is_too_long", "client_is_served", "journal_begin", "events_look",
         "socket_listen", "word_read", "config_read", "config_stays", "process_took_reload", "notify_ready", "notify_lives", "notify_keep",
     ),

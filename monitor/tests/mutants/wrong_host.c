@@ -8,15 +8,18 @@
  *     7  doesn't decide anew when the floor changes
  *     9  lowers a guest's limit by its target, before its pages came
  *    10  grants a deflate before the guest's limit is raised
+ *    11  lends a guest nothing before it asks
+ *    12  has a guest wait for what it gave for an earlier target
+ *    13  grants as if there were a MiB more
  *
  * 5 and 8 are wrong in guests' processes (wrong_lent.c).
  */
-#include "../../backends/host/host.h"
+#include "../../backends/host/loans.h"
 
 #include <stdlib.h>
 #include <string.h>
 
-enum { EVENLY = 1, NEIGHBOURS, NO_FLOOR, COUNTS_DEAD, OLD_FLOOR = 7, LOWERS_EARLY = 9, GRANTS_EARLY };
+enum { EVENLY = 1, NEIGHBOURS, NO_FLOOR, COUNTS_DEAD, OLD_FLOOR = 7, LOWERS_EARLY = 9, GRANTS_EARLY, NONE_AHEAD, KEEPS_NONE, GRANTS_MORE };
 
 VbTargets __real_vb_guest_targets(const VbBudget *, const VbHostGuest *, size_t, VbShare *, size_t, VbNeed *, size_t, uint32_t *, size_t);
 VbTargets __wrap_vb_guest_targets(const VbBudget *, const VbHostGuest *, size_t, VbShare *, size_t, VbNeed *, size_t, uint32_t *, size_t);
@@ -32,6 +35,12 @@ void __real_limits_follow(struct host *);
 void __wrap_limits_follow(struct host *);
 bool __real_limit_allows(const struct seat *);
 bool __wrap_limit_allows(const struct seat *);
+uint32_t __real_loan_ahead(struct seat *, uint32_t);
+uint32_t __wrap_loan_ahead(struct seat *, uint32_t);
+void __real_loan_take_in(struct seat *, uint32_t);
+void __wrap_loan_take_in(struct seat *, uint32_t);
+VbGrant __real_vb_loan_grant(uint32_t, VbLoan *, size_t);
+VbGrant __wrap_vb_loan_grant(uint32_t, VbLoan *, size_t);
 
 static int wrong(void)
 {
@@ -125,4 +134,22 @@ void __wrap_limits_follow(struct host *host)
 bool __wrap_limit_allows(const struct seat *seat)
 {
     return wrong() == GRANTS_EARLY || __real_limit_allows(seat);
+}
+
+uint32_t __wrap_loan_ahead(struct seat *seat, uint32_t pages)
+{
+    return wrong() == NONE_AHEAD ? pages : __real_loan_ahead(seat, pages);
+}
+
+void __wrap_loan_take_in(struct seat *seat, uint32_t pages)
+{
+    if (wrong() == KEEPS_NONE)
+        vb_loan_give(seat->host->loans, MOST_PLACES, seat->place, pages);
+    else
+        __real_loan_take_in(seat, pages);
+}
+
+VbGrant __wrap_vb_loan_grant(uint32_t frames, VbLoan *loans, size_t count)
+{
+    return __real_vb_loan_grant(frames + (wrong() == GRANTS_MORE ? PAGES_PER_MIB : 0), loans, count);
 }
