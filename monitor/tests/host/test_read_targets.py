@@ -1,18 +1,20 @@
-"""Targets that change before a guest's driver obeys them, on a strict host. A test plays the guests' processes, which say when they have heard
-a target. Each guest is silent: it can spare what is in its balloon, and no more."""
+"""Targets that change before a guest's driver obeys them, on a strict host. A test plays the guests' processes, which say which target a driver has
+read. Each of these guests is silent: it can spare what is in its balloon, and no more."""
 
+import struct
 import time
 
 import pytest
 from bigvasta.connection import Connection
 from played import WAIT_ROOM, Played
-from test_strict import STRICT, lent
-from vhost_client import PAGE
+from tenants import FREE
+from test_strict import GIVEN, STRICT, lent
+from vhost_client import GET_CONFIG, PAGE
 
 # Frames of the host, which the first guest has at the beginning; pages of a request of Linux's; and those for which the second one waits.
 ALL, OF_REQUEST, WANTED = 4096, 256, 3000
 
-# Seconds for which a driver may obey an earlier target, once its process has heard the last one; and more than these.
+# Seconds for which a driver may obey an earlier target, once it has read the last one, and in which it reads that; and more than these.
 LINGERS, LATER = 3, 3.5
 
 
@@ -32,8 +34,8 @@ def play(lend):
         it.leave()
 
 
-def test_a_driver_takes_back_what_it_gave_before_its_process_heard_a_target(play):
-    """A driver at full speed inflates ten times before it hears that it is to give less. As it gives, it can spare more: so its target rises again, and
+def test_a_driver_takes_back_what_it_gave_before_it_read_a_target(play):
+    """A driver at full speed inflates ten times before it reads that it is to give less. As it gives, it can spare more: so its target rises again, and
     it obeys one between. It waits for none of the pages that it takes back by that."""
     a = play(target=ALL)
     a.lender.become("a", asked=0)
@@ -45,12 +47,12 @@ def test_a_driver_takes_back_what_it_gave_before_its_process_heard_a_target(play
         a.deflates(OF_REQUEST)
         a.deflated()
     a.lender.become("a", asked=OF_REQUEST, ballooned=OF_REQUEST, lent=ALL, waits="nothing")
-    # It has heard its last target: what it leaves in its balloon isn't lent to it any longer.
+    # It has read its last target: what it leaves in its balloon isn't lent to it any longer.
     a.lender.become("a", lent=ALL - OF_REQUEST)
     assert lent(a.lender) == ALL - OF_REQUEST and a.lender.guests()["b"]["waits"] == "room"
 
 
-def test_a_driver_has_a_moment_once_its_process_has_heard_a_target(play):
+def test_a_driver_has_a_moment_once_it_has_read_a_target(play):
     """Its target rises while it takes pages by the one before. One request of Linux's may be on its way then."""
     a = play(ballooned=3 * OF_REQUEST)
     a.lender.become("a", asked=3 * OF_REQUEST, lent=ALL)
@@ -73,3 +75,29 @@ def test_a_driver_has_a_moment_once_its_process_has_heard_a_target(play):
     a.lender.become("a", waits="deflate")
     time.sleep(0.5)
     assert not a.is_granted()
+
+
+@pytest.mark.parametrize("reads", (True, False), ids=("reads", "doesn't"))
+def test_a_process_tells_what_its_driver_has_read(lend, come, reads):
+    """What was lent ahead stays lent until the driver of a guest that reads targets has read the one that rose, or hasn't for a while; and a moment
+    more."""
+    lender = lend(1, *STRICT)
+    a, _ = (come(lender, it, {FREE: 100}) for it in "ab")
+    read = lambda: a.client.send(GET_CONFIG, struct.pack("<III", 0, 8, 0) + bytes(8))
+    lender.demand("budget 0")
+    lender.become("a", asked=100)
+    a.give(GIVEN[:100])
+    lender.become("a", ballooned=100, lent=28)
+    read(), lender.demand("budget 1")
+    lender.become("a", asked=0, lent=128)
+    time.sleep(LATER + LINGERS)
+    begin = time.monotonic()
+    lender.demand("budget 0")
+    lender.become("a", asked=128)
+    if reads:
+        read()
+    lender.become("a", lent=28)
+    seconds = time.monotonic() - begin
+    assert seconds >= LINGERS - 0.5 if reads else seconds >= 2 * LINGERS - 0.5
+    if seconds >= (2 * LINGERS - 1 if reads else 3 * LINGERS):
+        pytest.skip("the machine is too busy")
