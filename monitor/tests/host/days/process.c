@@ -53,6 +53,7 @@ static void tell_figures(struct guest *guest)
     report->counters.statistics++;
     report->ballooned_then = report->ballooned;
     report->taken_since = false;
+    guest->answers_until = now;
     guest->news = true;
     has_turn(guest);
 }
@@ -166,8 +167,7 @@ static void turn(struct guest *guest)
     while (guest->channel >= 0 && lending_read(guest->channel, &order) > 0)
         obey(guest, &order);
     serve(guest);
-    bool told = guest->report.ballooned_then == guest->report.ballooned && guest->news;
-    if (guest->answers != 0 && (told || now >= guest->answers_until)) {
+    if (guest->answers != 0 && now >= guest->answers_until) {
         uint64_t number = guest->answers;
         guest->answers = 0;
         send_report(guest, number);
