@@ -34,7 +34,7 @@ void lent_speaks(struct lent *lent)
     say_through = say_to_lender;
 }
 
-/* The target that its driver obeys, as far as can be seen: the one that it has read last. A driver that reads none obeys what there is. */
+/* The target that its driver obeys: the one that it has read last, or the last one, where it reads none, or hasn't for a while. */
 static uint32_t obeyed_target(const struct lent *lent)
 {
     bool reads = lent->notes.reads && loop_now() < lent->reads_until;
@@ -58,8 +58,8 @@ void lent_report(struct lent *lent, uint64_t number, bool asked)
         .kind = TELL_REPORT, .number = number, .serial = ++lent->notes.serial, .held_kib = memory_held(&backend->memory),
         .end = device->settings.memory_end / BALLOON_PAGE, .lost = lent->notes.lost, .pages = lent->notes.pages, .wanted = lent->wanted, .wait = lent->notes.wait,
         .holds = backend->options->holds, .held_pages = lent->notes.held_pages, .held_wait = lent->notes.held_wait,
-        .waits = lent->waits, .target = obeyed_target(lent), .actual = device->actual, .ballooned = backend->ballooned,
-        .status = device->status, .ready = backend_is_ready(backend), .asked = asked, .ballooned_then = lent->notes.ballooned_then,
+        .waits = lent->waits, .target = device->target, .actual = device->actual, .ballooned = backend->ballooned,
+        .status = device->status, .ready = backend_is_ready(backend), .obeyed = lent->notes.reads ? obeyed_target(lent) + 1 : 0, .asked = asked, .ballooned_then = lent->notes.ballooned_then,
         .taken_since = lent->notes.taken_since, .has_terms = lent->notes.has_terms, .terms = lent->notes.terms, .counters = backend->counters,
         .figure_count = backend->figure_count};
     memcpy(message.figures, backend->figures, sizeof message.figures);
@@ -119,14 +119,12 @@ static int ask(struct lent *lent)
     return backend_finish(backend, VB_STATISTICS, &result) ? 1 : -1;
 }
 
-/* One that is said again isn't told again: the driver may just not have read it yet. */
 static void set_target(struct lent *lent, uint32_t pages)
 {
     struct backend *backend = &lent->backend;
-    if (pages == backend->balloon.state.device.target)
-        return;
     lent->notes.read_target = obeyed_target(lent);
-    lent->reads_until = loop_now() + READS_IN;
+    if (pages != backend->balloon.state.device.target)
+        lent->reads_until = loop_now() + READS_IN;
     balloon_set_target(&backend->balloon, pages);
     lent->notes.ballooned_told = backend->ballooned;
     backend_tell_change(backend);

@@ -2,8 +2,8 @@
  * a deflate gives no pages meanwhile, and the others may wait for just these. */
 #include "loans.h"
 
-/* Pages that a deflate of Linux's driver takes at most; milliseconds for which a driver may still obey an earlier target once it has read the last
- * one, or once its process has heard it, where a driver reads none. */
+/* Pages that a deflate of Linux's driver takes at most; milliseconds for which a driver that reads no target may still obey an earlier one, once its
+ * process has heard the last one. */
 enum { PAGES_OF_REQUEST = VB_MAX_BYTES / sizeof(uint32_t), LINGERS = 3000 };
 
 void loan_tell(struct seat *seat, uint32_t target)
@@ -33,13 +33,20 @@ static bool is_to_read(const struct seat *seat)
     return seat->obeys_until == INT64_MAX;
 }
 
+/* Whether its driver reads targets, so that it is known which one it obeys. */
+static bool reads_targets(const struct seat *seat)
+{
+    return seat->report.obeyed > 0;
+}
+
 void loan_reads(struct seat *seat)
 {
-    if (seat->report.target != seat->told)
+    const struct lending_message *report = &seat->report;
+    if (report->target != seat->told || (reads_targets(seat) && report->obeyed - 1 != seat->told))
         return;
     seat->least_told = seat->told;
     if (is_to_read(seat))
-        seat->obeys_until = loop_now() + LINGERS;
+        seat->obeys_until = loop_now() + (reads_targets(seat) ? 0 : LINGERS);
 }
 
 /* The pages of its balloon that are lent to it. */
@@ -57,7 +64,7 @@ static uint32_t beyond_target(const struct seat *seat)
 
 void loan_trim(struct seat *seat)
 {
-    uint32_t beyond = beyond_target(seat), ahead = seat->regained ? 0 : beyond;
+    uint32_t beyond = beyond_target(seat), ahead = seat->regained && !reads_targets(seat) ? 0 : beyond;
     if (is_to_read(seat))
         ahead = loan_of(seat)->ballooned;
     else if (obeys_earlier(seat))
@@ -70,20 +77,21 @@ void loan_take_in(struct seat *seat, uint32_t pages)
     VbLoan *loans = seat->host->loans;
     const VbLoan *loan = loan_of(seat);
     uint32_t now = loan->ballooned + pages, beyond = now - smaller(now, seat->least_told);
-    uint32_t kept = loan->asked == 0 && obeys_earlier(seat) ? smaller(pages, beyond) : 0;
+    bool takes_back = loan->asked == 0 && (reads_targets(seat) || obeys_earlier(seat));
+    uint32_t kept = takes_back ? smaller(pages, beyond) : 0;
     vb_loan_give(loans, MOST_PLACES, seat->place, pages - kept);
     vb_loan_keep(loans, MOST_PLACES, seat->place, kept);
 }
 
-/* Lends a guest again, as far as there is room, what an earlier lender may have lent it ahead: its driver is told to take it, and may be in that
- * deflate by now, which is granted then where nothing more is missing. With this its loan is as that lender had it: it is written by hand. What
- * its driver doesn't take soon wasn't lent. */
+/* Lends a guest again, as far as there is room, what an earlier lender may have lent it ahead: its driver was told to take it, and may be in that
+ * deflate by now, which is granted then where nothing more is missing. With this its loan is as that lender had it: it is written by hand. What a
+ * driver that reads no target doesn't take soon wasn't lent. */
 static void regain(struct seat *seat)
 {
     const struct host *host = seat->host;
     VbLoan *loan = loan_of(seat);
     uint64_t owed = vb_loan_owed(host->loans, MOST_PLACES), room = owed < host->frames ? host->frames - owed : 0;
-    uint32_t beyond = beyond_target(seat);
+    uint32_t beyond = loan->ballooned - smaller(loan->ballooned, seat->least_told);
     uint32_t regained = room < beyond ? (uint32_t)room : beyond;
     bool deflates = seat->asked_for == WAITS_FOR_DEFLATE && loan->asked > 0;
     if (loan->uncounted || (loan->asked > 0 && !deflates))

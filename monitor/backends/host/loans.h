@@ -29,7 +29,7 @@ bool loans_wait(const struct host *host);
  * give any meanwhile. Returns how many it has, with those that are lent to it already: none where its driver isn't ready. */
 uint32_t loan_ahead(struct seat *seat, uint32_t pages);
 
-/* It is to be told this target. Its driver may obey an earlier one, until a moment after it has read this one. */
+/* It is to be told this target. Its driver may obey an earlier one, until it has read this one; one that reads none, for a moment. */
 void loan_tell(struct seat *seat, uint32_t target);
 
 /* It takes pages by a target: its driver may obey one that isn't the last, as above. */
@@ -57,8 +57,8 @@ static inline VbLoan *loan_of(const struct seat *seat)
 void loan_grant(struct seat *seat, enum guest_wait what);
 
 /* What it has asked for isn't waited for any longer; nothing is lent beyond its pages that aren't in its balloon, but for those that it is
- * told to take out of it. A driver that may still obey an earlier target takes those of one request of Linux's; any number, until it has read
- * the last one. */
+ * told to take out of it, and for those of one request of Linux's where a driver that reads no target may still obey an earlier one; nothing is
+ * taken of what is lent until a driver has read its target. */
 void loan_trim(struct seat *seat);
 
 /* Pages have joined its balloon. Those that its driver gave for an earlier target, and takes back by a later one, stay lent to it. */

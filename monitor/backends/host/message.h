@@ -49,9 +49,12 @@ struct lending_message {
     uint32_t held_pages;        /* pages of the deflate that is held; 0: none is */
     uint32_t held_wait;         /* how many were held: the grant has the same number */
     uint32_t waits;             /* enum lending_wait */
-    uint32_t target;            /* of an order: the pages that the host wants; of a report: the last ones that the driver has read, if it reads them */
-    uint32_t actual, ballooned, status, ready;
-    uint32_t asks, asked;       /* whether to ask for statistics; whether the guest could be asked */
+    uint32_t target, actual, ballooned, status, ready;
+    union {
+        uint32_t asks;          /* of an order: whether to ask for statistics */
+        uint32_t obeyed;        /* of a report: 1 more than the target that the driver has read last; 0: it reads none */
+    };
+    uint32_t asked;             /* whether the guest could be asked */
     uint32_t ballooned_then;    /* what was in the balloon at its last statistics, or when it took pages itself after them */
     uint32_t taken_since;       /* it has taken pages itself after its last statistics */
     uint32_t has_terms;         /* unless 0, `terms` are those of a lender */

@@ -14,7 +14,7 @@ PAGES_PER_KIB = 4
 VERSION, ORDER_LOOK, ORDER_TARGET, ORDER_GRANT, TELL_REPORT, WAIT_ROOM = 1, 1, 3, 7, 9, 1
 COUNTERS, FIGURES, WORDS = 19, 16, 256
 NUMBERS = (
-    "pages", "wanted", "wait", "holds", "held_pages", "held_wait", "waits", "target", "actual", "ballooned", "status", "ready", "asks", "asked",
+    "pages", "wanted", "wait", "holds", "held_pages", "held_wait", "waits", "target", "actual", "ballooned", "status", "ready", "obeyed", "asked",
     "ballooned_then", "taken_since", "has_terms", "figure_count", "least", "most", "priority", "strict",
 )
 
@@ -35,12 +35,14 @@ class Message(ctypes.Structure):
 
 
 class Played(threading.Thread):
-    """The process of a strict guest, which an earlier lender might have started; these numbers are in its first report."""
+    """The process of a strict guest, which an earlier lender might have started; these numbers are in its first report. Its reports have a target once
+    it has heard that, where `hears` says so."""
 
-    def __init__(self, lender, name, **its):
+    def __init__(self, lender, name, hears=False, **its):
         super().__init__(daemon=True)
+        self.hears = hears
         self.lender, self.name_of, self.its = lender, name, {"holds": 1, "ready": 1, **its}
-        self.target, self.granted, self.lock = None, 0, threading.Lock()
+        self.granted, self.lock = 0, threading.Lock()
         with socket.socket(socket.AF_UNIX, socket.SOCK_SEQPACKET) as listener:
             listener.bind(f"{lender.folder}/+{name}")
             self.listens(listener)
@@ -77,8 +79,8 @@ class Played(threading.Thread):
                 order = Message.from_buffer_copy(got)
                 if order.kind == ORDER_LOOK:
                     self.report(order.number)
-                if order.kind == ORDER_TARGET:
-                    self.target = order.target
+                if order.kind == ORDER_TARGET and self.hears:
+                    self.report(target=order.target)
                 if order.kind == ORDER_GRANT:
                     self.granted = order.wait
         except OSError:

@@ -13,14 +13,15 @@ DAYS, SECONDS, LIMIT = int(os.environ.get("DAYS", "10")), 600, 60
 
 
 class Day(NamedTuple):
-    """Guests of 244 MiB, one of which may reboot after each of its works, and MiB for all; by how many MiB what they want passes what fits, and how
-    many times as long as usually their steps take."""
+    """Guests of 244 MiB, one of which may reboot after each of its works, and MiB for all; by how many MiB what they want passes what fits, how many
+    times as long as usually their steps take, and whether the lender is killed every 10 seconds at most."""
 
     guests: int
     budget: int
     reboots: int = 0
     beyond: int = 0
     slow: int = 1
+    killed: int = 0
 
 
 # The last number is of works that are done on a day, at least.
@@ -31,6 +32,8 @@ KINDS = {
     "reboots": (Day(3, 480, reboots=1), 500),
     "slow": (Day(4, 560, slow=30), 100),
     "slow-reboots": (Day(3, 480, reboots=1, slow=30), 100),
+    "killed": (Day(4, 560, killed=1), 300),
+    "killed-reboots": (Day(3, 480, reboots=1, killed=1), 100),
 }
 
 
@@ -41,7 +44,7 @@ def live(program, folder, number, day):
     ran = subprocess.run(
         words, env=os.environ | {name: str(it) for name, it in numbers.items()}, stdin=subprocess.DEVNULL, capture_output=True, text=True, timeout=LIMIT,
     )
-    return ran.returncode, ran.stdout.removeprefix("ready\n")
+    return ran.returncode, ran.stdout.replace("ready\n", "")
 
 
 def numbers_of(said):

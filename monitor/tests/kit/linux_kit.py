@@ -43,7 +43,7 @@ LINKED = {
     "vhost_user_host": {"jansson": "libjansson-dev", "inih": "libinih-dev", "libsystemd": "libsystemd-dev"},
     "vhost_user_balloon": {"libseccomp": "libseccomp-dev"},
 }
-# What a lender has besides whose guests are simulated, and what of it they do.
+# What a lender has besides whose guests are simulated, and what of it they do. Its functions are at the same places in each of its processes.
 SIMULATED_PARTS = tuple(f"../tests/host/days/{it}" for it in ("driver", "process", "time", "town"))
 SIMULATED_WRAPPED = ("poll_some", "clock_gettime")
 AUDIT_PARTS = ("guest/audit", "../tests/mutants/wrong_device")
@@ -143,7 +143,7 @@ def build(folder, core, name="vhost_user_balloon", audited=False, wrong=False, s
     parts = [os.path.join(MONITOR, "backends", f"{it}.c") for it in names]
     wrapped = (*(AUDIT_WRAPPED if audited else ()), *(SIMULATED_WRAPPED if simulated else ()), *(WRONG_WRAPPED[which] if wrong else ()))
     words = [need("cc", "gcc libc6-dev"), *FLAGS, *flags, "-I", SHIM, "-I", HEADERS, "-o", program, *parts, core, *linked(name)]
-    words += [*(["-DBALLOON_AUDIT"] if audited else []), *(f"-Wl,--wrap={it}" for it in wrapped)]
+    words += [*(["-DBALLOON_AUDIT"] if audited else []), *(["-no-pie"] if simulated else []), *(f"-Wl,--wrap={it}" for it in wrapped)]
     ran = subprocess.run(words, capture_output=True, text=True)
     if ran.returncode != 0:
         raise Fault(f"{core} and monitor/backends don't build:\n{ran.stderr.strip()}")

@@ -1,7 +1,7 @@
 /* Days of a strict host whose guests are simulated, in a time of its own. The lender is its program as it is: the linker puts these functions between
  * it and the kernel's clock, and where it waits, what its guests do happens. Each guest has the process that a lender knows, a driver as
  * Linux's, and work to do. Each of their steps takes a moment, at random a long one. Nothing else is random: a day of one number
- * is always the same. */
+ * is always the same. A lender may end at any time: then the program begins anew, and all that is simulated is in memory that outlives it. */
 #ifndef DAYS_H
 #define DAYS_H
 #include "../../../backends/host/message.h"
@@ -28,7 +28,7 @@ struct guest {
     int64_t reports_at;
     uint64_t answers;           /* the number of the question that is to be answered; 0: none */
     int64_t answers_until;
-    uint32_t target;            /* the last one that it has heard; its driver may not have read it yet */
+    uint32_t target, read_target;       /* the last one that it has heard, and that its driver has read */
     uint32_t reminded;          /* what was in the balloon at the last target or reminder */
     uint32_t inflates, deflates;        /* pages of the requests that are on its queues */
     struct wait held, reset;
@@ -36,19 +36,45 @@ struct guest {
     uint32_t balloon, leaks;
     bool locked;                /* a request is on its way, or about to be */
     bool worker_waits, work_is_queued, out_of_memory;
-    uint32_t read_target;
     /* Its work. */
     bool reboots;               /* it reboots after each of its works */
     uint32_t wants, filled;     /* pages that it still takes, and what it has filled */
     uint64_t works;
 };
 
-/* ---- time.c */
-
 typedef void act(struct guest *guest);
 
-/* Since the day began. */
-extern int64_t now;
+/* What is to happen. */
+struct step {
+    int64_t at;
+    struct guest *guest;
+    act *act;
+};
+
+enum { MOST_GUESTS_OF_DAY = 16, MOST_STEPS = 1024 };
+
+/* All that outlives a lender. */
+struct day {
+    int64_t now;                /* since it began */
+    int64_t lender_ends;        /* when the lender ends, and until when there is none then */
+    int64_t lender_begins;
+    uint64_t random;
+    struct guest guests[MOST_GUESTS_OF_DAY];
+    unsigned size;
+    struct step steps[MOST_STEPS];
+    unsigned count;
+    uint32_t budget, left;      /* pages; left: that nobody uses, and somebody may */
+    int64_t seen[MOST_GUESTS_OF_DAY];   /* when each guest was last looked at */
+    int64_t waited, longest;
+    uint64_t lenders;           /* that have ended */
+};
+
+extern struct day *day;
+
+/* ---- time.c */
+
+/* Begins a day of this number, or goes on with the one of the lender before; whether it begins. A lender has these words. */
+bool day_begins(uint64_t number, char **words);
 
 /* Has something be done of a guest after a while, or after a moment as one of its steps takes; and nothing more of it. */
 void later(struct guest *guest, act *act, int64_t microseconds);
@@ -60,8 +86,9 @@ uint32_t chance(uint32_t least, uint32_t most);
 
 /* ---- process.c */
 
-/* Begins a process, of which the first report is made once the lender comes. */
+/* A process begins, and reports once a lender comes; a lender has ended. */
 void process_begins(struct guest *guest, const char *folder);
+void process_is_alone(struct guest *guest);
 
 /* Takes a lender that comes, and has a turn where something is to be read. */
 void process_hears(struct guest *guest);
@@ -104,8 +131,7 @@ void town_looks(void);
 /* The day ends, by a fault where words say so. */
 void town_ends(const char *fault, const struct guest *guest);
 
-/* All guests. */
-struct guest *town_guest(unsigned number);
-unsigned town_size(void);
+/* What the environment says of a day. */
+unsigned town_number(const char *name);
 
 #endif

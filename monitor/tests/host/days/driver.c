@@ -78,7 +78,6 @@ static void work(struct guest *guest)
         return;
     }
     guest->locked = true;
-    guest->read_target = guest->target;
     process_is_read(guest);
     soon(guest, request);
 }

@@ -8,6 +8,7 @@
 #include <string.h>
 #include <sys/socket.h>
 #include <sys/un.h>
+#include <unistd.h>
 
 /* Microseconds between two reports that nobody asked for; and in which a guest answers a question before the process does. */
 enum { NEWS_EVERY = 10 * MILLISECOND, ANSWERS_IN = 100 * MILLISECOND };
@@ -26,7 +27,7 @@ static void has_turn(struct guest *guest)
 
 static void begin_wait(struct wait *wait)
 {
-    *wait = (struct wait){true, now};
+    *wait = (struct wait){true, day->now};
 }
 
 static void send_report(struct guest *guest, uint64_t number)
@@ -36,11 +37,13 @@ static void send_report(struct guest *guest, uint64_t number)
     report->number = number;
     report->serial++;
     report->pages = guest->pages;
+    report->target = guest->target;
+    report->obeyed = guest->read_target + 1;
     report->held_kib = (uint64_t)(guest->pages - report->ballooned) * PAGE_KIB;
     lending_send(guest->channel, report);
     guest->news = false;
     if (number == 0)
-        guest->reports_at = now + NEWS_EVERY;
+        guest->reports_at = day->now + NEWS_EVERY;
 }
 
 /* The guest has told its figures. */
@@ -53,15 +56,13 @@ static void tell_figures(struct guest *guest)
     report->counters.statistics++;
     report->ballooned_then = report->ballooned;
     report->taken_since = false;
-    guest->answers_until = now;
+    guest->answers_until = day->now;
     guest->news = true;
     has_turn(guest);
 }
 
 static void set_target(struct guest *guest, uint32_t pages)
 {
-    if (pages == guest->target)
-        return;
     guest->target = pages;
     guest->reminded = guest->report.ballooned;
     driver_is_told(guest);
@@ -84,7 +85,7 @@ static void look(struct guest *guest, const struct lending_message *order)
     if (guest->answers != 0)
         send_report(guest, guest->answers);
     guest->answers = order->number;
-    guest->answers_until = now + ANSWERS_IN;
+    guest->answers_until = day->now + ANSWERS_IN;
     soon(guest, tell_figures);
     later(guest, turn, ANSWERS_IN);
 }
@@ -167,25 +168,25 @@ static void turn(struct guest *guest)
     while (guest->channel >= 0 && lending_read(guest->channel, &order) > 0)
         obey(guest, &order);
     serve(guest);
-    if (guest->answers != 0 && now >= guest->answers_until) {
+    if (guest->answers != 0 && day->now >= guest->answers_until) {
         uint64_t number = guest->answers;
         guest->answers = 0;
         send_report(guest, number);
     }
     if (!guest->news)
         return;
-    if (now >= guest->reports_at)
+    if (day->now >= guest->reports_at)
         send_report(guest, 0);
     else if (!guest->turns) {
         guest->turns = true;
-        later(guest, turn, guest->reports_at - now);
+        later(guest, turn, guest->reports_at - day->now);
     }
 }
 
 void process_is_read(struct guest *guest)
 {
-    guest->news |= guest->report.target != guest->target;
-    guest->report.target = guest->target;
+    guest->news |= guest->read_target != guest->target;
+    guest->read_target = guest->target;
     has_turn(guest);
 }
 
@@ -198,8 +199,9 @@ void process_hears(struct guest *guest)
 {
     char byte;
     if (guest->channel < 0) {
-        guest->channel = accept4(guest->listener, NULL, NULL, SOCK_CLOEXEC | SOCK_NONBLOCK);
+        guest->channel = accept4(guest->listener, NULL, NULL, SOCK_NONBLOCK);
         guest->news |= guest->channel >= 0;
+        guest->answers = 0;
     }
     if (guest->channel >= 0 && (guest->news || recv(guest->channel, &byte, 1, MSG_PEEK | MSG_DONTWAIT) > 0))
         has_turn(guest);
@@ -225,14 +227,21 @@ void process_reset(struct guest *guest)
     has_turn(guest);
 }
 
+void process_is_alone(struct guest *guest)
+{
+    if (guest->channel >= 0)
+        close(guest->channel);
+    guest->channel = -1;
+}
+
 void process_begins(struct guest *guest, const char *folder)
 {
     struct sockaddr_un address = {.sun_family = AF_UNIX};
     snprintf(address.sun_path, sizeof address.sun_path, "%s/+guest-%u", folder, guest->number + 1);
     guest->channel = -1;
-    guest->listener = socket(AF_UNIX, SOCK_SEQPACKET | SOCK_CLOEXEC | SOCK_NONBLOCK, 0);
+    guest->listener = socket(AF_UNIX, SOCK_SEQPACKET | SOCK_NONBLOCK, 0);
     if (bind(guest->listener, (struct sockaddr *)&address, sizeof address) || listen(guest->listener, 1))
         town_ends("no socket for a guest", guest);
-    guest->target = guest->balloon;
-    guest->report = (struct lending_message){.holds = true, .ready = true, .ballooned = guest->balloon, .target = guest->balloon};
+    guest->target = guest->read_target = guest->balloon;
+    guest->report = (struct lending_message){.holds = true, .ready = true, .ballooned = guest->balloon};
 }

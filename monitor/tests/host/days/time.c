@@ -1,36 +1,53 @@
 /* The time of a day: what is to happen, in order, and the clock that the lender reads. */
+#define _GNU_SOURCE
 #include "days.h"
 
 #include "../../../backends/guest/process.h"
 
+#include <stdio.h>
 #include <stdlib.h>
+#include <sys/mman.h>
 #include <time.h>
+#include <unistd.h>
 
-enum { MOST_STEPS = 1024 };
+/* When the clock begins, in seconds: no moment is 0. The longest that a step takes. */
+enum { BEGIN = 1000, LONGEST = 5 * SECOND / 2 };
 
-/* The longest that a step takes. */
-enum { LONGEST = 5 * SECOND / 2 };
+/* Where the memory of a day is in each of its programs, and the number of its file, below those that a lender takes. */
+#define DAY_AT ((void *)0x600000000000)
+enum { DAY_FILE = 3 };
 
-/* When the clock begins, in seconds: no moment is 0. */
-enum { BEGIN = 1000 };
+struct day *day = DAY_AT;
+static char **lender_words;
 
-struct step {
-    int64_t at;
-    struct guest *guest;
-    act *act;
-};
+static void map_day(void)
+{
+    if (mmap(DAY_AT, sizeof *day, PROT_READ | PROT_WRITE, MAP_SHARED | MAP_FIXED_NOREPLACE, DAY_FILE, 0) == MAP_FAILED) {
+        perror("the memory of a day");
+        abort();
+    }
+}
 
-int64_t now;
-static struct step steps[MOST_STEPS];
-static unsigned count;
+bool day_begins(uint64_t number, char **words)
+{
+    bool goes_on = getenv("GOES_ON");
+    lender_words = words;
+    if (!goes_on) {
+        int file = memfd_create("day", 0);
+        if (file < 0 || ftruncate(file, sizeof *day) || dup2(file, DAY_FILE) != DAY_FILE)
+            abort();
+    }
+    map_day();
+    if (goes_on)
+        return false;
+    day->random = number * 2 + 1;
+    return true;
+}
 
 uint32_t chance(uint32_t least, uint32_t most)
 {
-    static uint64_t state;
-    if (state == 0)
-        state = strtoull(getenv("DAY"), NULL, 10) * 2 + 1;
-    state = state * UINT64_C(6364136223846793005) + UINT64_C(1442695040888963407);
-    return least + (uint32_t)((state >> 33) % (most - least + 1));
+    day->random = day->random * UINT64_C(6364136223846793005) + UINT64_C(1442695040888963407);
+    return least + (uint32_t)((day->random >> 33) % (most - least + 1));
 }
 
 /* What a step takes: of a thousand some take long, as a machine may have other work. */
@@ -44,57 +61,77 @@ static int64_t moment(void)
     return which < 1000 ? chance(10 * MILLISECOND, 200 * MILLISECOND) : chance(SECOND / 5, LONGEST);
 }
 
-/* How many times as long it takes, on this day. */
-static int64_t slow(void)
-{
-    static int64_t times;
-    if (times == 0)
-        times = (int64_t)strtoull(getenv("SLOW"), NULL, 10);
-    return times;
-}
-
 void later(struct guest *guest, act *act, int64_t microseconds)
 {
-    if (count == MOST_STEPS)
+    if (day->count == MOST_STEPS)
         town_ends("too much is to happen", guest);
-    steps[count++] = (struct step){now + microseconds, guest, act};
+    day->steps[day->count++] = (struct step){day->now + microseconds, guest, act};
 }
 
 void soon(struct guest *guest, act *act)
 {
-    int64_t takes = moment() * slow();
+    int64_t takes = moment() * town_number("SLOW");
     later(guest, act, takes < LONGEST ? takes : LONGEST);
 }
 
 void forget(const struct guest *guest)
 {
     unsigned kept = 0;
-    for (unsigned i = 0; i < count; i++)
-        if (steps[i].guest != guest)
-            steps[kept++] = steps[i];
-    count = kept;
+    for (unsigned i = 0; i < day->count; i++)
+        if (day->steps[i].guest != guest)
+            day->steps[kept++] = day->steps[i];
+    day->count = kept;
 }
 
-/* The number of the next step, of those at one time the one that was there first; or `count`. */
+/* The number of the next step, of those at one time the one that was there first; or how many there are. */
 static unsigned next_step(void)
 {
     unsigned next = 0;
-    for (unsigned i = 1; i < count; i++)
-        if (steps[i].at < steps[next].at)
+    for (unsigned i = 1; i < day->count; i++)
+        if (day->steps[i].at < day->steps[next].at)
             next = i;
     return next;
+}
+
+/* When it is. */
+static int64_t next_at(void)
+{
+    return day->count > 0 ? day->steps[next_step()].at : INT64_MAX;
 }
 
 /* Has all happen that is due. */
 static void happen(void)
 {
-    for (unsigned next; (next = next_step()) < count && steps[next].at <= now;) {
-        struct step its = steps[next];
-        count--;
-        for (unsigned i = next; i < count; i++)
-            steps[i] = steps[i + 1];
+    while (next_at() <= day->now) {
+        unsigned next = next_step();
+        struct step its = day->steps[next];
+        day->count--;
+        for (unsigned i = next; i < day->count; i++)
+            day->steps[i] = day->steps[i + 1];
         its.act(its.guest);
     }
+    town_looks();
+}
+
+/* Milliseconds between two ends of a lender, and without one. */
+static void plan_end(void)
+{
+    day->lender_ends = town_number("KILLED") > 0 ? day->now + chance(500, 10000) * INT64_C(1000) : INT64_MAX;
+    day->lender_begins = day->lender_ends + (town_number("KILLED") > 0 ? chance(1, 3000) * INT64_C(1000) : 0);
+}
+
+/* The lender ends as if it were killed, and the guests are alone for a while. Then the program begins anew. */
+static void end_lender(void)
+{
+    for (unsigned i = 0; i < day->size; i++)
+        process_is_alone(&day->guests[i]);
+    for (int64_t at; (at = next_at()) < day->lender_begins; happen())
+        day->now = at > day->now ? at : day->now;
+    day->now = day->lender_begins;
+    day->lenders++;
+    setenv("GOES_ON", "1", 1);
+    execv("/proc/self/exe", lender_words);
+    town_ends("has no lender any longer", day->guests);
 }
 
 int __real_poll_some(struct pollfd *files, nfds_t number, int limit);
@@ -104,27 +141,29 @@ int __wrap_clock_gettime(clockid_t clock, struct timespec *time);
 /* Time passes until something comes. */
 int __wrap_poll_some(struct pollfd *files, nfds_t number, int limit)
 {
-    int64_t end = limit < 0 ? INT64_MAX : now + limit * INT64_C(1000);
+    int64_t end = limit < 0 ? INT64_MAX : day->now + limit * INT64_C(1000);
+    if (day->lender_ends <= day->now)
+        plan_end();
     for (;;) {
         happen();
-        town_looks();
         int came = __real_poll_some(files, number, 0);
-        for (unsigned i = 0; i < town_size(); i++)
-            process_hears(town_guest(i));
-        unsigned next = next_step();
-        int64_t at = next < count ? steps[next].at : INT64_MAX;
-        if (came != 0 || at > end) {
-            now = came != 0 ? now : end;
+        for (unsigned i = 0; i < day->size; i++)
+            process_hears(&day->guests[i]);
+        if (came != 0)
             return came;
-        }
-        now = at > now ? at : now;
+        int64_t at = next_at(), next = at < end ? at : end;
+        if (next >= day->lender_ends)
+            end_lender();
+        day->now = next > day->now ? next : day->now;
+        if (at > end)
+            return 0;
     }
 }
 
 int __wrap_clock_gettime(clockid_t clock, struct timespec *time)
 {
     (void)clock;
-    time->tv_sec = BEGIN + now / SECOND;
-    time->tv_nsec = now % SECOND * 1000;
+    time->tv_sec = BEGIN + day->now / SECOND;
+    time->tv_nsec = day->now % SECOND * 1000;
     return 0;
 }

@@ -1,6 +1,6 @@
 /* All guests of a day: what each works, what they have together, and how the day ends. The environment says which day it is: DAY is its number,
  * GUESTS how many there are, BUDGET the MiB for all, SECONDS how long it is, FOLDER where the lender finds them; REBOOTS whether one of them reboots,
- * BEYOND by how many MiB what they want passes what fits, SLOW how many times as long as usually each step takes. */
+ * BEYOND by how many MiB what they want passes what fits, SLOW how many times as long as usually each step takes, KILLED whether lenders end. */
 #define _GNU_SOURCE
 #include "days.h"
 
@@ -10,45 +10,36 @@
 
 /* Pages of a MiB; MiB of each guest, and what its kernel and kept bytes take; what a work fills, at least and at most, and what one that reboots fills
  * at most; what each guest leaves of the budget. As the guests of the runs with Linux. */
-enum { MIB = 256, MEMORY = 244, OWN = 60, LEAST_FILL = 20, MOST_FILL = 150, REBOOTS_FILL = 90, LEFT = 15, MOST_SIZE = 16 };
+enum { MIB = 256, MEMORY = 244, OWN = 60, LEAST_FILL = 20, MOST_FILL = 150, REBOOTS_FILL = 90, LEFT = 15 };
 
 /* Seconds after which a deflate, and a new life, waits for good. */
 enum { DEFLATE_WAITS = 30, RESET_WAITS = 300 };
 
-static struct guest guests[MOST_SIZE];
-static unsigned size, seconds;
-static uint32_t budget, left;           /* pages; left: that nobody uses, or may */
-static int64_t waited, longest;
-
-struct guest *town_guest(unsigned number)
+unsigned town_number(const char *name)
 {
-    return &guests[number];
-}
-
-unsigned town_size(void)
-{
-    return size;
+    const char *word = getenv(name);
+    return word ? (unsigned)strtoul(word, NULL, 10) : 0;
 }
 
 static void print_guest(const struct guest *guest)
 {
     const struct lending_message *its = &guest->report;
     printf("guest-%u has %u pages, uses %u, balloon %u, in it %u, target %u, waits for %u%s, wants %u, works %llu%s%s\n", guest->number + 1,
-           guest->pages, guest->used, guest->balloon, its->ballooned, its->target, its->held_pages, guest->reset.waits ? " and a new life" : "",
+           guest->pages, guest->used, guest->balloon, its->ballooned, guest->target, its->held_pages, guest->reset.waits ? " and a new life" : "",
            guest->wants, (unsigned long long)guest->works, guest->out_of_memory ? ", out of memory" : "", its->ready ? "" : ", boots");
 }
 
 void town_ends(const char *fault, const struct guest *guest)
 {
     uint64_t works = 0;
-    for (unsigned i = 0; i < size; i++)
-        works += guests[i].works;
+    for (unsigned i = 0; i < day->size; i++)
+        works += day->guests[i].works;
     if (fault)
-        printf("fault: guest-%u %s at %.3f seconds\n", guest->number + 1, fault, (double)now / SECOND);
-    printf("works %llu waited %lld longest %lld milliseconds\n", (unsigned long long)works, (long long)waited / MILLISECOND,
-           (long long)longest / MILLISECOND);
-    for (unsigned i = 0; i < size && fault; i++)
-        print_guest(&guests[i]);
+        printf("fault: guest-%u %s at %.3f seconds\n", guest->number + 1, fault, (double)day->now / SECOND);
+    printf("works %llu waited %lld longest %lld lenders %llu\n", (unsigned long long)works, (long long)day->waited / MILLISECOND,
+           (long long)day->longest / MILLISECOND, (unsigned long long)day->lenders);
+    for (unsigned i = 0; i < day->size && fault; i++)
+        print_guest(&day->guests[i]);
     fflush(stdout);
     _exit(fault != NULL);
 }
@@ -57,7 +48,7 @@ void town_ends(const char *fault, const struct guest *guest)
 static void end_work(struct guest *guest)
 {
     guest->used -= guest->filled;
-    left += guest->reboots ? 0 : guest->filled;
+    day->left += guest->reboots ? 0 : guest->filled;
     guest->filled = 0;
     guest->works++;
     if (!guest->reboots) {
@@ -76,21 +67,21 @@ void work_is_filled(struct guest *guest)
 void work_begins(struct guest *guest)
 {
     uint32_t pages = chance(LEAST_FILL, guest->reboots ? REBOOTS_FILL : MOST_FILL) * MIB;
-    if (!guest->reboots && pages > left) {
+    if (!guest->reboots && pages > day->left) {
         later(guest, work_begins, chance(0, SECOND / 5));
         return;
     }
-    left -= guest->reboots ? 0 : pages;
+    day->left -= guest->reboots ? 0 : pages;
     driver_fills(guest, pages);
 }
 
+/* Whether it waits for too long. */
 static void look_at(const struct guest *guest, const struct wait *wait, int64_t most, const char *fault)
 {
-    static int64_t before[MOST_SIZE];
-    int64_t waits = wait->waits ? now - wait->since : 0;
-    longest = waits > longest ? waits : longest;
-    waited += wait->waits ? now - before[guest->number] : 0;
-    before[guest->number] = now;
+    int64_t waits = wait->waits ? day->now - wait->since : 0, passed = day->now - day->seen[guest->number];
+    day->longest = waits > day->longest ? waits : day->longest;
+    day->waited += wait->waits ? passed : 0;
+    day->seen[guest->number] = day->now;
     if (waits > most * SECOND)
         town_ends(fault, guest);
 }
@@ -98,38 +89,36 @@ static void look_at(const struct guest *guest, const struct wait *wait, int64_t 
 void town_looks(void)
 {
     uint64_t held = 0;
-    for (unsigned i = 0; i < size; i++)
-        held += guests[i].pages - guests[i].report.ballooned;
-    if (held > budget)
-        town_ends("is the first of all, which have more than the budget", guests);
-    for (unsigned i = 0; i < size; i++) {
-        const struct guest *guest = &guests[i];
-        bool resets = guest->reset.waits;
-        look_at(guest, resets ? &guest->reset : &guest->held, resets ? RESET_WAITS : DEFLATE_WAITS, resets ? "waits for a new life" : "waits for a deflate");
+    for (unsigned i = 0; i < day->size; i++)
+        held += day->guests[i].pages - day->guests[i].report.ballooned;
+    if (held > day->budget)
+        town_ends("is the first of all, which have more than the budget", day->guests);
+    for (unsigned i = 0; i < day->size; i++) {
+        const struct guest *guest = &day->guests[i];
+        if (guest->reset.waits)
+            look_at(guest, &guest->reset, RESET_WAITS, "waits for a new life");
+        else
+            look_at(guest, &guest->held, DEFLATE_WAITS, "waits for a deflate");
     }
-    if (now >= seconds * (int64_t)SECOND)
+    if (day->now >= town_number("SECONDS") * (int64_t)SECOND)
         town_ends(NULL, NULL);
-}
-
-static unsigned number_of(const char *name)
-{
-    const char *word = getenv(name);
-    return word ? (unsigned)strtoul(word, NULL, 10) : 0;
 }
 
 /* All guests are there before the lender is, each with its part of the budget. What fits is what they use with what each leaves, and all memory of one that
  * reboots: it has all of that for a while. */
-static void __attribute__((constructor)) begin(void)
+static void __attribute__((constructor)) begin(int count, char **words)
 {
-    size = number_of("GUESTS");
-    seconds = number_of("SECONDS");
-    budget = number_of("BUDGET") * MIB;
-    bool reboots = number_of("REBOOTS") > 0;
-    left = budget + number_of("BEYOND") * MIB - (size - reboots) * (OWN + LEFT) * MIB - (reboots ? MEMORY * MIB : 0);
+    (void)count;
+    if (!day_begins(town_number("DAY"), words))
+        return;
+    unsigned size = day->size = town_number("GUESTS");
+    bool reboots = town_number("REBOOTS") > 0;
+    day->budget = town_number("BUDGET") * MIB;
+    day->left = day->budget + town_number("BEYOND") * MIB - (size - reboots) * (OWN + LEFT) * MIB - (reboots ? MEMORY * MIB : 0);
     for (unsigned i = 0; i < size; i++) {
-        struct guest *guest = &guests[i];
+        struct guest *guest = &day->guests[i];
         *guest = (struct guest){.number = i, .pages = MEMORY * MIB, .used = OWN * MIB, .reboots = reboots && i + 1 == size};
-        guest->balloon = guest->pages - budget / size;
+        guest->balloon = guest->pages - day->budget / size;
         process_begins(guest, getenv("FOLDER"));
         later(guest, work_begins, chance(0, SECOND));
     }
