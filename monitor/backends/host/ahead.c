@@ -2,35 +2,24 @@
  * a deflate gives no pages meanwhile, and the others may wait for just these. */
 #include "loans.h"
 
-/* Pages that a deflate of Linux's driver takes at most; milliseconds for which a driver that reads no target may still obey an earlier one, once its
- * process has heard the last one. */
+/* Pages that a deflate of Linux's driver takes at most; milliseconds for which a driver that reads no target may still obey an earlier one. */
 enum { PAGES_OF_REQUEST = VB_MAX_BYTES / sizeof(uint32_t), LINGERS = 3000 };
 
 void loan_tell(struct seat *seat, uint32_t target)
 {
     if (target == seat->told)
         return;
+    if (target < seat->told)
+        loan_obeys(seat);
     seat->least_told = smaller(seat->least_told, target);
     seat->told = target;
+    seat->unread = true;
     seat->regained = false;
-    loan_obeys(seat);
 }
 
 void loan_obeys(struct seat *seat)
 {
-    seat->obeys_until = INT64_MAX;
-}
-
-/* Whether its driver may still obey an earlier target. */
-static bool obeys_earlier(const struct seat *seat)
-{
-    return loop_now() < seat->obeys_until;
-}
-
-/* Whether its driver is still to read its target. */
-static bool is_to_read(const struct seat *seat)
-{
-    return seat->obeys_until == INT64_MAX;
+    seat->obeys_until = loop_now() + LINGERS;
 }
 
 /* Whether its driver reads targets, so that it is known which one it obeys. */
@@ -39,14 +28,19 @@ static bool reads_targets(const struct seat *seat)
     return seat->report.obeyed > 0;
 }
 
+/* Whether its driver may obey an earlier target, though its process has heard the last one: none that reads targets does. */
+static bool lingers(const struct seat *seat)
+{
+    return !reads_targets(seat) && loop_now() < seat->obeys_until;
+}
+
 void loan_reads(struct seat *seat)
 {
     const struct lending_message *report = &seat->report;
     if (report->target != seat->told || (reads_targets(seat) && report->obeyed - 1 != seat->told))
         return;
     seat->least_told = seat->told;
-    if (is_to_read(seat))
-        seat->obeys_until = loop_now() + (reads_targets(seat) ? 0 : LINGERS);
+    seat->unread = false;
 }
 
 /* The pages of its balloon that are lent to it. */
@@ -65,9 +59,9 @@ static uint32_t beyond_target(const struct seat *seat)
 void loan_trim(struct seat *seat)
 {
     uint32_t beyond = beyond_target(seat), ahead = seat->regained && !reads_targets(seat) ? 0 : beyond;
-    if (is_to_read(seat))
+    if (seat->unread)
         ahead = loan_of(seat)->ballooned;
-    else if (obeys_earlier(seat))
+    else if (lingers(seat))
         ahead = beyond < PAGES_OF_REQUEST ? PAGES_OF_REQUEST : beyond;
     vb_loan_withdraw(seat->host->loans, MOST_PLACES, seat->place, ahead);
 }
@@ -77,7 +71,7 @@ void loan_take_in(struct seat *seat, uint32_t pages)
     VbLoan *loans = seat->host->loans;
     const VbLoan *loan = loan_of(seat);
     uint32_t now = loan->ballooned + pages, beyond = now - smaller(now, seat->least_told);
-    bool takes_back = loan->asked == 0 && (reads_targets(seat) || obeys_earlier(seat));
+    bool takes_back = loan->asked == 0 && (reads_targets(seat) || seat->unread || lingers(seat));
     uint32_t kept = takes_back ? smaller(pages, beyond) : 0;
     vb_loan_give(loans, MOST_PLACES, seat->place, pages - kept);
     vb_loan_keep(loans, MOST_PLACES, seat->place, kept);

@@ -84,7 +84,8 @@ struct seat {
     uint32_t held_granted, granted_pages;       /* the last of its deflates that was granted, and of how many pages */
     uint64_t granted;           /* frames that were lent to it since it came, as it asked for them or was told to take them */
     uint32_t least_told;        /* the least that it was asked for since its driver has read its target */
-    int64_t obeys_until;        /* until then its driver may still obey an earlier target; INT64_MAX: it is to read the last one first */
+    bool unread;                /* its driver is still to read its target; or its process to hear it, where a driver reads none */
+    int64_t obeys_until;        /* its target fell, or it took pages: until then a driver that reads none may still obey an earlier one */
     bool adopted, regains;      /* its loan is to follow the first report of a process of an earlier lender; what that lent ahead is to be lent again */
     bool regained;              /* it was, and its driver hasn't been told another target */
     bool cooperates;            /* it hasn't taken pages that nobody granted */

@@ -32,7 +32,7 @@ uint32_t loan_ahead(struct seat *seat, uint32_t pages);
 /* It is to be told this target. Its driver may obey an earlier one, until it has read this one; one that reads none, for a moment. */
 void loan_tell(struct seat *seat, uint32_t target);
 
-/* It takes pages by a target: its driver may obey one that isn't the last, as above. */
+/* It takes pages by a target: a driver that reads none may obey one that isn't the last. */
 void loan_obeys(struct seat *seat);
 
 /* Notes whether its driver has read its target, by its last report. */

@@ -15,7 +15,9 @@ from recording import LOOK_EVERY, Recorder
 from tenants import FREE, eventually
 from test_strict import STRICT, Driver
 
-DAY = 12
+# The MiB of the budget, one after the other, and for how many seconds each: on the second one all wait, but for what stays lent to them for a while.
+BUDGETS = ((1, 4), (0, 9), (1, 4))
+DAY = sum(seconds for _, seconds in BUDGETS)
 
 # Looks for which a wrong host lets a guest wait longer: 3 seconds. Looks before the budget is raised at which one guest of two is granted its pages.
 LATE, EARLY = round(3 / LOOK_EVERY), 10
@@ -33,9 +35,9 @@ def live(lender, guests):
     """Lets guests want more and less for a while, under a budget that is lowered and raised."""
     until = time.monotonic() + DAY
     drivers = [Driver(it, number, until) for number, it in enumerate(guests)]
-    for budget in (1, 0, 1):
+    for budget, seconds in BUDGETS:
         lender.demand(f"budget {budget}")
-        time.sleep(DAY / 3)
+        time.sleep(seconds)
     for it in drivers:
         it.join()
         assert it.fault is None, it.fault
