@@ -13,6 +13,9 @@
 /* When the clock begins, in seconds: no moment is 0. The longest that a step takes. */
 enum { BEGIN = 1000, LONGEST = 5 * SECOND / 2 };
 
+/* How long a lender is there, and how long there is none at most. */
+enum { SHORTEST_LIFE = SECOND / 2, LONGEST_LIFE = 10 * SECOND, LONGEST_AWAY = 3 * SECOND };
+
 /* Where the memory of a day is in each of its programs, and the number of its file, below those that a lender takes. */
 #define DAY_AT ((void *)0x600000000000)
 enum { DAY_FILE = 3 };
@@ -83,7 +86,7 @@ void forget(const struct guest *guest)
     day->count = kept;
 }
 
-/* The number of the next step, of those at one time the one that was there first; or how many there are. */
+/* The number of the next step, of those at one time the one that was there first. */
 static unsigned next_step(void)
 {
     unsigned next = 0;
@@ -113,11 +116,12 @@ static void happen(void)
     town_looks();
 }
 
-/* Milliseconds between two ends of a lender, and without one. */
+/* When the lender ends, where it does, and until when there is none then. */
 static void plan_end(void)
 {
-    day->lender_ends = town_number("KILLED") > 0 ? day->now + chance(500, 10000) * INT64_C(1000) : INT64_MAX;
-    day->lender_begins = day->lender_ends + (town_number("KILLED") > 0 ? chance(1, 3000) * INT64_C(1000) : 0);
+    bool ends = town_number("KILLED") > 0;
+    day->lender_ends = ends ? day->now + chance(SHORTEST_LIFE, LONGEST_LIFE) : INT64_MAX;
+    day->lender_begins = ends ? day->lender_ends + chance(0, LONGEST_AWAY) : INT64_MAX;
 }
 
 /* The lender ends as if it were killed, and the guests are alone for a while. Then the program begins anew. */
