@@ -24,16 +24,17 @@ class Day(NamedTuple):
     killed: int = 0
 
 
-# The last number is of works that are done on a day, at least.
+# The last numbers are of works that are done on a day, at least, and of the first day: a lender that lends a guest again by the last target that its
+# process has heard, which its driver is still to read, doesn't survive day 25 of `killed`.
 KINDS = {
-    "shift": (Day(4, 560), 700),
-    "two": (Day(2, 300), 300),
-    "many": (Day(6, 800), 1000),
-    "reboots": (Day(3, 480, reboots=1), 500),
-    "slow": (Day(4, 560, slow=30), 100),
-    "slow-reboots": (Day(3, 480, reboots=1, slow=30), 100),
-    "killed": (Day(4, 560, killed=1), 300),
-    "killed-reboots": (Day(3, 480, reboots=1, killed=1), 100),
+    "shift": (Day(4, 560), 700, 1),
+    "two": (Day(2, 300), 300, 1),
+    "many": (Day(6, 800), 1000, 1),
+    "reboots": (Day(3, 480, reboots=1), 500, 1),
+    "slow": (Day(4, 560, slow=30), 100, 1),
+    "slow-reboots": (Day(3, 480, reboots=1, slow=30), 100, 1),
+    "killed": (Day(4, 560, killed=1), 300, 20),
+    "killed-reboots": (Day(3, 480, reboots=1, killed=1), 100, 1),
 }
 
 
@@ -64,8 +65,8 @@ def host(programs):
 
 @pytest.mark.parametrize("kind", KINDS)
 def test_nobody_waits_for_good(host, kind, tmp_path_factory):
-    day, least = KINDS[kind]
-    for number in range(1, DAYS + 1):
+    day, least, first = KINDS[kind]
+    for number in range(first, first + DAYS):
         status, said = live(host, str(tmp_path_factory.mktemp("d")), number, day)
         assert status == 0, f"day {number}: {said}"
         found = numbers_of(said)
