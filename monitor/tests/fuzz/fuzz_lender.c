@@ -64,7 +64,7 @@ static void process_goes(unsigned number)
 /* One more of what a report says is as the script has it. */
 static void change_report(struct lending_message *report)
 {
-    uint32_t *const numbers[] = {&report->pages, &report->wanted, &report->ballooned, &report->held_pages, &report->target, &report->actual};
+    uint32_t *const numbers[] = {&report->pages, &report->wanted, &report->ballooned, &report->held_pages, &report->target, &report->obeyed};
     uint32_t *const words[] = {&report->ready, &report->waits, &report->taken_since, &report->has_terms, &report->holds, &report->status};
     unsigned what = next_below(16), value = next_byte();
     if (what < 6)
