@@ -17,6 +17,14 @@ void loan_tell(struct seat *seat, uint32_t target)
     seat->regained = false;
 }
 
+void loan_adopts(struct seat *seat)
+{
+    const struct lending_message *report = &seat->report;
+    seat->told = report->target;
+    seat->least_told = report->obeyed > 0 ? smaller(report->obeyed - 1, seat->told) : seat->told;
+    seat->unread = true;
+}
+
 void loan_obeys(struct seat *seat)
 {
     seat->obeys_until = loop_now() + LINGERS;

@@ -32,6 +32,9 @@ uint32_t loan_ahead(struct seat *seat, uint32_t pages);
 /* It is to be told this target. Its driver may obey an earlier one, until it has read this one; one that reads none, for a moment. */
 void loan_tell(struct seat *seat, uint32_t target);
 
+/* The process of an earlier lender has reported: its target goes on, and so does the one that its driver has read. */
+void loan_adopts(struct seat *seat);
+
 /* It takes pages by a target: a driver that reads none may obey one that isn't the last. */
 void loan_obeys(struct seat *seat);
 

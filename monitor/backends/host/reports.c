@@ -46,10 +46,8 @@ static void adopt(struct seat *seat)
 {
     const struct lending_message *report = &seat->report;
     seat->adopts = false;
-    seat->target = seat->told = seat->least_told = report->target;
-    if (report->obeyed > 0 && report->obeyed - 1 < seat->least_told)
-        seat->least_told = report->obeyed - 1;
-    seat->unread = true;
+    seat->target = report->target;
+    loan_adopts(seat);
     seat->taken = report->counters.taken;
     if (report->has_terms)
         seat->terms = (struct guest_terms){.least = report->terms.least, .most = report->terms.most,
