@@ -2,8 +2,6 @@
 #define _GNU_SOURCE
 #include "days.h"
 
-#include "../../../backends/guest/numbers.h"
-
 #include <stdio.h>
 #include <string.h>
 #include <sys/socket.h>
