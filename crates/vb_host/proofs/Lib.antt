@@ -1,0 +1,24 @@
+pub mod Places
+pub mod Lines
+pub mod Sound
+pub mod Changes
+pub mod Processes
+pub mod LentBy
+pub mod Guests
+pub mod Lists
+pub mod Grants
+pub mod Budget
+pub mod Toward
+pub mod Moving
+pub mod Same
+pub mod Targeting
+pub mod Passing
+pub mod Possible
+pub mod Outcome
+pub mod Events
+pub mod Lower
+pub mod RoomLeft
+pub mod Limits
+mod SeatFacts
+mod SystemFacts
+mod RunFacts

@@ -1,0 +1,224 @@
+-- A worked run in which each step occurs: two guests of 4 pages on 6 frames, with an overdraft of 2, and a place for memory that is added; with the
+-- premises of the laws, where they hold and where they don't.
+use Rattle.std.proofs.Common.{◌≡◌, ℕ, ◌≤◌, ◌<◌, ◌⊎◌, inl, inr, true, false, List, [], ◌∷◌, map, get_or, refl, arith}
+use Rattle.std.specs.List.{AllByRecursion}
+use Rattle.vb_host.specs.declared.event.Event.TheVariants.{Grants as EventGrants, Overdraws as EventOverdraws, Targets as EventTargets}
+use Rattle.vb_host.specs.declared.event.Event.TheVariants.{Joins as EventJoins, Uncounts as EventUncounts, Wants as EventWants}
+use Rattle.vb_host.specs.declared.seat.Seat.{Seat}
+use Rattle.vb_host.specs.Lending.{may_grant, may_overdraw}
+use Rattle.vb_host.specs.Promises.{IsAfter, IsNoLoan, IsOrdinary, IsTowardTarget, NeverLowers, PaysBack, used, all_lent, all_used}
+use Rattle.vb_host.specs.Seats.{heard, lent, newcomer, asked}
+use Rattle.vb_host.specs.System.{Arrives, Budget, Confirms, Does, Drops, Fails, Forgets, Gives, Grants, Guest, Hears, Holds, Host, Joins, Lands}
+use Rattle.vb_host.specs.System.{Limits, Obeys, Overdraws, Reads, Reports, Sends, Shrinks, Step, TakesOver, Targets, Uncounts, Wants, arriving}
+use Rattle.vb_host.specs.System.{lending, opened, seats, snapshot, through, Deviates, Process}
+
+-- The first guest is let in once its limit is sure, and has the target 0.
+abbrev arrives : List Step
+arrives = Reports 0 ∷ Hears 0 0 ∷ Grants 0 ∷ Targets 0 ∷ Limits 0 ∷ Lands 0 ∷ Confirms 0 ∷ Sends 0 ∷ Obeys 0 1 ∷ Obeys 0 0
+    ∷ Does 0 Reads ∷ Reports 0 ∷ Hears 0 0 ∷ []
+
+-- The second waits, so the first is to give two pages.
+abbrev asks : List Step
+asks = Reports 1 ∷ Hears 1 0 ∷ Grants 1 ∷ Wants 0 2 ∷ Targets 0 ∷ Sends 0 ∷ Obeys 0 0 ∷ Does 0 Reads ∷ Does 0 (Gives 2) ∷ []
+
+-- It has given them, and the second is let in.
+abbrev gives : List Step
+gives = Reports 0 ∷ Hears 0 0 ∷ Grants 1 ∷ Targets 1 ∷ Limits 0 ∷ Confirms 0 ∷ Limits 1 ∷ Confirms 1 ∷ Sends 1 ∷ Obeys 1 1 ∷ Obeys 1 0
+    ∷ Does 1 Reads ∷ Reports 1 ∷ Hears 1 0 ∷ []
+
+-- The first is out of memory, and waits for a page.
+abbrev lacks : List Step
+lacks = Does 0 (Holds 0 1) ∷ Reports 0 ∷ Hears 0 0 ∷ Grants 0 ∷ []
+
+-- The page is granted from the overdraft; a write of the limit fails, and another one doesn't.
+abbrev draws : List Step
+draws = Overdraws 0 ∷ Limits 0 ∷ Fails 0 ∷ Limits 0 ∷ Confirms 0 ∷ Sends 0 ∷ Obeys 0 1 ∷ Reports 0 ∷ Hears 0 0 ∷ []
+
+-- The second gives a page, which pays it back.
+abbrev pays : List Step
+pays = Wants 1 1 ∷ Targets 1 ∷ Sends 1 ∷ Obeys 1 0 ∷ Does 1 Reads ∷ Does 1 (Gives 1) ∷ Reports 1 ∷ Hears 1 0 ∷ []
+
+-- The first is reset, and drops a deflate that waits.
+abbrev drops : List Step
+drops = Does 0 (Holds 1 1) ∷ Reports 0 ∷ Hears 0 0 ∷ Does 0 Drops ∷ Reports 0 ∷ Hears 0 0 ∷ []
+
+-- A page of the second is taken away, which wasn't in its balloon.
+abbrev shrinks : List Step
+shrinks = Does 1 (Shrinks 3 1 0) ∷ Reports 1 ∷ Hears 1 0 ∷ []
+
+-- A page is added to it, waits as a guest of its own, and joins it.
+abbrev joins : List Step
+joins = Arrives 2 1 0 ∷ Reports 2 ∷ Hears 2 0 ∷ Grants 2 ∷ Limits 2 ∷ Confirms 2 ∷ Sends 2 ∷ Obeys 2 1 ∷ Reports 2 ∷ Hears 2 0 ∷ Joins 1 2 ∷ []
+
+-- A later lender comes, and the processes connect to it.
+abbrev connects : List Step
+connects = TakesOver 0 ∷ TakesOver 1 ∷ []
+
+-- There are more frames, so the first may take the page of its balloon.
+abbrev takes : List Step
+takes = Budget 6 ∷ Budget 8 ∷ Wants 0 0 ∷ Targets 0 ∷ Limits 0 ∷ Confirms 0 ∷ Sends 0 ∷ Obeys 0 0 ∷ Does 0 Reads
+    ∷ Reports 0 ∷ Hears 0 0 ∷ Does 0 (Holds 0 1) ∷ []
+
+-- It reports so, and takes it.
+abbrev taken : List Step
+taken = Reports 0 ∷ Hears 0 0 ∷ Sends 0 ∷ Obeys 0 1 ∷ Reports 0 ∷ Hears 0 0 ∷ []
+
+-- The second takes pages without a grant, and the budget is lowered.
+abbrev lowers : List Step
+lowers = Uncounts 1 ∷ Budget 4 ∷ []
+
+abbrev after_arrives : Host
+after_arrives = through arrives (opened 6 2 (4 ∷ 4 ∷ 0 ∷ []))
+
+abbrev after_asks : Host
+after_asks = through asks after_arrives
+
+abbrev after_gives : Host
+after_gives = through gives after_asks
+
+abbrev after_lacks : Host
+after_lacks = through lacks after_gives
+
+abbrev after_draws : Host
+after_draws = through draws after_lacks
+
+abbrev after_pays : Host
+after_pays = through pays after_draws
+
+abbrev after_drops : Host
+after_drops = through drops after_pays
+
+abbrev after_shrinks : Host
+after_shrinks = through shrinks after_drops
+
+abbrev after_joins : Host
+after_joins = through joins after_shrinks
+
+abbrev after_forgets : Host
+after_forgets = through (Forgets ∷ []) after_joins
+
+abbrev after_connects : Host
+after_connects = through connects after_forgets
+
+abbrev after_takes : Host
+after_takes = through takes after_connects
+
+abbrev after_taken : Host
+after_taken = through taken after_takes
+
+abbrev after_lowers : Host
+after_lowers = through lowers after_taken
+
+-- ---- what each guest uses, what it is lent, and its limit
+
+abbrev uses : Host → List ℕ
+uses h = map used h.guests
+
+abbrev lends_each : Host → List ℕ
+lends_each h = map (λ s. lent s) (seats h.guests)
+
+abbrev limits_each : Host → List ℕ
+limits_each h = map (λ g. g.limit.force) h.guests
+
+used_all : (map uses (after_arrives ∷ after_asks ∷ after_gives ∷ after_lacks ∷ after_draws ∷ []) ≡ (4 ∷ 0 ∷ 0 ∷ []) ∷ (2 ∷ 0 ∷ 0 ∷ []) ∷ (2 ∷ 4 ∷ 0 ∷ []) ∷ (2 ∷ 4 ∷ 0 ∷ []) ∷ (3 ∷ 4 ∷ 0 ∷ []) ∷ [])
+    × (map uses (after_pays ∷ after_drops ∷ after_shrinks ∷ after_joins ∷ []) ≡ (3 ∷ 3 ∷ 0 ∷ []) ∷ (3 ∷ 3 ∷ 0 ∷ []) ∷ (3 ∷ 2 ∷ 0 ∷ []) ∷ (3 ∷ 3 ∷ 0 ∷ []) ∷ [])
+    × (map uses (after_forgets ∷ after_connects ∷ after_takes ∷ after_taken ∷ []) ≡ (3 ∷ 3 ∷ 0 ∷ []) ∷ (3 ∷ 3 ∷ 0 ∷ []) ∷ (3 ∷ 3 ∷ 0 ∷ []) ∷ (4 ∷ 3 ∷ 0 ∷ []) ∷ [])
+used_all = (refl, refl, refl)
+
+lent_each : (map lends_each (after_arrives ∷ after_asks ∷ after_gives ∷ after_lacks ∷ after_draws ∷ []) ≡ (4 ∷ 0 ∷ 0 ∷ []) ∷ (4 ∷ 0 ∷ 0 ∷ []) ∷ (2 ∷ 4 ∷ 0 ∷ []) ∷ (2 ∷ 4 ∷ 0 ∷ []) ∷ (3 ∷ 4 ∷ 0 ∷ []) ∷ [])
+    × (map lends_each (after_pays ∷ after_drops ∷ after_shrinks ∷ after_joins ∷ []) ≡ (3 ∷ 3 ∷ 0 ∷ []) ∷ (3 ∷ 3 ∷ 0 ∷ []) ∷ (3 ∷ 2 ∷ 0 ∷ []) ∷ (3 ∷ 3 ∷ 0 ∷ []) ∷ [])
+    × (map lends_each (after_forgets ∷ after_connects ∷ after_takes ∷ after_taken ∷ after_lowers ∷ []) ≡ (4 ∷ 4 ∷ 0 ∷ []) ∷ (3 ∷ 3 ∷ 0 ∷ []) ∷ (4 ∷ 3 ∷ 0 ∷ []) ∷ (4 ∷ 3 ∷ 0 ∷ []) ∷ (4 ∷ 4 ∷ 0 ∷ []) ∷ [])
+lent_each = (refl, refl, refl)
+
+limited : map limits_each (after_arrives ∷ after_gives ∷ after_draws ∷ after_joins ∷ after_takes ∷ [])
+    ≡ (4 ∷ 0 ∷ 0 ∷ []) ∷ (2 ∷ 4 ∷ 0 ∷ []) ∷ (3 ∷ 4 ∷ 0 ∷ []) ∷ (3 ∷ 5 ∷ 0 ∷ []) ∷ (4 ∷ 5 ∷ 0 ∷ []) ∷ []
+limited = refl
+
+-- the page that is lacking is granted from the overdraft alone, and not while a target is to be reached
+drawn : (may_grant (lending after_lacks) 0 ≡ false) × (may_overdraw (lending after_lacks) 0 ≡ true)
+    × (may_overdraw (lending (through (Wants 1 1 ∷ Targets 1 ∷ []) after_lacks)) 0 ≡ false)
+drawn = (refl, refl, refl)
+
+-- ---- a guest that starts with 3 of its 4 pages in its balloon: it is let in where one frame is free, and keeps that target
+
+abbrev starts : Host
+starts = through (Arrives 2 4 3 ∷ Reports 2 ∷ Hears 2 0 ∷ Targets 2 ∷ []) after_shrinks
+
+abbrev started : Host
+started = through (Grants 2 ∷ Targets 2 ∷ Limits 2 ∷ Confirms 2 ∷ Sends 2 ∷ Obeys 2 1 ∷ []) starts
+
+starts_small : (lends_each starts ≡ 3 ∷ 2 ∷ 0 ∷ []) × (map (λ s. asked s) (seats starts.guests) ≡ 0 ∷ 0 ∷ 1 ∷ []) × (lends_each started ≡ 3 ∷ 2 ∷ 1 ∷ [])
+    × (uses started ≡ 3 ∷ 2 ∷ 1 ∷ []) × (map (λ s. s.target) (seats started.guests) ≡ 2 ∷ 1 ∷ 3 ∷ [])
+starts_small = (refl, refl, refl, refl, refl)
+
+-- ---- the premises: no budget is lowered, and no balloon uncounted
+
+never_lowers : NeverLowers 6 arrives × NeverLowers 6 draws × NeverLowers 6 joins × NeverLowers 6 connects × NeverLowers 6 takes
+never_lowers = (tt, tt, tt, tt, (omega arith, (omega arith, tt)))
+
+lowers_it : (NeverLowers 8 (Budget 7 ∷ []) → ⊥) × (NeverLowers 8 (Uncounts 1 ∷ []) → ⊥)
+lowers_it = (λ l. let e : 8 ≤ 7 = l.0 in absurd (omega (arith, e)), λ l. l)
+
+ordinary : AllByRecursion IsOrdinary (Overdraws 0 ∷ Targets 0 ∷ Joins 1 2 ∷ Forgets ∷ TakesOver 0 ∷ []) × AllByRecursion PaysBack (Grants 0 ∷ Targets 0 ∷ Forgets ∷ [])
+ordinary = ((tt, (tt, (tt, (tt, (tt, tt))))), (tt, (tt, (tt, tt))))
+
+not_ordinary : (IsOrdinary (Budget 9) → ⊥) × (IsOrdinary (Uncounts 0) → ⊥) × (PaysBack (Overdraws 0) → ⊥) × (PaysBack (Budget 9) → ⊥) × (PaysBack (Uncounts 0) → ⊥)
+not_ordinary = (λ l. l, λ l. l, λ l. l, λ l. l, λ l. l)
+
+-- ---- the second guest isn't strict: it uses all its pages, and says that they are in its balloon; the first is lent no more than there is
+
+abbrev lying : Process
+lying = record { pages = 4; balloon = 0; target = 9; read_target = 9; held = 0; line = 0; target_number = 0; deflates = 9; removed = 0 }
+
+abbrev deviates : Host
+deviates = through (Deviates 1 lying (snapshot (record lying { balloon = 4 }) ∷ []) ∷ Hears 1 0 ∷ []) after_lacks
+
+deviates_alone : (all_used deviates ≡ 2) × (all_lent deviates ≡ 2) × (lends_each deviates ≡ 2 ∷ 4 ∷ 0 ∷ []) × (map (λ g. g.strict) deviates.guests ≡ true ∷ false ∷ true ∷ [])
+deviates_alone = (refl, refl, refl, refl)
+
+-- what memory of a guest that isn't strict joins isn't either
+joins_deviating : map (λ g. g.strict) (through (Deviates 2 lying [] ∷ Joins 1 2 ∷ []) after_shrinks).guests ≡ true ∷ false ∷ true ∷ []
+joins_deviating = refl
+
+-- ---- a deflate toward a target, and one that goes deeper
+
+abbrev first : Host → Guest
+first h = get_or h.guests 0 (arriving 0 0)
+
+toward : IsTowardTarget (first after_takes)
+toward = record { holds = omega arith; waits = omega arith; no_deeper = omega arith }
+
+granted_toward : (heard 9 (snapshot (first after_takes).process) (first after_takes).seat).granted ≡ 4
+granted_toward = refl
+
+deeper : IsTowardTarget (first after_lacks) → ⊥
+deeper t = let e : 3 ≤ 2 = t.no_deeper in absurd (omega (arith, e))
+
+-- ---- who comes after whom: the second, which arrives, waits in the asks; the first doesn't
+
+after_it : IsAfter (seats after_asks.guests) 1 0
+after_it w = absurd (omega (arith, w))
+
+-- of two that wait at one turn in one line, the one at the higher place
+abbrev both : List Seat
+both = record (newcomer 4) { held = 4; line = 2; turn = 5 } ∷ record (newcomer 4) { held = 4; line = 2; turn = 5 } ∷ record (newcomer 4) { held = 4; turn = 6 } ∷ []
+
+after_both : IsAfter both 0 1 × IsAfter both 2 0 × (IsAfter both 1 0 → ⊥) × (IsAfter both 0 2 → ⊥)
+after_both = (λ _. inr (refl, omega arith), λ _. inl (omega arith), λ a. not_less _ (a (omega arith)), λ a. not_before _ (omega arith) (a (omega arith))) where
+  not_less : (r : ℕ) → (r < r) ⊎ ((r ≡ r) × (1 < 0)) → ⊥
+  not_less r e = elim e [
+    | inl less ↦ omega (arith, less)
+    | inr same ↦ omega (arith, same.1)
+  ]
+
+  not_before : (r : ℕ) → 6 < r → (r < 6) ⊎ ((r ≡ 6) × (0 < 2)) → ⊥
+  not_before r l e = elim e [
+    | inl less ↦ omega (arith, l, less)
+    | inr same ↦ omega (arith, l, same.0)
+  ]
+
+no_loan : IsNoLoan 0 (EventWants 0 3) × IsNoLoan 0 (EventUncounts 1) × IsNoLoan 0 (EventJoins 1 0)
+no_loan = (tt, λ e. absurd (omega (arith, e)), λ e. absurd (omega (arith, e)))
+
+a_loan : (IsNoLoan 0 (EventGrants 1) → ⊥) × (IsNoLoan 0 (EventOverdraws 1) → ⊥) × (IsNoLoan 0 (EventTargets 1) → ⊥) × (IsNoLoan 0 (EventUncounts 0) → ⊥) × (IsNoLoan 0 (EventJoins 0 1) → ⊥)
+a_loan = (λ l. l, λ l. l, λ l. l, λ l. l refl, λ l. l refl)

@@ -1,0 +1,83 @@
+//! What holds over every run of the system.
+
+ghost use Rattle.vb_host.specs.Promises.{BudgetHolds, LimitsHold, TowardNeverWaits, NeverStuck};
+ghost use Rattle.vb_host.specs.Promises.{TowardNeverWaitsLater, NobodyWaits, IsTheLender};
+ghost use Rattle.vb_host.specs.Promises.{NoneIsPassed, EventsLendNothing, StepsSettle};
+ghost use Rattle.vb_host.specs.Promises.{TargetsArePossible, OneOutcome, StepsAreEvents};
+ghost use Rattle.vb_host.specs.Promises.{LeavesRoom, NeverBelowWanted, NeverMore, IsPaidBack};
+ghost use Rattle.vb_host.specs.Promises.{ReportsTell, GrantsInTurn, ComesLast, LinesOrder};
+ghost use Rattle.vb_host.specs.System.{Host};
+ghost use Rattle.std.specs.Prelude.{ℕ};
+
+/// In each state of each run the guests together use no more than the budget.
+pub fn the_budget_holds()
+    ensures holds { BudgetHolds }
+{}
+
+/// From any state on, as after a budget was lowered, they never use more than the larger of the
+/// budget and what they were lent.
+pub fn a_lower_budget_takes_effect()
+    ensures more { NeverMore }
+    ensures paid { IsPaidBack }
+{}
+
+/// In each state of each run no guest uses more than the limit that its kernel has in force.
+pub fn the_limits_hold()
+    ensures hold { LimitsHold }
+{}
+
+/// A deflate that goes no deeper than the target which its driver has read is granted by its
+/// report.
+pub fn toward_a_target_never_waits()
+    ensures granted { TowardNeverWaits }
+    ensures later { TowardNeverWaitsLater }
+{}
+
+/// Where nothing is on its way, those that don't wait have reached their targets, and the targets
+/// serve, the first that waits is granted.
+pub fn never_stuck_unless_short()
+    ensures granted { NeverStuck }
+    ensures nobody { NobodyWaits }
+{}
+
+/// Once the lender received a report, it knows what that tells.
+pub fn reports_tell()
+    ensures tell { ReportsTell }
+{}
+
+/// What the code makes of an event is what the system's lender does; and a step is its event, then
+/// grants, then targets.
+pub fn the_lender_is_the_systems()
+    ensures same { (h : Host) (n m : ℕ) → IsTheLender h n m }
+    ensures steps { StepsAreEvents }
+{}
+
+/// A grant that lends anything is that of the first that waits; a guest that waits from now on
+/// comes last in its line; and those of an earlier line come first.
+pub fn grants_go_in_turn()
+    ensures first { GrantsInTurn }
+    ensures last { ComesLast }
+    ensures lines { LinesOrder }
+{}
+
+/// Where a guest still waits after a step, none that comes after it is lent more by that step, nor
+/// by its event.
+pub fn none_is_passed()
+    ensures passed { NoneIsPassed }
+    ensures events { EventsLendNothing }
+{}
+
+/// A step has one outcome, and leaves nothing to grant, and no target that may be nearer to what is
+/// wanted.
+pub fn steps_settle()
+    ensures settle { StepsSettle }
+    ensures one { OneOutcome }
+    ensures targets { TargetsArePossible }
+{}
+
+/// A target lends nothing of what those that wait ask for, and none is below the one that is
+/// wanted.
+pub fn targets_leave_room()
+    ensures room { LeavesRoom }
+    ensures wanted { NeverBelowWanted }
+{}

@@ -1,0 +1,302 @@
+//! What happens to a lender, and its one step.
+
+ghost use Rattle.std.specs.Prelude.{◌≡◌, ℕ, ◌+◌, ◌<◌, ◌^◌, length, nat_lt, false};
+ghost use Rattle.vb_host.specs.Lending.{Lending, each_at, next_turn, may_grant, may_overdraw, room};
+ghost use Rattle.vb_host.specs.Lending.{happens, may_join_at, joined_at, pages_at, value_at};
+ghost use Rattle.vb_host.specs.Lending.{all_targeted, test_at};
+ghost use Rattle.vb_host.specs.Line.{IsNext, IsStep, ByGrants, GrantsNone};
+ghost use Rattle.vb_host.specs.Seats.{covers, granting, heard, retargeted, room_after, uncounted};
+ghost use Rattle.vb_host.specs.Seats.{grown};
+ghost use Rattle.vb_host.specs.Seats.{reclaimed};
+ghost use Rattle.vb_host.specs.declared.event.Event.TheVariants.{Grants, Overdraws, Targets};
+
+use crate::line::{
+    first_covered, first_in_line, has_room, is_done_all, is_first, next_turn, overdraft_has_room,
+    room,
+};
+use crate::{Event, Report, Seat};
+
+/// The guest that is granted next.
+fn granted_next(frames: u32, seats: &[Seat]) -> Option<usize>
+    ensures { (overdraft : ℕ) →
+        IsNext (record { frames = frames; overdraft = overdraft; seats = seats.now }) result }
+{
+    match first_covered(seats) {
+        Some(guest) => Some(guest),
+        None => first_with_room(frames, seats),
+    }
+}
+
+/// The guest that is granted next where no deflate takes just what is lent already.
+fn first_with_room(frames: u32, seats: &[Seat]) -> Option<usize>
+    requires { (n : ℕ) → test_at covers seats.now n ≡ false }
+    ensures { (overdraft : ℕ) →
+        IsNext (record { frames = frames; overdraft = overdraft; seats = seats.now }) result }
+{
+    let guest = first_in_line(seats)?;
+    if has_room(frames, seats, guest) {
+        Some(guest)
+    } else {
+        None
+    }
+}
+
+/// Whether a guest's deflate may be granted.
+fn may_grant(frames: u32, seats: &[Seat], guest: usize) -> bool
+    ensures { (overdraft : ℕ) → result ≡
+        may_grant (record { frames = frames; overdraft = overdraft; seats = seats.now }) guest }
+{
+    if guest >= seats.len() {
+        return false;
+    }
+    if seats[guest].covers() {
+        return true;
+    }
+    is_first(seats, guest) && has_room(frames, seats, guest)
+}
+
+/// Whether a guest's deflate may be granted from the overdraft.
+fn may_overdraw(frames: u32, overdraft: u32, seats: &[Seat], guest: usize) -> bool
+    ensures { result ≡
+        may_overdraw (record { frames = frames; overdraft = overdraft; seats = seats.now }) guest }
+{
+    if guest >= seats.len() {
+        return false;
+    }
+    is_first(seats, guest)
+        && is_done_all(seats)
+        && overdraft_has_room(frames, overdraft, seats, guest)
+}
+
+/// Grants a guest's deflate.
+fn let_go(seats: &mut [Seat], guest: usize)
+    requires { guest < length seats.old }
+    ensures { seats.new ≡ each_at guest granting seats.old }
+{
+    seats[guest].grant();
+}
+
+/// Grants a guest's deflate, where that is allowed.
+fn grant(frames: u32, seats: &mut [Seat], guest: usize)
+    ensures { (overdraft : ℕ) →
+        record { frames = frames; overdraft = overdraft; seats = seats.new } ≡
+        happens (record { frames = frames; overdraft = overdraft; seats = seats.old })
+        (Grants guest) }
+{
+    if may_grant(frames, seats, guest) {
+        let_go(seats, guest);
+    }
+}
+
+/// Grants a guest's deflate from the overdraft, where that is allowed.
+fn overdraw(frames: u32, overdraft: u32, seats: &mut [Seat], guest: usize)
+    ensures { record { frames = frames; overdraft = overdraft; seats = seats.new } ≡
+        happens (record { frames = frames; overdraft = overdraft; seats = seats.old })
+        (Overdraws guest) }
+{
+    if may_overdraw(frames, overdraft, seats, guest) {
+        let_go(seats, guest);
+    }
+}
+
+/// A guest's process has reported.
+#[tactic(auto, using(crate::proofs::Places::at_places))]
+fn hear(seats: &mut [Seat], guest: usize, report: &Report)
+    ensures { seats.new ≡ each_at guest (heard (next_turn seats.old) report.now) seats.old }
+{
+    let turn = next_turn(seats);
+    if guest < seats.len() {
+        seats[guest].hear(report, turn);
+    }
+}
+
+/// This many pages of a guest are wanted in its balloon.
+#[tactic(auto, using(crate::proofs::Places::at_places))]
+fn want(seats: &mut [Seat], guest: usize, pages: u32)
+    ensures { seats.new ≡ each_at guest (λ s. record s { wanted = pages }) seats.old }
+{
+    if guest < seats.len() {
+        seats[guest].want(pages);
+    }
+}
+
+/// A guest has the target from now on that is possible.
+#[tactic(auto, using(crate::proofs::Places::at_places))]
+fn target(frames: u32, seats: &mut [Seat], guest: usize)
+    ensures { (overdraft : ℕ) →
+        record { frames = frames; overdraft = overdraft; seats = seats.new } ≡
+        happens (record { frames = frames; overdraft = overdraft; seats = seats.old })
+        (Targets guest) }
+{
+    let room = room(frames, seats);
+    if guest < seats.len() {
+        retarget(seats, guest, room);
+    }
+}
+
+/// A guest has the target from now on that is possible with this room. Returns the room that is
+/// left.
+fn retarget(seats: &mut [Seat], guest: usize, room: u32) -> u32
+    requires { guest < length seats.old }
+    ensures seats { seats.new ≡ each_at guest (retargeted room) seats.old }
+    ensures left { result ≡ value_at (room_after room) seats.old guest }
+{
+    let mut seat = seats[guest];
+    let left = seat.retarget(room);
+    seats[guest] = seat;
+    left
+}
+
+/// Each guest has the target from now on that is possible.
+fn target_all(frames: u32, seats: &mut [Seat])
+    ensures { (overdraft : ℕ) → seats.new ≡ all_targeted
+        (room (record { frames = frames; overdraft = overdraft; seats = seats.old })) seats.old }
+{
+    let mut left = room(frames, seats);
+    for guest in 0..seats.len() {
+        left = retarget(seats, guest, left);
+    }
+}
+
+/// A place has this seat from now on.
+#[tactic(auto, using(crate::proofs::Places::at_places))]
+fn seat_at(seats: &mut [Seat], guest: usize, seat: Seat)
+    ensures { seats.new ≡ each_at guest (λ _. seat) seats.old }
+{
+    if guest < seats.len() {
+        seats[guest] = seat;
+    }
+}
+
+/// A guest's balloon counts no longer.
+#[tactic(auto, using(crate::proofs::Places::at_places))]
+fn uncount(seats: &mut [Seat], guest: usize)
+    ensures { seats.new ≡ each_at guest uncounted seats.old }
+{
+    if guest < seats.len() {
+        seats[guest].uncount();
+    }
+}
+
+/// The pages of a guest.
+fn pages_of(seats: &[Seat], guest: usize) -> u32
+    requires { guest < length seats.now }
+    ensures { result ≡ pages_at seats.now guest }
+{
+    seats[guest].pages
+}
+
+/// The pages of a guest's balloon that it may not deflate.
+fn reclaimed_of(seats: &[Seat], guest: usize) -> u32
+    requires { guest < length seats.now }
+    ensures { result ≡ value_at reclaimed seats.now guest }
+{
+    seats[guest].reclaimed()
+}
+
+/// Whether two guests have fewer than 2^32 pages together.
+fn are_few(seats: &[Seat], guest: usize, added: usize) -> bool
+    requires place { guest < length seats.now }
+    requires from { added < length seats.now }
+    ensures { result ≡ nat_lt (pages_at seats.now guest + pages_at seats.now added) 4294967296 }
+{
+    let one = u64::from(pages_of(seats, guest));
+    let other = u64::from(pages_of(seats, added));
+    one + other < 4294967296
+}
+
+/// Whether the memory at a place may join a guest.
+fn may_join(seats: &[Seat], guest: usize, added: usize) -> bool
+    ensures { result ≡ may_join_at seats.now guest added }
+{
+    if guest >= seats.len() {
+        return false;
+    }
+    if added >= seats.len() {
+        return false;
+    }
+    if guest == added {
+        return false;
+    }
+    if reclaimed_of(seats, added) > 0 {
+        return false;
+    }
+    are_few(seats, guest, added)
+}
+
+/// This many pages join a guest.
+fn grow(seats: &mut [Seat], guest: usize, pages: u32)
+    requires place { guest < length seats.old }
+    requires few { pages_at seats.old guest + pages < 2 ^ 32 }
+    ensures { seats.new ≡ each_at guest (grown pages) seats.old }
+{
+    seats[guest].grow(pages);
+}
+
+/// The memory at a place joins a guest, where it may.
+fn join(seats: &mut [Seat], guest: usize, added: usize)
+    ensures { seats.new ≡ joined_at guest added seats.old }
+{
+    if may_join(seats, guest, added) {
+        let pages = pages_of(seats, added);
+        grow(seats, guest, pages);
+        seat_at(seats, added, Seat::newcomer(0));
+    }
+}
+
+/// One event, and nothing after it. `frames` is the budget, and `overdraft` how many frames beyond
+/// it `Overdraws` may lend. Any numbers may be passed; an event that doesn't fit changes nothing.
+pub fn happen(frames: &mut u32, overdraft: u32, seats: &mut [Seat], event: &Event)
+    ensures { record { frames = frames.new; overdraft = overdraft; seats = seats.new } ≡
+        happens (record { frames = frames.old; overdraft = overdraft; seats = seats.old })
+        event.now }
+{
+    match *event {
+        Event::Hears { guest, report } => hear(seats, guest, &report),
+        Event::Grants { guest } => grant(*frames, seats, guest),
+        Event::Overdraws { guest } => overdraw(*frames, overdraft, seats, guest),
+        Event::Wants { guest, pages } => want(seats, guest, pages),
+        Event::Targets { guest } => target(*frames, seats, guest),
+        Event::Arrives {
+            guest,
+            pages,
+            ballooned,
+        } => seat_at(seats, guest, Seat::starting(pages, ballooned)),
+        Event::Joins { guest, added } => join(seats, guest, added),
+        Event::TakesOver {
+            guest,
+            pages,
+            report,
+        } => {
+            let turn = next_turn(seats);
+            seat_at(seats, guest, Seat::take_over(pages, &report, turn));
+        }
+        Event::Uncounts { guest } => uncount(seats, guest),
+        Event::Budget { frames: more } => *frames = more,
+    }
+}
+
+/// Grants until no guest can be granted.
+fn grant_all(frames: u32, seats: &mut [Seat])
+    ensures grants { (overdraft : ℕ) →
+        ByGrants (record { frames = frames; overdraft = overdraft; seats = seats.old })
+        (record { frames = frames; overdraft = overdraft; seats = seats.new }) }
+    ensures none { (overdraft : ℕ) →
+        GrantsNone (record { frames = frames; overdraft = overdraft; seats = seats.new }) }
+{
+    while let Some(guest) = granted_next(frames, seats) {
+        let_go(seats, guest);
+    }
+}
+
+/// One step: an event (as `happen`), all grants that are possible then, and the target of each
+/// guest. Each one's seat has its last grant and its target; `due_grant` and `due_target` say what
+/// to send. It takes time linear in the guests, and as much again for each grant.
+pub fn step(frames: &mut u32, overdraft: u32, seats: &mut [Seat], event: &Event)
+    ensures { IsStep (record { frames = frames.old; overdraft = overdraft; seats = seats.old })
+        event.now (record { frames = frames.new; overdraft = overdraft; seats = seats.new }) }
+{
+    happen(frames, overdraft, seats, event);
+    grant_all(*frames, seats);
+    target_all(*frames, seats);
+}

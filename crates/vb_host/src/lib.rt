@@ -1,0 +1,22 @@
+//! A host that lends its frames to guests whose balloons it moves: what is lent to each follows
+//! from what its process has reported and what its driver may still obey, and one step decides all.
+#![tactic(auto)]
+
+mod arrival;
+mod event;
+mod laws;
+mod lending;
+mod line;
+mod report;
+mod seat;
+
+pub use event::Event;
+pub use laws::{
+    a_lower_budget_takes_effect, grants_go_in_turn, never_stuck_unless_short, none_is_passed,
+    reports_tell, steps_settle, targets_leave_room, the_budget_holds, the_lender_is_the_systems,
+    the_limits_hold, toward_a_target_never_waits,
+};
+pub use lending::{happen, step};
+pub use line::{first_in_line, owed, room, waited};
+pub use report::{Report, WaitingLine};
+pub use seat::Seat;

@@ -1,0 +1,291 @@
+//! What a lender knows of one guest, and what each event makes of it.
+
+ghost use Rattle.std.specs.Prelude.{◌≡◌, ◌+◌, ◌-◌, ◌<◌, ◌^◌};
+ghost use Rattle.vb_host.specs.Seats.{lent, asked, waits, covers, granting, noting, counting};
+ghost use Rattle.vb_host.specs.Seats.{served, raised, queuing, is_stale, heard, possible_target};
+ghost use Rattle.vb_host.specs.Seats.{targeted, retargeted, uncounted};
+ghost use Rattle.vb_host.specs.Seats.{is_done};
+ghost use Rattle.vb_host.specs.Seats.{due_target, due_grant, reclaimed, grown, rank, queued};
+ghost use Rattle.vb_host.specs.Seats.{room_after};
+ghost use Rattle.vb_host.specs.Seats.{keeps_turn, needs_grant};
+
+use crate::{Report, WaitingLine};
+
+/// How many turns there are.
+const TURNS: u128 = 1 << 64;
+
+/// What a lender knows of a guest. What is lent to it follows from this alone.
+#[repr(C)]
+#[derive(Clone, Copy, Debug, Default, PartialEq, Eq)]
+pub struct Seat {
+    /// The pages that it may have frames for, in a memory slot or outside; 0 where no guest is
+    /// there.
+    pub pages: u32,
+    /// The pages in its balloon, as last reported, without those of a granted deflate.
+    pub ballooned: u32,
+    /// The least of all targets that its driver may still obey, in pages.
+    pub least_target: u32,
+    /// Its last target, in pages.
+    pub target: u32,
+    /// The pages that are wanted in its balloon: its target is this or above.
+    pub wanted: u32,
+    /// The pages of the deflate that waits; 0 where none does.
+    pub held: u32,
+    /// The number of the line in which it waits (`WaitingLine::of`).
+    pub line: u32,
+    /// The number of its last target: how many it was sent.
+    pub target_number: u64,
+    /// How many deflates its process has held back, by its last report.
+    pub deflates: u64,
+    /// The number of the last deflate that was granted.
+    pub granted: u64,
+    /// How many pages were taken away from its memory so far, by its last report.
+    pub removed: u64,
+    /// Its turn among those that wait; 0 where it doesn't.
+    pub turn: u64,
+}
+
+impl Seat {
+    /// The pages of its balloon that it may not deflate.
+    pub(crate) fn reclaimed(&self) -> u32
+        ensures { result ≡ reclaimed self.now }
+    {
+        self.ballooned.min(self.least_target)
+    }
+
+    /// What is lent to it: all its pages but for those of its balloon that it may not deflate.
+    pub fn lent(&self) -> u32
+        ensures { result ≡ lent self.now }
+    {
+        self.pages.saturating_sub(self.reclaimed())
+    }
+
+    /// Whether a deflate waits.
+    pub fn waits(&self) -> bool
+        ensures { result ≡ waits self.now }
+    {
+        self.held > 0
+    }
+
+    /// Its deflate is granted: its pages count as if they had left the balloon.
+    pub(crate) fn grant(&mut self)
+        ensures { self.new ≡ granting self.old }
+    {
+        self.ballooned = self.ballooned.saturating_sub(self.held);
+        self.granted = self.deflates;
+        self.held = 0;
+        self.turn = 0;
+    }
+
+    /// What is lent to it once its deflate is granted.
+    fn lent_then(&self) -> u32
+        ensures { result ≡ lent (granting self.now) }
+    {
+        let ballooned = self.ballooned.saturating_sub(self.held);
+        self.pages.saturating_sub(ballooned.min(self.least_target))
+    }
+
+    /// What a grant would lend to it beyond what is lent.
+    pub fn asked(&self) -> u32
+        ensures { result ≡ asked self.now }
+    {
+        if self.waits() {
+            self.lent_then().saturating_sub(self.lent())
+        } else {
+            0
+        }
+    }
+
+    /// Whether a deflate waits that takes nothing which isn't lent already.
+    pub fn covers(&self) -> bool
+        ensures { result ≡ covers self.now }
+    {
+        self.waits() && self.asked() == 0
+    }
+
+    /// Whether it waits, or has in its balloon what its target says.
+    pub(crate) fn is_done(&self) -> bool
+        ensures { result ≡ is_done self.now }
+    {
+        self.waits() || self.target <= self.ballooned
+    }
+
+    /// The pages of this many of which none was taken away since its last report.
+    fn without_removed(&self, pages: u32, removed: u64) -> u32
+        ensures { result ≡ pages - (removed - self.now.removed) }
+    {
+        let taken = removed.saturating_sub(self.removed);
+        let all = u64::from(pages);
+        if taken < all { (all - taken) as u32 } else { 0 }
+    }
+
+    /// Notes what its process reports of its memory, its balloon, and a deflate.
+    fn note(&mut self, ballooned: u32, held: u32, report: &Report)
+        ensures { self.new ≡ noting ballooned held report.now self.old }
+    {
+        let pages = self.without_removed(self.pages, report.removed);
+        let counted = self.without_removed(self.ballooned, report.removed);
+        self.pages = pages;
+        self.ballooned = counted.max(ballooned);
+        self.held = held;
+        self.line = report.line;
+        self.deflates = report.deflates;
+        self.removed = report.removed;
+    }
+
+    /// Counts the pages in its balloon, without those of a deflate that was granted.
+    fn count(&mut self, report: &Report)
+        ensures { self.new ≡ counting report.now self.old }
+    {
+        if report.deflates == self.granted {
+            let ballooned = report.ballooned.saturating_sub(report.held);
+            self.note(ballooned, 0, report);
+        } else {
+            self.note(report.ballooned, report.held, report);
+        }
+    }
+
+    /// Grants its deflate, if that lends nothing more.
+    fn serve(&mut self)
+        ensures { self.new ≡ served self.old }
+    {
+        if self.covers() {
+            self.grant();
+        }
+    }
+
+    /// Raises the least target to the last one, once its driver has read that.
+    fn raise(&mut self, report: &Report)
+        ensures { self.new ≡ raised report.now self.old }
+    {
+        if report.target_number == self.target_number && report.read_target == self.target {
+            self.least_target = self.least_target.max(self.target);
+        }
+    }
+
+    /// Its rank among those that wait.
+    pub(crate) fn rank(&self) -> u128
+        ensures { result ≡ rank self.now }
+    {
+        let line = WaitingLine::of(self.line).number();
+        TURNS * u128::from(line) + u128::from(self.turn)
+    }
+
+    /// It has this turn from now on, if it waits.
+    pub(crate) fn queue(&mut self, turn: u64)
+        ensures { self.new ≡ queued turn self.old }
+    {
+        self.turn = if self.waits() { turn } else { 0 };
+    }
+
+    /// Whether the deflate that waited before still waits, in the same line.
+    fn keeps_turn(&self, old: &Seat) -> bool
+        ensures { result ≡ keeps_turn old.now self.now }
+    {
+        old.waits() && self.waits() && old.deflates == self.deflates && old.line == self.line
+    }
+
+    /// Whether a report was made before the last grant, or before memory was taken away that is
+    /// known of.
+    fn is_stale(&self, report: &Report) -> bool
+        ensures { result ≡ is_stale report.now self.now }
+    {
+        report.deflates < self.granted || report.removed < self.removed
+    }
+
+    /// Its process has reported; a guest that waits from now on has this turn.
+    pub(crate) fn hear(&mut self, report: &Report, turn: u64)
+        ensures { self.new ≡ heard turn report.now self.old }
+    {
+        if self.is_stale(report) {
+            return;
+        }
+        let old = *self;
+        self.count(report);
+        self.serve();
+        self.raise(report);
+        if !self.keeps_turn(&old) {
+            self.queue(turn);
+        }
+    }
+
+    /// Whether it is lent by grants alone, since it waits or wasn't let in yet.
+    fn needs_grant(&self) -> bool
+        ensures { result ≡ needs_grant self.now }
+    {
+        self.waits() || self.granted == 0
+    }
+
+    /// The target that is possible where this much may be lent for it.
+    fn possible_target(&self, room: u32) -> u32
+        ensures { result ≡ possible_target room self.now }
+    {
+        let lent = if self.needs_grant() { 0 } else { room };
+        self.wanted.max(self.reclaimed().saturating_sub(lent))
+    }
+
+    /// It has this target from now on.
+    fn set_target(&mut self, target: u32)
+        ensures { self.new ≡ targeted target self.old }
+    {
+        if self.target_number == u64::MAX {
+            return;
+        }
+        if self.target != target {
+            self.target_number += 1;
+        }
+        self.target = target;
+        self.least_target = self.least_target.min(target);
+    }
+
+    /// It has the target from now on that is possible where this much may be lent for it. Returns
+    /// what is left of that.
+    pub(crate) fn retarget(&mut self, room: u32) -> u32
+        ensures state { self.new ≡ retargeted room self.old }
+        ensures left { result ≡ room_after room self.old }
+    {
+        let before = self.lent();
+        let target = self.possible_target(room);
+        self.set_target(target);
+        let after = self.lent();
+        room.saturating_sub(after.saturating_sub(before))
+    }
+
+    /// This many pages are wanted in its balloon.
+    pub(crate) fn want(&mut self, pages: u32)
+        ensures { self.new ≡ record self.old { wanted = pages } }
+    {
+        self.wanted = pages;
+    }
+
+    /// Whether its process, of which this is the last report, is to be sent its target.
+    pub fn due_target(&self, report: &Report) -> bool
+        ensures { result ≡ due_target report.now self.now }
+    {
+        report.target_number != self.target_number
+    }
+
+    /// Whether its process, of which this is the last report, is to be sent the grant of the
+    /// deflate that it holds back.
+    pub fn due_grant(&self, report: &Report) -> bool
+        ensures { result ≡ due_grant report.now self.now }
+    {
+        report.held > 0 && report.deflates == self.granted
+    }
+
+    /// This many pages join it, all of which are lent.
+    pub(crate) fn grow(&mut self, pages: u32)
+        requires { self.old.pages + pages < 2 ^ 32 }
+        ensures { self.new ≡ grown pages self.old }
+    {
+        self.pages += pages;
+    }
+
+    /// Its balloon counts no longer: all its pages are lent to it.
+    pub(crate) fn uncount(&mut self)
+        ensures { self.new ≡ uncounted self.old }
+    {
+        self.ballooned = 0;
+        self.least_target = 0;
+    }
+}
