@@ -13,7 +13,6 @@ int main(int count, char **words)
     void (*const calls[])(void) = { call_driver, call_config, call_hints, call_mark, call_over, call_notice, call_large };
     enum { KINDS = sizeof calls / sizeof *calls };
     unsigned long long most = count > 1 ? strtoull(words[1], NULL, 10) : CALLS;
-    alarm(600);
     make_arenas();
     for (unsigned long long i = 0; i < most; i++)
         calls[i % KINDS]();

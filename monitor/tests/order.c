@@ -316,7 +316,6 @@ int main(void)
 {
     struct sigaction fault = { .sa_sigaction = on_fault, .sa_flags = SA_SIGINFO };
     struct sigaction step = { .sa_sigaction = on_step, .sa_flags = SA_SIGINFO };
-    alarm(60);
     memory = mmap(NULL, PAGES * 4096, PROT_READ | PROT_WRITE, MAP_PRIVATE | MAP_ANONYMOUS, -1, 0);
     EXPECT(memory != MAP_FAILED && sigaction(SIGSEGV, &fault, NULL) == 0 && sigaction(SIGTRAP, &step, NULL) == 0);
     an_inflate_is_in_order();

@@ -327,7 +327,6 @@ static void pages_break_rules(void)
 
 int main(void)
 {
-    alarm(60);
     make_memory(&guest, BALLOON_PRIVATE);
     RUN(refusals_have_an_order());
     RUN(walks_break_rules(VB_INFLATE));

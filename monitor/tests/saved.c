@@ -210,6 +210,45 @@ static void a_balloon_goes_on(void)
     EXPECT(balloon_notify(&it->balloon, VB_INFLATE).pages == 1);
 }
 
+/* No balloon goes on of which any one queue has a part in the hole; the last of four places of a queue has none there. */
+static void no_queue_lies_in_a_hole(void)
+{
+    const uint64_t hole = HIGH_ADDRESS - 4096;
+    struct balloon *balloon = &guest.balloon;
+    for (uint32_t kind = 0; kind < VB_NO_KIND; kind++)
+        for (unsigned part = 0; part < 4; part++) {
+            uint8_t bytes[VB_STATE_BYTES];
+            EXPECT(reach(5));
+            EXPECT(vb_place(&balloon->state.device, kind, part == 0 ? hole : table_of(kind), part == 1 ? hole : avail_of(kind),
+                            part == 2 ? hole : used_of(kind), 64) == VB_OK);
+            EXPECT(balloon_save(balloon, bytes, sizeof bytes) == VB_OK);
+            EXPECT(balloon_init(balloon, guest.regions, 2, SETTINGS) == VB_OK);
+            EXPECT(balloon_restore(balloon, bytes, sizeof bytes) == (part < 3 ? VB_MISPLACED : VB_OK));
+            EXPECT(balloon->state.device.status == (part < 3 ? 0 : 11));
+        }
+}
+
+/* Memory that ends before a queue is accepted, and not saved until the driver resets the device, or the queue stops. */
+static void memory_may_end_before_a_queue(void)
+{
+    struct balloon *balloon = &guest.balloon;
+    uint8_t bytes[VB_STATE_BYTES], untouched[VB_STATE_BYTES];
+    memset(bytes, 0x5a, sizeof bytes);
+    memcpy(untouched, bytes, sizeof bytes);
+    for (int stops = 0; stops < 2; stops++) {
+        struct balloon_result result;
+        uint16_t next;
+        EXPECT(reach(5));
+        EXPECT(balloon_place(balloon, VB_INFLATE, HIGH_ADDRESS, HIGH_ADDRESS + 0x1000, HIGH_ADDRESS + 0x2000, 64) == VB_OK);
+        EXPECT(balloon_set_regions(balloon, guest.regions, 1) == VB_OK);
+        EXPECT(balloon_save(balloon, bytes, sizeof bytes) == VB_IMPOSSIBLE && memcmp(bytes, untouched, sizeof bytes) == 0);
+        EXPECT(balloon_write_status(balloon, 15, &result) == 0 && balloon_notify(balloon, VB_INFLATE).code == VB_MISPLACED);
+        EXPECT(stops ? balloon_stop_queue(balloon, VB_INFLATE, &next) == VB_OK : balloon_write_status(balloon, 0, &result) == 0);
+        EXPECT(balloon_save(balloon, bytes, sizeof bytes) == VB_OK && balloon_restore(balloon, bytes, sizeof bytes) == VB_OK);
+        memcpy(bytes, untouched, sizeof bytes);
+    }
+}
+
 int main(void)
 {
     EXPECT(vb_version() == VB_VERSION_NUMBER);
@@ -223,6 +262,8 @@ int main(void)
     impossible_devices_are_refused();
     impossible_devices_are_not_saved();
     a_balloon_goes_on();
+    no_queue_lies_in_a_hole();
+    memory_may_end_before_a_queue();
     any_restored_device_works();
     all_that_calls_lead_to_is_saved();
     free_memory(&guest);

@@ -39,6 +39,14 @@ void see_pages(uint32_t kind)
     }
 }
 
+void stamp_again(void)
+{
+    names = false;
+    for (uint64_t page = 0; page < PAGES; page++)
+        if (is_named[page] && has_stamp(page))
+            *stamp_of(page) = page;
+}
+
 static void expect_stamps(void)
 {
     for (uint64_t page = FIRST_DATA; page < PAGES; page++)
@@ -70,6 +78,8 @@ static uint32_t any_length(uint32_t kind, bool has_pages, uint64_t random)
         return (uint32_t)(1 + random / 32 % 8) * 4096;
     if (kind == VB_HINT)
         return 4;
+    if (random % 32 == 1 && kind != VB_STATISTICS)
+        return 4 * VB_MAX_BYTES;        /* four portions, mostly of page 0, which is skipped */
     return kind == VB_STATISTICS ? (uint32_t)(random / 32 % 12) * 10 : (uint32_t)(random / 32 % 24) * 4;
 }
 
@@ -138,11 +148,31 @@ static void expect_guards(const uint8_t *memory, size_t length)
         EXPECT(memory[-1 - (ptrdiff_t)i] == 0xa5 && memory[length + i] == 0xa5);
 }
 
-static void begin(void)
+/* The driver starts its device, or starts it again. */
+static void start_device(void)
 {
     struct balloon_result result;
-    const uint64_t features = LINUX_FEATURES | VB_F_FREE_PAGE_HINT;
-    const VbSettings settings = { .offered = features, .reserved_pages = 16, .skips_bad_pages = 1, .discards_hints = 1 };
+    may_call = false;
+    guest.balloon.most_pages = UINT32_MAX;      /* nothing pauses */
+    start_features(&guest, LINUX_FEATURES | VB_F_FREE_PAGE_HINT, SIZE);
+    EXPECT(balloon_write_status(&guest.balloon, 15, &result) == 0);
+    balloon_forget_held(&guest.balloon, VB_STATISTICS);
+    balloon_forget_held(&guest.balloon, VB_DEFLATE);
+    may_call = true;
+}
+
+/* Starts the device again where it was called between two steps since. */
+static bool was_called(uint64_t calls)
+{
+    if (calls_between == calls)
+        return false;
+    start_device();
+    return true;
+}
+
+static void begin(void)
+{
+    const VbSettings settings = { .offered = LINUX_FEATURES | VB_F_FREE_PAGE_HINT, .reserved_pages = 16, .skips_bad_pages = 1, .discards_hints = 1 };
     uint8_t *high = guarded(HIGH_MIB * MIB), *low = guarded(LOW_MIB * MIB);
     guest.regions[0] = (struct balloon_region){ HIGH_ADDRESS, HIGH_MIB * MIB, high, BALLOON_PRIVATE, 0, 0 };
     guest.regions[1] = (struct balloon_region){ 0, LOW_MIB * MIB, low, BALLOON_PRIVATE, 0, 0 };
@@ -150,8 +180,23 @@ static void begin(void)
     for (uint64_t page = FIRST_DATA; page < PAGES; page++)
         if (has_stamp(page))
             *stamp_of(page) = page;
-    start_features(&guest, features, SIZE);
-    EXPECT(balloon_write_status(&guest.balloon, 15, &result) == 0);
+    start_device();
+}
+
+static uint64_t pauses;
+
+/* What a notice comes to, with all of its pauses. */
+static struct balloon_result notify(uint32_t kind)
+{
+    struct balloon_result result = balloon_notify(&guest.balloon, kind);
+    while (result.more && kind <= VB_DEFLATE && guest.balloon.paused[kind].notice.what) {
+        const uint64_t pages = result.pages, kept = result.kept, discarded = result.discarded;
+        EXPECT(result.code == VB_OK && result.error == 0);
+        result = balloon_notify(&guest.balloon, kind);
+        result.pages += pages, result.kept += kept, result.discarded += discarded;
+        pauses++;
+    }
+    return result;
 }
 
 /* A notice, from a device that has taken a little less than the index of some moment; the code that it came to. */
@@ -168,15 +213,22 @@ static uint32_t notice(uint32_t kind, uint64_t random)
     guest.balloon.keeps_pages = random / 64 % 4 == 0;
     if (random / 1024 % 4 == 0)
         state->device.round = (VbRound){ .shown = random / 4096 % 4, .last = 3, .opened = random / 16384 % 2 };
-    struct balloon_result result = balloon_notify(&guest.balloon, kind);
+    guest.balloon.most_pages = random / 65536 % 2 ? UINT32_MAX : (uint32_t)(1 + random / 131072 % 1024);
+    const uint64_t calls = calls_between;
+    struct balloon_result result = notify(kind);
+    if (was_called(calls))
+        return VB_STALE;
     bool keeps = guest.balloon.keeps_pages && kind != VB_DEFLATE;
     EXPECT(result.code <= VB_BROKEN && result.kept == (keeps ? result.pages : 0) && result.error == 0);
     EXPECT(!guest.balloon.keeps_pages || result.discarded == 0);
     EXPECT(result.configuration == (result.code == VB_BROKEN));
-    if (state->held.statistics && balloon_ask_statistics(&guest.balloon).code != VB_OK)
-        exit(1);
-    if (result.held && (result.held_pages != result.pages || balloon_give_deflate(&guest.balloon).code != VB_OK))
-        exit(1);
+    EXPECT(!result.held || result.held_pages == result.pages);
+    uint32_t given = state->held.statistics ? balloon_ask_statistics(&guest.balloon).code : VB_OK;
+    if (result.held && calls_between == calls)
+        given = balloon_give_deflate(&guest.balloon).code;
+    if (was_called(calls))
+        return VB_STALE;
+    EXPECT(given == VB_OK);
     return result.code;
 }
 
@@ -186,14 +238,15 @@ int main(int count, char **words)
     uint64_t notices = count > 1 ? strtoull(words[1], NULL, 10) : NOTICES;
     uint64_t state = 1234567890123456789ull;
     pthread_t thread;
-    alarm(600);
     begin();
     EXPECT(pthread_create(&thread, NULL, scribble, NULL) == 0);
     while (!started)
         usleep(100);
     for (uint64_t i = 0; i < notices; i++) {
         uint32_t kind = i % VB_NO_KIND;
-        codes[kind][notice(kind, next_random(&state))]++;
+        uint32_t code = notice(kind, next_random(&state));
+        if (code != VB_STALE)
+            codes[kind][code]++;
         if (i % 1024 == 0)
             expect_stamps();
     }
@@ -207,8 +260,8 @@ int main(int count, char **words)
                codes[kind][VB_NOTHING], codes[kind][VB_BROKEN]);
         EXPECT(codes[kind][VB_OK] > 0 && codes[kind][VB_NOTHING] > 0 && codes[kind][VB_BROKEN] > 0);
     }
-    printf("ok  %llu notices, %llu copies that changed at once\n", (unsigned long long)notices,
-           (unsigned long long)changed);
-    EXPECT(changed > 0 || notices < NOTICES);
+    printf("ok  %llu notices, %llu copies that changed at once, %llu pauses, %llu calls between steps\n", (unsigned long long)notices,
+           (unsigned long long)changed, (unsigned long long)pauses, (unsigned long long)calls_between);
+    EXPECT((changed > 0 && pauses > 0 && calls_between > 0) || notices < NOTICES);
     return 0;
 }

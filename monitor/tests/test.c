@@ -12,13 +12,13 @@ _Static_assert(sizeof(VbMarked) == 16, "what is marked");
 
 int main(void)
 {
-    alarm(60);
     test_steps();
     test_settings();
     test_queues();
     test_sizes();
     test_requests();
     test_portions();
+    test_pauses();
     test_notices();
     test_discards();
     test_regions();
@@ -30,5 +30,7 @@ int main(void)
     test_large_pages();
     test_holes();
     test_moves();
+    test_amid();
+    test_hooks();
     return 0;
 }

@@ -222,7 +222,6 @@ static void start_at_records(uint64_t begin)
 
 int main(int count, char **names)
 {
-    alarm(60);
     EXPECT(count > 1);
     for (int i = 1; i < count; i++) {
         read_file(names[i]);

@@ -121,6 +121,7 @@ uint32_t vb_stop_queue(VbBalloon *of, uint32_t kind, uint16_t *next)
     return any_u32();
 }
 
+uint32_t vb_recheck(const VbNotice *it, const VbBalloon *of) { return any_u32(); }
 uint32_t vb_forget_held(VbBalloon *of, uint32_t kind) { return any_u32(); }
 uint32_t vb_held(const VbBalloon *of, uint32_t kind, uint32_t *pages)
 {

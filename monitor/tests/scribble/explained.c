@@ -10,8 +10,8 @@ uint32_t __wrap_vb_begin(VbNotice *, VbBalloon *, const VbRegion *, size_t, VbRo
 uint32_t __wrap_vb_give_held(VbNotice *, VbBalloon *, const VbRegion *, size_t, VbRoom *, uint32_t);
 uint32_t __wrap_vb_go_on(VbNotice *, VbBalloon *, const VbRegion *, size_t, VbRoom *, uint16_t);
 
-bool is_named[PAGES], names;
-uint64_t changed;
+bool is_named[PAGES], names, may_call;
+uint64_t changed, calls_between;
 
 /* The plain implementation beside the library: it says one thing at a time, and gets the same answers. */
 static struct { VbBalloon balloon; VbNotice notice; VbRoom room; } twin;
@@ -84,7 +84,7 @@ static void expect_thing(uint32_t what, const VbNotice *notice, const VbRoom *ro
 static void expect_what(const VbNotice *notice, const VbBalloon *balloon, const VbRegion *regions, size_t count, const VbRoom *room)
 {
     bool first = true;
-    for (uint32_t what = 1; what <= VB_COPY; what *= 2)
+    for (uint32_t what = 1; what <= VB_PAUSE; what *= 2)
         for (uint32_t i = 0; i < (!(notice->what & what) ? 0 : what == VB_DISCARD ? notice->cuts : 1); i++) {
             if (!first)
                 reference_go_on(&twin.notice, &twin.balloon, regions, count, &twin.room, 0);
@@ -97,9 +97,35 @@ static void expect_what(const VbNotice *notice, const VbBalloon *balloon, const 
     const VbNotice *why = &twin.notice;
     EXPECT(why->what == 0 && notice->code == why->code && (notice->code != VB_BROKEN || notice->rule == why->rule));
     EXPECT(notice->interrupt == why->interrupt && notice->configuration == why->configuration && notice->more == why->more);
-    EXPECT(notice->code <= VB_BROKEN && !memcmp(&balloon->held, &twin.balloon.held, sizeof balloon->held));
-    if (names)
+    EXPECT(notice->code <= VB_BROKEN || !may_call);
+    EXPECT(!memcmp(&balloon->held, &twin.balloon.held, sizeof balloon->held));
+    if (names && notice->code == VB_STALE)
+        stamp_again();
+    else if (names)
         see_pages(notice->kind);    /* of a request that is held, or broken in a later portion */
+}
+
+/* Now and then the device is called between two steps, and the other one likewise. */
+static void call_between(const VbNotice *notice, VbBalloon *balloon, const VbRegion *regions, size_t count)
+{
+    static uint64_t random = 1181783497276652981ull;
+    const VbQueueStart there = { 0x60000, 0x61000, 0x62000, 8, 5 };
+    VbBalloon *other = &twin.balloon;
+    uint16_t next;
+    uint32_t then, id;
+    random = random * 6364136223846793005ull + 1442695040888963407ull;
+    switch (may_call ? random >> 32 & 0x7fff : 0x7fff) {
+    case 0: EXPECT(vb_set_status(balloon, 0, &then) == reference_set_status(other, 0, &then)); break;
+    case 1: EXPECT(vb_stop_queue(balloon, notice->kind, &next) == reference_stop_queue(other, notice->kind, &next)); break;
+    case 2: EXPECT(vb_start_queue(balloon, regions, count, notice->kind, there) == reference_start_queue(other, regions, count, notice->kind, there)); break;
+    case 3: EXPECT(vb_begin_hints(&balloon->device, &id) == reference_begin_hints(&other->device, &id)); break;
+    case 4: vb_end_hints(&balloon->device), reference_end_hints(&other->device); break;
+    case 5: EXPECT(vb_stop_queue(balloon, (notice->kind + 1) % VB_NO_KIND, &next) == reference_stop_queue(other, (notice->kind + 1) % VB_NO_KIND, &next)); break;
+    default: return;
+    }
+    calls_between++;
+    may_call = false;
+    EXPECT((vb_recheck(notice, balloon) == 0) == (reference_recheck(&twin.notice, other) == 0));
 }
 
 /* Hands over the next thing, or all that is left; pages that were named are seen before their chain is given back. */
@@ -155,6 +181,7 @@ uint32_t __wrap_vb_go_on(VbNotice *notice, VbBalloon *balloon, const VbRegion *r
     if (said.whole & VB_COPY)
         changed += memcmp(room->bytes + notice->into, balloon_at(&guest.balloon, notice->at), notice->length) != 0;
     memcpy(twin.room.bytes, room->bytes, sizeof room->bytes);
+    call_between(notice, balloon, regions, count);
     reference_go_on(&twin.notice, &twin.balloon, regions, count, &twin.room, answer);
     EXPECT(__real_vb_go_on(notice, balloon, regions, count, room, answer) == notice->what);
     return explain(notice, balloon, regions, count, room);

@@ -29,6 +29,7 @@ void test_queues(void);
 void test_sizes(void);
 void test_requests(void);
 void test_portions(void);
+void test_pauses(void);
 void test_notices(void);
 void test_discards(void);
 void test_regions(void);
@@ -40,4 +41,6 @@ void test_hints(void);
 void test_large_pages(void);
 void test_holes(void);
 void test_moves(void);
+void test_amid(void);
+void test_hooks(void);
 #endif
