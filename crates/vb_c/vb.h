@@ -3,11 +3,8 @@
  * The library keeps nothing: a device is one plain struct in the caller's memory, which may be copied, and which calls alone write;
  * vb_save makes bytes of it that another version or machine reads. It allocates nothing, touches no guest memory and discards
  * nothing: it answers what is to be done, and reads what the caller has read or copied. Any argument gets an answer or a named
- * refusal, but that a pointer with a length must point to that many elements (or the length is 0), and that one call at a time works
- * on a device.
- *
- * Numbers of pages count pages of 4096 bytes from the start of guest memory.
- */
+ * refusal, but that a pointer with a length must point to that many elements (or the length is 0), and that one call at a time works on
+ * a device. Numbers of pages count pages of 4096 bytes from the start of guest memory. */
 #ifndef VB_H
 #define VB_H
 #include <stddef.h>
@@ -41,6 +38,7 @@ enum {                          /* answers: `code` */
     VB_OTHER_VERSION = 11,      /* of the format of saved states */
     VB_BAD_SUM = 12,            /* the bytes aren't those that were saved */
     VB_IMPOSSIBLE = 13,         /* no calls lead to a device like that */
+    VB_STALE = 14,              /* amid the notice its device was reset, or its queue moved or used */
 };
 enum { VB_INFLATE = 0, VB_DEFLATE = 1, VB_STATISTICS = 2, VB_REPORT = 3, VB_HINT = 4, VB_NO_KIND = 5 };    /* kinds of queues */
 /* Rules of VB_BROKEN: 1 the head is no descriptor of the queue; 2 a next field names no descriptor of the queue; 3 the
@@ -61,6 +59,8 @@ enum {                          /* what is to be done: `what` of a notice, in th
     VB_READ = 128,              /* read the word of 16 bits that is `at`, by one access: that is the answer */
     VB_COPY = 256,              /* copy `length` bytes that are `at` to `bytes + into` of the room, each read once: one or
                                    up to 32 descriptors of a queue's table (16 bytes each), or bytes of a chain's piece */
+    VB_PAUSE = 512,             /* call vb_go_on later, with this notice and its room's `pieces`: its budget of pages is
+                                   used up amid a chain */
 };
 enum { VB_LOOK = 1, VB_EMPTY = 2 };    /* what a write of the status asks for */
 /* tools/list-codes: numbers, to here */
@@ -149,13 +149,14 @@ typedef struct {
     uint32_t interrupt;         /* at the end: 1 where the driver wants an interrupt for its used buffers, else 0 */
     uint32_t configuration;     /* at the end: 1 where the driver is to be told of a change of configuration, else 0 */
     uint32_t more;              /* at the end: 1 where another chain is available, for which there was no budget, else 0 */
-    uint32_t chains_left, pages_left, longest, told_pages;      /* these too */
+    uint32_t chains_left, pages_left, most_pages, longest, told_pages;      /* these too */
     uint16_t head, count, taken_head;
     uint8_t given, taken, flag, phase, keeps;   /* `taken`: 1 where the chain that was told is held */
     uint16_t published;
     uint32_t taken_pages;       /* how many pages that chain names */
-    uint32_t told[3];           /* within a call alone: what is told, and what is written of a used chain */
-    uint64_t written[10];
+    uint32_t told[3]; uint64_t written[10];     /* within a call alone: what is told, and what is written of a used chain */
+    VbQueue ring;               /* and the device as the notice left it: the queue, the id of hints that was shown, and the status */
+    uint32_t shown; uint8_t status;
 } VbNotice;
 
 /* The room that a notice needs, with any bytes at first; then the library's to write, but for `bytes`. One room
@@ -171,30 +172,29 @@ typedef struct {
 /* What the library was compiled to have: on every machine that it is for, structs are as here. */
 #define VB_HAS(type, size) (sizeof(Vb##type) == (size))
 #define VB_AT(type, field, at) (offsetof(Vb##type, field) == (at))
-VB_ASSERT(VB_HAS(Settings, 24) && VB_AT(Settings, offered, 8) && VB_AT(Settings, reserved_pages, 16)
-          && VB_AT(Settings, needs_must_tell, 20) && VB_AT(Settings, skips_bad_pages, 21)
-          && VB_AT(Settings, holds_deflates, 22) && VB_AT(Settings, discards_hints, 23) && VB_HAS(Queue, 32)
+VB_ASSERT(VB_HAS(Settings, 24) && VB_AT(Settings, offered, 8) && VB_AT(Settings, reserved_pages, 16) && VB_AT(Settings, needs_must_tell, 20)
+          && VB_AT(Settings, skips_bad_pages, 21) && VB_AT(Settings, holds_deflates, 22) && VB_AT(Settings, discards_hints, 23) && VB_HAS(Queue, 32)
           && VB_AT(Queue, avail, 8) && VB_AT(Queue, used, 16) && VB_AT(Queue, size, 24) && VB_AT(Queue, next_avail, 26)
-          && VB_AT(Queue, next_used, 28) && VB_HAS(QueuePlace, 32) && VB_AT(QueuePlace, avail, 8)
-          && VB_AT(QueuePlace, used, 16) && VB_AT(QueuePlace, size, 24) && VB_HAS(QueueStart, 32) && VB_AT(QueueStart, avail, 8) && VB_AT(QueueStart, used, 16)
-          && VB_AT(QueueStart, size, 24) && VB_AT(QueueStart, next, 26) && VB_HAS(Round, 12) && VB_AT(Round, last, 4)
-          && VB_AT(Round, opened, 8) && VB_HAS(Device, 224) && VB_AT(Device, settings, 0)
-          && VB_AT(Device, features, 24) && VB_AT(Device, target, 32) && VB_AT(Device, actual, 36) && VB_AT(Device, inflate, 40)
-          && VB_AT(Device, deflate, 72) && VB_AT(Device, statistics, 104) && VB_AT(Device, hint, 136) && VB_AT(Device, report, 168)
-          && VB_AT(Device, poison, 200) && VB_AT(Device, round, 204) && VB_AT(Device, status, 216) && VB_HAS(Held, 12)
-          && VB_AT(Held, deflate, 4) && VB_AT(Held, pages, 8) && VB_HAS(Balloon, 240) && VB_AT(Balloon, held, 224));
+          && VB_AT(Queue, next_used, 28) && VB_HAS(QueuePlace, 32) && VB_AT(QueuePlace, avail, 8) && VB_AT(QueuePlace, used, 16)
+          && VB_AT(QueuePlace, size, 24) && VB_HAS(QueueStart, 32) && VB_AT(QueueStart, avail, 8) && VB_AT(QueueStart, used, 16)
+          && VB_AT(QueueStart, size, 24) && VB_AT(QueueStart, next, 26) && VB_HAS(Round, 12) && VB_AT(Round, last, 4) && VB_AT(Round, opened, 8)
+          && VB_HAS(Device, 224) && VB_AT(Device, settings, 0) && VB_AT(Device, features, 24) && VB_AT(Device, target, 32)
+          && VB_AT(Device, actual, 36) && VB_AT(Device, inflate, 40) && VB_AT(Device, deflate, 72) && VB_AT(Device, statistics, 104)
+          && VB_AT(Device, hint, 136) && VB_AT(Device, report, 168) && VB_AT(Device, poison, 200) && VB_AT(Device, round, 204)
+          && VB_AT(Device, status, 216) && VB_HAS(Held, 12) && VB_AT(Held, deflate, 4) && VB_AT(Held, pages, 8) && VB_HAS(Balloon, 240)
+          && VB_AT(Balloon, held, 224));
 VB_ASSERT(VB_HAS(Piece, 16) && VB_AT(Piece, length, 8) && VB_AT(Piece, writable, 12) && VB_HAS(Run, 8) && VB_AT(Run, count, 4)
           && VB_HAS(Statistic, 16) && VB_AT(Statistic, value, 8) && VB_HAS(Marked, 16) && VB_AT(Marked, pages, 8));
-VB_ASSERT(VB_HAS(Region, 24) && VB_AT(Region, length, 8) && VB_AT(Region, in_file, 16) && VB_HAS(Spot, 16)
-          && VB_AT(Spot, offset, 8) && VB_HAS(Cut, 32) && VB_AT(Cut, offset, 8) && VB_AT(Cut, in_file, 16)
-          && VB_AT(Cut, length, 24) && VB_HAS(Large, 40) && VB_AT(Large, waiting, 32) && VB_HAS(Room, 16992)
-          && VB_AT(Room, bytes, 4096) && VB_AT(Room, runs, 5120) && VB_AT(Room, figures, 7168) && VB_AT(Room, cuts, 8800)
-          && VB_HAS(Notice, 328) && VB_AT(Notice, runs, 8) && VB_AT(Notice, figures, 20) && VB_AT(Notice, kept, 28)
-          && VB_AT(Notice, waits, 32) && VB_AT(Notice, hint_id, 36) && VB_AT(Notice, id_at, 40) && VB_AT(Notice, id, 88) && VB_AT(Notice, used_index, 96)
-          && VB_AT(Notice, at, 104) && VB_AT(Notice, length, 120) && VB_AT(Notice, number, 128) && VB_AT(Notice, piece, 144)
-          && VB_AT(Notice, done, 152) && VB_AT(Notice, in_file, 160) && VB_AT(Notice, code, 176) && VB_AT(Notice, chains_left, 196)
-          && VB_AT(Notice, longest, 204) && VB_AT(Notice, given, 218) && VB_AT(Notice, phase, 221) && VB_AT(Notice, keeps, 222)
-          && VB_AT(Notice, published, 224) && VB_AT(Notice, taken_pages, 228) && VB_AT(Notice, told, 232) && VB_AT(Notice, written, 248));
+VB_ASSERT(VB_HAS(Region, 24) && VB_AT(Region, length, 8) && VB_AT(Region, in_file, 16) && VB_HAS(Spot, 16) && VB_AT(Spot, offset, 8)
+          && VB_HAS(Cut, 32) && VB_AT(Cut, offset, 8) && VB_AT(Cut, in_file, 16) && VB_AT(Cut, length, 24) && VB_HAS(Large, 40)
+          && VB_AT(Large, waiting, 32) && VB_HAS(Room, 16992) && VB_AT(Room, bytes, 4096) && VB_AT(Room, runs, 5120) && VB_AT(Room, figures, 7168)
+          && VB_AT(Room, cuts, 8800) && VB_HAS(Notice, 368) && VB_AT(Notice, runs, 8) && VB_AT(Notice, figures, 20) && VB_AT(Notice, kept, 28)
+          && VB_AT(Notice, waits, 32) && VB_AT(Notice, hint_id, 36) && VB_AT(Notice, id_at, 40) && VB_AT(Notice, id, 88)
+          && VB_AT(Notice, used_index, 96) && VB_AT(Notice, at, 104) && VB_AT(Notice, length, 120) && VB_AT(Notice, number, 128)
+          && VB_AT(Notice, piece, 144) && VB_AT(Notice, done, 152) && VB_AT(Notice, in_file, 160) && VB_AT(Notice, code, 176)
+          && VB_AT(Notice, chains_left, 196) && VB_AT(Notice, longest, 208) && VB_AT(Notice, given, 222) && VB_AT(Notice, phase, 225)
+          && VB_AT(Notice, keeps, 226) && VB_AT(Notice, published, 228) && VB_AT(Notice, taken_pages, 232) && VB_AT(Notice, told, 236)
+          && VB_AT(Notice, written, 248) && VB_AT(Notice, ring, 328) && VB_AT(Notice, shown, 360) && VB_AT(Notice, status, 364));
 
 /* The version of the library, as VB_VERSION_NUMBER. */
 uint32_t vb_version(void);
@@ -232,52 +232,56 @@ uint32_t vb_keeps_reports(const VbDevice *device);
 /* Begins a round, in place of one that is on: `id` gets its id, 2 or up, and never that of the round before. VB_OK; or refused as is
  * said at the end, and then nothing is changed, and `id` is 0. */
 uint32_t vb_begin_hints(VbDevice *device, uint32_t *id);
-/* Shows STOP, at any time: the driver hints no more, and keeps what it hinted free; or DONE, and it takes that back. */
+/* Shows STOP, at any time: the driver hints no more, and may keep what it hinted; or DONE, and it takes that back. */
 void vb_stop_hints(VbDevice *device);
 void vb_end_hints(VbDevice *device);
 /* 1 where a round is open: its id was read since it began, no other one was since, and nothing ended it. Else 0. */
 uint32_t vb_hints_open(const VbDevice *device);
 
 /* ---- notices over the memory of a running guest
- *
- * vb_begin says what is to be done first. While `what` isn't 0, do each thing whose bit it has, in the order of the bits,
- * and call vb_go_on with the answer, the word that was read (a number, whose lower byte comes first; else any). Places are
- * of the regions that the calls get: the same from begin to end. Who obeys has no bound to test and no sum to make. The
- * guest may write to its memory meanwhile.
- *
+ * vb_begin says what is to be done first. While `what` isn't 0, do each thing whose bit it has, in the order of the bits, and call vb_go_on
+ * with the answer, the word that was read (a number, whose lower byte comes first; else any). Places are of the regions that the calls get:
+ * the same from begin to end, but after a pause. No bound is to be tested, and no sum made. The guest may write to its memory meanwhile.
  *     for (vb_begin(&notice, &balloon, regions, count, &room, kind, chains, pages, keeps); notice.what;
  *          vb_go_on(&notice, &balloon, regions, count, &room, answer))
  *         answer = perform(&notice, &room);
  */
 
 /* The driver kicked the queue of this kind, or may have: it is served, at most `chains` chains, and none once `pages` pages
- * were named. Where `keeps` isn't 0, no page is discarded: what is named is told, and stays. The available index is read once,
+ * were named; a number that is skipped counts as one. Where `keeps` isn't 0, no page is discarded: what is named is told, and stays. The available index is read once,
  * first of all: what the driver publishes later waits for its next kick, which it owes, as the device never asks for none
  * (VIRTIO 1.1, 2.6.10). Nothing is done (VB_NOTHING) while a chain of this queue is held. All three answer `what`.
  * A request has any multiple of 4 bytes, up to one number for each page of memory, and up to VB_LONGEST_REQUEST numbers however
  * small memory is; else rule 8. It is served in portions of 256 numbers: each is told (VB_TELL_PAGES), and its pages are discarded,
  * before the next one is copied. The chain is given back once, after its last portion. Where a later portion breaks a rule, the
- * earlier ones stay told and discarded, and the chain isn't given back.
+ * earlier ones stay told and discarded, and the chain isn't given back. Once `pages` numbers were told the notice pauses between two
+ * portions (VB_PAUSE), and may tell as many again then; regions may change meanwhile. After a reset, a start or a stop of its queue, or a
+ * restore, begin another one instead: it serves the chain from its first number on. So does one that begins all the same.
  * With holds_deflates a notice of deflates ends with its first request, whose pages are told, and whose chain is held.
  * A chain of hints has an id, 4 bytes that the device reads (else rule 8), which is told (VB_TELL_ID); or pages as a report's, which
  * in an open round are told, and discarded where the settings say discards_hints and a report's would be. */
 uint32_t vb_begin(VbNotice *notice, VbBalloon *balloon, const VbRegion *regions, size_t count, VbRoom *room,
                   uint32_t kind, uint32_t chains, uint32_t pages, uint32_t keeps);
-/* Gives the chain that is held back: new statistics are asked for (5.5.6.3), or a deflate is granted (5.5.6), whose pages leave
- * the set before; look at its queue again then. VB_NO_QUEUE for no kind; VB_NOTHING where none is held; as is said at the end,
- * VB_BAD_ARGUMENT for a head that is no descriptor; VB_BROKEN where the used ring lies in a hole. Then it is held still; with
- * VB_OK no longer. */
+/* Gives the chain that is held back: new statistics are asked for (5.5.6.3), or a deflate is granted (5.5.6), whose pages leave the set
+ * before; look at its queue again then. VB_NO_QUEUE for no kind; VB_NOTHING where none is held; as is said at the end, VB_BAD_ARGUMENT for
+ * a head that is no descriptor; VB_BROKEN where the used ring lies in a hole. Then it is held still; with VB_OK no longer. */
 uint32_t vb_give_held(VbNotice *notice, VbBalloon *balloon, const VbRegion *regions, size_t count, VbRoom *room, uint32_t kind);
 /* VB_OK where a chain is held, and `pages` gets how many it names; VB_NOTHING where none is, VB_NO_QUEUE for no kind, and 0. */
 uint32_t vb_held(const VbBalloon *balloon, uint32_t kind, uint32_t *pages);
-/* What is to be done next, once that was done which was to be done. A notice that the calls didn't make may end as
- * VB_BAD_ARGUMENT, with nothing else changed. */
+/* What is to be done next, once that was done which was to be done. A notice that the calls didn't make may end as VB_BAD_ARGUMENT. The
+ * balloon may be called between two steps: where its driver reset it or wrote another status since, or the notice's queue was placed,
+ * started, stopped, restored or served by another notice, the notice ends as VB_STALE, and no access is to be made. Either time nothing
+ * else is changed. Hints whose round isn't open any longer aren't discarded further, and their chain is given back. */
 uint32_t vb_go_on(VbNotice *notice, VbBalloon *balloon, const VbRegion *regions, size_t count, VbRoom *room, uint16_t answer);
+/* After a call on the balloon within a step: the bits of `what` that are still to be done. 0 where vb_go_on will answer VB_STALE; all
+ * but VB_DISCARD where hints were named whose round isn't open any longer; else `what`. */
+uint32_t vb_recheck(const VbNotice *notice, const VbBalloon *balloon);
 
 /* vb_new over these regions: where settings.memory_end is 0, memory ends with the last of them. The balloon holds no chain.
  * VB_OK; or VB_BAD_ARGUMENT where a region isn't as VbRegion says, or vb_new refuses, and then nothing is changed. */
 uint32_t vb_new_over(VbBalloon *balloon, VbSettings settings, const VbRegion *regions, size_t count);
-/* These regions are guest memory from now on, and it ends where the last of them does. Refused as vb_new_over is. */
+/* These regions are guest memory from now on, and it ends where the last of them does. Refused as vb_new_over is. A queue that lies past
+ * the end is VB_MISPLACED, and vb_save refuses, until the driver resets the device or the queue stops. */
 uint32_t vb_set_regions(VbBalloon *balloon, const VbRegion *regions, size_t count);
 /* vb_place over these regions: also VB_MISPLACED where a part of the queue lies in a hole. */
 uint32_t vb_place_over(VbBalloon *balloon, const VbRegion *regions, size_t count, uint32_t kind, VbQueuePlace at);
@@ -295,8 +299,7 @@ uint32_t vb_forget_held(VbBalloon *balloon, uint32_t kind);
 /* vb_write_status, and `then` gets what is to be done then: bits VB_LOOK, each queue is to be looked at (vb_begin), and
  * VB_EMPTY, the set of ballooned pages is empty now. 0 where it is refused. A reset forgets what is held. */
 uint32_t vb_set_status(VbBalloon *balloon, uint8_t status, uint32_t *then);
-/* vb_restore over these regions: also VB_MISPLACED where memory ends elsewhere than the balloon's does, or a part of a queue
- * lies in a hole; then nothing is changed. */
+/* vb_restore over these regions: also VB_MISPLACED, with nothing changed, where memory ends elsewhere or a queue has a part in a hole. */
 uint32_t vb_restore_over(VbBalloon *balloon, const VbRegion *regions, size_t count, const uint8_t *bytes, size_t length);
 /* 1 where the driver may be told of a change of configuration: DRIVER_OK is set. Else 0. */
 uint32_t vb_may_tell(const VbDevice *device);
@@ -304,7 +307,7 @@ uint32_t vb_may_tell(const VbDevice *device);
 /* Puts the device into the front of `out`, as VB_STATE_BYTES bytes that vb_restore takes: little-endian numbers of a
  * format with a version, a length and a checksum (docs/INTEGRATION.md has it). `held` is the balloon's, or zeros. VB_OK;
  * VB_BAD_LENGTH where there is less room; VB_IMPOSSIBLE where no calls lead to such a device: a struct that was written to,
- * memory_end set below a queue's place, or a held chain that is none of its queue, or a deflate without holds_deflates or of more
+ * memory that ends before a queue (vb_set_regions), or a held chain that is none of its queue, or a deflate without holds_deflates or of more
  * pages than memory has and than VB_LONGEST_REQUEST. Then nothing is changed. */
 uint32_t vb_save(const VbDevice *device, VbHeld held, uint8_t *out, size_t room);
 /* Makes `device` and `held` those that were saved as these bytes. VB_OK, or, tested in this order, VB_BAD_LENGTH where
@@ -327,15 +330,13 @@ uint64_t vb_unmark(const uint64_t *pages, size_t count, uint64_t *set, size_t wo
 uint32_t vb_is_ballooned(const uint64_t *set, size_t words, uint32_t page);
 /* How many pages are in the set: all words are looked at. */
 uint64_t vb_count_ballooned(const uint64_t *set, size_t words);
-/* Of a part that a notice says to discard (VB_DISCARD), what goes back to a machine whose pages that back this region have
- * `page_size` bytes: a large page goes once each of its pages of 4096 bytes is the part's, or was given up before. That the set
- * says, where the driver agreed to MUST_TELL_HOST; else it may use a page of the set, which doesn't count. `cut`: the large
- * pages that go of those that the part has a page of, more than the part or fewer. `waiting`: its pages that aren't among
- * them, and go with the last one of their large page. All wait, and `cut` is empty, where page_size is no power of two from 4096
- * to 1 GiB; where the region doesn't begin and end at pages of this size, in memory and in its file; or where the part isn't
- * whole pages of 4096 bytes of it. */
-VbLarge vb_large_pages(const VbDevice *device, const VbRegion *region, uint64_t page_size, const VbCut *part,
-                       const uint64_t *set, size_t words);
+/* Of a part that a notice says to discard (VB_DISCARD), what goes back to a machine whose pages that back this region have `page_size`
+ * bytes: a large page goes once each of its pages of 4096 bytes is the part's, or was given up before. That the set says, where the driver
+ * agreed to MUST_TELL_HOST; else it may use a page of the set, which doesn't count. `cut`: the large pages that go of those that the part
+ * has a page of, more than the part or fewer. `waiting`: its pages that aren't among them, and go with the last one of their large page.
+ * All wait, and `cut` is empty, where page_size is no power of two from 4096 to 1 GiB; where the region doesn't begin and end at pages of
+ * this size, in memory and in its file; or where the part isn't whole pages of 4096 bytes of it. */
+VbLarge vb_large_pages(const VbDevice *device, const VbRegion *region, uint64_t page_size, const VbCut *part, const uint64_t *set, size_t words);
 
 /* Refusals of the calls on a device or a balloon are tested in this order: VB_NO_QUEUE for a kind that the call isn't for,
  * VB_BAD_ARGUMENT, VB_NOT_READY, VB_NEEDS_RESET, VB_NO_QUEUE for a feature, VB_MISPLACED; then VB_BROKEN, VB_NOTHING or VB_OK. */

@@ -6,8 +6,6 @@ mod memory;
 mod need;
 mod serving;
 mod sharing;
-#[cfg(test)]
-mod tests;
 
 pub use memory::{GuestMemory, spare};
 pub use need::{GuestNeed, NoTargets, Short, Targets};

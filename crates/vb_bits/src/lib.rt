@@ -3,8 +3,6 @@
 
 mod level;
 mod set;
-#[cfg(test)]
-mod tests;
 mod word;
 
 pub use set::{BitSet, MAX_BOUND};

@@ -17,8 +17,9 @@ use Rattle.vb_c.proofs.HandingFacts.{spot, shown, nothing, at_index, handed}
 use Rattle.vb_c.proofs.Samples.{Same, two, begun, ready, balloon, nothing_copied}
 use Rattle.vb_c.proofs.Samples.{a_buffer}
 use Rattle.vb_core.specs.declared.held.Held.{Held}
+use Rattle.vb_monitor.specs.Snapshots.{snapshot_of}
 
-abbrev room : NoticeRoom
+abbrev pub room : NoticeRoom
 room = record { copied = nothing_copied; cuts = [] }
 
 abbrev kind_code : Notice → ℕ
@@ -107,10 +108,13 @@ eight = record { chains = 8; pages = 256; keeps = false; longest = 256 }
 abbrev driven : Balloon
 driven = record { device = ready; held = a_buffer 0 }
 
-abbrev BeginsOf : Kind → NoticeRoom → Type 0
-BeginsOf kind then = BeginsIf true two kind eight driven driven room then shown
+abbrev shown_there : VbNotice
+shown_there = record shown { left = snapshot_of Inflate ready }
 
-handed_of_none : HandsOver at_index two nothing_copied driven driven [] shown
+abbrev BeginsOf : Kind → NoticeRoom → Type 0
+BeginsOf kind then = BeginsIf true two kind eight driven driven room then shown_there
+
+handed_of_none : HandsOver at_index two nothing_copied driven driven [] shown_there
 unfolding phase_of
 handed_of_none = record {
   asked = nothing;
@@ -125,6 +129,7 @@ handed_of_none = record {
   fills = record { full = λ e. absurd (grind arith) };
   fits = tt;
   held = refl;
+  left = refl;
 }
 
 begins_with_the_index : BeginsOf Inflate room
@@ -142,7 +147,7 @@ of_another_queue : BeginsOf Deflate room → ⊥
 unfolding phase_of
 of_another_queue h =
     let read : Same 0 (kind_code h.hands.notice) =
-    ap kind_code (handed_is at_index h.first (with_device h.device driven) driven shown refl h.hands) in
+    ap kind_code (handed_is at_index h.first (with_device h.device driven) driven shown_there refl h.hands) in
     let first : Same (kind_code h.hands.notice) (kind_code h.first) =
     ap (λ (k : Kind). code_of_kind (Some k)) h.hands.kind_is in
     let e : Same (kind_code h.first) 1 = ap (λ (k : Kind). code_of_kind (Some k)) h.kind_is in
@@ -180,10 +185,10 @@ room_changed_then c h = let e : Same 1 0 = ap (λ (r : NoticeRoom). length r.cop
 
 -- ---- a notice that goes on: the flags were read, and it ends
 
-abbrev at_flags : Notice
+abbrev pub at_flags : Notice
 at_flags = record at_index { step = record { tally = tally_of (shown.step); phase = AwaitsFlags spot None false } }
 
-abbrev ended : VbNotice
+abbrev pub ended : VbNotice
 ended = record shown { what = 0; step = record (shown.step) { phase = 0; code = 1; interrupt = 1 } }
 
 abbrev at_end : Notice
@@ -208,9 +213,10 @@ handed_over = record {
   fills = record { full = λ e. absurd (grind arith) };
   fits = tt;
   held = refl;
+  left = refl;
 }
 
-goes_on : GoesOn at_flags two 0 balloon balloon room room ended
+pub goes_on : GoesOn at_flags two 0 balloon balloon room room ended
 goes_on = record {
   next = at_end;
   device = begun;

@@ -7,7 +7,7 @@ use Rattle.vb_monitor.specs.declared.step.Phase.TheVariants.{AwaitsIndex}
 use Rattle.vb_monitor.specs.Steps.{tally_of, phase_of}
 use Rattle.vb_monitor.specs.declared.step.Phase.TheVariants.{AwaitsEntry, AwaitsDescriptor}
 use Rattle.vb_monitor.specs.declared.step.Phase.TheVariants.{AwaitsPart, TellsPages, TellsFigures, TellsId}
-use Rattle.vb_monitor.specs.declared.step.Phase.TheVariants.{Discards, GivesBack, AwaitsFlags}
+use Rattle.vb_monitor.specs.declared.step.Phase.TheVariants.{Discards, GivesBack, AwaitsFlags, Paused}
 use Rattle.vb_monitor.specs.declared.step.Phase.{TheVariants.Ended, Phase}
 use Rattle.vb_monitor.specs.{declared.balloon.Balloon.Balloon, Machine.{Fits, row_bytes, stage, waits, is_ended}}
 use Rattle.vb_c.specs.declared.notice.VbNotice.{VbNotice}
@@ -17,6 +17,7 @@ use Rattle.vb_c.specs.{Notices.{Notice, told_bits, asked_bits, answer_bits, what
 use Rattle.vb_c.{specs.Serving.HandsOver, proofs.Samples.{Same, two, begun, balloon, nothing_copied}}
 use Rattle.vb_c.proofs.Samples.{a_buffer, chain_of}
 use Rattle.vb_core.specs.declared.held.Held.{Held}
+use Rattle.vb_monitor.specs.Snapshots.{snapshot_of}
 
 abbrev pub spot : Spot
 spot = record { region = 0; offset = 0x102 }
@@ -55,6 +56,7 @@ shown = record {
     more = 0;
     chains_left = 8;
     pages_left = 256;
+    most_pages = 256;
     longest = 256;
     told = 0;
     head = 0;
@@ -71,6 +73,7 @@ shown = record {
     spots = record { id = spot; length = spot; index = spot };
     entry = record { element_at = 0; index_at = 0; id = 0; length = 0; index = 0 };
   };
+  left = snapshot_of Inflate begun;
 }
 
 abbrev pub nothing : Asked
@@ -94,6 +97,7 @@ handed = record {
   fills = record { full = λ e. absurd (grind arith) };
   fits = tt;
   held = refl;
+  left = refl;
 }
 
 abbrev stage_in : Option Notice → ℕ
@@ -139,6 +143,7 @@ at_most (TellsPages place named further) fits = omega arith
 at_most (TellsFigures head count) fits = omega arith
 at_most (TellsId head id) fits = omega arith
 at_most (Discards cut x) fits = omega arith
+at_most (Paused place) fits = omega arith
 at_most (GivesBack spots entry) fits = omega arith
 at_most (AwaitsFlags at why more) fits = omega arith
 at_most (Ended why interrupt more) fits = omega arith
@@ -283,6 +288,7 @@ ended_by (AwaitsEntry at) a cuts w f e = absurd (omega (arith, e))
 ended_by (AwaitsDescriptor at walk) a cuts w f e = absurd (omega (arith, e))
 ended_by (AwaitsPart at place into len) a cuts w f e = absurd (omega (arith, e))
 ended_by (AwaitsFlags at why more) a cuts w f e = absurd (omega (arith, e))
+ended_by (Paused place) a cuts w f e = absurd (omega (arith, e))
 ended_by (Discards cut x) a cuts w f e =
     let some : asked_bits a 256 + 0 ≡ 0 = ap (λ (n : ℕ). asked_bits a n + 0) (sym (f refl)) ∙ e in
     absurd (omega (arith, some))

@@ -16,4 +16,5 @@ mod LendingFacts
 mod HostingFacts
 mod HandingFacts
 mod BeginFacts
+mod StaleFacts
 mod ServingFacts

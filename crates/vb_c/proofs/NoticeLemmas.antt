@@ -6,7 +6,7 @@ use Rattle.vb_core.specs.declared.device.Denial.{Denial}
 use Rattle.vb_monitor.specs.declared.{outcome.{HeldChain.HeldChain, Tally.Tally}, step.Phase.Phase}
 use Rattle.vb_monitor.specs.declared.step.Phase.TheVariants.{AwaitsIndex, AwaitsEntry}
 use Rattle.vb_monitor.specs.declared.step.Phase.TheVariants.{AwaitsDescriptor, AwaitsPart}
-use Rattle.vb_monitor.specs.declared.step.Phase.TheVariants.{TellsPages, TellsFigures, TellsId, Discards}
+use Rattle.vb_monitor.specs.declared.step.Phase.TheVariants.{TellsPages, TellsFigures, TellsId, Discards, Paused}
 use Rattle.vb_monitor.specs.declared.step.Phase.TheVariants.{GivesBack, AwaitsFlags, Ended}
 use Rattle.vb_monitor.specs.declared.{regions.Spot.Spot, step.Walk.Walk, progress.Progress.Progress}
 use Rattle.vb_monitor.specs.declared.room.TheConstants.{MAX_BYTES}
@@ -31,6 +31,7 @@ goes_fits (TellsPages place named further) e = absurd (grind arith)
 goes_fits (TellsFigures head count) e = absurd (grind arith)
 goes_fits (TellsId head id) e = absurd (grind arith)
 goes_fits (Discards cut x) e = tt
+goes_fits (Paused place) e = tt
 goes_fits (GivesBack spots entry) e = tt
 goes_fits (AwaitsFlags at why more) e = tt
 goes_fits (Ended why interrupt more) e = tt
@@ -44,6 +45,7 @@ awaits (TellsPages place named further) e fits = absurd (grind arith)
 awaits (TellsFigures head count) e fits = absurd (grind arith)
 awaits (TellsId head id) e fits = absurd (grind arith)
 awaits (Discards cut x) e fits = refl
+awaits (Paused place) e fits = refl
 awaits (GivesBack spots entry) e fits = absurd (grind arith)
 awaits (AwaitsFlags at why more) e fits = refl
 awaits (Ended why interrupt more) e fits = refl
@@ -92,14 +94,14 @@ end_back None tally = none_back tally.given tally.held
 
 -- how many bytes a row has is no part of it
 row_by : (c : Progress) (n m : ℕ) (at : Spot) (walk : Walk)
-    (is0 is1 is2 is3 is4 is5 is6 is7 is8 is10 : Bool) →
+    (is0 is1 is2 is3 is4 is5 is6 is7 is8 is10 is11 : Bool) →
     (if is0 then Ended (why_of c.code c.rule) (says_yes c.interrupt) (says_yes c.more)
     else if is1 then AwaitsIndex c.at else if is2 then AwaitsEntry c.at
     else if is3 then AwaitsDescriptor c.at (walk_of c) else if is4 then AwaitsPart c.at (place_of c) c.into c.length
     else if is5 then AwaitsFlags c.at (why_of c.code c.rule) (says_yes c.more)
     else if is6 then Discards (part_of c) (discarding_of c)
     else if is7 then TellsPages (place_of c) c.named (says_yes c.flag) else if is8 then TellsFigures c.head c.length
-    else if is10 then TellsId c.head c.length else GivesBack c.spots c.entry) ≡ AwaitsDescriptor at walk →
+    else if is10 then TellsId c.head c.length else if is11 then Paused (place_of c) else GivesBack c.spots c.entry) ≡ AwaitsDescriptor at walk →
     (if is0 then Ended (why_of c.code c.rule) (says_yes c.interrupt) (says_yes c.more)
     else if is1 then AwaitsIndex c.at else if is2 then AwaitsEntry c.at
     else if is3 then AwaitsDescriptor c.at (walk_of c)
@@ -107,18 +109,19 @@ row_by : (c : Progress) (n m : ℕ) (at : Spot) (walk : Walk)
     else if is5 then AwaitsFlags c.at (why_of c.code c.rule) (says_yes c.more)
     else if is6 then Discards (part_of c) (discarding_of (record c { length = n; into = m }))
     else if is7 then TellsPages (place_of c) c.named (says_yes c.flag) else if is8 then TellsFigures c.head n
-    else if is10 then TellsId c.head n else GivesBack c.spots c.entry) ≡ AwaitsDescriptor at walk
-row_by c n m at walk true is1 is2 is3 is4 is5 is6 is7 is8 is10 e = absurd (grind arith)
-row_by c n m at walk false true is2 is3 is4 is5 is6 is7 is8 is10 e = absurd (grind arith)
-row_by c n m at walk false false true is3 is4 is5 is6 is7 is8 is10 e = absurd (grind arith)
-row_by c n m at walk false false false true is4 is5 is6 is7 is8 is10 e = e
-row_by c n m at walk false false false false true is5 is6 is7 is8 is10 e = absurd (grind arith)
-row_by c n m at walk false false false false false true is6 is7 is8 is10 e = absurd (grind arith)
-row_by c n m at walk false false false false false false true is7 is8 is10 e = absurd (grind arith)
-row_by c n m at walk false false false false false false false true is8 is10 e = absurd (grind arith)
-row_by c n m at walk false false false false false false false false true is10 e = absurd (grind arith)
-row_by c n m at walk false false false false false false false false false true e = absurd (grind arith)
-row_by c n m at walk false false false false false false false false false false e = absurd (grind arith)
+    else if is10 then TellsId c.head n else if is11 then Paused (place_of c) else GivesBack c.spots c.entry) ≡ AwaitsDescriptor at walk
+row_by c n m at walk true is1 is2 is3 is4 is5 is6 is7 is8 is10 is11 e = absurd (grind arith)
+row_by c n m at walk false true is2 is3 is4 is5 is6 is7 is8 is10 is11 e = absurd (grind arith)
+row_by c n m at walk false false true is3 is4 is5 is6 is7 is8 is10 is11 e = absurd (grind arith)
+row_by c n m at walk false false false true is4 is5 is6 is7 is8 is10 is11 e = e
+row_by c n m at walk false false false false true is5 is6 is7 is8 is10 is11 e = absurd (grind arith)
+row_by c n m at walk false false false false false true is6 is7 is8 is10 is11 e = absurd (grind arith)
+row_by c n m at walk false false false false false false true is7 is8 is10 is11 e = absurd (grind arith)
+row_by c n m at walk false false false false false false false true is8 is10 is11 e = absurd (grind arith)
+row_by c n m at walk false false false false false false false false true is10 is11 e = absurd (grind arith)
+row_by c n m at walk false false false false false false false false false true is11 e = absurd (grind arith)
+row_by c n m at walk false false false false false false false false false false true e = absurd (grind arith)
+row_by c n m at walk false false false false false false false false false false false e = absurd (grind arith)
 
 pub row_stays : (c : Progress) (n m : ℕ) (at : Spot) (walk : Walk) →
     phase_of c ≡ AwaitsDescriptor at walk →
@@ -126,6 +129,6 @@ pub row_stays : (c : Progress) (n m : ℕ) (at : Spot) (walk : Walk) →
 unfolding phase_of
 row_stays c n m at walk e = row_by c n m at walk (c.phase == 0) (c.phase == 1) (c.phase == 2)
     (c.phase == 3) (c.phase == 4) (c.phase == 5) (c.phase == 6) (c.phase == 7) (c.phase == 8)
-    (c.phase == 10) e
+    (c.phase == 10) (c.phase == 11) e
 
 pub ruleset going_steps = (no_step, no_kind, is_notice, goes_fits)

@@ -11,11 +11,12 @@ use Rattle.vb_monitor.specs.declared.step.{Walk.Walk}
 use Rattle.vb_monitor.specs.Steps.{tally_of, walk_of, place_of, part_of, discarding_of, phase_of}
 use Rattle.vb_monitor.specs.declared.step.Phase.TheVariants.{AwaitsIndex, AwaitsEntry}
 use Rattle.vb_monitor.specs.declared.step.Phase.TheVariants.{AwaitsDescriptor, AwaitsPart, Discards}
-use Rattle.vb_monitor.specs.declared.step.Phase.TheVariants.{GivesBack, AwaitsFlags, Ended}
+use Rattle.vb_monitor.specs.declared.step.Phase.TheVariants.{GivesBack, AwaitsFlags, Paused, Ended}
 use Rattle.vb_c.specs.{declared.notice.VbNotice.VbNotice, Codes.code_of_kind}
 use Rattle.vb_c.specs.Notices.{Notice, notice_of, end_code, breaks, SaysEnd, Says, answer_bits}
 use Rattle.vb_c.specs.{Notices.{IsElse, IsNotice, HasEnded}, Serving.{held_by, held_then}}
-use Rattle.vb_c.proofs.Samples.{Same, balloon}
+use Rattle.vb_c.proofs.Samples.{Same, balloon, begun}
+use Rattle.vb_monitor.specs.Snapshots.{snapshot_of}
 use Rattle.vb_monitor.specs.declared.balloon.Balloon.{Balloon}
 use Rattle.vb_c.proofs.Samples.{a_buffer, chain_of}
 use Rattle.vb_monitor.specs.declared.outcome.HeldChain.{HeldChain}
@@ -60,6 +61,7 @@ notice = record {
     more = 0;
     chains_left = 9;
     pages_left = 10;
+    most_pages = 20;
     longest = 18;
     told = 19;
     head = 11;
@@ -76,6 +78,7 @@ notice = record {
     spots = record { id = none_at; length = none_at; index = none_at };
     entry = record { element_at = 0; index_at = 0; id = 0; length = 0; index = 0 };
   };
+  left = snapshot_of Inflate begun;
 }
 
 -- ---- which notice it is
@@ -104,12 +107,12 @@ at_no_phase = refl
 abbrev used : UsedEntry
 used = record { element_at = 0x204; index_at = 0x202; id = 3; length = 0; index = 1 }
 
--- a word is read, after an acquire fence, or after a full one; bytes are copied; or nothing is
--- answered
+-- a word is read, after an acquire fence, or after a full one; bytes are copied; the notice pauses; or
+-- nothing is answered
 answered : answer_bits (AwaitsIndex spot) ∷ answer_bits (AwaitsEntry spot) ∷ answer_bits (AwaitsDescriptor spot (walk_of (notice.step)))
     ∷ answer_bits (AwaitsPart spot (place_of (notice.step)) 3 4) ∷ answer_bits (AwaitsFlags spot None false)
     ∷ answer_bits (Discards (part_of (notice.step)) (discarding_of (notice.step))) ∷ answer_bits (GivesBack (orders.used.spots) used)
-    ∷ answer_bits (Ended None false false) ∷ [] ≡ 128 ∷ 160 ∷ 256 ∷ 256 ∷ 192 ∷ 0 ∷ 0 ∷ 0 ∷ []
+    ∷ answer_bits (Paused (place_of (notice.step))) ∷ answer_bits (Ended None false false) ∷ [] ≡ 128 ∷ 160 ∷ 256 ∷ 256 ∷ 192 ∷ 0 ∷ 0 ∷ 512 ∷ 0 ∷ []
 answered = refl
 
 says_it_all : IsNotice notice (record { told = Nothing; gives = false }) at_index
@@ -178,7 +181,7 @@ one_too_few h = let e : Same 96 112 = h.1 in omega arith
 -- ---- its end
 
 abbrev tally : Bool → Option HeldChain → Tally
-tally given held = record { chains = 0; pages = 0; keeps = false; given = given; held = held; published = 0; longest = 0; told = 0 }
+tally given held = record { chains = 0; pages = 0; keeps = false; given = given; held = held; published = 0; most_pages = 0; longest = 0; told = 0 }
 
 served : end_code None (tally true None) ≡ 0
 served = refl

@@ -7,9 +7,13 @@ use Rattle.vb_c.specs.declared.notice.VbNotice.{VbNotice}
 use Rattle.vb_monitor.specs.declared.orders.NoticeRoom.{NoticeRoom}
 use Rattle.vb_c.{specs.Serving.{BeginsFor, GivesHeldFor, GoesOnBy}, proofs.Samples.{Same, two, balloon, nothing_copied}}
 use Rattle.vb_c.proofs.Samples.{a_buffer}
+use Rattle.vb_monitor.specs.{declared.snapshot.Snapshot.Snapshot, Snapshots.snapshot_of}
 
 abbrev room : NoticeRoom
 room = record { copied = nothing_copied; cuts = [] }
+
+abbrev here : Snapshot
+here = snapshot_of Deflate balloon.device
 
 abbrev held_of : Balloon → ℕ
 held_of b = b.held.statistics
@@ -49,11 +53,11 @@ given_of_no_kind c h = h.ended.code_is
 changed_of_no_kind : (c : VbNotice) → GivesHeldFor None two balloon changed room room c → ⊥
 changed_of_no_kind c h = let e : Same 5 4 = ap held_of h.balloon in omega arith
 
-no_notice : (c : VbNotice) → GoesOnBy None two 0 balloon balloon room room c → c.step.code ≡ 7
+no_notice : (c : VbNotice) → GoesOnBy None here two 0 balloon balloon room room c → c.step.code ≡ 7
 no_notice c h = h.ended.code_is
 
-reading_although_none : (c : VbNotice) → GoesOnBy None two 0 balloon balloon room room (record c { what = 128 }) → ⊥
+reading_although_none : (c : VbNotice) → GoesOnBy None here two 0 balloon balloon room room (record c { what = 128 }) → ⊥
 reading_although_none c h = let e : Same 128 0 = h.ended.what in omega arith
 
-changed_by_none : (c : VbNotice) → GoesOnBy None two 0 balloon changed room room c → ⊥
+changed_by_none : (c : VbNotice) → GoesOnBy None here two 0 balloon changed room room c → ⊥
 changed_by_none c h = let e : Same 5 4 = ap held_of h.balloon in omega arith

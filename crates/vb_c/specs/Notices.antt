@@ -1,5 +1,6 @@
 -- A notice as C keeps it: which notice it is, and what else it says.
-use Rattle.std.specs.Prelude.{◌≡◌, ℕ, ◌+◌, ◌*◌, Bool, true, false, ◌==◌, if◌then◌else◌}
+use Rattle.std.specs.Prelude.{◌≡◌, ℕ, ◌+◌, ◌-◌, ◌*◌, Bool, true, false, ◌==◌, bit_and}
+use Rattle.std.specs.Prelude.{if◌then◌else◌}
 use Rattle.std.specs.Prelude.{Option, Some, None}
 use Rattle.vb_virtio.specs.Tests.{one_if}
 use Rattle.vb_core.specs.declared.kinds.Kind.{Kind}
@@ -14,11 +15,13 @@ use Rattle.vb_monitor.specs.declared.step.Phase.{Phase}
 use Rattle.vb_monitor.specs.declared.step.Phase.TheVariants.{AwaitsIndex, AwaitsEntry}
 use Rattle.vb_monitor.specs.declared.step.Phase.TheVariants.{AwaitsDescriptor, AwaitsPart}
 use Rattle.vb_monitor.specs.declared.step.Phase.TheVariants.{TellsPages, TellsFigures, TellsId}
-use Rattle.vb_monitor.specs.declared.step.Phase.TheVariants.{Discards}
+use Rattle.vb_monitor.specs.declared.step.Phase.TheVariants.{Discards, Paused}
 use Rattle.vb_monitor.specs.declared.step.Phase.TheVariants.{GivesBack, AwaitsFlags, Ended}
 use Rattle.vb_monitor.specs.Machine.{row_bytes, may_go_on}
 use Rattle.vb_monitor.specs.Codes.{code_of, end_rule}
 use Rattle.vb_monitor.specs.Steps.{Step, phase_of, step_of}
+use Rattle.vb_core.specs.declared.device.Device.{Device}
+use Rattle.vb_monitor.specs.Snapshots.{IsCurrent, may_discard}
 use Rattle.vb_c.specs.declared.notice.VbNotice.{VbNotice}
 use Rattle.vb_c.specs.Codes.{kind_of_code}
 
@@ -34,8 +37,8 @@ notice_by None goes step = None
 notice_by (Some kind) false step = None
 notice_by (Some kind) true step = Some (record { kind = kind; step = step })
 
--- It waits for an answer, or for room for the next part that is discarded; or it has ended. Bytes
--- that have no room are copied by no notice.
+-- It waits for an answer, or for room for the next part that is discarded; or it pauses, or has
+-- ended. Bytes that have no room are copied by no notice.
 abbrev pub notice_of : VbNotice → Option Notice
 notice_of c = notice_by (kind_of_code c.kind) (may_go_on (phase_of c.step)) (step_of c.step)
 
@@ -77,6 +80,7 @@ Says c tally (AwaitsPart at place into len) = Unit {0}
 Says c tally (TellsPages place named further) = Unit {0}
 Says c tally (TellsFigures head count) = Unit {0}
 Says c tally (TellsId head id) = Unit {0}
+Says c tally (Paused place) = Unit {0}
 Says c tally (Discards cut x) = Unit {0}
 Says c tally (GivesBack spots entry) = Unit {0}
 Says c tally (AwaitsFlags at why more) = Unit {0}
@@ -94,13 +98,14 @@ abbrev pub asked_bits : Asked → ℕ → ℕ
 asked_bits a cuts = told_bits a.told + (if cuts == 0 then 0 else 8) + 16 * one_if a.gives
 
 -- The bits of what is done for an answer: 32 and 64 are an acquire and a full fence, 128 reads a
--- word, 256 copies bytes.
+-- word, 256 copies bytes; after 512 the caller returns, and goes on later.
 abbrev pub answer_bits : Phase → ℕ
 answer_bits (AwaitsIndex at) = 128
 answer_bits (AwaitsEntry at) = 32 + 128
 answer_bits (AwaitsDescriptor at walk) = 256
 answer_bits (AwaitsPart at place into len) = 256
 answer_bits (AwaitsFlags at why more) = 64 + 128
+answer_bits (Paused place) = 512
 answer_bits (TellsPages place named further) = 0
 answer_bits (TellsFigures head count) = 0
 answer_bits (TellsId head id) = 0
@@ -133,3 +138,21 @@ pub record HasEnded (c : VbNotice) (code : ℕ) : Type 0 where
   pub interrupt : c.step.interrupt ≡ 0
   pub configuration : c.step.configuration ≡ 0
   pub more : c.step.more ≡ 0
+
+-- ---- what a call on its device leaves of it
+
+-- Of the bits of what is to be done, those that still are: all of them, or all but the discards.
+abbrev pub still_asked : Bool → ℕ → ℕ
+still_asked true what = what
+still_asked false what = what - bit_and what 8
+
+-- What is still to be done of a notice is nothing, once its device was reset or its queue changed;
+-- and hints are discarded only while their round is open.
+pub record Rechecks (kind : Kind) (c : VbNotice) (d : Device) (result : ℕ) : Type 0 where
+  pub current : IsCurrent c.left kind d →
+      result ≡ still_asked (may_discard c.left kind d) c.what
+  pub stale : (¬ IsCurrent c.left kind d) → result ≡ 0
+
+abbrev pub RechecksFor : Option Kind → VbNotice → Device → ℕ → Type 0
+RechecksFor None c d result = result ≡ 0
+RechecksFor (Some kind) c d result = Rechecks kind c d result

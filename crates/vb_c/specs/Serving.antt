@@ -1,6 +1,6 @@
 -- What the exports for notices do: what the device over a running guest's memory does next, as
 -- plain data.
-use Rattle.std.specs.Prelude.{◌≡◌, ℕ, Bool, true, false, List, ◌++◌, Option, Some, None}
+use Rattle.std.specs.Prelude.{◌≡◌, ℕ, Bool, true, false, not, ◌&&◌, List, ◌++◌, Option, Some, None}
 use Rattle.vb_core.specs.declared.kinds.Kind.{Kind}
 use Rattle.vb_core.specs.declared.held.Held.{Held}
 use Rattle.vb_core.specs.declared.device.Device.{Device}
@@ -20,8 +20,12 @@ use Rattle.vb_monitor.specs.Giving.{is_kept, kept_pages}
 use Rattle.vb_monitor.specs.declared.outcome.HeldChain.{HeldChain}
 use Rattle.vb_monitor.specs.Balloons.{may_look, held_chain, held_after}
 use Rattle.vb_monitor.specs.Notices.{Serves, GivesHeldBack}
-use Rattle.vb_monitor.specs.Machine.{Fits, waits, Ahead, Awaited, whole}
+use Rattle.vb_monitor.specs.Machine.{Fits, waits, Ahead, Awaited, whole, Onward, is_discarding}
 use Rattle.vb_monitor.specs.Machine.{outcome_at}
+use Rattle.vb_monitor.specs.declared.answers.TheConstants.{STALE}
+use Rattle.vb_monitor.specs.declared.snapshot.Snapshot.{Snapshot}
+use Rattle.vb_monitor.specs.declared.step.{Discarding.Discarding, Phase.TheVariants.Discards}
+use Rattle.vb_monitor.specs.Snapshots.{snapshot_of, IsCurrent, may_discard}
 use Rattle.vb_monitor.specs.Orders.{at_once, HasRoom, FillsList}
 use Rattle.vb_c.specs.declared.notice.VbNotice.{VbNotice}
 use Rattle.vb_monitor.specs.declared.orders.NoticeRoom.{NoticeRoom}
@@ -66,6 +70,7 @@ pub record HandsOver (n : Notice) (regions : List Region) (room : Room) (b1 b2 :
   pub fills : FillsList notice.step.phase c.orders
   pub fits : Fits notice.step.phase
   pub held : b2.held ≡ held_then notice b1
+  pub left : c.left ≡ snapshot_of n.kind b2.device
 
 abbrev pub with_device : Device → Balloon → Balloon
 with_device d b = record b { device = d }
@@ -125,8 +130,40 @@ pub record GoesOn (n : Notice) (regions : List Region) (answer : ℕ) (b1 b2 : B
       (record r1.copied { bytes = before }) (done ++ rest)
   pub hands : HandsOver next regions r2.copied (with_device device b1) b2 r2.cuts c
 
--- What is no notice goes on by nothing.
-abbrev pub GoesOnBy : Option Notice → List Region → ℕ → Balloon → Balloon → NoticeRoom →
+-- Hints whose round isn't open any longer aren't discarded further: their chain is given back.
+pub record LeavesHints (n : Notice) (regions : List Region) (b1 b2 : Balloon) (r1 r2 : NoticeRoom)
+    (c : VbNotice) : Type 0 where
+  pub next : Notice
+  pub device : Device
+  pub kind_is : next.kind ≡ n.kind
+  pub step : (cut : Cut) (x : Discarding) (after : Device) (outcome : Outcome)
+      (log : List Access) → n.step.phase ≡ Discards cut x →
+      Ahead (whole regions n.kind after outcome) next.step device r2.copied log →
+      Onward x.further (whole regions n.kind after outcome) n.step.tally b1.device x.place
+      r1.copied log
+  pub hands : HandsOver next regions r2.copied (with_device device b1) b2 r2.cuts c
+
+-- Hints are left, or the notice goes on.
+abbrev pub GoesOnUnless : Bool → Notice → List Region → ℕ → Balloon → Balloon → NoticeRoom →
     NoticeRoom → VbNotice → Type 0
-GoesOnBy None regions answer b1 b2 r1 r2 c = Refuses (code_of BadArgument) b1 b2 r1 r2 c
-GoesOnBy (Some n) regions answer b1 b2 r1 r2 c = GoesOn n regions answer b1 b2 r1 r2 c
+GoesOnUnless true n regions answer b1 b2 r1 r2 c = LeavesHints n regions b1 b2 r1 r2 c
+GoesOnUnless false n regions answer b1 b2 r1 r2 c = GoesOn n regions answer b1 b2 r1 r2 c
+
+-- What is discarded next may not be any longer.
+abbrev pub leaves_hints : Notice → Snapshot → Device → Bool
+leaves_hints n s d = not (may_discard s n.kind d) && is_discarding n.step.phase
+
+-- The notice goes on while its device is as the notice left it (`s`); else it ends, and nothing is
+-- done.
+pub record GoesOnWhile (n : Notice) (s : Snapshot) (regions : List Region) (answer : ℕ)
+    (b1 b2 : Balloon) (r1 r2 : NoticeRoom) (c : VbNotice) : Type 0 where
+  pub current : IsCurrent s n.kind b1.device →
+      GoesOnUnless (leaves_hints n s b1.device) n regions answer b1 b2 r1 r2 c
+  pub stale : (¬ IsCurrent s n.kind b1.device) → Refuses STALE b1 b2 r1 r2 c
+
+-- What is no notice goes on by nothing.
+abbrev pub GoesOnBy : Option Notice → Snapshot → List Region → ℕ → Balloon → Balloon →
+    NoticeRoom → NoticeRoom → VbNotice → Type 0
+GoesOnBy None s regions answer b1 b2 r1 r2 c = Refuses (code_of BadArgument) b1 b2 r1 r2 c
+GoesOnBy (Some n) s regions answer b1 b2 r1 r2 c =
+    GoesOnWhile n s regions answer b1 b2 r1 r2 c

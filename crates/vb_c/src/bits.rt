@@ -28,3 +28,7 @@ pub(crate) const READ: u32 = 128;
 /// Copy `length` bytes that are `at` to `bytes + into` of the room, each read once: one or up to 32
 /// descriptors of a queue's table (16 bytes each), or bytes of a chain's piece.
 pub(crate) const COPY: u32 = 256;
+
+/// Call vb_go_on later, with this notice and its room's `pieces`: its budget of pages is used up
+/// amid a chain.
+pub(crate) const PAUSE: u32 = 512;

@@ -11,7 +11,7 @@ ghost use Rattle.vb_c.specs.Notices.{IsNotice, HasEnded, IsElse};
 ghost use Rattle.vb_monitor.specs.declared.room.TheConstants.{MAX_BYTES};
 
 use crate::bits::{
-    ACQUIRE, COPY, DISCARD, FULL_FENCE, GIVE_BACK, READ, TELL_FIGURES, TELL_ID, TELL_PAGES,
+    ACQUIRE, COPY, DISCARD, FULL_FENCE, GIVE_BACK, PAUSE, READ, TELL_FIGURES, TELL_ID, TELL_PAGES,
 };
 use crate::kinds::code_of_kind;
 use crate::notice::VbNotice;
@@ -69,6 +69,7 @@ fn answer_bits(phase: &Phase) -> u32
         Phase::AwaitsEntry { .. } => ACQUIRE + READ,
         Phase::AwaitsDescriptor { .. } | Phase::AwaitsPart { .. } => COPY,
         Phase::AwaitsFlags { .. } => FULL_FENCE + READ,
+        Phase::Paused { .. } => PAUSE,
         Phase::TellsPages { .. }
         | Phase::TellsFigures { .. }
         | Phase::TellsId { .. }
@@ -143,6 +144,7 @@ impl VbNotice {
             Phase::AwaitsEntry { .. } => {}
             Phase::AwaitsPart { .. } => {}
             Phase::AwaitsFlags { .. } => {}
+            Phase::Paused { .. } => {}
             Phase::Discards { .. } => {}
             Phase::TellsPages { .. } => {}
             Phase::TellsFigures { .. } => {}

@@ -12,8 +12,6 @@ mod plans;
 mod play;
 mod ports;
 mod run;
-#[cfg(test)]
-mod tests;
 mod threads;
 
 pub use arguments::{ArgumentsFault, Asked, read_arguments};

@@ -3,7 +3,7 @@ use Rattle.std.specs.Prelude.{Ok, Err, take, drop}
 use Rattle.std.proofs.Common.{◌≡◌, ℕ, true, false, List, [], ◌∷◌, ◌++◌, map, refl, ap, arith}
 use Rattle.vb_core.specs.declared.{device.Device.Device, saved.Saved.Saved}
 use Rattle.vb_core.specs.declared.{ring.Virtqueue.Virtqueue, hints.Round.Round}
-use Rattle.vb_core.specs.Format.{in_a_row, round_parts, round_at, HintsNothing}
+use Rattle.vb_core.specs.Format.{in_a_row, round_parts, round_at, HoldsNoDeflate, HintsNothing}
 use Rattle.vb_core.specs.Format.{u16_bytes, u32_bytes, u64_bytes, u16_at, u32_at, u64_at, checksum}
 use Rattle.vb_core.specs.{Format.{saved_bytes, saved_in, older_bytes, older_in, oldest_bytes, oldest_in}, Saved.{can_be, restored}}
 use Rattle.vb_core.specs.declared.saved.StateDenial.TheVariants.{BadLength, BadSum, Impossible, OtherVersion}
@@ -241,3 +241,22 @@ not_restored_at_first : map restored (
     ∷ Err OtherVersion ∷ Err Impossible ∷ []
 unfolding u16_bytes u32_bytes u64_bytes u16_at u32_at u64_at checksum lib.Count.ones
 not_restored_at_first = refl
+
+-- and nothing of deflates: none is held, nor may be
+abbrev holds_nothing : Saved
+holds_nothing = record saved {
+  device = record saved.device { settings = record (saved.device.settings) { holds_deflates = 0 } };
+  held = record saved.held { deflate = 0; pages = 0 };
+}
+
+deflates_nothing : HoldsNoDeflate holds_nothing
+deflates_nothing = record { setting = refl; deflate = refl; pages = refl }
+
+deflates_something : (HoldsNoDeflate (record holds_nothing { device = saved.device }) → ⊥)
+    × (HoldsNoDeflate (record holds_nothing { held = record holds_nothing.held { deflate = 1 } }) → ⊥)
+    × (HoldsNoDeflate (record holds_nothing { held = record holds_nothing.held { pages = 1 } }) → ⊥)
+deflates_something = (
+  λ h. omega (arith, h.setting),
+  λ h. omega (arith, h.deflate),
+  λ h. omega (arith, h.pages),
+)

@@ -1,10 +1,10 @@
 -- Writes of the status register, worked out: what is refused, and for what.
-use Rattle.std.specs.Prelude.{Some, None}
-use Rattle.std.proofs.Common.{◌≡◌, ℕ, [], ◌∷◌, ◌++◌, map, refl}
+use Rattle.std.specs.Prelude.{Some, None, ◌==◌, if◌then◌else◌}
+use Rattle.std.proofs.Common.{◌≡◌, ℕ, Bool, false, [], ◌∷◌, ◌++◌, map, refl, ap}
 use Rattle.vb_status.specs.declared.bits.StatusFault.TheVariants.{ClearsBit, OutOfOrder}
 use Rattle.vb_status.specs.declared.bits.StatusFault.TheVariants.{MustTellHostMissing, VersionMissing}
 use Rattle.vb_core.specs.declared.{device.Device.Device}
-use Rattle.vb_core.{proofs.Examples.offering, specs.{Devices.new_device, Statuses.status_denial}}
+use Rattle.vb_core.{proofs.Examples.offering, specs.{Devices.new_device, Statuses.{status_denial, reset, after_write}}}
 
 -- a device whose settings ask for MUST_TELL_HOST, or don't (0)
 abbrev at_status : ℕ → ℕ → ℕ → Device
@@ -27,3 +27,17 @@ features = refl
 -- no other write does
 once : status_denial 15 (at_status 1 11 0x100000000) ∷ status_denial 3 (at_status 1 1 0) ∷ [] ≡ None ∷ None ∷ []
 once = refl
+
+-- ---- a write that is accepted, 143 (FAILED over all others) say, changes the status alone, and one of 0 resets
+
+abbrev written_if : ℕ → Device → Bool → Device
+written_if write d resets = if resets then reset d else record d { status = write }
+
+status_alone : (write : ℕ) (d : Device) → (write == 0) ≡ false → after_write write d ≡ record d { status = write }
+status_alone write d e = ap (written_if write d) e
+
+failed : (d : Device) → after_write 143 d ≡ record d { status = 143 }
+failed d = refl
+
+resets : (d : Device) → after_write 0 d ≡ reset d
+resets d = refl

@@ -1,5 +1,5 @@
 //! Rounds of free page hints (VIRTIO 1.2, 5.5.6.6): the host begins one, and the driver sends its
-//! id, and then pages that it keeps free until the round ends.
+//! id, and then free pages. It may take each back at any time, by writing to it.
 
 ghost use Rattle.std.specs.Prelude.{◌≡◌, ℕ, true, Some, None, Ok, Err};
 ghost use Rattle.vb_core.specs.declared.device.Denial.{Denial};
@@ -9,7 +9,7 @@ ghost use Rattle.vb_core.specs.Hints.{is_id, next_id, no_round, is_open, begun, 
 
 use crate::{Denial, Device, Kind};
 
-/// What `free_page_hint_cmd_id` shows where no round is on: the driver hints nothing, and keeps
+/// What `free_page_hint_cmd_id` shows where no round is on: the driver hints nothing, and may keep
 /// what it hinted.
 pub const STOP: u32 = 0;
 
@@ -110,7 +110,7 @@ impl Device {
     }
 
     /// Stops a round, at any time: the configuration shows `STOP`. The driver hints nothing more,
-    /// and keeps what it hinted until a round ends by `DONE`.
+    /// and may keep what it hinted until a round ends by `DONE`.
     pub fn stop_round(&mut self)
         ensures { self.new ≡ record self.old { round = showing STOP self.old.round } }
     {

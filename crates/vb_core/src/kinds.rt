@@ -21,7 +21,7 @@ pub enum Kind {
     Deflate,
     /// The guest's figures of its memory.
     Statistics,
-    /// Pages that the guest keeps free for a while.
+    /// Pages that are free in the guest for now.
     Hint,
     /// Pages that are free in the guest.
     Report,

@@ -3,8 +3,6 @@
 
 mod keeper;
 mod table;
-#[cfg(test)]
-mod tests;
 
 pub use keeper::{FrameKeeper, Refused};
 pub use table::{FrameTable, a_table_gives_the_least};

@@ -12,8 +12,6 @@ mod lending;
 mod line;
 mod loan;
 mod terms;
-#[cfg(test)]
-mod tests;
 
 pub use asking::{
     ask_targets, can_spare, needs_into, room_for_all_is_room_for_one, short_is_exact,

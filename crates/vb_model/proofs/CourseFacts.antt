@@ -1,9 +1,10 @@
 -- Worked facts of the words about courses: which entry is a call, where a page is, and which entry
 -- brought it there.
-use Rattle.std.proofs.Common.{[], arith, refl, ◌∷◌}
+use Rattle.std.proofs.Common.{◌≡◌, ◌+◌, ℕ, [], arith, refl, ◌∷◌}
 use Rattle.std.specs.Prelude.{None, Some}
 use Rattle.vb_model.{proofs.Samples.{page_16_at, ready}}
-use Rattle.vb_model.specs.Courses.{BringsTo, Course, IsAt, IsCall}
+use Rattle.vb_model.specs.Courses.{BringsTo, Course, IsAt, IsCall, guest_after}
+use Rattle.vb_model.specs.{Guest.Guest, Pages.place_of, declared.places.Place.Place}
 use Rattle.vb_model.specs.{GuestRun.{Called, Looked}}
 use Rattle.vb_model.specs.declared.calls.Actor.TheVariants.{Processor, Worker}
 use Rattle.vb_model.specs.declared.calls.Call.TheVariants.{Inflate, Reap, Work}
@@ -41,12 +42,19 @@ brought = (
   (page_16_at Giving ready, page_16_at Lent ready, refl, refl, (λ e. cc), refl),
 )
 
+brings : (c : Course) (page : ℕ) (place : Place) (i : ℕ) (before after : Guest) → guest_after c i ≡ Some before
+    → guest_after c (i + 1) ≡ Some after → ¬ IsAt before page place → IsAt after page place → BringsTo c page place i
+brings c page place i before after first then elsewhere there = (before, after, first, then, elsewhere, there)
+
 -- where it was there before, is at another place, or is another page; and no entry past the last
 not_brought : (BringsTo offered_and_lent 16 Giving 1 → ⊥) × (BringsTo offered_and_lent 16 Giving 2 → ⊥)
     × (BringsTo offered_and_lent 16 Lent 0 → ⊥) × (BringsTo offered_and_lent 16 Giving 3 → ⊥)
     × (BringsTo offered_and_lent 17 Giving 0 → ⊥) × (BringsTo offered_and_lent 16 Lent 4 → ⊥)
     × (BringsTo offered_and_lent 16 Lent 5 → ⊥)
 not_brought = grind arith
+
+at_its_place : (g : Guest) (page : ℕ) (place : Place) → place_of g.places page ≡ place → IsAt g page place
+at_its_place g page place e = e
 
 -- a page past the last counts as reserved
 places : IsAt (page_16_at Lent ready) 16 Lent × IsAt (page_16_at Lent ready) 17 FreePlace

@@ -8,12 +8,12 @@ use Rattle.vb_model.specs.Courses.{Course, guest_after, IsWriteTo, StaysHeld, St
 use Rattle.vb_model.{specs.declared.places.Place.Place, specs.declared.calls.Claim.TheVariants.Gave}
 use Rattle.vb_model.{specs.declared.calls.Actor.TheVariants.Worker, specs.Pages.{place_of, is_used}}
 use Rattle.vb_model.specs.declared.calls.Call.TheVariants.{Write, Scribble, Reset, Sweep, Work}
-use Rattle.vb_model.{specs.declared.calls.Event.Event, specs.Requests.BufferDone, specs.Guest.Guest}
+use Rattle.vb_model.{specs.declared.calls.Event.Event, specs.Requests.{StatisticsBuffer, BufferDone}, specs.Guest.Guest}
 use Rattle.vb_virtio.specs.declared.refusals.Refusal.TheVariants.{NoFrame}
 use Rattle.vb_model.specs.World.{World}
 use Rattle.vb_model.specs.declared.replies.Reply.TheVariants.{Done, Refused, Swept}
 use Rattle.vb_model.{specs.Run.History, specs.GuestRun.{Called, Looked}, specs.Courses.last_put}
-use Rattle.vb_model.specs.HonestRuns.{IsThere, MakesNoScribble, IsAttentive}
+use Rattle.vb_model.specs.HonestRuns.{IsThere, MakesNoScribble, IsAttentive, has_buffer}
 use Rattle.vb_model.proofs.Samples.{ready, down, without_stats_vq, page_16_at, request}
 use Rattle.vb_model.proofs.SafeFacts.{made, stands}
 use Rattle.vb_model.specs.declared.places.Place.TheVariants.{Reserved, Free as FreePlace, Used}
@@ -251,6 +251,14 @@ busy : IsAttentive
     (record ready
     { inflate = used; deflate = posted; report = used; buffer = BufferPosted figures })
 busy = grind arith
+
+busy_with : (buffer : StatisticsBuffer) → has_buffer buffer ≡ true → IsAttentive (record ready { buffer = buffer })
+busy_with buffer e = record {
+  inflating = λ other. absurd (other refl);
+  deflating = λ other. absurd (other refl);
+  reporting = λ other. absurd (other refl);
+  buffered = e;
+}
 
 idle : IsAttentive failed
 idle = grind arith

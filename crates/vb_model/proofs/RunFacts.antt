@@ -1,5 +1,5 @@
 -- Worked facts of runs, of states, and of the entries of one guest.
-use Rattle.std.proofs.Common.{List, [], ap, arith, false, length, map, refl, replicate, true, ℕ}
+use Rattle.std.proofs.Common.{◌≢◌, List, [], ap, arith, false, length, map, refl, replicate, true, ℕ}
 use Rattle.std.{proofs.Common.{◌++◌, ◌∷◌, ◌≡◌}, specs.Prelude.{None, Option, Some, unwrap_or}}
 use Rattle.vb_virtio.proofs.Differ.{differ}
 use Rattle.vb_virtio.specs.declared.refusals.Refusal.TheVariants.{OutOfRam, Short}
@@ -12,7 +12,7 @@ use Rattle.vb_model.specs.declared.calls.{Actor.TheVariants.{Balancer, Processor
 use Rattle.vb_model.specs.declared.calls.Call.TheVariants.{Ask, Init, Reset, Scribble, SetTarget}
 use Rattle.vb_model.specs.declared.calls.{Call.TheVariants.{Work, Write}, Claim.TheVariants.Gave}
 use Rattle.vb_model.specs.declared.calls.Event.TheVariants.{Balance, Frames as CountFrames, Restart}
-use Rattle.vb_model.specs.declared.calls.Event.TheVariants.{Guest as OnGuest, Unplug}
+use Rattle.vb_model.specs.declared.calls.Event.{Event, TheVariants.{Guest as OnGuest, Unplug}}
 use Rattle.vb_model.specs.declared.replies.Reply.{Reply}
 use Rattle.vb_model.specs.declared.replies.Reply.TheVariants.{Done, Frames, Idle, Refused, Targets}
 
@@ -201,6 +201,9 @@ refused_scribble = (refl, (refl, refl, refl))
 
 others_may_end : InOneLife 1 (Restart 0 ∷ Unplug 2 ∷ OnGuest 1 Work ∷ [])
 others_may_end = ((λ e. cc), (λ e. cc), ((λ e. cc), (λ e. cc), ((λ e. cc), (λ e. cc), tt)))
+
+all_others_may_come : (n : ℕ) (event : Event) → event ≢ Restart n → event ≢ Unplug n → InOneLife n (event ∷ [])
+all_others_may_come n event restarts ends = (restarts, ends, tt)
 
 restarted : InOneLife 1 (OnGuest 1 Work ∷ Restart 1 ∷ []) → ⊥
 restarted l = l.2.0 refl

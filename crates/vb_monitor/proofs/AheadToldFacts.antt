@@ -2,9 +2,9 @@
 -- worked out.
 use Rattle.vb_monitor.proofs.Samples.{room_of}
 use Rattle.vb_monitor.specs.declared.room.Room.{Room}
-use Rattle.std.proofs.Common.{refl, ap, arith, ℕ, Bool, true, false, List, [], ◌∷◌, length, Some, None}
+use Rattle.std.proofs.Common.{◌≡◌, refl, ap, arith, ℕ, Bool, true, false, List, [], ◌∷◌, length, Some, None}
 use Rattle.vb_chain.specs.declared.fault.ChainFault.TheVariants.{BadHead}
-use Rattle.vb_core.specs.declared.kinds.Kind.TheVariants.{Inflate, Deflate, Statistics}
+use Rattle.vb_core.specs.declared.kinds.Kind.{Kind, TheVariants.{Inflate, Deflate, Statistics}}
 use Rattle.vb_core.specs.declared.{statistics.Statistic.Statistic, device.Device.Device}
 use Rattle.vb_core.specs.declared.device.Denial.TheVariants.{Broken, NotReady, NeedsReset}
 use Rattle.vb_core.specs.{Rings.used_entry, Devices.needing_reset}
@@ -13,7 +13,7 @@ use Rattle.vb_monitor.specs.declared.step.{Discarding.Discarding, Place.Place, P
 use Rattle.vb_monitor.specs.declared.step.Phase.TheVariants.{AwaitsIndex, TellsPages, TellsFigures, Discards, GivesBack, AwaitsFlags, Ended}
 use Rattle.vb_monitor.specs.declared.giving.UsedSpots.{UsedSpots}
 use Rattle.vb_monitor.specs.Accesses.{Access, ReadWord, Acquire, Release, Full, TellPages, TellFigures, Discard}
-use Rattle.vb_monitor.specs.{Ends.Whole, Giving.{after_use, with_given}, Machine.{AheadAt, Ahead, AwaitedBy, Awaited}}
+use Rattle.vb_monitor.specs.{Ends.Whole, Giving.{after_use, with_given}, Machine.{AheadAt, Ahead, AwaitedBy, Awaited, Does, is_discarding}}
 use Rattle.vb_monitor.proofs.Samples.{Same, at, ring, ready, tally, page_5, over_the_hole, cut_5, cut_20, cut_22, one_page, two}
 use Rattle.vb_monitor.proofs.Samples.{flags_are_read, chain_of, index, discard, id, used_length, used_index, flags, given}
 use Rattle.vb_monitor.proofs.AheadFacts.{over, ends, empty, publishing, word_at}
@@ -204,6 +204,15 @@ something_done w h = let e = h.nothing in absurd cc
 
 abbrev discards : Phase
 discards = Discards cut_5 (discarding 1)
+
+-- in each phase, of each kind and in each room
+as_it_is_done : (phase : Phase) (kind : Kind) (answer : ℕ) (before : List ℕ) (room : Room) (done : List Access)
+    → is_discarding phase ≡ false → Awaited phase kind answer before room done ≡ Does phase kind answer before room done
+as_it_is_done phase kind answer before room done e = ap (λ (b : Bool). AwaitedBy b phase kind answer before room done) e
+
+nothing_of_parts : (phase : Phase) (kind : Kind) (answer : ℕ) (before : List ℕ) (room : Room) (done : List Access)
+    → is_discarding phase ≡ true → Awaited phase kind answer before room done ≡ (done ≡ [])
+nothing_of_parts phase kind answer before room done e = ap (λ (b : Bool). AwaitedBy b phase kind answer before room done) e
 
 none_awaited : Awaited discards Inflate 0 [] empty []
 none_awaited = refl

@@ -12,6 +12,7 @@ use Rattle.vb_chain.specs.declared.fault.ChainFault.TheVariants.{BadLength}
 use Rattle.vb_monitor.specs.declared.{parts.Part.Part, outcome.Tally.Tally}
 use Rattle.vb_monitor.specs.{Accesses.Access, Ends.{Whole, Breaks}, Pieces.PartAt, Regions.spot}
 use Rattle.vb_monitor.specs.Portions.{is_full, CopiesPart, CopiesParts, CopiesFurther, ServesPortion}
+use Rattle.vb_monitor.specs.Portions.{GoesFurther}
 
 -- what serves the last portion
 abbrev pub Serves : Type 1
@@ -36,13 +37,13 @@ copies_more w served d t parts rest part so_far log e full h =
 pub copies_full : (w : Whole) (served : Serves) (d : Device) (t : Tally) (parts rest : List Part)
     (part : Part) (so_far : List ℕ) (log : List Access) → parts ≡ part ∷ rest →
     is_full so_far ≡ true →
-    ServesPortion w.kind w (λ d2 t2 l. CopiesFurther w served d2 t2 parts l) d t so_far log →
+    ServesPortion w.kind w (λ d2 t2 l. GoesFurther w served d2 parts t2 l) d t so_far log →
     CopiesParts w served d t parts so_far log
 copies_full w served d t parts rest part so_far log e full h =
     subst (λ (ps : List Part). CopiesParts w served d t ps so_far log) (sym e)
     (subst (λ b. CopiesPart b w (λ d2 t2 now l. PartAt w (CopiesParts w served d2 t2 rest) d2 t2 part
     now (spot w.regions (part.address + part.plus) part.length) l) d t so_far log) (sym full)
-    (subst (λ (ps : List Part). ServesPortion w.kind w (λ d2 t2 l. CopiesFurther w served d2 t2 ps l)
+    (subst (λ (ps : List Part). ServesPortion w.kind w (λ d2 t2 l. GoesFurther w served d2 ps t2 l)
     d t so_far log) e h))
 
 pub further_none : (w : Whole) (served : Serves) (d : Device) (t : Tally) (parts : List Part)
@@ -63,7 +64,7 @@ further_more w served d t parts rest part log e h =
 pub copies_portion : (w : Whole) (served : Serves) (d : Device) (t : Tally) (into done : ℕ)
     (ps : List Piece) (bytes : List ℕ) (part : Part) (rest : List Part) (log : List Access) →
     into ≡ MAX_BYTES → length bytes ≡ MAX_BYTES → parts_on into done ps ≡ part ∷ rest →
-    ServesPortion w.kind w (λ d2 t2 l. CopiesFurther w served d2 t2 (parts_on 0 done ps) l) d t bytes
+    ServesPortion w.kind w (λ d2 t2 l. GoesFurther w served d2 (parts_on 0 done ps) t2 l) d t bytes
     log → CopiesParts w served d t (parts_on into done ps) (take into bytes) log
 copies_portion w served d t into done ps bytes part rest log e long parts h =
     let again : parts_on 0 done ps ≡ parts_on into done ps = all_again ps done 0 into
@@ -73,9 +74,9 @@ copies_portion w served d t into done ps bytes part rest log e long parts h =
     ap (λ (l : List ℕ). length l == MAX_BYTES) all ∙ ap (λ (n : ℕ). n == MAX_BYTES) long in
     copies_full w served d t (parts_on into done ps) rest part (take into bytes) log parts full
     (subst (λ (l : List ℕ). ServesPortion w.kind w
-    (λ d2 t2 l2. CopiesFurther w served d2 t2 (parts_on into done ps) l2) d t l log) (sym all)
+    (λ d2 t2 l2. GoesFurther w served d2 (parts_on into done ps) t2 l2) d t l log) (sym all)
     (subst (λ (qs : List Part). ServesPortion w.kind w
-    (λ d2 t2 l. CopiesFurther w served d2 t2 qs l) d t bytes log) again h))
+    (λ d2 t2 l. GoesFurther w served d2 qs t2 l) d t bytes log) again h))
 
 pub few_pieces : (n : ℕ) (all first : List ChainPiece) → first ≡ take n all →
     length all ≡ MAX_PIECES → length first ≤ MAX_QUEUE_SIZE

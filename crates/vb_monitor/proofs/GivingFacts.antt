@@ -79,9 +79,12 @@ given = refl
 now_held : with_held 3 2 tally ≡ record tally { held = chain_of 3 2 }
 now_held = refl
 
+abbrev named_of : ℕ → ℕ → Named
+named_of pages skipped = record { runs = 1; pages = pages; skipped = skipped }
+
 -- once its pages are named, a chain is held where its kind's are: deflates by the setting
 abbrev of_kind : ℕ → Kind → Tally
-of_kind setting kind = with_named kind (record settings { holds_deflates = setting }) 3 2 tally
+of_kind setting kind = with_named kind (record settings { holds_deflates = setting }) 3 (named_of 2 0) tally
 
 named_and_held : map (of_kind 1) (Inflate ∷ Deflate ∷ Statistics ∷ Hint ∷ Report ∷ []) ≡
     record tally { pages = 1; told = 2 } ∷ record tally { pages = 1; told = 2; held = chain_of 3 2 }
@@ -93,18 +96,22 @@ named_alone : of_kind 0 Deflate ≡ record tally { pages = 1; told = 2 }
 named_alone = refl
 
 -- with the pages of its portions that were told before
-with_all_pages : with_named Deflate (record settings { holds_deflates = 1 }) 3 2 (record tally { told = 256 }) ≡
+with_all_pages : with_named Deflate (record settings { holds_deflates = 1 }) 3 (named_of 2 0) (record tally { told = 256 }) ≡
     record tally { pages = 1; told = 258; held = chain_of 3 258 }
 with_all_pages = refl
 
-one_spent : spent 1 tally ≡ record tally { pages = 2; told = 1 }
+one_spent : spent (named_of 1 0) tally ≡ record tally { pages = 2; told = 1 }
 one_spent = refl
 
-no_less_than_none : spent 300 tally ≡ record tally { pages = 0; told = 300 }
+-- a number that is skipped counts as well, and isn't told
+with_one_skipped : spent (named_of 1 1) tally ≡ record tally { pages = 1; told = 1 }
+with_one_skipped = refl
+
+no_less_than_none : spent (named_of 300 0) tally ≡ record tally { pages = 0; told = 300 }
 no_less_than_none = refl
 
 -- 32 bits count them
-no_more_than_all : (spent 3 (record tally { told = 0xfffffffe })).told ≡ 0xffffffff
+no_more_than_all : (spent (named_of 3 0) (record tally { told = 0xfffffffe })).told ≡ 0xffffffff
 no_more_than_all = refl
 
 -- ---- what is discarded
@@ -254,11 +261,11 @@ refused = record { nothing = refl; device = refl; outcome = refl }
 refused_and_told : AfterName whole last ready tally 3 (page_5 ∷ []) (Err BadArgument) (pages ∷ []) → ⊥
 refused_and_told h = let e = h.nothing in absurd cc
 
--- the first runs alone count, and the pages are taken off the budget
+-- the first runs alone count, and the pages and the skipped numbers are taken off the budget
 abbrev two_skipped : Named
 two_skipped = record { runs = 1; pages = 2; skipped = 2 }
 
-first_run : AfterName whole (λ d t log. (t ≡ with_given (record tally { pages = 1; told = 2 })) × (log ≡ [])) ready tally 3 (page_5 ∷ over_the_hole ∷ [])
+first_run : AfterName whole (λ d t log. (t ≡ with_given (record tally { pages = 0; told = 2 })) × (log ≡ [])) ready tally 3 (page_5 ∷ over_the_hole ∷ [])
     (Ok two_skipped) (TellPages Inflate (page_5 ∷ []) two_skipped ∷ discard ∷ id ∷ used_length ∷ Release ∷ used_index ∷ [])
 unfolding lib.Count.ones
 first_run = record {

@@ -6,7 +6,7 @@ use Rattle.vb_core.specs.declared.{settings.Settings.Settings, device.Device.Dev
 use Rattle.vb_core.specs.Hints.{is_open}
 use Rattle.vb_monitor.specs.declared.{regions.Region.Region}
 use Rattle.vb_monitor.specs.Accesses.{Access, ReadWord, CopyBytes, Acquire, Release, Full, TellPages}
-use Rattle.vb_monitor.specs.Accesses.{TellFigures, TellId, Discard, WriteNumber, WriteWord}
+use Rattle.vb_monitor.specs.Accesses.{TellFigures, TellId, Pause, Discard, WriteNumber, WriteWord}
 use Rattle.vb_monitor.specs.SoFar.{Known, Unknown, Walks, Has, known, round_so_far}
 use Rattle.vb_monitor.specs.Turns.{TellNamed, TellsOf, TellsInTurn, HintsInRound}
 
@@ -41,6 +41,7 @@ hints_by regions kind all d before Release t = tt
 hints_by regions kind all d before Full t = tt
 hints_by regions kind all d before (TellFigures figures) t = tt
 hints_by regions kind all d before (TellId id) t = tt
+hints_by regions kind all d before Pause t = tt
 hints_by regions kind all d before (Discard cut) t = tt
 hints_by regions kind all d before (WriteNumber at number) t = tt
 hints_by regions kind all d before (WriteWord at word) t = tt

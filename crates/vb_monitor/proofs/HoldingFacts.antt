@@ -11,14 +11,14 @@ use Rattle.vb_monitor.proofs.Samples.{Same, two, at, settings, ready, tally, pag
 use Rattle.vb_monitor.proofs.Samples.{discard, id, used_length, used_index}
 
 -- the device holds deflates
-abbrev holding : Settings
+abbrev pub holding : Settings
 holding = record settings { holds_deflates = 1 }
 
 abbrev holder : Device
 holder = record ready { settings = holding }
 
 abbrev then_tally : ℕ → Tally
-then_tally pages = with_held 3 pages (spent 1 tally)
+then_tally pages = with_held 3 pages (spent one_page tally)
 
 abbrev ended : Tally → Outcome
 ended t = record { tally = t; why = None; interrupt = false; more = false }
@@ -68,13 +68,13 @@ pages_held o = number o.tally.held where
   number None = 70000
   number (Some x) = x.pages
 
-another_chain : (d : Device) → Names holder d (ended (with_held 4 1 (spent 1 tally))) (told ∷ []) → ⊥
+another_chain : (d : Device) → Names holder d (ended (with_held 4 1 (spent one_page tally))) (told ∷ []) → ⊥
 another_chain d h = let e : Same 4 3 = ap head_held h.goes_on.outcome in omega arith
 
 two_pages : (d : Device) → Names holder d (ended (then_tally 2)) (told ∷ []) → ⊥
 two_pages d h = let e : Same 2 1 = ap pages_held h.goes_on.outcome in omega arith
 
-no_chain : (d : Device) → Names holder d (ended (spent 1 tally)) (told ∷ []) → ⊥
+no_chain : (d : Device) → Names holder d (ended (spent one_page tally)) (told ∷ []) → ⊥
 no_chain d h = let e : Same 70000 1 = ap pages_held h.goes_on.outcome in omega arith
 
 -- ---- what each access of such a notice may be

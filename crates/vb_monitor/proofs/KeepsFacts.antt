@@ -5,7 +5,7 @@ use Rattle.vb_core.specs.declared.kinds.Kind.TheVariants.{Inflate, Deflate, Stat
 use Rattle.vb_core.{specs.declared.device.Device.Device}
 use Rattle.vb_monitor.specs.declared.{cuts.Cut.Cut, outcome.{Budget.Budget, Outcome.Outcome, Tally.Tally}}
 use Rattle.vb_core.specs.declared.runs.Run.{Run}
-use Rattle.vb_monitor.specs.Accesses.{Access, ReadWord, CopyBytes, Acquire, Release, Full, TellPages, TellFigures, TellId, Discard, WriteNumber, WriteWord}
+use Rattle.vb_monitor.specs.Accesses.{Access, ReadWord, CopyBytes, Acquire, Release, Full, TellPages, TellFigures, TellId, Pause, Discard, WriteNumber, WriteWord}
 use Rattle.vb_monitor.specs.{Ends.Whole, Notices.{Serves, fresh, with_chains}, SoFar.{left, without_first}}
 use Rattle.vb_monitor.specs.Giving.{Then, is_kept, kept_pages, cuts_for, with_given, spent, after_use, TellsThen}
 use Rattle.vb_monitor.{specs.Turns.{TellsInTurn, IsNext}, proofs.TurnLaws.tells_in_turn, proofs.TurnLaws.in_order}
@@ -57,7 +57,7 @@ abbrev keeps : Tally
 keeps = record tally { keeps = true }
 
 -- whatever is counted
-carried : with_given (spent 2 (with_chains 5 keeps)) ≡
+carried : with_given (spent (record one_page { pages = 2 }) (with_chains 5 keeps)) ≡
     record keeps { chains = 5; pages = 1; told = 2; given = true }
 carried = refl
 
@@ -233,6 +233,7 @@ none_left (Full ∷ xs) = none_left xs
 none_left (TellPages kind runs named ∷ xs) = none_of_kept kind runs
 none_left (TellFigures figures ∷ xs) = none_left xs
 none_left (TellId n ∷ xs) = none_left xs
+none_left (Pause ∷ xs) = none_left xs
 none_left (Discard cut ∷ xs) = ap (λ (cuts : List Cut). without_first cuts) (none_left xs)
 none_left (WriteNumber at number ∷ xs) = none_left xs
 none_left (WriteWord at word ∷ xs) = none_left xs

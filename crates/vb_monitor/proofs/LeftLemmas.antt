@@ -5,7 +5,7 @@ use Rattle.std.specs.Prelude.{IfSome}
 use Rattle.vb_core.specs.declared.runs.Run.{Run}
 use Rattle.vb_monitor.{specs.declared.step.Phase.Phase, specs.declared.room.TheConstants.MAX_RUNS}
 use Rattle.vb_monitor.{specs.declared.outcome.Tally.Tally, specs.declared.cuts.NextCut.NextCut}
-use Rattle.vb_monitor.specs.declared.step.Phase.TheVariants.{TellsPages, TellsFigures, TellsId, Discards}
+use Rattle.vb_monitor.specs.declared.step.Phase.TheVariants.{TellsPages, TellsFigures, TellsId, Discards, Paused}
 use Rattle.vb_monitor.specs.declared.step.Phase.TheVariants.{GivesBack, AwaitsFlags, Ended}
 use Rattle.vb_monitor.specs.declared.step.Phase.TheVariants.{AwaitsDescriptor, AwaitsPart}
 use Rattle.vb_monitor.specs.declared.step.Phase.TheVariants.{AwaitsIndex, AwaitsEntry}
@@ -73,23 +73,24 @@ not_over (AwaitsPart at place into len) t e = refl
 not_over (TellsPages place named further) t e = refl
 not_over (TellsFigures head count) t e = refl
 not_over (TellsId head id) t e = refl
+not_over (Paused place) t e = refl
 not_over (Discards cut x) t e = refl
 not_over (GivesBack spots entry) t e = refl
 not_over (AwaitsFlags at why more) t e = refl
 
 -- ---- copies
 
-pub copies_some : (rs : List Region) (piece done : ℕ) → once_named rs + 1 ≤ copies_left rs piece done
+pub copies_some : (rs : List Region) (piece done : ℕ) → once_named rs + 2 ≤ copies_left rs piece done
 unfolding copies_left
 copies_some rs piece done =
-    let more = times_more 0 (bytes_left piece done + 1) (once_named rs + 1) (omega arith) in
+    let more = times_more 0 (bytes_left piece done + 1) (once_named rs + 2) (omega arith) in
     grind (arith, more)
 
 pub copies_fewer : (rs : List Region) (piece done after_piece after_done : ℕ) →
     bytes_left after_piece after_done < bytes_left piece done →
-    once_named rs + 1 + copies_left rs after_piece after_done ≤ copies_left rs piece done
+    once_named rs + 2 + copies_left rs after_piece after_done ≤ copies_left rs piece done
 unfolding copies_left
 copies_fewer rs piece done after_piece after_done lt =
     let more = times_more (bytes_left after_piece after_done + 1) (bytes_left piece done + 1)
-    (once_named rs + 1) (omega (arith, lt)) in
+    (once_named rs + 2) (omega (arith, lt)) in
     grind (arith, more)

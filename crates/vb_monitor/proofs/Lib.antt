@@ -35,6 +35,7 @@ pub mod TurnLaws
 pub mod HeldBackLemmas
 pub mod RoundLemmas
 mod HintFacts
+mod SnapshotFacts
 pub mod PartsOfRunLemmas
 mod Samples
 mod RowFacts
@@ -44,6 +45,7 @@ mod TurnFacts
 mod TellingFacts
 mod HeldBackFacts
 mod HoldingFacts
+mod HeldPagesFacts
 mod PartsOfRunsFacts
 mod StepFacts
 mod MachineFacts
@@ -57,8 +59,12 @@ mod LookFacts
 mod WholeFacts
 mod NamedFacts
 mod PortionFacts
+mod PauseFacts
 mod TwoFacts
 mod StatisticsFacts
+pub mod RoomLemmas
+pub mod BudgetLemmas
+pub mod BudgetTurns
 pub mod LargeLemmas
 pub mod LargeRows
 pub mod LargeLaws
@@ -66,8 +72,8 @@ mod LargeFacts
 mod LargeWaitFacts
 mod WholeReportFacts
 mod WholeHintFacts
+mod LifeFacts
 mod KeepsFacts
-pub mod RoomLemmas
 pub mod OpenLemmas
 pub mod WithinLemmas
 pub mod StillWalk

@@ -2,7 +2,8 @@
 -- 20, and 22 to 31.
 use Rattle.std.proofs.Common.{◌≡◌, ◌∙◌, refl, arith, inl, inr, ℕ, ◌/◌, true, false, Ok, Err}
 use Rattle.vb_core.specs.declared.{ring.Virtqueue.Virtqueue, device.Device.Device, saved.Saved.Saved}
-use Rattle.vb_core.specs.Devices.{placed, new_device}
+use Rattle.vb_core.specs.declared.kinds.Kind.{Kind, TheVariants.{Inflate, Deflate, Statistics, Hint, Report}}
+use Rattle.vb_core.specs.Devices.{placed, new_device, with_ring}
 use Rattle.vb_monitor.specs.declared.{balloon.Balloon.Balloon, placing.RestoreDenial.TheVariants.Elsewhere}
 use Rattle.vb_monitor.specs.Places.{is_memory, HasMemory, Lies, AllLie, FitsOver, RestoresBy}
 use Rattle.vb_monitor.proofs.{PlaceLemmas.same_page, Samples.{Same, two, ring, settings, ready, a_buffer}}
@@ -56,24 +57,19 @@ no_place : Lies two (record over_it { size = 0 })
 no_place = inl refl
 
 all_lie : AllLie two ready
-all_lie = record {
-  inflate = inr in_low_pages;
-  deflate = inr in_low_pages;
-  statistics = inr in_low_pages;
-  report = inr in_low_pages;
-}
+all_lie Inflate = inr in_low_pages
+all_lie Deflate = inr in_low_pages
+all_lie Statistics = inr in_low_pages
+all_lie Hint = inr in_low_pages
+all_lie Report = inr in_low_pages
 
-inflate_over_it : AllLie two (record ready { inflate = over_it }) → ⊥
-inflate_over_it h = not_there h.inflate
-
-deflate_over_it : AllLie two (record ready { deflate = over_it }) → ⊥
-deflate_over_it h = not_there h.deflate
-
-statistics_over_it : AllLie two (record ready { statistics = over_it }) → ⊥
-statistics_over_it h = not_there h.statistics
-
-reports_over_it : AllLie two (record ready { report = over_it }) → ⊥
-reports_over_it h = not_there h.report
+-- the queue of any one kind over the hole
+one_over_it : (kind : Kind) → AllLie two (with_ring kind over_it ready) → ⊥
+one_over_it Inflate h = not_there (h Inflate)
+one_over_it Deflate h = not_there (h Deflate)
+one_over_it Statistics h = not_there (h Statistics)
+one_over_it Hint h = not_there (h Hint)
+one_over_it Report h = not_there (h Report)
 
 -- ---- what was saved of a device
 
@@ -86,12 +82,14 @@ saved d = record { device = d; held = a_buffer 4 }
 fits : FitsOver two fresh (saved ready)
 fits = record { same_end = refl; lie = all_lie }
 
-not_over_these : FitsOver two fresh (saved (record ready { report = over_it })) → ⊥
-not_over_these h = reports_over_it h.lie
+not_over_these : (kind : Kind) → FitsOver two fresh (saved (with_ring kind over_it ready)) → ⊥
+not_over_these kind h = one_over_it kind h.lie
 
 -- it is refused for the place of one queue, and nothing is changed
-refused : RestoresBy (Ok (saved (record ready { report = over_it }))) two fresh fresh (Err Elsewhere)
-refused = record { elsewhere = λ no. (refl, refl); goes_on = λ h. absurd (not_over_these h) }
+refused : (kind : Kind) →
+    RestoresBy (Ok (saved (with_ring kind over_it ready))) two fresh fresh (Err Elsewhere)
+refused kind = record { elsewhere = λ no. (refl, refl); goes_on = λ h. absurd (not_over_these kind h) }
 
-goes_on_all_the_same : (b : Balloon) → RestoresBy (Ok (saved (record ready { report = over_it }))) two fresh b (Ok tt) → ⊥
-goes_on_all_the_same b h = let e = (h.elsewhere not_over_these).0 in absurd cc
+goes_on_all_the_same : (kind : Kind) → (b : Balloon) →
+    RestoresBy (Ok (saved (with_ring kind over_it ready))) two fresh b (Ok tt) → ⊥
+goes_on_all_the_same kind b h = let e = (h.elsewhere (not_over_these kind)).0 in absurd cc

@@ -14,7 +14,7 @@ use Rattle.vb_monitor.specs.declared.step.Place.{Place}
 use Rattle.vb_monitor.specs.declared.step.Discarding.{Discarding}
 use Rattle.vb_monitor.specs.declared.step.Phase.{Phase}
 use Rattle.vb_monitor.specs.declared.step.Phase.TheVariants.{AwaitsIndex, AwaitsEntry, AwaitsDescriptor, AwaitsPart}
-use Rattle.vb_monitor.specs.declared.step.Phase.TheVariants.{TellsPages, TellsFigures, TellsId, Discards, GivesBack, AwaitsFlags, Ended}
+use Rattle.vb_monitor.specs.declared.step.Phase.TheVariants.{TellsPages, TellsFigures, TellsId, Discards, GivesBack, AwaitsFlags, Paused, Ended}
 use Rattle.vb_monitor.specs.Accesses.{Access, Steps, Makes, ReadWord, CopyBytes, Acquire, Release, Full, TellPages, TellFigures}
 use Rattle.vb_monitor.specs.Machine.{cuts_after, is_ended, stage, waits, outcome_at, Fits, Does, GoesOn}
 use Rattle.vb_monitor.specs.{declared.cuts.NextCut.NextCut, Orders.cuts_left}
@@ -43,25 +43,25 @@ abbrev phases : List Phase
 phases =
     AwaitsIndex (at 0x102) ∷ AwaitsEntry (at 0x104) ∷ AwaitsDescriptor (at 0x30) walk ∷ AwaitsPart (at 0x400) place 0 4
     ∷ TellsPages place named false ∷ TellsFigures 3 1 ∷ TellsId 3 6 ∷ Discards cut_5 discarding ∷ GivesBack spots (used_entry ring 3)
-    ∷ AwaitsFlags (at 0x100) None false ∷ Ended None true false ∷ []
+    ∷ AwaitsFlags (at 0x100) None false ∷ Paused place ∷ Ended None true false ∷ []
 
 -- the last one alone has ended, and it alone has an outcome
 ended : map is_ended phases ≡
-    false ∷ false ∷ false ∷ false ∷ false ∷ false ∷ false ∷ false ∷ false ∷ false ∷ true ∷ []
+    false ∷ false ∷ false ∷ false ∷ false ∷ false ∷ false ∷ false ∷ false ∷ false ∷ false ∷ true ∷ []
 ended = refl
 
 -- something is told, bytes are discarded, the chain is given back, and then an answer is awaited
-stages : map stage phases ≡ 3 ∷ 3 ∷ 3 ∷ 3 ∷ 0 ∷ 0 ∷ 0 ∷ 1 ∷ 2 ∷ 3 ∷ 3 ∷ []
+stages : map stage phases ≡ 3 ∷ 3 ∷ 3 ∷ 3 ∷ 0 ∷ 0 ∷ 0 ∷ 1 ∷ 2 ∷ 3 ∷ 3 ∷ 3 ∷ []
 stages = refl
 
 waiting : map waits phases ≡
-    true ∷ true ∷ true ∷ true ∷ false ∷ false ∷ false ∷ true ∷ false ∷ true ∷ true ∷ []
+    true ∷ true ∷ true ∷ true ∷ false ∷ false ∷ false ∷ true ∷ false ∷ true ∷ true ∷ true ∷ []
 waiting = refl
 
 abbrev outcome_of : Phase → Option Outcome
 outcome_of phase = outcome_at phase tally
 
-outcomes : map outcome_of phases ≡ None ∷ None ∷ None ∷ None ∷ None ∷ None ∷ None ∷ None ∷ None ∷ None
+outcomes : map outcome_of phases ≡ None ∷ None ∷ None ∷ None ∷ None ∷ None ∷ None ∷ None ∷ None ∷ None ∷ None
     ∷ Some (record { tally = tally; why = None; interrupt = true; more = false }) ∷ []
 outcomes = refl
 
@@ -69,24 +69,24 @@ as_it_ended : outcome_at (Ended (Some NotReady) false true) (record tally { page
     Some (record { tally = record tally { pages = 2 }; why = Some NotReady; interrupt = false; more = true })
 as_it_ended = refl
 
--- what is left of a chain, over two regions: 515 once its pages are named, and 516 times as much as
+-- what is left of a chain, over two regions: 515 once its pages are named, and 517 times as much as
 -- bytes are left and one before that
 left_of_each : map (left_of two) phases ≡
-    2 ∷ 567347999933705 ∷ 567347999933704 ∷ 567347999931384 ∷ 515 ∷ 2 ∷ 3 ∷ 514 ∷ 2 ∷ 1 ∷ 0 ∷ []
+    2 ∷ 568447511561483 ∷ 568447511561482 ∷ 568447511559158 ∷ 515 ∷ 2 ∷ 3 ∷ 514 ∷ 2 ∷ 1 ∷ 568447511558644 ∷ 0 ∷ []
 unfolding parts_left copies_left
 left_of_each = refl
 
-one_piece_later : left_of two (AwaitsPart (at 0x400) (record place { piece = 1 }) 0 4) ≡ 565131796806648
+one_piece_later : left_of two (AwaitsPart (at 0x400) (record place { piece = 1 }) 0 4) ≡ 566227013467126
 unfolding copies_left
 one_piece_later = refl
 
 -- of a portion that is told and discarded what is copied then counts too
 of_a_portion : map (left_of two) (TellsPages place named true ∷ Discards cut_5 (record discarding { further = true }) ∷ []) ≡
-    567347999931383 ∷ 567347999931382 ∷ []
+    568447511559157 ∷ 568447511559156 ∷ []
 unfolding parts_left copies_left
 of_a_portion = refl
 
-one_descriptor_later : left_of two (AwaitsDescriptor (at 0x30) (record walk { count = 1 })) ≡ 567347999933703
+one_descriptor_later : left_of two (AwaitsDescriptor (at 0x30) (record walk { count = 1 })) ≡ 568447511561481
 unfolding copies_left
 one_descriptor_later = refl
 
@@ -100,7 +100,7 @@ unfolding parts_left
 of_the_run_before = refl
 
 -- each chain of the budget counts
-left_of_all : left two (record { tally = tally; phase = AwaitsIndex (at 0x102) }) ≡ 8 * 567347999933705 + 2
+left_of_all : left two (record { tally = tally; phase = AwaitsIndex (at 0x102) }) ≡ 8 * 568447511561483 + 2
 unfolding of_chains copies_left
 left_of_all = refl
 

@@ -146,7 +146,7 @@ back = id ∷ used_length ∷ Release ∷ used_index ∷ []
 
 -- one page fewer may be named, and nothing comes after it
 abbrev last : Then
-last d t log = (d ≡ after_use Deflate taken) × (t ≡ with_given (spent 1 tally)) × (log ≡ [])
+last d t log = (d ≡ after_use Deflate taken) × (t ≡ with_given (spent one_page tally)) × (log ≡ [])
 
 asked_back : (o : Outcome) → AfterBytes Deflate (over Deflate ready o) last ready tally 3 number
     (TellPages Deflate (page_5 ∷ []) one_page ∷ back)

@@ -81,9 +81,9 @@ other_bits : wants_interrupt 0xfffe ≡ true
 other_bits = refl
 
 abbrev tally : Tally
-tally = record { chains = 8; pages = 3; keeps = false; given = false; held = None; published = 0; longest = 9; told = 0 }
+tally = record { chains = 8; pages = 3; keeps = false; given = false; held = None; published = 0; most_pages = 3; longest = 9; told = 0 }
 
-all_spent : (spent 4 tally).pages ≡ 0
+all_spent : (spent (record { runs = 1; pages = 4; skipped = 0 }) tally).pages ≡ 0
 all_spent = refl
 
 abbrev waiting : Balloon

@@ -8,7 +8,7 @@ use Rattle.vb_monitor.specs.{Orders.cuts_left, declared.cuts.Cut.Cut, declared.c
 use Rattle.vb_monitor.specs.declared.{regions.Region.Region, step.Phase.Phase}
 use Rattle.vb_monitor.specs.declared.step.Phase.TheVariants.{AwaitsIndex, AwaitsEntry}
 use Rattle.vb_monitor.specs.declared.step.Phase.TheVariants.{AwaitsDescriptor, AwaitsPart}
-use Rattle.vb_monitor.specs.declared.step.Phase.TheVariants.{TellsPages, TellsFigures, TellsId, Discards}
+use Rattle.vb_monitor.specs.declared.step.Phase.TheVariants.{TellsPages, TellsFigures, TellsId, Discards, Paused}
 use Rattle.vb_monitor.specs.declared.step.Phase.TheVariants.{GivesBack, AwaitsFlags, Ended}
 use Rattle.vb_monitor.specs.Giving.{DiscardsThen}
 
@@ -20,6 +20,7 @@ stage_waits (AwaitsPart at place into len) e = refl
 stage_waits (AwaitsFlags at why more) e = refl
 stage_waits (Ended why interrupt more) e = refl
 stage_waits (Discards cut x) e = refl
+stage_waits (Paused place) e = refl
 stage_waits (TellsPages place named further) e = absurd (grind arith)
 stage_waits (TellsFigures head count) e = absurd (grind arith)
 stage_waits (TellsId head id) e = absurd (grind arith)

@@ -3,9 +3,10 @@ use Rattle.std.proofs.Common.{◌≡◌, ◌∙◌, ap, refl, arith, ℕ, ◌+�
 use Rattle.std.specs.Prelude.{if◌then◌else◌, ◌&&◌, ◌||◌, is_some, max}
 use Rattle.std.proofs.lemmas.List.{drop_more, drop_all}
 use Rattle.std.proofs.lemmas.Bool.Decides.{nat_tests}
-use Rattle.vb_core.specs.declared.settings.TheConstants.{MEMORY_LIMIT}
+use Rattle.vb_core.specs.declared.kinds.Kind.TheVariants.{Inflate, Deflate, Statistics, Hint, Report}
+use Rattle.vb_core.specs.declared.{device.Device.Device, settings.TheConstants.{MEMORY_LIMIT}}
 use Rattle.vb_monitor.specs.{declared.regions.Region.Region, Regions.{is_region, holds, spot}}
-use Rattle.vb_monitor.specs.{Regions.spot_from, Places.{is_memory, are_regions, end_of}}
+use Rattle.vb_monitor.specs.{Regions.spot_from, Places.{is_memory, are_regions, end_of, Lies, AllLie}}
 
 -- ---- bytes
 
@@ -59,3 +60,37 @@ end_end rs n le = ap (λ (l : List Region). end_of l) (drop_all n rs le)
 pub ruleset region_steps = (regions_here, end_here, regions_end, end_end)
 
 pub ruleset byte_steps = (same_page, memory_far)
+
+-- ---- the queue of each kind
+
+pub each_lies : (rs : List Region) (d : Device) → Lies rs d.inflate → Lies rs d.deflate →
+    Lies rs d.statistics → Lies rs d.hint → Lies rs d.report → AllLie rs d
+each_lies rs d inflate deflate statistics hint report Inflate = inflate
+each_lies rs d inflate deflate statistics hint report Deflate = deflate
+each_lies rs d inflate deflate statistics hint report Statistics = statistics
+each_lies rs d inflate deflate statistics hint report Hint = hint
+each_lies rs d inflate deflate statistics hint report Report = report
+
+pub inflate_lies : (rs : List Region) (d : Device) → AllLie rs d → Lies rs d.inflate
+inflate_lies rs d all = all Inflate
+
+pub deflate_lies : (rs : List Region) (d : Device) → AllLie rs d → Lies rs d.deflate
+deflate_lies rs d all = all Deflate
+
+pub statistics_lies : (rs : List Region) (d : Device) → AllLie rs d → Lies rs d.statistics
+statistics_lies rs d all = all Statistics
+
+pub hint_lies : (rs : List Region) (d : Device) → AllLie rs d → Lies rs d.hint
+hint_lies rs d all = all Hint
+
+pub report_lies : (rs : List Region) (d : Device) → AllLie rs d → Lies rs d.report
+report_lies rs d all = all Report
+
+pub ruleset kind_steps = (
+  each_lies,
+  inflate_lies,
+  deflate_lies,
+  statistics_lies,
+  hint_lies,
+  report_lies,
+)

@@ -13,7 +13,7 @@ use Rattle.vb_monitor.specs.declared.room.Room.{Room}
 use Rattle.vb_monitor.specs.{Accesses.{Access, CopyBytes, TellPages}, Ends.Whole, Machine.AheadAt}
 use Rattle.vb_monitor.specs.{Pieces.PartAt, Regions.spot, Still.{in_portion, AreInPortions, bytes_of_parts}}
 use Rattle.vb_monitor.specs.Chains.{request_length_within}
-use Rattle.vb_monitor.specs.Portions.{AfterPortion, CopiesParts, CopiesFurther}
+use Rattle.vb_monitor.specs.Portions.{AfterPortion, CopiesParts, CopiesFurther, UnlessSpent}
 use Rattle.vb_monitor.proofs.Samples.{two, at, ready, tally, piece, page_5, cut_5, one_page, number, part, pages, discard, id, used_length, room_of}
 
 abbrev outcome : Outcome
@@ -102,7 +102,7 @@ abbrev going : Device → Tally → List Access → Type 0
 going d t rest = PartAt (of_kind Inflate) (CopiesParts (of_kind Inflate) last d t []) d t a_part [] (spot two 0x400 4) rest
 
 copied_over : (rest : List Access) → Copies (replicate 1024 5) (part ∷ rest) → ⊥
-copied_over rest h = told_first h.answer h.device h.runs (going h.device) rest h.goes_on
+copied_over rest h = told_first h.answer h.device h.runs (UnlessSpent (going h.device)) rest h.goes_on
 
 told_too_soon : (rest : List Access) → Copies (replicate 1020 5) (pages ∷ rest) → ⊥
 told_too_soon rest h = let e = h.asks in absurd cc

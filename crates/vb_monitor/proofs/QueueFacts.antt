@@ -199,7 +199,7 @@ takes Report = record {
 
 -- ---- it is given back, and the flags are read
 
-abbrev used : Kind → Device
+abbrev pub used : Kind → Device
 used kind = with_ring kind (record ring { next_used = 1 }) far
 
 goes_on : (kind : Kind) → after_use kind (only kind) ≡ used kind
@@ -220,10 +220,10 @@ gives Hint = record { rest = Full ∷ flags ∷ []; asks = refl; goes_on = flags
 gives Report = record { rest = Full ∷ flags ∷ []; asks = refl; goes_on = flags_are_read refl refl }
 
 -- a chain that is held is given back to its own queue
-abbrev asked : Tally
+abbrev pub asked : Tally
 asked = only_asked (record { head = 3; pages = 2 })
 
-held_back : (kind : Kind) → GivesHeldBack two kind (record { head = 3; pages = 2 }) (only kind) (used kind)
+pub held_back : (kind : Kind) → GivesHeldBack two kind (record { head = 3; pages = 2 }) (only kind) (used kind)
     (ends (with_given asked) None true false) given
 unfolding lib.Count.ones
 held_back Inflate = record { rest = Full ∷ flags ∷ []; asks = refl; goes_on = flags_are_read refl refl }

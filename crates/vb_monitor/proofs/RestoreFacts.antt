@@ -5,7 +5,8 @@ use Rattle.vb_core.specs.{Held.nothing_held, declared.held.Held.Held}
 use Rattle.vb_core.specs.declared.saved.StateDenial.TheVariants.{BadSum, BadLength}
 use Rattle.vb_monitor.specs.declared.{balloon.Balloon.Balloon, placing.RestoreDenial.RestoreDenial}
 use Rattle.vb_monitor.specs.declared.placing.RestoreDenial.TheVariants.{State, Elsewhere}
-use Rattle.vb_monitor.{specs.Places.{FitsOver, RestoresBy}, proofs.Samples.{Same, two, settings, a_buffer}}
+use Rattle.vb_monitor.{specs.Places.{FitsOver, RestoresBy}, proofs.PlaceLemmas.each_lies}
+use Rattle.vb_monitor.proofs.Samples.{Same, two, settings, a_buffer}
 
 -- a buffer is held, and a deflate
 abbrev kept : Held
@@ -24,7 +25,7 @@ gone_on = record { device = saved.device; held = kept }
 fits : FitsOver two fresh saved
 fits = record {
   same_end = refl;
-  lie = record { inflate = inl refl; deflate = inl refl; statistics = inl refl; report = inl refl };
+  lie = each_lies two saved.device (inl refl) (inl refl) (inl refl) (inl refl) (inl refl);
 }
 
 abbrev held_of : Balloon → ℕ

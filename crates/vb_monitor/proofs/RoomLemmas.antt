@@ -25,7 +25,7 @@ both_true : (a b : Bool) → (a && b) ≡ true → b ≡ true
 both_true true b e = e
 both_true false b e = cc
 
-has_room : (kind : Kind) (len room : ℕ) (d : Device) → name_denial kind len room d ≡ None →
+pub has_room : (kind : Kind) (len room : ℕ) (d : Device) → name_denial kind len room d ≡ None →
     len / 4 ≤ room
 has_room kind len room d e =
     let both : nat_le (len / 4) room ≡ true =

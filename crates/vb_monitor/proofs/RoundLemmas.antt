@@ -1,16 +1,17 @@
 -- A device's round over notices: what accesses make of it is what came to it in vb_core's words.
-use Rattle.std.proofs.Common.{◌≡◌, ◌∙◌, ◌⊎◌, inl, inr, ap, sym, subst, refl, ℕ, Bool, true, false}
+use Rattle.std.proofs.Common.{◌≡◌, ◌∙◌, ◌⊎◌, inl, inr, ap, sym, subst, refl, arith, ℕ, Bool, true, false}
 use Rattle.std.proofs.Common.{List, [], ◌∷◌, ◌++◌, Option, Some, None}
-use Rattle.std.proofs.lemmas.List.{append-nil}
+use Rattle.std.specs.Prelude.{◌==◌, ◌&&◌}
+use Rattle.std.proofs.lemmas.{List.append-nil, Bool.Decides.nat_tests}
 use Rattle.vb_core.specs.declared.{kinds.Kind.Kind, device.Device.Device, device.Denial.Denial}
 use Rattle.vb_core.specs.declared.kinds.Kind.TheVariants.{Inflate, Deflate, Statistics, Hint, Report}
 use Rattle.vb_core.specs.declared.{hints.Round.Round, ring.Virtqueue.Virtqueue}
 use Rattle.vb_core.specs.{Rings.used_entry, Using.use_denial, Devices.ring_of}
-use Rattle.vb_core.specs.Hints.{RoundEvent, no_round, is_open}
+use Rattle.vb_core.specs.Hints.{RoundEvent, Reads, heard, no_round, is_open}
 use Rattle.vb_core.specs.Hints.{round_after, round_after_all, IsHeard}
 use Rattle.vb_core.proofs.HintLemmas.{was_heard}
 use Rattle.vb_monitor.specs.Accesses.{Access, ReadWord, CopyBytes, Acquire, Release, Full}
-use Rattle.vb_monitor.specs.Accesses.{TellPages, TellFigures, TellId, Discard, WriteNumber, WriteWord}
+use Rattle.vb_monitor.specs.Accesses.{TellPages, TellFigures, TellId, Pause, Discard, WriteNumber, WriteWord}
 use Rattle.vb_monitor.specs.declared.{regions.{Region.Region, Spot.Spot}, giving.UsedSpots.UsedSpots}
 use Rattle.vb_monitor.specs.declared.outcome.{Budget.Budget, HeldChain.HeldChain, Outcome.Outcome, Tally.Tally}
 use Rattle.vb_monitor.specs.{Ends.{Whole, FlagsAt}, Giving.{used_spots, UsedAt, GivesBackBy, with_given, after_use}}
@@ -18,7 +19,8 @@ use Rattle.vb_monitor.specs.{HeldBack.{AsksForFlags, GivesHeldAlone}, Machine.wh
 use Rattle.vb_monitor.specs.Notices.{Serves, GivesHeldBack, only_asked}
 use Rattle.vb_monitor.specs.{SoFar.{Each, hears, round_so_far}, Turns.HintsInRound}
 use Rattle.vb_monitor.specs.Rounds.{event_of, events_of, events_before, HintsHeard}
-use Rattle.vb_monitor.specs.Rounds.{Deed, Comes, Notices, GivesBack, IsLife, AreHeard}
+use Rattle.vb_monitor.specs.Rounds.{Deed, Comes, Hears, DiscardsHints, Notices, GivesBack, IsLife, AreHeard}
+use Rattle.vb_monitor.specs.Snapshots.{snapshot_of, may_discard}
 use Rattle.vb_monitor.proofs.{TurnEnds.{round_on, moves}, TurnLaws.{each_so, hints_in_round, round_left}}
 use Rattle.vb_monitor.proofs.HeldBackLemmas.{then_ends, gives_held}
 
@@ -28,6 +30,7 @@ use Rattle.vb_monitor.proofs.HeldBackLemmas.{then_ends, gives_held}
 one_event : (x : Access) (es : List RoundEvent) (r : Round) →
     round_after_all (event_of x ++ es) r ≡ round_after_all es (hears x r)
 one_event (TellId id) es r = refl
+one_event Pause es r = refl
 one_event (ReadWord at answer) es r = refl
 one_event (CopyBytes at answer) es r = refl
 one_event Acquire es r = refl
@@ -60,6 +63,7 @@ so_far (x ∷ xs) r = ap (λ (q : Round). hears x q) (so_far xs r)
 -- what is shown stays
 shown_then : (x : Access) (r : Round) → (hears x r).shown ≡ r.shown
 shown_then (TellId id) r = refl
+shown_then Pause r = refl
 shown_then (ReadWord at answer) r = refl
 shown_then (CopyBytes at answer) r = refl
 shown_then Acquire r = refl
@@ -127,6 +131,9 @@ given_round regions kind held d1 d2 outcome log h =
 
 -- ---- what is heard
 
+same_number : (a b : ℕ) → (a == b) ≡ true → a ≡ b
+same_number a b e = grind (arith, nat_tests)
+
 open_heard : (d : Device) (history : List RoundEvent) (before : List Access) →
     d.round ≡ round_after_all history no_round → is_open (round_so_far d.round before) ≡ true →
     IsHeard d.round.shown (history ++ events_before before)
@@ -162,9 +169,24 @@ heard_so d history e before Release h = tt
 heard_so d history e before Full h = tt
 heard_so d history e before (TellFigures figures) h = tt
 heard_so d history e before (TellId id) h = tt
+heard_so d history e before Pause h = tt
 heard_so d history e before (Discard cut) h = tt
 heard_so d history e before (WriteNumber at number) h = tt
 heard_so d history e before (WriteWord at word) h = tt
+
+-- what may be discarded is of the round that was shown as it was told
+both_true : (a b : Bool) → (a && b) ≡ true → (a ≡ true) × (b ≡ true)
+both_true true b e = (refl, e)
+both_true false b e = absurd (grind arith)
+
+discarded_heard : (history : List RoundEvent) (told now : Device) →
+    now.round ≡ round_after_all history no_round →
+    may_discard (snapshot_of Hint told) Hint now ≡ true → IsHeard told.round.shown history
+discarded_heard history told now e may =
+    let both = both_true (is_open now.round) (told.round.shown == now.round.shown) may in
+    subst (λ (id : ℕ). IsHeard id history)
+    (ap (λ (r : Round). r.shown) (sym e) ∙ sym (same_number told.round.shown now.round.shown both.1))
+    (was_heard history no_round refl (ap (λ (r : Round). is_open r) (sym e) ∙ both.0))
 
 -- ---- over a life
 
@@ -194,6 +216,11 @@ all_heard history r [] e h = tt
 all_heard history r (Comes event ∷ deeds) e h =
     all_heard (history ++ event ∷ []) (round_after event r) deeds
     (ap (λ (q : Round). round_after event q) e ∙ sym (all_events history (event ∷ []) no_round)) h.1
+all_heard history r (Hears id ∷ deeds) e h =
+    all_heard (history ++ Reads id ∷ []) (heard id r) deeds
+    (ap (λ (q : Round). heard id q) e ∙ sym (all_events history (Reads id ∷ []) no_round)) h
+all_heard history r (DiscardsHints told now ∷ deeds) e h =
+    (discarded_heard history told now (h.0 ∙ e) h.1, all_heard history r deeds e h.2)
 all_heard history r (Notices regions kind budget before after outcome log ∷ deeds) e h =
     let at_first = h.0 ∙ e in (
       each_so _ _ [] log (heard_so before history at_first)

@@ -1,33 +1,33 @@
 -- What may come directly after what, worked out: of each access what it may follow, and what not.
 use Rattle.std.proofs.Common.{◌≡◌, refl, true, false, List, [], ◌∷◌, map, Option, Some, None}
-use Rattle.vb_monitor.specs.Accesses.{Access, Acquire, Release, Full}
+use Rattle.vb_monitor.specs.Accesses.{Access, Acquire, Release, Full, Pause}
 use Rattle.vb_monitor.specs.Order.{Row, MayFollow, is_copied, is_word, is_read, is_told, is_named, is_number}
 use Rattle.vb_monitor.proofs.Samples.{index, entry, descriptor, part, pages, figures, discard, id, used_length, used_index, flags}
 
 -- ---- what comes before
 
--- nothing, a word, bytes, an acquire, a release and a full fence, pages, figures, a discard, a
--- number, a written word
+-- nothing, a word, bytes, an acquire, a release and a full fence, pages, figures, a pause, a discard,
+-- a number, a written word
 abbrev each : List (Option Access)
 each = None ∷ Some index ∷ Some part ∷ Some Acquire ∷ Some Release
-    ∷ Some Full ∷ Some pages ∷ Some figures ∷ Some discard ∷ Some id ∷ Some used_index ∷ []
+    ∷ Some Full ∷ Some pages ∷ Some figures ∷ Some Pause ∷ Some discard ∷ Some id ∷ Some used_index ∷ []
 
-words : map is_word each ≡ false ∷ true ∷ false ∷ false ∷ false ∷ false ∷ false ∷ false ∷ false ∷ false ∷ true ∷ []
+words : map is_word each ≡ false ∷ true ∷ false ∷ false ∷ false ∷ false ∷ false ∷ false ∷ false ∷ false ∷ false ∷ true ∷ []
 words = refl
 
-copies : map is_copied each ≡ false ∷ false ∷ true ∷ false ∷ false ∷ false ∷ false ∷ false ∷ false ∷ false ∷ false ∷ []
+copies : map is_copied each ≡ false ∷ false ∷ true ∷ false ∷ false ∷ false ∷ false ∷ false ∷ false ∷ false ∷ false ∷ false ∷ []
 copies = refl
 
-reads : map is_read each ≡ false ∷ true ∷ true ∷ false ∷ false ∷ false ∷ false ∷ false ∷ false ∷ false ∷ false ∷ []
+reads : map is_read each ≡ false ∷ true ∷ true ∷ false ∷ false ∷ false ∷ false ∷ false ∷ true ∷ false ∷ false ∷ false ∷ []
 reads = refl
 
-told : map is_told each ≡ false ∷ false ∷ false ∷ false ∷ false ∷ false ∷ true ∷ false ∷ true ∷ false ∷ false ∷ []
+told : map is_told each ≡ false ∷ false ∷ false ∷ false ∷ false ∷ false ∷ true ∷ false ∷ false ∷ true ∷ false ∷ false ∷ []
 told = refl
 
-named : map is_named each ≡ false ∷ false ∷ false ∷ false ∷ false ∷ false ∷ true ∷ false ∷ true ∷ true ∷ false ∷ []
+named : map is_named each ≡ false ∷ false ∷ false ∷ false ∷ false ∷ false ∷ true ∷ false ∷ false ∷ true ∷ true ∷ false ∷ []
 named = refl
 
-numbers : map is_number each ≡ false ∷ false ∷ false ∷ false ∷ false ∷ false ∷ false ∷ false ∷ false ∷ true ∷ false ∷ []
+numbers : map is_number each ≡ false ∷ false ∷ false ∷ false ∷ false ∷ false ∷ false ∷ false ∷ false ∷ false ∷ true ∷ false ∷ []
 numbers = refl
 
 -- ---- whole lists

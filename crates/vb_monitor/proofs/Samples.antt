@@ -119,7 +119,7 @@ abbrev pub a_buffer : ℕ → Held
 a_buffer n = record { statistics = n; deflate = 0; pages = 0 }
 
 abbrev pub tally : Tally
-tally = record { chains = 8; pages = 3; keeps = false; given = false; held = None; published = 0; longest = 256; told = 0 }
+tally = record { chains = 8; pages = 3; keeps = false; given = false; held = None; published = 0; most_pages = 3; longest = 256; told = 0 }
 
 -- ---- accesses
 
@@ -210,7 +210,7 @@ budget = record { chains = 8; pages = 256; keeps = false; longest = 256 }
 
 abbrev pub outcome : Outcome
 outcome = record {
-  tally = record { chains = 7; pages = 255; keeps = false; given = true; held = None; published = 1; longest = 256; told = 1 };
+  tally = record { chains = 7; pages = 255; keeps = false; given = true; held = None; published = 1; most_pages = 256; longest = 256; told = 1 };
   why = None;
   interrupt = true;
   more = false;

@@ -1,7 +1,7 @@
 -- Queues of a balloon that start at an index over regions, and stop, worked out: the answer, and all that
 -- is left, where it is done and where it is refused.
 use Rattle.std.proofs.Common.{◌≡◌, refl, ap, arith, inl, inr, ℕ, false, true}
-use Rattle.std.proofs.Common.{Result, Ok, Err}
+use Rattle.std.proofs.Common.{Option, Some, None, Result, Ok, Err}
 use Rattle.vb_core.specs.declared.{held.Held.Held, kinds.Kind.TheVariants.{Inflate, Deflate, Statistics}}
 use Rattle.vb_core.specs.declared.{starting.QueueStart.QueueStart}
 use Rattle.vb_core.specs.declared.{device.Device.Device, device.Denial.Denial}
@@ -97,6 +97,24 @@ refused_early : (b : Balloon) (result : Result (Unit {0}) Denial) →
     StartsBy Inflate two at_7 early b result → (result ≡ Err NotReady) × (b ≡ early)
 unfolding lib.Count.ones
 refused_early b result h = h.denied NotReady refl
+
+-- where both are so, the first of the two is said
+refused_for_both : (b : Balloon) (result : Result (Unit {0}) Denial) →
+    StartsBy Inflate two in_the_hole early b result → (result ≡ Err NotReady) × (b ≡ early)
+unfolding lib.Count.ones
+refused_for_both b result h = h.denied NotReady refl
+
+abbrev answer : Option Denial → Result (Unit {0}) Denial
+answer None = Ok tt
+answer (Some why) = Err why
+
+refuses_for_both : StartsBy Inflate two in_the_hole early early (Err NotReady)
+unfolding lib.Count.ones
+refuses_for_both = record {
+  denied = λ why e. (ap answer e, refl);
+  hole = λ e away. absurd cc;
+  starts = λ e lies. absurd cc;
+}
 
 -- ---- stops: by what was given back, and not by what was taken
 

@@ -48,7 +48,7 @@ taken = with_one_taken Statistics ready
 -- the buffer is held: it isn't given back, so that no interrupt is asked about
 abbrev held : Outcome
 held = record {
-  tally = record { chains = 7; pages = 256; keeps = false; given = false; held = chain_of 3 0; published = 1; longest = 256; told = 0 };
+  tally = record { chains = 7; pages = 256; keeps = false; given = false; held = chain_of 3 0; published = 1; most_pages = 256; longest = 256; told = 0 };
   why = None;
   interrupt = false;
   more = false;
@@ -220,7 +220,7 @@ uncopied o h = let e = h.asks in absurd cc
 -- ---- new ones are asked for: the buffer is given back, and the flags are read
 
 abbrev spent : Tally
-spent = record { chains = 0; pages = 0; keeps = false; given = true; held = chain_of 3 0; published = 0; longest = 0; told = 0 }
+spent = record { chains = 0; pages = 0; keeps = false; given = true; held = chain_of 3 0; published = 0; most_pages = 0; longest = 0; told = 0 }
 
 abbrev buffer_of : ℕ → HeldChain
 buffer_of head = record { head = head; pages = 0 }

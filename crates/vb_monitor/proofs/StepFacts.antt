@@ -9,7 +9,7 @@ use Rattle.vb_monitor.specs.declared.{regions.Spot.Spot, progress.Progress.Progr
 use Rattle.vb_monitor.specs.declared.step.{Walk.Walk, Place.Place}
 use Rattle.vb_monitor.specs.declared.step.Phase.TheVariants.{AwaitsIndex, AwaitsEntry}
 use Rattle.vb_monitor.specs.declared.step.Phase.TheVariants.{AwaitsDescriptor, AwaitsPart, Discards}
-use Rattle.vb_monitor.specs.declared.step.Phase.TheVariants.{TellsPages, TellsFigures, TellsId}
+use Rattle.vb_monitor.specs.declared.step.Phase.TheVariants.{TellsPages, TellsFigures, TellsId, Paused}
 use Rattle.vb_monitor.specs.declared.step.Phase.TheVariants.{GivesBack, AwaitsFlags, Ended}
 use Rattle.vb_monitor.specs.Codes.{code_of, rule_in, fault_of, why_of, why_code, end_rule}
 use Rattle.vb_monitor.specs.Steps.{tally_of, walk_of, phase_at, phase_of, step_of}
@@ -40,6 +40,7 @@ numbers = record {
   more = 0;
   chains_left = 9;
   pages_left = 10;
+  most_pages = 23;
   longest = 19;
   told = 20;
   head = 11;
@@ -62,7 +63,7 @@ numbers = record {
 abbrev place : Place
 place = record { head = 11; count = 12; piece = 21; done = 22 }
 
-each_phase : map (λ n. phase_at n numbers) (0 ∷ 1 ∷ 2 ∷ 3 ∷ 4 ∷ 5 ∷ 6 ∷ 7 ∷ 8 ∷ 9 ∷ 10 ∷ 11 ∷ []) ≡
+each_phase : map (λ n. phase_at n numbers) (0 ∷ 1 ∷ 2 ∷ 3 ∷ 4 ∷ 5 ∷ 6 ∷ 7 ∷ 8 ∷ 9 ∷ 10 ∷ 11 ∷ 12 ∷ []) ≡
     Ended (Some (Broken TooLong)) true false
     ∷ AwaitsIndex spot
     ∷ AwaitsEntry spot
@@ -75,6 +76,7 @@ each_phase : map (λ n. phase_at n numbers) (0 ∷ 1 ∷ 2 ∷ 3 ∷ 4 ∷ 5 ∷
     ∷ TellsFigures 11 4
     ∷ GivesBack numbers.spots numbers.entry
     ∷ TellsId 11 4
+    ∷ Paused place
     ∷ GivesBack numbers.spots numbers.entry ∷ []
 each_phase = refl
 
@@ -101,8 +103,8 @@ flags_with_more = refl
 
 -- ---- which go on: those that wait, where bytes that are copied have room
 
-which_go_on : map (λ n. may_go_on (phase_at n numbers)) (0 ∷ 1 ∷ 2 ∷ 3 ∷ 4 ∷ 5 ∷ 6 ∷ 7 ∷ 8 ∷ 9 ∷ 10 ∷ []) ≡
-    true ∷ true ∷ true ∷ true ∷ true ∷ true ∷ true ∷ false ∷ false ∷ false ∷ false ∷ []
+which_go_on : map (λ n. may_go_on (phase_at n numbers)) (0 ∷ 1 ∷ 2 ∷ 3 ∷ 4 ∷ 5 ∷ 6 ∷ 7 ∷ 8 ∷ 9 ∷ 10 ∷ 11 ∷ []) ≡
+    true ∷ true ∷ true ∷ true ∷ true ∷ true ∷ true ∷ false ∷ false ∷ false ∷ false ∷ true ∷ []
 which_go_on = refl
 
 last_that_fits : may_go_on (phase_at 4 (record numbers { into = 1020 })) ≡ true
@@ -123,6 +125,7 @@ tally_is : tally_of numbers ≡ record {
   given = false;
   held = Some (record { head = 13; pages = 15 });
   published = 14;
+  most_pages = 23;
   longest = 19;
   told = 20;
 }
@@ -132,7 +135,7 @@ keeping : map (λ n. (tally_of (record numbers { keeps = n })).keeps) (0 ∷ 1 �
 keeping = refl
 
 none_taken : tally_of (record numbers { taken = 0; given = 1 }) ≡
-    record { chains = 9; pages = 10; keeps = false; given = true; held = None; published = 14; longest = 19; told = 20 }
+    record { chains = 9; pages = 10; keeps = false; given = true; held = None; published = 14; most_pages = 23; longest = 19; told = 20 }
 none_taken = refl
 
 -- a row that has no room is read as one that just has, and its first number has 16 bits

@@ -5,7 +5,7 @@ use Rattle.std.proofs.lemmas.List.{append_assoc, append-nil}
 use Rattle.vb_core.{specs.declared.kinds.Kind.Kind, specs.declared.device.Device.Device}
 use Rattle.vb_monitor.specs.declared.step.Phase.TheVariants.{AwaitsIndex, AwaitsEntry}
 use Rattle.vb_monitor.specs.declared.step.Phase.TheVariants.{AwaitsDescriptor, AwaitsPart}
-use Rattle.vb_monitor.specs.declared.step.Phase.TheVariants.{TellsPages, TellsFigures, TellsId, Discards}
+use Rattle.vb_monitor.specs.declared.step.Phase.TheVariants.{TellsPages, TellsFigures, TellsId, Discards, Paused}
 use Rattle.vb_monitor.{specs.declared.outcome.Outcome.Outcome, specs.declared.outcome.Tally.Tally}
 use Rattle.vb_monitor.{specs.Accesses.{Access, Steps, Makes}, specs.declared.regions.Region.Region}
 use Rattle.vb_monitor.{specs.Steps.Step, specs.declared.step.Phase.Phase}
@@ -73,6 +73,7 @@ over_at (AwaitsPart at place into len) t regions kind d out room e = absurd (gri
 over_at (TellsPages place named further) t regions kind d out room e = absurd (grind arith)
 over_at (TellsFigures head count) t regions kind d out room e = absurd (grind arith)
 over_at (TellsId head id) t regions kind d out room e = absurd (grind arith)
+over_at (Paused place) t regions kind d out room e = absurd (grind arith)
 over_at (Discards cut x) t regions kind d out room e = absurd (grind arith)
 over_at (GivesBack spots entry) t regions kind d out room e = absurd (grind arith)
 over_at (AwaitsFlags at why more) t regions kind d out room e = absurd (grind arith)

@@ -2,10 +2,10 @@
 use Rattle.std.proofs.Common.{◌≡◌, ◌∙◌, ℕ, zero, suc, ◌+◌, ◌<◌, List, [], ◌∷◌, ◌++◌, arith, refl, inl, inr}
 use Rattle.std.proofs.Common.{replicate, false, ap, sym, Some, None, Ok, Err}
 use Rattle.std.specs.Prelude.{slice_index}
-use Rattle.vb_chain.specs.Chain.{ChainGives, IsChain, fault_at}
+use Rattle.vb_chain.specs.Chain.{ChainGives, IsChain, IsPath, fault_at}
 use Rattle.vb_chain.specs.{Rules.{has_next, first_fault, piece_of}, declared.descriptor.Descriptor.Descriptor}
 use Rattle.vb_chain.specs.declared.{pieces.Piece.Piece}
-use Rattle.vb_chain.specs.declared.fault.ChainFault.TheVariants.{IndexJump, BadHead}
+use Rattle.vb_chain.specs.declared.fault.ChainFault.TheVariants.{IndexJump, BadHead, OutOfRam}
 use Rattle.vb_core.specs.{Devices.placed, declared.ring.Virtqueue.Virtqueue}
 use Rattle.vb_monitor.specs.Still.{in_memory, head_in, HasNext}
 use Rattle.vb_monitor.proofs.StillAnswers.{one_next}
@@ -33,6 +33,14 @@ heads_are = (refl, refl, refl, refl)
 descriptor_is : in_memory (memory 17 3) 0 3 ≡ record { addr = 0x14000; len = 4; flags = 0; next = 0 }
 descriptor_is = refl
 
+alone : (d : ℕ → Descriptor) → IsPath d 3 (3 ∷ [])
+alone d = record {
+  some = omega arith;
+  begins = refl;
+  onward = λ k lt. absurd (omega (arith, lt));
+  linked = λ k lt. absurd (omega (arith, lt));
+}
+
 -- a chain of one descriptor
 one_piece : (d : ℕ → Descriptor) (end : ℕ) (x : Descriptor) → d 3 ≡ x → has_next x ≡ false
     → first_fault 8 end false 0 x ≡ None → ChainGives d 8 end 3 (piece_of x ∷ [])
@@ -50,12 +58,7 @@ one_piece d end x e last sound =
     chain : IsChain d 8 end 3 (3 ∷ [])
     chain = record {
       inside = omega arith;
-      is_path = record {
-        some = omega arith;
-        begins = refl;
-        onward = λ k lt. absurd (omega (arith, lt));
-        linked = λ k lt. absurd (omega (arith, lt));
-      };
+      is_path = alone d;
       short = omega arith;
       sound = no_fault;
       ends = ends;
@@ -77,6 +80,27 @@ jumps = inl refl
 no_head : HasNext (memory 17 8) 262144 ring (Err BadHead)
 no_head = inr (record { head = 8; is_next = refl; gives = inl (record { past = omega arith; is = refl }) })
 
+-- the first descriptor breaks a rule in memory that ends amid its bytes
+ends_amid : (k : ℕ) → k + 1 ≡ 1 → fault_at (in_memory (memory 17 3) 0) 8 0x14002 (3 ∷ []) k ≡ Some OutOfRam
+ends_amid zero is = ap (first_fault 8 0x14002 false 0) descriptor_is
+ends_amid (suc k) is = absurd (omega (arith, is))
+
+past_memory : HasNext (memory 17 3) 0x14002 ring (Err OutOfRam)
+past_memory = inr (record {
+  head = 3;
+  is_next = refl;
+  gives = inr (inl (record {
+    path = 3 ∷ [];
+    few = omega arith;
+    breaks = record {
+      inside = omega arith;
+      is_path = alone (in_memory (memory 17 3) 0);
+      sound = λ k lt. absurd (omega (arith, lt));
+      breaks = ends_amid;
+    };
+  }));
+})
+
 -- no chain of another head, none where one is next, and no jump
 of_another_head : HasNext (memory 17 3) 262144 ring (Ok (Some (record { head = 4; chain = readable ∷ [] }))) → ⊥
 of_another_head h = let e = h.0 in absurd cc
@@ -92,4 +116,9 @@ no_jump (inr h) = let e = h.is_next in absurd cc
 no_bad_head : HasNext (memory 17 3) 262144 ring (Err BadHead) → ⊥
 no_bad_head h =
     let e = one_next (memory 17 3) 262144 ring (Ok (Some (record { head = 3; chain = readable ∷ [] }))) (Err BadHead)
+    a_chain h in absurd cc
+
+nor_memorys_end : HasNext (memory 17 3) 262144 ring (Err OutOfRam) → ⊥
+nor_memorys_end h =
+    let e = one_next (memory 17 3) 262144 ring (Ok (Some (record { head = 3; chain = readable ∷ [] }))) (Err OutOfRam)
     a_chain h in absurd cc

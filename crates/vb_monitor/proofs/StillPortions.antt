@@ -11,7 +11,7 @@ use Rattle.vb_monitor.specs.declared.{parts.Part.Part, regions.Spot.Spot, outcom
 use Rattle.vb_monitor.specs.{declared.room.TheConstants.MAX_BYTES, Regions.spot, Accesses.Access}
 use Rattle.vb_monitor.specs.{Accesses.CopyBytes, Ends.Whole}
 use Rattle.vb_monitor.specs.Pieces.{next_part, parts_of, parts_on, all_parts, PartAt}
-use Rattle.vb_monitor.specs.Portions.{CopiesPart, CopiesParts, CopiesFurther, ServesPortion}
+use Rattle.vb_monitor.specs.Portions.{CopiesPart, CopiesParts, CopiesFurther, GoesFurther, ServesPortion}
 use Rattle.vb_monitor.specs.Chains.{ServesBytes, ServesPieces, CopiesBy}
 use Rattle.vb_monitor.specs.{Giving.Then, Machine.{next_chain, serves, served}}
 use Rattle.vb_monitor.specs.Still.{ArePartsMapped, Holds, is_read, length_of}
@@ -101,7 +101,7 @@ record First (still : List Access → Type 0) (byte : ℕ → ℕ) (w : Whole) (
   left : parts_bytes byte (drop count parts) ≡ drop MAX_BYTES all
   portions : AreInPortions 0 (drop count parts)
   serves_so : AfterReads still (ServesPortion w.kind w
-      (λ d2 t2 rest. CopiesFurther w does d2 t2 (drop count parts) rest) d t (take MAX_BYTES all)) log
+      (λ d2 t2 rest. GoesFurther w does d2 (drop count parts) t2 rest) d t (take MAX_BYTES all)) log
 
 abbrev Firsts : (List Access → Type 0) → (ℕ → ℕ) → Whole → Does → Device → Tally → List Part → Type 0
 Firsts still byte w does d t parts = (now : List ℕ) (l : List Access) → length now ≤ MAX_BYTES →
@@ -145,8 +145,8 @@ with_part onward byte w does d t part parts so_far (Some at) log on e mapped fit
         read = CopyBytes at h.bytes ∷ after.serves_so.read;
         rest = after.serves_so.rest;
         all = h.asks ∙ ap (λ (l : List Access). CopyBytes at h.bytes ∷ l) after.serves_so.all;
-        is = subst (λ (l : List ℕ). ServesPortion w.kind w (λ d2 t2 rest. CopiesFurther w does d2 t2
-            (drop after.count parts) rest) d t (take MAX_BYTES l) after.serves_so.rest) joined
+        is = subst (λ (l : List ℕ). ServesPortion w.kind w (λ d2 t2 rest. GoesFurther w does d2
+            (drop after.count parts) t2 rest) d t (take MAX_BYTES l) after.serves_so.rest) joined
             after.serves_so.is;
         still_so = after.serves_so.still_so;
       };
@@ -176,8 +176,8 @@ part_or true onward byte w does d t part parts so_far log on e mapped room fits 
         read = [];
         rest = log;
         all = refl;
-        is = subst (λ (l : List ℕ). ServesPortion w.kind w (λ d2 t2 l2. CopiesFurther w does d2 t2
-            (part ∷ parts) l2) d t l log)
+        is = subst (λ (l : List ℕ). ServesPortion w.kind w (λ d2 t2 l2. GoesFurther w does d2
+            (part ∷ parts) t2 l2) d t l log)
             (sym (ap (λ (n : ℕ). take n (so_far ++ rest)) (sym full) ∙ take-append_seam so_far rest)) h;
         still_so = stays;
       };

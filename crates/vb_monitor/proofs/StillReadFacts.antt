@@ -3,7 +3,7 @@ use Rattle.std.proofs.Common.{◌≡◌, refl, ap, arith, length, ℕ, false, tr
 use Rattle.std.specs.List.{AllByRecursion}
 use Rattle.vb_monitor.specs.declared.regions.Region.{Region}
 use Rattle.vb_monitor.specs.Accesses.{Access, ReadWord, CopyBytes, Acquire, Release, Full}
-use Rattle.vb_monitor.specs.Accesses.{TellPages, TellFigures, TellId, Discard, WriteNumber, WriteWord}
+use Rattle.vb_monitor.specs.Accesses.{TellPages, TellFigures, TellId, Pause, Discard, WriteNumber, WriteWord}
 use Rattle.vb_monitor.specs.Still.{bytes_from, bytes_of, Holds, StaysUntil, AreThese}
 use Rattle.vb_monitor.proofs.Samples.{Same, two, at, index, discard, pages}
 
@@ -126,6 +126,7 @@ all_of_it byte regions (Full ∷ xs) h = h
 all_of_it byte regions (TellPages kind runs named ∷ xs) h = h
 all_of_it byte regions (TellFigures figures ∷ xs) h = h
 all_of_it byte regions (TellId id ∷ xs) h = h
+all_of_it byte regions (Pause ∷ xs) h = h
 all_of_it byte regions (Discard cut ∷ xs) h = h
 all_of_it byte regions (WriteNumber spot number ∷ xs) h = h
 all_of_it byte regions (WriteWord spot word ∷ xs) h = h
@@ -141,6 +142,7 @@ and_back byte regions (Full ∷ xs) h = h
 and_back byte regions (TellPages kind runs named ∷ xs) h = h
 and_back byte regions (TellFigures figures ∷ xs) h = h
 and_back byte regions (TellId id ∷ xs) h = h
+and_back byte regions (Pause ∷ xs) h = h
 and_back byte regions (Discard cut ∷ xs) h = h
 and_back byte regions (WriteNumber spot number ∷ xs) h = h
 and_back byte regions (WriteWord spot word ∷ xs) h = h
@@ -172,6 +174,8 @@ apart onward byte regions (TellFigures figures ∷ xs) h =
     record { rest = TellFigures figures ∷ xs; is = h; until = refl }
 apart onward byte regions (TellId id ∷ xs) h =
     record { rest = TellId id ∷ xs; is = h; until = refl }
+apart onward byte regions (Pause ∷ xs) h =
+    record { rest = Pause ∷ xs; is = h; until = refl }
 apart onward byte regions (Discard cut ∷ xs) h =
     record { rest = Discard cut ∷ xs; is = h; until = refl }
 apart onward byte regions (WriteNumber spot number ∷ xs) h =

@@ -125,14 +125,14 @@ served_as still w next d t taken (Ok pages) log named_so told_so none same unref
       read = [];
       rest = log;
       all = refl;
-      is = subst (λ (x : Device). TellsThen w (next_chain w t) x (spent (length pages) t)
+      is = subst (λ (x : Device). TellsThen w (next_chain w t) x (spent named t)
           taken.head (map run_of taken.chain) named log) device
-          (subst (λ (rs : List Run). TellsThen w (next_chain w t) h.device (spent (length pages) t)
+          (subst (λ (rs : List Run). TellsThen w (next_chain w t) h.device (spent named t)
           taken.head rs named log) theirs
-          (subst (λ (n : Then). TellsThen w n h.device (spent (length pages) t)
+          (subst (λ (n : Then). TellsThen w n h.device (spent named t)
           taken.head (take count h.runs) named log) same
           (subst (λ (b : Bool). TellsThen w next h.device
-          (held_if b taken.head (more_told t.told (length pages)) (spent (length pages) t))
+          (held_if b taken.head (more_told t.told (length pages)) (spent named t))
           taken.head (take count h.runs) named log) (unheld w.kind h.device.settings named_so)
           (subst (λ (r : Result Named Denial). AfterName w next h.device t taken.head h.runs r log)
           (ap (λ (b : Bool). told_if b h.answer) told_so

@@ -301,11 +301,11 @@ one_past_the_room h = omega (arith, h)
 abbrev On : TableRow → ℕ → Bool → List Piece → List Access → Type 0
 On r number writing pieces log = (r ≡ three) × ((number ≡ 5) × (log ≡ []))
 
-breaks : EndsRow (Faulty Indirect) (broken_by Indirect) ready tally On (Ended 1) false (piece ∷ []) []
-breaks = record { nothing = refl; device = refl; outcome = refl }
+breaks : (writing : Bool) → EndsRow (Faulty Indirect) (broken_by Indirect) ready tally On (Ended 1) writing (piece ∷ []) []
+breaks writing = record { nothing = refl; device = refl; outcome = refl }
 
-is_whole : EndsRow Last whole ready tally On (Ended 1) false (piece ∷ []) []
-is_whole = (refl, refl)
+is_whole : (writing : Bool) → EndsRow Last whole ready tally On (Ended 1) writing (piece ∷ []) []
+is_whole writing = (refl, refl)
 
 more_pieces : EndsRow Last whole ready tally On (Ended 2) false (piece ∷ []) [] → ⊥
 more_pieces h = let e : Same 1 2 = h.0 in omega arith

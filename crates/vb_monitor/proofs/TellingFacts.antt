@@ -228,6 +228,19 @@ all_discarded = refl
 one_left : TellsInTurn two Inflate false ready (pages ∷ read) id → ⊥
 one_left h = absurd cc
 
+-- and so is the next portion copied, and told
+copied_then : TellsInTurn two Inflate false ready (discard ∷ pages ∷ read) part
+copied_then = refl
+
+copied_before : TellsInTurn two Inflate false ready (pages ∷ read) part → ⊥
+copied_before h = absurd cc
+
+copied_amid : TellsInTurn two Inflate false ready (Discard cut_20 ∷ hole_told) part → ⊥
+copied_amid h = absurd cc
+
+told_before : TellsInTurn two Inflate false ready (pages ∷ read) pages → ⊥
+told_before h = let e = h.2 in absurd cc
+
 none_to_discard : TellsInTurn two Deflate false ready (TellPages Deflate (page_5 ∷ []) one_page ∷ read) id
 none_to_discard = refl
 

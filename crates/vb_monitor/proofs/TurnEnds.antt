@@ -13,7 +13,7 @@ use Rattle.vb_core.{specs.declared.device.Denial.Denial}
 use Rattle.vb_core.{specs.Config.keeps_free}
 use Rattle.vb_core.specs.Devices.{ring_of, with_one_taken, needing_reset, queue_denial}
 use Rattle.vb_monitor.specs.Accesses.{Access, ReadWord, CopyBytes, Acquire, Release, Full}
-use Rattle.vb_monitor.specs.Accesses.{TellPages, TellFigures, TellId, Discard, WriteNumber, WriteWord}
+use Rattle.vb_monitor.specs.Accesses.{TellPages, TellFigures, TellId, Pause, Discard, WriteNumber, WriteWord}
 use Rattle.vb_monitor.{proofs.TouchLemmas.{within}, specs.Counts.{no_discard, others}}
 use Rattle.vb_monitor.specs.Giving.{after_use}
 use Rattle.vb_monitor.specs.declared.outcome.{Outcome.Outcome, Tally.Tally}
@@ -65,6 +65,7 @@ at_most_one Full = omega arith
 at_most_one (TellPages kind runs named) = omega arith
 at_most_one (TellFigures figures) = omega arith
 at_most_one (TellId id) = omega arith
+at_most_one Pause = omega arith
 at_most_one (Discard cut) = omega arith
 at_most_one (WriteNumber at number) = omega arith
 at_most_one (WriteWord at word) = omega arith

@@ -56,18 +56,18 @@ held_go : (w : Whole) (d0 : Device) (most m : ℕ) (next : Then) (on : After w d
     holds_chains w.kind d.settings ≡ held → Copied w d0 d t head pieces [] bytes b →
     TellNamed (is_open d.round) w.kind d.settings pieces bytes runs named →
     TellsThen w next (with_one_taken w.kind d)
-    (held_if held head (more_told t.told named.pages) (spent named.pages t)) head runs named log →
+    (held_if held head (more_told t.told named.pages) (spent named t)) head runs named log →
     Goes w d0 t.keeps (5 + m) b log
 held_go w d0 most m next on d t head pieces bytes runs named true b log long e is right h =
     let told = more_told t.told named.pages in
-    tells_go w d0 most m next on d t (with_held head told (spent named.pages t)) head pieces bytes runs
+    tells_go w d0 most m next on d t (with_held head told (spent named t)) head pieces bytes runs
     named b log long refl refl is.reads.agrees is.reads.known_so is.copied right (
       λ so. ap (λ (k : ℕ). Some (record { head = head; pages = more_told k named.pages }))
           is.reads.agrees.told_so,
       λ none. absurd cc,
     ) h
 held_go w d0 most m next on d t head pieces bytes runs named false b log long e is right h =
-    tells_go w d0 most m next on d t (spent named.pages t) head pieces bytes runs named b log long refl refl
+    tells_go w d0 most m next on d t (spent named t) head pieces bytes runs named b log long refl refl
     is.reads.agrees is.reads.known_so is.copied right (
       λ so. absurd (let not_so : true ≡ false =
           sym so ∙ (ap (λ (s : Settings). holds_chains w.kind s) (sym is.reads.agrees.stands.settings) ∙ e) in cc),
@@ -88,9 +88,9 @@ names_go w d0 most m next on d d2 t head pieces bytes runs (Ok named) b log long
     held_go w d0 most m next on d t head pieces bytes (take named.runs runs) named
     (holds_chains w.kind d.settings) b log long refl is x.0
     (subst (λ (s : Settings). TellsThen w next (with_one_taken w.kind d)
-    (with_named w.kind s head named.pages t) head (take named.runs runs) named log)
+    (with_named w.kind s head named t) head (take named.runs runs) named log)
     (moves w.kind d).taken_settings
-    (subst (λ (y : Device). TellsThen w next y (with_named w.kind y.settings head named.pages t) head
+    (subst (λ (y : Device). TellsThen w next y (with_named w.kind y.settings head named t) head
     (take named.runs runs) named log) x.1 h))
 
 -- figures that are told

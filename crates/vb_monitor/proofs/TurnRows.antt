@@ -17,15 +17,16 @@ use Rattle.vb_monitor.specs.Chains.{told_if, tells_pages}
 use Rattle.vb_core.specs.Hints.{is_open}
 use Rattle.vb_monitor.specs.SoFar.{Known, ring_after, parts_read, parts_of_hint, with_copied}
 use Rattle.vb_monitor.specs.Order.{is_read, is_told}
-use Rattle.vb_monitor.proofs.TurnEnds.{newest, Goes, one_more, asked, more_room, one_copied}
+use Rattle.vb_monitor.proofs.TurnEnds.{newest, Comes, Goes, one_more, asked, more_room, one_on, one_copied}
 use Rattle.vb_monitor.proofs.TurnEnds.{copy_comes, flags_of, like_flags, IsLike, ends_go, breaks_go}
 use Rattle.vb_monitor.proofs.TurnNames.{Reads, Copied, Right, right_of, bytes_go, names_go}
 use Rattle.vb_monitor.proofs.{TurnLemmas.{After, portion_go}, NamedLemmas.names_like}
 use Rattle.vb_monitor.proofs.PartCosts.{tells_in, cost, further_cost, request_cost, statistics_cost, id_cost}
 use Rattle.vb_monitor.proofs.NamedLemmas.{pieces_like, named_numbers, named_pieces}
-use Rattle.vb_monitor.specs.{Accesses.{Access, CopyBytes}, Pieces.{PartAt, all_parts}}
+use Rattle.vb_monitor.specs.{Accesses.{Access, CopyBytes, Pause}, Pieces.{PartAt, all_parts}}
 use Rattle.vb_monitor.specs.Portions.{CopiesParts, CopiesPart, AfterPortion, ServesPortion, TellsPortion, is_full}
-use Rattle.vb_monitor.specs.{Turns.CopiesNext, Chains.{ServesBytes, request_length_within}}
+use Rattle.vb_monitor.specs.Portions.{PausesIf, refilled}
+use Rattle.vb_monitor.specs.{Turns.{CopiesNext, IsAmid}, Chains.{ServesBytes, request_length_within}}
 use Rattle.vb_monitor.specs.{Turns.{TellNamed, TellHint, TellNumbers}, Regions.spot, Giving.Then}
 use Rattle.vb_monitor.specs.Giving.{AfterName, after_last, spent, more_told}
 use Rattle.vb_monitor.specs.declared.{room.TheConstants.{MAX_BYTES}, parts.Part.Part}
@@ -96,7 +97,8 @@ portion_right w kind d d2 pieces bytes runs named e h so =
 abbrev Further : Whole → Device → Device → Tally → ℕ → ℕ → List Piece → Part → List Part →
     (Device → Tally → List Access → Type 0) → Type 0
 Further w d0 d t0 m head pieces part parts on = (t : Tally) (b rest : List Access) → Alike t0 t →
-    Reads w d0 d t head pieces (part ∷ parts) [] b → on d t rest → Goes w d0 t.keeps m b rest
+    Reads w d0 d t head pieces (part ∷ parts) [] b → is_told (newest b) ≡ true → on d t rest →
+    Goes w d0 t.keeps m b rest
 
 portion_by : (w : Whole) (d0 : Device) (kind : Kind) (e : w.kind ≡ kind) (d d2 : Device)
     (t : Tally) (m head : ℕ) (pieces : List Piece) (part : Part) (parts : List Part)
@@ -115,7 +117,7 @@ portion_by w d0 kind e d d2 t m head pieces part parts bytes on go runs (Err why
     (like_flags w d0 _ b d d2 same is.reads.agrees.stands) h
 portion_by w d0 kind e d d2 t m head pieces part parts bytes on go runs (Ok named) b log le full is same names so h =
     let right = portion_right w kind d d2 pieces bytes runs named e names (so named) in
-    let t2 = spent named.pages t in
+    let t2 = spent named t in
     portion_go w d0 d t t2 m head pieces part parts bytes (take named.runs runs) named (on d t2) b log
     (λ b2 rest is2 h2. go t2 b2 rest (refl, refl, refl) (record {
       agrees = record {
@@ -125,7 +127,7 @@ portion_by w d0 kind e d d2 t m head pieces part parts bytes on go runs (Ok name
       };
       known_so = is2.known_is;
       read = told_may (newest b2) is2.told_last;
-    }) h2)
+    }) is2.told_last h2)
     refl refl is.reads.agrees is.reads.known_so is.copied full right.0
     (subst (λ (y : Device). TellsPortion w (on y t2) y t2 (take named.runs runs) named log) right.1 h)
 
@@ -149,6 +151,36 @@ portion_serves w d0 Hint e d t m head pieces part parts bytes on go b log le ful
     breaks_go w d0 d t _ (1 + m) b log (omega (arith, le)) (flags_of w d0 _ b d is.reads.agrees.stands) h
 portion_serves w d0 Report e d t m head pieces part parts bytes on go b log le full is h =
     breaks_go w d0 d t _ (1 + m) b log (omega (arith, le)) (flags_of w d0 _ b d is.reads.agrees.stands) h
+
+-- more of a chain comes, at once or after a pause
+pause_go : (w : Whole) (d0 d : Device) (t : Tally) (m head : ℕ) (pieces : List Piece) (part : Part)
+    (parts : List Part) (on : Tally → List Access → Type 0)
+    (go : (t2 : Tally) (b rest : List Access) → Alike t t2 →
+    Reads w d0 d t2 head pieces (part ∷ parts) [] b → on t2 rest → Goes w d0 t2.keeps m b rest)
+    (spent_now : Bool) (b log : List Access) → Reads w d0 d t head pieces (part ∷ parts) [] b →
+    is_told (newest b) ≡ true → PausesIf spent_now on t log → Goes w d0 t.keeps m b log
+pause_go w d0 d t m head pieces part parts on go false b log is told h =
+    go t b log (refl, refl, refl) is h
+pause_go w d0 d t m head pieces part parts on go true b log is told h =
+    let stands = one_on w d0 t.published Pause b d is.agrees.stands refl refl refl in
+    let after = go (refilled t) (Pause ∷ b) h.rest (refl, refl, refl) (record {
+      agrees = record { stands = stands; done = is.agrees.done; told_so = is.agrees.told_so };
+      known_so = is.known_so;
+      read = refl;
+    }) h.goes_on in
+    let comes : Comes w d0 t.keeps b Pause = record {
+      reads = subst (λ (k : Known). IsAmid k) (sym is.known_so) refl;
+      tells = is.agrees.done;
+      writes = tt;
+      follows = told;
+      touches = tt;
+      holds = tt;
+    } in
+    asked w d0 t.keeps m b log _ h.asks (record {
+      come = (comes, after.come);
+      few = let few = after.few in omega (arith, few);
+      round = after.round;
+    })
 
 -- these parts are copied, whatever was told before
 abbrev Again : Whole → Device → Tally → ℕ → ℕ → List Piece →
@@ -189,11 +221,14 @@ part_by w d0 d t0 t m head pieces served part parts on so_far true b log le same
     else tells_in (length so_far + part.length) parts) + m) b log) (sym e)
     (more_room w d0 t.keeps (1 + (1 + k)) _ b log (omega arith)
     (portion_serves w d0 w.kind refl d t (1 + k) head pieces part parts so_far _
-    (λ t2 b2 rest same2 is2 h2.
+    (λ t1 b1 rest1 same1 is1 told h1. pause_go w d0 d t1 (1 + k) head pieces part parts
+    (λ t2 rest. PartAt w (CopiesParts w served d t2 parts) d t2 part []
+    (spot w.regions (part.address + part.plus) part.length) rest) (λ t2 b2 rest same2 is2 h2.
     let none : 0 + part.length ≡ part.length = omega arith in
     subst (λ (n : ℕ). Goes w d0 t2.keeps (1 + (cost n parts + m)) b2 rest) none
     (part_go w d0 d t0 t2 m head pieces served part parts on [] b2 rest le
-    (same2.0 ∙ same.0, same2.1 ∙ same.1, same2.2 ∙ same.2) is2 h2)) b log (omega (arith, le))
+    (same2.0 ∙ (same1.0 ∙ same.0), same2.1 ∙ (same1.1 ∙ same.1), same2.2 ∙ (same1.2 ∙ same.2)) is2 h2))
+    (t1.pages == 0) b1 rest1 is1 told h1) b log (omega (arith, le))
     (eqb_so (length so_far) MAX_BYTES e) is h))
 part_by w d0 d t0 t m head pieces served part parts on so_far false b log le same e is h =
     let k = length parts + tells_in (length so_far + part.length) parts + m in

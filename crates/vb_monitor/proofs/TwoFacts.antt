@@ -77,7 +77,7 @@ of_the_second = Acquire ∷ second_entry ∷ CopyBytes (at 0x40) last_descriptor
 
 abbrev served_both : Outcome
 served_both = record outcome {
-  tally = record { chains = 6; pages = 254; keeps = false; given = true; held = None; published = 2; longest = 256; told = 1 };
+  tally = record { chains = 6; pages = 254; keeps = false; given = true; held = None; published = 2; most_pages = 256; longest = 256; told = 1 };
 }
 
 abbrev whole : Device → Outcome → Whole
@@ -85,7 +85,7 @@ whole d o = record { regions = two; kind = Inflate; device = d; outcome = o }
 
 -- after the first chain
 abbrev one_given : Tally
-one_given = record { chains = 7; pages = 255; keeps = false; given = true; held = None; published = 2; longest = 256; told = 1 }
+one_given = record { chains = 7; pages = 255; keeps = false; given = true; held = None; published = 2; most_pages = 256; longest = 256; told = 1 }
 
 serves_second : ServesPublished 7 (whole (used (used ready)) served_both) (used ready) one_given of_the_second
 unfolding lib.Count.ones

@@ -23,6 +23,10 @@ of_round opened = record ready {
 abbrev without_pages : Outcome
 without_pages = record outcome { tally = record (outcome.tally) { pages = 256; told = 0 } }
 
+-- a late page counts as well
+abbrev late_page : Outcome
+late_page = record outcome { tally = record (outcome.tally) { told = 0 } }
+
 -- ---- an id
 
 abbrev heard : Device
@@ -130,7 +134,7 @@ hinted = record {
 }
 
 -- while it isn't, none is told or discarded, and one counts as late
-hinted_late : Serves two Hint budget (of_round 0) (after_use Hint (with_one_taken Hint (of_round 0))) without_pages
+hinted_late : Serves two Hint budget (of_round 0) (after_use Hint (with_one_taken Hint (of_round 0))) late_page
     (index ∷ Acquire ∷ entry ∷ of_page_5 ∷ late ∷ given)
 unfolding lib.Count.ones
 hinted_late = record {
@@ -202,7 +206,7 @@ id_log = index ∷ Acquire ∷ entry ∷ descriptor ∷ part ∷ told_id ∷ giv
 abbrev hint_log : List Access
 hint_log = index ∷ Acquire ∷ entry ∷ of_page_5 ∷ hint ∷ discard ∷ given
 
-abbrev hints : Deed
+abbrev pub hints : Deed
 hints = Notices two Hint budget (of_round 1) (after_use Hint (with_one_taken Hint (of_round 1))) outcome hint_log
 
 life : IsLife no_round (Comes (Begins 5) ∷ Notices two Hint budget (of_round 0) heard without_pages id_log ∷ hints ∷ [])
@@ -220,11 +224,11 @@ of_a_stopped_round : IsLife no_round (Comes (Begins 5) ∷ Notices two Hint budg
 of_a_stopped_round h = let e : Same 5 0 = ap (λ (r : Round). r.shown) h.1.2.1.0 in omega arith
 
 -- what was hinted was heard where its round began and its id was read, and not where neither came
-began_nowhere : (before rest : List RoundEvent) → [] ≡ before ++ (Begins 5 ∷ rest) → ⊥
+pub began_nowhere : (before rest : List RoundEvent) → [] ≡ before ++ (Begins 5 ∷ rest) → ⊥
 began_nowhere [] rest e = absurd cc
 began_nowhere (x ∷ xs) rest e = absurd cc
 
-unheard : AreHeard [] (hints ∷ []) → ⊥
+pub unheard : AreHeard [] (hints ∷ []) → ⊥
 unheard h =
     let of_it = h.0.1.1.1.1.0 (λ e. absurd cc) in
     began_nowhere of_it.before (of_it.unheard ++ (Reads 5 ∷ of_it.since)) of_it.whole

@@ -18,6 +18,7 @@ pub data Access : Type 0 where
   TellPages : (kind : Kind) (runs : List Run) (named : Named) → Access
   TellFigures : (figures : List Statistic) → Access
   TellId : (id : ℕ) → Access
+  Pause : Access
   Discard : (cut : Cut) → Access
   WriteNumber : (at : Spot) (number : ℕ) → Access
   WriteWord : (at : Spot) (word : ℕ) → Access

@@ -136,11 +136,12 @@ pub record TellsThen (w : Whole) (next : Then) (d : Device) (tally : Tally) (hea
 abbrev pub more_told : ℕ → ℕ → ℕ
 more_told told pages = min (told + pages) 0xffffffff
 
--- n pages of the chain are told: as many fewer may be named yet.
-abbrev pub spent : ℕ → Tally → Tally
-spent pages tally = record tally {
-  pages = tally.pages - pages;
-  told = more_told tally.told pages;
+-- Pages of the chain are told: as many fewer may be named yet, where a number that is skipped
+-- counts like a page.
+abbrev pub spent : Named → Tally → Tally
+spent named tally = record tally {
+  pages = tally.pages - named.pages - named.skipped;
+  told = more_told tally.told named.pages;
 }
 
 -- ---- chains that are held
@@ -153,11 +154,11 @@ abbrev pub held_if : Bool → ℕ → ℕ → Tally → Tally
 held_if true head pages tally = with_held head pages tally
 held_if false head pages tally = tally
 
--- The pages of a chain, or those of its last portion, were named, n: it is held where the settings
--- say so of its kind, with all its pages.
-abbrev pub with_named : Kind → Settings → ℕ → ℕ → Tally → Tally
-with_named kind s head pages tally =
-    held_if (holds_chains kind s) head (more_told tally.told pages) (spent pages tally)
+-- The pages of a chain, or those of its last portion, were named: it is held where the settings say
+-- so of its kind, with all its pages.
+abbrev pub with_named : Kind → Settings → ℕ → Named → Tally → Tally
+with_named kind s head named tally =
+    held_if (holds_chains kind s) head (more_told tally.told named.pages) (spent named tally)
 
 -- The device once this was answered to the last numbers of a request: its entry is taken where they
 -- were named.
@@ -170,7 +171,7 @@ abbrev pub AfterName : Whole → Then → Device → Tally → ℕ → List Run 
     List Access → Type 0
 AfterName w next d tally head runs (Err why) log = Ends w d tally (Some why) false log
 AfterName w next d tally head runs (Ok named) log =
-    TellsThen w next d (with_named w.kind d.settings head named.pages tally) head
+    TellsThen w next d (with_named w.kind d.settings head named tally) head
     (take named.runs runs) named log
 
 -- What a kind's chains name is discarded, where it is kept or not.

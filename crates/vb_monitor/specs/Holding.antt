@@ -6,7 +6,7 @@ use Rattle.vb_core.specs.declared.settings.Settings.{Settings}
 use Rattle.vb_core.specs.Settings.{holds_chains}
 use Rattle.vb_monitor.specs.declared.outcome.Outcome.{Outcome}
 use Rattle.vb_monitor.specs.Accesses.{Access, ReadWord, CopyBytes, Acquire, Release, Full}
-use Rattle.vb_monitor.specs.Accesses.{TellPages, TellFigures, TellId, Discard, WriteNumber}
+use Rattle.vb_monitor.specs.Accesses.{TellPages, TellFigures, TellId, Pause, Discard, WriteNumber}
 use Rattle.vb_monitor.specs.Accesses.{WriteWord}
 use Rattle.vb_monitor.specs.Giving.{more_told}
 use Rattle.vb_monitor.specs.SoFar.{Known, Unknown, Walks, Has, known, pages_told}
@@ -29,6 +29,7 @@ HoldsTold kind s outcome before (TellPages of runs named) =
 HoldsTold kind s outcome before (TellFigures figures) =
     holds_chains kind s ≡ true → HoldsChain (known kind before) 0 outcome
 HoldsTold kind s outcome before (TellId id) = Unit {0}
+HoldsTold kind s outcome before Pause = Unit {0}
 HoldsTold kind s outcome before (Discard cut) = holds_chains kind s ≡ false
 HoldsTold kind s outcome before (WriteNumber at number) = holds_chains kind s ≡ false
 HoldsTold kind s outcome before (WriteWord at word) = holds_chains kind s ≡ false

@@ -8,7 +8,7 @@ use Rattle.vb_monitor.specs.declared.step.Phase.{Phase}
 use Rattle.vb_monitor.specs.declared.step.Phase.TheVariants.{AwaitsIndex, AwaitsEntry}
 use Rattle.vb_monitor.specs.declared.step.Phase.TheVariants.{AwaitsDescriptor, AwaitsPart}
 use Rattle.vb_monitor.specs.declared.step.Phase.TheVariants.{TellsPages, TellsFigures, TellsId}
-use Rattle.vb_monitor.specs.declared.step.Phase.TheVariants.{Discards}
+use Rattle.vb_monitor.specs.declared.step.Phase.TheVariants.{Discards, Paused}
 use Rattle.vb_monitor.specs.declared.step.Phase.TheVariants.{GivesBack, AwaitsFlags, Ended}
 
 -- Parts that a chain's runs have at most, in n regions: one for each run and region. After a run's
@@ -27,17 +27,17 @@ once_named regions = 3 + MAX_RUNS * length regions
 abbrev pub bytes_left : ℕ → ℕ → ℕ
 bytes_left piece done = (MAX_QUEUE_SIZE - piece) * 2 ^ 32 - done
 
--- Before that its pieces are copied from a place on, and each portion is told and discarded: a byte
--- at least at once.
+-- Before that its pieces are copied from a place on, and each portion is told and discarded, and
+-- the notice pauses after it: a byte at least at once.
 unfoldable pub copies_left : List Region → ℕ → ℕ → ℕ
-copies_left regions piece done = (once_named regions + 1) * (bytes_left piece done + 1)
+copies_left regions piece done = (once_named regions + 2) * (bytes_left piece done + 1)
 
 abbrev pub onward_left : Bool → List Region → ℕ → ℕ → ℕ
-onward_left true regions piece done = copies_left regions piece done
+onward_left true regions piece done = 1 + copies_left regions piece done
 onward_left false regions piece done = 0
 
 abbrev pub once_whole : List Region → ℕ
-once_whole regions = once_named regions + copies_left regions 0 0
+once_whole regions = once_named regions + 1 + copies_left regions 0 0
 
 -- Before that the descriptors are, of which n were.
 abbrev pub once_copied : List Region → ℕ → ℕ
@@ -64,8 +64,9 @@ left_of regions (Discards cut x) =
     + onward_left x.further regions x.place.piece x.place.done
 left_of regions (TellsPages place named further) =
     once_named regions + onward_left further regions place.piece place.done
+left_of regions (Paused place) = 3 + copies_left regions place.piece place.done
 left_of regions (AwaitsPart at place into len) =
-    once_named regions + 1 + copies_left regions place.piece place.done
+    once_named regions + 2 + copies_left regions place.piece place.done
 left_of regions (AwaitsDescriptor at walk) = once_copied regions walk.count + 1
 left_of regions (AwaitsEntry at) = of_chain regions
 

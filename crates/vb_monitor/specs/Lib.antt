@@ -18,6 +18,7 @@ pub mod Order
 pub mod Places
 pub mod Queues
 pub mod Counts
+pub mod Budgets
 pub mod SoFar
 pub mod Holding
 pub mod Turns
@@ -27,3 +28,4 @@ pub mod Large
 pub mod Within
 pub mod Still
 pub mod Rounds
+pub mod Snapshots

@@ -24,19 +24,20 @@ use Rattle.vb_monitor.specs.declared.step.Phase.{Phase}
 use Rattle.vb_monitor.specs.declared.step.Phase.TheVariants.{AwaitsIndex, AwaitsEntry}
 use Rattle.vb_monitor.specs.declared.step.Phase.TheVariants.{AwaitsDescriptor, AwaitsPart}
 use Rattle.vb_monitor.specs.declared.step.Phase.TheVariants.{TellsPages, TellsFigures, TellsId}
-use Rattle.vb_monitor.specs.declared.step.Phase.TheVariants.{Discards}
+use Rattle.vb_monitor.specs.declared.step.Phase.TheVariants.{Discards, Paused}
 use Rattle.vb_monitor.specs.declared.step.Phase.TheVariants.{GivesBack, AwaitsFlags, Ended}
 use Rattle.vb_monitor.specs.Accesses.{Access, Makes, ReadWord, CopyBytes, Acquire, Full}
 use Rattle.vb_monitor.specs.Accesses.{TellPages as ToldPages, TellFigures as ToldFigures}
 use Rattle.vb_monitor.specs.Accesses.{TellId as ToldId}
-use Rattle.vb_monitor.specs.Accesses.{Discard}
+use Rattle.vb_monitor.specs.Accesses.{Discard, Pause}
 use Rattle.vb_monitor.specs.Regions.{cuts_from, cuts_of}
 use Rattle.vb_monitor.specs.Ends.{Whole, Stops, AsksFlags}
 use Rattle.vb_monitor.specs.Giving.{Then, used_accesses, with_given, WritesUsed, DiscardsThen}
 use Rattle.vb_monitor.specs.Giving.{TellsThen, OnceTold, GivesBack as GivesChainBack}
 use Rattle.vb_monitor.specs.Pieces.{parts_on, AsksPart}
 use Rattle.vb_core.specs.Pieces.{pieces_in}
-use Rattle.vb_monitor.specs.Portions.{TellsPortion, CopiesParts, CopiesFurther}
+use Rattle.vb_monitor.specs.Portions.{TellsPortion, CopiesParts, CopiesFurther, PausesThen}
+use Rattle.vb_monitor.specs.Portions.{GoesFurther}
 use Rattle.vb_monitor.specs.Chains.{longest, TableRow, row_of, AsksRow, Follows, ServesPieces}
 use Rattle.vb_monitor.specs.Chains.{ServesBytes, TellsThenEnds, TellsIdThen}
 use Rattle.vb_monitor.specs.Notices.{AsksIndex, AsksEntry, ServesPublished, AfterGiven}
@@ -81,6 +82,7 @@ is_ended (AwaitsPart at place into len) = false
 is_ended (TellsPages place named further) = false
 is_ended (TellsFigures head count) = false
 is_ended (TellsId head id) = false
+is_ended (Paused place) = false
 is_ended (Discards cut x) = false
 is_ended (GivesBack spots entry) = false
 is_ended (AwaitsFlags at why more) = false
@@ -96,6 +98,7 @@ outcome_at (AwaitsPart at place into len) tally = None
 outcome_at (TellsPages place named further) tally = None
 outcome_at (TellsFigures head count) tally = None
 outcome_at (TellsId head id) tally = None
+outcome_at (Paused place) tally = None
 outcome_at (Discards cut x) tally = None
 outcome_at (GivesBack spots entry) tally = None
 outcome_at (AwaitsFlags at why more) tally = None
@@ -109,17 +112,20 @@ Fits (AwaitsDescriptor at walk) = row_bytes walk ≤ MAX_BYTES
 Fits (TellsPages place named further) = named.runs ≤ MAX_RUNS
 Fits (TellsFigures head count) = count ≤ MAX_FIGURES
 Fits (TellsId head id) = Unit {0}
+Fits (Paused place) = Unit {0}
 Fits (Discards cut x) = Unit {0}
 Fits (GivesBack spots entry) = Unit {0}
 Fits (AwaitsFlags at why more) = Unit {0}
 Fits (Ended why interrupt more) = Unit {0}
 
 -- How far along a chain that is done which needs no answer: 0, something is told; 1, bytes are
--- discarded; 2, the chain is given back; 3, an answer is awaited, or nothing is to be done.
+-- discarded; 2, the chain is given back; 3, an answer is awaited, the notice pauses, or nothing is
+-- to be done.
 abbrev pub stage : Phase → ℕ
 stage (TellsPages place named further) = 0
 stage (TellsFigures head count) = 0
 stage (TellsId head id) = 0
+stage (Paused place) = 3
 stage (Discards cut x) = 1
 stage (GivesBack spots entry) = 2
 stage (AwaitsIndex at) = 3
@@ -129,13 +135,15 @@ stage (AwaitsPart at place into len) = 3
 stage (AwaitsFlags at why more) = 3
 stage (Ended why interrupt more) = 3
 
--- It goes on by an answer, or has parts to discard for which there was no room; or it has ended.
+-- It goes on by an answer, after a pause, or has parts to discard for which there was no room; or
+-- it has ended.
 abbrev pub waits : Phase → Bool
 waits (AwaitsIndex at) = true
 waits (AwaitsEntry at) = true
 waits (AwaitsDescriptor at walk) = true
 waits (AwaitsPart at place into len) = true
 waits (AwaitsFlags at why more) = true
+waits (Paused place) = true
 waits (Ended why interrupt more) = true
 waits (Discards cut x) = true
 waits (TellsPages place named further) = false
@@ -150,6 +158,7 @@ may_go_on (AwaitsEntry at) = true
 may_go_on (AwaitsDescriptor at walk) = nat_le (row_bytes walk) MAX_BYTES
 may_go_on (AwaitsPart at place into len) = nat_le (into + len) MAX_BYTES
 may_go_on (AwaitsFlags at why more) = true
+may_go_on (Paused place) = true
 may_go_on (Ended why interrupt more) = true
 may_go_on (Discards cut x) = true
 may_go_on (TellsPages place named further) = false
@@ -174,7 +183,7 @@ served w tally head = ServesBytes w (next_chain w tally) head
 -- chain is given back.
 abbrev pub Onward : Bool → Whole → Tally → Device → Place → Room → List Access → Type 0
 Onward true w tally d place room log =
-    CopiesFurther w (served w tally place.head) d tally (parts_from 0 place room) log
+    GoesFurther w (served w tally place.head) d (parts_from 0 place room) tally log
 Onward false w tally d place room log =
     GivesChainBack w (next_chain w tally) d tally place.head log
 
@@ -213,6 +222,10 @@ AheadAt (TellsFigures head count) w tally d room log =
     TellsThenEnds w d tally (take count room.figures) log
 AheadAt (TellsId head id) w tally d room log =
     TellsIdThen w (next_chain w tally) d tally head id log
+AheadAt (Paused place) w tally d room log =
+    PausesThen
+    (λ t2 rest. CopiesFurther w (served w tally place.head) d t2 (parts_from 0 place room) rest)
+    tally log
 AheadAt (Discards cut x) w tally d room log =
     DiscardsThen (Onward x.further w tally d x.place room)
     (cut ∷ cuts_after x.from x.run w.regions (take x.runs room.runs)) log
@@ -247,6 +260,7 @@ Does (TellsPages place named further) kind answer before room done =
 Does (TellsFigures head count) kind answer before room done =
     done ≡ ToldFigures (take count room.figures) ∷ []
 Does (TellsId head id) kind answer before room done = done ≡ ToldId id ∷ []
+Does (Paused place) kind answer before room done = done ≡ Pause ∷ []
 Does (Discards cut x) kind answer before room done = done ≡ Discard cut ∷ []
 Does (GivesBack spots entry) kind answer before room done = done ≡ used_accesses spots entry
 Does (AwaitsFlags at why more) kind answer before room done =
@@ -263,6 +277,7 @@ is_discarding (AwaitsPart at place into len) = false
 is_discarding (TellsPages place named further) = false
 is_discarding (TellsFigures head count) = false
 is_discarding (TellsId head id) = false
+is_discarding (Paused place) = false
 is_discarding (GivesBack spots entry) = false
 is_discarding (AwaitsFlags at why more) = false
 is_discarding (Ended why interrupt more) = false

@@ -142,6 +142,7 @@ fresh budget = record {
   given = false;
   held = None;
   published = 0;
+  most_pages = budget.pages;
   longest = budget.longest;
   told = 0;
 }

@@ -2,6 +2,7 @@
 use Rattle.std.specs.Prelude.{◌≡◌, ◌⊎◌, ℕ, ◌+◌, ◌*◌, ◌≤◌, ◌<◌, Bool, true, false, ◌==◌, ◌&&◌, ◌||◌}
 use Rattle.std.specs.Prelude.{max, List, [], ◌∷◌, if◌then◌else◌, Option, Some, None}
 use Rattle.std.specs.Prelude.{Result, Ok, Err}
+use Rattle.vb_core.specs.declared.kinds.Kind.{Kind}
 use Rattle.vb_core.specs.declared.ring.Virtqueue.{Virtqueue}
 use Rattle.vb_core.specs.declared.settings.Settings.{Settings}
 use Rattle.vb_core.specs.declared.device.Device.{Device}
@@ -10,7 +11,7 @@ use Rattle.vb_core.specs.declared.saved.StateDenial.{StateDenial}
 use Rattle.vb_monitor.specs.declared.placing.RestoreDenial.{RestoreDenial}
 use Rattle.vb_monitor.specs.declared.placing.RestoreDenial.TheVariants.{State, Elsewhere}
 use Rattle.vb_core.specs.Settings.{are_settings}
-use Rattle.vb_core.specs.Devices.{new_device}
+use Rattle.vb_core.specs.Devices.{new_device, ring_of}
 use Rattle.vb_core.specs.Held.{nothing_held}
 use Rattle.vb_monitor.specs.declared.regions.Region.{Region}
 use Rattle.vb_monitor.specs.declared.balloon.Balloon.{Balloon}
@@ -54,11 +55,8 @@ abbrev pub Lies : List Region → Virtqueue → Type 0
 Lies regions r = (r.size ≡ 0) ⊎ HasMemory regions r
 
 -- So does each queue of a device.
-pub record AllLie (regions : List Region) (d : Device) : Type 0 where
-  pub inflate : Lies regions d.inflate
-  pub deflate : Lies regions d.deflate
-  pub statistics : Lies regions d.statistics
-  pub report : Lies regions d.report
+abbrev pub AllLie : List Region → Device → Type 0
+AllLie regions d = (kind : Kind) → Lies regions (ring_of kind d)
 
 -- ---- devices over regions
 

@@ -14,7 +14,7 @@ use Rattle.vb_monitor.specs.declared.regions.Region.{Region}
 use Rattle.vb_monitor.specs.declared.cuts.Cut.{Cut}
 use Rattle.vb_monitor.specs.declared.parts.Part.{Part}
 use Rattle.vb_monitor.specs.Accesses.{Access, ReadWord, CopyBytes, Acquire, Release, Full}
-use Rattle.vb_monitor.specs.Accesses.{TellPages, TellFigures, TellId, Discard, WriteNumber}
+use Rattle.vb_monitor.specs.Accesses.{TellPages, TellFigures, TellId, Pause, Discard, WriteNumber}
 use Rattle.vb_monitor.specs.Accesses.{WriteWord}
 use Rattle.vb_monitor.specs.Giving.{cuts_for, more_told}
 use Rattle.vb_monitor.specs.Pieces.{all_parts}
@@ -101,6 +101,7 @@ is_fenced (Full ∷ xs) = false
 is_fenced (TellPages kind runs named ∷ xs) = false
 is_fenced (TellFigures figures ∷ xs) = false
 is_fenced (TellId id ∷ xs) = false
+is_fenced (Pause ∷ xs) = false
 is_fenced (Discard cut ∷ xs) = false
 is_fenced (WriteNumber at number ∷ xs) = false
 is_fenced (WriteWord at word ∷ xs) = false
@@ -121,6 +122,7 @@ known kind (Full ∷ xs) = known kind xs
 known kind (TellPages of runs named ∷ xs) = with_told (known kind xs)
 known kind (TellFigures figures ∷ xs) = known kind xs
 known kind (TellId id ∷ xs) = known kind xs
+known kind (Pause ∷ xs) = known kind xs
 known kind (Discard cut ∷ xs) = known kind xs
 known kind (WriteNumber at number ∷ xs) = known kind xs
 known kind (WriteWord at word ∷ xs) = Unknown
@@ -145,6 +147,7 @@ ring_after kind r (TellPages of runs named ∷ xs) =
     with_taken_if (is_whole (known kind xs)) (ring_after kind r xs)
 ring_after kind r (TellFigures figures ∷ xs) = with_taken (ring_after kind r xs)
 ring_after kind r (TellId id ∷ xs) = with_taken (ring_after kind r xs)
+ring_after kind r (Pause ∷ xs) = ring_after kind r xs
 ring_after kind r (Discard cut ∷ xs) = ring_after kind r xs
 ring_after kind r (WriteNumber at number ∷ xs) = ring_after kind r xs
 ring_after kind r (WriteWord at word ∷ xs) = with_used (ring_after kind r xs)
@@ -160,6 +163,7 @@ earlier None Full = None
 earlier None (TellPages kind runs named) = None
 earlier None (TellFigures figures) = None
 earlier None (TellId id) = None
+earlier None Pause = None
 earlier None (Discard cut) = None
 earlier None (WriteNumber at number) = None
 earlier None (WriteWord at word) = None
@@ -187,6 +191,7 @@ left kept regions (Full ∷ xs) = left kept regions xs
 left kept regions (TellPages kind runs named ∷ xs) = cuts_for kind kept regions runs
 left kept regions (TellFigures figures ∷ xs) = left kept regions xs
 left kept regions (TellId id ∷ xs) = left kept regions xs
+left kept regions (Pause ∷ xs) = left kept regions xs
 left kept regions (Discard cut ∷ xs) = without_first (left kept regions xs)
 left kept regions (WriteNumber at number ∷ xs) = left kept regions xs
 left kept regions (WriteWord at word ∷ xs) = left kept regions xs
@@ -204,6 +209,7 @@ pages_told (Full ∷ xs) = pages_told xs
 pages_told (TellPages kind runs named ∷ xs) = more_told (pages_told xs) named.pages
 pages_told (TellFigures figures ∷ xs) = pages_told xs
 pages_told (TellId id ∷ xs) = pages_told xs
+pages_told (Pause ∷ xs) = pages_told xs
 pages_told (Discard cut ∷ xs) = pages_told xs
 pages_told (WriteNumber at number ∷ xs) = pages_told xs
 pages_told (WriteWord at word ∷ xs) = pages_told xs
@@ -213,6 +219,7 @@ pages_told (WriteWord at word ∷ xs) = pages_told xs
 -- A round once this access came: an id that is told opens it or closes it.
 abbrev pub hears : Access → Round → Round
 hears (TellId id) r = heard id r
+hears Pause r = r
 hears (ReadWord at answer) r = r
 hears (CopyBytes at answer) r = r
 hears Acquire r = r

@@ -13,7 +13,7 @@ use Rattle.vb_monitor.specs.declared.step.Phase.{Phase}
 use Rattle.vb_monitor.specs.declared.step.Phase.TheVariants.{AwaitsIndex, AwaitsEntry}
 use Rattle.vb_monitor.specs.declared.step.Phase.TheVariants.{AwaitsDescriptor, AwaitsPart}
 use Rattle.vb_monitor.specs.declared.step.Phase.TheVariants.{TellsPages, TellsFigures, TellsId}
-use Rattle.vb_monitor.specs.declared.step.Phase.TheVariants.{Discards}
+use Rattle.vb_monitor.specs.declared.step.Phase.TheVariants.{Discards, Paused}
 use Rattle.vb_monitor.specs.declared.step.Phase.TheVariants.{GivesBack, AwaitsFlags, Ended}
 use Rattle.vb_monitor.specs.Codes.{why_of}
 
@@ -38,6 +38,7 @@ tally_of c = record {
   given = says_yes c.given;
   held = held_in (c.taken == 0) c.taken_head c.taken_pages;
   published = c.published;
+  most_pages = c.most_pages;
   longest = c.longest;
   told = c.told;
 }
@@ -85,6 +86,7 @@ phase_at n c =
     else if n == 7 then TellsPages (place_of c) c.named (says_yes c.flag)
     else if n == 8 then TellsFigures c.head c.length
     else if n == 10 then TellsId c.head c.length
+    else if n == 11 then Paused (place_of c)
     else GivesBack c.spots c.entry
 
 unfoldable pub phase_of : Progress → Phase

@@ -20,6 +20,7 @@ use Rattle.vb_core.specs.declared.ring.Virtqueue.{Virtqueue}
 use Rattle.vb_core.specs.declared.device.Denial.{Denial}
 use Rattle.vb_core.specs.declared.device.Denial.TheVariants.{Broken}
 use Rattle.vb_core.specs.declared.device.Device.{Device}
+use Rattle.vb_core.specs.declared.name.Named.{Named}
 use Rattle.vb_core.specs.Devices.{ring_of, with_one_taken, needing_reset}
 use Rattle.vb_core.specs.Report.{run_of}
 use Rattle.vb_monitor.specs.declared.regions.Region.{Region}
@@ -27,7 +28,7 @@ use Rattle.vb_monitor.specs.declared.parts.Part.{Part}
 use Rattle.vb_monitor.specs.declared.room.TheConstants.{MAX_BYTES}
 use Rattle.vb_monitor.specs.declared.outcome.{Budget.Budget, Tally.Tally}
 use Rattle.vb_monitor.specs.Accesses.{Access, ReadWord, CopyBytes, Acquire, Release, Full}
-use Rattle.vb_monitor.specs.Accesses.{TellPages, TellFigures, TellId, Discard, WriteNumber}
+use Rattle.vb_monitor.specs.Accesses.{TellPages, TellFigures, TellId, Pause, Discard, WriteNumber}
 use Rattle.vb_monitor.specs.Accesses.{WriteWord}
 use Rattle.vb_monitor.specs.Regions.{spot}
 use Rattle.vb_monitor.specs.Chains.{descriptor_of, memory_end, request_length_within, id_length}
@@ -35,7 +36,7 @@ use Rattle.vb_monitor.specs.Chains.{has_id}
 use Rattle.vb_monitor.specs.Within.{ChainWithin, FaultWithin}
 use Rattle.vb_monitor.specs.Ends.{Whole}
 use Rattle.vb_monitor.specs.Notices.{entry_offset, fresh, with_chains, with_published}
-use Rattle.vb_monitor.specs.Portions.{ServesPortion, CopiesFurther}
+use Rattle.vb_monitor.specs.Portions.{ServesPortion, GoesFurther}
 use Rattle.vb_monitor.specs.Machine.{next_chain, serves}
 use Rattle.vb_monitor.specs.Giving.{TellsThen, spent}
 
@@ -56,6 +57,7 @@ Holds byte regions Full = Unit {0}
 Holds byte regions (TellPages kind runs named) = Unit {0}
 Holds byte regions (TellFigures figures) = Unit {0}
 Holds byte regions (TellId id) = Unit {0}
+Holds byte regions Pause = Unit {0}
 Holds byte regions (Discard cut) = Unit {0}
 Holds byte regions (WriteNumber at number) = Unit {0}
 Holds byte regions (WriteWord at word) = Unit {0}
@@ -75,6 +77,7 @@ StaysUntil onward byte regions (TellPages kind runs named ∷ xs) =
     onward (TellPages kind runs named ∷ xs)
 StaysUntil onward byte regions (TellFigures figures ∷ xs) = onward (TellFigures figures ∷ xs)
 StaysUntil onward byte regions (TellId id ∷ xs) = onward (TellId id ∷ xs)
+StaysUntil onward byte regions (Pause ∷ xs) = onward (Pause ∷ xs)
 StaysUntil onward byte regions (Discard cut ∷ xs) = onward (Discard cut ∷ xs)
 StaysUntil onward byte regions (WriteNumber at number ∷ xs) = onward (WriteNumber at number ∷ xs)
 StaysUntil onward byte regions (WriteWord at word ∷ xs) = onward (WriteWord at word ∷ xs)
@@ -195,6 +198,11 @@ has_pages Statistics pieces = false
 has_pages Hint pieces = not (has_id pieces)
 has_pages Report pieces = true
 
+-- What is told of these free pages, a run for each piece of their chain.
+abbrev pub told_free : Taken → List ℕ → Named
+told_free taken pages =
+    record { runs = length taken.chain; pages = length pages; skipped = 0 }
+
 -- The pages of a report or a hint are told, a run for each piece, and then discarded, if they may
 -- be; or a rule is broken, as the pieces name no free pages.
 abbrev pub TellsTaken : (List Access → Type 0) → Taken → Result (List ℕ) ChainFault → Whole →
@@ -203,8 +211,8 @@ TellsTaken still taken (Err fault) w tally d log =
     EndsSo still (Some (Broken fault)) w (needing_reset d)
 TellsTaken still taken (Ok pages) w tally d log =
     AfterReads still (TellsThen w (next_chain w tally) (with_one_taken w.kind d)
-    (spent (length pages) tally) taken.head (map run_of taken.chain)
-    (record { runs = length taken.chain; pages = length pages; skipped = 0 })) log
+    (spent (told_free taken pages) tally) taken.head (map run_of taken.chain)
+    (told_free taken pages)) log
 
 -- A chain whose pieces name pages tells them; another one is served by its pieces.
 abbrev pub ReportsTaken : Bool → (List Access → Type 0) → Taken → Whole → Tally → Device →
@@ -262,5 +270,5 @@ pub record ServesFirst (still : List Access → Type 0) (byte : ℕ → ℕ) (w 
   pub left : bytes_of_parts byte (drop count parts) ≡ drop MAX_BYTES (bytes_of_parts byte parts)
   pub portions : AreInPortions 0 (drop count parts)
   pub serves_so : AfterReads still (ServesPortion w.kind w
-      (λ d2 t2 rest. CopiesFurther w served d2 t2 (drop count parts) rest) d t
+      (λ d2 t2 rest. GoesFurther w served d2 (drop count parts) t2 rest) d t
       (take MAX_BYTES (bytes_of_parts byte parts))) log

@@ -3,7 +3,7 @@ use Rattle.std.specs.Prelude.{◌≡◌, ℕ, ◌+◌, ◌≤◌, true, List, le
 use Rattle.vb_monitor.specs.declared.regions.Region.{Region}
 use Rattle.vb_monitor.specs.Accesses.{Access, ReadWord, CopyBytes, Acquire, Release, Full}
 use Rattle.vb_monitor.specs.Accesses.{TellPages}
-use Rattle.vb_monitor.specs.Accesses.{TellFigures, TellId, Discard, WriteNumber, WriteWord}
+use Rattle.vb_monitor.specs.Accesses.{TellFigures, TellId, Pause, Discard, WriteNumber, WriteWord}
 use Rattle.vb_monitor.specs.Regions.{is_region}
 
 -- n bytes from an offset of the region of this number on lie in that region.
@@ -23,6 +23,7 @@ Touches regions Full = Unit {0}
 Touches regions (TellPages kind runs named) = Unit {0}
 Touches regions (TellFigures figures) = Unit {0}
 Touches regions (TellId id) = Unit {0}
+Touches regions Pause = Unit {0}
 Touches regions (Discard cut) = IsWithin regions cut.region cut.offset cut.length
 Touches regions (WriteNumber at number) = IsWithin regions at.region at.offset 4
 Touches regions (WriteWord at word) = IsWithin regions at.region at.offset 2

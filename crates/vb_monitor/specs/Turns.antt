@@ -28,7 +28,7 @@ use Rattle.vb_monitor.specs.declared.regions.Spot.{Spot}
 use Rattle.vb_monitor.specs.declared.cuts.Cut.{Cut}
 use Rattle.vb_monitor.specs.declared.room.TheConstants.{MAX_BYTES}
 use Rattle.vb_monitor.specs.Accesses.{Access, ReadWord, CopyBytes, Acquire, Release, Full}
-use Rattle.vb_monitor.specs.Accesses.{TellPages, TellFigures, TellId, Discard, WriteNumber}
+use Rattle.vb_monitor.specs.Accesses.{TellPages, TellFigures, TellId, Pause, Discard, WriteNumber}
 use Rattle.vb_monitor.specs.Accesses.{WriteWord}
 use Rattle.vb_monitor.specs.Regions.{spot}
 use Rattle.vb_monitor.specs.Chains.{further_in_row, id_of}
@@ -53,6 +53,7 @@ ReadsWord regions r (Release ∷ xs) at = ⊥
 ReadsWord regions r (TellPages kind runs named ∷ xs) at = ⊥
 ReadsWord regions r (TellFigures figures ∷ xs) at = ⊥
 ReadsWord regions r (TellId id ∷ xs) at = ⊥
+ReadsWord regions r (Pause ∷ xs) at = ⊥
 ReadsWord regions r (Discard cut ∷ xs) at = ⊥
 ReadsWord regions r (WriteNumber before number ∷ xs) at = ⊥
 ReadsWord regions r (WriteWord before word ∷ xs) at = ⊥
@@ -68,6 +69,7 @@ ends_in_full (Release ∷ xs) = false
 ends_in_full (TellPages kind runs named ∷ xs) = false
 ends_in_full (TellFigures figures ∷ xs) = false
 ends_in_full (TellId id ∷ xs) = false
+ends_in_full (Pause ∷ xs) = false
 ends_in_full (Discard cut ∷ xs) = false
 ends_in_full (WriteNumber at number ∷ xs) = false
 ends_in_full (WriteWord at word ∷ xs) = false
@@ -83,6 +85,7 @@ is_over (Full ∷ xs) = false
 is_over (TellPages kind runs named ∷ xs) = false
 is_over (TellFigures figures ∷ xs) = false
 is_over (TellId id ∷ xs) = false
+is_over (Pause ∷ xs) = false
 is_over (Discard cut ∷ xs) = false
 is_over (WriteNumber at number ∷ xs) = false
 is_over (WriteWord at word ∷ xs) = false
@@ -109,9 +112,16 @@ abbrev pub IsPublished : Option ℕ → Virtqueue → Type 0
 IsPublished None r = ⊥
 IsPublished (Some index) r = stands r index ≡ Ok true
 
+-- A portion of a chain was told, and more of the chain is to be copied.
+abbrev pub IsAmid : Known → Type 0
+IsAmid Unknown = ⊥
+IsAmid (Walks head number pieces) = ⊥
+IsAmid (Has head pieces [] bytes) = ⊥
+IsAmid (Has head pieces (part ∷ parts) bytes) = bytes ≡ []
+
 -- What is read comes in its turn: each entry, each row of descriptors and each part of a piece has
 -- one. No entry is read that wasn't published, nor while another one's chain is served, and nothing
--- after the flags.
+-- after the flags. A notice pauses between two portions of a chain alone.
 abbrev pub ReadsInTurn : List Region → Kind → Device → List Access → Access → Type 0
 ReadsInTurn regions kind d before (ReadWord at answer) =
     ReadsWord regions (ring_after kind (ring_of kind d) before) before at
@@ -125,6 +135,7 @@ ReadsInTurn regions kind d before Full = is_over before ≡ false
 ReadsInTurn regions kind d before (TellPages of runs named) = Unit {0}
 ReadsInTurn regions kind d before (TellFigures figures) = Unit {0}
 ReadsInTurn regions kind d before (TellId id) = Unit {0}
+ReadsInTurn regions kind d before Pause = IsAmid (known kind before)
 ReadsInTurn regions kind d before (Discard cut) = Unit {0}
 ReadsInTurn regions kind d before (WriteNumber at number) = Unit {0}
 ReadsInTurn regions kind d before (WriteWord at word) = Unit {0}
@@ -218,6 +229,8 @@ TellsInTurn regions kind all d before (TellPages of runs named) =
 TellsInTurn regions kind all d before (TellFigures figures) =
     (kind ≡ Statistics) × FiguresOf (known kind before) figures
 TellsInTurn regions kind all d before (TellId id) = (kind ≡ Hint) × IdOf (known kind before) id
+TellsInTurn regions kind all d before Pause =
+    left (is_kept kind all (keeps_free kind d)) regions before ≡ []
 TellsInTurn regions kind all d before (Discard cut) =
     IsNext cut (left (is_kept kind all (keeps_free kind d)) regions before)
 TellsInTurn regions kind all d before (WriteNumber at number) =
@@ -244,6 +257,7 @@ ends_in_number (Full ∷ xs) = false
 ends_in_number (TellPages kind runs named ∷ xs) = false
 ends_in_number (TellFigures figures ∷ xs) = false
 ends_in_number (TellId id ∷ xs) = false
+ends_in_number (Pause ∷ xs) = false
 ends_in_number (Discard cut ∷ xs) = false
 ends_in_number (WriteWord at word ∷ xs) = false
 
@@ -286,6 +300,7 @@ WritesUsedAlone regions kind d before Full = Unit {0}
 WritesUsedAlone regions kind d before (TellPages of runs named) = Unit {0}
 WritesUsedAlone regions kind d before (TellFigures figures) = Unit {0}
 WritesUsedAlone regions kind d before (TellId id) = Unit {0}
+WritesUsedAlone regions kind d before Pause = Unit {0}
 WritesUsedAlone regions kind d before (Discard cut) = Unit {0}
 
 -- ---- hints
@@ -305,6 +320,7 @@ HintsInRound d before Release = Unit {0}
 HintsInRound d before Full = Unit {0}
 HintsInRound d before (TellFigures figures) = Unit {0}
 HintsInRound d before (TellId id) = Unit {0}
+HintsInRound d before Pause = Unit {0}
 HintsInRound d before (Discard cut) = Unit {0}
 HintsInRound d before (WriteNumber at number) = Unit {0}
 HintsInRound d before (WriteWord at word) = Unit {0}

@@ -53,6 +53,9 @@ pub const BAD_SUM: u32 = 12;
 /// No calls lead to a device like that.
 pub const IMPOSSIBLE: u32 = 13;
 
+/// Amid the notice its device was reset, or its queue moved or used.
+pub const STALE: u32 = 14;
+
 /// The code of a denial.
 pub fn code_of(denial: Denial) -> u32
     ensures { result ≡ code_of denial }

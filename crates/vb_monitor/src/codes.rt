@@ -32,3 +32,6 @@ pub(crate) const USED: u8 = 9;
 
 /// An id of hints is told.
 pub(crate) const ID: u8 = 10;
+
+/// The notice pauses.
+pub(crate) const PAUSE: u8 = 11;

@@ -47,7 +47,7 @@ fn ask_part(
     ensures stage { stage (phase_of step.new) ≡ 3 }
     ensures left { left regions.now (step_of step.new) ≤
         of_chains regions.now (tally_of step.old).chains
-        + (once_named regions.now + 1 + copies_left regions.now place.piece place.done) }
+        + (once_named regions.now + 2 + copies_left regions.now place.piece place.done) }
 {
     match find_from(
         regions,
@@ -88,7 +88,7 @@ pub(crate) fn copy_on(
     ensures fits { Fits (phase_of step.new) }
     ensures left { left regions.now (step_of step.new) ≤
         of_chains regions.now (tally_of step.old).chains
-        + (once_named regions.now + copies_left regions.now place.piece place.done) }
+        + (once_named regions.now + 1 + copies_left regions.now place.piece place.done) }
 {
     let pieces = first_pieces(&room.pieces, place.count);
     match next_part(pieces, place.piece, place.done, into) {

@@ -26,7 +26,7 @@ use crate::ends::end;
 use crate::giving::give_back;
 use crate::room::MAX_RUNS;
 use crate::step::Discarding;
-use crate::{Progress, Region, Room};
+use crate::{Place, Progress, Region, Room};
 use vb_core::{Device, Kind, Run};
 
 /// The first `count` runs.
@@ -99,6 +99,32 @@ pub(crate) fn discard_next(step: &mut Progress, discarding: Discarding, next: &N
     step.await_cut(next.cut, discarding)
 }
 
+/// The chain is copied further, at once or after a pause.
+#[inline(always)]
+fn go_further(
+    step: &mut Progress,
+    device: &mut Device,
+    regions: &[Region],
+    kind: Kind,
+    place: Place,
+    room: &Room,
+)
+    ensures step { (after : Device) (outcome : Outcome) (log : List Access) →
+        Ahead (whole regions.now kind after outcome) (step_of step.new) device.new room.now log →
+        Onward true (whole regions.now kind after outcome) (tally_of step.old) device.old place
+        room.now log }
+    ensures fits { Fits (phase_of step.new) }
+    ensures stage { 2 ≤ stage (phase_of step.new) }
+    ensures left { left regions.now (step_of step.new) ≤
+        of_chains regions.now (tally_of step.old).chains
+        + (2 + onward_left true regions.now place.piece place.done) }
+{
+    if step.pages_left == 0 {
+        return step.pause(place);
+    }
+    copy_further(step, device, regions, kind, place, room)
+}
+
 /// What was told is discarded: the chain is copied further, or given back.
 #[inline(always)]
 pub(crate) fn go_onward(
@@ -121,7 +147,7 @@ pub(crate) fn go_onward(
         discarding.place.done) }
 {
     if discarding.further {
-        return copy_further(step, device, regions, kind, discarding.place, room);
+        return go_further(step, device, regions, kind, discarding.place, room);
     }
     give_back(step, device, regions, kind, discarding.place.head)
 }

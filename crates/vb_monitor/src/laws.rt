@@ -21,6 +21,7 @@ ghost use Rattle.vb_core.specs.declared.runs.Run.{Run};
 ghost use Rattle.vb_monitor.specs.Regions.{cuts_of};
 ghost use Rattle.vb_monitor.specs.Touched.{Touches};
 ghost use Rattle.vb_monitor.specs.Counts.{others};
+ghost use Rattle.vb_monitor.specs.Budgets.{KeepsBudget};
 ghost use Rattle.vb_monitor.specs.Order.{Row, MayFollow};
 ghost use Rattle.vb_monitor.specs.SoFar.{Each};
 ghost use Rattle.vb_monitor.specs.HeldBack.{GivesHeldAlone};
@@ -87,6 +88,16 @@ pub fn a_notice_makes_few_accesses()
         (outcome : Outcome) (log : List Access) →
         Serves regions kind budget d1 d2 outcome log → others log ≤
         3 + (775 + 3 * ((budget.longest - 1) / 256)) * budget.chains }
+{}
+
+/// A notice reads chains and tells pages only while it has told fewer numbers than its budget since
+/// it began or paused last, and pauses only once it has told as many; so of requests it tells at
+/// most its budget and 255 numbers before it pauses or ends. A number that is skipped counts too.
+#[tactic(auto, using(crate::proofs::BudgetTurns::keeps_budget))]
+pub fn a_notice_pauses_by_its_budget()
+    ensures { (regions : List Region) (kind : Kind) (budget : Budget) (d1 d2 : Device)
+        (outcome : Outcome) (log : List Access) →
+        Serves regions kind budget d1 d2 outcome log → KeepsBudget kind budget.pages 0 log }
 {}
 
 /// What counts is read once: the index once a notice, first of all; after it, and after a chain

@@ -32,12 +32,13 @@ mod rows;
 mod rules;
 mod serving;
 mod setting;
+mod snapshot;
 mod step;
 mod walk;
 
 pub use answers::{
     BAD_ARGUMENT, BAD_LENGTH, BAD_SUM, BROKEN, IMPOSSIBLE, MISPLACED, NEEDS_RESET, NO_QUEUE,
-    NOT_A_STATE, NOT_READY, NOTHING, OK, OTHER_VERSION, SHORT, code_of, end_rule, rule_in,
+    NOT_A_STATE, NOT_READY, NOTHING, OK, OTHER_VERSION, SHORT, STALE, code_of, end_rule, rule_in,
 };
 pub use balloon::{Balloon, may_tell};
 pub use codes::ENDED;
@@ -48,7 +49,7 @@ pub use large::{LARGEST_PAGE, Large, large_pages};
 pub use laws::{
     a_chain_is_served_by_its_bytes, a_chain_that_is_given_back_leaves_its_queue_open,
     a_chain_that_is_told_is_held, a_held_chain_is_given_back_alone, a_notice_does_what_memory_says,
-    a_notice_makes_few_accesses, a_notice_reports_what_memory_says,
+    a_notice_makes_few_accesses, a_notice_pauses_by_its_budget, a_notice_reports_what_memory_says,
     a_part_is_whole_pages_of_its_run, a_portion_is_served_by_its_bytes, a_run_has_few_parts,
     accesses_come_in_their_order, giving_back_makes_few_accesses,
     large_pages_go_once_they_are_given_up, memory_has_one_chain_next,
@@ -68,4 +69,5 @@ pub use round_laws::{
     hints_are_told_in_their_round,
 };
 pub use serving::{Notice, serve};
+pub use snapshot::Snapshot;
 pub use step::{Discarding, Phase, Place, Walk};

@@ -1,7 +1,8 @@
 //! Memory that a notice goes over.
 
 ghost use Rattle.vb_monitor.specs.Accesses.{Access, ReadWord, CopyBytes, Acquire, Release, Full};
-ghost use Rattle.vb_monitor.specs.Accesses.{TellPages, TellFigures, TellId, Discard, WriteNumber};
+ghost use Rattle.vb_monitor.specs.Accesses.{TellPages, TellFigures, TellId, Pause, Discard};
+ghost use Rattle.vb_monitor.specs.Accesses.{WriteNumber};
 ghost use Rattle.vb_monitor.specs.Accesses.{WriteWord};
 
 use crate::{Cut, Spot};
@@ -47,6 +48,11 @@ pub trait LiveMemory {
     /// The guest told this id of hints: the VMM knows then whether a round of its own is open.
     fn tell_id(&mut self, id: u32)
         ensures { goes self.old (TellId id) self.new };
+
+    /// As many pages were named as may be without a pause: the caller may do other work before it
+    /// goes on.
+    fn pause(&mut self)
+        ensures { goes self.old Pause self.new };
 
     /// Gives pages back to the machine, where it can.
     fn discard(&mut self, cut: Cut)

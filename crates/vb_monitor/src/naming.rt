@@ -9,7 +9,7 @@ ghost use Rattle.vb_core.specs.Statistics.{statistics_denial};
 ghost use Rattle.vb_monitor.specs.declared.room.TheConstants.{MAX_RUNS, MAX_FIGURES};
 ghost use Rattle.vb_monitor.specs.declared.step.Phase.TheVariants.{TellsPages};
 ghost use Rattle.vb_monitor.specs.Giving.{spent, with_named};
-ghost use Rattle.vb_monitor.specs.Portions.{ServesPortion, NamesPortion, CopiesFurther};
+ghost use Rattle.vb_monitor.specs.Portions.{ServesPortion, NamesPortion, GoesFurther};
 ghost use Rattle.vb_core.specs.Pieces.{pieces_in};
 ghost use Rattle.vb_monitor.specs.Chains.{NamesBytes, FiguresBy, CopiesBy};
 ghost use Rattle.vb_monitor.specs.Machine.{Fits, Ahead, AheadAt, whole, next_chain, serves, served};
@@ -31,20 +31,21 @@ use vb_core::{Device, Kind, Named, Settings};
 
 /// Counts pages that are told.
 #[inline(always)]
-fn spend(step: &mut Progress, pages: u32)
-    ensures { tally_of step.new ≡ spent pages (tally_of step.old) }
+fn spend(step: &mut Progress, named: &Named)
+    ensures { tally_of step.new ≡ spent named.now (tally_of step.old) }
 {
-    step.pages_left = step.pages_left.saturating_sub(pages);
-    step.told = step.told.saturating_add(pages);
+    let fewer = step.pages_left.saturating_sub(named.pages);
+    step.pages_left = fewer.saturating_sub(named.skipped);
+    step.told = step.told.saturating_add(named.pages);
 }
 
 /// Counts the pages of a chain, or of its last portion; it is held where the settings say so, with
 /// all its pages.
 #[inline(always)]
-fn count_named(step: &mut Progress, settings: &Settings, kind: Kind, head: u16, pages: u32)
-    ensures { tally_of step.new ≡ with_named kind settings.now head pages (tally_of step.old) }
+fn count_named(step: &mut Progress, settings: &Settings, kind: Kind, head: u16, named: &Named)
+    ensures { tally_of step.new ≡ with_named kind settings.now head named.now (tally_of step.old) }
 {
-    spend(step, pages);
+    spend(step, named);
     if settings.holds_chains(kind) {
         step.hold(head, step.told);
     }
@@ -61,12 +62,12 @@ pub(crate) fn tell_pages(
 )
     ensures step { (w : Whole) (d : Device) (room : Room) (log : List Access) →
         Ahead w (step_of step.new) d room log → AheadAt (TellsPages place named false) w
-        (with_named kind settings.now place.head named.pages (tally_of step.old)) d room log }
+        (with_named kind settings.now place.head named (tally_of step.old)) d room log }
     ensures fits { named.runs ≤ MAX_RUNS → Fits (phase_of step.new) }
     ensures left { (regions : List Region) → left regions (step_of step.new) ≤
         of_chains regions (tally_of step.old).chains + once_named regions }
 {
-    count_named(step, settings, kind, place.head, named.pages);
+    count_named(step, settings, kind, place.head, &named);
     step.await_pages(place, named, false);
 }
 
@@ -76,13 +77,13 @@ pub(crate) fn tell_pages(
 fn tell_portion(step: &mut Progress, place: Place, named: Named)
     ensures step { (w : Whole) (d : Device) (room : Room) (log : List Access) →
         Ahead w (step_of step.new) d room log → AheadAt (TellsPages place named true) w
-        (spent named.pages (tally_of step.old)) d room log }
+        (spent named (tally_of step.old)) d room log }
     ensures fits { named.runs ≤ MAX_RUNS → Fits (phase_of step.new) }
     ensures left { (regions : List Region) → left regions (step_of step.new) ≤
         of_chains regions (tally_of step.old).chains
-        + (once_named regions + copies_left regions place.piece place.done) }
+        + (once_named regions + 1 + copies_left regions place.piece place.done) }
 {
-    spend(step, named.pages);
+    spend(step, &named);
     step.await_pages(place, named, true);
 }
 
@@ -101,13 +102,13 @@ fn name_numbers(
     ensures step { (after : Device) (outcome : Outcome) (log : List Access) →
         Ahead (whole regions.now kind after outcome) (step_of step.new) device.new room.new log →
         NamesPortion (whole regions.now kind after outcome)
-        (λ d t rest. CopiesFurther (whole regions.now kind after outcome)
-        (served (whole regions.now kind after outcome) (tally_of step.old) place.head) d t
-        (parts_from 0 place room.old) rest) device.old (tally_of step.old) room.old.bytes log }
+        (λ d t rest. GoesFurther (whole regions.now kind after outcome)
+        (served (whole regions.now kind after outcome) (tally_of step.old) place.head) d
+        (parts_from 0 place room.old) t rest) device.old (tally_of step.old) room.old.bytes log }
     ensures fits { Fits (phase_of step.new) }
     ensures left { left regions.now (step_of step.new) ≤
         of_chains regions.now (tally_of step.old).chains
-        + (once_named regions.now + copies_left regions.now place.piece place.done) }
+        + (once_named regions.now + 1 + copies_left regions.now place.piece place.done) }
 {
     match device.name_numbers(kind, &room.bytes, &mut room.runs) {
         Err(why) => end(step, device, regions, kind, Some(why), false),
@@ -128,13 +129,13 @@ pub(crate) fn name_portion(
     ensures step { (after : Device) (outcome : Outcome) (log : List Access) →
         Ahead (whole regions.now kind after outcome) (step_of step.new) device.new room.new log →
         ServesPortion kind (whole regions.now kind after outcome)
-        (λ d t rest. CopiesFurther (whole regions.now kind after outcome)
-        (served (whole regions.now kind after outcome) (tally_of step.old) place.head) d t
-        (parts_from 0 place room.old) rest) device.old (tally_of step.old) room.old.bytes log }
+        (λ d t rest. GoesFurther (whole regions.now kind after outcome)
+        (served (whole regions.now kind after outcome) (tally_of step.old) place.head) d
+        (parts_from 0 place room.old) t rest) device.old (tally_of step.old) room.old.bytes log }
     ensures fits { Fits (phase_of step.new) }
     ensures left { left regions.now (step_of step.new) ≤
         of_chains regions.now (tally_of step.old).chains
-        + (once_named regions.now + copies_left regions.now place.piece place.done) }
+        + (once_named regions.now + 1 + copies_left regions.now place.piece place.done) }
 {
     match kind {
         Kind::Statistics | Kind::Hint | Kind::Report => {

@@ -10,7 +10,7 @@ ghost use Rattle.vb_monitor.specs.Machine.{Fits, is_ended, Ahead, Does, Awaited,
 ghost use Rattle.vb_monitor.specs.Left.{left};
 ghost use Rattle.vb_monitor.specs.Steps.{phase_of, step_of};
 
-use crate::copying::copy_on;
+use crate::copying::{copy_further, copy_on};
 use crate::discards::{after_discard, after_told};
 use crate::ends::{after_flags, end};
 use crate::giving::give_back;
@@ -30,6 +30,7 @@ impl Progress {
     {
         self.chains_left = budget.chains;
         self.pages_left = budget.pages;
+        self.most_pages = budget.pages;
         self.keeps = u8::from(budget.keeps);
         self.longest = budget.longest;
         self.told = 0;
@@ -55,6 +56,7 @@ impl Progress {
     {
         self.chains_left = 0;
         self.pages_left = 0;
+        self.most_pages = 0;
         self.keeps = 0;
         self.longest = 0;
         self.told = 0;
@@ -125,6 +127,10 @@ impl Progress {
                 after_given(self, device, regions, kind)
             }
             Phase::AwaitsFlags { why, more, .. } => after_flags(self, why, more, answer),
+            Phase::Paused { place } => {
+                self.pages_left = self.most_pages;
+                copy_further(self, device, regions, kind, place, room)
+            }
             Phase::Ended { .. } => {}
         }
     }

@@ -142,6 +142,7 @@ fn tell(
             Told::Id
         }
         Phase::Discards { .. }
+        | Phase::Paused { .. }
         | Phase::GivesBack { .. }
         | Phase::AwaitsIndex { .. }
         | Phase::AwaitsEntry { .. }
@@ -192,6 +193,7 @@ fn discard(
         Phase::TellsPages { .. }
         | Phase::TellsFigures { .. }
         | Phase::TellsId { .. }
+        | Phase::Paused { .. }
         | Phase::GivesBack { .. }
         | Phase::AwaitsIndex { .. }
         | Phase::AwaitsEntry { .. }
@@ -236,6 +238,7 @@ fn give(
         | Phase::TellsFigures { .. }
         | Phase::TellsId { .. }
         | Phase::Discards { .. }
+        | Phase::Paused { .. }
         | Phase::AwaitsIndex { .. }
         | Phase::AwaitsEntry { .. }
         | Phase::AwaitsDescriptor { .. }
@@ -245,7 +248,7 @@ fn give(
     }
 }
 
-/// Whether an answer is awaited, or nothing is to be done.
+/// Whether an answer is awaited, the notice pauses, or nothing is to be done.
 #[inline(always)]
 fn waits(step: &Progress) -> bool
     ensures { result ≡ true → stage (phase_of step.now) ≡ 3 }
@@ -256,6 +259,7 @@ fn waits(step: &Progress) -> bool
         | Phase::AwaitsDescriptor { .. }
         | Phase::AwaitsPart { .. }
         | Phase::AwaitsFlags { .. }
+        | Phase::Paused { .. }
         | Phase::Ended { .. } => true,
         Phase::TellsPages { .. }
         | Phase::TellsFigures { .. }

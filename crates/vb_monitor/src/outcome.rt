@@ -8,7 +8,8 @@ use vb_core::Denial;
 pub struct Budget {
     /// The most chains of a notice.
     pub chains: u32,
-    /// No further chain begins once this many pages were named.
+    /// No further chain begins once this many pages were named, and a notice pauses between two
+    /// portions of one; a number that is skipped counts like a page.
     pub pages: u32,
     /// No page is discarded: what is named is told, and stays.
     pub keeps: bool,
@@ -31,8 +32,10 @@ pub struct HeldChain {
 pub struct Tally {
     /// How many chains may be served yet.
     pub chains: u32,
-    /// How many pages may be named before another chain is served.
+    /// How many pages may be named before another chain is served, or the notice pauses.
     pub pages: u32,
+    /// How many these are at first, and after a pause.
+    pub most_pages: u32,
     /// No page is discarded.
     pub keeps: bool,
     /// A chain was given back.

@@ -114,6 +114,7 @@ pub(crate) fn lies(regions: &[Region], ring: &Virtqueue) -> bool
 }
 
 /// Whether each queue of a device does.
+#[tactic(auto, using(crate::proofs::PlaceLemmas::kind_steps))]
 fn all_lie(regions: &[Region], device: &Device) -> bool
     ensures yes { result ≡ true → AllLie regions.now device.now }
     ensures no { result ≡ false → ¬ AllLie regions.now device.now }
@@ -121,6 +122,7 @@ fn all_lie(regions: &[Region], device: &Device) -> bool
     lies(regions, &device.inflate)
         && lies(regions, &device.deflate)
         && lies(regions, &device.statistics)
+        && lies(regions, &device.hint)
         && lies(regions, &device.report)
 }
 
@@ -162,7 +164,8 @@ impl Balloon {
 
     /// These regions are guest memory from now on, and it ends with the last of them. Whether it is
     /// so: refused, with nothing changed, where a region isn't whole pages of guest memory, or no
-    /// device has such memory. A driver whose rings lay elsewhere has to reset the device.
+    /// device has such memory. A queue that lies past the end is refused as `Misplaced`, and the
+    /// balloon isn't saved, until the driver resets the device or the queue stops.
     pub fn set_regions(&mut self, regions: &[Region]) -> bool
         ensures value { result ≡ may_be_memory self.old.device.settings regions.now }
         ensures left { self.new ≡ (if may_be_memory self.old.device.settings regions.now

@@ -6,7 +6,7 @@ ghost use Rattle.vb_monitor.specs.Steps.{phase_of, tally_of, walk_of, place_of};
 ghost use Rattle.vb_monitor.specs.Steps.{discarding_of, part_of, phase_at};
 
 use crate::answers::why_of;
-use crate::codes::{CUT, DESCRIPTOR, ENDED, ENTRY, FIGURES, FLAGS, ID, INDEX, PAGES, PART};
+use crate::codes::{CUT, DESCRIPTOR, ENDED, ENTRY, FIGURES, FLAGS, ID, INDEX, PAGES, PART, PAUSE};
 use crate::rows::row_bytes;
 use crate::step::has_room;
 use crate::{
@@ -43,6 +43,8 @@ pub struct Progress {
     /// What was served, and may be yet.
     pub chains_left: u32,
     pub pages_left: u32,
+    /// How many pages may be named from the begin on, and from a pause on.
+    pub most_pages: u32,
     /// The most page numbers of a request, and how many pages of one were told.
     pub longest: u32,
     pub told: u32,
@@ -83,6 +85,7 @@ impl Progress {
         more: 0,
         chains_left: 0,
         pages_left: 0,
+        most_pages: 0,
         longest: 0,
         told: 0,
         head: 0,
@@ -152,6 +155,7 @@ impl Progress {
         Tally {
             chains: self.chains_left,
             pages: self.pages_left,
+            most_pages: self.most_pages,
             keeps: self.keeps(),
             given: self.is_given(),
             held: self.held(),
@@ -265,6 +269,9 @@ impl Progress {
                 head: self.head,
                 id: self.length,
             },
+            PAUSE => Phase::Paused {
+                place: self.place(),
+            },
             FIGURES => Phase::TellsFigures {
                 head: self.head,
                 count: self.length,
@@ -276,8 +283,8 @@ impl Progress {
         }
     }
 
-    /// Whether it goes on by an answer, has parts to discard, or has ended; and what is copied has
-    /// room.
+    /// Whether it goes on by an answer or after a pause, has parts to discard, or has ended; and
+    /// what is copied has room.
     #[inline(always)]
     pub fn may_go_on(&self) -> bool
         ensures { result ≡ may_go_on (phase_of self.now) }
@@ -288,6 +295,7 @@ impl Progress {
             Phase::AwaitsIndex { .. }
             | Phase::AwaitsEntry { .. }
             | Phase::AwaitsFlags { .. }
+            | Phase::Paused { .. }
             | Phase::Discards { .. }
             | Phase::Ended { .. } => true,
             Phase::TellsPages { .. }
@@ -299,7 +307,7 @@ impl Progress {
 
     /// Whether a part is to be discarded next.
     #[inline(always)]
-    pub(crate) fn is_discarding(&self) -> bool
+    pub fn is_discarding(&self) -> bool
         ensures { result ≡ is_discarding (phase_of self.now) }
     {
         matches!(self.phase(), Phase::Discards { .. })

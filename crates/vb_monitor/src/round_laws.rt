@@ -41,6 +41,9 @@ pub fn a_round_goes_by_the_ids_that_are_told()
 /// Over a device's whole life, pages are told as hinted only of a round that was heard: the host
 /// began the round whose id is shown, that id was read since, with none but ids between, and after
 /// it no other one was read, and the round wasn't stopped, ended or reset (VIRTIO 1.2, 5.5.6.6).
+/// They are discarded only while that is so of the round whose id was shown as they were told, also
+/// where the host calls between the steps of a notice: none is once its round has closed
+/// (5.5.6.6.1).
 pub fn hinted_pages_are_of_a_round_that_was_heard()
     ensures { (deeds : List Deed) → IsLife no_round deeds → AreHeard [] deeds }
 {}

@@ -84,6 +84,10 @@ pub(crate) fn perform<M: LiveMemory>(
             memory.tell_id(id);
             0
         }
+        Phase::Paused { .. } => {
+            memory.pause();
+            0
+        }
         Phase::Discards { cut, .. } => {
             memory.discard(cut);
             0

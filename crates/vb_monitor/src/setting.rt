@@ -8,7 +8,7 @@ ghost use Rattle.vb_monitor.specs.declared.room.TheConstants.{MAX_BYTES, MAX_RUN
 ghost use Rattle.vb_monitor.specs.declared.step.Phase.TheVariants.{AwaitsIndex, AwaitsEntry};
 ghost use Rattle.vb_monitor.specs.declared.step.Phase.TheVariants.{AwaitsDescriptor, AwaitsPart};
 ghost use Rattle.vb_monitor.specs.declared.step.Phase.TheVariants.{TellsPages, TellsFigures};
-ghost use Rattle.vb_monitor.specs.declared.step.Phase.TheVariants.{TellsId};
+ghost use Rattle.vb_monitor.specs.declared.step.Phase.TheVariants.{TellsId, Paused};
 ghost use Rattle.vb_monitor.specs.declared.step.Phase.TheVariants.{Discards, GivesBack};
 ghost use Rattle.vb_monitor.specs.declared.step.Phase.TheVariants.{AwaitsFlags, Ended};
 ghost use Rattle.vb_monitor.specs.Accesses.{Access};
@@ -19,7 +19,9 @@ ghost use Rattle.vb_monitor.specs.Left.{left, left_of, of_chains};
 ghost use Rattle.vb_monitor.specs.Steps.{phase_of, step_of, tally_of};
 
 use crate::answers::{end_rule, why_code};
-use crate::codes::{CUT, DESCRIPTOR, ENDED, ENTRY, FIGURES, FLAGS, ID, INDEX, PAGES, PART, USED};
+use crate::codes::{
+    CUT, DESCRIPTOR, ENDED, ENTRY, FIGURES, FLAGS, ID, INDEX, PAGES, PART, PAUSE, USED,
+};
 use crate::{Cut, Discarding, Place, Progress, Spot, UsedSpots, Walk};
 use vb_core::{Denial, Named, UsedEntry};
 
@@ -209,6 +211,24 @@ impl Progress {
         self.phase = ID;
         self.head = head;
         self.length = id;
+    }
+
+    /// The notice pauses; then more of a chain is copied from this place on.
+    #[inline(always)]
+    pub(crate) fn pause(&mut self, place: Place)
+        ensures step { (w : Whole) (d : Device) (room : Room) (log : List Access) →
+            Ahead w (step_of self.new) d room log →
+            AheadAt (Paused place) w (tally_of self.old) d room log }
+        ensures fits { Fits (phase_of self.new) }
+        ensures stage { stage (phase_of self.new) ≡ 3 }
+        ensures left { (regions : List Region) → left regions (step_of self.new) ≤
+            of_chains regions (tally_of self.old).chains + left_of regions (Paused place) }
+    {
+        self.phase = PAUSE;
+        self.head = place.head;
+        self.count = place.count;
+        self.piece = place.piece;
+        self.done = place.done;
     }
 
     /// A used element is to be written.

@@ -120,6 +120,11 @@ pub enum Phase {
         head: u16,
         id: u32,
     },
+    /// As many pages were named as a notice may without a pause; more is copied of their chain once
+    /// the caller goes on.
+    Paused {
+        place: Place,
+    },
     /// The bytes there are to be discarded.
     Discards {
         cut: Cut,

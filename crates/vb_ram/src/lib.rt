@@ -14,8 +14,6 @@ mod frame;
 mod laws;
 mod memory;
 mod shape;
-#[cfg(test)]
-mod tests;
 
 pub use bytes::GuestBytes;
 pub use config::Config;

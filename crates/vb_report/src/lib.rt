@@ -5,8 +5,6 @@
 mod blocks;
 mod laws;
 mod pieces;
-#[cfg(test)]
-mod tests;
 
 pub use blocks::{Blocks, MAX_BLOCKS, choose, give_all};
 pub use laws::reports_name_free_places;

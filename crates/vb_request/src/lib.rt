@@ -17,8 +17,6 @@ mod refusals;
 mod report;
 mod request;
 mod statistics;
-#[cfg(test)]
-mod tests;
 
 pub use asked::read_chain_into;
 pub use laws::{

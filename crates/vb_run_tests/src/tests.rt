@@ -1,6 +1,7 @@
 //! Guests on leased frames, run on threads.
 
 mod bad_plans;
+mod frames;
 mod gates;
 mod holds;
 mod leased;

@@ -48,7 +48,7 @@ settings_kept Hint d = refl
 settings_kept Report d = refl
 
 -- runs are told, and the chain is given back
-pub by_telling : (w : Whole) (d : Device) (t : Tally) (head pages : ℕ) (runs : List Run)
+pub by_telling : (w : Whole) (d : Device) (t : Tally) (head : ℕ) (runs : List Run)
     (named : Named) (s u : Store) (log : List Access) → holds_chains w.kind d.settings ≡ false →
     t.held ≡ None → t.chains ≡ 0 →
     t.keeps ≡ false → IsPlain w.regions → w.regions ≡ all_of (length s.mem) →
@@ -56,15 +56,15 @@ pub by_telling : (w : Whole) (d : Device) (t : Tally) (head pages : ℕ) (runs :
     used_spots w.regions (used_entry (ring_of w.kind d) head) ≢ None →
     IsOk (stands (ring_of w.kind (after_use w.kind d)) t.published) →
     StaysUntil (Between s u) (byte s) w.regions log →
-    TellsThen w (next_chain w t) d (with_named w.kind d.settings head pages t) head runs named log →
+    TellsThen w (next_chain w t) d (with_named w.kind d.settings head named t) head runs named log →
     Settles w.kind head runs d w.device w.outcome.why s u
-by_telling w d t head pages runs named s u log is free none keeps plain all open_so there_so ok stays h0 =
+by_telling w d t head runs named s u log is free none keeps plain all open_so there_so ok stays h0 =
     let h = subst (λ (b : Bool). TellsThen w (next_chain w t) d
-    (held_if b head (more_told t.told pages) (spent pages t)) head runs named log) is h0 in
+    (held_if b head (more_told t.told named.pages) (spent named t)) head runs named log) is h0 in
     let e = used_entry (ring_of w.kind d) head in
     let cuts = cuts_for w.kind (is_kept w.kind t.keeps (keeps_free w.kind d)) w.regions runs in
-    let gone : DiscardsThen (GivesBack w (next_chain w t) d (spent pages t) head) cuts h.rest =
-    subst (λ (o : Option HeldChain). OnceTold o w (next_chain w t) d (spent pages t) head cuts h.rest) free
+    let gone : DiscardsThen (GivesBack w (next_chain w t) d (spent named t) head) cuts h.rest =
+    subst (λ (o : Option HeldChain). OnceTold o w (next_chain w t) d (spent named t) head cuts h.rest) free
     h.goes_on in
     let (s1, same, after_told) = subst (λ (l : List Access). StaysUntil (Between s u) (byte s)
     w.regions l) h.asks stays in
@@ -74,8 +74,8 @@ by_telling w d t head pages runs named s u log is free none keeps plain all open
     (from_same marked s1 u h.rest same after_told) in
     let parts = apart marked u cuts gone.rest made in
     let gives = subst (λ (o : Option Denial). GivesBackBy o w (next_chain w t) d
-    (spent pages t) head gone.rest) open_so gone.goes_on in
-    let (given_back, device, ends) = used_so w d (after_use w.kind d) (spent pages t) e
+    (spent named t) head gone.rest) open_so gone.goes_on in
+    let (given_back, device, ends) = used_so w d (after_use w.kind d) (spent named t) e
     (spot w.regions e.element_at 4) (spot w.regions (e.element_at + 4) 4)
     (spot w.regions e.index_at 2) parts.between u gone.rest free none plain refl refl refl
     there_so ok parts.then_so gives in
@@ -107,7 +107,7 @@ by_name w d1 d t head runs s u (Err why) log on free none given keeps plain all 
     record { ends = so; device = device; memory = still }
 by_name w d1 d t head runs s u (Ok named) log on free none given keeps plain all may taken stays h =
     let same : d ≡ with_one_taken w.kind d1 = taken named refl in
-    by_telling w d t head named.pages (take named.runs runs) named s u log
+    by_telling w d t head (take named.runs runs) named s u log
     (ap (λ (x : Device). holds_chains w.kind x.settings) same
     ∙ (ap (λ (x : Settings). holds_chains w.kind x) (settings_kept w.kind d1) ∙ on)) free none keeps plain all
     (subst (λ (x : Device). use_denial w.kind head x ≡ None) (sym same) may.open_so)

@@ -4,7 +4,7 @@ use Rattle.std.specs.Int.{w16, from_le_bytes}
 use Rattle.vb_request.specs.Request.{bytes_from}
 use Rattle.vb_monitor.specs.declared.regions.{Region.Region, Spot.Spot}
 use Rattle.vb_monitor.specs.Accesses.{Access, ReadWord, CopyBytes, Acquire, Release, Full, Steps}
-use Rattle.vb_monitor.specs.Accesses.{TellPages, TellFigures, TellId, Discard, WriteNumber, WriteWord}
+use Rattle.vb_monitor.specs.Accesses.{TellPages, TellFigures, TellId, Pause, Discard, WriteNumber, WriteWord}
 use Rattle.vb_monitor.specs.Regions.{spot}
 use Rattle.vb_monitor.specs.Still.{StaysUntil}
 use Rattle.vb_served.specs.{Store.{Store, After}, One.byte}
@@ -40,6 +40,7 @@ stays_so s u regions (Full ∷ xs) plain h = h
 stays_so s u regions (TellPages kind runs named ∷ xs) plain h = h
 stays_so s u regions (TellFigures figures ∷ xs) plain h = h
 stays_so s u regions (TellId id ∷ xs) plain h = h
+stays_so s u regions (Pause ∷ xs) plain h = h
 stays_so s u regions (Discard cut ∷ xs) plain h = h
 stays_so s u regions (WriteNumber at number ∷ xs) plain h = h
 stays_so s u regions (WriteWord at word ∷ xs) plain h = h

@@ -18,7 +18,7 @@ use Rattle.vb_core.specs.declared.statistics.Statistic.{Statistic}
 use Rattle.vb_core.specs.Runs.{pages_of_runs}
 use Rattle.vb_monitor.specs.declared.cuts.Cut.{Cut}
 use Rattle.vb_monitor.specs.Accesses.{Access, ReadWord, CopyBytes, Acquire, Release, Full}
-use Rattle.vb_monitor.specs.Accesses.{TellPages, TellFigures, TellId, Discard, WriteNumber}
+use Rattle.vb_monitor.specs.Accesses.{TellPages, TellFigures, TellId, Pause, Discard, WriteNumber}
 use Rattle.vb_monitor.specs.Accesses.{WriteWord}
 
 -- Guest memory, the numbers of the frames that were taken from its pages and are kept, which pages
@@ -90,6 +90,7 @@ After s Full t = t ≡ s
 After s (TellPages kind runs named) t = t ≡ with_marks kind runs s
 After s (TellFigures figures) t = t ≡ with_figures figures s
 After s (TellId id) t = t ≡ s
+After s Pause t = t ≡ s
 After s (Discard cut) t =
     (t.mem ≡ discarded (pages_of_cut cut) s.mem)
     × (t.loose ≡ s.loose ++ frames_behind s.mem (each_once (pages_of_cut cut)))

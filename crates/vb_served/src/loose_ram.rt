@@ -184,6 +184,8 @@ impl LiveMemory for LooseRam {
 
     fn tell_id(&mut self, _id: u32) {}
 
+    fn pause(&mut self) {}
+
     fn discard(&mut self, cut: Cut) {
         self.discard_pages(cut.offset / PAGE_BYTES, cut.length / PAGE_BYTES);
     }

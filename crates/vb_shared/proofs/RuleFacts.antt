@@ -1,7 +1,7 @@
 -- Worked facts of the rule over the words, and of the three kinds of step.
 use Rattle.{std.proofs.Common.{◌≡◌, ◌≢◌, ℕ}, vb_device.specs.Own.has, vb_shared.specs.Rule.view_of}
 use Rattle.std.proofs.Common.{◌||◌, Bool, true, false, List, [], ◌∷◌, map, refl, ap, arith, ne_eqb}
-use Rattle.vb_shared.specs.{Rule.{holding, pass, count, count_all, IsTied}, declared.rule.Size.Size}
+use Rattle.vb_shared.specs.{Rule.{holding, pass, count, count_all, IsTied, AllTied}, declared.rule.Size.Size}
 use Rattle.vb_shared.proofs.Shares.{in_words}
 use Rattle.vb_shared.specs.Rule.{IsKept, Kept, FrameRule, TryClaim, PutBack, Look, word_after, held_after}
 
@@ -30,6 +30,9 @@ first_tied = grind (arith, only)
 
 second_tied : IsTied 2 words (holding 1 (2 ∷ []))
 second_tied = grind (arith, only)
+
+both_tied : AllTied 2 words (holding 0 (1 ∷ []) ∷ holding 1 (2 ∷ []) ∷ [])
+both_tied = (first_tied, (second_tied, tt))
 
 tag_of_nobody : IsTied 2 words (holding 2 []) → ⊥
 tag_of_nobody tied = omega (arith, tied.0)

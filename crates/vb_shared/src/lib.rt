@@ -6,8 +6,6 @@ mod leased;
 mod pass;
 mod rule;
 mod steps;
-#[cfg(test)]
-mod tests;
 
 pub use laws::{each_kind_of_step_keeps_the_rule, what_the_rule_says};
 pub use leased::Leased;

@@ -7,8 +7,6 @@ mod laws;
 mod memory;
 mod port;
 mod rules;
-#[cfg(test)]
-mod tests;
 
 pub use bits::{Features, Status, StatusFault};
 pub use laws::{

@@ -230,7 +230,7 @@ static CASES: [Case; 6] = [
         ],
     },
     Case {
-        name: "an inflate of 257 numbers whose pages are kept",
+        name: "an inflate of 257 numbers, a pause after 256, whose pages are kept",
         request: Request::Long,
         kind: Kind::Inflate,
         chains: 8,
@@ -244,6 +244,7 @@ static CASES: [Case; 6] = [
             Row::Bytes(TABLE, 16),
             Row::Bytes(PORTION, 1024),
             Row::Pages(256, 256),
+            Row::Paused,
             Row::Bytes(ITS_NEXT, 4),
             Row::Pages(1, 1),
             Row::Number(USED_ID, 0),

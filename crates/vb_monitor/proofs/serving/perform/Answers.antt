@@ -1,7 +1,7 @@
 use Rattle.std.proofs.Common.{refl, ap, rules, ◌∷◌, [], List, ℕ, take}
 use Rattle.vb_core.specs.declared.runs.Run.{Run}
 use Rattle.vb_monitor.specs.Giving.{used_accesses}
-use Rattle.vb_monitor.specs.Accesses.{ReadWord, Acquire, Full, TellPages, TellFigures, TellId, Discard}
+use Rattle.vb_monitor.specs.Accesses.{ReadWord, Acquire, Full, TellPages, TellFigures, TellId, Pause, Discard}
 use Rattle.vb_monitor.proofs.StepLemmas.{performs}
 use Rattle.vb_monitor.proofs.serving.perform.Goals as goal
 
@@ -34,6 +34,12 @@ returns-in-TellsId-clause-does g c = performs g.M.LiveMemory.goes c.args.memory.
     c.args.phase _ c.args.kind 0 c.args.room.now.bytes
     c.args.room.now
     (TellId c.in-TellsId.id ∷ []) c.in-TellsId.is (_, c.tell_id.ensures, refl) refl
+
+pub returns-in-Paused-clause-does : goal.returns-in-Paused-clause-does
+returns-in-Paused-clause-does g c = performs g.M.LiveMemory.goes c.args.memory.now c.pause.new.self
+    c.args.phase _ c.args.kind 0 c.args.room.now.bytes
+    c.args.room.now
+    (Pause ∷ []) c.in-Paused.is (_, c.pause.ensures, refl) refl
 
 pub returns-in-Discards-clause-does : goal.returns-in-Discards-clause-does
 returns-in-Discards-clause-does g c = performs g.M.LiveMemory.goes c.args.memory.now c.discard.new.self

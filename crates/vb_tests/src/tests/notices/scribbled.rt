@@ -22,6 +22,7 @@ pub(super) enum Row {
     Pages(usize, u32),
     Figures(usize),
     Id(u32),
+    Paused,
     Discarded(Cut),
     Number(Spot, u32),
     Written(Spot, u16),
@@ -52,6 +53,7 @@ pub(super) enum Entry {
     Id {
         id: u32,
     },
+    Paused,
     Discarded {
         cut: Cut,
     },
@@ -77,6 +79,7 @@ impl Entry {
             Entry::Pages { runs, named, .. } => Row::Pages(runs.len(), named.pages),
             Entry::Figures { figures } => Row::Figures(figures.len()),
             Entry::Id { id } => Row::Id(*id),
+            Entry::Paused => Row::Paused,
             Entry::Discarded { cut } => Row::Discarded(*cut),
             Entry::NumberWritten { at, number } => Row::Number(*at, *number),
             Entry::WordWritten { at, word } => Row::Written(*at, *word),
@@ -138,12 +141,13 @@ impl<R: Abort> LiveMemory for Scribbled<'_, R> {
       Pages,
       Figures,
       Id,
+      Paused,
       Discarded,
       NumberWritten,
       WordWritten,
     };
     ghost use Rattle.vb_monitor.specs.Accesses.{ReadWord, CopyBytes, Acquire, Release, Full};
-    ghost use Rattle.vb_monitor.specs.Accesses.{TellPages, TellFigures, TellId, Discard};
+    ghost use Rattle.vb_monitor.specs.Accesses.{TellPages, TellFigures, TellId, Pause, Discard};
     ghost use Rattle.vb_monitor.specs.Accesses.{WriteNumber, WriteWord};
     ghost use Rattle.std.specs.Prelude.{List};
     ghost use Rattle.vb_monitor.specs.Accesses.{Access};
@@ -160,6 +164,7 @@ impl<R: Abort> LiveMemory for Scribbled<'_, R> {
           | Pages kind runs named ↦ TellPages kind runs.items named
           | Figures figures ↦ TellFigures figures.items
           | Id id ↦ TellId id
+          | Paused ↦ Pause
           | Discarded cut ↦ Discard cut
           | NumberWritten at number ↦ WriteNumber at number
           | WordWritten at word ↦ WriteWord at word
@@ -203,6 +208,10 @@ impl<R: Abort> LiveMemory for Scribbled<'_, R> {
 
     fn tell_id(&mut self, id: u32) {
         self.note(Entry::Id { id });
+    }
+
+    fn pause(&mut self) {
+        self.note(Entry::Paused);
     }
 
     fn discard(&mut self, cut: Cut) {
