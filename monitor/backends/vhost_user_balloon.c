@@ -14,7 +14,7 @@
  *     ask             ask the guest for new statistics
  *     statistics      how often the guest told them, and what it said last
  *     hint start      begin a round of free page hints (VIRTIO 1.2, 5.5.6.6), in place of one that is on: its id is answered
- *     hint stop       the driver is to hint no more, and keeps what it hinted free
+ *     hint stop       the driver is to hint no more, and may keep what it hinted
  *     hint done       the driver may use again what it hinted
  *     quit            end; so do the end of the input, and the signals SIGTERM, SIGINT and SIGHUP
  *

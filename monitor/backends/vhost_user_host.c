@@ -38,13 +38,14 @@
  */
 #include "guest/options.h"
 #include "host/host.h"
+#include "service/config_words.h"
 #include "service/service.h"
 
 #include <signal.h>
 #include <sys/pidfd.h>
 #include <unistd.h>
 
-enum { PERIOD = 200, LEAST_PERIOD = 10, MOST_PERIOD = UINT32_MAX / PAGES_PER_MIB, FLOOR_MIB = 12, STEP = 8, FILES_OF_LENDER = 32, FILES_OF_SEAT = 4 };
+enum { PERIOD = 200, FLOOR_MIB = 12, STEP = 8, FILES_OF_LENDER = 32, FILES_OF_SEAT = 4 };
 
 /* Milliseconds in which guests' processes end that are told to. */
 enum { LEAVES_IN = 1000 };
@@ -68,9 +69,9 @@ static bool read_step(const char *word, void *at)
 
 static bool read_period(const char *word, void *at)
 {
-    uint64_t number;
-    bool read = read_number(word, 10, MOST_PERIOD, &number) && number >= LEAST_PERIOD;
-    *(int64_t *)at = read ? (int64_t)number : *(int64_t *)at;
+    uint32_t period;
+    bool read = !word_read(WORD_MILLISECONDS, word, &period);
+    *(int64_t *)at = read ? period : *(int64_t *)at;
     return read;
 }
 
@@ -128,6 +129,12 @@ static bool find_program(struct host *host)
     return false;
 }
 
+/* Whether the folder can be shown; else says so. */
+static bool can_be_shown(const char *folder)
+{
+    return control_names(folder) || say_fault("the path of the folder isn't UTF-8");
+}
+
 /* Whether a device can offer these features. */
 static bool can_offer(uint64_t features)
 {
@@ -175,7 +182,7 @@ int main(int count, char **words)
     if (line != LINE_READ)
         return line == LINE_WRONG ? 2 : 0;
     process_allow_files(FILES_OF_LENDER + MOST_GUESTS * FILES_OF_SEAT + CONTROL_SOCKETS * MOST_CONTROL_CLIENTS);
-    if (!can_offer(host.features) || !find_program(&host) || !folder_lock(host.folder) || !answers_begin(&host.answers))
+    if (!can_be_shown(host.folder) || !can_offer(host.features) || !find_program(&host) || !folder_lock(&host) || !answers_begin(&host.answers))
         return 2;
     folder_take_over(&host);
     if (!service_begin(&service, &host, host.folder))
@@ -190,6 +197,6 @@ int main(int count, char **words)
         return become(&host, &service, words);
     service_end(&service);
     if (!host.leaves)
-        end_all(&host);
+        end_all(&host), folder_leave(&host);
     return 0;
 }

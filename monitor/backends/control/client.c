@@ -85,18 +85,38 @@ static void put(struct control_client *client, const char *bytes, size_t length)
     client->unread_bytes += length - sent;
 }
 
-void client_send(struct control_client *client, json_t *object)
+char *client_text(const json_t *object, const char *rest, size_t *length)
 {
     char *text = object ? json_dumps(object, JSON_COMPACT | JSON_REAL_PRECISION(MOST_DIGITS)) : NULL;
-    json_decref(object);
-    if (!text) {
-        client->overrun = true; /* no memory for its answer */
-        return;
+    size_t own = text ? strlen(text) : 0, more = rest ? strlen(rest) : 0;
+    char *line = text ? realloc(text, own + more + 1) : NULL;
+    if (!line) {
+        free(text);
+        return NULL;
     }
-    size_t length = strlen(text);
-    text[length] = '\n'; /* in place of the end of the string */
+    if (rest) {
+        line[own - 1] = ','; /* in place of the last brace */
+        memcpy(line + own, rest, more);
+    }
+    line[own + more] = '\n';
+    *length = own + more + 1;
+    return line;
+}
+
+void client_send_text(struct control_client *client, const char *text, size_t length)
+{
+    client->overrun |= !text;
     if (client_is_served(client))
-        put(client, text, length + 1);
+        put(client, text, length);
+}
+
+void client_send(struct control_client *client, json_t *object)
+{
+    size_t length = 0;
+    char *text = client_text(object, client->rest, &length);
+    json_decref(object);
+    client->rest = NULL;
+    client_send_text(client, text, length);
     free(text);
 }
 

@@ -13,6 +13,7 @@ struct control_client {
     char *unread;               /* what the client hasn't read, or NULL */
     size_t unread_bytes, unread_room;
     uint32_t waits_for;         /* the events of its socket that are waited for */
+    const char *rest;           /* fields of its answer after those of an object, as text without the first brace; NULL: none */
     bool follows;               /* it has asked for events */
     bool ends;                  /* nothing more is read of it; what came is answered yet */
     bool overrun;               /* it left more unread than there is room for */
@@ -25,7 +26,13 @@ struct control_client *client_new(int socket, enum control_rights rights);
 /* Closes its file, and frees it. */
 void client_free(struct control_client *client);
 
-/* Sends an object as a line, as far as the client reads; what is left is kept for it. Takes the object, which may be NULL. */
+/* An object as a line, with the fields after its own, which may be NULL; its bytes in `*length`. NULL where there is no memory. */
+char *client_text(const json_t *object, const char *rest, size_t *length);
+
+/* Sends a line, as far as the client reads; what is left is kept for it. NULL: there was no memory for it. */
+void client_send_text(struct control_client *client, const char *text, size_t length);
+
+/* Sends an object as a line, with the rest of its answer. Takes the object, which may be NULL. */
 void client_send(struct control_client *client, json_t *object);
 
 /* Sends what is unread, as far as the client reads. */

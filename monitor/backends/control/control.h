@@ -9,8 +9,11 @@
 struct host;
 
 /* The version of the protocol; the most bytes of a request with its end of line, and of what a client hasn't read; the most clients of
- * a socket; the requests of a client that are served before the others have their turn. */
-enum { CONTROL_VERSION = 1, MOST_REQUEST = 4096, MOST_UNREAD = 256 << 10, MOST_CONTROL_CLIENTS = 256, MOST_REQUESTS_A_TURN = 64 };
+ * a socket. */
+enum { CONTROL_VERSION = 1, MOST_REQUEST = 4096, MOST_UNREAD = 256 << 10, MOST_CONTROL_CLIENTS = 256 };
+
+/* Seconds of a processor's, after which no more requests are answered in a turn, and no more events told. */
+#define CONTROL_SECONDS 0.001
 
 /* What the clients of a socket may do: change the host, and look at it; or look alone. */
 enum control_rights { MAY_CHANGE, MAY_LOOK, CONTROL_SOCKETS };
@@ -43,14 +46,27 @@ struct control_socket {
     bool rests;                 /* no file was left for a client that came: none is taken until the next look */
 };
 
+/* The fields of a status, as they were made last. */
+struct made_status {
+    char *text;                 /* NULL: they weren't made yet */
+    double paid_until;          /* when making them will have taken no more than its part of the time */
+    bool is_old;                /* a client has asked for a change since */
+};
+
 struct control {
     int waits;                  /* an epoll file, which is ready once there is something to serve; -1: none */
     struct control_socket sockets[CONTROL_SOCKETS];
     struct events *events;      /* what the followers know */
+    bool is_behind;             /* they are still to be told of something that the last look has found */
+    struct made_status status;
+    bool has_acted;             /* in this turn a client that may change the host was answered */
 };
 
 /* The word for a socket by what its clients may do: control or status. */
 const char *control_socket_word(enum control_rights rights);
+
+/* Whether an answer can name this path, which has to be UTF-8. */
+bool control_names(const char *path);
 
 /* Makes the sockets; false where it can't, which is said. The options stay. */
 bool control_open(struct control *control, const struct control_options options[CONTROL_SOCKETS]);
@@ -58,7 +74,8 @@ bool control_open(struct control *control, const struct control_options options[
 /* Drops all clients, and removes the sockets. */
 void control_close(struct control *control);
 
-/* Takes the clients that wait, and serves each one's requests; a client with more of them has its next turn at the next call. */
+/* Takes clients that wait, and serves requests, one of each client in turn, until a call's processor time is spent or a request may
+ * have changed the host. */
 void control_serve(struct control *control, struct host *host);
 
 /* Once in each turn of the host's loop: tells followers what has happened since the last call. */

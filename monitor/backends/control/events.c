@@ -3,10 +3,11 @@
 
 #include "answers.h"
 #include "client.h"
+#include "parts.h"
 
 #include "../host/journal.h"
-#include "../host/measures.h"
 #include "../host/view.h"
+#include "../loop/loop.h"
 
 #include <stdio.h>
 #include <stdlib.h>
@@ -22,6 +23,7 @@ struct seen {
     enum guest_state state;
     enum guest_wait waits_for;
     double waits;
+    uint64_t ended;             /* how many of its waits had ended */
     bool cooperates, answers;
     bool here;                  /* the host still has it */
 };
@@ -29,8 +31,16 @@ struct seen {
 struct events {
     uint64_t next, decisions;
     uint32_t budget;
+    unsigned next_guest;        /* at which the next look begins */
     unsigned count;
     struct seen seen[MOST_SEEN];
+};
+
+/* A look: its first event, and the processor time until which it tells more. */
+struct look {
+    struct events *events;
+    uint64_t first_event;
+    double until;
 };
 
 struct events *events_new(void)
@@ -51,24 +61,30 @@ static double seconds_now(void)
 }
 
 /* Sends a line to each follower at a socket. */
-static void tell_clients(const struct control_socket *its, json_t *line)
+static void tell_clients(const struct control_socket *its, const char *line, size_t length)
 {
     for (unsigned i = 0; i < MOST_CONTROL_CLIENTS; i++)
         if (its->clients[i] && its->clients[i]->follows)
-            client_send(its->clients[i], json_incref(line));
+            client_send_text(its->clients[i], line, length);
 }
 
-/* Tells each follower of an event, with more fields that may be NULL. Takes them. */
-static void tell(struct control *control, const char *event, const char *guest, json_t *more)
+/* Tells each follower of an event, with more fields, which it takes. Where there is no line of them, the followers are dropped. */
+static void tell_more(struct control *control, const char *event, const char *guest, json_t *more)
 {
     json_t *line = json_pack("{s:i, s:s, s:I, s:f, s:s*}", "version", CONTROL_VERSION, "event", event, "number",
                              (json_int_t)control->events->next++, "time", seconds_now(), "guest", guest);
-    if (line && more)
-        json_object_update(line, more);
-    json_decref(more);
-    for (unsigned i = 0; i < CONTROL_SOCKETS && line; i++)
-        tell_clients(&control->sockets[i], line);
+    line = part_update(line, more);
+    size_t length = 0;
+    char *text = client_text(line, NULL, &length);
     json_decref(line);
+    for (unsigned i = 0; i < CONTROL_SOCKETS; i++)
+        tell_clients(&control->sockets[i], text, length);
+    free(text);
+}
+
+static void tell(struct control *control, const char *event, const char *guest)
+{
+    tell_more(control, event, guest, json_object());
 }
 
 static struct seen *seen_of(struct events *events, const char *name)
@@ -89,7 +105,7 @@ static struct seen *seen_or_new(struct control *control, const struct guest_view
     seen = &events->seen[events->count++];
     *seen = (struct seen){.state = GUEST_ABSENT, .waits_for = WAITS_FOR_NOTHING, .cooperates = true};
     snprintf(seen->name, sizeof seen->name, "%s", guest->name);
-    tell(control, "added", guest->name, NULL);
+    tell(control, "added", guest->name);
     return seen;
 }
 
@@ -97,29 +113,33 @@ static void tell_state(struct control *control, const struct seen *seen, const s
 {
     bool was_here = seen->state != GUEST_ABSENT, is_here = guest->state != GUEST_ABSENT;
     if (was_here != is_here)
-        tell(control, is_here ? "arrived" : "gone", guest->name, NULL);
+        tell(control, is_here ? "arrived" : "gone", guest->name);
     if (is_here && guest->state != seen->state)
-        tell(control, "state", guest->name, json_pack("{s:s}", "state", guest_state_word(guest->state)));
+        tell_more(control, "state", guest->name, json_pack("{s:s}", "state", guest_state_word(guest->state)));
+}
+
+/* Tells how the wait has ended of which was told that it began. Where the guest has ended none since, another one has its name now. */
+static void tell_end_of_wait(struct control *control, const struct seen *seen, enum guest_wait now, const struct ended_wait *ended)
+{
+    bool has_ended = ended->number > seen->ended;
+    if (seen->waits_for == WAITS_FOR_NOTHING || (!has_ended && now == seen->waits_for))
+        return;
+    tell_more(control, wait_end_word(has_ended ? ended->how : WAS_WITHDRAWN), seen->name,
+              json_pack("{s:s, s:f}", "waits_for", guest_wait_word(seen->waits_for), "waits", has_ended ? ended->seconds : seen->waits));
 }
 
 static void tell_wait(struct control *control, const struct seen *seen, const struct guest_view *guest)
 {
-    bool ended = seen->waits_for != WAITS_FOR_NOTHING && (guest->waits_for != seen->waits_for || guest->waits < seen->waits);
-    if (ended) {
-        measure_wait(seen->waits);
-        tell(control, "granted", guest->name,
-             json_pack("{s:s, s:f}", "waits_for", guest_wait_word(seen->waits_for), "waits", seen->waits));
-    }
-    if (guest->waits_for != WAITS_FOR_NOTHING && (ended || guest->waits_for != seen->waits_for))
-        tell(control, "waits", guest->name, json_pack("{s:s}", "waits_for", guest_wait_word(guest->waits_for)));
+    if (guest->waits_for != WAITS_FOR_NOTHING && (guest->ended.number != seen->ended || guest->waits_for != seen->waits_for))
+        tell_more(control, "waits", guest->name, json_pack("{s:s}", "waits_for", guest_wait_word(guest->waits_for)));
 }
 
 static void tell_manners(struct control *control, const struct seen *seen, const struct guest_view *guest)
 {
     if (seen->cooperates && !guest->cooperates)
-        tell(control, "uncooperative", guest->name, NULL);
+        tell(control, "uncooperative", guest->name);
     if (guest->state != GUEST_ABSENT && seen->answers != guest->answers)
-        tell(control, guest->answers ? "answers" : "silent", guest->name, NULL);
+        tell(control, guest->answers ? "answers" : "silent", guest->name);
 }
 
 static void look_at_guest(struct control *control, const struct guest_view *guest)
@@ -127,12 +147,14 @@ static void look_at_guest(struct control *control, const struct guest_view *gues
     struct seen *seen = seen_or_new(control, guest);
     if (!seen)
         return;
+    tell_end_of_wait(control, seen, guest->waits_for, &guest->ended);
     tell_state(control, seen, guest);
     tell_wait(control, seen, guest);
     tell_manners(control, seen, guest);
     seen->state = guest->state;
     seen->waits_for = guest->waits_for;
     seen->waits = guest->waits;
+    seen->ended = guest->ended.number;
     seen->cooperates = guest->cooperates;
     seen->answers = guest->answers && guest->state != GUEST_ABSENT;
     seen->here = true;
@@ -145,10 +167,12 @@ static void tell_removed(struct control *control)
     unsigned kept = 0;
     for (unsigned i = 0; i < events->count; i++) {
         const struct seen *seen = &events->seen[i];
-        if (!seen->here && seen->state != GUEST_ABSENT)
-            tell(control, "gone", seen->name, NULL);
         if (!seen->here)
-            tell(control, "removed", seen->name, NULL);
+            tell_end_of_wait(control, seen, WAITS_FOR_NOTHING, &(struct ended_wait){0});
+        if (!seen->here && seen->state != GUEST_ABSENT)
+            tell(control, "gone", seen->name);
+        if (!seen->here)
+            tell(control, "removed", seen->name);
         else
             events->seen[kept++] = *seen;
     }
@@ -157,28 +181,54 @@ static void tell_removed(struct control *control)
         events->seen[i].here = false;
 }
 
-static void tell_decisions(struct control *control, const struct host *host, uint64_t end)
+/* Whether more may be told in this look: it has told nothing yet, or has time. */
+static bool may_tell(const struct look *look)
+{
+    return look->events->next == look->first_event || loop_processor_seconds() < look->until;
+}
+
+/* Looks at guests, from the one at which the last look has stopped; the others are still there. */
+static void look_at_guests(struct control *control, const struct host *host, const struct look *look, unsigned count)
+{
+    unsigned *next = &look->events->next_guest;
+    for (unsigned i = 0; i < count; i++) {
+        struct guest_view guest;
+        host_see_guest(host, i, &guest);
+        struct seen *seen = seen_of(look->events, guest.name);
+        if (seen)
+            seen->here = true;
+        if (i == *next && may_tell(look)) {
+            look_at_guest(control, &guest);
+            ++*next;
+        }
+    }
+}
+
+/* Tells decisions once all guests were looked at, and those that are next wait for the next look. */
+static void tell_decisions(struct control *control, const struct host *host, const struct look *look, uint64_t end)
 {
     struct events *events = control->events;
     uint64_t kept = journal_begin(host);
     events->decisions = events->decisions < kept ? kept : events->decisions;
-    for (unsigned i = 0; i < MOST_DECISIONS_OF_LOOK && events->decisions < end; i++)
-        tell(control, "decision", NULL, json_pack("{s:o}", "decision", answer_decision(host, events->decisions++)));
+    for (unsigned i = 0; i < MOST_DECISIONS_OF_LOOK && events->decisions < end && may_tell(look); i++)
+        tell_more(control, "decision", NULL, json_pack("{s:o}", "decision", answer_decision(host, events->decisions++)));
 }
 
 void events_look(struct control *control, const struct host *host)
 {
     struct events *events = control->events;
+    const struct look look = {events, events->next, loop_processor_seconds() + CONTROL_SECONDS};
     struct host_view view;
     host_see(host, &view);
     if (events->budget != view.budget && events->budget > 0)
-        tell(control, "budget", NULL, json_pack("{s:I}", "budget", (json_int_t)view.budget * 4096));
+        tell_more(control, "budget", NULL, json_pack("{s:o}", "budget", part_bytes(view.budget)));
     events->budget = view.budget;
-    for (unsigned i = 0; i < view.guests; i++) {
-        struct guest_view guest;
-        host_see_guest(host, i, &guest);
-        look_at_guest(control, &guest);
-    }
+    look_at_guests(control, host, &look, view.guests);
     tell_removed(control);
-    tell_decisions(control, host, view.decisions);
+    control->is_behind = events->next_guest < view.guests;
+    if (control->is_behind)
+        return;
+    events->next_guest = 0;
+    tell_decisions(control, host, &look, view.decisions);
+    control->is_behind = events->decisions < view.decisions;
 }

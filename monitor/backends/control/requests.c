@@ -3,6 +3,8 @@
 #include "answers.h"
 #include "events.h"
 #include "fields.h"
+#include "parts.h"
+#include "status.h"
 
 #include "../host/view.h"
 
@@ -55,8 +57,8 @@ static json_t *no_guest(const char *name)
 
 static json_t *status(const struct asked *asked)
 {
-    return json_pack("{s:b, s:o, s:o}", "ok", 1, "host", answer_host(asked->control, asked->host), "guests",
-                     answer_guests(asked->host));
+    asked->client->rest = status_text(asked->control, asked->host);
+    return asked->client->rest ? json_pack("{s:b}", "ok", 1) : NULL;
 }
 
 /* The terms that a request asks for, where the others stay as they are. */
@@ -86,21 +88,24 @@ static bool changes_terms(const json_t *fields)
     return false;
 }
 
-/* Changes what a request asks for of a guest; NULL, or why not: then the terms are as they were. */
+/* Changes what a request asks for of a guest; NULL, or why not: then it is as it was, and nothing is decided anew. */
 static const char *change(const struct asked *asked, const struct guest_view *guest)
 {
     const json_t *fields = asked->fields;
-    struct guest_terms terms = terms_of(fields, guest->terms), before = guest->terms;
+    bool has_terms = changes_terms(fields), has_target = field_is_there(fields, "target");
+    struct guest_terms terms = terms_of(fields, guest->terms);
     char name[64];
     snprintf(name, sizeof name, "%s", guest->name);
     if (terms.least > terms.most)
         return "its least is more than its most";
-    const char *fault = changes_terms(fields) ? host_set_terms(asked->host, name, &terms) : NULL;
-    if (fault || !field_is_there(fields, "target"))
+    const char *fault = has_terms ? host_refuses(asked->host, name, &terms) : NULL;
+    if (!fault && has_target)
+        fault = host_set_target(asked->host, name, field_pages(fields, "target"));
+    if (fault || !has_terms)
         return fault;
-    fault = host_set_target(asked->host, name, field_pages(fields, "target"));
-    if (fault && changes_terms(fields))
-        host_set_terms(asked->host, name, &before);
+    fault = host_set_terms(asked->host, name, &terms);
+    if (fault && has_target)
+        host_set_target(asked->host, name, guest->target);
     return fault;
 }
 
@@ -162,7 +167,7 @@ static json_t *host_pages(const struct asked *asked, const char *name, const cha
     struct host_view view;
     host_see(asked->host, &view);
     uint64_t pages = !strcmp(name, "budget") ? view.budget : view.floor;
-    return fault ? outcome(fault) : json_pack("{s:b, s:I}", "ok", 1, name, (json_int_t)(pages * PAGE_BYTES));
+    return fault ? outcome(fault) : json_pack("{s:b, s:o}", "ok", 1, name, part_bytes(pages));
 }
 
 static json_t *budget(const struct asked *asked)
@@ -246,6 +251,8 @@ static json_t *answer(struct asked *asked)
             continue;
         refusal = change_refusal(asked, &kinds[i]);
         refusal = refusal ? refusal : fields_refusal(asked->fields, kinds[i].fields);
+        asked->control->has_acted = !refusal && asked->client->rights == MAY_CHANGE && kinds[i].answer != status;
+        asked->control->status.is_old |= asked->control->has_acted;
         return refusal ? refusal : kinds[i].answer(asked);
     }
     if (!refusal)
@@ -258,9 +265,7 @@ json_t *request_headed(const json_t *fields, json_t *answer)
     json_t *id = json_object_get(fields, "id"), *whole = json_pack("{s:i}", "version", CONTROL_VERSION);
     if (json_is_string(id) || json_is_integer(id))
         json_object_set(whole, "id", id);
-    json_object_update(whole, answer);
-    json_decref(answer);
-    return whole;
+    return part_update(whole, answer ? answer : request_refusal("internal", NULL, "the host couldn't make its answer"));
 }
 
 json_t *request_answer(struct control *control, struct control_client *client, struct host *host, const char *line, size_t length)

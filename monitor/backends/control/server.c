@@ -6,6 +6,7 @@
 
 #include "../guest/process.h"
 #include "../guest/say.h"
+#include "../loop/loop.h"
 
 #include <errno.h>
 #include <stdlib.h>
@@ -20,6 +21,13 @@ const char *control_socket_word(enum control_rights rights)
 {
     static const char *const words[] = {[MAY_CHANGE] = "control", [MAY_LOOK] = "status"};
     return words[rights];
+}
+
+bool control_names(const char *path)
+{
+    json_t *name = json_string(path);
+    json_decref(name);
+    return name != NULL;
 }
 
 /* Waits for these events of a file, which has a place at a socket. */
@@ -70,6 +78,8 @@ void control_close(struct control *control)
     if (control->waits >= 0)
         file_close(control->waits);
     free(control->events);
+    free(control->status.text);
+    control->status = (struct made_status){0};
     control->waits = -1;
     control->events = NULL;
 }
@@ -135,20 +145,19 @@ static bool seat(struct control_socket *its, int socket)
     return true;
 }
 
-/* Takes one client that waits; false where there is none. Where no file is left for it, it waits until the next look. */
-static bool take(struct control_socket *its)
+/* Takes a client that waits, if there is one. Where no file is left for it, it waits until the next look. */
+static void take(struct control_socket *its)
 {
     int socket = accept4(its->listener, NULL, NULL, SOCK_CLOEXEC | SOCK_NONBLOCK);
     if (socket >= 0) {
         if (!seat(its, socket))
             turn_away(its, socket);
-        return true;
+        return;
     }
     if (errno == EAGAIN || errno == ECONNABORTED || errno == EINTR)
-        return false;
+        return;
     complain("a client of the %s socket can't come: %s", control_socket_word(its->rights), strerror(errno));
     its->rests = wait_for(its, EPOLL_CTL_MOD, its->listener, 0, LISTENER);
-    return false;
 }
 
 /* Answers a line that never ends, and takes no more from its client. */
@@ -161,14 +170,12 @@ static void refuse_long_line(struct control_socket *its, struct control_client *
     client_send(client, request_headed(NULL, why));
 }
 
-/* Answers the requests of a client that are there whole, as many as it may have in a turn. */
-static void answer_lines(struct control *control, struct control_socket *its, struct control_client *client, struct host *host)
+/* Answers the next request of a client that is there whole. */
+static void answer_line(struct control *control, struct control_socket *its, struct control_client *client, struct host *host)
 {
     size_t length;
-    const char *line;
-    for (unsigned served = 0; served < MOST_REQUESTS_A_TURN && client_is_served(client); served++) {
-        if (!(line = client_line(client, &length)))
-            break;
+    const char *line = client_is_served(client) ? client_line(client, &length) : NULL;
+    if (line) {
         json_t *answer = request_answer(control, client, host, line, length);
         its->counters.requests++;
         its->counters.refused += !json_is_true(json_object_get(answer, "ok"));
@@ -180,25 +187,32 @@ static void answer_lines(struct control *control, struct control_socket *its, st
 }
 
 /* Serves what an event is about. */
-static void serve(struct control *control, struct control_socket *its, unsigned place, uint32_t events, struct host *host)
+static void serve(struct control *control, const struct epoll_event *event, struct host *host)
 {
+    struct control_socket *its = &control->sockets[event->data.u32 / PLACES];
+    unsigned place = event->data.u32 % PLACES;
     if (place == LISTENER) {
-        for (unsigned taken = 0; taken < MOST_READY && take(its); taken++) {}
+        take(its);
         return;
     }
     client_flush(its->clients[place]);
-    if (events & (EPOLLIN | EPOLLHUP | EPOLLERR))
+    if (event->events & (EPOLLIN | EPOLLHUP | EPOLLERR))
         client_read(its->clients[place]);
-    answer_lines(control, its, its->clients[place], host);
+    answer_line(control, its, its->clients[place], host);
     settle(its, place);
 }
 
+/* The file that was served last is the last one to be ready again: each has its turn. */
 void control_serve(struct control *control, struct host *host)
 {
-    struct epoll_event ready[MOST_READY];
-    int count = epoll_wait(control->waits, ready, MOST_READY, 0);
-    for (int i = 0; i < count; i++)
-        serve(control, &control->sockets[ready[i].data.u32 / PLACES], ready[i].data.u32 % PLACES, ready[i].events, host);
+    struct epoll_event ready;
+    double end = loop_processor_seconds() + CONTROL_SECONDS;
+    control->has_acted = false;
+    for (unsigned served = 0; served < MOST_READY && epoll_wait(control->waits, &ready, 1, 0) == 1; served++) {
+        serve(control, &ready, host);
+        if (control->has_acted || loop_processor_seconds() >= end)
+            break;
+    }
 }
 
 /* Takes clients again where no file was left for one, and settles what the events that were told leave. */

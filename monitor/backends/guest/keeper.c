@@ -109,6 +109,16 @@ static void close_others(const struct kept *kept)
     close_range(next, ~0U, 0);
 }
 
+/* Has no part of the lender's standard error any longer: what a process says goes to the lender by its channel. */
+static bool leave_standard_error(void)
+{
+    int file = open("/dev/null", O_WRONLY | O_CLOEXEC);
+    bool left = file >= 0 && dup2(file, STDERR_FILENO) >= 0;
+    if (file >= 0)
+        file_close(file);
+    return left;
+}
+
 /* The process that serves the client; it ends with its keeper. */
 static int serve(const struct keeper *keeper, pid_t parent)
 {
@@ -118,6 +128,8 @@ static int serve(const struct keeper *keeper, pid_t parent)
     if (!kept_regain(keeper->kept))
         return 1;
     close_others(keeper->kept);
+    if (HAS_SANDBOX && !keeper->options->open && !leave_standard_error())
+        return 1;
     return lent_run(keeper->options, keeper->kept);
 }
 

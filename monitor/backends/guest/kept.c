@@ -104,7 +104,7 @@ bool kept_restore(struct lent *lent)
     backend->remarks = state->remarks;
     memcpy(backend->figures, state->figures, sizeof backend->figures);
     backend->figure_count = state->figure_count < MOST_TAGS ? state->figure_count : MOST_TAGS;
-    if (!restore_memory(lent, state) || !rings_regain(backend, &state->told, state->rings))
+    if (!restore_memory(lent, state) || !rings_regain(backend, &state->told, state->rings, state->notes.ready_then))
         return false;
     balloon_set_target(&backend->balloon, state->target_pages);
     configuration_write(device, ACTUAL_AT, state->actual_pages);

@@ -11,9 +11,8 @@
 #include "inbox.h"
 #include "outbox.h"
 
-/* A program goes on with what another one has kept in the same layout. Memory of a guest may end at page MOST_SET, 64 GiB, as there is a set
- * of its pages. A count of bytes begins at COUNT_BEGINS, and goes down. */
-enum { KEPT_LAYOUT = 1, MOST_SET = 1 << 24, COUNT_BEGINS = 1 << 30 };
+/* A program goes on with what another one has kept in the same layout. A count of bytes begins at COUNT_BEGINS, and goes down. */
+enum { KEPT_LAYOUT = 1, COUNT_BEGINS = 1 << 30 };
 
 struct kept_region {
     struct region_place place;
@@ -60,8 +59,8 @@ struct kept {
     uint32_t layout, bytes;     /* KEPT_LAYOUT, and how large this is */
     uint32_t counts;            /* the number of the state that counts */
     uint32_t ended_by;          /* the signal that has ended the process before; 0: none has, or it was told to end */
-    bool renews;                /* the program that is there now is to go on */
-    bool stays;                 /* it couldn't */
+    uint8_t renews;             /* unless 0, the program that is there now is to go on: no bool, as a process may write anything here */
+    uint8_t stays;              /* unless 0, it couldn't */
     uint32_t turns;             /* how many turns a process has served, and all before it */
     uint32_t granted;           /* the number of the last deflate whose grant was obeyed, or is being obeyed */
     uint64_t counted_from;      /* the bytes that were read as the count began */

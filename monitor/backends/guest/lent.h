@@ -50,7 +50,7 @@ bool lent_obey(struct lent *lent);
 void lent_take_lender(struct lent *lent);
 
 /* Waits until the lender has answered for pages that are wanted, and obeys it meanwhile; false where it refuses, or where the client
- * goes. */
+ * goes or can't be served any longer. */
 bool lent_await(struct lent *lent, enum lending_wait what, uint32_t pages);
 
 /* Its driver reads the configuration, with its target. */

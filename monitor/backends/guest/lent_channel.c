@@ -243,7 +243,7 @@ bool lent_obey(struct lent *lent)
 
 void lent_take_lender(struct lent *lent)
 {
-    int channel = accept4(lent->notes.later, NULL, NULL, SOCK_CLOEXEC | SOCK_NONBLOCK);
+    int channel = process_accept(lent->notes.later);
     if (channel < 0)
         return;
     if (lent->notes.channel >= 0)
@@ -263,8 +263,7 @@ static int take_lender(void *context, int file)
 static int obey_lender(void *context, int file)
 {
     (void)file;
-    lent_obey(context);
-    return LOOP_GOES_ON;
+    return lent_obey(context) ? LOOP_GOES_ON : LOOP_FAULT;
 }
 
 static int take_signal(void *context, int file)
@@ -315,8 +314,8 @@ bool lent_await(struct lent *lent, enum lending_wait what, uint32_t pages)
     lent_report(lent, 0, false);
     loop.part_count = 0;
     loop_add(&loop, (struct loop_part){lent, waits, turn});
-    loop_run(&loop, NULL);
+    bool served = loop_run(&loop, NULL) >= 0;
     lent->waits = WAIT_NOTHING;
     lent->news = true;
-    return lent->answered > 0;
+    return served && lent->answered > 0;
 }

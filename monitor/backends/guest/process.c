@@ -10,6 +10,7 @@
 #include <stdio.h>
 #include <stdlib.h>
 #include <string.h>
+#include <sys/auxv.h>
 #include <sys/resource.h>
 #include <sys/signalfd.h>
 #include <sys/socket.h>
@@ -179,4 +180,23 @@ void files_put_off(bool puts_off)
 {
     files_let_go();
     later.puts_off = puts_off;
+}
+
+/* Its own user a process knows from its start: it may make no call for that. */
+pid_t process_peer(int connection)
+{
+    struct ucred its = {.uid = (uid_t)-1};
+    socklen_t size = sizeof its;
+    getsockopt(connection, SOL_SOCKET, SO_PEERCRED, &its, &size);
+    return its.uid == getauxval(AT_EUID) ? its.pid : 0;
+}
+
+int process_accept(int listener)
+{
+    int connection = accept4(listener, NULL, NULL, SOCK_CLOEXEC | SOCK_NONBLOCK);
+    if (connection < 0 || process_peer(connection) > 0)
+        return connection;
+    complain("another user isn't taken for the lender");
+    file_close(connection);
+    return -1;
 }

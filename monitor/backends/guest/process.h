@@ -32,6 +32,12 @@ int process_reload(void);
 /* Takes one SIGHUP that has come; false where none has. */
 bool process_took_reload(int file);
 
+/* The process at the other end of a connection, by the kernel's word; 0 where it is another user's. */
+pid_t process_peer(int connection);
+
+/* Takes a connection of this process's own user; -1 where there is none, or another user's, which is said. */
+int process_accept(int listener);
+
 /* The most files that poll_some waits for at once. */
 enum { MOST_POLLED = 1024 };
 

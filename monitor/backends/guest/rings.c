@@ -242,17 +242,21 @@ static bool find_used(struct backend *backend, unsigned number)
     return true;
 }
 
-bool rings_regain(struct backend *backend, const struct told *told, const struct ring kept[QUEUES])
+bool rings_regain(struct backend *backend, const struct told *told, const struct ring kept[QUEUES], bool was_ready)
 {
+    bool ready = was_ready && told->negotiated && !told->goes_on;
     backend->told = *told;
     memcpy(backend->rings, kept, sizeof backend->rings);
-    for (unsigned number = 0; number < QUEUES; number++)
+    for (unsigned number = 0; number < QUEUES; number++) {
+        ready |= backend->rings[number].runs;
         if (backend->rings[number].runs && !find_used(backend, number))
             return false;
+    }
     if (told->negotiated && rings_negotiate(backend, told->features) != 0)
         return refuse("the features aren't taken again");
     backend->told = *told;
-    return true;
+    /* Also where no ring runs again, as the process before was to stop the last one. */
+    return !ready || write_status(backend, DRIVER_OK, VB_NO_KIND);
 }
 
 void ring_end(struct backend *backend, unsigned number)

@@ -69,10 +69,10 @@ void rings_halt(struct backend *backend);
 /* As rings_halt, and forgets the indexes, too. */
 void rings_forget(struct backend *backend);
 
-/* The rings as another process begins with them; and takes them so, over the memory that they lay in, to be started by rings_settle. False
- * where the guest has changed what isn't the driver's, which is said. */
+/* The rings as another process begins with them; and takes them so, over the memory that they lay in, to be started by rings_settle; whether the
+ * driver was ready when that was looked at last. False where the guest has changed what isn't the driver's, which is said. */
 void rings_keep(const struct backend *backend, struct ring kept[QUEUES]);
-bool rings_regain(struct backend *backend, const struct told *told, const struct ring kept[QUEUES]);
+bool rings_regain(struct backend *backend, const struct told *told, const struct ring kept[QUEUES], bool was_ready);
 
 /* The end of a driver's life without another one that goes on: nothing is in the balloon any longer. */
 bool rings_reset(struct backend *backend);

@@ -7,11 +7,16 @@
 #include <fcntl.h>
 #include <linux/capability.h>
 #include <seccomp.h>
+#include <signal.h>
 #include <string.h>
 #include <sys/mman.h>
 #include <sys/prctl.h>
+#include <sys/resource.h>
 #include <sys/syscall.h>
 #include <unistd.h>
+
+/* Memory of its own that a process may have; the guest's is shared. */
+enum { MOST_DATA = 64 << 20 };
 
 /* A call that may be made; with an argument that has to be as it is said, where there is a mask or a value to compare. */
 struct allowed {
@@ -36,6 +41,8 @@ static const struct allowed calls[] = {
     /* The C library, signals, the end. */
     ANY(brk), ANY(mremap), ANY(clock_gettime), ANY(gettimeofday), ANY(getrandom), ANY(rt_sigaction), ANY(rt_sigprocmask),
     ANY(rt_sigreturn), ANY(restart_syscall), ANY(futex), ANY(exit), ANY(exit_group),
+    /* What abort() makes beside tgkill, and the C library before it. */
+    ANY(getpid), ANY(gettid), WITH(writev, 0, SCMP_CMP_EQ, STDERR_FILENO, 0),
 };
 
 /* Allows each call of the list; 0 or an errno, negative. */
@@ -44,7 +51,9 @@ static int allow(scmp_filter_ctx filter)
     int code = 0;
     for (unsigned i = 0; i < sizeof calls / sizeof calls[0] && code == 0; i++)
         code = seccomp_rule_add_array(filter, SCMP_ACT_ALLOW, calls[i].call, calls[i].compares, &calls[i].argument);
-    return code;
+    /* A process may abort itself, and signals nobody else. */
+    const struct scmp_arg_cmp itself[] = {{0, SCMP_CMP_EQ, (scmp_datum_t)getpid(), 0}, {2, SCMP_CMP_EQ, SIGABRT, 0}};
+    return code == 0 ? seccomp_rule_add_array(filter, SCMP_ACT_ALLOW, SCMP_SYS(tgkill), 2, itself) : code;
 }
 
 /* Gives up all privileges, also those that the lender may have for the sake of limits, and new ones. */
@@ -57,6 +66,8 @@ bool privileges_give_up(void)
 
 bool sandbox_enter(void)
 {
+    if (setrlimit(RLIMIT_DATA, &(struct rlimit){MOST_DATA, MOST_DATA}))
+        complain("its own memory has no limit: %s", strerror(errno));
     if (!privileges_give_up())
         return complain("privileges can't be given up: %s", strerror(errno)), false;
     scmp_filter_ctx filter = seccomp_init(SCMP_ACT_KILL_PROCESS);

@@ -3,11 +3,19 @@
 
 #include <dirent.h>
 #include <inttypes.h>
+#include <stdlib.h>
 #include <sys/file.h>
 #include <sys/stat.h>
 #include <unistd.h>
 
 enum { MOST_KEPT = MOST_PATH + MOST_LIMIT_WORDS };
+
+/* The folder of channels; and what 0.3.0 had before a guest's name in place of it. */
+static const char channels_name[] = ".channels", earlier_mark[] = "+";
+
+/* How the terms of a guest begin in the folder. 0.3.0 kept its overhead and its limit alone. */
+static const char terms_word[] = "terms ";
+enum { TERM_NUMBERS = 5 };
 
 void remove_socket(const char *path)
 {
@@ -23,17 +31,40 @@ bool is_name(const char *name)
     return length > 0 && length < MOST_NAME && strspn(name, letters) == length;
 }
 
-bool folder_lock(const char *folder)
+/* Opens the folder of channels, and makes it where it isn't there. Sockets in it have paths by its file, so that nobody puts another one in its
+ * place. */
+static bool open_channels(struct host *host, int folder)
 {
-    int file = open(folder, O_RDONLY | O_DIRECTORY | O_CLOEXEC);
-    if (file < 0)
-        return complain("%s: %s", folder, strerror(errno)), false;
-    if (!flock(file, LOCK_EX | LOCK_NB))
+    struct stat its;
+    if (mkdirat(folder, channels_name, S_IRWXU) && errno != EEXIST)
+        return complain("%s/%s: %s", host->folder, channels_name, strerror(errno)), false;
+    host->channels = openat(folder, channels_name, O_RDONLY | O_DIRECTORY | O_NOFOLLOW | O_CLOEXEC);
+    if (host->channels < 0)
+        return complain("%s/%s: %s", host->folder, channels_name, strerror(errno)), false;
+    if (!fstat(host->channels, &its) && its.st_uid == geteuid() && !(its.st_mode & (S_IRWXG | S_IRWXO)))
         return true;
+    complain("%s/%s isn't the lender's alone", host->folder, channels_name);
+    return false;
+}
+
+bool folder_lock(struct host *host)
+{
+    int file = open(host->folder, O_RDONLY | O_DIRECTORY | O_CLOEXEC);
+    if (file < 0)
+        return complain("%s: %s", host->folder, strerror(errno)), false;
+    if (!flock(file, LOCK_EX | LOCK_NB))
+        return open_channels(host, file);
     int why = errno;
     file_close(file);
-    complain(why == EWOULDBLOCK ? "%s is another host's" : "%s can't be locked", folder);
+    complain(why == EWOULDBLOCK ? "%s is another host's" : "%s can't be locked", host->folder);
     return false;
+}
+
+void folder_leave(const struct host *host)
+{
+    char path[MOST_KEPT];
+    snprintf(path, sizeof path, "%s/%s", host->folder, channels_name);
+    rmdir(path);
 }
 
 /* The name of what is kept of a guest: a link that leads nowhere, as links are made whole and renamed whole. */
@@ -47,7 +78,8 @@ const char *folder_keep(const struct host *host, const char *name, const struct 
     char path[MOST_KEPT], part[MOST_KEPT], words[MOST_LIMIT_WORDS], text[MOST_KEPT];
     name_kept(host, name, "=", path);
     name_kept(host, name, ".=", part);
-    snprintf(text, sizeof text, "%" PRIu32 " %s", terms->overhead, limit_words(&terms->limit, words));
+    snprintf(text, sizeof text, "%s%" PRIu32 " %" PRIu32 " %" PRIu32 " %d %" PRIu32 " %s", terms_word, terms->least, terms->most, terms->priority,
+             terms->strict, terms->overhead, limit_words(&terms->limit, words));
     unlink(part);
     return symlink(text, part) || rename(part, path) ? strerror(errno) : NULL;
 }
@@ -59,46 +91,89 @@ void folder_forget(const struct host *host, const char *name)
     unlink(path);
 }
 
-/* Reads what is kept of a guest into its terms, if something is. */
-static void recall(const struct host *host, const char *name, struct guest_terms *terms)
+/* Reads this many numbers, a blank after each; what comes after them, or NULL where there are fewer. */
+static char *take_numbers(char *words, unsigned count, uint64_t numbers[])
+{
+    for (unsigned i = 0; i < count; i++) {
+        char *end = strchr(words, ' ');
+        if (!end)
+            return NULL;
+        *end = 0;
+        if (!read_number(words, 10, UINT32_MAX, &numbers[i]))
+            return NULL;
+        words = end + 1;
+    }
+    return words;
+}
+
+/* Reads what is kept of a guest into its terms; whether they are all kept. */
+static bool recall(const struct host *host, const char *name, struct guest_terms *terms)
 {
     char path[MOST_KEPT], text[MOST_KEPT];
-    uint64_t overhead;
+    uint64_t numbers[TERM_NUMBERS] = {terms->least, terms->most, terms->priority, terms->strict};
     struct guest_limit limit;
     name_kept(host, name, "=", path);
     ssize_t length = readlink(path, text, sizeof text - 1);
     text[length > 0 ? length : 0] = 0;
-    char *words = strchr(text, ' ');
-    if (!words)
-        return;
-    *words++ = 0;
-    if (!read_number(text, 10, UINT32_MAX, &overhead) || limit_read(words, &limit))
-        return;
-    terms->overhead = (uint32_t)overhead;
-    terms->limit = limit;
+    bool all = !strncmp(text, terms_word, sizeof terms_word - 1);
+    char *words = all ? take_numbers(text + sizeof terms_word - 1, TERM_NUMBERS, numbers) : take_numbers(text, 1, &numbers[TERM_NUMBERS - 1]);
+    if (!words || limit_read(words, &limit))
+        return false;
+    *terms = (struct guest_terms){.least = (uint32_t)numbers[0], .most = (uint32_t)numbers[1], .priority = (uint32_t)numbers[2],
+                                  .strict = numbers[3] != 0, .overhead = (uint32_t)numbers[4], .limit = limit};
+    return all;
 }
 
-/* Whether a file of this folder is a socket. */
-static bool is_socket(DIR *folder, const char *name)
+/* Whether this is a socket that the lender's user has made. */
+static bool is_own_socket(const char *path)
 {
     struct stat file;
-    return !fstatat(dirfd(folder), name, &file, AT_SYMLINK_NOFOLLOW) && S_ISSOCK(file.st_mode);
+    return !lstat(path, &file) && S_ISSOCK(file.st_mode) && file.st_uid == geteuid();
+}
+
+bool folder_moves_channel(const struct seat *seat)
+{
+    char path[MOST_KEPT];
+    name_kept(seat->host, seat->name, earlier_mark, path);
+    return is_own_socket(path) && !rename(path, seat->later_path);
+}
+
+/* Makes a seat for the guest of this name, unless it has one. */
+static void take_over(struct host *host, const char *name)
+{
+    struct guest_terms terms = host_usual_terms(host);
+    if (seat_of(host, name))
+        return;
+    bool knows = recall(host, name, &terms);
+    const char *fault = seat_add(host, name, &terms);
+    if (fault)
+        complain("%s isn't taken over: %s", name, fault);
+    else
+        seat_of(host, name)->asks_terms = !knows;
+}
+
+/* Makes a seat for each socket of a folder whose name is this mark and a guest's name, in the order of names. */
+static void take_over_all(struct host *host, const char *folder, const char *mark)
+{
+    char path[MOST_KEPT];
+    struct dirent **found;
+    size_t length = strlen(mark);
+    int count = scandir(folder, &found, NULL, alphasort);
+    for (int i = 0; i < count; i++) {
+        const char *name = found[i]->d_name;
+        snprintf(path, sizeof path, "%s/%s", folder, name);
+        if (!strncmp(name, mark, length) && is_name(name + length) && is_own_socket(path))
+            take_over(host, name + length);
+        free(found[i]);
+    }
+    if (count >= 0)
+        free(found);
 }
 
 void folder_take_over(struct host *host)
 {
-    DIR *folder = opendir(host->folder);
-    if (!folder)
-        return;
-    for (struct dirent *it; (it = readdir(folder));) {
-        const char *name = it->d_name + 1;
-        if (it->d_name[0] != LATER_MARK || !is_name(name) || seat_of(host, name) || !is_socket(folder, it->d_name))
-            continue;
-        struct guest_terms terms = host_usual_terms(host);
-        recall(host, name, &terms);
-        const char *fault = seat_add(host, name, &terms);
-        if (fault)
-            complain("%s isn't taken over: %s", name, fault);
-    }
-    closedir(folder);
+    char channels[MOST_PATH];
+    snprintf(channels, sizeof channels, "/proc/self/fd/%d", host->channels);
+    take_over_all(host, channels, "");
+    take_over_all(host, host->folder, earlier_mark);
 }

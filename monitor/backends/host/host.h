@@ -18,8 +18,7 @@ enum {
     MOST_PLACES = 2 * MOST_GUESTS,      /* of loans: also of guests that are leaving */
     MOST_PATH = 108,            /* of a socket's */
     SILENT_AFTER = 3,           /* questions without statistics, and a guest counts as one that doesn't answer */
-    PAGES_PER_MIB = 256,
-    LATER_MARK = '+',           /* before a guest's name: the socket where a later lender finds its process */
+    PAGES_PER_MIB = 256, PAGE_KIB = BALLOON_PAGE / 1024,
 };
 
 /* Who writes a guest's limit, and what is known of that. Frames. */
@@ -55,6 +54,7 @@ struct seat {
     int channel;                /* -1: none */
     bool gone;                  /* its client has gone; the process hasn't ended yet */
     bool refused;               /* its client isn't served any longer, as it broke a rule or found no room */
+    bool holds;                 /* its process was started to hold deflates and resets, until they are granted */
     bool adopts;                /* the first report of a process that an earlier lender has started is still to come */
     int64_t adopts_until;       /* and isn't waited for any longer from then on */
     int64_t comes_at;           /* before this no client is taken */
@@ -77,6 +77,7 @@ struct seat {
     uint32_t target, told;      /* what was decided, and what it is asked for so far */
     enum guest_wait waits_for;
     int64_t waits_since;
+    struct ended_wait ended;    /* the last of its waits that ended, also those of clients before */
     uint32_t wait_answered;     /* the last of its waits that was answered, and how */
     bool wait_admitted, wait_named;     /* named: it was said that its wait is long */
     size_t place;               /* of its loan */
@@ -86,10 +87,17 @@ struct seat {
     uint32_t least_told;        /* the least that it was asked for since its driver has read its target */
     bool unread;                /* its driver is still to read its target; or its process to hear it, where a driver reads none */
     int64_t obeys_until;        /* its target fell, or it took pages: until then a driver that reads none may still obey an earlier one */
+    bool asks_terms;            /* its terms aren't in the folder, as 0.3.0 had processes keep them: its first report has them */
     bool adopted, regains;      /* its loan is to follow the first report of a process of an earlier lender; what that lent ahead is to be lent again */
     bool regained;              /* it was, and its driver hasn't been told another target */
     bool cooperates;            /* it hasn't taken pages that nobody granted */
 };
+
+/* The pages that its memory's files hold, by its last report. */
+static inline uint32_t pages_held(const struct seat *seat)
+{
+    return (uint32_t)(seat->report.held_kib / PAGE_KIB);
+}
 
 struct host_counters {
     uint64_t looks, above, peak;                /* peak: KiB */
@@ -124,6 +132,7 @@ struct question {
 struct host {
     const char *folder, *program;       /* program: of guests' processes */
     const char *itself;         /* the lender's own program */
+    int channels;               /* the folder where a later lender finds guests' processes */
     uint64_t features;
     VbLoan loans[2 * MOST_GUESTS];      /* by the places of seats */
     bool strict, strict_pages, events, no_sandbox, end_with_lender;
@@ -135,13 +144,13 @@ struct host {
     uint32_t step;              /* a target grows by 1/step of the guest in a second; 0: at once */
     int64_t period;             /* milliseconds */
     int64_t rests_until;        /* clients aren't taken before this, as there was no file left for one */
+    int64_t paid_until;         /* the processes that were started are paid for until then, each with its milliseconds */
+    struct seat *comes;         /* whose client is taken in this turn; NULL: none */
     int64_t refills_at;         /* when messages are read again of processes that have sent too many */
-    int64_t decides_at;         /* what guests do isn't decided on before this */
-    int64_t stepped_at;         /* when targets were last let grow */
+    int64_t decides_at, stepped_at;     /* what guests do isn't decided on before the first; when targets were last let grow */
     bool looked, steps;         /* this turn is the first one after a look; as it began, a guest wasn't asked yet for what was decided */
     int end;                    /* has something to read once a signal tells the host to end */
-    bool upgrades;              /* it is to become the program that is there now */
-    bool leaves;                /* it ends alone, and guests' processes live on */
+    bool upgrades, leaves;      /* it is to become the program that is there now; it ends alone, and guests' processes live on */
     bool anew;                  /* the guests, the budget or the floor have changed */
     enum reason reason;         /* which of them */
     bool news;                  /* what the guests can spare may have changed */
@@ -167,11 +176,16 @@ void host_run(struct host *host);
 
 /* ---- folder.c */
 
-/* Whether the folder is this host's alone; says why not. It stays so until the process ends. */
-bool folder_lock(const char *folder);
+/* Whether the folder is this host's alone, and the folder of channels in it its user's alone; says why not. It stays so until the process ends. */
+bool folder_lock(struct host *host);
 
-/* Keeps in the folder what a lender that comes later isn't to believe a guest's process: its limit and its overhead. NULL, or why it
- * can't. And no longer. */
+/* The host has ended with its guests: no lender comes later. */
+void folder_leave(const struct host *host);
+
+/* Moves the channel of a process of 0.3.0 to the folder of channels; false where there is none. */
+bool folder_moves_channel(const struct seat *seat);
+
+/* Keeps a guest's terms in the folder for a lender that comes later, which doesn't believe its process. NULL, or why it can't. And no longer. */
 const char *folder_keep(const struct host *host, const char *name, const struct guest_terms *terms);
 void folder_forget(const struct host *host, const char *name);
 
@@ -218,6 +232,9 @@ void seat_take_over(struct seat *seat);
 /* Whether a guest of an earlier lender is still to tell what it has: until then nothing is lent, admitted or decided. */
 bool host_awaits(const struct host *host);
 
+/* Its process isn't believed any longer: it is killed, and all its pages count as lent until it has ended. */
+void seat_disown(struct seat *seat);
+
 /* Its process has ended. */
 void seat_ended(struct seat *seat);
 
@@ -255,6 +272,12 @@ bool seat_repeat(struct seat *seat);
 
 /* Reads what its process has sent, at most `most` messages, and notes what came of it; returns how many it read. */
 unsigned seat_read(struct seat *seat, unsigned most);
+
+/* ---- waits.c */
+
+/* Follows what a process waits for, by its next report; and ends its wait, if it has one. */
+void seat_waits(struct seat *seat, const struct lending_message *report);
+void seat_ends_wait(struct seat *seat);
 
 /* ---- rest.c */
 

@@ -52,23 +52,21 @@ static void become_writer(int channel, const char *path)
     _exit(1);
 }
 
-/* Starts a writer; false, which is said, where there can't be one. */
+/* Starts a writer; false where there can't be one, with errno. */
 static bool start_writer(struct seat *seat)
 {
     int pair[2];
     if (socketpair(AF_UNIX, SOCK_SEQPACKET | SOCK_CLOEXEC, 0, pair))
-        return complain("its limit can't be written: %s", strerror(errno)), false;
+        return false;
     pid_t child = fork();
     if (child == 0)
         become_writer(pair[1], seat->path);
+    int why = child > 0 && waitpid(child, NULL, 0) == child ? 0 : errno;
     file_close(pair[1]);
-    if (child > 0 && waitpid(child, NULL, 0) == child) {
-        seat->writer.channel = pair[0];
-        return true;
-    }
-    complain("its limit can't be written: %s", strerror(errno));
+    if (why == 0)
+        return seat->writer.channel = pair[0], true;
     file_close(pair[0]);
-    return false;
+    return errno = why, false;
 }
 
 void limit_forget(struct seat *seat)
@@ -99,6 +97,15 @@ static void note_failure(struct seat *seat, const char *why)
     writer->again_at = loop_now() + TRY_AGAIN;
 }
 
+/* There is no writer, or not any longer. */
+static void lose_writer(struct seat *seat, const char *why)
+{
+    note_failure(seat, why);
+    int64_t again_at = seat->writer.again_at;
+    limit_end(seat);
+    seat->writer.again_at = again_at;
+}
+
 /* Asks the writer for these frames. Until it has answered, no more than these are sure. */
 static void ask_writer(struct seat *seat, uint64_t frames)
 {
@@ -108,11 +115,8 @@ static void ask_writer(struct seat *seat, uint64_t frames)
     writer->allowed = frames < writer->allowed ? frames : writer->allowed;
     writer->waits = (writer->channel >= 0 || start_writer(seat))
         && send(writer->channel, &request, sizeof request, MSG_DONTWAIT | MSG_NOSIGNAL) == (ssize_t)sizeof request;
-    if (!writer->waits) {
-        limit_end(seat);
-        writer->failures++;
-        writer->again_at = loop_now() + TRY_AGAIN;
-    }
+    if (!writer->waits)
+        lose_writer(seat, strerror(errno));
 }
 
 void limits_follow(struct host *host)
@@ -153,8 +157,7 @@ void limit_take(struct seat *seat)
         outcome.words[sizeof outcome.words - 1] = 0;
         take_outcome(seat, &outcome);
     } else {
-        note_failure(seat, "its writer has ended");
-        limit_end(seat);
+        lose_writer(seat, "its writer has ended");
     }
     speaker_ends();
 }

@@ -42,15 +42,14 @@ static void shrink(struct seat *seat, uint32_t pages, uint32_t ballooned)
         vb_loan_shrink(loans, MOST_PLACES, seat->place, pages, smaller(counted > least ? counted : least, pages));
 }
 
-/* It has pages that nobody granted: it is named, once. It counts with all that it has, unless the kernel has it within its loan. */
-static void name_taker(struct seat *seat, uint32_t pages)
+/* It has pages that nobody granted: it is named. It counts with all that it has, unless the kernel has it within its limit. */
+static void name_taker(struct seat *seat, uint32_t pages, bool is_within)
 {
-    bool counts = limit_holds(seat);
-    if (seat->cooperates)
+    if (seat->cooperates || !is_within)
         complain("has taken %" PRIu32 " pages unasked: %s", pages,
-                 counts ? "its limit stays" : "all its memory counts as lent from now on");
+                 is_within ? "its limit stays" : "all its memory counts as lent from now on");
     seat->cooperates = false;
-    if (counts)
+    if (is_within)
         return;
     vb_loan_uncount(seat->host->loans, MOST_PLACES, seat->place);
     host_changed(seat->host, BY_GUESTS);
@@ -66,7 +65,7 @@ static void follow_balloon(struct seat *seat)
     if (now > loan->ballooned)
         loan_take_in(seat, smaller(now, loan->pages) - loan->ballooned);
     else if (now < loan->ballooned && seat->waits_for != WAITS_FOR_ROOM)
-        name_taker(seat, loan->ballooned - now);
+        name_taker(seat, loan->ballooned - now, limit_holds(seat));
 }
 
 /* For what its process waits that wasn't granted: before it answers its client, or with a deflate in its hands. */
@@ -94,7 +93,7 @@ static uint32_t wanted_pages(const struct seat *seat, enum guest_wait what)
     const struct lending_message *report = &seat->report;
     if (what == WAITS_FOR_DEFLATE)
         return report->held_pages;
-    return what == WAITS_FOR_RESET ? loan_of(seat)->ballooned : report->wanted - seat->pages;
+    return what == WAITS_FOR_RESET ? loan_of(seat)->ballooned : report->wanted - smaller(report->wanted, seat->pages);
 }
 
 void loan_grant(struct seat *seat, enum guest_wait what)
@@ -174,8 +173,8 @@ void loan_follow(struct seat *seat)
 
 uint32_t loan_excess(const struct seat *seat)
 {
-    uint64_t held = seat->report.held_kib / 4, lent = loan_of(seat)->lent;
-    return held > lent ? smaller((uint32_t)(held - lent), UINT32_MAX) : 0;
+    uint32_t held = pages_held(seat), lent = loan_of(seat)->lent;
+    return held - smaller(held, lent);
 }
 
 /* Whether a guest at work holds pages that it gave, whatever its driver says: more than is lent to it, and than is beside. */
@@ -207,7 +206,7 @@ void loans_audit(struct host *host)
         struct seat *seat = host->seats[i];
         speaker_begins(&seat->speaker);
         if (holds_too_much(seat))
-            name_taker(seat, loan_excess(seat) - seat->terms.overhead);
+            name_taker(seat, loan_excess(seat) - seat->terms.overhead, false);
         if (waits_in_vain(seat))
             name_wait(seat);
         speaker_ends();

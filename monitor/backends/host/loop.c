@@ -5,8 +5,8 @@
 #include <unistd.h>
 
 /* Milliseconds between two decisions on what guests do; messages of a process that are read in REFILL milliseconds; milliseconds
- * between two steps of targets. */
-enum { DECIDE_EVERY = 10, MESSAGES = 40, REFILL = 50, STEP_EVERY = 50, MESSAGES_A_TURN = 8 };
+ * between two steps of targets; milliseconds for each process that is started, and how many are started ahead of that. */
+enum { DECIDE_EVERY = 10, MESSAGES = 40, REFILL = 50, STEP_EVERY = 50, MESSAGES_A_TURN = 2, START_EVERY = 20, STARTS_AHEAD = 64 };
 
 /* Files that are waited for: of each guest and of each that leaves, of the service, and of lines. */
 enum { OF_SEAT = 4, OF_SERVICE = 2, OF_LINES = 3 };
@@ -85,10 +85,13 @@ static int take_limit(void *seat, int file)
     return LOOP_GOES_ON;
 }
 
-static int take_client(void *seat, int file)
+/* One client is taken in a turn: that of the guest whose last one came first. */
+static int take_client(void *context, int file)
 {
+    struct seat *seat = context, **comes = &seat->host->comes;
     (void)file;
-    seat_start(seat);
+    if (!*comes || seat->comes_at < (*comes)->comes_at)
+        *comes = seat;
     return LOOP_GOES_ON;
 }
 
@@ -108,12 +111,17 @@ static int take_messages(void *context, int file)
     return LOOP_GOES_ON;
 }
 
+static int64_t latest(int64_t one, int64_t other)
+{
+    return one > other ? one : other;
+}
+
 /* Waits for a guest's client or process, and for the writer of its limit. A process that ends closes its channel: whether one has ended and has not
  * is looked at once a period. */
 static void wait_for_seat(struct seat *seat)
 {
     struct loop *loop = &seat->host->loop;
-    int64_t comes_at = seat->comes_at > seat->host->rests_until ? seat->comes_at : seat->host->rests_until;
+    int64_t comes_at = latest(seat->comes_at, latest(seat->host->rests_until, seat->host->paid_until - STARTS_AHEAD * START_EVERY));
     bool waits = !seat->here && seat->listener >= 0, comes = comes_at <= loop_now();
     loop_wait_for(loop, seat->writer.channel, POLLIN, take_limit, seat);
     loop_wait_for(loop, waits && comes ? seat->listener : -1, POLLIN, take_client, seat);
@@ -144,7 +152,7 @@ static void wait_for_seats(void *context, struct loop *loop)
     struct host *host = context;
     refill(host);
     if (loop->woke_at > 0)
-        measure_turn(loop_seconds() - loop->woke_at);
+        measure_turn(loop_seconds() - loop->woke_at, loop_processor_seconds() - loop->processor_at);
     limits_follow(host);
     each_seat(host, wait_for_seat);
     host->looked = false;
@@ -169,8 +177,20 @@ static void bury(struct host *host)
     host->leaving_count = kept;
 }
 
+/* Starts the process of the client that comes. */
+static void start_one(struct host *host)
+{
+    struct seat *seat = host->comes;
+    host->comes = NULL;
+    if (!seat)
+        return;
+    host->paid_until = latest(host->paid_until, loop_now()) + START_EVERY;
+    seat_start(seat);
+}
+
 static int turn_of_seats(void *context)
 {
+    start_one(context);
     each_seat(context, end_silently);
     bury(context);
     return LOOP_GOES_ON;

@@ -25,9 +25,12 @@ static void add(struct durations *durations, double seconds)
     durations->sum += seconds;
 }
 
-void measure_wait(double seconds)
+void measure_wait(enum wait_end how, double seconds)
 {
-    add(&measures.waits, seconds);
+    if (how == WAS_GRANTED)
+        add(&measures.waits, seconds);
+    else
+        measures.ungranted[how]++;
 }
 
 void measure_decision(double seconds)
@@ -35,9 +38,10 @@ void measure_decision(double seconds)
     add(&measures.decisions, seconds);
 }
 
-void measure_turn(double seconds)
+void measure_turn(double seconds, double processor)
 {
     add(&measures.turns, seconds);
+    add(&measures.processor, processor);
 }
 
 void measure_above(double seconds)

@@ -7,7 +7,8 @@
 
 #include <sys/types.h>
 
-enum { LENDING_VERSION = 1, MOST_WORDS = 256 };
+/* Memory of a guest may end at page MOST_SET, 64 GiB, as its process has a set of its pages. */
+enum { LENDING_VERSION = 1, MOST_WORDS = 256, MOST_SET = 1 << 24 };
 
 enum lending_kind {
     /* Of the lender. */
@@ -42,7 +43,7 @@ struct lending_message {
     uint64_t serial;            /* of a report: how many there were */
     uint64_t held_kib, end;     /* what the memory's files hold; the page at which memory ends */
     uint64_t lost;              /* messages of the process that found no room */
-    uint32_t pages;             /* of its memory that has room; of an order: what it is about */
+    uint32_t pages;             /* of its memory that has room */
     uint32_t wanted;            /* pages that it waits for */
     uint32_t wait;              /* how many times it has waited: the answer has the same number */
     uint32_t holds;             /* its deflates and resets wait for their grant */

@@ -9,7 +9,6 @@ enum {
     SLACK_PART = 8,             /* old targets serve while each guest has its floor but for this part of it */
     PAUSE = 2000,               /* milliseconds in which a guest that took pages itself is asked for no more */
     MOST_KNOWN = 2 * MOST_GUESTS,
-    PAGE_KIB = BALLOON_PAGE / 1024,
 };
 
 /* The guests that have memory, in the order of their seats, and those that are leaving after them. */
@@ -56,7 +55,7 @@ static VbHostGuest known_of(const struct seat *seat)
 {
     VbLoan loan = has_loan(seat) ? seat->host->loans[seat->place] : (VbLoan){0};
     return (VbHostGuest){
-        .loan = loan, .pages = seat->pages, .held = least(seat->report.held_kib / PAGE_KIB, UINT32_MAX),
+        .loan = loan, .pages = seat->pages, .held = pages_held(seat),
         .ballooned = loan.pages > 0 ? loan.ballooned : seat->report.ballooned, .ballooned_then = seat->ballooned_then,
         .available = seat->tells_available ? seat->available : seat->free,
         .contact = contact_of(seat), .rests = is_paused(seat),

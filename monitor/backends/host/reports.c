@@ -4,6 +4,29 @@
 
 enum { MOST_VERSION = 32 };
 
+/* What no process of a guest can have: more pages than its memory may have, or a number of held pages that isn't one; NULL: all may be. */
+static const char *number_fault(const struct lending_message *report)
+{
+    const uint32_t pages[] = {report->pages, report->wanted, report->ballooned, report->held_pages, report->ballooned_then};
+    for (unsigned i = 0; i < sizeof pages / sizeof pages[0]; i++)
+        if (pages[i] > MOST_SET)
+            return "more pages than a guest may have";
+    if (report->held_kib / PAGE_KIB > UINT32_MAX)
+        return "more memory that it holds than there is";
+    return report->waits > WAIT_RESET ? "a wait that isn't one" : NULL;
+}
+
+/* Why a report isn't believed, beside what was granted, and how its process was started; NULL: it is. */
+static const char *report_fault(const struct seat *seat, const struct lending_message *report)
+{
+    const char *fault = number_fault(report);
+    if (fault || seat->adopts)
+        return fault;
+    if (report->waits != WAIT_ROOM && report->pages > seat->pages)
+        return "pages that nobody has granted";
+    return (report->holds != 0) == seat->holds ? NULL : seat->holds ? "that its deflates don't wait" : "that its deflates wait";
+}
+
 /* A guest waits: whether there is room, it is answered at once, unless it waits for its grant. */
 static void answer_wait(struct seat *seat)
 {
@@ -17,6 +40,7 @@ static void answer_wait(struct seat *seat)
     if (missing > 0) {
         refuse("no room for %u pages: %llu are missing", wanted, (unsigned long long)missing);
         host->counters.refused++;
+        seat->refused = true;
         seat_answer(seat, false);
         return;
     }
@@ -41,31 +65,21 @@ static void take_note(struct seat *seat)
     seat->taken = counters->taken;
 }
 
-/* The first report of a process that an earlier lender has started: its target and its terms go on. */
+/* The first report of a process that an earlier lender has started: its target goes on, and its terms where none are kept. */
 static void adopt(struct seat *seat)
 {
     const struct lending_message *report = &seat->report;
     seat->adopts = false;
+    seat->holds = report->holds;
     seat->target = report->target;
     loan_adopts(seat);
-    seat->taken = report->counters.taken;
+    if (!seat->asks_terms)
+        return;
     if (report->has_terms)
         seat->terms = (struct guest_terms){.least = report->terms.least, .most = report->terms.most,
                                            .priority = report->terms.priority, .strict = report->terms.strict != 0,
                                            .overhead = seat->terms.overhead, .limit = seat->terms.limit};
-}
-
-static void note_wait(struct seat *seat)
-{
-    const struct lending_message *report = &seat->report;
-    enum guest_wait now = report->held_pages > 0 ? WAITS_FOR_DEFLATE : WAITS_FOR_NOTHING;
-    if (report->waits == WAIT_ROOM || report->waits == WAIT_RESET)
-        now = report->waits == WAIT_ROOM ? WAITS_FOR_ROOM : WAITS_FOR_RESET;
-    if (now != seat->waits_for) {
-        seat->waits_since = loop_now();
-        seat->wait_named = false;
-    }
-    seat->waits_for = now;
+    seat->asks_terms = folder_keep(seat->host, seat->name, &seat->terms) != NULL;
 }
 
 /* The version that a process says that it has; empty where it isn't one. */
@@ -80,6 +94,7 @@ static void check_version(char words[MOST_WORDS])
 static void take_report(struct seat *seat, const struct lending_message *message)
 {
     struct question *question = &seat->host->question;
+    seat_waits(seat, message);
     seat->report = *message;
     check_version(seat->report.words);
     if (message->number == seat->number)
@@ -89,7 +104,6 @@ static void take_report(struct seat *seat, const struct lending_message *message
         question->asked = message->asked;
     if (seat->adopts)
         adopt(seat);
-    note_wait(seat);
     if (message->waits != WAIT_ROOM && message->pages != seat->pages) {
         seat->pages = message->pages;
         host_changed(seat->host, BY_GUESTS);
@@ -142,6 +156,12 @@ static void take(struct seat *seat, struct lending_message *message, pid_t sende
 {
     if (seat->gone)
         return;
+    const char *fault = message->kind == TELL_REPORT ? report_fault(seat, message) : NULL;
+    if (fault) {
+        refuse("its process reports %s", fault);
+        seat_disown(seat);
+        return;
+    }
     if (message->kind == TELL_REPORT) {
         seat->serving = sender;
         take_report(seat, message);

@@ -13,7 +13,7 @@ static bool is_near(uint64_t one, uint64_t other, uint64_t most)
 
 static struct stillness stillness_of(const struct seat *seat)
 {
-    return (struct stillness){.pages = seat->pages, .ballooned = seat->report.ballooned, .held = seat->report.held_kib / (BALLOON_PAGE / 1024),
+    return (struct stillness){.pages = seat->pages, .ballooned = seat->report.ballooned, .held = pages_held(seat),
                               .available = seat->tells_available ? seat->available : seat->free};
 }
 

@@ -37,15 +37,15 @@ struct seat *seat_of(const struct host *host, const char *name)
 
 void seat_clear(struct seat *seat)
 {
+    seat_ends_wait(seat);
     memset(&seat->report, 0, sizeof seat->report);
     seat->pages = seat->free = seat->available = seat->ballooned_then = seat->target = seat->told = seat->least_told = seat->silent = 0;
-    seat->known = seat->tells_available = seat->gone = seat->refused = seat->adopts = false;
+    seat->known = seat->tells_available = seat->gone = seat->refused = seat->adopts = seat->holds = false;
     seat->heard = seat->taken = seat->number = seat->answered = seat->lost = 0;
     seat->heard_at = seat->paused_until = seat->asked_at = seat->waits_since = 0;
     seat->serving = 0;
     seat->still = (struct stillness){0};
     seat->moved_at = seat->passed_over = 0;
-    seat->waits_for = WAITS_FOR_NOTHING;
     seat->wait_answered = seat->held_granted = seat->granted_pages = 0;
     seat->granted = seat->obeys_until = 0;
     seat->wait_admitted = seat->adopted = seat->regains = seat->regained = seat->unread = false;
@@ -86,7 +86,7 @@ static bool name_seat(struct seat *seat, const char *name)
     strcpy(seat->name, name);
     seat->speaker.name = seat->name;
     return snprintf(seat->path, sizeof seat->path, "%s/%s", folder, name) < MOST_PATH
-        && snprintf(seat->later_path, sizeof seat->later_path, "%s/%c%s", folder, LATER_MARK, name) < MOST_PATH;
+        && snprintf(seat->later_path, sizeof seat->later_path, "/proc/self/fd/%d/%s", seat->host->channels, name) < MOST_PATH;
 }
 
 /* A place that no guest has, also none that is leaving: there are twice as many as seats. */
@@ -179,6 +179,7 @@ const char *seat_remove(struct host *host, struct seat *seat)
     while (host->seats[number] != seat)
         number++;
     host->count--;
+    host->comes = host->comes == seat ? NULL : host->comes;
     memmove(host->seats + number, host->seats + number + 1, (host->count - number) * sizeof host->seats[0]);
     remove_socket(seat->path);
     remove_socket(seat->later_path);

@@ -137,6 +137,7 @@ void seat_start(struct seat *seat)
     if (why == 0) {
         seat->clients++;
         seat->here = true;
+        seat->holds = seat->terms.strict;
         seat->heard_at = loop_now();
         seat_keep_terms(seat);
         return;
@@ -156,13 +157,17 @@ static void mark_seat(const struct seat *seat)
         file_close(listener);
 }
 
-/* Connects to a process that an earlier lender has started; -1 where there is none. */
-static int connect_later(const char *path)
+/* Connects to a process of the lender's user that an earlier lender has started; -1 where there is none. */
+static int connect_later(const char *path, pid_t *process)
 {
     struct sockaddr_un address = {.sun_family = AF_UNIX};
     int channel = socket(AF_UNIX, SOCK_SEQPACKET | SOCK_CLOEXEC | SOCK_NONBLOCK, 0);
     strcpy(address.sun_path, path);
-    if (channel < 0 || (lending_names_senders(channel) && !connect(channel, (struct sockaddr *)&address, sizeof address)))
+    if (channel < 0)
+        return -1;
+    bool connects = lending_names_senders(channel) && !connect(channel, (struct sockaddr *)&address, sizeof address);
+    *process = connects ? process_peer(channel) : 0;
+    if (*process > 0)
         return channel;
     file_close(channel);
     return -1;
@@ -170,20 +175,18 @@ static int connect_later(const char *path)
 
 void seat_take_over(struct seat *seat)
 {
-    struct ucred its;
-    socklen_t size = sizeof its;
-    int channel = connect_later(seat->later_path);
-    bool known = channel >= 0 && !getsockopt(channel, SOL_SOCKET, SO_PEERCRED, &its, &size) && its.uid == geteuid();
-    if (!known) {
-        if (channel >= 0)
-            file_close(channel);
+    pid_t process;
+    int channel = connect_later(seat->later_path, &process);
+    if (channel < 0 && folder_moves_channel(seat))
+        channel = connect_later(seat->later_path, &process);
+    if (channel < 0) {
         mark_seat(seat);
         return;
     }
     seat_clear(seat);
     seat->channel = channel;
-    seat->process = its.pid;
-    seat->process_file = pidfd_open(its.pid, 0);
+    seat->process = process;
+    seat->process_file = pidfd_open(process, 0);
     seat->here = seat->adopts = seat->adopted = true;
     seat->heard_at = loop_now();
     seat->adopts_until = loop_now() + TOLD_IN;
@@ -197,6 +200,16 @@ bool host_awaits(const struct host *host)
         if (host->seats[i]->adopts && loop_now() < host->seats[i]->adopts_until)
             return true;
     return false;
+}
+
+void seat_disown(struct seat *seat)
+{
+    seat->refused = true;
+    vb_loan_uncount(seat->host->loans, MOST_PLACES, seat->place);
+    pidfd_send_signal(seat->process_file, SIGKILL, NULL, 0);
+    file_close(seat->channel);
+    seat->channel = -1;
+    host_changed(seat->host, BY_GUESTS);
 }
 
 /* Says how a process ended that hasn't said itself why. */
@@ -220,7 +233,7 @@ void seat_ended(struct seat *seat)
     if (!seat->gone) {
         explain(seat);
         seat->host->counters.gone++;
-        measure_gone(GONE_DIED);
+        measure_gone(seat->refused ? GONE_REFUSED : GONE_DIED);
         say_gone();
     } else {
         waitpid(seat->process, NULL, WNOHANG);

@@ -21,6 +21,12 @@ const char *guest_wait_word(enum guest_wait wait)
     return words[wait];
 }
 
+const char *wait_end_word(enum wait_end how)
+{
+    static const char *const words[] = {[WAS_GRANTED] = "granted", [WAS_REFUSED] = "refused", [WAS_WITHDRAWN] = "withdrawn"};
+    return words[how];
+}
+
 static enum guest_state state_of(const struct seat *seat)
 {
     if (!seat->here)
@@ -88,7 +94,7 @@ void host_see_guest(const struct host *host, unsigned number, struct guest_view 
         .granted = seat->granted, .limit = seat->writer.written, .limit_failures = seat->writer.failures, .target = seat->target,
         .ballooned = report->ballooned, .actual = report->actual, .free = seat->free, .available = seat->available,
         .spare = policy_spare(seat), .answers = seat_answers(seat), .reports = seat_reports(seat),
-        .cooperates = cooperates(seat), .waits_for = seat->waits_for, .clients = seat->clients,
+        .cooperates = cooperates(seat), .waits_for = seat->waits_for, .ended = seat->ended, .clients = seat->clients,
         .lost = seat->lost + report->lost};
     if (seat->waits_for != WAITS_FOR_NOTHING)
         view->waits = seconds_since(seat->waits_since);
@@ -158,6 +164,7 @@ const char *host_set_terms(struct host *host, const char *name, const struct gue
     if (memcmp(&terms->limit, &seat->terms.limit, sizeof terms->limit) != 0)
         limit_end(seat);
     seat->terms = *terms;
+    seat->asks_terms = false;
     seat_keep_terms(seat);
     host_changed(host, BY_BUDGET);
     return NULL;

@@ -24,6 +24,17 @@ enum guest_state {
 /* What it waits for. */
 enum guest_wait { WAITS_FOR_NOTHING, WAITS_FOR_ROOM, WAITS_FOR_DEFLATE, WAITS_FOR_RESET };
 
+/* How a wait ended: withdrawn is one whose guest has gone, or waits for something else, or for nothing, without an answer. */
+enum wait_end { WAS_GRANTED, WAS_REFUSED, WAS_WITHDRAWN, WAIT_ENDS };
+
+/* A wait of a guest that ended. */
+struct ended_wait {
+    uint64_t number;            /* how many have; 0: none */
+    enum guest_wait what;
+    enum wait_end how;
+    double seconds;
+};
+
 /* What was agreed with a guest; all but the priority count pages. */
 struct guest_terms {
     uint32_t least;             /* frames that always stay to it, as far as it has them; 0: none */
@@ -61,6 +72,7 @@ struct guest_view {
     bool cooperates;            /* it hasn't taken pages unasked since it came */
     enum guest_wait waits_for;
     double waits;               /* seconds, for that */
+    struct ended_wait ended;    /* its last wait that ended */
     double silent;              /* seconds since its last statistics */
     double process_silent;      /* seconds since its process answered last */
     uint64_t inflated, deflated, reported, taken, statistics, told, discarded, skipped, chains, kicks;   /* see counters.h */
@@ -106,8 +118,9 @@ const char *host_set_target(struct host *host, const char *name, uint32_t pages)
 const char *host_upgrade(struct host *host);
 const char *host_renew(struct host *host, const char *name);
 
-/* The words for a state and for what is waited for, of one word each. */
+/* The words for a state, for what is waited for and for how a wait ended, of one word each. */
 const char *guest_state_word(enum guest_state state);
 const char *guest_wait_word(enum guest_wait wait);
+const char *wait_end_word(enum wait_end how);
 
 #endif

@@ -4,23 +4,33 @@
 #include <limits.h>
 #include <time.h>
 
-static struct timespec read_clock(void)
+static struct timespec read_clock(clockid_t clock)
 {
     struct timespec time;
-    clock_gettime(CLOCK_MONOTONIC, &time);
+    clock_gettime(clock, &time);
     return time;
+}
+
+static double seconds_of(clockid_t clock)
+{
+    struct timespec time = read_clock(clock);
+    return (double)time.tv_sec + (double)time.tv_nsec / 1e9;
 }
 
 int64_t loop_now(void)
 {
-    struct timespec time = read_clock();
+    struct timespec time = read_clock(CLOCK_MONOTONIC);
     return time.tv_sec * INT64_C(1000) + time.tv_nsec / 1000000;
 }
 
 double loop_seconds(void)
 {
-    struct timespec time = read_clock();
-    return (double)time.tv_sec + (double)time.tv_nsec / 1e9;
+    return seconds_of(CLOCK_MONOTONIC);
+}
+
+double loop_processor_seconds(void)
+{
+    return seconds_of(CLOCK_PROCESS_CPUTIME_ID);
 }
 
 bool loop_add(struct loop *loop, struct loop_part part)
@@ -55,6 +65,7 @@ static void wait_for_all(struct loop *loop)
     int64_t left = loop->until - loop_now();
     loop->came = poll_some(loop->files, loop->count, left > INT_MAX ? -1 : left > 0 ? (int)left : 0);
     loop->woke_at = loop_seconds();
+    loop->processor_at = loop_processor_seconds();
 }
 
 /* Serves what has come. */

@@ -34,12 +34,13 @@ struct loop {
     nfds_t count;
     int64_t until;
     int came;                   /* files of which something has come; negative: it couldn't wait */
-    double woke_at;             /* when it had waited, in seconds */
+    double woke_at, processor_at;       /* when it had waited, in seconds of both clocks */
 };
 
-/* The monotonic clock, in milliseconds; and in seconds. */
+/* The monotonic clock, in milliseconds; and in seconds; the seconds for which the process has had a processor. */
 int64_t loop_now(void);
 double loop_seconds(void);
+double loop_processor_seconds(void);
 
 /* Takes one more part, before the loop runs; false where there is no room. */
 bool loop_add(struct loop *loop, struct loop_part part);

@@ -8,7 +8,11 @@
 #include <grp.h>
 #include <stdlib.h>
 
-enum { LEAST_PERIOD = 10, MOST_PERIOD = 60000 };
+/* Milliseconds of a period, and the words for both. */
+#define LEAST_PERIOD 10
+#define MOST_PERIOD 60000
+#define NUMBER(number) #number
+#define MILLISECONDS(least, most) "milliseconds, from " NUMBER(least) " to " NUMBER(most)
 
 bool word_is_name(const char *name)
 {
@@ -94,7 +98,7 @@ const char *word_read(enum word_kind kind, const char *word, void *at)
     case WORD_NUMBER:
         return read_between(word, 0, UINT32_MAX - 1, at) ? NULL : "a number up to 4294967294";
     case WORD_MILLISECONDS:
-        return read_between(word, LEAST_PERIOD, MOST_PERIOD, at) ? NULL : "milliseconds, from 10 to 60000";
+        return read_between(word, LEAST_PERIOD, MOST_PERIOD, at) ? NULL : MILLISECONDS(LEAST_PERIOD, MOST_PERIOD);
     case WORD_MODE:
         return read_mode(word, at) ? NULL : "an octal mode, as 0660";
     case WORD_LEVEL:

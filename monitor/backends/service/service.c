@@ -17,8 +17,8 @@
 #include <string.h>
 #include <unistd.h>
 
-/* Milliseconds between two looks for what followers of events are told; and between two words for the service manager's status at most. */
-enum { LOOK_EVERY = 100, STATUS_EVERY = 5000 };
+/* Milliseconds between two looks for what followers of events are told, and after a look that had no time for all; and between two words for the service manager's status at most. */
+enum { LOOK_EVERY = 100, GO_ON_AFTER = 5, STATUS_EVERY = 5000 };
 
 void service_defaults(struct service *service)
 {
@@ -174,7 +174,7 @@ static void look(struct service *service)
     if (loop_now() < service->look)
         return;
     control_look(&service->control, service->host);
-    service->look = loop_now() + LOOK_EVERY;
+    service->look = loop_now() + (service->control.is_behind ? GO_ON_AFTER : LOOK_EVERY);
 }
 
 static int serve_clients(void *context, int file)

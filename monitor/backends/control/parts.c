@@ -1,0 +1,34 @@
+#include "parts.h"
+
+#include "fields.h"
+
+json_t *part_bytes(uint64_t pages)
+{
+    return json_integer((json_int_t)(pages * PAGE_BYTES));
+}
+
+/* A whole whose last change was answered by this code. */
+static json_t *whole(json_t *it, int code)
+{
+    if (code == 0)
+        return it;
+    json_decref(it);
+    return NULL;
+}
+
+json_t *part_append(json_t *array, json_t *part)
+{
+    return whole(array, json_array_append_new(array, part));
+}
+
+json_t *part_set(json_t *object, const char *name, json_t *part)
+{
+    return whole(object, json_object_set_new(object, name, part));
+}
+
+json_t *part_update(json_t *object, json_t *others)
+{
+    int code = json_object_update(object, others);
+    json_decref(others);
+    return whole(object, code);
+}
