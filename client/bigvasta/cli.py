@@ -8,6 +8,7 @@ from bigvasta import __version__
 from bigvasta.commands import MODULES
 from bigvasta.connection import CONTROL, STATUS
 from bigvasta.statuses import DONE, TABLE, Fault
+from bigvasta.words import plain
 
 
 def parser():
@@ -35,10 +36,11 @@ def main(words):
     asked = parser().parse_args(words)
     if "control" in asked:
         asked.control = asked.control or (CONTROL if asked.changes(asked) else STATUS)
+    sys.stdout.reconfigure(errors="backslashreplace")
     try:
         return asked.run(asked) or DONE
     except Fault as fault:
-        print(f"bigvasta: {fault}", file=sys.stderr)
+        print(f"bigvasta: {plain(str(fault))}", file=sys.stderr)
         return fault.status
     except KeyboardInterrupt:
         return DONE

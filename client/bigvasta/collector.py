@@ -156,6 +156,8 @@ def measured_metrics(measures):
     for name, field, what in DURATIONS:
         yield histogram(name, what, measures[field])
     yield counter("grants", "Grants of memory to guests that waited for it", [([], sum(measures["waits"]["counts"]))])
+    ungranted = [([end], count) for end, count in measures.get("ungranted", {}).items()]
+    yield counter("waits_ungranted", "Waits of guests for memory that ended without a grant, by how", ungranted, "end")
     yield counter("above_budget_seconds", "Time for which the guests held more than the budget", [([], measures["above"])])
     gone = [([reason], count) for reason, count in measures["gone"].items()]
     yield counter("guest_gone", "Guests that went, by the reason", gone, "reason")

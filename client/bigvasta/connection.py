@@ -2,7 +2,9 @@
 
 import json
 import socket
+import time
 
+from bigvasta.answers import ANSWERS, EVENT, REFUSAL, is_flag, wrong_part
 from bigvasta.statuses import Away, Refused, Unclear
 
 VERSION = 1
@@ -10,16 +12,16 @@ VERSION = 1
 # The socket by which a host is changed, and the one that only shows it.
 CONTROL, STATUS = "/run/bigvasta/.control", "/run/bigvasta-status/socket"
 
-# Seconds in which a host has to answer; and the most bytes of an answer.
+# Seconds in which a host has to answer; and bytes: the most of an answer, and of one read.
 LIMIT = 10.0
-MOST_ANSWER = 1 << 20
+MOST_ANSWER, MOST_READ = 1 << 20, 1 << 16
 
 
 class Connection:
     """A connection to a socket of a host."""
 
     def __init__(self, path, limit=LIMIT):
-        self.path = path
+        self.path, self.limit, self.unread = path, limit, bytearray()
         self.socket = socket.socket(socket.AF_UNIX, socket.SOCK_STREAM)
         self.socket.settimeout(limit)
         try:
@@ -27,7 +29,6 @@ class Connection:
         except OSError as fault:
             self.socket.close()
             raise Away(f"{path}: {fault.strerror or fault}") from None
-        self.lines = self.socket.makefile("rb")
 
     def __enter__(self):
         return self
@@ -37,42 +38,74 @@ class Connection:
 
     def close(self):
         """Lets go of the host."""
-        self.lines.close()
         self.socket.close()
 
-    def receive(self):
-        """Returns the next object that the host sends."""
+    def unclear(self, words):
+        """Returns the fault of an answer."""
+        return Unclear(f"{self.path}: {words}")
+
+    def read(self, until):
+        """Reads some bytes, until this moment; without one, for as long as it takes."""
+        left = until and until - time.monotonic()
         try:
-            line = self.lines.readline(MOST_ANSWER)
+            if left is not None and left <= 0:
+                raise TimeoutError
+            self.socket.settimeout(left)
+            part = self.socket.recv(MOST_READ)
         except TimeoutError:
-            raise Unclear(f"{self.path}: the host doesn't answer in time") from None
+            raise self.unclear("the host doesn't answer in time") from None
         except OSError as fault:
-            raise Unclear(f"{self.path}: {fault.strerror or fault}") from None
-        if not line.endswith(b"\n"):
-            raise Unclear(f"{self.path}: the host went away amid an answer")
+            raise self.unclear(fault.strerror or fault) from None
+        if not part:
+            raise self.unclear("the host went away amid an answer")
+        self.unread += part
+
+    def line(self, until):
+        """Returns the next line that the host sends, which has to be there whole at this moment."""
+        while (length := self.unread.find(b"\n") + 1) == 0:
+            if len(self.unread) > MOST_ANSWER:
+                raise self.unclear("the host's answer is too long")
+            self.read(until)
+        line = bytes(self.unread[:length])
+        del self.unread[:length]
+        return line
+
+    def receive(self, kind, until=None):
+        """Returns the next object that the host sends, of this kind."""
         try:
-            answer = json.loads(line)
-        except ValueError:
-            raise Unclear(f"{self.path}: the host's answer is no JSON") from None
+            answer = json.loads(self.line(until))
+        except (ValueError, RecursionError):
+            raise self.unclear("the host's answer is no JSON") from None
         if not isinstance(answer, dict) or answer.get("version") != VERSION:
-            raise Unclear(f"{self.path}: the host doesn't speak version {VERSION} of the protocol")
+            raise self.unclear(f"the host doesn't speak version {VERSION} of the protocol")
+        place = wrong_part(REFUSAL if answer.get("ok") is False else kind, answer)
+        if place is not None:
+            raise self.unclear(f"the host's answer has no {place}, or a wrong one")
         return answer
 
     def ask(self, request, **fields):
         """Asks the host; returns its answer, or raises what it refuses."""
+        until = time.monotonic() + self.limit
         try:
+            self.socket.settimeout(self.limit)
             self.socket.sendall(json.dumps({"version": VERSION, "request": request, **fields}).encode() + b"\n")
         except BrokenPipeError:
             pass  # what it said before it went is read yet
         except OSError as fault:
-            raise Unclear(f"{self.path}: {fault.strerror or fault}") from None
-        answer = self.receive()
-        if answer.get("ok") is True:
+            raise self.unclear(fault.strerror or fault) from None
+        answer = self.receive({"ok": is_flag, **ANSWERS.get(request, {})}, until)
+        if answer["ok"]:
             return answer
-        raise Refused(answer.get("error") or {})
+        raise Refused(answer["error"])
+
+    def ends(self):
+        """Waits until the host ends the connection, as it becomes another program."""
+        try:
+            self.read(time.monotonic() + self.limit)
+        except Unclear:
+            pass
 
     def follow(self):
         """Returns what yields each event of the host from now on."""
         self.ask("events")
-        self.socket.settimeout(None)
-        return iter(self.receive, None)
+        return iter(lambda: self.receive(EVENT), None)

@@ -8,6 +8,7 @@ import time
 from bigvasta.connection import Connection
 from bigvasta.picture import BLOCKS, PLAIN, SORTS, Shown, picture
 from bigvasta.statuses import Fault
+from bigvasta.words import plain, say
 
 ESCAPE = 27
 
@@ -43,7 +44,7 @@ def watch_lines(path, interval):
     """Prints the status again and again, an object a line."""
     with Connection(path) as host:
         while True:
-            print(json.dumps(host.ask("status")), flush=True)
+            say(json.dumps(host.ask("status")))
             time.sleep(interval)
 
 
@@ -63,7 +64,7 @@ def draw(screen, lines, looks):
     screen.erase()
     for number, line in enumerate(lines[:height]):
         try:
-            screen.addnstr(number, 0, line.text, width, looks[line.kind])
+            screen.addnstr(number, 0, plain(line.text), width, looks[line.kind])
         except curses.error:
             pass  # the last place of a screen can't be written without moving on from it
     screen.refresh()

@@ -5,13 +5,14 @@ import json
 from bigvasta.connection import Connection
 from bigvasta.sizes import mebibytes, parse_size
 from bigvasta.terms import TERMS, TERMS_HELP, parse_terms, said
+from bigvasta.words import say
 
 
 def ask(asked, request, fields, words):
     """Asks the host, and prints its answer, or the words that are made of it."""
     with Connection(asked.control) as host:
         answer = host.ask(request, **fields)
-    print(json.dumps(answer) if asked.json else words(answer))
+    say(json.dumps(answer) if asked.json else words(answer))
 
 
 def run_add(asked):

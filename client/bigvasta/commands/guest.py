@@ -6,6 +6,7 @@ from bigvasta.connection import Connection
 from bigvasta.sizes import mebibytes
 from bigvasta.waits import wait_of
 from bigvasta.terms import TARGET, TERMS, TERMS_HELP, parse_terms, said
+from bigvasta.words import say
 
 SIZES = ("memory", "held", "loan", "excess", "target", "ballooned", "free", "available", "spare")
 
@@ -33,7 +34,7 @@ def run(asked):
     fields = parse_terms(asked.words, TERMS | TARGET)
     with Connection(asked.control) as host:
         answer = host.ask("guest", name=asked.name, **said(fields))
-    print(json.dumps(answer) if asked.json else "\n".join(describe(answer["guest"])))
+    say(*([json.dumps(answer)] if asked.json else describe(answer["guest"])))
 
 
 def add(commands, common):

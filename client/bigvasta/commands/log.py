@@ -5,6 +5,7 @@ import time
 
 from bigvasta.connection import Connection
 from bigvasta.sizes import mebibytes, seconds
+from bigvasta.words import say
 
 
 def share(its):
@@ -25,7 +26,7 @@ def decision_line(decision):
 def event_line(event):
     """Returns the line of an event."""
     clock = time.strftime("%H:%M:%S", time.localtime(event["time"]))
-    if event["event"] == "decision":
+    if "decision" in event:
         return f"{clock} {decision_line(event['decision'])}"
     words = [event["event"], event.get("guest"), event.get("state"), event.get("waits_for"), event.get("reason")]
     if "waits" in event:
@@ -42,17 +43,17 @@ def past(host, since):
         if answer["lost"]:
             yield {"lost": answer["lost"]}
         yield from answer["decisions"]
-        if not answer["decisions"]:
+        if answer["next"] <= since:
             return
         since = answer["next"]
 
 
 def show(decision, is_json):
     """Prints a decision."""
-    if "lost" in decision:
-        print(json.dumps(decision) if is_json else f"{decision['lost']} decisions aren't kept any longer", flush=True)
+    if is_json:
+        say(json.dumps(decision))
     else:
-        print(json.dumps(decision) if is_json else decision_line(decision), flush=True)
+        say(f"{decision['lost']} decisions aren't kept any longer" if "lost" in decision else decision_line(decision))
 
 
 def show_past(path, asked):
@@ -74,8 +75,8 @@ def run(asked):
         events = host.follow()
         seen = show_past(asked.control, asked)
         for event in events:
-            if event["event"] != "decision" or event["decision"]["number"] >= seen:
-                print(json.dumps(event) if asked.json else event_line(event), flush=True)
+            if "decision" not in event or event["decision"]["number"] >= seen:
+                say(json.dumps(event) if asked.json else event_line(event))
 
 
 def add(commands, common):

@@ -1,20 +1,21 @@
 """`bigvasta metrics`: the host's metrics for Prometheus, over HTTP or once on standard output."""
 
 import re
-import sys
 import threading
 
 from bigvasta.statuses import Away, Usage
+from bigvasta.words import say
 
-MOST_PORT = 65535
+MOST_PORT, LOCAL = 65535, "127.0.0.1"
 
 
 def parse_address(text):
-    """Returns the host and the port of an address such as localhost:9750 or [::1]:9750."""
+    """Returns the host and the port of an address such as localhost:9750 or [::1]:9750; localhost is one even where no file says so."""
     found = re.fullmatch(r"(?:\[([0-9a-fA-F:]+)\]|([^\[\]:]*)):(\d{1,5})", text, re.ASCII)
     if not found or not 1 <= int(found[3]) <= MOST_PORT:
         raise Usage(f"--listen: {text!r} is no HOST:PORT, such as localhost:9750")
-    return found[1] or found[2] or "localhost", int(found[3])
+    name = found[1] or found[2] or "localhost"
+    return LOCAL if name == "localhost" else name, int(found[3])
 
 
 def load():
@@ -34,7 +35,7 @@ def run(asked):
     registry = library.CollectorRegistry()
     registry.register(collector(asked.control))
     if not asked.listen:
-        sys.stdout.write(library.generate_latest(registry).decode())
+        say(*library.generate_latest(registry).decode().rstrip("\n").split("\n"))
         return
     name, port = parse_address(asked.listen)
     try:

@@ -5,6 +5,7 @@ import json
 from bigvasta.connection import Connection
 from bigvasta.sizes import mebibytes
 from bigvasta.waits import wait_of
+from bigvasta.words import say
 
 COLUMNS = ("guest", "state", "memory", "held", "loan", "target", "balloon", "spare", "waits for")
 
@@ -46,12 +47,11 @@ def run(asked):
     with Connection(asked.control) as host:
         answer = host.ask("status")
     if asked.json:
-        print(json.dumps(answer))
+        say(json.dumps(answer))
     elif asked.names:
-        print("\n".join(it["name"] for it in answer["guests"]))
+        say(*(it["name"] for it in answer["guests"]))
     else:
-        print(summary(answer["host"]))
-        print("\n".join([*table([COLUMNS, *map(row, answer["guests"])]), *others(answer["host"], answer["guests"])]))
+        say(summary(answer["host"]), *table([COLUMNS, *map(row, answer["guests"])]), *others(answer["host"], answer["guests"]))
 
 
 def add(commands, common):

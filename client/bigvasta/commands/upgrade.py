@@ -4,7 +4,8 @@ import json
 import time
 
 from bigvasta.connection import LIMIT, Connection
-from bigvasta.statuses import DONE, PART, Refused, Unclear
+from bigvasta.statuses import DONE, PART, Refused
+from bigvasta.words import say
 
 # Seconds between two looks, and between two times that a guest's process is asked for another one.
 LOOK_EVERY, ASK_EVERY = 0.05, 0.5
@@ -35,10 +36,7 @@ def upgrade_host(path):
     with Connection(path) as host:
         before = host.ask("status")
         host.ask("upgrade")
-        try:
-            host.receive()
-        except Unclear:
-            pass  # it ends its connections as it becomes another program
+        host.ends()
     after = look(path, time.monotonic() + LIMIT, lambda answer: all(it["process"] for it in served(answer).values()))
     return before, after
 
@@ -61,23 +59,23 @@ def run(asked):
     """Upgrades, and prints the versions before and after."""
     before, after = upgrade_host(asked.control)
     earlier, stay = {it["name"]: it["version"] for it in before["guests"]}, []
-    say = (lambda *_: None) if asked.json else print
-    say(f"host: {changed(before['host']['version'], after['host']['version'])}")
+    tell = (lambda *_: None) if asked.json else say
+    tell(f"host: {changed(before['host']['version'], after['host']['version'])}")
     for name, guest in served(after).items():
         now = renew(asked.control, guest)
         version = earlier.get(name, guest["version"])
         if now and now["version"] != after["host"]["version"]:
             stay.append(name)
-            say(f"{name}: {now['version'] or 'unknown'} stays, until its client comes anew")
+            tell(f"{name}: {now['version'] or 'unknown'} stays, until its client comes anew")
         elif now and now["process"] == guest["process"]:
             stay.append(name)
-            say(f"{name}: {now['version']} stays: its process doesn't answer, or waits for memory")
+            tell(f"{name}: {now['version']} stays: its process doesn't answer, or waits for memory")
         elif now:
-            say(f"{name}: {changed(version, now['version'])}")
+            tell(f"{name}: {changed(version, now['version'])}")
         else:
-            say(f"{name}: has gone")
+            tell(f"{name}: has gone")
     if asked.json:
-        print(json.dumps(look(asked.control, 0, lambda _: True)))
+        say(json.dumps(look(asked.control, 0, lambda _: True)))
     return PART if stay else DONE
 
 

@@ -10,6 +10,7 @@ from bigvasta.plan import checking, days, drawing, fleet, fleet_tables, lending,
 from bigvasta.plan.lender import Terms
 from bigvasta.sizes import PAGE, parse_size
 from bigvasta.statuses import DONE, REFUSED, Usage
+from bigvasta.words import say
 
 MOST_GUESTS, LEAST_HOURS, MOST_HOURS, MOST_STEPS = 1000000, 0.01, 24 * 31, 1000
 MOST_HOSTS, MOST_PLACES, MOST_PROMISE, MOST_PROCESSES = 100000, 1000, 100, 1024
@@ -116,7 +117,7 @@ def run_check(asked):
     others = (asked.make, asked.fleet, asked.budgets, asked.budget, asked.draw, asked.scheduler, asked.processes)
     demand(asked.file is not None and all(it is None for it in others), "plan: --check wants a FILE alone, of which it takes the budget")
     found = checking.check(library.load(asked.library), lending.read_lending(asked.file))
-    print(json.dumps(checking.document(found)) if asked.json else "\n".join(checking.lines(found)))
+    say(*([json.dumps(checking.document(found))] if asked.json else checking.lines(found)))
     return DONE if found.agrees() else REFUSED
 
 
@@ -137,6 +138,6 @@ def run(asked):
         drawing.draw(found, asked.wait_seconds, own, asked.draw)
     said, more = (tables, (own,)) if asked.fleet is None else (fleet_tables, ())
     if asked.json:
-        print(json.dumps(said.document(found, asked.wait_seconds, *more)))
+        say(json.dumps(said.document(found, asked.wait_seconds, *more)))
     else:
-        print("\n".join(said.lines(found, asked.wait_seconds, *more)))
+        say(*said.lines(found, asked.wait_seconds, *more))
